@@ -1,0 +1,16 @@
+pub mod Cuts
+pub mod Logged
+pub mod Stores
+pub mod Lanes
+pub mod Order
+pub mod Chain
+pub mod Undo
+pub mod Trimmed
+pub mod Next
+pub mod NextStore
+pub mod OwnLog
+pub mod Stays
+pub mod Own
+pub mod Parts
+pub mod Reorder
+pub mod Rebase

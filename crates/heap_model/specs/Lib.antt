@@ -1,0 +1,12 @@
+pub mod Setting
+pub mod Record
+pub mod State
+pub mod Events
+pub mod History
+pub mod Own
+pub mod Log
+pub mod Sections
+pub mod Cuts
+pub mod KeptHeap
+pub mod Base
+pub mod Laws
