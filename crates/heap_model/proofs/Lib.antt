@@ -14,3 +14,8 @@ pub mod Own
 pub mod Parts
 pub mod Reorder
 pub mod Rebase
+pub mod Greatest
+pub mod PlainStable
+pub mod Existence
+pub mod Held
+pub mod Numbered

@@ -1,17 +1,16 @@
 -- The records of a closed cut alone are a legal list.
-use Rattle.std.proofs.Common.{ℕ, ◌≡◌, ◌+◌, ◌<◌, ◌≤◌, ◌⊎◌, ◌==◌, if◌then◌else◌, Bool, true, false, List, [], ◌∷◌, ◌++◌, length, map, Option, Some, None, refl, sym, ap, ◌∙◌, subst, inl, inr, ⊎_elim, arith, nat_lt}
-use Rattle.std.proofs.lemmas.Bool.{cond_both, eqb-true, ltb-true, ltb-false}
+use Rattle.std.proofs.Common.{ℕ, ◌≡◌, ◌+◌, ◌<◌, ◌==◌, if◌then◌else◌, true, false, List, [], ◌∷◌, map, Option, Some, None, refl, sym, ap, ◌∙◌, subst, inl, inr, arith}
+use Rattle.std.proofs.lemmas.Bool.{ltb-true, ltb-false}
 use Rattle.std.proofs.lemmas.Bool.Decides.{eqb_tells}
-use Rattle.heap_model.specs.declared.ids.FieldId.{FieldId}
 use Rattle.heap_model.specs.declared.record.Record.{Record}
 use Rattle.heap_model.specs.declared.record.Record.TheVariants.{Acq, Rel, WaitRel, Put}
 use Rattle.heap_model.specs.Setting.{Setting}
-use Rattle.heap_model.specs.Log.{lane, holder, number, value, awaited, MayFollow, IsAllowed, IsLegal}
-use Rattle.heap_model.specs.Sections.{Action, Takes, Frees, Stores, action, actions, ended, Section, Did}
+use Rattle.heap_model.specs.Log.{lane, holder, number, value, MayFollow, IsAllowed, IsLegal}
+use Rattle.heap_model.specs.Sections.{Takes, action, actions, ended, Section, Did}
 use Rattle.heap_model.specs.Cuts.{Counts, IsClosed, is_counted}
 use Rattle.heap_model.specs.KeptHeap.{kept_value}
 use Rattle.heap_model.specs.Base.{records_until}
-use Rattle.heap_model.proofs.Stores.{ended_rises, lane_same}
+use Rattle.heap_model.proofs.Stores.{ended_rises}
 use Rattle.heap_model.proofs.Lanes.{ended_in_lane}
 use Rattle.heap_model.proofs.Chain.{current, holder_took, took_had, closed_down}
 use Rattle.heap_model.proofs.Undo.{all_counted, all_kept_value, closed_older}
@@ -75,10 +74,10 @@ value_until first base f ((m, Put g before after) ∷ older) =
     let rest : value first f (records_until base older) ≡ kept_value first base f older = value_until first base f older in
     let kept : ℕ = kept_value first base f older in
     let both : value first f (if is_counted base m (actions older) then (m, Put g before after) ∷ records_until base older else records_until base older) ≡ (if g.0 == f then (if is_counted base m (actions older) then after else kept) else kept) =
-      elim (is_counted base m (actions older)) as (λ t. value first f (if t then (m, Put g before after) ∷ records_until base older else records_until base older) ≡ (if g.0 == f then (if t then after else kept) else kept)) [
-        | true ↦ ap (λ (v : ℕ). if g.0 == f then after else v) rest
-        | false ↦ rest ∙ elim (g.0 == f) as (λ b. kept ≡ (if b then kept else kept)) [ true ↦ refl | false ↦ refl ]
-      ] in
+    elim (is_counted base m (actions older)) as (λ t. value first f (if t then (m, Put g before after) ∷ records_until base older else records_until base older) ≡ (if g.0 == f then (if t then after else kept) else kept)) [
+      | true ↦ ap (λ (v : ℕ). if g.0 == f then after else v) rest
+      | false ↦ rest ∙ elim (g.0 == f) as (λ b. kept ≡ (if b then kept else kept)) [ true ↦ refl | false ↦ refl ]
+    ] in
     both
 
 -- a lane whose next record is counted is there as a whole

@@ -1,20 +1,20 @@
 -- The heap of a cut, from the heap of a smaller one and the records since.
-use Rattle.std.proofs.Common.{ℕ, ◌≡◌, ◌+◌, ◌-◌, ◌<◌, ◌≤◌, ◌⊎◌, ◌==◌, if◌then◌else◌, Bool, true, false, List, [], ◌∷◌, ◌++◌, length, map, refl, sym, ap, ◌∙◌, subst, inl, inr, arith, nat_lt}
+use Rattle.std.proofs.Common.{ℕ, ◌≡◌, ◌+◌, ◌-◌, ◌<◌, ◌≤◌, ◌==◌, if◌then◌else◌, true, false, List, [], ◌∷◌, ◌++◌, length, map, refl, sym, ap, ◌∙◌, subst, inl, inr, arith}
 use Rattle.std.proofs.lemmas.Bool.{ltb-true, ltb-false, lt-ltb, le-ltb, cases_lt}
 use Rattle.std.proofs.lemmas.Bool.Decides.{eqb_tells}
 use Rattle.heap_model.specs.declared.record.Record.{Record}
 use Rattle.heap_model.specs.declared.record.Record.TheVariants.{Acq, Rel, WaitRel, Put}
 use Rattle.heap_model.specs.Setting.{Setting}
-use Rattle.heap_model.specs.Log.{lane, value, IsLegal, IsLaneWisePrefix}
+use Rattle.heap_model.specs.Log.{lane, value, IsLegal}
 use Rattle.heap_model.specs.Sections.{Action, Takes, Frees, Stores, action, actions, without, holding, ended}
 use Rattle.heap_model.specs.Cuts.{IsWhole, IsClosed, is_counted}
 use Rattle.heap_model.specs.KeptHeap.{kept_value}
 use Rattle.heap_model.specs.Base.{records_since, records_until}
-use Rattle.heap_model.proofs.Stores.{HasStore, ended_rises}
+use Rattle.heap_model.proofs.Stores.{HasStore}
 use Rattle.heap_model.proofs.Order.{kept_is_last, last_elsewhere, last_once}
 use Rattle.heap_model.proofs.Lanes.{lane_actions, ended_in_lane, lane_append}
 use Rattle.heap_model.proofs.Trimmed.{ends_free}
-use Rattle.heap_model.proofs.Parts.{lane_until, until_legal, value_until}
+use Rattle.heap_model.proofs.Parts.{lane_until, value_until}
 use Rattle.heap_model.proofs.Reorder.{split_lane, rest_after_until}
 
 pub holding_add : (xs ys : List Action) → holding ys ≡ [] → holding (xs ++ ys) ≡ holding xs
@@ -51,7 +51,7 @@ until_ends base l ((m, r) ∷ older) le = elim (eqb_tells m l) [
             let free = ends_free (action r) (lane l (actions older)) (omega (arith, now)) in
             let same : lane l (actions (records_until base older)) ≡ lane l (actions older) = lane_actions l (records_until base older) ∙ ap (map action) (lane_until base l older lt) ∙ sym (lane_actions l older) in
             let all : lane l (actions ((m, r) ∷ records_until base older)) ≡ action r ∷ lane l (actions older) =
-              ap (λ b. if b then action r ∷ lane l (actions (records_until base older)) else lane l (actions (records_until base older))) e.0 ∙ ap (λ (xs : List Action). action r ∷ xs) same in
+            ap (λ b. if b then action r ∷ lane l (actions (records_until base older)) else lane l (actions (records_until base older))) e.0 ∙ ap (λ (xs : List Action). action r ∷ xs) same in
             (ap holding all ∙ free.0, ap ended all ∙ free.1 ∙ omega (arith, free.1, now))
         | false ↦ λ t. let before = until_ends base l older (omega (arith, ltb-false _ _ t)) in before
       ] refl
@@ -119,7 +119,7 @@ module _ (s : Setting) (base cut : ℕ → ℕ) (log : List (ℕ × Record)) (le
         | true ↦ λ t.
             let lt : ended (lane l (actions older)) < base l = ltb-true _ _ t in
             let same : ended (lane l (actions (records_until base older))) ≡ ended (lane l (actions older)) =
-              ended_in_lane l (records_until base older) ∙ ap (λ (xs : List Record). ended (map action xs)) (lane_until base l older lt) ∙ sym (ended_in_lane l older) in
+            ended_in_lane l (records_until base older) ∙ ap (λ (xs : List Record). ended (map action xs)) (lane_until base l older lt) ∙ sym (ended_in_lane l older) in
             let test : is_counted cut l (actions (records_until base older)) ≡ true = lt-ltb _ _ (omega (arith, same, lt, more l)) in
             λ i. if g.0 == f then (if test i then after else kept_value s.first cut f (records_until base older)) else kept_until f older i
         | false ↦ λ t. kept_until f older

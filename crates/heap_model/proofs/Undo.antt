@@ -1,5 +1,5 @@
 -- Putting back what a closed cut drops gives the heap that it keeps.
-use Rattle.std.proofs.Common.{ℕ, ◌≡◌, ◌+◌, ◌<◌, ◌≤◌, ◌==◌, if◌then◌else◌, Bool, true, false, List, [], ◌∷◌, length, map, Some, refl, sym, ap, ◌∙◌, subst, inl, inr, arith, nat_lt}
+use Rattle.std.proofs.Common.{ℕ, ◌≡◌, ◌+◌, ◌<◌, ◌≤◌, ◌==◌, if◌then◌else◌, Bool, true, false, List, [], ◌∷◌, length, map, Some, refl, sym, ap, ◌∙◌, subst, inl, inr, arith}
 use Rattle.std.proofs.lemmas.Bool.{cond_both, eqb-true, ltb-true, ltb-false, lt-ltb}
 use Rattle.std.proofs.lemmas.Bool.Decides.{eqb_tells}
 use Rattle.heap_model.specs.declared.ids.FieldId.{FieldId}
@@ -98,8 +98,8 @@ all_kept_value s ((l, WaitRel p n) ∷ older) cut f legal counted = all_kept_val
 all_kept_value s ((l, Put g before after) ∷ older) cut f legal counted =
     let rest : value s.first f older ≡ kept_value s.first cut f older = all_kept_value s older cut f legal.0 (λ m j h. counted m j (has_older (s.guard f) f m l (Put g before after) older j h)) in
     let here : g.0 ≡ f → ended (map action (lane l older)) < cut l = λ e.
-        let k : Mark = record { number = number (s.guard f) older; place = length (lane l older); section = ended (map action (lane l older)) + 1; value = after } in
-        omega (arith, counted l k (subst (λ x. HasStore (s.guard f) f x k) (sym (lane_same l l (Put g before after) older refl)) (inl (new_store s older f l g before after legal e)))) in
+    let k : Mark = record { number = number (s.guard f) older; place = length (lane l older); section = ended (map action (lane l older)) + 1; value = after } in
+    omega (arith, counted l k (subst (λ x. HasStore (s.guard f) f x k) (sym (lane_same l l (Put g before after) older refl)) (inl (new_store s older f l g before after legal e)))) in
     let kept : ℕ = kept_value s.first cut f older in
     elim (eqb_tells g.0 f) [
       | inl e ↦ subst (λ b. (if b then after else value s.first f older) ≡ (if b then (if is_counted cut l (actions older) then after else kept) else kept)) (sym e.0)

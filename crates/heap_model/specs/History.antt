@@ -5,12 +5,12 @@ use Rattle.heap_model.specs.declared.record.Record.TheVariants.{Acq, Rel, WaitRe
 use Rattle.heap_model.specs.declared.event.Event.{Event}
 use Rattle.heap_model.specs.declared.event.Event.TheVariants.{Enter, NestedEnter, NestedExit, Exit, Load, Store, Wait, Resume, Notify, NotifyAll, Look}
 use Rattle.heap_model.specs.Setting.{Setting}
-use Rattle.heap_model.specs.State.{State, start}
+use Rattle.heap_model.specs.State.{State, initial_state}
 use Rattle.heap_model.specs.Events.{after_event, MayDo, IsEventOf}
 
 -- the state after a history
 abbrev pub state_after : Setting → List (ℕ × Event) → State
-state_after g [] = start g.first
+state_after g [] = initial_state g.first
 state_after g (x ∷ older) = after_event (state_after g older) x.0 x.1
 
 -- each event is allowed after those before it

@@ -9,4 +9,5 @@ pub mod Sections
 pub mod Cuts
 pub mod KeptHeap
 pub mod Base
+pub mod Plain
 pub mod Laws

@@ -2,6 +2,8 @@
 use Rattle.std.specs.Prelude.{ℕ, ◌≡◌, ◌≢◌, ◌+◌, ◌<◌, ◌==◌, ◌⊎◌, if◌then◌else◌, List, [], ◌∷◌, map, length}
 use Rattle.heap_model.specs.declared.record.Record.{Record}
 use Rattle.heap_model.specs.declared.record.Record.TheVariants.{Acq, Rel, WaitRel, Put}
+use Rattle.heap_model.specs.declared.record.UndoRecord.{UndoRecord}
+use Rattle.heap_model.specs.declared.record.UndoRecord.TheVariants as undo
 use Rattle.heap_model.specs.Log.{lane}
 
 -- what a record does to the monitors: it takes the object, which has this number; it frees it; or neither
@@ -10,11 +12,19 @@ pub data Action : Type 0 where
   Frees : (object number : ℕ) → Action
   Stores : Action
 
+-- what the record does
 abbrev pub action : Record → Action
 action (Acq o n) = Takes o.0 n
 action (Rel o n) = Frees o.0 n
 action (WaitRel o n) = Frees o.0 n
 action (Put f before after) = Stores
+
+-- what the record does, as an undo log keeps it
+abbrev pub undo_action : UndoRecord → Action
+undo_action (undo.Acq o n) = Takes o.0 n
+undo_action (undo.Rel o n) = Frees o.0 n
+undo_action (undo.WaitRel o n) = Frees o.0 n
+undo_action (undo.Put f before) = Stores
 
 -- what the records of a log do
 abbrev pub actions : List (ℕ × Record) → List (ℕ × Action)

@@ -19,8 +19,8 @@ pub record State : Type 0 where
   pub waiting : ℕ → Waiting
 
 -- all monitors are free, and nobody waits
-abbrev pub start : (first : ℕ → ℕ) → State
-start first = record { owner = λ o. None; count = λ o. 0; number = λ o. 0; value = first; waiting = λ t. Awake }
+abbrev pub initial_state : (first : ℕ → ℕ) → State
+initial_state first = record { owner = λ o. None; count = λ o. 0; number = λ o. 0; value = first; waiting = λ t. Awake }
 
 -- a function with another value at one place
 abbrev pub with_at : {A : Type 0} → (ℕ → A) → ℕ → A → ℕ → A

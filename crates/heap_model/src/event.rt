@@ -25,15 +25,28 @@ pub enum Sight {
 #[derive(Debug, PartialEq, Eq, Drop)]
 pub enum Event {
     /// A lock of a monitor that was free (JLS 17.1).
-    Enter { object: ObjectId, number: u64 },
+    Enter {
+        object: ObjectId,
+        number: u64,
+    },
     /// A lock of a monitor that the thread owns (JLS 17.1).
-    NestedEnter { object: ObjectId },
+    NestedEnter {
+        object: ObjectId,
+    },
     /// An unlock that leaves the thread the owner (JLS 17.1).
-    NestedExit { object: ObjectId },
+    NestedExit {
+        object: ObjectId,
+    },
     /// The unlock that frees the monitor (JLS 17.1).
-    Exit { object: ObjectId, number: u64 },
+    Exit {
+        object: ObjectId,
+        number: u64,
+    },
     /// A read of a field, which gave `value`.
-    Load { field: FieldId, value: u64 },
+    Load {
+        field: FieldId,
+        value: u64,
+    },
     /// A write of a field.
     Store {
         field: FieldId,
@@ -41,9 +54,15 @@ pub enum Event {
         after: u64,
     },
     /// The thread joins the wait set and frees the monitor, by as many unlocks as it has locks (JLS 17.2.1).
-    Wait { object: ObjectId, number: u64 },
+    Wait {
+        object: ObjectId,
+        number: u64,
+    },
     /// The thread, removed from the wait set, takes the monitor again by as many locks (JLS 17.2.1).
-    Resume { object: ObjectId, number: u64 },
+    Resume {
+        object: ObjectId,
+        number: u64,
+    },
     /// One member of the wait set is removed, or none where it is empty (JLS 17.2.2).
     Notify {
         object: ObjectId,
@@ -55,5 +74,8 @@ pub enum Event {
         woken: LinkedList<Lane>,
     },
     /// The thread looks at the monitor.
-    Look { object: ObjectId, sight: Sight },
+    Look {
+        object: ObjectId,
+        sight: Sight,
+    },
 }

@@ -3,7 +3,7 @@
 ghost use Rattle.std.specs.Prelude.{◌≡◌, ◌↔◌, IsTrue};
 ghost use Rattle.heap_model.specs.Record.{undo_of, EndsSection};
 
-use crate::ids::{FieldId, ObjectId};
+use crate::ids::{FieldId, Lane, ObjectId};
 
 /// One logged event of a thread.
 ///
@@ -12,11 +12,20 @@ use crate::ids::{FieldId, ObjectId};
 #[derive(Clone, Copy, Debug, PartialEq, Eq, Hash)]
 pub enum Record {
     /// The thread took the monitor, which was free (JLS 17.1).
-    Acq { object: ObjectId, number: u64 },
+    Acq {
+        object: ObjectId,
+        number: u64,
+    },
     /// The thread's last unlock, which frees the monitor (JLS 17.1).
-    Rel { object: ObjectId, number: u64 },
+    Rel {
+        object: ObjectId,
+        number: u64,
+    },
     /// A wait frees the monitor (JLS 17.2.1). The thread's next record takes it again.
-    WaitRel { object: ObjectId, number: u64 },
+    WaitRel {
+        object: ObjectId,
+        number: u64,
+    },
     /// A store to a field, with the values before and after it.
     Put {
         field: FieldId,
@@ -36,6 +45,13 @@ pub enum UndoRecord {
     WaitRel { object: ObjectId, number: u64 },
     /// A store to a field, with the value that undoing it puts back.
     Put { field: FieldId, before: u64 },
+}
+
+/// A lane's record.
+#[derive(Clone, Copy, Debug, PartialEq, Eq, Hash)]
+pub struct LaneRecord {
+    pub lane: Lane,
+    pub record: Record,
 }
 
 impl Record {
