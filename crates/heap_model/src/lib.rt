@@ -18,3 +18,6 @@ pub use laws::{
     undo_law, union_law,
 };
 pub use record::{LaneRecord, Record, UndoRecord};
+
+#[cfg(test)]
+mod tests;

@@ -11,7 +11,7 @@ use crate::step::Step;
 use std::alloc::{AllocError, Global};
 
 /// Each record with its section's number.
-pub fn numbered(alloc: Global, records: &[LaneRecord]) -> Result<Vec<Step>, AllocError>
+pub(crate) fn numbered(alloc: Global, records: &[LaneRecord]) -> Result<Vec<Step>, AllocError>
     ensures entries { IfOk result (λ steps. map (λ s. s.entry) steps.items ≡ records.now) }
     ensures sections { IfOk result (λ steps. HasSections (reverse steps.items)) }
 {
@@ -27,7 +27,11 @@ pub fn numbered(alloc: Global, records: &[LaneRecord]) -> Result<Vec<Step>, Allo
 }
 
 /// How many sections of the lane have ended.
-pub fn ended_sections(alloc: Global, records: &[LaneRecord], of: Lane) -> Result<u64, AllocError>
+pub(crate) fn ended_sections(
+    alloc: Global,
+    records: &[LaneRecord],
+    of: Lane,
+) -> Result<u64, AllocError>
     ensures count { IfOk result (λ n. n ≡ ended (lane of.0 (actions (log_from records.now)))) }
     ensures bound { IfOk result (λ n. n ≤ length records.now) }
 {

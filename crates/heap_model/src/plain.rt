@@ -17,7 +17,8 @@ use crate::record::{LaneRecord, Record};
 use crate::step::Step;
 use std::alloc::{AllocError, Global};
 
-/// The stable cut of the records, the oldest first: of whole sections, the most that depend on no others.
+/// The stable cut of the records, which have the oldest first: the greatest cut of whole sections that
+/// depend on no section outside it.
 ///
 /// Lanes are below 32. The time rises with the cube of the number of records.
 pub fn stable_cut(alloc: Global, records: &[LaneRecord]) -> Result<Cut, AllocError>

@@ -6,7 +6,7 @@ use crate::record::LaneRecord;
 
 /// A lane's record, and the number of its section.
 #[derive(Clone, Copy)]
-pub struct Step {
+pub(crate) struct Step {
     pub entry: LaneRecord,
     pub section: u64,
     ghost numbered: { 0 < section },
