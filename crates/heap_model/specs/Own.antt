@@ -21,10 +21,12 @@ pub record Own : Type 0 where
   pub hold : ℕ → Option Hold
   pub pause : Option Pause
 
+-- the count of a hold, 0 for none
 abbrev pub hold_count : Option Hold → ℕ
 hold_count None = 0
 hold_count (Some h) = h.count
 
+-- the count that a wait has kept aside, 0 for none
 abbrev pub pause_count : Option Pause → ℕ
 pause_count None = 0
 pause_count (Some p) = p.count

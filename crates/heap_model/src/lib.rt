@@ -1,4 +1,9 @@
 //! The words that every other crate speaks by.
+//!
+//! What threads do to monitors and fields, what their logs keep of it, which records make a section,
+//! which sections depend on which, and which heap a cut of them keeps. The definitions are in `specs/`,
+//! to be read in the order that docs/PROOFS.md gives; the functions `.._law` prove what holds of them.
+//! Nothing here knows a device, a word in memory or a place in a log.
 #![tactic(auto)]
 
 mod cut;
