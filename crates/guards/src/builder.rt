@@ -1,0 +1,146 @@
+//! Takes the declarations of a schema.
+
+ghost use Rattle.std.specs.Prelude.{◌≡◌, ◌≢◌, ◌<◌, ◌≤◌, ◌↔◌, ◌⊎◌, [], Contains, IfOk, IfErr, OnOk, OnErr, IsErr, IsErrOf};
+ghost use Rattle.guards.specs.Schema.{object_count, field_count, names_of, nothing, with_object, with_field, field_of, IsNewName, IsSchema};
+
+use crate::error::SchemaError;
+use crate::field_row::FieldRow;
+use crate::fields::{add_field, has_field};
+use crate::names::{add_name, has_name};
+use crate::schema::Schema;
+use heap_model::{FieldId, ObjectId};
+use indexmap::IndexMap;
+use std::alloc::Global;
+use std::marker::Model;
+
+/// How many objects a schema may have.
+pub const MOST_OBJECTS: usize = 4_096;
+
+/// How many fields a schema may have.
+pub const MOST_FIELDS: usize = 16_384;
+
+/// A schema in the making. Contracts see what was declared so far.
+///
+/// After a refusal it is as it was, and takes further declarations.
+#[derive(Drop)]
+pub struct SchemaBuilder {
+    objects: IndexMap<String, ()>,
+    fields: IndexMap<String, FieldRow>,
+}
+
+impl Model for SchemaBuilder {
+    ghost use Rattle.guards.specs.Schema.{Declarations, IsWithinLimits};
+    ghost use Rattle.guards.specs.Tables.{declared_by};
+
+    ghost Value = { Declarations };
+
+    ghost view = { λ b. declared_by b.objects.entries b.fields.entries };
+
+    ghost invariant = { λ b. IsWithinLimits (declared_by b.objects.entries b.fields.entries) };
+}
+
+impl SchemaBuilder {
+    /// A builder with nothing declared.
+    pub fn new(alloc: Global) -> SchemaBuilder
+        ensures { result ≡ nothing }
+    {
+        SchemaBuilder {
+            objects: IndexMap::new(alloc),
+            fields: IndexMap::new(alloc),
+        }
+    }
+
+    /// Declares an object, and gives its number: the first has 0, each next one more.
+    ///
+    /// Refused, in this order: `Empty`, `DoubleName`, `TooMany`, `NoMemory`.
+    pub fn object(&mut self, name: &str) -> Result<ObjectId, SchemaError>
+        ensures ok { IfOk result (λ id. (id.0 ≡ object_count self.old)
+            × (self.new ≡ with_object self.old name.now)) }
+        ensures empty { IsErrOf result SchemaError.Empty ↔ (name.now ≡ []) }
+        ensures double_name { IsErrOf result SchemaError.DoubleName
+            ↔ ((name.now ≢ []) × Contains self.old.objects name.now) }
+        ensures known { result ≢ Err SchemaError.UnknownObject }
+        ensures too_many { IsErrOf result SchemaError.TooMany
+            ↔ (IsNewName self.old.objects name.now × (object_count self.old ≡ MOST_OBJECTS)) }
+        ensures err { OnErr result (self.new ≡ self.old) }
+    {
+        if name.is_empty() {
+            return Err(SchemaError::Empty);
+        }
+        if has_name(&self.objects, name) {
+            return Err(SchemaError::DoubleName);
+        }
+        let count = self.objects.len();
+        if count >= MOST_OBJECTS {
+            return Err(SchemaError::TooMany);
+        }
+        if add_name(&mut self.objects, name, ()).is_err() {
+            return Err(SchemaError::NoMemory);
+        }
+        Ok(ObjectId(count as u32))
+    }
+
+    /// Declares a field of `owner`, guarded by the monitor of `guard`, that begins with `first`.
+    /// Gives its number: the first has 0, each next one more, over all owners.
+    ///
+    /// Refused, in this order: `Empty`, `DoubleName`, `UnknownObject`, `TooMany`, `NoMemory`.
+    pub fn field(
+        &mut self,
+        owner: ObjectId,
+        name: &str,
+        guard: ObjectId,
+        first: u64,
+    ) -> Result<FieldId, SchemaError>
+        ensures ok { IfOk result (λ id. (id.0 ≡ field_count self.old)
+            × (self.new ≡ with_field self.old (field_of name.now owner guard first))) }
+        ensures empty { IsErrOf result SchemaError.Empty ↔ (name.now ≡ []) }
+        ensures double_name { IsErrOf result SchemaError.DoubleName
+            ↔ ((name.now ≢ []) × Contains (names_of self.old.fields) name.now) }
+        ensures unknown_object { IsErrOf result SchemaError.UnknownObject
+            ↔ (IsNewName (names_of self.old.fields) name.now
+            × ((object_count self.old ≤ owner.0) ⊎ (object_count self.old ≤ guard.0))) }
+        ensures too_many { IsErrOf result SchemaError.TooMany
+            ↔ (IsNewName (names_of self.old.fields) name.now × (owner.0 < object_count self.old)
+            × (guard.0 < object_count self.old) × (field_count self.old ≡ MOST_FIELDS)) }
+        ensures err { OnErr result (self.new ≡ self.old) }
+    {
+        if name.is_empty() {
+            return Err(SchemaError::Empty);
+        }
+        if has_field(&self.fields, name) {
+            return Err(SchemaError::DoubleName);
+        }
+        let objects = self.objects.len();
+        if owner.0 as usize >= objects || guard.0 as usize >= objects {
+            return Err(SchemaError::UnknownObject);
+        }
+        let count = self.fields.len();
+        if count >= MOST_FIELDS {
+            return Err(SchemaError::TooMany);
+        }
+        let row = FieldRow {
+            owner,
+            guard,
+            first,
+        };
+        if add_field(&mut self.fields, name, row).is_err() {
+            return Err(SchemaError::NoMemory);
+        }
+        Ok(FieldId(count as u32))
+    }
+
+    /// Closes the declarations. It takes no memory, so its one refusal is `Empty`, where there is
+    /// no object or no field; the builder then comes back as it was.
+    pub fn build(self) -> Result<Schema, (SchemaBuilder, SchemaError)>
+        ensures ok { IfOk result (λ schema. schema ≡ self) }
+        ensures schema { IfOk result IsSchema }
+        ensures empty { IsErr result ↔ ((object_count self ≡ 0) ⊎ (field_count self ≡ 0)) }
+        ensures back { IfErr result (λ refused. (refused.0 ≡ self) × (refused.1 ≡ SchemaError.Empty)) }
+    {
+        if self.objects.is_empty() || self.fields.is_empty() {
+            return Err((self, SchemaError::Empty));
+        }
+        let SchemaBuilder { objects, fields } = self;
+        Ok(Schema::of(objects, fields))
+    }
+}
