@@ -10,6 +10,9 @@ pub struct ObjectId(pub u32);
 #[derive(Clone, Copy, Debug, PartialEq, Eq, PartialOrd, Ord, Hash)]
 pub struct FieldId(pub u32);
 
+/// How many lanes a heap may have.
+pub const LANES: usize = 32;
+
 /// A thread and its log, numbered from 0. Texts show lane 0 as `t1`.
 #[derive(Clone, Copy, Debug, PartialEq, Eq, PartialOrd, Ord, Hash)]
 pub struct Lane(pub u8);

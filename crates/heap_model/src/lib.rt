@@ -17,7 +17,7 @@ mod step;
 
 pub use cut::Cut;
 pub use event::{Event, Sight};
-pub use ids::{FieldId, Lane, ObjectId};
+pub use ids::{FieldId, LANES, Lane, ObjectId};
 pub use laws::{
     log_law, next_law, order_law, own_law, own_log_law, sent_law, stable_law, stay_law, trim_law,
     undo_law, union_law,

@@ -1,0 +1,25 @@
+-- The record that a disk in memory keeps of its writes and syncs.
+use Rattle.std.specs.Prelude.{◌≡◌, ℕ, List, [], ◌∷◌, length, fold, All}
+use Rattle.block_disk.specs.Memory.{Stop, Wrote, WriteFailed, Synced, SyncFailed, Fits, bytes_after}
+use Rattle.block_disk.specs.declared.call.Call.{Call}
+use Rattle.block_disk.specs.declared.call.Call.TheVariants.{Write, FailedWrite, Sync, FailedSync}
+
+-- the stop that a kept call is
+abbrev pub stop_of : Call → Stop
+stop_of (Write at bytes) = Wrote at bytes.items
+stop_of (FailedWrite at len) = WriteFailed at len
+stop_of Sync = Synced
+stop_of FailedSync = SyncFailed
+
+-- the stops of these calls, which are kept the oldest first
+abbrev pub stops_of : List Call → List Stop
+stops_of calls = fold (λ older call. stop_of call ∷ older) [] calls
+
+-- each of them lies within a disk of this size
+abbrev pub AllFit : ℕ → List Call → Type 0
+AllFit size calls = All (λ call. Fits size (stop_of call)) calls
+
+-- the bytes that read are those that the calls make of the first ones, and each call lies within the disk
+pub record IsKept (first bytes : List ℕ) (calls : List Call) : Type 0 where
+  pub reads : bytes ≡ bytes_after first (stops_of calls)
+  pub fits : AllFit (length first) calls

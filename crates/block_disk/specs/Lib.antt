@@ -1,0 +1,6 @@
+pub mod Bytes
+pub mod Calls
+pub mod Crash
+pub mod Device
+pub mod Images
+pub mod Memory

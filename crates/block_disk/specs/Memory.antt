@@ -1,0 +1,99 @@
+-- A disk in memory: the device that its writes and syncs make of its first bytes (this project's own).
+use Rattle.std.specs.Prelude.{◌≡◌, ◌⊎◌, ℕ, ◌+◌, ◌-◌, ◌^◌, ◌≤◌, List, [], ◌∷◌, length, min, Option, Some, None, nat_le, if◌then◌else◌}
+use Rattle.block_disk.specs.Bytes.{spliced}
+use Rattle.block_disk.specs.Device.{Range, Moment, Device, range_of}
+
+-- A write or a sync that was asked for, lists of them the newest first. One that failed stored or fixed nothing.
+pub data Stop : Type 0 where
+  Wrote : (at : ℕ) (bytes : List ℕ) → Stop
+  WriteFailed : (at len : ℕ) → Stop
+  Synced : Stop
+  SyncFailed : Stop
+
+-- the disk: the bytes that it was made with, its stops since, how often it has failed, and which call from now on is to fail (1: the next)
+pub record Memory : Type 0 where
+  pub first : List ℕ
+  pub stops : List Stop
+  pub failures : ℕ
+  pub fails_in : Option ℕ
+
+-- a disk of these bytes that nothing was asked of yet
+abbrev pub fresh : List ℕ → Memory
+fresh bytes = record { first = bytes; stops = []; failures = 0; fails_in = None }
+
+-- what reads after these stops
+abbrev pub bytes_after : List ℕ → List Stop → List ℕ
+bytes_after first [] = first
+bytes_after first (Wrote at bytes ∷ older) = spliced (bytes_after first older) at bytes
+bytes_after first (WriteFailed at len ∷ older) = bytes_after first older
+bytes_after first (Synced ∷ older) = bytes_after first older
+bytes_after first (SyncFailed ∷ older) = bytes_after first older
+
+-- the ranges written since the last sync that succeeded; a write that failed counts
+abbrev pub pending_after : List Stop → List Range
+pending_after [] = []
+pending_after (Wrote at bytes ∷ older) = range_of at bytes ∷ pending_after older
+pending_after (WriteFailed at len ∷ older) = record { start = at; len = len } ∷ pending_after older
+pending_after (Synced ∷ older) = []
+pending_after (SyncFailed ∷ older) = pending_after older
+
+-- what read at the last sync that succeeded, or at first
+abbrev pub durable_after : List ℕ → List Stop → List ℕ
+durable_after first [] = first
+durable_after first (Wrote at bytes ∷ older) = durable_after first older
+durable_after first (WriteFailed at len ∷ older) = durable_after first older
+durable_after first (Synced ∷ older) = bytes_after first older
+durable_after first (SyncFailed ∷ older) = durable_after first older
+
+-- the device's moment after these stops
+abbrev pub moment_after : List ℕ → List Stop → Moment
+moment_after first stops = record { bytes = bytes_after first stops; pending = pending_after stops }
+
+-- its moments before that, the latest first; a sync that failed has begun none
+abbrev pub moments_before : List ℕ → List Stop → List Moment
+moments_before first [] = []
+moments_before first (Wrote at bytes ∷ older) = moment_after first older ∷ moments_before first older
+moments_before first (WriteFailed at len ∷ older) = moment_after first older ∷ moments_before first older
+moments_before first (Synced ∷ older) = moment_after first older ∷ moments_before first older
+moments_before first (SyncFailed ∷ older) = moments_before first older
+
+-- the device that the disk is
+abbrev pub device_of : Memory → Device
+device_of m = record { now = moment_after m.first m.stops; past = moments_before m.first m.stops; failures = m.failures }
+
+-- the next call is the one to fail
+abbrev pub IsDue : Memory → Type 0
+IsDue m = m.fails_in ≡ Some 1
+
+-- which call is to fail once one more was made
+abbrev pub next_failure : Option ℕ → Option ℕ
+next_failure None = None
+next_failure (Some k) = if nat_le k 1 then None else Some (k - 1)
+
+-- the disk once one more call was made
+abbrev pub called : Memory → Memory
+called m = record m { fails_in = next_failure m.fails_in }
+
+-- the disk once one more call has failed; the count of failures stays at its last value
+abbrev pub failed : Memory → Memory
+failed m = record m { failures = min (m.failures + 1) (2 ^ 64 - 1); fails_in = next_failure m.fails_in }
+
+-- the disk with one more stop
+abbrev pub stopped : Stop → Memory → Memory
+stopped stop m = record m { stops = stop ∷ m.stops }
+
+-- a write of n bytes fails: it is a stop only where it was chosen to fail and lies within the disk
+abbrev pub FailsWrite : ℕ → ℕ → Memory → Memory → Type 0
+FailsWrite at n old new =
+    (new ≡ failed old) ⊎ (IsDue old × (at + n ≤ length (bytes_after old.first old.stops)) × (new ≡ stopped (WriteFailed at n) (failed old)))
+
+-- a sync fails: it is a stop only where it was chosen to fail
+abbrev pub FailsSync : Memory → Memory → Type 0
+FailsSync old new = (new ≡ failed old) ⊎ (IsDue old × (new ≡ stopped SyncFailed (failed old)))
+
+-- the stop lies within a disk of this size
+abbrev pub Fits : ℕ → Stop → Type 0
+Fits size (Wrote at bytes) = at + length bytes ≤ size
+Fits size (WriteFailed at len) = at + len ≤ size
+Fits size Synced = Unit {0}
+Fits size SyncFailed = Unit {0}

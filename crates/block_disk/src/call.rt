@@ -1,0 +1,103 @@
+//! The record that a disk in memory keeps of its writes and syncs.
+ghost use Rattle.std.specs.Prelude.{◌≡◌, ◌↔◌, IsTrue, ◌+◌, ◌<◌, ◌≤◌, ℕ, [], ◌∷◌, length, vec_len, vec_capacity, if◌then◌else◌};
+ghost use Rattle.block_disk.specs.Bytes.{spliced};
+ghost use Rattle.block_disk.specs.Calls.{AllFit, stop_of, stops_of};
+ghost use Rattle.block_disk.specs.Memory.{Fits, Synced, WriteFailed, Wrote, bytes_after};
+
+use std::alloc::Global;
+
+/// A write or a sync that was asked for. One that failed stored or fixed nothing.
+#[derive(Drop)]
+pub enum Call {
+    Write { at: u64, bytes: Vec<u8> },
+    FailedWrite { at: u64, len: u64 },
+    Sync,
+    FailedSync,
+}
+
+/// Whether the call is a sync that succeeded.
+pub fn is_sync(call: &Call) -> bool
+    ensures { IsTrue result ↔ (stop_of call.now ≡ Synced) }
+{
+    match call {
+        Call::Sync => true,
+        Call::Write { .. } | Call::FailedWrite { .. } | Call::FailedSync => false,
+    }
+}
+
+/// Keeps the call, if there is memory for it.
+pub fn keep(calls: &mut Vec<Call>, call: Call) -> bool
+    ensures room { vec_len calls.old < vec_capacity calls.old → IsTrue result }
+    ensures kept { stops_of calls.new.items ≡ (if result then stop_of call ∷ stops_of calls.old.items else stops_of calls.old.items) }
+    ensures fits { (size : ℕ) → Fits size (stop_of call) → AllFit size calls.old.items → AllFit size calls.new.items }
+{
+    match calls.push(call) {
+        Ok(()) => true,
+        Err(_) => false,
+    }
+}
+
+/// Keeps a write of these bytes, if there is memory for it.
+pub fn keep_write(alloc: Global, calls: &mut Vec<Call>, at: u64, bytes: &[u8]) -> bool
+    ensures kept { stops_of calls.new.items ≡ (if result then Wrote at bytes.now ∷ stops_of calls.old.items else stops_of calls.old.items) }
+    ensures fits { (size : ℕ) → at + length bytes.now ≤ size → AllFit size calls.old.items → AllFit size calls.new.items }
+{
+    match bytes.to_vec(alloc) {
+        Ok(bytes) => keep(calls, Call::Write { at, bytes }),
+        Err(_) => false,
+    }
+}
+
+/// Keeps a write that failed, if it lies within a disk of this size and there is memory for it.
+pub fn keep_failed_write(calls: &mut Vec<Call>, at: u64, len: usize, size: usize) -> bool
+    ensures kept { stops_of calls.new.items ≡ (if result then WriteFailed at len ∷ stops_of calls.old.items else stops_of calls.old.items) }
+    ensures within { IsTrue result → at + len ≤ size }
+    ensures fits { AllFit size calls.old.items → AllFit size calls.new.items }
+{
+    if !lies_within(at, len, size) {
+        return false;
+    }
+    keep(
+        calls,
+        Call::FailedWrite {
+            at,
+            len: len as u64,
+        },
+    )
+}
+
+/// Whether so many bytes from `at` on lie within a disk of this size.
+pub fn lies_within(at: u64, len: usize, size: usize) -> bool
+    ensures { IsTrue result ↔ (at + len ≤ size) }
+{
+    len <= size && at <= (size - len) as u64
+}
+
+/// Puts these bytes at `at`.
+pub fn overwrite(image: &mut [u8], at: u64, bytes: &[u8])
+    requires { at + length bytes.now ≤ length image.old }
+    ensures { image.new ≡ spliced image.old at bytes.now }
+{
+    let start = at as usize;
+    image[start..start + bytes.len()].copy_from_slice(bytes);
+}
+
+// Stores what the call wrote.
+fn store_one(call: &Call, image: &mut [u8])
+    requires { Fits (length image.old) (stop_of call.now) }
+    ensures { image.new ≡ bytes_after image.old (stop_of call.now ∷ []) }
+{
+    if let Call::Write { at, bytes } = call {
+        overwrite(image, *at, bytes);
+    }
+}
+
+/// Stores what these calls wrote, the oldest first.
+pub fn store(calls: &[Call], image: &mut [u8])
+    requires fits { AllFit (length image.old) calls.now }
+    ensures { image.new ≡ bytes_after image.old (stops_of calls.now) }
+{
+    for call in calls {
+        store_one(call, image);
+    }
+}

@@ -1,0 +1,52 @@
+//! The contract of a block device.
+ghost use Rattle.std.specs.Prelude.{◌≡◌, ◌⊎◌, ◌+◌, ◌<◌, ◌≤◌, length, OnOk, IsErrOf};
+ghost use Rattle.block_disk.specs.Bytes.{part};
+ghost use Rattle.block_disk.specs.Device.{Device, written, synced, HasFailed, SameMoments, TornWrite};
+ghost use Rattle.block_disk.specs.declared.error.DiskError.TheVariants.{Fault, OutOfRange};
+
+use crate::DiskError;
+
+/// A block device. Places and lengths count bytes, from 0.
+///
+/// A crash between two syncs may leave any bytes in each range that was written since the first of them; every other
+/// byte stays. Calls are refused in this order: `Fault`, `OutOfRange`. A disk goes on to work after either.
+pub trait Disk {
+    /// What the device reads, what a crash may leave now and might have left before, and how often it has failed.
+    ghost device: { Self → Device };
+
+    /// The number of bytes. No call changes it.
+    fn size(&self) -> u64
+        ensures { result ≡ length (device self.now).now.bytes };
+
+    /// Reads the bytes from `at` on into `out`, whole. After `Fault` any bytes may stand in `out`.
+    fn read_at(&mut self, at: u64, out: &mut [u8]) -> Result<(), DiskError>
+        ensures in_range { OnOk result (at + length out.old ≤ length (device self.old).now.bytes) }
+        ensures ok { OnOk result (out.new ≡ part at (length out.old) (device self.old).now.bytes) }
+        ensures same { OnOk result (device self.new ≡ device self.old) }
+        ensures out_of_range { IsErrOf result OutOfRange → (length (device self.old).now.bytes < at + length out.old)
+            × (out.new ≡ out.old) × (device self.new ≡ device self.old) }
+        ensures fault { IsErrOf result Fault → SameMoments (device self.old) (device self.new) }
+        ensures cause { IsErrOf result Fault → HasFailed (device self.old).failures (device self.new).failures };
+
+    /// Writes these bytes at `at`. A crash before the next sync that succeeds may leave any bytes in their range, and
+    /// so may a write that answers `Fault`.
+    fn write_at(&mut self, at: u64, bytes: &[u8]) -> Result<(), DiskError>
+        ensures in_range { OnOk result (at + length bytes.now ≤ length (device self.old).now.bytes) }
+        ensures ok { OnOk result (device self.new ≡ written at bytes.now (device self.old)) }
+        ensures out_of_range { IsErrOf result OutOfRange → (length (device self.old).now.bytes < at + length bytes.now)
+            × (device self.new ≡ device self.old) }
+        ensures fault { IsErrOf result Fault → SameMoments (device self.old) (device self.new)
+            ⊎ TornWrite at (length bytes.now) (device self.old) (device self.new) }
+        ensures cause { IsErrOf result Fault → HasFailed (device self.old).failures (device self.new).failures };
+
+    /// Makes what was written durable: from then on a crash leaves what a read gives. `Fault` fixes nothing.
+    fn sync(&mut self) -> Result<(), DiskError>
+        ensures ok { OnOk result (device self.new ≡ synced (device self.old)) }
+        ensures in_range { ¬ IsErrOf result OutOfRange }
+        ensures fault { IsErrOf result Fault → SameMoments (device self.old) (device self.new) }
+        ensures cause { IsErrOf result Fault → HasFailed (device self.old).failures (device self.new).failures };
+
+    /// How often the device has failed. The count stays at 2^64 - 1 once it is there.
+    fn failures(&self) -> u64
+        ensures { result ≡ (device self.now).failures };
+}

@@ -1,0 +1,223 @@
+//! A disk in memory.
+ghost use Rattle.std.specs.Prelude.{◌≡◌, ◌⊎◌, ◌+◌, ◌-◌, ◌^◌, ◌<◌, ◌≤◌, ◌↔◌, IsTrue, length, min, replicate, OnOk, OnErr, IfOk, IfSome, IsSome, IsErrOf, Some};
+ghost use Rattle.block_disk.specs.Bytes.{part, spliced};
+ghost use Rattle.block_disk.specs.Crash.{crash_bytes, done_at, LeftSinceStop};
+ghost use Rattle.block_disk.specs.Device.{Image, written, synced, HasFailed, SameMoments, TornWrite};
+ghost use Rattle.block_disk.specs.Memory.{Wrote, Synced, fresh, bytes_after, moment_after, device_of, IsDue, next_failure, called, failed, stopped, FailsWrite, FailsSync};
+ghost use Rattle.block_disk.specs.declared.error.DiskError.TheVariants.{Fault, OutOfRange};
+
+use crate::call::{Call, keep, keep_failed_write, keep_write, lies_within, overwrite};
+use crate::crash::{Fill, image_at};
+use crate::{Disk, DiskError};
+use std::alloc::{AllocError, Global};
+use std::marker::Model;
+
+/// A disk in memory, which shows each crash that might have come since it was made.
+///
+/// It keeps its first bytes and each write and sync, so its memory grows with the bytes that are written. Where there is
+/// no memory for one more call, that call answers `Fault`, has done nothing, and is no stop.
+#[derive(Drop)]
+pub struct MemDisk {
+    alloc: Global,
+    first: Vec<u8>,
+    calls: Vec<Call>,
+    bytes: Vec<u8>,
+    failures: u64,
+    fails_in: Option<u64>,
+}
+
+impl Model for MemDisk {
+    ghost use Rattle.block_disk.specs.Memory.{Memory};
+    ghost use Rattle.block_disk.specs.Calls.{stops_of, IsKept};
+
+    ghost Value = { Memory };
+
+    ghost view = { λ d. record { first = d.first.items; stops = stops_of d.calls.items; failures = d.failures; fails_in = d.fails_in } };
+
+    ghost invariant = { λ d. IsKept d.first.items d.bytes.items d.calls.items };
+}
+
+impl MemDisk {
+    /// A disk of `size` zero bytes.
+    pub fn new(alloc: Global, size: u64) -> Result<MemDisk, AllocError>
+        ensures { IfOk result (λ disk. disk ≡ fresh (replicate size 0)) }
+    {
+        MemDisk::holding(alloc, vec![in alloc; 0u8; size as usize]?)
+    }
+
+    /// A disk that holds these bytes.
+    pub fn from_bytes(alloc: Global, bytes: &[u8]) -> Result<MemDisk, AllocError>
+        ensures { IfOk result (λ disk. disk ≡ fresh bytes.now) }
+    {
+        MemDisk::holding(alloc, bytes.to_vec(alloc)?)
+    }
+
+    fn holding(alloc: Global, first: Vec<u8>) -> Result<MemDisk, AllocError>
+        ensures { IfOk result (λ disk. disk ≡ fresh first.items) }
+    {
+        let bytes = first.to_vec(alloc)?;
+        Ok(MemDisk {
+            alloc,
+            first,
+            calls: Vec::new(alloc),
+            bytes,
+            failures: 0,
+            fails_in: None,
+        })
+    }
+
+    /// The bytes as they read.
+    pub fn bytes(&self) -> &[u8]
+        ensures { result.now ≡ bytes_after self.now.first self.now.stops }
+    {
+        &self.bytes
+    }
+
+    /// How many writes and syncs there were since the disk was made. One that failed counts, one out of range doesn't.
+    pub fn stops(&self) -> u64
+        ensures { result ≡ length self.now.stops }
+    {
+        self.calls.len() as u64
+    }
+
+    /// The disk that a crash leaves with stops 1 to `k - 1` ended and stop `k` begun; with `k` one more than there were
+    /// stops, a crash now. `None` for any other `k`. Nothing is pending on the disk that it gives.
+    pub fn crash_image(&self, k: u64, fill: Fill) -> Result<Option<MemDisk>, AllocError>
+        ensures there { IfOk result (λ found. IsSome found ↔ ((1 ≤ k) × (k ≤ length self.now.stops + 1))) }
+        ensures image { IfOk result (λ found. IfSome found (λ disk. disk ≡ fresh (crash_bytes fill self.now.first (done_at k self.now.stops)))) }
+        ensures possible { IfOk result (λ found. IfSome found (λ disk. Image (moment_after self.now.first (done_at k self.now.stops)) disk.first)) }
+        ensures any_moment { IfOk result (λ found. IfSome found (λ disk. LeftSinceStop k self.now disk.first)) }
+    {
+        if k == 0 || k - 1 > self.stops() {
+            return Ok(None);
+        }
+        let image = image_at(self.alloc, &self.first, &self.calls, (k - 1) as usize, fill)?;
+        Ok(Some(MemDisk::holding(self.alloc, image)?))
+    }
+
+    /// Makes the `k`-th call from now on answer `Fault`, once, in place of any call chosen before. Reads, writes and
+    /// syncs count, and so does one out of range.
+    pub fn fail_call(&mut self, k: u64)
+        requires { 1 ≤ k }
+        ensures { self.new ≡ record self.old { fails_in = Some k } }
+    {
+        self.fails_in = Some(k);
+    }
+}
+
+impl Disk for MemDisk {
+    ghost device = { device_of };
+
+    fn size(&self) -> u64 {
+        self.bytes.len() as u64
+    }
+
+    /// Answers `Fault` just where this call was chosen to fail, and leaves `out` as it was then.
+    fn read_at(&mut self, at: u64, out: &mut [u8]) -> Result<(), DiskError>
+        ensures in_range { OnOk result (at + length out.old ≤ length (device_of self.old).now.bytes) }
+        ensures ok { OnOk result (out.new ≡ part at (length out.old) (device_of self.old).now.bytes) }
+        ensures same { OnOk result (device_of self.new ≡ device_of self.old) }
+        ensures out_of_range { IsErrOf result OutOfRange → (length (device_of self.old).now.bytes < at + length out.old)
+            × (out.new ≡ out.old) × (device_of self.new ≡ device_of self.old) }
+        ensures fault { IsErrOf result Fault → SameMoments (device_of self.old) (device_of self.new) }
+        ensures cause { IsErrOf result Fault → HasFailed (device_of self.old).failures (device_of self.new).failures }
+        ensures due { IsErrOf result Fault ↔ IsDue self.old }
+        ensures called { ¬ IsErrOf result Fault → self.new ≡ called self.old }
+        ensures failed { IsErrOf result Fault → self.new ≡ failed self.old }
+        ensures err { OnErr result (out.new ≡ out.old) }
+    {
+        if is_due(&mut self.fails_in) {
+            return Err(fail(&mut self.failures));
+        }
+        if !lies_within(at, out.len(), self.bytes.len()) {
+            return Err(DiskError::OutOfRange);
+        }
+        let start = at as usize;
+        out.copy_from_slice(&self.bytes[start..start + out.len()]);
+        Ok(())
+    }
+
+    /// Answers `Fault` where this call was chosen to fail, and where it lies within the disk and can't be kept. Nothing
+    /// is stored then; if the call was chosen to fail, lies within the disk and could be kept, it is a stop.
+    fn write_at(&mut self, at: u64, bytes: &[u8]) -> Result<(), DiskError>
+        ensures in_range { OnOk result (at + length bytes.now ≤ length (device_of self.old).now.bytes) }
+        ensures ok { OnOk result (device_of self.new ≡ written at bytes.now (device_of self.old)) }
+        ensures out_of_range { IsErrOf result OutOfRange → (length (device_of self.old).now.bytes < at + length bytes.now)
+            × (device_of self.new ≡ device_of self.old) }
+        ensures fault { IsErrOf result Fault → SameMoments (device_of self.old) (device_of self.new)
+            ⊎ TornWrite at (length bytes.now) (device_of self.old) (device_of self.new) }
+        ensures cause { IsErrOf result Fault → HasFailed (device_of self.old).failures (device_of self.new).failures }
+        ensures due { IsDue self.old → IsErrOf result Fault }
+        ensures beyond { ¬ IsDue self.old → length (device_of self.old).now.bytes < at + length bytes.now → IsErrOf result OutOfRange }
+        ensures called { IsErrOf result OutOfRange → self.new ≡ called self.old }
+        ensures stopped { OnOk result (self.new ≡ stopped (Wrote at bytes.now) (called self.old)) }
+        ensures failed { IsErrOf result Fault → FailsWrite at (length bytes.now) self.old self.new }
+    {
+        if is_due(&mut self.fails_in) {
+            keep_failed_write(&mut self.calls, at, bytes.len(), self.bytes.len());
+            return Err(fail(&mut self.failures));
+        }
+        if !lies_within(at, bytes.len(), self.bytes.len()) {
+            return Err(DiskError::OutOfRange);
+        }
+        if !keep_write(self.alloc, &mut self.calls, at, bytes) {
+            return Err(fail(&mut self.failures));
+        }
+        put(&mut self.bytes, at, bytes);
+        Ok(())
+    }
+
+    /// Answers `Fault` where this call was chosen to fail, and where it can't be kept; in the first case, if it could be
+    /// kept, it is a stop.
+    fn sync(&mut self) -> Result<(), DiskError>
+        ensures ok { OnOk result (device_of self.new ≡ synced (device_of self.old)) }
+        ensures in_range { ¬ IsErrOf result OutOfRange }
+        ensures fault { IsErrOf result Fault → SameMoments (device_of self.old) (device_of self.new) }
+        ensures cause { IsErrOf result Fault → HasFailed (device_of self.old).failures (device_of self.new).failures }
+        ensures due { IsDue self.old → IsErrOf result Fault }
+        ensures stopped { OnOk result (self.new ≡ stopped Synced (called self.old)) }
+        ensures failed { IsErrOf result Fault → FailsSync self.old self.new }
+    {
+        if is_due(&mut self.fails_in) {
+            keep(&mut self.calls, Call::FailedSync);
+            return Err(fail(&mut self.failures));
+        }
+        if !keep(&mut self.calls, Call::Sync) {
+            return Err(fail(&mut self.failures));
+        }
+        Ok(())
+    }
+
+    fn failures(&self) -> u64 {
+        self.failures
+    }
+}
+
+// Whether this call is the one to fail; it counts.
+fn is_due(fails_in: &mut Option<u64>) -> bool
+    ensures due { IsTrue result ↔ (fails_in.old ≡ Some 1) }
+    ensures next { fails_in.new ≡ next_failure fails_in.old }
+{
+    let due = *fails_in == Some(1);
+    *fails_in = match *fails_in {
+        Some(k) if k > 1 => Some(k - 1),
+        _ => None,
+    };
+    due
+}
+
+// Counts a failure.
+fn fail(failures: &mut u64) -> DiskError
+    ensures counted { failures.new ≡ min (failures.old + 1) (2 ^ 64 - 1) }
+    ensures fault { result ≡ Fault }
+{
+    *failures = failures.saturating_add(1);
+    DiskError::Fault
+}
+
+fn put(bytes: &mut Vec<u8>, at: u64, content: &[u8])
+    requires { at + length content.now ≤ length bytes.old.items }
+    ensures { bytes.new.items ≡ spliced bytes.old.items at content.now }
+{
+    overwrite(bytes, at, content);
+}

@@ -1,0 +1,5 @@
+use Rattle.lock_word.specs.MaskLaws.{lanes_of-zero}
+use Rattle.lock_word.proofs.wait_mask.WaitMask.empty.Goals as goal
+
+pub returns : goal.returns
+returns c = lanes_of-zero

@@ -1,0 +1,4 @@
+pub mod FatWord
+pub mod LockWord
+pub mod MaskLaws
+pub mod WaitMask

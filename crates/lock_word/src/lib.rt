@@ -1,0 +1,19 @@
+//! The words that threads share: what each says, and how its 64 bits say it.
+//!
+//! A [`LockWord`] is an object's lock (Thin Locks, PLDI 1998, section 2; the layout is this
+//! project's own). A [`FatWord`] is the lock of a monitor that was inflated, and a [`WaitMask`]
+//! the set of threads that wait for it. Only `bits` and `parse` know where the parts lie.
+#![tactic(auto)]
+
+mod fat_word;
+mod lock_word;
+mod number;
+mod wait_mask;
+
+pub use fat_word::{FatShape, FatWord};
+pub use lock_word::{FAT_SLOTS, LockWord, Shape, THIN_THREADS};
+pub use number::{LAST_NUMBER, is_release_number};
+pub use wait_mask::{WaitMask, is_lane};
+
+#[cfg(test)]
+mod tests;
