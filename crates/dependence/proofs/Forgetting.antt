@@ -1,0 +1,67 @@
+-- The fields without what a cut counts.
+use Rattle.std.proofs.Common.{ℕ, ◌≡◌, ◌+◌, ◌<◌, ◌≤◌, max, List, All, reverse, slice_index, nat_lt, vec_len, vec_capacity, None, sym, ap, ◌∙◌, subst, arith}
+use Rattle.std.specs.List.{filter}
+use Rattle.std.proofs.lemmas.List.Elements.{All-filter}
+use Rattle.heap_model.specs.declared.cut.Cut.{Cut}
+use Rattle.heap_model.specs.Cuts.{counts_of, IsWhole}
+use Rattle.heap_model.specs.Sections.{Action}
+use Rattle.heap_model.specs.Base.{since}
+use Rattle.dependence.specs.declared.step.Step.{Step}
+use Rattle.dependence.specs.declared.graph.Graph.TheInside.{Inside}
+use Rattle.dependence.specs.Trace.{beyond}
+use Rattle.dependence.specs.Next.{IsObjectBelow}
+use Rattle.dependence.specs.Steps.{log_of, HasSections}
+use Rattle.dependence.specs.Kept.{IsCounted, Rises, IsLinked, HasRoom}
+use Rattle.dependence.specs.Inside.{trace_of, IsKept}
+use Rattle.dependence.proofs.Keeping.{no_cut}
+use Rattle.dependence.proofs.Trimming.{reverse_filter, rises_since, log_since, sections_since, counted_since}
+
+module _ (old : Inside) (cut : Cut) (next : List ℕ) (left : List Step) (kept : IsKept old)
+    (raised : (l : ℕ) → slice_index next l ≡ max (slice_index old.base l) (counts_of cut l))
+    (filtered : left ≡ filter (λ s. nat_lt (slice_index next s.lane.0) s.section) old.steps.items) where
+  abbrev more : ℕ → ℕ
+  more = beyond (trace_of old) cut
+
+  pub raised_by : (l : ℕ) → slice_index next l ≡ slice_index old.base l + more l
+  raised_by l = omega (arith, raised l)
+
+  left_back : reverse left ≡ filter (λ s. nat_lt (slice_index next s.lane.0) s.section) (reverse old.steps.items)
+  left_back = ap (λ (xs : List Step). reverse xs) filtered ∙ reverse_filter (λ s. nat_lt (slice_index next s.lane.0) s.section) old.steps.items
+
+  pub left_log : log_of (reverse left) ≡ since more (log_of (reverse old.steps.items))
+  left_log = ap log_of left_back ∙ log_since (slice_index old.base) (slice_index next) more raised_by (reverse old.steps.items) kept.numbered
+
+  pub left_rises : Rises (log_of (reverse left))
+  left_rises = subst Rises (sym left_log) (rises_since more (log_of (reverse old.steps.items)) kept.rises)
+
+  pub left_low : All (λ s. s.lane.0 < old.lanes) left
+  left_low = subst (λ (xs : List Step). All (λ s. s.lane.0 < old.lanes) xs) (sym filtered) (All-filter (λ s. nat_lt (slice_index next s.lane.0) s.section) (λ s. s.lane.0 < old.lanes) old.steps.items kept.low)
+
+  pub left_lanes : All (λ s. s.lane.0 < 32) left
+  left_lanes k d lt = omega (arith, left_low k d lt, kept.lanes)
+
+  pub left_named : All (λ s. IsObjectBelow 4096 s.entry) left
+  left_named = subst (λ (xs : List Step). All (λ s. IsObjectBelow 4096 s.entry) xs) (sym filtered) (All-filter (λ s. nat_lt (slice_index next s.lane.0) s.section) (λ s. IsObjectBelow 4096 s.entry) old.steps.items kept.named)
+
+  left_numbered : HasSections (slice_index next) (reverse left)
+  left_numbered = subst (λ (xs : List Step). HasSections (slice_index next) xs) (sym left_back) (sections_since (slice_index old.base) (slice_index next) more raised_by (reverse old.steps.items) kept.numbered)
+
+  pub kept_forget : (new : Inside) → IsWhole (log_of (reverse old.steps.items)) more → new.lanes ≡ old.lanes → new.base ≡ next → new.ended ≡ old.ended → new.held ≡ old.held → new.steps.items ≡ left →
+      vec_len new.steps + new.room ≤ vec_capacity new.steps → IsLinked left new.links → HasRoom new.links new.room → new.stable ≡ None → IsKept new
+  kept_forget new whole lanes base ended_in held_in items room linked links_room fresh = record {
+    lanes = omega (arith, kept.lanes);
+    low = subst (λ (xs : List Step). All (λ s. s.lane.0 < new.lanes) xs) (sym items) (subst (λ (n : ℕ). All (λ s. s.lane.0 < n) left) (sym lanes) left_low);
+    named = subst (λ (xs : List Step). All (λ s. IsObjectBelow 4096 s.entry) xs) (sym items) left_named;
+    numbered = subst (λ (b : List ℕ). HasSections (slice_index b) (reverse new.steps.items)) (sym base) (subst (λ (xs : List Step). HasSections (slice_index next) (reverse xs)) (sym items) left_numbered);
+    counted = subst (λ (b : List ℕ). IsCounted (slice_index b) (log_of (reverse new.steps.items)) new.ended new.held) (sym base)
+        (subst (λ (xs : List Step). IsCounted (slice_index next) (log_of (reverse xs)) new.ended new.held) (sym items)
+        (subst (λ (xs : List ℕ). IsCounted (slice_index next) (log_of (reverse left)) xs new.held) (sym ended_in)
+        (subst (λ (xs : List ℕ). IsCounted (slice_index next) (log_of (reverse left)) old.ended xs) (sym held_in)
+        (subst (λ (log : List (ℕ × Action)). IsCounted (slice_index next) log old.ended old.held) (sym left_log)
+        (counted_since (slice_index old.base) (slice_index next) more (log_of (reverse old.steps.items)) old.ended old.held raised_by whole kept.counted)))));
+    rises = subst (λ (xs : List Step). Rises (log_of (reverse xs))) (sym items) left_rises;
+    linked = subst (λ (xs : List Step). IsLinked xs new.links) (sym items) linked;
+    steps_room = room;
+    links_room = links_room;
+    stable = no_cut new fresh;
+  }

@@ -1,0 +1,120 @@
+-- What is true of a graph's fields stays so.
+use Rattle.std.proofs.Common.{ℕ, ◌≡◌, ◌+◌, ◌-◌, ◌<◌, ◌≤◌, false, List, [], ◌∷◌, ◌++◌, All, length, get_or, reverse, take, drop, replicate, slice_index, vec_len, vec_capacity, None, MatchOption, sym, ap, ◌∙◌, subst, inl, inr, arith, zero-add}
+use Rattle.std.proofs.lemmas.Bool.{cases_lt}
+use Rattle.std.proofs.lemmas.List.{get_or_past, get_or-replicate, take_more, take-append-drop, reverse-append}
+use Rattle.heap_model.specs.Cuts.{counts_of}
+use Rattle.heap_model.specs.Log.{lane}
+use Rattle.heap_model.specs.Sections.{Action, Stores, undo_action, ended}
+use Rattle.heap_model.specs.Plain.{takes_after, IsGreatest}
+use Rattle.dependence.specs.declared.step.Step.{Step}
+use Rattle.dependence.specs.declared.links.Links.{Links}
+use Rattle.dependence.specs.declared.graph.Graph.TheInside.{Inside}
+use Rattle.dependence.specs.Trace.{IsStableOf}
+use Rattle.dependence.specs.Next.{IsNext, IsObjectBelow}
+use Rattle.dependence.specs.Steps.{did, log_of, HasSections, reading}
+use Rattle.dependence.specs.Links.{act_at}
+use Rattle.dependence.specs.Kept.{IsCounted, IsInOrder, Rises, IsLinked, HasRoom}
+use Rattle.dependence.specs.Inside.{trace_of, IsKept}
+use Rattle.dependence.proofs.Places.{at_old, at_new, length_snoc, reverse_snoc}
+use Rattle.dependence.proofs.Counted.{order_next}
+use Rattle.dependence.proofs.Steady.{stable_since, above_base}
+
+pub zeros : (l : ℕ) → slice_index (replicate 32 0) l ≡ 0
+zeros l = elim (cases_lt l 32) [ inl lt ↦ get_or-replicate 32 l 0 0 lt | inr ge ↦ get_or_past (replicate 32 0) l 0 ge ]
+
+pub kept_stable : (g : Inside) (cut : ℕ → ℕ) → IsKept g → IsGreatest reading g.steps.items (slice_index g.ended) cut → IsStableOf (trace_of g) cut
+kept_stable g cut kept greatest = record {
+  since = λ l. cut l - slice_index g.base l;
+  stable = stable_since (slice_index g.base) g.steps.items kept.numbered (slice_index g.ended) cut kept.counted.whole greatest;
+  counts = λ l. omega (arith, above_base (slice_index g.base) g.steps.items kept.numbered (slice_index g.ended) cut kept.counted.whole greatest l);
+}
+
+-- the links of no steps
+pub linked_none : (k : Links) → k.newest ≡ replicate 32 0 → k.before.items ≡ [] → k.partner.items ≡ [] → length k.freed.items ≡ 4096 → IsLinked [] k
+linked_none k newest before partner freed = record {
+  chained = record {
+    count = ap (λ (xs : List ℕ). length xs) before;
+    newest_is = λ l c h. absurd (let none : slice_index k.newest l ≡ 0 = ap (λ (xs : List ℕ). slice_index xs l) newest ∙ zeros l in omega arith);
+    newest_last = λ i lt. absurd (let no : i < 0 = lt in omega arith);
+    before_is = λ i c lt h. absurd (let no : i < 0 = lt in omega arith);
+    before_last = λ i j lt less same. absurd (let no : i < 0 = lt in omega arith);
+  };
+  paired = record {
+    count = ap (λ (xs : List ℕ). length xs) partner;
+    taker = λ i j h. absurd (let f : takes_after (act_at [] j) (act_at [] i) ≡ false = ap (λ x. takes_after x (act_at [] i)) (get_or_past {X = Action} [] j Stores (omega arith)) in cc);
+    releaser = λ i j h. absurd (let f : takes_after (act_at [] j) (act_at [] i) ≡ false = ap (λ x. takes_after x (act_at [] i)) (get_or_past {X = Action} [] j Stores (omega arith)) in cc);
+    last = λ i o n h. absurd (let f : act_at [] i ≡ Stores = get_or_past {X = Action} [] i Stores (omega arith) in cc);
+  };
+  rows = ap (λ (xs : List ℕ). length xs) newest;
+  objects = freed;
+}
+
+all_snoc : (P : Step → Type 0) (steps : List Step) (s : Step) → All P steps → P s → All P (steps ++ s ∷ [])
+all_snoc P steps s all p k d lt = elim (cases_lt k (length steps)) [
+  | inl early ↦ subst P (sym (at_old steps s d k early)) (all k d early)
+  | inr late ↦ subst P (sym (at_new steps s d k (omega (arith, length_snoc steps s)))) p
+]
+
+-- no cut is kept
+pub no_cut : (g : Inside) → g.stable ≡ None → MatchOption g.stable (Unit {0}) (λ cut. IsGreatest reading g.steps.items (slice_index g.ended) (counts_of cut))
+no_cut g e = subst (λ o. MatchOption o (Unit {0}) (λ cut. IsGreatest reading g.steps.items (slice_index g.ended) (counts_of cut))) (sym e) tt
+
+-- the fields with one more step
+pub kept_push : (old new : Inside) (s : Step) → IsKept old → new.lanes ≡ old.lanes → new.base ≡ old.base → new.room + 1 ≡ old.room → new.steps.items ≡ old.steps.items ++ s ∷ [] →
+    vec_len new.steps ≡ vec_len old.steps + 1 → vec_capacity new.steps ≡ vec_capacity old.steps → HasRoom new.links new.room → (xs : List Step) → xs ≡ old.steps.items → IsLinked (xs ++ s ∷ []) new.links →
+    s.lane.0 < old.lanes → IsObjectBelow 4096 s.entry → s.section ≡ slice_index old.ended s.lane.0 + 1 → IsNext (log_of (reverse old.steps.items)) s.lane.0 (undo_action s.entry) →
+    IsCounted (slice_index old.base) (did s ∷ log_of (reverse old.steps.items)) new.ended new.held → new.stable ≡ None → IsKept new
+kept_push old new s kept lanes base room items len capacity links_room xs same linked low named section next counted fresh =
+    let steps : new.steps.items ≡ old.steps.items ++ s ∷ [] = items in
+    let back : reverse new.steps.items ≡ s ∷ reverse old.steps.items = ap (λ (xs : List Step). reverse xs) items ∙ reverse_snoc old.steps.items s in
+    let number : s.section ≡ ended (lane s.lane.0 (log_of (reverse old.steps.items))) + 1 + slice_index old.base s.lane.0 = omega (arith, kept.counted.whole s.lane.0) in
+    record {
+      lanes = omega (arith, kept.lanes);
+      low = subst (λ (xs : List Step). All (λ t. t.lane.0 < new.lanes) xs) (sym items) (subst (λ (n : ℕ). All (λ t. t.lane.0 < n) (old.steps.items ++ s ∷ [])) (sym lanes) (all_snoc (λ t. t.lane.0 < old.lanes) old.steps.items s kept.low low));
+      named = subst (λ (xs : List Step). All (λ t. IsObjectBelow 4096 t.entry) xs) (sym items) (all_snoc (λ t. IsObjectBelow 4096 t.entry) old.steps.items s kept.named named);
+      numbered = subst (λ (b : List ℕ). HasSections (slice_index b) (reverse new.steps.items)) (sym base) (subst (λ (xs : List Step). HasSections (slice_index old.base) xs) (sym back) (number, kept.numbered));
+      counted = subst (λ (b : List ℕ). IsCounted (slice_index b) (log_of (reverse new.steps.items)) new.ended new.held) (sym base) (subst (λ (xs : List Step). IsCounted (slice_index old.base) (log_of xs) new.ended new.held) (sym back) counted);
+      rises = subst (λ (xs : List Step). Rises (log_of xs)) (sym back) (order_next (log_of (reverse old.steps.items)) s.lane.0 (undo_action s.entry) next, kept.rises);
+      linked = subst (λ (ys : List Step). IsLinked ys new.links) (sym items) (subst (λ (ys : List Step). IsLinked (ys ++ s ∷ []) new.links) same linked);
+      steps_room = omega (arith, kept.steps_room);
+      links_room = links_room;
+      stable = no_cut new fresh;
+    }
+
+-- a step of steps whose objects' numbers rise
+rises_after : (newer older : List Step) → Rises (log_of (newer ++ older)) → Rises (log_of older)
+rises_after [] older h = h
+rises_after (s ∷ newer) older h = rises_after newer older h.1
+
+-- the steps before a place, the one there, and the rest
+pub split_at : (steps : List Step) (i : ℕ) (s : Step) → i < length steps → s ≡ get_or steps i s → reverse steps ≡ reverse (drop (i + 1) steps) ++ (s ∷ reverse (take i steps))
+split_at steps i s lt is =
+    let more : take (i + 1) steps ≡ take i steps ++ s ∷ [] = take_more steps i s lt ∙ ap (λ (t : Step). take i steps ++ t ∷ []) (sym is) in
+    ap (λ (xs : List Step). reverse xs) (sym (take-append-drop (i + 1) steps)) ∙ reverse-append (take (i + 1) steps) (drop (i + 1) steps)
+    ∙ ap (λ (xs : List Step). reverse (drop (i + 1) steps) ++ xs) (ap (λ (xs : List Step). reverse xs) more ∙ reverse_snoc (take i steps) s)
+
+pub order_at : (steps : List Step) (i : ℕ) (s : Step) → i < length steps → s ≡ get_or steps i s → Rises (log_of (reverse steps)) → IsInOrder (log_of (reverse (take i steps))) (undo_action s.entry)
+order_at steps i s lt is rises = (rises_after (reverse (drop (i + 1) steps)) (s ∷ reverse (take i steps)) (subst (λ (xs : List Step). Rises (log_of xs)) (split_at steps i s lt is) rises)).0
+
+all_none : (P : Step → Type 0) → All P []
+all_none P k d lt = absurd (let no : k < 0 = lt in omega arith)
+
+-- the fields of a graph of nothing
+pub kept_none : (g : Inside) → g.lanes ≤ 32 → g.base ≡ replicate 32 0 → g.ended ≡ replicate 32 0 → g.held ≡ replicate 32 0 → g.steps.items ≡ [] → vec_len g.steps + g.room ≤ vec_capacity g.steps → IsLinked [] g.links → HasRoom g.links g.room → g.stable ≡ None → IsKept g
+kept_none g lanes base ended_in held_in items room linked links_room fresh =
+    let back : reverse g.steps.items ≡ [] = ap (λ (xs : List Step). reverse xs) items in
+    record {
+      lanes = lanes;
+      low = subst (λ (xs : List Step). All (λ t. t.lane.0 < g.lanes) xs) (sym items) (all_none (λ t. t.lane.0 < g.lanes));
+      named = subst (λ (xs : List Step). All (λ t. IsObjectBelow 4096 t.entry) xs) (sym items) (all_none (λ t. IsObjectBelow 4096 t.entry));
+      numbered = subst (λ (xs : List Step). HasSections (slice_index g.base) xs) (sym back) tt;
+      counted = subst (λ (xs : List Step). IsCounted (slice_index g.base) (log_of xs) g.ended g.held) (sym back) (record {
+        whole = λ l. ap (λ (xs : List ℕ). slice_index xs l) ended_in ∙ zeros l ∙ sym (ap (λ (xs : List ℕ). slice_index xs l) base ∙ zeros l) ∙ sym (zero-add (slice_index g.base l));
+        held = λ l. ap (λ (xs : List ℕ). slice_index xs l) held_in ∙ zeros l;
+      });
+      rises = subst (λ (xs : List Step). Rises (log_of xs)) (sym back) tt;
+      linked = subst (λ (xs : List Step). IsLinked xs g.links) (sym items) linked;
+      steps_room = room;
+      links_room = links_room;
+      stable = no_cut g fresh;
+    }

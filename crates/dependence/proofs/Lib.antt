@@ -1,0 +1,15 @@
+pub mod Places
+pub mod Chains
+pub mod Pairs
+pub mod InOrder
+pub mod Linked
+pub mod Falling
+pub mod Counted
+pub mod Steady
+pub mod Keeping
+pub mod Trimming
+pub mod Forgetting
+pub mod Reasons
+pub mod Told
+pub mod Coming
+pub mod Legal

@@ -1,0 +1,10 @@
+pub mod Trace
+pub mod Next
+pub mod Reason
+pub mod Steps
+pub mod Counts
+pub mod Links
+pub mod Kept
+pub mod Search
+pub mod Inside
+pub mod Laws

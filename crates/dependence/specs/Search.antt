@@ -1,0 +1,71 @@
+-- The search for the stable cut: a cut that falls, and in each lane the place + 1 of the newest step that is left.
+use Rattle.std.specs.Prelude.{ℕ, ◌≡◌, ◌+◌, ◌-◌, ◌<◌, ◌≤◌, ◌⊎◌, true, List, length, slice_index}
+use Rattle.heap_model.specs.Plain.{takes_after, IsClosedOver}
+use Rattle.dependence.specs.declared.step.Step.{Step}
+use Rattle.dependence.specs.Steps.{reading}
+use Rattle.dependence.specs.Links.{lanes_in, sections_in, acts_in, act_at}
+
+-- the step at one place takes what the step at the other freed
+abbrev pub Takes : List Step → (taker releaser : ℕ) → Type 0
+Takes steps j i = takes_after (act_at (acts_in steps) j) (act_at (acts_in steps) i) ≡ true
+
+-- the cut is above each closed one, and what took from a step that isn't left is out
+pub record IsSearch (steps : List Step) (whole : ℕ → ℕ) (left : List ℕ) (cut : ℕ → ℕ) : Type 0 where
+  pub below : (l : ℕ) → cut l ≤ whole l
+  pub greatest : (other : ℕ → ℕ) → ((l : ℕ) → other l ≤ whole l) → IsClosedOver reading steps other → (l : ℕ) → other l ≤ cut l
+  pub taken : (i j : ℕ) → Takes steps j i → slice_index left (slice_index (lanes_in steps) i) ≤ i → cut (slice_index (lanes_in steps) j) < slice_index (sections_in steps) j
+  pub places : (l c : ℕ) → slice_index left l ≡ c + 1 → (c < length steps) × (slice_index (lanes_in steps) c ≡ l)
+
+-- the newest step that is left of the lane is of a section outside the cut
+pub record IsLeft (steps : List Step) (left : List ℕ) (cut : ℕ → ℕ) (lane : ℕ) : Type 0 where
+  pub low : lane < 32
+  pub some : 0 < slice_index left lane
+  pub there : slice_index left lane ≤ length steps
+  pub out : cut lane < slice_index (sections_in steps) (slice_index left lane - 1)
+
+-- the steps' lanes are below the limit, and in each lane the sections rise
+pub record IsSorted (steps : List Step) (lanes : ℕ) : Type 0 where
+  pub low : (i : ℕ) → i < length steps → slice_index (lanes_in steps) i < lanes
+  pub some : (i : ℕ) → i < length steps → 0 < slice_index (sections_in steps) i
+  pub rise : (i j : ℕ) → i ≤ j → j < length steps → slice_index (lanes_in steps) i ≡ slice_index (lanes_in steps) j → slice_index (sections_in steps) i ≤ slice_index (sections_in steps) j
+
+-- the step's section is one of the cut's, or the given one
+abbrev pub IsInside : (steps : List Step) (cut : ℕ → ℕ) (lane section place : ℕ) → Type 0
+IsInside steps cut l k j = (slice_index (sections_in steps) j ≤ cut (slice_index (lanes_in steps) j)) ⊎ ((slice_index (lanes_in steps) j ≡ l) × (slice_index (sections_in steps) j ≡ k))
+
+-- what the section took at a place is of a section that is inside
+abbrev pub TookInsideAt : (steps : List Step) (cut : ℕ → ℕ) (lane section place : ℕ) → Type 0
+TookInsideAt steps cut l k i = slice_index (lanes_in steps) i ≡ l → slice_index (sections_in steps) i ≡ k → (j : ℕ) → Takes steps i j → IsInside steps cut l k j
+
+-- what it took before a place is
+abbrev pub TookInsideUpTo : (steps : List Step) (cut : ℕ → ℕ) (lane section place : ℕ) → Type 0
+TookInsideUpTo steps cut l k n = (i : ℕ) → i < n → TookInsideAt steps cut l k i
+
+-- the section took at a place from another that isn't one of the cut's
+pub record TookOutside (steps : List Step) (cut : ℕ → ℕ) (lane section place releaser released : ℕ) : Type 0 where
+  pub lane_is : slice_index (lanes_in steps) place ≡ lane
+  pub section_is : slice_index (sections_in steps) place ≡ section
+  pub release : ℕ
+  pub takes : Takes steps place release
+  pub releaser_is : slice_index (lanes_in steps) release ≡ releaser
+  pub released_is : slice_index (sections_in steps) release ≡ released
+  pub outside : cut releaser < released
+  pub other : (releaser ≡ lane) → (released ≡ section) → ⊥
+
+-- that is the first place where it did
+pub record IsFirstReleaser (steps : List Step) (cut : ℕ → ℕ) (lane section releaser released : ℕ) : Type 0 where
+  pub take : ℕ
+  pub took : TookOutside steps cut lane section take releaser released
+  pub first : TookInsideUpTo steps cut lane section take
+
+-- the section has ended, and isn't one of the cut's
+abbrev pub IsLeftOutAt : (ended cut : ℕ → ℕ) (lane section : ℕ) → Type 0
+IsLeftOutAt ended cut l k = (k ≤ ended l) × (cut l < k)
+
+-- why the section is left out: by the lane's previous one, else by its first releaser outside
+abbrev pub IsLeftOutBy : (steps : List Step) (ended cut : ℕ → ℕ) (lane section by_lane by_section : ℕ) → Type 0
+IsLeftOutBy steps ended cut l k m j = IsLeftOutAt ended cut l k × (((m ≡ l) × (j + 1 ≡ k) × (cut l < j)) ⊎ ((k ≤ cut l + 1) × IsFirstReleaser steps cut l k m j))
+
+-- no reason is found: it isn't left out, or all that it took is inside
+abbrev pub HasNoReason : (steps : List Step) (ended cut : ℕ → ℕ) (lane section : ℕ) → Type 0
+HasNoReason steps ended cut l k = IsLeftOutAt ended cut l k → (k ≤ cut l + 1) × TookInsideUpTo steps cut l k (length steps)

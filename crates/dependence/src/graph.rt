@@ -1,0 +1,169 @@
+//! The graph of the sections.
+
+ghost use Rattle.std.specs.Prelude.{◌≡◌, ◌+◌, ◌^◌, ◌<◌, ◌≤◌, ◌∷◌, [], ◌↔◌, ℕ, max, length, replicate, IfOk, IfSome, IsSome};
+ghost use Rattle.heap_model.specs.Sections.{undo_action};
+ghost use Rattle.heap_model.specs.Cuts.{counts_of, IsWhole, IsClosed, IsStable};
+ghost use Rattle.heap_model.specs.Base.{since};
+ghost use Rattle.dependence.specs.Trace.{base_of, sections_of, beyond, section_since, IsStableOf};
+ghost use Rattle.dependence.specs.Next.{IsNext, IsObjectBelow};
+ghost use Rattle.dependence.specs.Reason.{IsLeftOut, IsReason};
+
+#[cfg(test)]
+pub mod checked;
+
+use crate::lanes::{count, raise};
+use crate::links::Links;
+use crate::search::greatest_cut;
+use crate::section::Dependence;
+use crate::step::Step;
+use crate::steps::retain;
+use crate::why::reason_of;
+use heap_model::{Cut, Lane, UndoRecord};
+use std::alloc::{AllocError, Global};
+use std::marker::Model;
+
+/// The sections of a list of records, and what each depends on (Atlas, OOPSLA 2014).
+///
+/// A section depends on the earlier ones of its lane, and on each other one that freed a monitor which it
+/// took next. Guards and values are left out. Contracts see a graph as what was forgotten, what was done
+/// since, the newest first, and the room that is left.
+#[derive(Drop)]
+pub struct Graph {
+    lanes: u8,
+    room: usize,
+    base: [u64; 32],
+    ended: [u64; 32],
+    held: [usize; 32],
+    steps: Vec<Step>,
+    links: Links,
+    // The stable cut, where nothing was pushed or forgotten since it was last asked for.
+    stable: Option<Cut>,
+}
+
+impl Model for Graph {
+    ghost use Rattle.dependence.specs.Trace.{Trace, trace_code};
+
+    ghost Value = { Trace };
+
+    ghost coded = { trace_code };
+
+    ghost use Rattle.dependence.specs.Inside.{trace_of, IsKept};
+
+    ghost view = { trace_of };
+
+    ghost invariant = { IsKept };
+}
+
+impl Graph {
+    /// A graph of nothing, with room for so many records of so many lanes, which are at most 32.
+    ///
+    /// It takes all the memory that the graph will need: six words of eight bytes for each record, and one
+    /// for each of 4,096 objects. No other call takes memory.
+    pub fn with_capacity(alloc: Global, lanes: u8, records: usize) -> Result<Graph, AllocError>
+        requires { lanes ≤ 32 }
+        ensures lanes { IfOk result (λ g. g.lanes ≡ lanes) }
+        ensures base { IfOk result (λ g. (l : ℕ) → base_of g l ≡ 0) }
+        ensures empty { IfOk result (λ g. g.log ≡ []) }
+        ensures room { IfOk result (λ g. g.room ≡ records) }
+    {
+        Ok(Graph {
+            lanes,
+            room: records,
+            base: [0; 32],
+            ended: [0; 32],
+            held: [0; 32],
+            steps: Vec::with_capacity(alloc, records)?,
+            links: Links::with_capacity(alloc, records)?,
+            stable: None,
+        })
+    }
+
+    /// Adds a lane's next record. Objects are numbered below 4,096.
+    ///
+    /// An object's numbers may begin anywhere and rise with each take; a release is by the lane that holds
+    /// the object. A record that a legal list allows next is such ([`allowed_law`](crate::allowed_law)). A
+    /// take whose release isn't in the graph depends on none. The time is constant.
+    pub fn push(&mut self, lane: Lane, entry: &UndoRecord)
+        requires room { 0 < self.old.room }
+        requires lane { lane.0 < self.old.lanes }
+        requires object { IsObjectBelow 4096 entry.now }
+        requires next { IsNext self.old.log lane.0 (undo_action entry.now) }
+        requires fits { sections_of self.old lane.0 + 1 < 2 ^ 64 }
+        ensures log { self.new.log ≡ (lane.0, undo_action entry.now) ∷ self.old.log }
+        ensures room { self.new.room + 1 ≡ self.old.room }
+        ensures base { self.new.base ≡ self.old.base }
+        ensures lanes { self.new.lanes ≡ self.old.lanes }
+    {
+        let next = Step {
+            lane,
+            section: self.ended[lane.0 as usize] + 1,
+            entry: *entry,
+        };
+        count(&mut self.ended, &mut self.held, next);
+        self.links.add(&self.steps, next);
+        self.steps.push_reserved(next);
+        self.room -= 1;
+        self.stable = None;
+    }
+
+    /// Leaves out what the cut counts: a whole closed cut, and so at most the stable one. Sections and
+    /// cuts go on counting it, and no later answer changes by it. Where the cut counts less than was
+    /// forgotten already, that stays forgotten. The room of what is forgotten is free again.
+    ///
+    /// The time is linear in the records that were not forgotten before, and in the number of objects.
+    pub fn forget_to(&mut self, cut: &Cut)
+        requires whole { IsWhole self.old.log (beyond self.old cut.now) }
+        requires closed { IsClosed self.old.log (beyond self.old cut.now) }
+        ensures log { self.new.log ≡ since (beyond self.old cut.now) self.old.log }
+        ensures base { (l : ℕ) → base_of self.new l ≡ max (base_of self.old l) (counts_of cut.now l) }
+        ensures room { self.new.room + length self.new.log ≡ self.old.room + length self.old.log }
+        ensures lanes { self.new.lanes ≡ self.old.lanes }
+        ensures answers { (c : ℕ → ℕ) → IsStableOf self.new c ↔ IsStableOf self.old c }
+    {
+        let records = self.steps.len();
+        raise(&mut self.base, &cut.counts);
+        retain(&mut self.steps, &self.base);
+        self.room += records - self.steps.len();
+        self.links.again(&self.steps);
+        self.stable = None;
+    }
+
+    /// The stable cut of all records, what was forgotten included.
+    ///
+    /// The time is linear in the records that are not forgotten: each is taken up at most once, in
+    /// whatever order the sections depend on one another, and after each the lanes are looked through at
+    /// most once. Where nothing was pushed or forgotten since the last call, the answer is at hand.
+    pub fn stable_cut(&mut self) -> Cut
+        ensures stable { IsStableOf self.old (counts_of result) }
+        ensures same { self.new ≡ self.old }
+    {
+        if let Some(cut) = self.stable {
+            return cut;
+        }
+        let cut = greatest_cut(self.lanes, &self.steps, &self.links, &self.ended).cut;
+        self.stable = Some(cut);
+        cut
+    }
+
+    /// Why a whole section is not in the stable cut: the first of its dependences that is not in it
+    /// either, its lane's previous section or else the releasers in the order of its acquire records.
+    ///
+    /// `None` if the section is in the cut, or is not whole. The time is that of
+    /// [`stable_cut`](Self::stable_cut); and only for the first section of a lane that is not in the cut,
+    /// one pass over the records that are not forgotten.
+    pub fn reason(&mut self, lane: Lane, section: u64) -> Option<Dependence>
+        ensures some { (cut : ℕ → ℕ) → IsStable self.old.log cut → (IsSome result ↔ IsLeftOut self.old.log cut (section_since self.old lane.0 section)) }
+        ensures first { (cut : ℕ → ℕ) → IsStable self.old.log cut → IfSome result (λ d. IsReason self.old.log cut (section_since self.old lane.0 section) (section_since self.old d.lane.0 d.section)) }
+        ensures kept { IfSome result (λ d. base_of self.old d.lane.0 < d.section) }
+        ensures same { self.new ≡ self.old }
+    {
+        let cut = self.stable_cut();
+        reason_of(
+            &self.steps,
+            &self.links,
+            &self.ended,
+            &cut,
+            Dependence { lane, section },
+        )
+    }
+}

@@ -1,0 +1,22 @@
+//! Which sections of a heap depend on which, and the stable cut.
+//!
+//! A `Graph` is told the lanes' records one by one. It answers the stable cut, the greatest set of whole
+//! sections that depends on nothing outside it (Atlas, OOPSLA 2014), and for a whole section outside that
+//! cut the first of its dependences that is outside too. What a whole closed cut counts may be forgotten.
+#![tactic(auto)]
+
+mod graph;
+mod lanes;
+mod laws;
+mod links;
+mod search;
+mod section;
+mod step;
+mod steps;
+#[cfg(test)]
+mod tests;
+mod why;
+
+pub use graph::Graph;
+pub use laws::allowed_law;
+pub use section::Dependence;

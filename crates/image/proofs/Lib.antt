@@ -1,0 +1,10 @@
+pub mod Numbers
+pub mod Comparisons
+pub mod Controls
+pub mod Commits
+pub mod Choices
+pub mod GuardLemmas
+pub mod Puts
+pub mod Fresh
+pub mod Reading
+pub mod Places

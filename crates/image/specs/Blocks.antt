@@ -1,0 +1,32 @@
+-- How the guard rows are read: a block of them at a time.
+use Rattle.std.specs.Prelude.{ℕ, ◌+◌, ◌*◌, ◌<◌, ◌≡◌, List}
+use Rattle.std.specs.List.{slice_index_or}
+use Rattle.block_disk.specs.Bytes.{part}
+use Rattle.image.specs.Guards.{FitsGuard, HasGuard, HasGuards, guard_bytes}
+use Rattle.image.specs.declared.layout.Layout.{Layout}
+use Rattle.image.specs.declared.guard_row.GuardRow.{GuardRow}
+use Rattle.image.specs.declared.error.ImageError.{ImageError}
+use Rattle.image.specs.declared.error.ImageError.TheVariants.{Fault, BadHeader}
+
+-- row i of these bytes
+pub record HoldsRow (bytes : List ℕ) (i : ℕ) (r : GuardRow) : Type 0 where
+  pub spelled : part (16 * i) 16 bytes ≡ guard_bytes r
+  pub fits : FitsGuard r
+
+-- the first n rows of these bytes
+abbrev pub HoldsRows : List ℕ → ℕ → List GuardRow → Type 0
+HoldsRows bytes n rows = (i : ℕ) (d : GuardRow) → i < n → HoldsRow bytes i (slice_index_or rows i d)
+
+-- the image has these rows for `count` fields from the first on
+abbrev pub HasBlock : Layout → ℕ → ℕ → List ℕ → List GuardRow → Type 0
+HasBlock l first count image rows = (i : ℕ) (d : GuardRow) → i < count → HasGuard l (first + i) image (slice_index_or rows i d)
+
+-- the image has a row for each field below n
+abbrev pub HasEach : Layout → ℕ → List ℕ → Type 0
+HasEach l n image = (f : ℕ) → f < n → (r : GuardRow) × HasGuard l f image r
+
+-- what a refusal to read a block says of the image
+abbrev pub RefusesBlock : Layout → List ℕ → ImageError → Type 0
+RefusesBlock l image Fault = Unit {0}
+RefusesBlock l image BadHeader = (rows : List GuardRow) → HasGuards l image rows → ⊥
+RefusesBlock l image _ = ⊥

@@ -1,0 +1,37 @@
+-- A commit of a control: it is written into the slot that isn't chosen, behind a closed gate (this project's own).
+use Rattle.std.specs.Prelude.{◌≡◌, ◌≢◌, ◌⊎◌, ◌==◌, ℕ, ◌≤◌, List, [], ◌∷◌, ◌++◌, length, slice_index, if◌then◌else◌}
+use Rattle.block_disk.specs.Device.{Device}
+use Rattle.block_disk.specs.Images.{ImageBut, Always}
+use Rattle.image.specs.Calls.{Call, Write, Sync}
+use Rattle.image.specs.Slots.{other, slot_at, body_at, slot_range, gate, Shows}
+use Rattle.image.specs.declared.layout.Layout.{Layout}
+use Rattle.image.specs.declared.control.Control.{Control}
+use Rattle.image.specs.declared.slot.Slot.{Slot}
+
+-- closing a gate: one that reads closed is left alone, since a crash may leave any byte that is written
+abbrev pub closing_calls : ℕ → List ℕ → List Call
+closing_calls at image = if slice_index image at == 165 then Write at (0 ∷ []) ∷ Sync ∷ [] else []
+
+-- the body behind the closed gate, and then the gate
+abbrev pub body_calls : Slot → List ℕ → List Call
+body_calls s bytes = Write (body_at s) bytes ∷ Sync ∷ Write (slot_at s) (165 ∷ []) ∷ Sync ∷ []
+
+-- a commit of these bytes over a device that reads so, where this slot is chosen: six calls or four
+abbrev pub commit_calls : Slot → List ℕ → List ℕ → List Call
+commit_calls chosen image bytes = closing_calls (slot_at (other chosen)) image ++ body_calls (other chosen) bytes
+
+-- every image shows this control, and the other slot's gate is as it reads
+pub record IsSteady (l : Layout) (d : Device) (s : Slot) (c : Control) : Type 0 where
+  pub fits : 2160 ≤ length d.now.bytes
+  pub shows : Always d (λ image. Shows l image s c)
+  pub gate : Always d (λ image. gate (other s) image ≡ gate (other s) d.now.bytes)
+
+-- an image from before the commit, but for the slot that isn't chosen; it shows the old control or the new one
+pub record OldOrNew (l : Layout) (d : Device) (chosen : Slot) (old new : Control) (image : List ℕ) : Type 0 where
+  pub from : ImageBut d (slot_range (other chosen) ∷ []) image
+  pub shows : Shows l image chosen old ⊎ Shows l image (other chosen) new
+
+-- an image from before, but for the byte at this place, which is a closed gate or as it was
+pub record ClosedOrSame (d : Device) (at : ℕ) (image : List ℕ) : Type 0 where
+  pub from : ImageBut d (record { start = at; len = 1 } ∷ []) image
+  pub closed : (slice_index image at ≢ 165) ⊎ (slice_index image at ≡ slice_index d.now.bytes at)

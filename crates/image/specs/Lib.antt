@@ -1,0 +1,15 @@
+pub mod Layout
+pub mod Header
+pub mod Rows
+pub mod Control
+pub mod Guards
+pub mod Blocks
+pub mod Cells
+pub mod Slots
+pub mod Choice
+pub mod Calls
+pub mod Commit
+pub mod Format
+pub mod Image
+pub mod Recovered
+pub mod Laws

@@ -1,0 +1,91 @@
+//! Which control of an image counts (`docs/FORMAT.md`, "Control").
+ghost use Rattle.std.specs.Prelude.{◌≡◌, ◌≤◌, length, IfErr, IfOk};
+ghost use Rattle.block_disk.specs.Device.{HasCause, SameMoments};
+ghost use Rattle.image.specs.Choice.{HeadOf, Picks};
+ghost use Rattle.image.specs.Layout.{IsLayout};
+ghost use Rattle.image.specs.Slots.{Chooses, sequence_of};
+ghost use Rattle.image.specs.declared.error.ImageError.TheVariants.{Fault};
+
+use crate::bytes::u64_at;
+use crate::control::{BODY_BYTES, Control, decode_control};
+use crate::device::read;
+use crate::error::ImageError;
+use crate::header::OPEN;
+use crate::layout::Layout;
+use crate::slot::Slot;
+use block_disk::Disk;
+
+/// The control that counts, and its slot: of those with an open gate, the one with the greater sequence. Three reads.
+///
+/// Refusals, in this order; the device is left as it was:
+/// - `NoControl`: both gates are closed;
+/// - `BadControl`: both are open with the same sequence, or the slot that counts doesn't hold the control of an image
+///   of this layout.
+///
+/// `Fault` comes where a read fails.
+pub fn choose_control<D: Disk>(disk: &mut D, layout: &Layout) -> Result<(Slot, Control), ImageError>
+    requires limits { IsLayout layout.now }
+    requires fits { 2160 ≤ length (D.device disk.old).now.bytes }
+    ensures exact { Chooses layout.now (D.device disk.old).now.bytes result }
+    ensures same { SameMoments (D.device disk.old) (D.device disk.new) }
+    ensures cause { HasCause (D.device disk.old).failures (D.device disk.new).failures Fault result }
+{
+    let slot = pick(disk)?;
+    let mut body = [0; BODY_BYTES];
+    read(disk, slot.body(), &mut body)?;
+    let Some(control) = decode_control(layout, &body) else {
+        return Err(ImageError::BadControl);
+    };
+    Ok((slot, control))
+}
+
+// The slot that counts. The sequences are compared whether or not the rest of the bodies is a control's.
+fn pick<D: Disk>(disk: &mut D) -> Result<Slot, ImageError>
+    requires { 2160 ≤ length (D.device disk.old).now.bytes }
+    ensures exact { Picks (D.device disk.old).now.bytes result }
+    ensures same { SameMoments (D.device disk.old) (D.device disk.new) }
+    ensures cause { HasCause (D.device disk.old).failures (D.device disk.new).failures Fault result }
+{
+    let a = read_head(disk, Slot::A)?;
+    let b = read_head(disk, Slot::B)?;
+    if !a.is_open && !b.is_open {
+        return Err(ImageError::NoControl);
+    }
+    if !b.is_open {
+        return Ok(Slot::A);
+    }
+    if !a.is_open {
+        return Ok(Slot::B);
+    }
+    if a.sequence == b.sequence {
+        return Err(ImageError::BadControl);
+    }
+    if a.sequence > b.sequence {
+        Ok(Slot::A)
+    } else {
+        Ok(Slot::B)
+    }
+}
+
+// What a slot begins with.
+#[derive(Clone, Copy)]
+struct Head {
+    is_open: bool,
+    sequence: u64,
+}
+
+#[tactic(auto, unfolding(crate::specs::Slots::sequence_of))]
+fn read_head<D: Disk>(disk: &mut D, slot: Slot) -> Result<Head, ImageError>
+    requires { 2160 ≤ length (D.device disk.old).now.bytes }
+    ensures ok { IfOk result (HeadOf (D.device disk.old).now.bytes slot) }
+    ensures only_fault { IfErr result (λ e. e ≡ Fault) }
+    ensures same { SameMoments (D.device disk.old) (D.device disk.new) }
+    ensures cause { HasCause (D.device disk.old).failures (D.device disk.new).failures Fault result }
+{
+    let mut bytes = [0; 16];
+    read(disk, slot.start(), &mut bytes)?;
+    Ok(Head {
+        is_open: bytes[0] == OPEN,
+        sequence: u64_at(&bytes, 8),
+    })
+}

@@ -1,0 +1,44 @@
+//! The image that a heap's device holds: header, control, guard rows, home cells and the areas of the lanes' logs.
+//!
+//! [`Layout`] says where each part lies. [`write_header`] makes an image; [`read_header`], [`read_guards`] and
+//! [`choose_control`] read one, whatever its bytes, and refuse it by the first thing that is wrong. [`commit_control`]
+//! replaces the control: at every moment a crash leaves the old one or the new one. What logs hold is no matter of
+//! this crate.
+#![tactic(auto)]
+
+mod bytes;
+mod cells;
+mod choice;
+mod commit;
+mod control;
+mod device;
+mod error;
+mod format;
+mod guard_row;
+mod guard_rows;
+mod header;
+mod lane_row;
+mod laws;
+mod layout;
+mod recovered;
+mod slot;
+
+pub use cells::{get_cell, put_cell};
+pub use choice::choose_control;
+pub use commit::commit_control;
+pub use control::Control;
+pub use error::ImageError;
+pub use format::write_header;
+pub use guard_row::GuardRow;
+pub use guard_rows::read_guards;
+pub use header::read_header;
+pub use lane_row::LaneRow;
+pub use laws::{
+    empty_rows_law, fresh_law, place_law, reading_law, spelling_law, steady_law, survival_law,
+};
+pub use layout::Layout;
+pub use recovered::{Recovered, RecoveredParts};
+pub use slot::Slot;
+
+#[cfg(test)]
+mod tests;

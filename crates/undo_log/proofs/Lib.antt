@@ -1,0 +1,9 @@
+pub mod Places
+pub mod Appends
+pub mod Runs
+pub mod Frames
+pub mod Back
+pub mod Since
+pub mod Once
+pub mod OneHeap
+pub mod ImageStands

@@ -1,0 +1,20 @@
+//! Why a call on a lane's log has to stop.
+use heap_model::Lane;
+use thiserror::Error;
+
+/// Why a call on a lane's log has to stop.
+#[derive(Clone, Copy, Debug, PartialEq, Eq, Error)]
+pub enum LogError {
+    /// A call of the device failed.
+    #[error("fault")]
+    Fault,
+    /// The lane's live records and the new ones are more than its area holds. Nothing was written.
+    #[error("log full")]
+    LogFull { lane: Lane },
+    /// The bytes at this place are no record, or they name an object or a field that the image doesn't have.
+    #[error("bad record")]
+    BadRecord { lane: Lane, place: u64 },
+    /// There was no memory.
+    #[error("no memory")]
+    NoMemory,
+}
