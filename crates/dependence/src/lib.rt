@@ -9,6 +9,8 @@ mod graph;
 mod lanes;
 mod laws;
 mod links;
+#[cfg(test)]
+mod random_tests;
 mod search;
 mod section;
 mod step;
