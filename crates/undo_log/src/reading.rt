@@ -1,5 +1,5 @@
 //! A lane's records, read back in runs.
-ghost use Rattle.std.specs.Prelude.{◌≡◌, ◌↔◌, ◌+◌, ◌++◌, ◌*◌, ◌%◌, ◌<◌, ◌≤◌, IfErr, IfOk, IsTrue, MatchResult, OnOk, Some, length, take, vec_capacity, vec_len};
+ghost use Rattle.std.specs.Prelude.{◌≡◌, ◌↔◌, ◌+◌, ◌++◌, ◌*◌, ◌%◌, ◌<◌, ◌≤◌, IfErr, IfOk, IsTrue, MatchResult, OnOk, Some, length, take, vec_capacity, vec_len, min, ◌-◌};
 ghost use Rattle.block_disk.specs.Bytes.{part};
 ghost use Rattle.block_disk.specs.Device.{HasCause, SameMoments};
 ghost use Rattle.heap_model.specs.declared.record.UndoRecord.{UndoRecord as AnyRecord};
@@ -153,6 +153,7 @@ fn read_bytes<D: Disk>(disk: &mut D, at: u64, out: &mut [u8]) -> Result<(), LogE
 fn run_length(layout: &Layout, place: u64, to: u64) -> usize
     requires limits { IsLayout layout.now }
     requires order { place < to }
+    ensures longest { result ≡ min (min 256 (to - place)) (layout.now.capacity - place % layout.now.capacity) }
     ensures some { 0 < result }
     ensures block { result ≤ 256 }
     ensures within { place + result ≤ to }
