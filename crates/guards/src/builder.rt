@@ -1,12 +1,12 @@
 //! Takes the declarations of a schema.
 
-ghost use Rattle.std.specs.Prelude.{◌≡◌, ◌≢◌, ◌<◌, ◌≤◌, ◌↔◌, ◌⊎◌, [], Contains, IfOk, IfErr, OnOk, OnErr, IsErr, IsErrOf};
+ghost use Rattle.std.specs.Prelude.{◌≡◌, ◌≢◌, ◌<◌, ◌≤◌, ◌↔◌, ◌⊎◌, ℕ, [], Some, Contains, IfOk, IfErr, IfSome, OnOk, OnErr, IsErr, IsErrOf, slice_get};
 ghost use Rattle.guards.specs.Schema.{object_count, field_count, names_of, nothing, with_object, with_field, field_of, IsNewName, IsSchema};
 
 use crate::error::SchemaError;
 use crate::field_row::FieldRow;
 use crate::fields::{add_field, has_field};
-use crate::names::{add_name, has_name};
+use crate::names::{add_name, has_name, number_named};
 use crate::schema::Schema;
 use heap_model::{FieldId, ObjectId};
 use indexmap::IndexMap;
@@ -127,6 +127,17 @@ impl SchemaBuilder {
             return Err(SchemaError::NoMemory);
         }
         Ok(FieldId(count as u32))
+    }
+
+    /// The object declared under this name.
+    pub fn object_named(&self, name: &str) -> Option<ObjectId>
+        ensures found { IfSome result (λ id. slice_get self.now.objects id.0 ≡ Some name.now) }
+        ensures declared { IfSome result (λ id. id.0 < object_count self.now) }
+        ensures own { (object : ℕ) → slice_get self.now.objects object ≡ Some name.now
+            → result ≡ Some (record { 0 = object }) }
+    {
+        let number = number_named(&self.objects, name)?;
+        Some(ObjectId(number as u32))
     }
 
     /// Closes the declarations. It takes no memory, so its one refusal is `Empty`, where there is

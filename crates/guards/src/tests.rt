@@ -50,6 +50,8 @@ fn account_and_bank(rt: &impl Abort, alloc: Global) -> Result<Schema, Fail> {
     let mut builder = SchemaBuilder::new(alloc);
     assert_eq!(rt; builder.object("account"), Ok(O0));
     assert_eq!(rt; builder.object("bank"), Ok(O1));
+    assert_eq!(rt; builder.object_named("bank"), Some(O1));
+    assert_eq!(rt; builder.object_named("balance"), None);
     assert_eq!(rt; builder.field(O1, "bank", O0, 11), Ok(FieldId(0)));
     assert_eq!(rt; builder.field(O0, "balance", O1, u64::MAX), Ok(FieldId(1)));
     built(builder)
