@@ -1,3 +1,4 @@
+pub mod Again
 pub mod Bytes
 pub mod Failures
 pub mod Images

@@ -1,6 +1,7 @@
 //! A disk in memory.
 ghost use Rattle.std.specs.Prelude.{◌≡◌, ◌⊎◌, ◌+◌, ◌-◌, ◌^◌, ◌<◌, ◌≤◌, ◌↔◌, IsTrue, length, min, replicate, OnOk, OnErr, IfOk, IfSome, IsSome, IsErrOf, Some};
 ghost use Rattle.block_disk.specs.Bytes.{part, spliced};
+ghost use Rattle.block_disk.specs.Calls.{AllFit, stops_of};
 ghost use Rattle.block_disk.specs.Crash.{crash_bytes, done_at, LeftSinceStop};
 ghost use Rattle.block_disk.specs.Device.{Image, written, synced, HasFailed, SameMoments, TornWrite};
 ghost use Rattle.block_disk.specs.Memory.{Wrote, Synced, fresh, bytes_after, moment_after, device_of, IsDue, next_failure, called, failed, stopped, FailsWrite, FailsSync};
@@ -52,7 +53,7 @@ impl MemDisk {
         MemDisk::holding(alloc, bytes.to_vec(alloc)?)
     }
 
-    fn holding(alloc: Global, first: Vec<u8>) -> Result<MemDisk, AllocError>
+    pub(crate) fn holding(alloc: Global, first: Vec<u8>) -> Result<MemDisk, AllocError>
         ensures { IfOk result (λ disk. disk ≡ fresh first.items) }
     {
         let bytes = first.to_vec(alloc)?;
@@ -71,6 +72,14 @@ impl MemDisk {
         ensures { result.now ≡ bytes_after self.now.first self.now.stops }
     {
         &self.bytes
+    }
+
+    /// The writes and syncs since the disk was made, the oldest first.
+    pub(crate) fn calls(&self) -> &[Call]
+        ensures stops { stops_of result.now ≡ self.now.stops }
+        ensures fits { AllFit (length (bytes_after self.now.first self.now.stops)) result.now }
+    {
+        &self.calls
     }
 
     /// How many writes and syncs there were since the disk was made. One that failed counts, one out of range doesn't.
@@ -207,7 +216,7 @@ fn is_due(fails_in: &mut Option<u64>) -> bool
 }
 
 // Counts a failure.
-fn fail(failures: &mut u64) -> DiskError
+pub(crate) fn fail(failures: &mut u64) -> DiskError
     ensures counted { failures.new ≡ min (failures.old + 1) (2 ^ 64 - 1) }
     ensures fault { result ≡ Fault }
 {

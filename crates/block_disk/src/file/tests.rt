@@ -1,0 +1,273 @@
+//! Disks over real files, and over one that fails, is interrupted and moves a byte at a time.
+use super::*;
+use crate::backing::{read_there, write_there};
+use crate::{Disk, write_through};
+use std::fs;
+use std::io::{ErrorKind, Read, Seek, SeekFrom, Write};
+use std::process::Abort;
+use std::test::Fail;
+
+// A file in memory. Each read and write moves one byte, and every second one is interrupted.
+#[derive(Drop)]
+struct FlakyFile {
+    bytes: Vec<u8>,
+    durable: Vec<u8>,
+    place: usize,
+    is_interrupted: bool,
+    // Which call from now on fails (1: the next; 0: none). A write that fails has written its first byte.
+    fails_in: u64,
+}
+
+impl FlakyFile {
+    fn of(alloc: Global, bytes: &[u8], fails_in: u64) -> Result<FlakyFile, Fail> {
+        Ok(FlakyFile {
+            bytes: bytes.to_vec(alloc)?,
+            durable: bytes.to_vec(alloc)?,
+            place: 0,
+            is_interrupted: false,
+            fails_in,
+        })
+    }
+
+    fn is_due(&mut self) -> bool {
+        let is_due = self.fails_in == 1;
+        self.fails_in = self.fails_in.saturating_sub(1);
+        is_due
+    }
+
+    fn interrupt(&mut self) -> io::Result<()> {
+        self.is_interrupted = !self.is_interrupted;
+        if self.is_interrupted {
+            return Err(ErrorKind::Interrupted.into());
+        }
+        Ok(())
+    }
+}
+
+impl Read for FlakyFile {
+    fn read(&mut self, out: &mut [u8]) -> io::Result<usize> {
+        self.interrupt()?;
+        let Some(byte) = self.bytes.get(self.place) else {
+            return Ok(0);
+        };
+        if out.is_empty() {
+            return Ok(0);
+        }
+        out[0] = *byte;
+        self.place = self.place.saturating_add(1);
+        Ok(1)
+    }
+}
+
+impl Write for FlakyFile {
+    fn write(&mut self, bytes: &[u8]) -> io::Result<usize> {
+        self.interrupt()?;
+        let Some(byte) = bytes.first() else {
+            return Ok(0);
+        };
+        if self.place < self.bytes.len() {
+            self.bytes[self.place] = *byte;
+        } else if self.bytes.push(*byte).is_err() {
+            return Err(ErrorKind::OutOfMemory.into());
+        }
+        self.place = self.place.saturating_add(1);
+        Ok(1)
+    }
+
+    fn flush(&mut self) -> io::Result<()> {
+        Ok(())
+    }
+}
+
+impl Seek for FlakyFile {
+    fn seek(&mut self, to: SeekFrom) -> io::Result<u64> {
+        match to {
+            SeekFrom::Start(place) => {
+                self.place = place as usize;
+                Ok(place)
+            }
+            _ => Err(ErrorKind::Unsupported.into()),
+        }
+    }
+}
+
+impl BackingFile for FlakyFile {
+    fn len(&self) -> io::Result<u64> {
+        Ok(self.bytes.len() as u64)
+    }
+
+    fn empty(&mut self) -> io::Result<()> {
+        if self.is_due() {
+            return Err(ErrorKind::Other.into());
+        }
+        self.bytes.clear();
+        Ok(())
+    }
+
+    fn read_from(&mut self, at: u64, out: &mut [u8]) -> io::Result<()> {
+        if self.is_due() {
+            return Err(ErrorKind::Other.into());
+        }
+        read_there(self, at, out)
+    }
+
+    fn write_to(&mut self, at: u64, bytes: &[u8]) -> io::Result<()> {
+        if self.is_due() {
+            let torn = bytes.len().min(1);
+            write_there(self, at, &bytes[..torn])?;
+            return Err(ErrorKind::Other.into());
+        }
+        write_there(self, at, bytes)
+    }
+
+    fn settle(&mut self) -> io::Result<()> {
+        if self.is_due() {
+            return Err(ErrorKind::Other.into());
+        }
+        match self.bytes.clone() {
+            Ok(bytes) => self.durable = bytes,
+            Err(_) => return Err(ErrorKind::OutOfMemory.into()),
+        }
+        Ok(())
+    }
+}
+
+// The disk reads these bytes.
+fn reads<F: BackingFile + Drop>(rt: &impl Abort, disk: &mut FileDisk<F>, bytes: [u8; 4]) {
+    let mut out = [0; 4];
+    assert_eq!(rt; disk.size(), 4);
+    assert_eq!(rt; disk.read_at(0, &mut out), Ok(()));
+    assert_eq!(rt; out, bytes);
+}
+
+// What any disk does with a byte at place 3, behind its trait.
+fn rewrites<D: Disk>(disk: &mut D, byte: u8) -> Result<(), DiskError> {
+    disk.write_at(3, &[byte])?;
+    disk.sync()
+}
+
+// Makes the next call of the file fail.
+fn fail_next(disk: &mut FileDisk<FlakyFile>) {
+    disk.file.fails_in = 1;
+}
+
+// What a crash leaves of the file, if the system has written nothing of its own accord.
+fn durable(disk: &FileDisk<FlakyFile>) -> &[u8] {
+    &disk.file.durable
+}
+
+// Takes from the file what was not synced.
+fn forget(disk: &mut FileDisk<FlakyFile>) -> Result<(), Fail> {
+    disk.file.bytes = disk.file.durable.clone()?;
+    Ok(())
+}
+
+#[test]
+fn a_file_is_attached_with_what_was_written(rt: HostRuntime) -> Result<(), Fail> {
+    let alloc = rt.alloc();
+    assert!(rt; matches!(FileDisk::attach(&rt, alloc, "image"), Err(FileError::Fault)));
+    fs::write(&rt, "image", "longer than the disk")?;
+    let mut disk = FileDisk::create(&rt, alloc, "image", 4)?;
+    reads(&rt, &mut disk, [0, 0, 0, 0]);
+    assert_eq!(rt; disk.write_at(1, &[5, 6]), Ok(()));
+    assert_eq!(rt; disk.sync(), Ok(()));
+    assert_eq!(rt; rewrites(&mut disk, 7), Ok(()));
+    assert_eq!(rt; disk.write_at(3, &[8, 9]), Err(DiskError::OutOfRange));
+    assert_eq!(rt; disk.failures(), 0);
+    drop(disk);
+    let image = fs::read(&rt, "image")?;
+    assert_eq!(rt; image.as_slice(), [0, 5, 6, 7].as_slice());
+    let mut disk = FileDisk::attach(&rt, alloc, "image")?;
+    reads(&rt, &mut disk, [0, 5, 6, 7]);
+    // Somebody else writes the file: a fault where it differs.
+    fs::write(&rt, "image", [0u8, 5, 9, 7].as_slice())?;
+    let mut out = [0; 2];
+    assert_eq!(rt; disk.read_at(0, &mut out), Ok(()));
+    assert_eq!(rt; disk.read_at(1, &mut out), Err(DiskError::Fault));
+    assert_eq!(rt; disk.failures(), 1);
+    let mut none = FileDisk::create(&rt, alloc, "none", 0)?;
+    assert_eq!(rt; none.sync(), Ok(()));
+    assert_eq!(rt; FileDisk::attach(&rt, alloc, "none")?.size(), 0);
+    Ok(())
+}
+
+#[test]
+fn a_fault_of_the_file_is_counted_and_mended_by_the_next_sync(rt: HostRuntime) -> Result<(), Fail> {
+    let file = FlakyFile::of(rt.alloc(), &[9, 9, 9, 9, 9], 0)?;
+    let mut disk = FileDisk::filled(rt.alloc(), file, 4)?;
+    assert_eq!(rt; durable(&disk), [0, 0, 0, 0].as_slice());
+    // A torn write: the file has half of it, and a read there is a fault until it is written again.
+    fail_next(&mut disk);
+    let mut out = [0; 2];
+    assert_eq!(rt; disk.write_at(0, &[1, 2]), Err(DiskError::Fault));
+    assert_eq!(rt; disk.read_at(0, &mut out), Err(DiskError::Fault));
+    assert_eq!(rt; disk.read_at(2, &mut out), Ok(()));
+    assert_eq!(rt; disk.sync(), Ok(()));
+    assert_eq!(rt; durable(&disk), [1, 2, 0, 0].as_slice());
+    // A sync that fails, after which the system forgets what it couldn't keep.
+    assert_eq!(rt; disk.write_at(3, &[4]), Ok(()));
+    fail_next(&mut disk);
+    assert_eq!(rt; disk.sync(), Err(DiskError::Fault));
+    forget(&mut disk)?;
+    // So does the next one, while it writes again.
+    fail_next(&mut disk);
+    assert_eq!(rt; disk.sync(), Err(DiskError::Fault));
+    assert_eq!(rt; disk.sync(), Ok(()));
+    assert_eq!(rt; durable(&disk), [1, 2, 0, 4].as_slice());
+    fail_next(&mut disk);
+    assert_eq!(rt; disk.read_at(0, &mut out), Err(DiskError::Fault));
+    reads(&rt, &mut disk, [1, 2, 0, 4]);
+    assert_eq!(rt; disk.failures(), 5);
+    Ok(())
+}
+
+#[test]
+fn a_fault_at_each_call_makes_no_disk(rt: HostRuntime) -> Result<(), Fail> {
+    let alloc = rt.alloc();
+    for fails_in in 1..4 {
+        let file = FlakyFile::of(alloc, &[1, 2], fails_in)?;
+        let made = FileDisk::filled(alloc, file, 4);
+        assert!(rt; matches!(made, Err(FileError::Fault)), "at {fails_in}");
+    }
+    for fails_in in 1..3 {
+        let file = FlakyFile::of(alloc, &[1, 2], fails_in)?;
+        let found = FileDisk::found(alloc, file);
+        assert!(rt; matches!(found, Err(FileError::Fault)), "at {fails_in}");
+    }
+    let mut found = FileDisk::found(alloc, FlakyFile::of(alloc, &[1, 2, 3, 4], 3)?)?;
+    assert_eq!(rt; found.sync(), Err(DiskError::Fault));
+    reads(&rt, &mut found, [1, 2, 3, 4]);
+    Ok(())
+}
+
+// Run with each allocation refused in turn: there is no disk then and an old file is as it was, and the next time there is.
+#[test]
+fn a_refused_allocation_makes_no_disk(rt: HostRuntime) -> Result<(), Fail> {
+    let alloc = rt.alloc();
+    fs::write(&rt, "image", [1u8, 2, 3].as_slice())?;
+    for round in 0..2 {
+        match FileDisk::attach(&rt, alloc, "image") {
+            Ok(disk) => assert_eq!(rt; disk.size(), 3),
+            Err(error) => assert_eq!(rt; error, FileError::NoMemory, "in round {round}"),
+        }
+    }
+    if let Err(error) = FileDisk::create(&rt, alloc, "image", 2) {
+        assert_eq!(rt; error, FileError::NoMemory);
+        assert_eq!(rt; fs::metadata(&rt, "image")?.len(), 3);
+    }
+    let mut disk = match FileDisk::create(&rt, alloc, "image", 4) {
+        Ok(disk) => disk,
+        Err(_) => FileDisk::create(&rt, alloc, "image", 4)?,
+    };
+    reads(&rt, &mut disk, [0, 0, 0, 0]);
+    Ok(())
+}
+
+#[test]
+fn errors_have_texts(rt: HostRuntime) -> Result<(), Fail> {
+    let fault = format!(in rt.alloc(); "{}", FileError::Fault)?;
+    assert_eq!(rt; fault.as_str(), "fault");
+    let no_memory = format!(in rt.alloc(); "{}", FileError::NoMemory)?;
+    assert_eq!(rt; no_memory.as_str(), "no memory");
+    Ok(())
+}
