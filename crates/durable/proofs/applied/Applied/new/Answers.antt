@@ -1,0 +1,42 @@
+use Rattle.std.proofs.Common.{ℕ, ◌≡◌, List, length, replicate, refl, sym, ap, ◌∙◌, arith}
+use Rattle.heap_model.specs.Setting.{Setting}
+use Rattle.durable.specs.declared.states.MonitorState.{MonitorState}
+use Rattle.durable.specs.declared.states.LaneState.{LaneState}
+use Rattle.durable.specs.Past.{no_past}
+use Rattle.durable.specs.Memory.{Memory, new_monitor, new_lane}
+use Rattle.durable.proofs.Begins.{setting_of, setting_is, begins, within_none, start_none}
+use Rattle.durable.proofs.applied.Applied.new.Goals as goal
+
+pub invariant_of-result : goal.invariant_of-result
+invariant_of-result c =
+    let lanes : c.in_ok-vec.field-0.items ≡ replicate c.args.layout.now.lanes new_lane = c.in_ok-vec.ensures.items_if_clones_equal (λ y h. h) in
+    let monitors : c.in_ok-vec-2.field-0.items ≡ replicate c.args.layout.now.objects new_monitor = c.in_ok-vec-2.ensures.items_if_clones_equal (λ y h. h) in
+    let memory : Memory = record { last = c.args.last; capacity = c.args.layout.now.capacity; lanes = c.in_ok-vec.field-0.items; monitors = c.in_ok-vec-2.field-0.items; fields = c.in_ok-fields_of.field-0.items; fresh = c.in_ok-new.field-0.records; dirty = c.in_ok-new-2.field-0 } in
+    let lane_count : length c.in_ok-vec.field-0.items ≡ c.args.layout.now.lanes = sym c.in_ok-vec.field-0.ok.0 ∙ c.in_ok-vec.ensures.len in
+    let objects : length c.in_ok-vec-2.field-0.items ≡ c.args.layout.now.objects = sym c.in_ok-vec-2.field-0.ok.0 ∙ c.in_ok-vec-2.ensures.len in
+    record {
+      setting = setting_of c.args.layout.now c.args.guards.now c.args.heap.now c.args.last;
+      past = no_past;
+      remembers = begins c.args.layout.now c.args.guards.now c.args.heap.now c.args.last (setting_of c.args.layout.now c.args.guards.now c.args.heap.now c.args.last) memory
+          (setting_is c.args.layout.now c.args.guards.now c.args.heap.now c.args.last c.requires.rows) c.requires.rows refl monitors lanes c.in_ok-fields_of.ensures.size
+          c.in_ok-fields_of.ensures.guards c.in_ok-fields_of.ensures.values c.in_ok-fields_of.ensures.logged c.in_ok-new.ensures.empty c.in_ok-new-2.ensures.fields c.in_ok-new-2.ensures.clean objects lane_count;
+      within = within_none c.args.layout.now.capacity c.args.layout.now.lanes c.in_ok-vec.field-0.items lanes lane_count;
+      fresh_lanes = c.in_ok-new.ensures.lanes ∙ sym lane_count;
+      fresh_room = c.in_ok-new.ensures.room;
+    }
+
+pub returns-clause-remembers : goal.returns-clause-remembers
+returns-clause-remembers c = λ s set.
+    let lanes : c.in_ok-vec.field-0.items ≡ replicate c.args.layout.now.lanes new_lane = c.in_ok-vec.ensures.items_if_clones_equal (λ y h. h) in
+    let monitors : c.in_ok-vec-2.field-0.items ≡ replicate c.args.layout.now.objects new_monitor = c.in_ok-vec-2.ensures.items_if_clones_equal (λ y h. h) in
+    let memory : Memory = record { last = c.args.last; capacity = c.args.layout.now.capacity; lanes = c.in_ok-vec.field-0.items; monitors = c.in_ok-vec-2.field-0.items; fields = c.in_ok-fields_of.field-0.items; fresh = c.in_ok-new.field-0.records; dirty = c.in_ok-new-2.field-0 } in
+    let lane_count : length c.in_ok-vec.field-0.items ≡ c.args.layout.now.lanes = sym c.in_ok-vec.field-0.ok.0 ∙ c.in_ok-vec.ensures.len in
+    let objects : length c.in_ok-vec-2.field-0.items ≡ c.args.layout.now.objects = sym c.in_ok-vec-2.field-0.ok.0 ∙ c.in_ok-vec-2.ensures.len in
+    begins c.args.layout.now c.args.guards.now c.args.heap.now c.args.last s memory set c.requires.rows refl monitors lanes c.in_ok-fields_of.ensures.size
+    c.in_ok-fields_of.ensures.guards c.in_ok-fields_of.ensures.values c.in_ok-fields_of.ensures.logged c.in_ok-new.ensures.empty c.in_ok-new-2.ensures.fields c.in_ok-new-2.ensures.clean objects lane_count
+
+pub returns-clause-starts : goal.returns-clause-starts
+returns-clause-starts c = start_none c.args.layout.now.lanes c.in_ok-vec.field-0.items (c.in_ok-vec.ensures.items_if_clones_equal (λ y h. h)) (sym c.in_ok-vec.field-0.ok.0 ∙ c.in_ok-vec.ensures.len)
+
+pub returns-clause-fields : goal.returns-clause-fields
+returns-clause-fields c = c.in_ok-fields_of.ensures.size ∙ c.requires.rows.size

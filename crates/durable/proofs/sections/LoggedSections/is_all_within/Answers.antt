@@ -1,0 +1,21 @@
+use Rattle.std.proofs.Common.{ℕ, ◌≡◌, ◌<◌, ◌≤◌, inl, inr, sym, ap, ◌∙◌, subst, arith}
+use Rattle.std.proofs.lemmas.Bool.{cases_lt}
+use Rattle.heap_model.specs.Log.{lane as lane_of}
+use Rattle.heap_model.specs.declared.record.Record.{Record as AnyRecord}
+use Rattle.heap_model.specs.Sections.{Action, actions, ended}
+use Rattle.heap_model.specs.Cuts.{counts_of}
+use Rattle.durable.specs.Counted.{lane_in}
+use Rattle.durable.specs.Sections.{Logged, TellsSections}
+use Rattle.durable.specs.KeptSections.{logged_of}
+use Rattle.durable.proofs.SectionLaws.{none_past}
+use Rattle.durable.proofs.sections.LoggedSections.is_all_within.Goals as goal
+
+pub returns : goal.returns
+returns c = λ base log told.
+    let tells : TellsSections (logged_of c.self.inside) base log = subst (λ (m : Logged). TellsSections m base log) (sym c.self.view_is) told in (
+      (λ yes l. elim (cases_lt l c.self.inside.lanes) [
+        | inl lt ↦ omega (arith, c.are_within.ensures.0 yes l lt, (tells.lane_is l lt).sections)
+        | inr ge ↦ omega (arith, none_past (logged_of c.self.inside) base log tells l ge)
+      ]),
+      (λ all. c.are_within.ensures.1 (λ l lt. omega (arith, all l, (tells.lane_is l lt).sections))),
+    )

@@ -1,0 +1,14 @@
+-- How far a lane may go: a section has 1,000 records at most, begins below place 2 ^ 62, and where its lane's area has room for it.
+use Rattle.std.specs.Prelude.{ℕ, ◌≡◌, ◌+◌, ◌<◌, ◌≤◌, ◌^◌}
+use Rattle.durable.specs.declared.states.LaneState.{LaneState}
+
+pub record IsWithin (capacity : ℕ) (s : LaneState) : Type 0 where
+  -- the open section with the releases that it needs
+  pub short : s.section + s.held ≤ 1000
+  pub closed : s.held ≡ 0 → s.section ≡ 0
+  -- its area has room for the records since the start, and for the rest of an open section
+  pub room : s.place ≤ s.start + capacity
+  pub open_room : 0 < s.held → s.place + 1000 ≤ s.start + capacity + s.section
+  -- places
+  pub low : s.place < 2 ^ 62 + 1001
+  pub open_low : 0 < s.held → s.place < 2 ^ 62 + s.section

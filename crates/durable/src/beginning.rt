@@ -1,0 +1,47 @@
+//! What is remembered before any record.
+
+ghost use Rattle.std.specs.Prelude.{◌≡◌, ◌<◌, ◌≤◌, ℕ, length, slice_index, slice_index_or, IfOk};
+ghost use Rattle.image.specs.declared.guard_row.GuardRow.{GuardRow as Row};
+ghost use Rattle.durable.specs.Memory.{field_in};
+
+use crate::states::{FieldState, LaneState, MonitorState};
+use image::GuardRow;
+use std::alloc::{AllocError, Global};
+
+/// A monitor that was never taken.
+pub const FREE: MonitorState = MonitorState {
+    holder: None,
+    number: 0,
+};
+
+/// A lane with no records.
+pub const IDLE: LaneState = LaneState {
+    start: 0,
+    place: 0,
+    section: 0,
+    held: 0,
+    awaited: None,
+};
+
+/// The fields, with their guards and with these values at home.
+pub fn fields_of(
+    alloc: Global,
+    guards: &[GuardRow],
+    heap: &[u64],
+) -> Result<Vec<FieldState>, AllocError>
+    requires { length heap.now ≡ length guards.now }
+    ensures size { IfOk result (λ fields. length fields.items ≡ length guards.now) }
+    ensures guards { IfOk result (λ fields. (f : ℕ) (d : Row) → f < length guards.now → (field_in fields.items f).guard ≡ (slice_index_or guards.now f d).guard) }
+    ensures values { IfOk result (λ fields. (f : ℕ) → f < length guards.now → (field_in fields.items f).value ≡ slice_index heap.now f) }
+    ensures logged { IfOk result (λ fields. (f : ℕ) → f < length guards.now → (field_in fields.items f).logged ≡ slice_index heap.now f) }
+{
+    let mut fields = Vec::with_capacity(alloc, guards.len())?;
+    for (place, row) in guards.iter().enumerate() {
+        fields.push_reserved(FieldState {
+            guard: row.guard,
+            value: heap[place],
+            logged: heap[place],
+        });
+    }
+    Ok(fields)
+}

@@ -1,0 +1,30 @@
+use Rattle.std.proofs.Common.{◌≡◌, ◌∷◌, [], List, ℕ, codes, map, string_bytes, true, ap, ap₂, sym, ◌∙◌, refl}
+use Rattle.clap.proofs.OnLiterals.{clap_on_literals}
+use Rattle.clap.specs.Faults.{fault_of, is_simple_and_free}
+use Rattle.clap.specs.Simple.{App}
+use Rattle.clap.specs.Takes.{takes}
+use Rattle.heapctl.specs.Words.{program}
+use Rattle.heapctl.proofs.words.read_words.Goals as goal
+
+is_plain : is_simple_and_free program ≡ true
+unfolding clap_on_literals
+is_plain = refl
+
+takes_none : (name : List ℕ) → takes program (name ∷ []) ≡ true
+unfolding clap_on_literals
+takes_none name = refl
+
+takes_run : (name : List ℕ) → takes program (name ∷ codes "run" ∷ []) ≡ true
+unfolding clap_on_literals
+takes_run name = refl
+
+pub returns-in-Ok-clause-exact : goal.returns-in-Ok-clause-exact
+returns-in-Ok-clause-exact c =
+    let is = c.in_ok-command.ensures in
+    ap (λ (a : App). fault_of a (map (λ s. string_bytes s) c.args.words.now)) (sym is) ∙ c.in-Ok.ensures.kinds (ap is_simple_and_free is ∙ is_plain)
+
+pub returns-clause-none : goal.returns-clause-none
+returns-clause-none c = λ name words_are. c.in-Err.ensures.passes (ap₂ takes c.in_ok-command.ensures words_are ∙ takes_none name)
+
+pub returns-clause-run : goal.returns-clause-run
+returns-clause-run c = λ name words_are. c.in-Err.ensures.passes (ap₂ takes c.in_ok-command.ensures words_are ∙ takes_run name)

@@ -1,0 +1,13 @@
+-- The status with which the program ends (docs/SCRIPTS.md, "The program's fault texts").
+use Rattle.std.specs.Prelude.{ℕ}
+use Rattle.scripts.specs.declared.error.ScriptErrorKind.{ScriptErrorKind}
+use Rattle.scripts.specs.declared.error.ScriptErrorKind.TheVariants.{Syntax, NotText, TooLong, Read, Write, Memory}
+
+-- after a script's error: 2 for what its text has, 1 for what it was played on
+abbrev pub status_for : ScriptErrorKind → ℕ
+status_for Syntax = 2
+status_for NotText = 2
+status_for TooLong = 2
+status_for Read = 1
+status_for Write = 1
+status_for Memory = 1

@@ -1,0 +1,80 @@
+//! `heapctl`: plays a script of threads, crashes and recoveries (`docs/SCRIPTS.md`).
+//!
+//! Reads the program's words, does what they ask for, and tells the caller by the exit status how it went. Faults go to
+//! standard error, and all else to standard output.
+#![tactic(auto)]
+
+mod status;
+#[cfg(test)]
+mod tests;
+mod words;
+
+use clap::Error;
+use clap::error::ErrorKind;
+use scripts::run_script;
+use status::{FAULT, WRONG_INPUT, status_of};
+use std::process::ExitCode;
+use std::rt::Env;
+use std::{env, io};
+use words::{Words, read_words};
+
+// Does what the words ask for.
+fn obey<R: Input + Print + Eprint + AllocGlobal>(rt: &R, words: Words) -> ExitCode {
+    match words {
+        Words::Run => play(rt),
+    }
+}
+
+// Plays the script on standard input.
+fn play<R: Input + Print + Eprint + AllocGlobal>(rt: &R) -> ExitCode {
+    let mut reader = rt.reader();
+    let mut writer = io::writer(rt);
+    match run_script(rt.alloc(), &mut reader, &mut writer) {
+        Ok(()) => ExitCode::SUCCESS,
+        Err(error) => {
+            let _ = eprintln!(rt; "heapctl: {error}");
+            ExitCode::from(status_of(error.kind))
+        }
+    }
+}
+
+// Prints what `clap` answers to wrong words, to `--help` and to `--version`.
+fn show<R: Print + Eprint>(rt: &R, answer: &Error) -> ExitCode {
+    // Want of memory is no fault of the words, and has no text of its own.
+    if answer.kind() == ErrorKind::OutOfMemory {
+        return out_of_memory(rt);
+    }
+    let printed = answer.print(rt);
+    if answer.use_stderr() {
+        return ExitCode::from(WRONG_INPUT);
+    }
+    match printed {
+        Ok(()) => ExitCode::SUCCESS,
+        Err(_) => ExitCode::from(FAULT),
+    }
+}
+
+fn out_of_memory<R: Eprint>(rt: &R) -> ExitCode {
+    let _ = eprintln!(rt; "heapctl: no memory");
+    ExitCode::from(FAULT)
+}
+
+fn run<R: Env + Input + Print + Eprint + AllocGlobal>(rt: &R) -> ExitCode {
+    let alloc = rt.alloc();
+    let Ok(arguments) = env::args(rt) else {
+        // A word that is no text is a wrong one.
+        let _ = eprintln!(rt; "heapctl: the words are not text");
+        return ExitCode::from(WRONG_INPUT);
+    };
+    let Ok(texts) = arguments.collect::<Vec<String>>(alloc) else {
+        return out_of_memory(rt);
+    };
+    match read_words(alloc, texts.as_slice()) {
+        Ok(words) => obey(rt, words),
+        Err(answer) => show(rt, &answer),
+    }
+}
+
+fn main(rt: HostRuntime) -> ExitCode {
+    run(&rt)
+}

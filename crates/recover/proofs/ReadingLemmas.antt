@@ -1,0 +1,118 @@
+-- What each refusal on the way says of the image.
+use Rattle.std.proofs.Common.{ℕ, zero, suc, ◌≡◌, ◌+◌, ◌<◌, List, [], ◌∷◌, sym, ap, ◌∙◌, subst, inl, inr, arith, Vec, Global}
+use Rattle.std.specs.Prelude.{All}
+use Rattle.std.proofs.lemmas.Bool.{cases_lt}
+use Rattle.std.proofs.lemmas.List.{reverse-reverse}
+use Rattle.heap_model.specs.declared.record.UndoRecord.{UndoRecord}
+use Rattle.block_disk.specs.Device.{Device, Moment, SameMoments}
+use Rattle.image.specs.Guards.{HasGuards}
+use Rattle.image.specs.Slots.{Shows}
+use Rattle.image.specs.declared.layout.Layout.{Layout}
+use Rattle.image.specs.declared.slot.Slot.{Slot}
+use Rattle.image.specs.declared.control.Control.{Control}
+use Rattle.image.specs.declared.lane_row.LaneRow.{LaneRow}
+use Rattle.image.specs.declared.guard_row.GuardRow.{GuardRow}
+use Rattle.undo_log.specs.Area.{IsLoggable, HasRecords, HasSpan}
+use Rattle.undo_log.specs.StandsFor.{row_of, guard_in}
+use Rattle.recover.specs.declared.error.RecoverError.{RecoverError}
+use Rattle.recover.specs.declared.error.RecoverError.TheVariants.{Fault, NotFormatted, BadHeader, TooSmall, NoControl, BadControl, Worn, BadRecord, IllegalLog, NoMemory}
+use Rattle.recover.specs.Logs.{records_of, lanes_of, AreLogs, AreLoggable, AreGuards, RefusesLogs}
+use Rattle.recover.specs.Settled.{RefusesLegal}
+use Rattle.recover.specs.Reading.{HasLayout, RefusesLayout, RefusesRows, RefusesControl, HasFront, HasControl, RefusesImage}
+use Rattle.recover.proofs.LogLemmas.{records_past}
+
+pub refused_layout : (image : List ℕ) (e : RecoverError) → RefusesLayout image e → RefusesImage image e
+refused_layout image Fault h = h
+refused_layout image NotFormatted h = h
+refused_layout image BadHeader h = inl h
+refused_layout image TooSmall h = h
+refused_layout image NoControl h = absurd h
+refused_layout image BadControl h = absurd h
+refused_layout image Worn h = h
+refused_layout image (BadRecord lane place) h = absurd h
+refused_layout image (IllegalLog lane place) h = absurd h
+refused_layout image NoMemory h = absurd h
+
+pub refused_rows : (image : List ℕ) (l : Layout) (e : RecoverError) → HasLayout image l → RefusesRows l image e → RefusesImage image e
+refused_rows image l Fault has h = tt
+refused_rows image l NotFormatted has h = absurd h
+refused_rows image l BadHeader has h = inr (l, has, h)
+refused_rows image l TooSmall has h = absurd h
+refused_rows image l NoControl has h = absurd h
+refused_rows image l BadControl has h = absurd h
+refused_rows image l Worn has h = absurd h
+refused_rows image l (BadRecord lane place) has h = absurd h
+refused_rows image l (IllegalLog lane place) has h = absurd h
+refused_rows image l NoMemory has h = tt
+
+pub refused_control : (image : List ℕ) (l : Layout) (guards : List GuardRow) (e : RecoverError) → HasFront image l guards → RefusesControl l image e → RefusesImage image e
+refused_control image l guards Fault has h = tt
+refused_control image l guards NotFormatted has h = absurd h
+refused_control image l guards BadHeader has h = absurd h
+refused_control image l guards TooSmall has h = absurd h
+refused_control image l guards NoControl has h = (l, guards, has, h)
+refused_control image l guards BadControl has h = (l, guards, has, h)
+refused_control image l guards Worn has h = absurd h
+refused_control image l guards (BadRecord lane place) has h = absurd h
+refused_control image l guards (IllegalLog lane place) has h = absurd h
+refused_control image l guards NoMemory has h = absurd h
+
+pub refused_logs : (image : List ℕ) (l : Layout) (guards : List GuardRow) (s : Slot) (c : Control) (e : RecoverError) → HasControl image l guards s c → RefusesLogs l image c.rows e → RefusesImage image e
+refused_logs image l guards s c Fault has h = tt
+refused_logs image l guards s c NotFormatted has h = absurd h
+refused_logs image l guards s c BadHeader has h = absurd h
+refused_logs image l guards s c TooSmall has h = absurd h
+refused_logs image l guards s c NoControl has h = absurd h
+refused_logs image l guards s c BadControl has h = absurd h
+refused_logs image l guards s c Worn has h = absurd h
+refused_logs image l guards s c (BadRecord lane place) has h = (l, guards, s, c, has, h)
+refused_logs image l guards s c (IllegalLog lane place) has h = absurd h
+refused_logs image l guards s c NoMemory has h = tt
+
+pub refused_legal : (image : List ℕ) (l : Layout) (guards : List GuardRow) (s : Slot) (c : Control) (logs : List (Vec UndoRecord Global)) (e : RecoverError) → HasControl image l guards s c → AreLogs l image c.rows logs →
+    RefusesLegal (guard_in guards) c.rows (lanes_of logs) e → RefusesImage image e
+refused_legal image l guards s c logs Fault has are h = absurd h
+refused_legal image l guards s c logs NotFormatted has are h = absurd h
+refused_legal image l guards s c logs BadHeader has are h = absurd h
+refused_legal image l guards s c logs TooSmall has are h = absurd h
+refused_legal image l guards s c logs NoControl has are h = absurd h
+refused_legal image l guards s c logs BadControl has are h = absurd h
+refused_legal image l guards s c logs Worn has are h = absurd h
+refused_legal image l guards s c logs (BadRecord lane place) has are h = absurd h
+refused_legal image l guards s c logs (IllegalLog lane place) has are h = (l, guards, s, c, logs, has, are, h)
+refused_legal image l guards s c logs NoMemory has are h = tt
+
+-- the records that an image has are such that it may have
+has_loggable : (l : Layout) (lane from : ℕ) (image : List ℕ) (records : List UndoRecord) → HasRecords l lane from image records → All (IsLoggable l) records
+has_loggable l lane from image [] h k d lt = absurd (omega arith)
+has_loggable l lane from image (r ∷ newer) h zero d lt = record { range = h.0.spelled.range; named = h.0.named }
+has_loggable l lane from image (r ∷ newer) h (suc k) d lt = has_loggable l lane (from + 1) image newer h.1 k d (omega arith)
+
+-- the live records of an image are such
+pub logs_loggable : (l : Layout) (image : List ℕ) (rows : List LaneRow) (logs : List (Vec UndoRecord Global)) → AreLogs l image rows logs → AreLoggable l rows logs
+logs_loggable l image rows logs are = record {
+  count = are.count;
+  size = λ lane lt. (span lane lt).size;
+  each = λ lane. elim (cases_lt lane l.lanes) [
+    | inl lt ↦ has_loggable l lane (row_of rows lane).start image (records_of logs lane) (span lane lt).each
+    | inr le ↦ subst (All (IsLoggable l)) (sym (records_past logs lane (omega (arith, are.count)))) (λ k d lt. absurd (omega arith))
+  ];
+}
+  where
+    span : (lane : ℕ) → lane < l.lanes → HasSpan l lane (row_of rows lane).start (row_of rows lane).logged image (records_of logs lane)
+    span lane lt = subst (λ (xs : List UndoRecord). HasSpan l lane (row_of rows lane).start (row_of rows lane).logged image xs) (reverse-reverse (records_of logs lane)) (are.live.live lane lt)
+
+-- the guard rows of an image name its objects
+pub guards_named : (l : Layout) (image : List ℕ) (guards : List GuardRow) → HasGuards l image guards → AreGuards l guards
+guards_named l image guards has = record { count = has.size; each = λ f lt. (has.each f (record { guard = record { 0 = 0 }; owner = record { 0 = 0 }; first = 0 }) lt).objects.guard }
+
+-- what was read one after the other is there at once
+pub has_control : (d0 d1 d2 : Device) (l : Layout) (guards : List GuardRow) (s : Slot) (c : Control) → SameMoments d0 d1 → SameMoments d1 d2 → HasLayout d0.now.bytes l → HasGuards l d1.now.bytes guards → Shows l d2.now.bytes s c →
+    HasControl d0.now.bytes l guards s c
+has_control d0 d1 d2 l guards s c a b layout has shows = record {
+  front = record { layout = layout; guards_are = subst (λ (m : Moment). HasGuards l m.bytes guards) a.now has };
+  shows = subst (λ (m : Moment). Shows l m.bytes s c) (b.now ∙ a.now) shows;
+}
+
+pub bytes_seen : (d0 d1 d2 d3 : Device) → SameMoments d0 d1 → SameMoments d1 d2 → SameMoments d2 d3 → d3.now.bytes ≡ d0.now.bytes
+bytes_seen d0 d1 d2 d3 a b e = ap (λ (m : Moment). m.bytes) (e.now ∙ b.now ∙ a.now)

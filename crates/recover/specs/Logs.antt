@@ -1,0 +1,64 @@
+-- The lanes' live records, as they were read.
+use Rattle.std.specs.Prelude.{ℕ, ◌≡◌, ◌<◌, ◌+◌, All, List, [], length, map, reverse, slice_index_or, Vec}
+use Rattle.std.specs.declared.alloc.Global.{Global}
+use Rattle.heap_model.specs.declared.ids.Lane.{Lane}
+use Rattle.heap_model.specs.declared.record.UndoRecord.{UndoRecord}
+use Rattle.image.specs.declared.layout.Layout.{Layout}
+use Rattle.image.specs.declared.lane_row.LaneRow.{LaneRow}
+use Rattle.image.specs.declared.guard_row.GuardRow.{GuardRow}
+use Rattle.undo_log.specs.Area.{HasRecord, IsLoggable}
+use Rattle.undo_log.specs.Runs.{IsFull}
+use Rattle.undo_log.specs.StandsFor.{row_of, guard_in, HasLive}
+use Rattle.recover.specs.declared.error.RecoverError.{RecoverError}
+use Rattle.recover.specs.declared.error.RecoverError.TheVariants.{Fault, BadRecord, NoMemory}
+
+-- a lane's records, the oldest first; none where there is no such lane
+abbrev pub records_of : List (Vec UndoRecord Global) → (lane : ℕ) → List UndoRecord
+records_of logs l = slice_index_or (map (λ v. v.items) logs) l []
+
+-- the lanes' records, the newest first
+abbrev pub lanes_of : List (Vec UndoRecord Global) → (lane : ℕ) → List UndoRecord
+lanes_of logs l = reverse (records_of logs l)
+
+-- these are the lanes' live records of the image
+pub record AreLogs (l : Layout) (image : List ℕ) (rows : List LaneRow) (logs : List (Vec UndoRecord Global)) : Type 0 where
+  pub count : length logs ≡ l.lanes
+  pub live : HasLive l image rows (lanes_of logs)
+
+-- the lane's live places have records, up to this one
+abbrev pub IsReadTo : Layout → List ℕ → List LaneRow → (lane place : ℕ) → Type 0
+IsReadTo l image rows lane place = IsFull l lane (row_of rows lane).start place image
+
+-- this place of the lane is live and has no record, and no live place before it in the lane is such
+pub record IsBadAt (l : Layout) (image : List ℕ) (rows : List LaneRow) (lane place : ℕ) : Type 0 where
+  pub live : place < (row_of rows lane).logged
+  pub bad : (r : UndoRecord) → HasRecord l lane place image r → ⊥
+  pub before : IsReadTo l image rows lane place
+
+-- what each refusal to read the live records of the lane that has this row says of the image
+abbrev pub RefusesLane : Layout → List ℕ → Lane → LaneRow → RecoverError → Type 0
+RefusesLane l image lane row Fault = Unit {0}
+RefusesLane l image lane row (BadRecord other place) =
+    (other ≡ lane) × (place < row.logged) × ((r : UndoRecord) → HasRecord l lane.0 place image r → ⊥) × IsFull l lane.0 row.start place image
+RefusesLane l image lane row NoMemory = Unit {0}
+RefusesLane l image lane row _ = ⊥
+
+-- what each refusal to read the lanes' live records says of the image: the least lane with a bad place, and its least; want
+-- of memory is met lane by lane
+abbrev pub RefusesLogs : Layout → List ℕ → List LaneRow → RecoverError → Type 0
+RefusesLogs l image rows Fault = Unit {0}
+RefusesLogs l image rows (BadRecord lane place) =
+    (lane.0 < l.lanes) × IsBadAt l image rows lane.0 place × ((m : ℕ) → m < lane.0 → IsReadTo l image rows m (row_of rows m).logged)
+RefusesLogs l image rows NoMemory = Unit {0}
+RefusesLogs l image rows _ = ⊥
+
+-- what the lanes' live records of an image are: each is one that the image may have, and as many as the lane's row says
+pub record AreLoggable (l : Layout) (rows : List LaneRow) (logs : List (Vec UndoRecord Global)) : Type 0 where
+  pub count : length logs ≡ l.lanes
+  pub size : (lane : ℕ) → lane < l.lanes → (row_of rows lane).start + length (records_of logs lane) ≡ (row_of rows lane).logged
+  pub each : (lane : ℕ) → All (IsLoggable l) (records_of logs lane)
+
+-- what the guard rows of an image are: there is one for each field, and its guard is an object of the image
+pub record AreGuards (l : Layout) (guards : List GuardRow) : Type 0 where
+  pub count : length guards ≡ l.fields
+  pub each : (f : ℕ) → f < l.fields → guard_in guards f < l.objects

@@ -1,0 +1,81 @@
+-- Which image is refused, and by what: the first thing that is wrong (docs/FORMAT.md, "Which image is refused").
+use Rattle.std.specs.Prelude.{ℕ, ◌<◌, ◌≤◌, ◌⊎◌, List, length, Err, Vec}
+use Rattle.std.specs.declared.alloc.Global.{Global}
+use Rattle.heap_model.specs.declared.record.UndoRecord.{UndoRecord}
+use Rattle.image.specs.Layout.{size_of}
+use Rattle.image.specs.Header.{IsFormatted, HasHeader}
+use Rattle.image.specs.Guards.{HasGuards}
+use Rattle.image.specs.Slots.{Shows, Chooses}
+use Rattle.image.specs.declared.layout.Layout.{Layout}
+use Rattle.image.specs.declared.slot.Slot.{Slot}
+use Rattle.image.specs.declared.control.Control.{Control}
+use Rattle.image.specs.declared.guard_row.GuardRow.{GuardRow}
+use Rattle.image.specs.declared.error.ImageError.TheVariants as image_error
+use Rattle.undo_log.specs.StandsFor.{guard_in}
+use Rattle.recover.specs.declared.logged_image.LoggedImage.{LoggedImage}
+use Rattle.recover.specs.declared.error.RecoverError.{RecoverError}
+use Rattle.recover.specs.declared.error.RecoverError.TheVariants.{Fault, NotFormatted, BadHeader, TooSmall, NoControl, BadControl, Worn, BadRecord, IllegalLog, NoMemory}
+use Rattle.recover.specs.Logs.{AreLogs, RefusesLogs, lanes_of}
+use Rattle.recover.specs.Settled.{AreLegal, IsIllegalAt}
+
+-- the image has the header of this layout, and room for it
+pub record HasLayout (image : List ℕ) (l : Layout) : Type 0 where
+  pub header : HasHeader image l
+  pub room : size_of l ≤ length image
+
+-- what each refusal to find the layout says of the image
+abbrev pub RefusesLayout : List ℕ → RecoverError → Type 0
+RefusesLayout image Fault = Unit {0}
+RefusesLayout image NotFormatted = IsFormatted image → ⊥
+RefusesLayout image BadHeader = IsFormatted image × ((l : Layout) → HasHeader image l → ⊥)
+RefusesLayout image TooSmall = (l : Layout) × HasHeader image l × (length image < size_of l)
+RefusesLayout image _ = ⊥
+
+-- to read the guard rows
+abbrev pub RefusesRows : Layout → List ℕ → RecoverError → Type 0
+RefusesRows l image Fault = Unit {0}
+RefusesRows l image BadHeader = (rows : List GuardRow) → HasGuards l image rows → ⊥
+RefusesRows l image NoMemory = Unit {0}
+RefusesRows l image _ = ⊥
+
+-- to choose the control
+abbrev pub RefusesControl : Layout → List ℕ → RecoverError → Type 0
+RefusesControl l image Fault = Unit {0}
+RefusesControl l image NoControl = Chooses l image (Err image_error.NoControl)
+RefusesControl l image BadControl = Chooses l image (Err image_error.BadControl)
+RefusesControl l image _ = ⊥
+
+-- the image has this layout and these guard rows
+pub record HasFront (image : List ℕ) (l : Layout) (guards : List GuardRow) : Type 0 where
+  pub layout : HasLayout image l
+  pub guards_are : HasGuards l image guards
+
+-- the image has this layout and these guard rows, and shows this control in this slot
+pub record HasControl (image : List ℕ) (l : Layout) (guards : List GuardRow) (s : Slot) (c : Control) : Type 0 where
+  pub front : HasFront image l guards
+  pub shows : Shows l image s c
+
+-- what the image holds, where nothing is wrong with it
+pub record Holds (image : List ℕ) (found : LoggedImage) : Type 0 where
+  pub control : HasControl image found.layout found.guards.items found.slot found.control
+  pub logs : AreLogs found.layout image found.control.rows found.records.items
+  pub legal : AreLegal (guard_in found.guards.items) found.control.rows (lanes_of found.records.items)
+
+-- A header is bad by itself, or by a guard row; the latter is told of where the device has room for the image.
+abbrev pub HasBadHeader : List ℕ → Type 0
+HasBadHeader image = RefusesLayout image BadHeader ⊎ ((l : Layout) × HasLayout image l × RefusesRows l image BadHeader)
+
+-- what each refusal says of the image: the first test that it doesn't pass
+abbrev pub RefusesImage : List ℕ → RecoverError → Type 0
+RefusesImage image Fault = Unit {0}
+RefusesImage image NotFormatted = RefusesLayout image NotFormatted
+RefusesImage image BadHeader = HasBadHeader image
+RefusesImage image TooSmall = RefusesLayout image TooSmall
+RefusesImage image NoControl = (l : Layout) × (guards : List GuardRow) × HasFront image l guards × RefusesControl l image NoControl
+RefusesImage image BadControl = (l : Layout) × (guards : List GuardRow) × HasFront image l guards × RefusesControl l image BadControl
+RefusesImage image Worn = ⊥
+RefusesImage image (BadRecord lane place) =
+    (l : Layout) × (guards : List GuardRow) × (s : Slot) × (c : Control) × HasControl image l guards s c × RefusesLogs l image c.rows (BadRecord lane place)
+RefusesImage image (IllegalLog lane place) =
+    (l : Layout) × (guards : List GuardRow) × (s : Slot) × (c : Control) × (logs : List (Vec UndoRecord Global)) × HasControl image l guards s c × AreLogs l image c.rows logs × IsIllegalAt (guard_in guards) c.rows (lanes_of logs) lane.0 place
+RefusesImage image NoMemory = Unit {0}

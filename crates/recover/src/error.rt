@@ -1,0 +1,38 @@
+//! Why an image can't be studied or recovered.
+use heap_model::Lane;
+use thiserror::Error;
+
+/// Why an image can't be studied or recovered.
+#[derive(Clone, Copy, Debug, PartialEq, Eq, Error)]
+pub enum RecoverError {
+    /// A call of the device failed.
+    #[error("fault")]
+    Fault,
+    /// There is no header, or its gate is closed.
+    #[error("not formatted")]
+    NotFormatted,
+    /// A number of the header or of a guard row is out of its limits, or a byte that has to be zero isn't.
+    #[error("bad header")]
+    BadHeader,
+    /// The device is smaller than the header says that the image is.
+    #[error("too small")]
+    TooSmall,
+    /// The gates of both slots are closed.
+    #[error("no control")]
+    NoControl,
+    /// Neither slot is chosen though a gate is open, or the chosen one has no control of this layout.
+    #[error("bad control")]
+    BadControl,
+    /// The control's sequence is at its last value, 2^64 - 1, so that no other can be committed.
+    #[error("worn")]
+    Worn,
+    /// The bytes at this live place are no record, or they name an object or a field that the image doesn't have.
+    #[error("bad record")]
+    BadRecord { lane: Lane, place: u64 },
+    /// No threads can have left these logs. The place is that of the first record that shows it.
+    #[error("illegal log")]
+    IllegalLog { lane: Lane, place: u64 },
+    /// There was no memory.
+    #[error("no memory")]
+    NoMemory,
+}

@@ -1,0 +1,114 @@
+//! Reading an image, whatever its bytes are.
+ghost use Rattle.std.specs.Prelude.{◌≡◌, ◌≤◌, IfErr, IfOk, MatchResult, length};
+ghost use Rattle.block_disk.specs.Device.{HasCause, SameMoments};
+ghost use Rattle.image.specs.Guards.{HasGuards};
+ghost use Rattle.image.specs.Layout.{IsLayout, size_of};
+ghost use Rattle.image.specs.Slots.{Shows};
+ghost use Rattle.recover.specs.Reading.{HasLayout, Holds, RefusesLayout, RefusesRows, RefusesControl, RefusesImage};
+ghost use Rattle.recover.specs.declared.error.RecoverError.TheVariants.{Fault};
+
+use crate::check::check_logs;
+use crate::error::RecoverError;
+use crate::logged_image::LoggedImage;
+use crate::logs::read_logs;
+use block_disk::Disk;
+use image::{
+    Control, GuardRow, ImageError, Layout, Slot, choose_control, read_guards, read_header,
+};
+use std::alloc::Global;
+
+/// Reads the image on the device, of which nothing has to be known.
+///
+/// Refusals, in this order (docs/FORMAT.md, "Which image is refused"); the device is left as it was:
+/// - `NotFormatted`: the device has fewer than 64 bytes, the name isn't there, or the header's gate is closed;
+/// - `BadHeader`: a number of the header is out of its limits, a byte that has to be zero isn't, or the size isn't the
+///   layout's;
+/// - `TooSmall`: the device is smaller than that size;
+/// - `BadHeader`: the guard or the owner of some guard row isn't an object of the image;
+/// - `NoControl`: the gates of both slots are closed;
+/// - `BadControl`: both are open with the same sequence, or the slot that counts doesn't hold the control of an image of
+///   this layout;
+/// - `BadRecord`: a live place whose bytes are no record of the image; the least lane, then the least place;
+/// - `IllegalLog`: see [`check_logs`].
+///
+/// `NoMemory` comes where the guard rows, a lane's records or the replay find no room, and `Fault` where a read fails.
+pub fn read_image<D: Disk>(alloc: Global, disk: &mut D) -> Result<LoggedImage, RecoverError>
+    ensures exact { MatchResult result (Holds (D.device disk.old).now.bytes) (RefusesImage (D.device disk.old).now.bytes) }
+    ensures same { SameMoments (D.device disk.old) (D.device disk.new) }
+    ensures cause { HasCause (D.device disk.old).failures (D.device disk.new).failures Fault result }
+{
+    let layout = find_layout(disk)?;
+    let guards = find_guards(alloc, disk, &layout)?;
+    let (slot, control) = find_control(disk, &layout)?;
+    let records = read_logs(alloc, disk, &layout, &control.rows)?;
+    check_logs(alloc, &layout, &guards, &control.rows, &records)?;
+    Ok(LoggedImage {
+        layout,
+        slot,
+        control,
+        guards,
+        records,
+    })
+}
+
+fn find_layout<D: Disk>(disk: &mut D) -> Result<Layout, RecoverError>
+    ensures exact { MatchResult result (HasLayout (D.device disk.old).now.bytes) (RefusesLayout (D.device disk.old).now.bytes) }
+    ensures same { SameMoments (D.device disk.old) (D.device disk.new) }
+    ensures cause { HasCause (D.device disk.old).failures (D.device disk.new).failures Fault result }
+{
+    match read_header(disk) {
+        Ok(layout) => Ok(layout),
+        Err(ImageError::Fault) => Err(RecoverError::Fault),
+        Err(ImageError::NotFormatted) => Err(RecoverError::NotFormatted),
+        Err(ImageError::BadHeader) => Err(RecoverError::BadHeader),
+        Err(ImageError::TooSmall) => Err(RecoverError::TooSmall),
+        Err(ImageError::NoControl) => unreachable!(),
+        Err(ImageError::BadControl) => unreachable!(),
+        Err(ImageError::Worn) => unreachable!(),
+        Err(ImageError::NoMemory) => unreachable!(),
+    }
+}
+
+fn find_guards<D: Disk>(
+    alloc: Global,
+    disk: &mut D,
+    layout: &Layout,
+) -> Result<Vec<GuardRow>, RecoverError>
+    requires limits { IsLayout layout.now }
+    requires fits { size_of layout.now ≤ length (D.device disk.old).now.bytes }
+    ensures exact { MatchResult result (λ rows. HasGuards layout.now (D.device disk.old).now.bytes rows.items) (RefusesRows layout.now (D.device disk.old).now.bytes) }
+    ensures same { SameMoments (D.device disk.old) (D.device disk.new) }
+    ensures cause { HasCause (D.device disk.old).failures (D.device disk.new).failures Fault result }
+{
+    match read_guards(alloc, disk, layout) {
+        Ok(guards) => Ok(guards),
+        Err(ImageError::Fault) => Err(RecoverError::Fault),
+        Err(ImageError::BadHeader) => Err(RecoverError::BadHeader),
+        Err(ImageError::NoMemory) => Err(RecoverError::NoMemory),
+        Err(ImageError::NotFormatted) => unreachable!(),
+        Err(ImageError::TooSmall) => unreachable!(),
+        Err(ImageError::NoControl) => unreachable!(),
+        Err(ImageError::BadControl) => unreachable!(),
+        Err(ImageError::Worn) => unreachable!(),
+    }
+}
+
+fn find_control<D: Disk>(disk: &mut D, layout: &Layout) -> Result<(Slot, Control), RecoverError>
+    requires limits { IsLayout layout.now }
+    requires fits { size_of layout.now ≤ length (D.device disk.old).now.bytes }
+    ensures exact { MatchResult result (λ found. Shows layout.now (D.device disk.old).now.bytes found.0 found.1) (RefusesControl layout.now (D.device disk.old).now.bytes) }
+    ensures same { SameMoments (D.device disk.old) (D.device disk.new) }
+    ensures cause { HasCause (D.device disk.old).failures (D.device disk.new).failures Fault result }
+{
+    match choose_control(disk, layout) {
+        Ok(found) => Ok(found),
+        Err(ImageError::Fault) => Err(RecoverError::Fault),
+        Err(ImageError::NoControl) => Err(RecoverError::NoControl),
+        Err(ImageError::BadControl) => Err(RecoverError::BadControl),
+        Err(ImageError::NotFormatted) => unreachable!(),
+        Err(ImageError::BadHeader) => unreachable!(),
+        Err(ImageError::TooSmall) => unreachable!(),
+        Err(ImageError::Worn) => unreachable!(),
+        Err(ImageError::NoMemory) => unreachable!(),
+    }
+}

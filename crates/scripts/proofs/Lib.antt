@@ -1,0 +1,13 @@
+mod TermLemmas
+mod WordLemmas
+mod AskLemmas
+mod LineLemmas
+mod FaultLemmas
+mod PlayLemmas
+mod StateLemmas
+mod EventLemmas
+mod NameLemmas
+mod PlanLemmas
+mod FieldLemmas
+pub mod Device
+pub mod Store

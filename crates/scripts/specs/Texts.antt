@@ -1,0 +1,91 @@
+-- What answers print (docs/SCRIPTS.md, "Lines" and "Refusals").
+use Rattle.std.specs.Prelude.{ℕ, ◌+◌, Option, None, Some, List, [], ◌∷◌, ◌++◌, codes}
+use Rattle.std.specs.Fmt.{decimal}
+use Rattle.std.specs.List.{flat_map}
+use Rattle.heap_model.specs.declared.ids.Lane.{Lane}
+use Rattle.scripts.specs.declared.answer.Answer.{Answer}
+use Rattle.scripts.specs.declared.answer.Answer.TheVariants as answers
+use Rattle.scripts.specs.declared.answer.Dropped.{Dropped}
+use Rattle.scripts.specs.declared.answer.Refusal.{Refusal}
+use Rattle.scripts.specs.declared.answer.Refusal.TheVariants as refusals
+use Rattle.scripts.specs.declared.answer.Report.{Report}
+use Rattle.scripts.specs.declared.answer.Why.{Why}
+use Rattle.scripts.specs.declared.answer.Why.TheVariants as why
+
+-- a word and numbers, each behind a space
+abbrev pub list_line : List ℕ → List ℕ → List ℕ
+list_line word numbers = word ++ flat_map (λ number. codes " " ++ decimal number) numbers ++ codes "\n"
+
+-- the number of a lane's thread
+abbrev pub thread_of : Lane → ℕ
+thread_of lane = lane.0 + 1
+
+-- why a section is dropped
+abbrev pub why_dropped : Why → List ℕ
+why_dropped why.Unfinished = codes " unfinished\n"
+why_dropped (why.After lane section) = codes " after t" ++ decimal (thread_of lane) ++ codes " " ++ decimal section ++ codes "\n"
+why_dropped why.Unsettled = codes " unsettled\n"
+
+abbrev pub dropped_line : Dropped → List ℕ
+dropped_line dropped = codes "dropped t" ++ decimal (thread_of dropped.lane) ++ codes " " ++ decimal dropped.section ++ why_dropped dropped.why
+
+abbrev pub dropped_lines : List Dropped → List ℕ
+dropped_lines dropped = flat_map dropped_line dropped
+
+-- what recovery found
+abbrev pub report_text : Report → List ℕ
+report_text report = list_line (codes "kept") report.kept.items ++ dropped_lines report.dropped.items
+    ++ (codes "undone " ++ decimal report.undone ++ codes "\n") ++ list_line (codes "heap") report.heap.items
+
+-- why a line is refused, in words
+abbrev pub why_refused : Refusal → List ℕ
+why_refused refusals.State = codes "state"
+why_refused refusals.Lane = codes "lane"
+why_refused refusals.Unknown = codes "unknown"
+why_refused refusals.Waiting = codes "waiting"
+why_refused refusals.NotWaiting = codes "not waiting"
+why_refused refusals.InSet = codes "in set"
+why_refused refusals.Held = codes "held"
+why_refused refusals.NotHeld = codes "not held"
+why_refused refusals.Worn = codes "worn"
+why_refused refusals.TooLong = codes "too long"
+why_refused refusals.LogFull = codes "log full"
+why_refused refusals.Unwritten = codes "unwritten"
+why_refused refusals.Empty = codes "empty"
+why_refused refusals.BadHeader = codes "bad header"
+why_refused refusals.Back = codes "back"
+why_refused refusals.DoubleName = codes "double name"
+why_refused refusals.TooMany = codes "too many"
+why_refused refusals.NotFormatted = codes "not formatted"
+why_refused refusals.TooSmall = codes "too small"
+why_refused refusals.NoControl = codes "no control"
+why_refused refusals.BadControl = codes "bad control"
+why_refused (refusals.BadRecord lane place) = codes "bad record"
+why_refused (refusals.IllegalLog lane place) = codes "illegal log"
+
+-- the record that is to blame, by its lane and its place
+abbrev pub place_of : Refusal → Option (Lane × ℕ)
+place_of (refusals.BadRecord lane place) = Some (lane, place)
+place_of (refusals.IllegalLog lane place) = Some (lane, place)
+place_of _ = None
+
+abbrev pub place_text : Option (Lane × ℕ) → List ℕ
+place_text None = []
+place_text (Some at) = codes " t" ++ decimal (thread_of at.0) ++ codes " " ++ decimal at.1
+
+abbrev pub refused_line : Refusal → List ℕ
+refused_line refusal = codes "refused " ++ why_refused refusal ++ place_text (place_of refusal) ++ codes "\n"
+
+-- what a line prints
+abbrev pub text_of : Answer → List ℕ
+text_of answers.Silent = []
+text_of answers.Done = codes "ok\n"
+text_of (answers.Formatted size) = codes "formatted " ++ decimal size ++ codes "\n"
+text_of (answers.Value value) = codes "value " ++ decimal value ++ codes "\n"
+text_of (answers.Logged count) = codes "logged " ++ decimal count ++ codes "\n"
+text_of (answers.Wrote count) = codes "wrote " ++ decimal count ++ codes "\n"
+text_of (answers.Acknowledged counts) = list_line (codes "acknowledged") counts.items
+text_of (answers.Heap values) = list_line (codes "heap") values.items
+text_of answers.Crashed = codes "crashed\n"
+text_of (answers.Recovered report) = report_text report
+text_of (answers.Refused refusal) = refused_line refusal

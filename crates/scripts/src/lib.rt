@@ -1,0 +1,47 @@
+//! Scripts: lines that play threads on one machine, crash its device and recover it (docs/SCRIPTS.md).
+//!
+//! [`run_script`] reads a text, plays it line by line, and writes what each line prints. A line becomes a [`Command`]
+//! by [`parse`], the [`Machine`] answers it by an [`Answer`], and [`text`] makes of the answer what is printed. The
+//! machine steps threads on a plain machine of monitors (JLS 17.1) and knows nothing of text; behind it stands a store
+//! of one lane on a device in memory.
+#![tactic(auto)]
+
+mod answer;
+mod command;
+mod declaring;
+mod down;
+mod error;
+mod grammar;
+mod line;
+mod lines;
+mod logged;
+mod machine;
+mod monitor;
+mod monitors;
+mod names;
+mod one_lane;
+mod phase;
+mod play;
+mod reader;
+mod refusals;
+mod running;
+mod terms;
+mod texts;
+mod values;
+mod words;
+mod writer;
+
+pub use answer::{Answer, Dropped, Refusal, Report, Why};
+pub use command::{Command, Step, is_played};
+pub use error::{ScriptError, ScriptErrorKind};
+pub use grammar::parse;
+pub use machine::Machine;
+pub use play::run_script;
+pub use texts::text;
+
+#[cfg(test)]
+mod machine_tests;
+#[cfg(test)]
+mod one_lane_tests;
+#[cfg(test)]
+mod tests;

@@ -1,0 +1,251 @@
+//! The states of the machine, and the lines that each takes.
+ghost use Rattle.std.specs.Prelude.{◌≡◌, ◌↔◌, IfOk, IsTrue};
+ghost use Rattle.guards.specs.Schema.{nothing};
+ghost use Rattle.scripts.specs.Orders.{order_of, step_of};
+ghost use Rattle.scripts.specs.Orders as order;
+ghost use Rattle.scripts.specs.Limits.{IsFormattable};
+ghost use Rattle.scripts.specs.Machine as machine;
+ghost use Rattle.scripts.specs.Phases.{shown};
+ghost use Rattle.scripts.specs.declared.answer.Refusal.TheVariants as why;
+
+use crate::answer::{Answer, Refusal};
+use crate::command::{Command, Step};
+use crate::declaring::Declaring;
+use crate::down::Down;
+use crate::one_lane::OneLane;
+use crate::running::Running;
+use block_disk::Fill;
+use heap_model::Lane;
+use image::Layout;
+use std::alloc::{AllocError, Global};
+
+/// The state of the machine.
+#[derive(Drop)]
+pub(crate) enum Phase {
+    /// Objects and fields are declared.
+    Declaring(Declaring),
+    /// Threads step.
+    Running(Running),
+    /// The device has crashed.
+    Down(Down),
+    /// Memory was wanting.
+    Spent,
+}
+
+impl Phase {
+    /// Nothing is declared.
+    pub(crate) fn new(alloc: Global) -> Phase
+        ensures { shown result ≡ machine.Declaring nothing }
+    {
+        Phase::Declaring(Declaring::new(alloc))
+    }
+
+    /// Plays a line: the state after it, and the answer.
+    pub(crate) fn step(
+        self,
+        alloc: Global,
+        command: &Command<'_>,
+    ) -> Result<(Phase, Answer), AllocError>
+        ensures { IfOk result (λ r. machine.Steps (shown self) (order_of command.now) r.1 (shown r.0)) }
+    {
+        match command {
+            Command::Object { name } => self.object(name),
+            Command::Field {
+                name,
+                owner,
+                guard,
+                first,
+            } => self.field(name, owner, guard, *first),
+            Command::Format { lanes, capacity } => self.format(alloc, *lanes, *capacity),
+            Command::Step { thread, step } => self.thread_step(*thread, step),
+            Command::Log => self.log(),
+            Command::Home => self.home(),
+            Command::Settle => self.settle(alloc),
+            Command::Heap => self.heap(alloc),
+            Command::Crash { fill, back } => self.crash(alloc, *fill, *back),
+            Command::Recover => self.recover(alloc),
+            // Scripts have no such line yet: it ends a run before it comes here.
+            Command::Trim | Command::Show => Ok(self.refuse()),
+        }
+    }
+
+    // The line doesn't belong to this state.
+    fn refuse(self) -> (Phase, Answer)
+        ensures { machine.Refuses (shown self) result.1 (shown result.0) why.State }
+    {
+        (self, Answer::Refused(Refusal::State))
+    }
+
+    fn object(self, name: &str) -> Result<(Phase, Answer), AllocError>
+        ensures { IfOk result (λ r. machine.Steps (shown self) (order.Object name.now) r.1 (shown r.0)) }
+    {
+        match self {
+            Phase::Declaring(declaring) => {
+                let (declaring, answer) = declaring.object(name)?;
+                Ok((Phase::Declaring(declaring), answer))
+            }
+            other => Ok(other.refuse()),
+        }
+    }
+
+    fn field(
+        self,
+        name: &str,
+        owner: &str,
+        guard: &str,
+        first: u64,
+    ) -> Result<(Phase, Answer), AllocError>
+        ensures { IfOk result (λ r. machine.Steps (shown self) (order.Field name.now owner.now guard.now first) r.1 (shown r.0)) }
+    {
+        match self {
+            Phase::Declaring(declaring) => {
+                let (declaring, answer) = declaring.field(name, owner, guard, first)?;
+                Ok((Phase::Declaring(declaring), answer))
+            }
+            other => Ok(other.refuse()),
+        }
+    }
+
+    fn format(self, alloc: Global, lanes: u64, capacity: u64) -> Result<(Phase, Answer), AllocError>
+        ensures { IfOk result (λ r. machine.Steps (shown self) (order.Format lanes capacity) r.1 (shown r.0)) }
+    {
+        match self {
+            Phase::Declaring(declaring) => format_declared(alloc, declaring, lanes, capacity),
+            other => Ok(other.refuse()),
+        }
+    }
+
+    fn thread_step(self, thread: Lane, step: &Step<'_>) -> Result<(Phase, Answer), AllocError>
+        ensures { IfOk result (λ r. machine.Steps (shown self) (order.Act thread (step_of step.now)) r.1 (shown r.0)) }
+    {
+        match self {
+            Phase::Running(mut running) => {
+                let answer = running.step(thread, step)?;
+                Ok((Phase::Running(running), answer))
+            }
+            other => Ok(other.refuse()),
+        }
+    }
+
+    fn log(self) -> Result<(Phase, Answer), AllocError>
+        ensures { IfOk result (λ r. machine.Steps (shown self) order.Log r.1 (shown r.0)) }
+    {
+        match self {
+            Phase::Running(mut running) => {
+                let answer = running.log()?;
+                Ok((Phase::Running(running), answer))
+            }
+            other => Ok(other.refuse()),
+        }
+    }
+
+    fn home(self) -> Result<(Phase, Answer), AllocError>
+        ensures { IfOk result (λ r. machine.Steps (shown self) order.Home r.1 (shown r.0)) }
+    {
+        match self {
+            Phase::Running(mut running) => {
+                let answer = running.home()?;
+                Ok((Phase::Running(running), answer))
+            }
+            other => Ok(other.refuse()),
+        }
+    }
+
+    fn settle(self, alloc: Global) -> Result<(Phase, Answer), AllocError>
+        ensures { IfOk result (λ r. machine.Steps (shown self) order.Settle r.1 (shown r.0)) }
+    {
+        match self {
+            Phase::Running(mut running) => {
+                let answer = running.settle(alloc)?;
+                Ok((Phase::Running(running), answer))
+            }
+            other => Ok(other.refuse()),
+        }
+    }
+
+    fn heap(self, alloc: Global) -> Result<(Phase, Answer), AllocError>
+        ensures { IfOk result (λ r. machine.Steps (shown self) order.Heap r.1 (shown r.0)) }
+    {
+        match self {
+            Phase::Running(running) => {
+                let answer = running.heap(alloc)?;
+                Ok((Phase::Running(running), answer))
+            }
+            other => Ok(other.refuse()),
+        }
+    }
+
+    fn crash(self, alloc: Global, fill: Fill, back: u64) -> Result<(Phase, Answer), AllocError>
+        ensures { IfOk result (λ r. machine.Steps (shown self) (order.Crash fill back) r.1 (shown r.0)) }
+    {
+        // Scripts have no other form of the line yet: it ends a run before it comes here.
+        if back != 0 || matches!(&fill, Fill::Byte(_)) {
+            return Ok(self.refuse());
+        }
+        match self {
+            Phase::Running(running) => {
+                let (schema, disk) = running.crash(alloc, fill)?;
+                Ok((Phase::Down(Down::new(schema, disk)), Answer::Crashed))
+            }
+            other => Ok(other.refuse()),
+        }
+    }
+
+    fn recover(self, alloc: Global) -> Result<(Phase, Answer), AllocError>
+        ensures { IfOk result (λ r. machine.Steps (shown self) order.Recover r.1 (shown r.0)) }
+    {
+        match self {
+            Phase::Down(down) => match down.recover(alloc)? {
+                Ok((running, report)) => {
+                    Ok((Phase::Running(running), Answer::Recovered(report)))
+                }
+                Err((down, why)) => Ok((Phase::Down(down), Answer::Refused(why))),
+            },
+            other => Ok(other.refuse()),
+        }
+    }
+}
+
+// Formats an image for what was declared. The limits are tested before the schema is closed, which can't be undone.
+fn format_declared(
+    alloc: Global,
+    declaring: Declaring,
+    lanes: u64,
+    capacity: u64,
+) -> Result<(Phase, Answer), AllocError>
+    ensures { IfOk result (λ r. machine.FormatsImage (machine.Declaring declaring) r.1 (shown r.0) declaring lanes capacity) }
+{
+    if declaring.is_empty() {
+        return Ok((Phase::Declaring(declaring), Answer::Refused(Refusal::Empty)));
+    }
+    if !is_formattable(lanes, capacity) {
+        return Ok((
+            Phase::Declaring(declaring),
+            Answer::Refused(Refusal::BadHeader),
+        ));
+    }
+    let schema = declaring.build();
+    // The store has the same limits, so it doesn't refuse these.
+    let Some(store) = OneLane::format(alloc, &schema, lanes, capacity)? else {
+        return Err(AllocError);
+    };
+    let size = store.size();
+    let running = Running::formatted(alloc, schema, store)?;
+    Ok((Phase::Running(running), Answer::Formatted(size)))
+}
+
+// Whether an image may have so many lanes, and room for so many records in each.
+fn is_formattable(lanes: u64, capacity: u64) -> bool
+    ensures { IsTrue result ↔ IsFormattable lanes capacity }
+{
+    let (Ok(lanes), Ok(capacity)) = (u8::try_from(lanes), u32::try_from(capacity)) else {
+        return false;
+    };
+    let smallest = Layout {
+        objects: 1,
+        fields: 1,
+        lanes,
+        capacity,
+    };
+    smallest.is_within_limits()
+}

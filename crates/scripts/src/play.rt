@@ -1,0 +1,100 @@
+//! Plays a script from a reader to a writer.
+ghost use Rattle.std.specs.Prelude.{◌≡◌, ◌≢◌, ◌-◌, ◌≤◌, take, length, OnOk, IfOk, IfErr};
+ghost use Rattle.scripts.specs.Lines.{lines_of};
+ghost use Rattle.scripts.specs.Runs.{OfScript, Prints, PrintsPart, AreFit, StopsAt, Stops, PlaysAndPrints, PrintsNothing, PlaysInPart, MayStop, IsWhole};
+ghost use Rattle.scripts.specs.declared.error.ScriptErrorKind.TheVariants as kinds;
+
+use crate::error::{ScriptError, ScriptErrorKind};
+use crate::line::read_line;
+use crate::lines::cut_line;
+use crate::machine::Machine;
+use crate::reader::{Ending, read_lines};
+use crate::texts::text;
+use crate::writer::put;
+use std::alloc::Global;
+use std::io::{Read, Write};
+
+/// Reads a script to its end and plays it line by line. What a line prints is written before the next is played.
+///
+/// The run ends with an error at the first line that has a fault, that could not be read or whose output could not be
+/// written, or for which there was no memory.
+pub fn run_script<R: Read, W: Write>(
+    alloc: Global,
+    reader: &mut R,
+    writer: &mut W,
+) -> Result<(), ScriptError>
+    ensures written { OnOk result (OfScript (R.remaining reader.old) (R.remaining reader.new)
+        (λ lines ending. Prints lines (W.contents writer.old) (W.contents writer.new))) }
+    ensures no_fault { OnOk result (OfScript (R.remaining reader.old) (R.remaining reader.new)
+        (λ lines ending. IsWhole ending × AreFit lines)) }
+    ensures fault { IfErr result (λ e. OfScript (R.remaining reader.old) (R.remaining reader.new)
+        (λ lines ending. Stops lines ending e)) }
+    ensures before { IfErr result (λ e. e.kind ≢ kinds.Write → OfScript (R.remaining reader.old) (R.remaining reader.new)
+        (λ lines ending. Prints (take (e.line - 1) lines) (W.contents writer.old) (W.contents writer.new))) }
+    ensures part { IfErr result (λ e. e.kind ≡ kinds.Write → OfScript (R.remaining reader.old) (R.remaining reader.new)
+        (λ lines ending. PrintsPart e.line lines (W.contents writer.old) (W.contents writer.new))) }
+{
+    let (lines, ending) = read_lines(alloc, reader);
+    let played = play(alloc, &lines, writer)?;
+    let kind = match ending {
+        Ending::Whole => return Ok(()),
+        Ending::TooLong => ScriptErrorKind::TooLong,
+        Ending::Fault => ScriptErrorKind::Read,
+        Ending::NoMemory => ScriptErrorKind::Memory,
+    };
+    Err(ScriptError {
+        line: played + 1,
+        kind,
+    })
+}
+
+// Plays the lines, and says how many there were.
+fn play<W: Write>(alloc: Global, lines: &[u8], writer: &mut W) -> Result<u64, ScriptError>
+    ensures written { OnOk result (Prints (lines_of lines.now) (W.contents writer.old) (W.contents writer.new)) }
+    ensures count { IfOk result (λ played. played ≡ length (lines_of lines.now)) }
+    ensures bound { IfOk result (λ played. played ≤ length lines.now) }
+    ensures fault { IfErr result (λ e. StopsAt (lines_of lines.now) e) }
+    ensures before { IfErr result (λ e. e.kind ≢ kinds.Write
+        → Prints (take (e.line - 1) (lines_of lines.now)) (W.contents writer.old) (W.contents writer.new)) }
+    ensures part { IfErr result (λ e. e.kind ≡ kinds.Write
+        → PrintsPart e.line (lines_of lines.now) (W.contents writer.old) (W.contents writer.new)) }
+{
+    let mut machine = Machine::new(alloc);
+    let mut rest = lines;
+    let mut played = 0u64;
+    while !rest.is_empty() {
+        let (line, others) = cut_line(rest);
+        if let Err(kind) = play_line(alloc, &mut machine, line, writer) {
+            return Err(ScriptError {
+                line: played + 1,
+                kind,
+            });
+        }
+        rest = others;
+        played += 1;
+    }
+    Ok(played)
+}
+
+fn play_line<W: Write>(
+    alloc: Global,
+    machine: &mut Machine,
+    line: &[u8],
+    writer: &mut W,
+) -> Result<(), ScriptErrorKind>
+    ensures ok { OnOk result (PlaysAndPrints machine.old line.now machine.new (W.contents writer.old) (W.contents writer.new)) }
+    ensures fault { IfErr result (λ kind. MayStop line.now kind) }
+    ensures before { IfErr result (λ kind. kind ≢ kinds.Write → PrintsNothing (W.contents writer.old) (W.contents writer.new)) }
+    ensures part { IfErr result (λ kind. kind ≡ kinds.Write → PlaysInPart machine.old line.now machine.new (W.contents writer.old) (W.contents writer.new)) }
+{
+    let Some(command) = read_line(line)? else {
+        return Ok(());
+    };
+    let Ok(answer) = machine.step(alloc, &command) else {
+        return Err(ScriptErrorKind::Memory);
+    };
+    let Ok(printed) = text(alloc, &answer) else {
+        return Err(ScriptErrorKind::Memory);
+    };
+    put(writer, printed.as_bytes())
+}
