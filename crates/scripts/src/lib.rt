@@ -40,8 +40,6 @@ pub use play::run_script;
 pub use texts::text;
 
 #[cfg(test)]
-mod machine_tests;
-#[cfg(test)]
 mod one_lane_tests;
 #[cfg(test)]
 mod tests;

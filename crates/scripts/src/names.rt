@@ -1,7 +1,4 @@
-//! The names of declared objects, by number.
-//!
-//! A [`SchemaBuilder`](guards::SchemaBuilder) can't be asked for a name before it is built, and a `field` line names its
-//! owner and its guard.
+//! The names of declared objects, by number: a `field` line names its owner and its guard.
 ghost use Rattle.std.specs.Prelude.{◌≡◌, ◌<◌, ◌↔◌, ◌++◌, ◌∷◌, [], ℕ, Some, length, Contains, IsTrue, OnOk, IfSome, slice_get};
 
 use indexmap::IndexMap;

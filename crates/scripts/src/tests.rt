@@ -112,6 +112,103 @@ fn lines_end_as_documented(rt: HostRuntime) {
     expect_run(&rt, alloc, b"object a\nobject a\n", twice, Ok(()));
 }
 
+// Nothing was settled: the store is put back.
+const NOTHING_SETTLED: (&[u8], &[u8]) = (
+    b"\
+object o0\n\
+object o1\n\
+object o2\n\
+object o3\n\
+field f0 o0 o0 10\n\
+field f1 o1 o1 20\n\
+format 2 4000\n\
+t1 enter o0\n\
+t1 store f0 5\n\
+t1 exit o0\n\
+log\n\
+home\n\
+crash kept\n\
+recover\n\
+",
+    b"\
+formatted 130208\n\
+ok\n\
+ok\n\
+ok\n\
+logged 3\n\
+wrote 1\n\
+crashed\n\
+kept 0 0\n\
+dropped t1 1 unsettled\n\
+undone 1\n\
+heap 10 20\n\
+",
+);
+
+// A nested exit frees nothing.
+const NESTED: (&[u8], &[u8]) = (
+    b"\
+object o0\n\
+object o1\n\
+object o2\n\
+object o3\n\
+field f0 o0 o0 10\n\
+field f1 o1 o1 20\n\
+format 2 4000\n\
+t1 enter o0\n\
+t1 enter o0\n\
+t1 exit o0\n\
+t1 store f0 6\n\
+t1 exit o0\n\
+log\n\
+home\n\
+settle\n\
+heap\n\
+",
+    b"\
+formatted 130208\n\
+ok\n\
+ok\n\
+ok\n\
+ok\n\
+ok\n\
+logged 3\n\
+wrote 1\n\
+acknowledged 1 0\n\
+heap 6 20\n\
+",
+);
+
+// A thread that holds nothing stores and frees nothing.
+const NOT_HELD: (&[u8], &[u8]) = (
+    b"\
+object o0\n\
+object o1\n\
+object o2\n\
+object o3\n\
+field f0 o0 o0 10\n\
+field f1 o1 o1 20\n\
+format 2 4000\n\
+t1 store f0 1\n\
+t1 exit o0\n\
+heap\n\
+",
+    b"\
+formatted 130208\n\
+refused not held\n\
+refused not held\n\
+heap 10 20\n\
+",
+);
+
+// The examples whole, from their text to what they print.
+#[test]
+fn scripts_are_played(rt: HostRuntime) {
+    for (script, printed) in [NOTHING_SETTLED, NESTED, NOT_HELD] {
+        expect_run(&rt, rt.alloc(), script, printed, Ok(()));
+    }
+}
+
 // A comment of this length, and behind it these bytes.
 fn comment(alloc: Global, len: usize, end: &[u8]) -> Result<Vec<u8>, AllocError> {
     let mut text = vec![in alloc; b'#'; len]?;

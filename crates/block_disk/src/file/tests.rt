@@ -165,7 +165,7 @@ fn forget(disk: &mut FileDisk<FlakyFile>) -> Result<(), Fail> {
 #[test]
 fn a_file_is_attached_with_what_was_written(rt: HostRuntime) -> Result<(), Fail> {
     let alloc = rt.alloc();
-    assert!(rt; matches!(FileDisk::attach(&rt, alloc, "image"), Err(FileError::Fault)));
+    assert!(rt; matches!(FileDisk::attach(&rt, alloc, "missing"), Err(FileError::Fault)));
     fs::write(&rt, "image", "longer than the disk")?;
     let mut disk = FileDisk::create(&rt, alloc, "image", 4)?;
     reads(&rt, &mut disk, [0, 0, 0, 0]);
@@ -244,20 +244,20 @@ fn a_fault_at_each_call_makes_no_disk(rt: HostRuntime) -> Result<(), Fail> {
 #[test]
 fn a_refused_allocation_makes_no_disk(rt: HostRuntime) -> Result<(), Fail> {
     let alloc = rt.alloc();
-    fs::write(&rt, "image", [1u8, 2, 3].as_slice())?;
+    fs::write(&rt, "refused", [1u8, 2, 3].as_slice())?;
     for round in 0..2 {
-        match FileDisk::attach(&rt, alloc, "image") {
+        match FileDisk::attach(&rt, alloc, "refused") {
             Ok(disk) => assert_eq!(rt; disk.size(), 3),
             Err(error) => assert_eq!(rt; error, FileError::NoMemory, "in round {round}"),
         }
     }
-    if let Err(error) = FileDisk::create(&rt, alloc, "image", 2) {
+    if let Err(error) = FileDisk::create(&rt, alloc, "refused", 2) {
         assert_eq!(rt; error, FileError::NoMemory);
-        assert_eq!(rt; fs::metadata(&rt, "image")?.len(), 3);
+        assert_eq!(rt; fs::metadata(&rt, "refused")?.len(), 3);
     }
-    let mut disk = match FileDisk::create(&rt, alloc, "image", 4) {
+    let mut disk = match FileDisk::create(&rt, alloc, "refused", 4) {
         Ok(disk) => disk,
-        Err(_) => FileDisk::create(&rt, alloc, "image", 4)?,
+        Err(_) => FileDisk::create(&rt, alloc, "refused", 4)?,
     };
     reads(&rt, &mut disk, [0, 0, 0, 0]);
     Ok(())
