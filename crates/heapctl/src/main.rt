@@ -59,12 +59,20 @@ fn out_of_memory<R: Eprint>(rt: &R) -> ExitCode {
     ExitCode::from(FAULT)
 }
 
+// There was no memory for the words, or one is no text, which is a wrong word.
+fn no_words<R: Eprint>(rt: &R, error: &io::Error) -> ExitCode {
+    if error.kind() == io::ErrorKind::OutOfMemory {
+        return out_of_memory(rt);
+    }
+    let _ = eprintln!(rt; "heapctl: the words are not text");
+    ExitCode::from(WRONG_INPUT)
+}
+
 fn run<R: Env + Input + Print + Eprint + AllocGlobal>(rt: &R) -> ExitCode {
     let alloc = rt.alloc();
-    let Ok(arguments) = env::args(rt) else {
-        // A word that is no text is a wrong one.
-        let _ = eprintln!(rt; "heapctl: the words are not text");
-        return ExitCode::from(WRONG_INPUT);
+    let arguments = match env::args(rt) {
+        Ok(arguments) => arguments,
+        Err(error) => return no_words(rt, &error),
     };
     let Ok(texts) = arguments.collect::<Vec<String>>(alloc) else {
         return out_of_memory(rt);
