@@ -165,7 +165,12 @@ fn forget(disk: &mut FileDisk<FlakyFile>) -> Result<(), Fail> {
 #[test]
 fn a_file_is_attached_with_what_was_written(rt: HostRuntime) -> Result<(), Fail> {
     let alloc = rt.alloc();
-    assert!(rt; matches!(FileDisk::attach(&rt, alloc, "missing"), Err(FileError::Fault)));
+    assert!(rt;
+        matches!(
+            FileDisk::attach(&rt, alloc, "missing"),
+            Err(FileError::Fault)
+        )
+    );
     fs::write(&rt, "image", "longer than the disk")?;
     let mut disk = FileDisk::create(&rt, alloc, "image", 4)?;
     reads(&rt, &mut disk, [0, 0, 0, 0]);
