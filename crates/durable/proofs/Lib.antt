@@ -23,3 +23,9 @@ pub mod Pasts
 pub mod SectionCounts
 pub mod SectionRoom
 pub mod SectionLaws
+pub mod Showing
+pub mod Loggable
+pub mod Storing
+pub mod Playing
+pub mod Adopting
+pub mod Ending

@@ -6,7 +6,8 @@ use Rattle.durable.specs.declared.states.LaneState.{LaneState}
 use Rattle.durable.specs.Past.{Past}
 use Rattle.durable.specs.Memory.{Memory, lane_in}
 use Rattle.durable.specs.Remembers.{Remembers}
-use Rattle.durable.specs.Limits.{IsWithin}
+use Rattle.heap_model.specs.Plain.{log_from}
+use Rattle.durable.specs.Limits.{IsWithin, FitWords}
 
 -- the plain data of the fields
 abbrev pub memory_of : Inside → Memory
@@ -20,3 +21,4 @@ pub record IsKept (a : Inside) : Type 0 where
   pub within : (l : ℕ) → l < length a.lanes.items → IsWithin a.capacity (lane_in a.lanes.items l)
   pub fresh_lanes : a.fresh.lanes ≡ length a.lanes.items
   pub fresh_room : a.fresh.room ≡ a.capacity
+  pub words : FitWords (log_from a.fresh.records)

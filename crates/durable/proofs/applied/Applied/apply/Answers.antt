@@ -5,7 +5,7 @@ use Rattle.heap_model.specs.declared.record.LaneRecord.{LaneRecord}
 use Rattle.heap_model.specs.Setting.{Setting}
 use Rattle.heap_model.specs.Log.{lane}
 use Rattle.heap_model.specs.Plain.{log_from}
-use Rattle.durable.specs.declared.apply_error.ApplyError.{ApplyError}
+use Rattle.durable.specs.declared.error.StoreError.{StoreError}
 use Rattle.durable.specs.declared.states.MonitorState.{MonitorState}
 use Rattle.durable.specs.declared.states.FieldState.{FieldState}
 use Rattle.durable.specs.declared.states.LaneState.{LaneState}
@@ -14,7 +14,8 @@ use Rattle.durable.specs.Memory.{Memory, lane_in, lane_after, monitors_after, fi
 use Rattle.durable.specs.Remembers.{Remembers}
 use Rattle.durable.specs.Apply.{Answers}
 use Rattle.durable.specs.Verdict.{Judges}
-use Rattle.durable.specs.Limits.{IsWithin}
+use Rattle.durable.specs.Limits.{IsWithin, FitWords}
+use Rattle.durable.proofs.FreshLaws.{log_snoc}
 use Rattle.durable.specs.Within.{memory_of, IsKept}
 use Rattle.durable.proofs.Remembering.{memory_after, keeps_after}
 use Rattle.durable.proofs.Verdicts.{answers_from, remembers_next, within_next, all_within, start_within, fresh_free, judged_by}
@@ -63,6 +64,8 @@ invariant_of-self c =
           (all_within c.self.inside.capacity c.self.inside.last c.args.«record» c.self.inside.lanes.items c.args.lane.0 c.self.invariant.within j.0 j.2.0 j.2.2 j.2.3);
       fresh_lanes = c.push.ensures.lanes ∙ c.self.invariant.fresh_lanes ∙ sym (length-set c.self.inside.lanes.items c.args.lane.0 (lane_after c.args.«record» (lane_in c.self.inside.lanes.items c.args.lane.0))) ∙ ap (λ (xs : List LaneState). length xs) (sym lanes);
       fresh_room = c.push.ensures.room ∙ c.self.invariant.fresh_room;
+      words = subst (λ (xs : List LaneRecord). FitWords (log_from xs)) (sym c.push.ensures.records)
+          (subst FitWords (sym (log_snoc c.self.inside.fresh.records (record { lane = c.args.lane; «record» = c.args.«record» }))) (c.word_law.ensures, c.self.invariant.words));
     }
 
 pub returns-clause-answer : goal.returns-clause-answer

@@ -11,4 +11,5 @@ invariant_of-self c = record {
   within = c.self.invariant.within;
   fresh_lanes = c.self.invariant.fresh_lanes;
   fresh_room = c.self.invariant.fresh_room;
+  words = c.self.invariant.words;
 }

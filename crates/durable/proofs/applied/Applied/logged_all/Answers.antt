@@ -10,6 +10,7 @@ use Rattle.durable.specs.Past.{Past, has_store, after_log}
 use Rattle.durable.specs.Dirty.{is_dirty_in}
 use Rattle.durable.specs.Memory.{Memory, field_in, value_in, guard_in}
 use Rattle.durable.specs.Remembers.{Remembers}
+use Rattle.durable.specs.Limits.{FitWords}
 use Rattle.durable.specs.Within.{memory_of}
 use Rattle.durable.proofs.LogLaws.{remembers_log}
 use Rattle.durable.proofs.applied.Applied.logged_all.Goals as goal
@@ -34,6 +35,7 @@ invariant_of-self c =
       within = c.self.invariant.within;
       fresh_lanes = c.clear.ensures.lanes ∙ c.self.invariant.fresh_lanes;
       fresh_room = c.clear.ensures.room ∙ c.self.invariant.fresh_room;
+      words = subst (λ (xs : List LaneRecord). FitWords (log_from xs)) (sym c.clear.ensures.records) tt;
     }
 
 pub returns-clause-logged : goal.returns-clause-logged

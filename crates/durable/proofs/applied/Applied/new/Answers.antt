@@ -1,7 +1,10 @@
-use Rattle.std.proofs.Common.{ℕ, ◌≡◌, List, length, replicate, refl, sym, ap, ◌∙◌, arith}
+use Rattle.std.proofs.Common.{ℕ, ◌≡◌, List, length, replicate, refl, sym, ap, ◌∙◌, subst, arith}
 use Rattle.heap_model.specs.Setting.{Setting}
 use Rattle.durable.specs.declared.states.MonitorState.{MonitorState}
 use Rattle.durable.specs.declared.states.LaneState.{LaneState}
+use Rattle.heap_model.specs.declared.record.LaneRecord.{LaneRecord}
+use Rattle.heap_model.specs.Plain.{log_from}
+use Rattle.durable.specs.Limits.{FitWords}
 use Rattle.durable.specs.Past.{no_past}
 use Rattle.durable.specs.Memory.{Memory, new_monitor, new_lane}
 use Rattle.durable.proofs.Begins.{setting_of, setting_is, begins, within_none, start_none}
@@ -23,6 +26,7 @@ invariant_of-result c =
       within = within_none c.args.layout.now.capacity c.args.layout.now.lanes c.in_ok-vec.field-0.items lanes lane_count;
       fresh_lanes = c.in_ok-new.ensures.lanes ∙ sym lane_count;
       fresh_room = c.in_ok-new.ensures.room;
+      words = subst (λ (xs : List LaneRecord). FitWords (log_from xs)) (sym c.in_ok-new.ensures.empty) tt;
     }
 
 pub returns-clause-remembers : goal.returns-clause-remembers

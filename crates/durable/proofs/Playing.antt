@@ -1,0 +1,142 @@
+-- What one call of a store makes of its past, and what a list of them does.
+use Rattle.std.proofs.Common.{ℕ, ◌≡◌, ◌≢◌, ◌<◌, ◌≤◌, ◌+◌, ◌⊎◌, ◌∷◌, ◌++◌, [], List, Some, Result, Ok, Err, IfErr, OnOk, MatchResult, false, length, take, slice_get, refl, sym, ap, inl, inr, ⊎_elim, ◌∙◌, subst, arith}
+use Rattle.std.proofs.lemmas.List.{take_more, take_all}
+use Rattle.std.proofs.lemmas.Option.{get_or_from_slice_get}
+use Rattle.heap_model.specs.declared.ids.Lane.{Lane}
+use Rattle.heap_model.specs.declared.record.Record.{Record}
+use Rattle.heap_model.specs.Setting.{Setting}
+use Rattle.heap_model.specs.Sections.{actions}
+use Rattle.heap_model.specs.Cuts.{IsStable}
+use Rattle.block_disk.specs.Device.{Device, HasCause, HasFailed}
+use Rattle.block_disk.specs.Images.{LeavesOnly}
+use Rattle.block_disk.proofs.Failures.{failed_since}
+use Rattle.block_disk.proofs.Images.{and_then, begin, weaker}
+use Rattle.durable.specs.declared.error.StoreError.{StoreError}
+use Rattle.durable.specs.declared.error.StoreError.TheVariants.{Fault}
+use Rattle.durable.specs.declared.store_call.StoreCall.{StoreCall}
+use Rattle.durable.specs.declared.store_call.StoreCall.TheVariants.{Apply, Settle}
+use Rattle.durable.specs.Calls.{IsClean, MakeAll, Makes, RefusesApply, RefusesSettle, RefusesCall, ShowsAfterSome, StandsAfterSome, StoppedAt}
+use Rattle.durable.specs.Past.{Past, after_apply, after_settle}
+use Rattle.durable.specs.Store.{Known, HasPast, ShowsStep, StandsForStep}
+use Rattle.durable.proofs.Showing.{past_stands}
+
+module _ {T : Type 0} (s : Setting) (p : Past) (call : StoreCall) (result : Result T StoreError) where
+  -- a record that was applied is legal after those before it
+  pub apply_made : (l : Lane) (r : Record) (new : Known) (d : Device) → call ≡ Apply l r → OnOk result (HasPast new s (after_apply p l.0 r) d) →
+      OnOk result ((q : Past) × Makes s p call q × HasPast new s q d)
+  apply_made l r new d is has = elim result as (λ (x : Result T StoreError). OnOk x (HasPast new s (after_apply p l.0 r) d) → OnOk x ((q : Past) × Makes s p call q × HasPast new s q d)) [
+    | Ok done ↦ λ had. (after_apply p l.0 r, subst (λ (c : StoreCall). Makes s p c (after_apply p l.0 r)) (sym is) (had.past.legal, refl), had)
+    | Err e ↦ λ had. tt
+  ] has
+
+  pub apply_refused : (l : Lane) (r : Record) (x : Known) (P : T → Type 0) → call ≡ Apply l r → MatchResult result P (RefusesApply x s p l.0 r) → IfErr result (λ e. RefusesCall x s p call e)
+  apply_refused l r x P is why = elim result as (λ (a : Result T StoreError). MatchResult a P (RefusesApply x s p l.0 r) → IfErr a (λ e. RefusesCall x s p call e)) [
+    | Ok done ↦ λ why. tt
+    | Err e ↦ λ why. subst (λ (c : StoreCall). RefusesCall x s p c e) (sym is) why
+  ] why
+
+  -- the cut that was acknowledged is the stable one
+  pub settle_made : (cut : ℕ → ℕ) (new : Known) (d : Device) (A : Type 0) (Q : StoreError → Type 0) → call ≡ Settle → IsStable (actions p.logged) cut → OnOk result (HasPast new s (after_settle p cut) d) →
+      MatchResult result (λ done. A × IsClean s p) Q → OnOk result ((q : Past) × Makes s p call q × HasPast new s q d)
+  settle_made cut new d A Q is stable has clean = elim result as
+      (λ (a : Result T StoreError). OnOk a (HasPast new s (after_settle p cut) d) → MatchResult a (λ done. A × IsClean s p) Q → OnOk a ((q : Past) × Makes s p call q × HasPast new s q d)) [
+        | Ok done ↦ λ had was. (after_settle p cut, subst (λ (c : StoreCall). Makes s p c (after_settle p cut)) (sym is) (cut, was.1, stable, refl), had)
+        | Err e ↦ λ had was. tt
+      ] has clean
+
+  pub settle_refused : (x : Known) (P : T → Type 0) → call ≡ Settle → MatchResult result P (RefusesSettle x s p) → IfErr result (λ e. RefusesCall x s p call e)
+  settle_refused x P is why = elim result as (λ (a : Result T StoreError). MatchResult a P (RefusesSettle x s p) → IfErr a (λ e. RefusesCall x s p call e)) [
+    | Ok done ↦ λ why. tt
+    | Err e ↦ λ why. subst (λ (c : StoreCall). RefusesCall x s p c e) (sym is) why
+  ] why
+
+-- where no fault is answered it needs no cause
+pub no_cause : {T : Type 0} (a b : ℕ) (result : Result T StoreError) → a ≤ b → IfErr result (λ e. e ≢ Fault) → HasCause a b Fault result
+no_cause {T} a b result le none = record {
+  later = le;
+  failed = λ is. absurd (subst (λ (x : Result T StoreError). IfErr x (λ e. e ≢ Fault)) is none refl);
+}
+
+-- so many calls were made, in order, and each image that they left shows what some of them made of the past
+pub record Played (old new : Known) (d0 d1 : Device) (calls : List StoreCall) (n : ℕ) : Type 0 where
+  pub within : n ≤ length calls
+  pub layout : new.layout ≡ old.layout
+  pub running : new.has_failed ≡ old.has_failed
+  pub later : d0.failures ≤ d1.failures
+  pub made : (s : Setting) (p : Past) → HasPast old s p d0 → (q : Past) × MakeAll s p (take n calls) q × HasPast new s q d1
+  pub shown : (s : Setting) (p : Past) → HasPast old s p d0 → LeavesOnly d0 d1 (ShowsAfterSome old.layout s p calls)
+  pub stands : (s : Setting) (p : Past) → HasPast old s p d0 → LeavesOnly d0 d1 (StandsAfterSome old.layout s p calls)
+
+pub played_none : (old : Known) (d : Device) (calls : List StoreCall) → Played old old d d calls 0
+played_none old d calls = record {
+  within = omega arith;
+  layout = refl;
+  running = refl;
+  later = omega arith;
+  made = λ s p has. (p, refl, has);
+  shown = λ s p has. begin d (ShowsAfterSome old.layout s p calls);
+  stands = λ s p has. begin d (StandsAfterSome old.layout s p calls);
+}
+
+-- one call more
+made_more : (s : Setting) (p q r : Past) (calls : List StoreCall) (call : StoreCall) → MakeAll s p calls q → Makes s q call r → MakeAll s p (calls ++ call ∷ []) r
+made_more s p q r [] call made makes = (r, subst (λ (m : Past). Makes s m call r) made makes, refl)
+made_more s p q r (first ∷ calls) call (mid, one, made) makes = (mid, one, made_more s mid q r calls call made makes)
+
+module _ (old mid : Known) (d0 d1 d2 : Device) (calls : List StoreCall) (n : ℕ) (was : Played old mid d0 d1 calls n) (lt : n < length calls)
+    (shows : (s : Setting) (p : Past) → HasPast mid s p d1 → LeavesOnly d1 d2 (ShowsStep mid.layout s p)) where
+  -- whatever it answered
+  pub shown_on : (s : Setting) (p : Past) → HasPast old s p d0 → LeavesOnly d0 d2 (ShowsAfterSome old.layout s p calls)
+  shown_on s p has =
+      let made = was.made s p has in
+      and_then d0 d1 d2 (ShowsAfterSome old.layout s p calls) (was.shown s p has)
+      (weaker d1 d2 (ShowsStep mid.layout s made.0) (ShowsAfterSome old.layout s p calls) (λ image shown. record {
+        n = n;
+        within = was.within;
+        then = made.0;
+        made = made.1;
+        shows = subst (λ l. ShowsStep l s made.0 image) was.layout shown;
+      }) (shows s made.0 made.2))
+
+  pub stands_on : (s : Setting) (p : Past) → HasPast old s p d0 → LeavesOnly d0 d2 (StandsAfterSome old.layout s p calls)
+  stands_on s p has =
+      let made = was.made s p has in
+      and_then d0 d1 d2 (StandsAfterSome old.layout s p calls) (was.stands s p has)
+      (weaker d1 d2 (ShowsStep mid.layout s made.0) (StandsAfterSome old.layout s p calls) (λ image shown. record {
+        n = n;
+        within = was.within;
+        then = made.0;
+        made = made.1;
+        stands = subst (λ l. StandsForStep l s made.0 image) was.layout (past_stands mid s made.0 d1 made.2 image shown);
+      }) (shows s made.0 made.2))
+
+  pub played_more : (new : Known) (call : StoreCall) → new.layout ≡ mid.layout → (mid.has_failed ≡ false) × (new.has_failed ≡ false) → d1.failures ≤ d2.failures → slice_get calls n ≡ Some call →
+      ((s : Setting) (p : Past) → HasPast mid s p d1 → (q : Past) × Makes s p call q × HasPast new s q d2) → Played old new d0 d2 calls (n + 1)
+  played_more new call layout running later is makes = record {
+    within = omega arith;
+    layout = layout ∙ was.layout;
+    running = running.1 ∙ sym running.0 ∙ was.running;
+    later = omega (arith, was.later);
+    made = λ s p has.
+        let made = was.made s p has in
+        let next = makes s made.0 made.2 in
+        let longer : take (n + 1) calls ≡ take n calls ++ call ∷ [] = take_more calls n call lt ∙ ap (λ c. take n calls ++ c ∷ []) (get_or_from_slice_get calls n call call is) in
+        (next.0, subst (λ cs. MakeAll s p cs next.0) (sym longer) (made_more s p made.0 next.0 (take n calls) call made.1 next.1), next.2);
+    shown = shown_on;
+    stands = stands_on;
+  }
+
+  pub stopped : (new : Known) (call : StoreCall) (reason : StoreError) → slice_get calls n ≡ Some call → ((s : Setting) (p : Past) → HasPast mid s p d1 → RefusesCall mid s p call reason) →
+      ((s : Setting) (p : Past) → HasPast mid s p d1 → HasPast new s p d2) → (reason ≡ Fault) ⊎ (new ≡ mid) → (s : Setting) (p : Past) → HasPast old s p d0 → StoppedAt s p calls old new d2 n reason
+  stopped new call reason is refuses kept unchanged s p has =
+      let made = was.made s p has in
+      record { call = call; is = is; then = made.0; made = made.1; has = kept s made.0 made.2; known = mid; device = d1; had = made.2; running = was.running; refused = refuses s made.0 made.2; unchanged = ⊎_elim (λ fault. inl fault) (λ same. inr (sym same)) unchanged }
+
+-- all of them
+pub played_all : (old new : Known) (d0 d1 : Device) (calls : List StoreCall) (n : ℕ) → Played old new d0 d1 calls n → length calls ≤ n →
+    (s : Setting) (p : Past) → HasPast old s p d0 → (q : Past) × MakeAll s p calls q × HasPast new s q d1
+played_all old new d0 d1 calls n was le s p has = subst (λ cs. (q : Past) × MakeAll s p cs q × HasPast new s q d1) (take_all n calls le) (was.made s p has)
+
+-- a fault has its cause, whatever was called before
+pub fault_since : {T : Type 0} (a b c : ℕ) (result : Result T StoreError) (reason : StoreError) → a ≤ b → HasCause b c Fault result → result ≡ Err reason → reason ≡ Fault → HasFailed a c
+fault_since {T} a b c result reason le cause is fault = failed_since a b c le (cause.failed (is ∙ ap (λ e. Err e) fault))

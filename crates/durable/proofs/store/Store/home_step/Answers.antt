@@ -1,0 +1,88 @@
+use Rattle.std.proofs.Common.{◌≡◌, ◌≢◌, ◌⊎◌, inl, inr, ⊎_elim, ℕ, ◌-◌, ◌<◌, ◌≤◌, ◌^◌, Bool, true, false, List, [], Result, Ok, Err, OnOk, MatchResult, refl, sym, ◌∙◌, ap, subst, arith}
+use Rattle.heap_model.specs.Setting.{Setting}
+use Rattle.block_disk.specs.Device.{Device}
+use Rattle.block_disk.specs.Images.{Always, LeavesOnly}
+use Rattle.block_disk.proofs.Images.{begin, now_too, weaker}
+use Rattle.durable.specs.Store.{Known, Parts, HasPast, ShowsStep}
+use Rattle.durable.specs.Store.ShowsStep.{Shows, ShowsLogged, ShowsSettled}
+use Rattle.durable.specs.Consistent.{ShowsPast, ShowsEither, IsConsistent}
+use Rattle.durable.specs.KeptHeap.{StandsForCut}
+use Rattle.durable.specs.Past.{Past, applied, after_apply, after_log, after_home, after_settle}
+use Rattle.durable.specs.Begin.{IsLeastDirtyOf}
+use Rattle.durable.specs.Calls.{IsClean}
+use Rattle.durable.proofs.Storing.{to_parts, from_parts, home_has, failed_has, may_go_home, shows_now, shows_then}
+use Rattle.durable.proofs.store.Store.home_step.Goals as goal
+
+pub returns-in_default-clause-answer : goal.returns-in_default-clause-answer
+returns-in_default-clause-answer g c = λ s p has.
+    let was = to_parts g.D.Disk.device _ c.args.self.now (λ x d. HasPast x s p d) c.self.view_is has in
+    from_parts g.D.Disk.device _ c.args.self.now (λ x d. (x.has_failed ≡ false) × IsClean s p) c.self.view_is (c.if-self.false, c.in_default.ensures s p was.remembers)
+
+pub returns-in_default-clause-any_moment : goal.returns-in_default-clause-any_moment
+returns-in_default-clause-any_moment g c = λ s p has. begin (g.D.Disk.device c.args.self.now.disk) (StandsForCut c.args.self.now.known.layout s p.logged p.cut)
+
+pub returns-in_default-clause-shown : goal.returns-in_default-clause-shown
+returns-in_default-clause-shown g c = λ s p has. begin (g.D.Disk.device c.args.self.now.disk) (ShowsStep c.args.self.now.known.layout s p)
+
+pub logged_value-value-requires : goal.logged_value-value-requires
+logged_value-value-requires g c =
+    let was = c.self.invariant in
+    omega (arith, (c.in-Some.ensures was.0 was.1 was.2.remembers).field_is, was.2.remembers.fields)
+
+pub write_home-requires-clause-field : goal.write_home-requires-clause-field
+write_home-requires-clause-field g c =
+    let was = c.self.invariant in
+    omega (arith, (c.in-Some.ensures was.0 was.1 was.2.remembers).field_is, was.2.setting.fields)
+
+pub invariant_of-self : goal.invariant_of-self
+invariant_of-self g c =
+    let was = c.self.invariant in
+    let may = may_go_home _ was.0 was.1 _ was.2 c.in-Some.field.0 c.logged_value-value.result c.if-self.false (c.in-Some.ensures was.0 was.1 was.2.remembers) (c.logged_value-value.ensures was.0 was.1 was.2.remembers) in
+    (was.0, after_home was.1 c.in-Some.field.0, home_has _ was.0 was.1 _ was.2 c.in-Some.field.0 c.home_written.new.self _ (c.in-Ok.ensures.ok was.0 was.1 _ may) (c.home_written.ensures.home was.0 was.1 was.2.remembers) c.home_written.ensures.kept)
+
+pub invariant_of-self-in-Err : goal.invariant_of-self-in-Err
+invariant_of-self-in-Err g c =
+    let was = c.self.invariant in
+    let may = may_go_home _ was.0 was.1 _ was.2 c.in-Some.field.0 c.logged_value-value.result c.if-self.false (c.in-Some.ensures was.0 was.1 was.2.remembers) (c.logged_value-value.ensures was.0 was.1 was.2.remembers) in
+    (was.0, was.1, failed_has _ was.0 was.1 _ was.2 _ _ _ refl refl (shows_now _ was.0 was.1 _ was.2 _ c.if-self.false (c.in-Err.ensures.shown was.0 was.1 _ may)))
+
+pub returns-in-Ok-clause-ok : goal.returns-in-Ok-clause-ok
+returns-in-Ok-clause-ok g c = λ s p has.
+    let was = to_parts g.D.Disk.device _ c.args.self.now (λ x d. HasPast x s p d) c.self.view_is has in
+    let may = may_go_home _ s p _ was c.in-Some.field.0 c.logged_value-value.result c.if-self.false (c.in-Some.ensures s p was.remembers) (c.logged_value-value.ensures s p was.remembers) in
+    home_has _ s p _ was c.in-Some.field.0 c.home_written.new.self _ (c.in-Ok.ensures.ok s p _ may) (c.home_written.ensures.home s p was.remembers) c.home_written.ensures.kept
+
+pub returns-in-Ok-clause-answer : goal.returns-in-Ok-clause-answer
+returns-in-Ok-clause-answer g c = λ s p has.
+    let was = to_parts g.D.Disk.device _ c.args.self.now (λ x d. HasPast x s p d) c.self.view_is has in
+    from_parts g.D.Disk.device _ c.args.self.now (λ x d. (x.has_failed ≡ false) × IsLeastDirtyOf s p c.in-Some.field.0) c.self.view_is (c.if-self.false, c.in-Some.ensures s p was.remembers)
+
+pub returns-in-Ok-clause-any_moment : goal.returns-in-Ok-clause-any_moment
+returns-in-Ok-clause-any_moment g c = λ s p has.
+    let was = to_parts g.D.Disk.device _ c.args.self.now (λ x d. HasPast x s p d) c.self.view_is has in
+    let may = may_go_home _ s p _ was c.in-Some.field.0 c.logged_value-value.result c.if-self.false (c.in-Some.ensures s p was.remembers) (c.logged_value-value.ensures s p was.remembers) in
+    from_parts g.D.Disk.device _ c.args.self.now (λ x d. LeavesOnly d (g.D.Disk.device c.write_home.new.disk) (StandsForCut x.layout s p.logged p.cut)) c.self.view_is (c.in-Ok.ensures.any_moment s p _ may)
+
+pub returns-in-Ok-clause-shown : goal.returns-in-Ok-clause-shown
+returns-in-Ok-clause-shown g c = λ s p has.
+    let was = to_parts g.D.Disk.device _ c.args.self.now (λ x d. HasPast x s p d) c.self.view_is has in
+    let may = may_go_home _ s p _ was c.in-Some.field.0 c.logged_value-value.result c.if-self.false (c.in-Some.ensures s p was.remembers) (c.logged_value-value.ensures s p was.remembers) in
+    from_parts g.D.Disk.device _ c.args.self.now (λ x d. LeavesOnly d (g.D.Disk.device c.write_home.new.disk) (ShowsStep x.layout s p)) c.self.view_is (shows_then _ s p _ _ (c.in-Ok.ensures.shown s p _ may))
+
+pub returns-in-Err-clause-kept : goal.returns-in-Err-clause-kept
+returns-in-Err-clause-kept g c = λ s p has.
+    let was = to_parts g.D.Disk.device _ c.args.self.now (λ x d. HasPast x s p d) c.self.view_is has in
+    let may = may_go_home _ s p _ was c.in-Some.field.0 c.logged_value-value.result c.if-self.false (c.in-Some.ensures s p was.remembers) (c.logged_value-value.ensures s p was.remembers) in
+    failed_has _ s p _ was _ _ _ refl refl (shows_now _ s p _ was _ c.if-self.false (c.in-Err.ensures.shown s p _ may))
+
+pub returns-in-Err-clause-any_moment : goal.returns-in-Err-clause-any_moment
+returns-in-Err-clause-any_moment g c = λ s p has.
+    let was = to_parts g.D.Disk.device _ c.args.self.now (λ x d. HasPast x s p d) c.self.view_is has in
+    let may = may_go_home _ s p _ was c.in-Some.field.0 c.logged_value-value.result c.if-self.false (c.in-Some.ensures s p was.remembers) (c.logged_value-value.ensures s p was.remembers) in
+    from_parts g.D.Disk.device _ c.args.self.now (λ x d. LeavesOnly d (g.D.Disk.device c.write_home.new.disk) (StandsForCut x.layout s p.logged p.cut)) c.self.view_is (c.in-Err.ensures.any_moment s p _ may)
+
+pub returns-in-Err-clause-shown : goal.returns-in-Err-clause-shown
+returns-in-Err-clause-shown g c = λ s p has.
+    let was = to_parts g.D.Disk.device _ c.args.self.now (λ x d. HasPast x s p d) c.self.view_is has in
+    let may = may_go_home _ s p _ was c.in-Some.field.0 c.logged_value-value.result c.if-self.false (c.in-Some.ensures s p was.remembers) (c.logged_value-value.ensures s p was.remembers) in
+    from_parts g.D.Disk.device _ c.args.self.now (λ x d. LeavesOnly d (g.D.Disk.device c.write_home.new.disk) (ShowsStep x.layout s p)) c.self.view_is (shows_then _ s p _ _ (c.in-Err.ensures.shown s p _ may))
