@@ -10,6 +10,7 @@ mod crossings;
 mod error;
 mod first_numbers;
 mod lanes;
+mod laws;
 mod logged_image;
 mod logs;
 mod monitors;
@@ -24,6 +25,7 @@ mod walk;
 
 pub use check::check_logs;
 pub use error::RecoverError;
+pub use laws::{accepted_law, found_law};
 pub use logged_image::LoggedImage;
 pub use logs::read_logs;
 pub use reading::read_image;
