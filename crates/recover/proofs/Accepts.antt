@@ -1,5 +1,5 @@
 -- Images that a store leaves aren't refused, and what is found in them is what the store's past says.
-use Rattle.std.proofs.Common.{ℕ, zero, suc, ◌≡◌, ◌+◌, ◌-◌, ◌<◌, ◌≤◌, ◌⊎◌, List, [], ◌∷◌, ◌++◌, length, map, get_or, reverse, Option, Some, None, Result, Ok, Err, refl, sym, ap, ◌∙◌, subst, inl, inr, arith, Contains, Vec, Global}
+use Rattle.std.proofs.Common.{ℕ, zero, suc, ◌≡◌, ◌+◌, ◌-◌, ◌<◌, ◌⊎◌, List, [], ◌∷◌, ◌++◌, length, map, get_or, reverse, Option, Some, None, Result, Ok, Err, refl, sym, ap, ◌∙◌, subst, inl, inr, arith, Contains, Vec, Global}
 use Rattle.std.proofs.lemmas.Bool.{cases_lt}
 use Rattle.std.proofs.lemmas.List.{map-append, length-reverse, reverse-reverse}
 use Rattle.heap_model.specs.declared.record.Record.{Record}
@@ -29,7 +29,7 @@ use Rattle.image.specs.declared.lane_row.LaneRow.{LaneRow}
 use Rattle.image.specs.declared.layout.Layout.{Layout}
 use Rattle.image.specs.declared.slot.Slot.{Slot}
 use Rattle.image.proofs.Reading.{one_layout, header_is_read, control_is_chosen, guards_are_read}
-use Rattle.undo_log.specs.Area.{IsOfImage, HasRecord, HasRecords, HasSpan}
+use Rattle.undo_log.specs.Area.{IsOfImage, HasRecord, HasRecords}
 use Rattle.undo_log.specs.Dropped.{undo_logs, records_in}
 use Rattle.undo_log.specs.StandsFor.{row_of, settled_of, guard_in, HasLive, StandsFor}
 use Rattle.undo_log.proofs.OneHeap.{one_span, one_heap}
@@ -49,7 +49,7 @@ use Rattle.recover.specs.declared.error.RecoverError.TheVariants.{Fault, NotForm
 use Rattle.recover.specs.declared.logged_image.LoggedImage.{LoggedImage}
 use Rattle.recover.proofs.FirstLemmas.{contains_reverse}
 use Rattle.recover.proofs.LaneParts.{lane_map}
-use Rattle.recover.proofs.Blank.{blank, blanks, undone, valueless, blank_legal, holder_blank}
+use Rattle.recover.proofs.Blank.{blanks, undone, valueless, blank_legal, holder_blank}
 use Rattle.recover.proofs.Unstuck.{IsGuarded, unstuck}
 use Rattle.recover.proofs.Rests.{first_none, at_some, rests, inside}
 

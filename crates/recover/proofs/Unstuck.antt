@@ -1,18 +1,17 @@
 -- The greedy replay of what a legal list's lanes have past a point where no object was held never ends with records left.
-use Rattle.std.proofs.Common.{ℕ, ◌≡◌, ◌+◌, ◌<◌, ◌≤◌, ◌⊎◌, ◌==◌, if◌then◌else◌, Bool, true, false, List, [], ◌∷◌, ◌++◌, length, map, Option, Some, None, refl, sym, ap, ◌∙◌, subst, inl, inr, arith, Contains, length-append, append_assoc}
+use Rattle.std.proofs.Common.{ℕ, ◌≡◌, ◌+◌, ◌≤◌, ◌⊎◌, ◌==◌, if◌then◌else◌, Bool, true, false, List, [], ◌∷◌, ◌++◌, length, map, Option, Some, None, refl, sym, ap, ◌∙◌, subst, inl, inr, arith, Contains, length-append, append_assoc}
 use Rattle.std.specs.Prelude.{slice_get}
-use Rattle.std.proofs.lemmas.Bool.{cases_lt, eq-eqb}
+use Rattle.std.proofs.lemmas.Bool.{cases_lt}
 use Rattle.std.proofs.lemmas.Bool.Decides.{eqb_tells}
 use Rattle.std.proofs.lemmas.List.{map-append, append-nil}
 use Rattle.heap_model.specs.declared.ids.Lane.{Lane}
 use Rattle.heap_model.specs.declared.ids.ObjectId.{ObjectId}
 use Rattle.heap_model.specs.declared.record.Record.{Record}
-use Rattle.heap_model.specs.declared.record.Record.TheVariants.{Acq, Rel, WaitRel, Put}
 use Rattle.heap_model.specs.declared.record.UndoRecord.{UndoRecord}
 use Rattle.heap_model.specs.declared.record.UndoRecord.TheVariants as undo
 use Rattle.heap_model.specs.Setting.{Setting}
 use Rattle.heap_model.specs.Events.{lane_number}
-use Rattle.heap_model.specs.Log.{lane, holder, number, awaited, MayFollow, IsAllowed, IsRecordOf, IsLegal, IsLaneWisePrefix}
+use Rattle.heap_model.specs.Log.{lane, holder, number, awaited, MayFollow, IsAllowed, IsLegal, IsLaneWisePrefix}
 use Rattle.heap_model.proofs.Lanes.{lane_append}
 use Rattle.heap_model.proofs.Next.{legal_before, number_rises}
 use Rattle.heap_model.proofs.NextStore.{awaited_in, awaited_is, next_legal}
