@@ -6,3 +6,8 @@ pub mod CrossingLemmas
 pub mod WalkLemmas
 pub mod SettledLemmas
 pub mod ReadingLemmas
+pub mod LaneParts
+pub mod Blank
+pub mod Unstuck
+pub mod Rests
+pub mod Accepts

@@ -3,6 +3,7 @@
 //! [`read_image`] reads an image of which nothing is known, and refuses it by the first thing that is wrong with it:
 //! header, guard rows, control, records, or logs that no threads can have left. It is made of [`read_logs`], which reads
 //! the lanes' live records, and [`check_logs`], which replays them. All only read the device.
+//! No image that a store leaves is refused ([`accepted_law`]), and its heap is the one that the store keeps ([`found_law`]).
 #![tactic(auto)]
 
 mod check;
@@ -10,6 +11,7 @@ mod crossings;
 mod error;
 mod first_numbers;
 mod lanes;
+mod laws;
 mod logged_image;
 mod logs;
 mod monitors;
@@ -24,6 +26,7 @@ mod walk;
 
 pub use check::check_logs;
 pub use error::RecoverError;
+pub use laws::{accepted_law, found_law};
 pub use logged_image::LoggedImage;
 pub use logs::read_logs;
 pub use reading::read_image;

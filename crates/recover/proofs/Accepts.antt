@@ -1,0 +1,286 @@
+-- Images that a store leaves aren't refused, and what is found in them is what the store's past says.
+use Rattle.std.proofs.Common.{ℕ, zero, suc, ◌≡◌, ◌+◌, ◌-◌, ◌<◌, ◌⊎◌, List, [], ◌∷◌, ◌++◌, length, map, get_or, reverse, Option, Some, None, Result, Ok, Err, refl, sym, ap, ◌∙◌, subst, inl, inr, arith, Contains, Vec, Global}
+use Rattle.std.proofs.lemmas.Bool.{cases_lt}
+use Rattle.std.proofs.lemmas.List.{map-append, length-reverse, reverse-reverse}
+use Rattle.heap_model.specs.declared.record.Record.{Record}
+use Rattle.heap_model.specs.declared.record.UndoRecord.{UndoRecord}
+use Rattle.heap_model.specs.declared.record.UndoRecord.TheVariants as undo
+use Rattle.heap_model.specs.Record.{undo_of}
+use Rattle.heap_model.specs.Setting.{Setting}
+use Rattle.heap_model.specs.Log.{lane, holder, IsLegal}
+use Rattle.heap_model.specs.Sections.{actions, holding, ended, undo_action}
+use Rattle.heap_model.specs.Cuts.{IsWhole, IsClosed}
+use Rattle.heap_model.specs.Base.{records_since, records_until}
+use Rattle.heap_model.proofs.Chain.{In, holds_in}
+use Rattle.heap_model.proofs.Next.{legal_before}
+use Rattle.heap_model.proofs.Rebase.{until_ends}
+use Rattle.heap_model.proofs.Reorder.{rest_after_until}
+use Rattle.block_disk.specs.Device.{Device}
+use Rattle.block_disk.specs.Images.{Always}
+use Rattle.image.specs.Guards.{HasGuards}
+use Rattle.image.specs.Header.{HasHeader, ReadsHeader}
+use Rattle.image.specs.Layout.{size_of}
+use Rattle.image.specs.Slots.{Shows}
+use Rattle.image.specs.declared.control.Control.{Control}
+use Rattle.image.specs.declared.error.ImageError.{ImageError}
+use Rattle.image.specs.declared.error.ImageError.TheVariants as image_error
+use Rattle.image.specs.declared.guard_row.GuardRow.{GuardRow}
+use Rattle.image.specs.declared.lane_row.LaneRow.{LaneRow}
+use Rattle.image.specs.declared.layout.Layout.{Layout}
+use Rattle.image.specs.declared.slot.Slot.{Slot}
+use Rattle.image.proofs.Reading.{one_layout, header_is_read, control_is_chosen, guards_are_read}
+use Rattle.undo_log.specs.Area.{IsOfImage, HasRecord, HasRecords}
+use Rattle.undo_log.specs.Dropped.{undo_logs, records_in}
+use Rattle.undo_log.specs.StandsFor.{row_of, settled_of, guard_in, HasLive, StandsFor}
+use Rattle.undo_log.proofs.OneHeap.{one_span, one_heap}
+use Rattle.durable.specs.Past.{Past}
+use Rattle.durable.specs.Consistent.{TellsCut, IsConsistent}
+use Rattle.durable.specs.KeptHeap.{kept_heap}
+use Rattle.durable.specs.declared.committed.Committed.{Committed}
+use Rattle.durable.proofs.Places.{live_size, cut_place}
+use Rattle.durable.proofs.Stands.{empty, none_logged, stands, shows_always}
+use Rattle.recover.specs.Accepted.{IsLeftBy, FindsPast}
+use Rattle.recover.specs.Logs.{AreLogs, IsBadAt, lanes_of}
+use Rattle.recover.specs.Reading.{HasLayout, HasControl, RefusesRows, RefusesImage, Holds}
+use Rattle.recover.specs.Replay.{IsStuckAt}
+use Rattle.recover.specs.Settled.{first_of, settled_records, IsAtRest, TakesUnsettled, IsIllegalAt, Stuck, Restless, Crossing}
+use Rattle.recover.specs.declared.error.RecoverError.{RecoverError}
+use Rattle.recover.specs.declared.error.RecoverError.TheVariants.{Fault, NotFormatted, BadHeader, TooSmall, NoControl, BadControl, Worn, BadRecord, IllegalLog, NoMemory}
+use Rattle.recover.specs.declared.logged_image.LoggedImage.{LoggedImage}
+use Rattle.recover.proofs.FirstLemmas.{contains_reverse}
+use Rattle.recover.proofs.LaneParts.{lane_map}
+use Rattle.recover.proofs.Blank.{blanks, undone, valueless, blank_legal, holder_blank}
+use Rattle.recover.proofs.Unstuck.{IsGuarded, unstuck}
+use Rattle.recover.proofs.Rests.{first_none, at_some, rests, inside}
+
+-- what a legal log's lanes have since a whole closed base
+module _ (s : Setting) (log : List (ℕ × Record)) (base : ℕ → ℕ) (legal : IsLegal s log) (whole : IsWhole (actions log) base) (closed : IsClosed (actions log) base) where
+  abbrev since : List (ℕ × Record)
+  since = records_since base log
+
+  abbrev gone : List (ℕ × Record)
+  gone = records_until base log
+
+  both : IsLegal s (since ++ gone)
+  both = rest_after_until s base log legal closed
+
+  -- nothing is held behind the base
+  nobody : (o : ℕ) (v : Option ℕ) → holder o gone ≡ v → holder o gone ≡ None
+  nobody o None h = h
+  nobody o (Some l) h = absurd (
+      let held : In o (holding (lane l (actions gone))) = holds_in s gone o l (legal_before s since gone both) h in
+      let none : In o [] = subst (λ (os : List ℕ). In o os) (until_ends base l log (whole l)).0 held in
+      none)
+
+  split_undone : undone (since ++ gone) ≡ undone since ++ undone gone
+  split_undone = map-append (λ (x : ℕ × Record). (x.0, undo_of x.1)) since gone
+
+  logs_are : (λ (l : ℕ). lane l (undone since)) ≡ undo_logs since
+  logs_are = λ i l. lane_map undo_of l since i
+
+  pub never_stuck : (guard : ℕ → ℕ) (l count : ℕ) → ((l : ℕ) (r : UndoRecord) → Contains (undo_logs since l) r → IsGuarded s guard r) → IsStuckAt guard (undo_logs since) l count → ⊥
+  never_stuck guard l count guarded stuck =
+      unstuck s (undone gone) (undone since) (subst (λ (xs : List (ℕ × UndoRecord)). IsLegal (valueless s) (blanks xs)) split_undone (blank_legal s (since ++ gone) both))
+      (λ o. holder_blank o gone ∙ nobody o (holder o gone) refl) guard l count
+      (λ m r h. guarded m r (subst (λ (xs : List UndoRecord). Contains xs r) (lane_map undo_of m since) h))
+      (subst (λ (lanes : ℕ → List UndoRecord). IsStuckAt guard lanes l count) (sym logs_are) stuck)
+
+same_answer : (x y : Slot × Control) → (let a : Result (Slot × Control) ImageError = Ok x in a ≡ Ok y) → x ≡ y
+same_answer x y is = cc
+
+no_fault : (x : Slot × Control) → (let a : Result (Slot × Control) ImageError = Ok x in a ≡ Err image_error.Fault) → ⊥
+no_fault x is = cc
+
+-- an image shows one control
+one_shown : (l : Layout) (image : List ℕ) (s t : Slot) (c d : Control) → Shows l image s c → Shows l image t d → d ≡ c
+one_shown l image s t c d p q = elim (control_is_chosen l image s c (Ok (t, d)) p q) as (λ _. d ≡ c) [
+  | inl is ↦ ap (λ (x : Slot × Control). x.1) (same_answer (t, d) (s, c) is)
+  | inr bad ↦ absurd (no_fault (t, d) bad)
+]
+
+-- a record among these is one that the image has at its place
+has_at : (l : Layout) (lane place : ℕ) (image : List ℕ) (xs : List UndoRecord) (i : ℕ) (d : UndoRecord) → HasRecords l lane place image xs → i < length xs → HasRecord l lane (place + i) image (get_or xs i d)
+has_at l lane place image [] i d has lt = absurd (omega (arith, lt))
+has_at l lane place image (x ∷ xs) zero d has lt = let here : place ≡ place + 0 = omega arith in subst (λ (k : ℕ). HasRecord l lane k image x) here has.0
+has_at l lane place image (x ∷ xs) (suc i) d has lt =
+    let next : place + 1 + i ≡ place + suc i = omega arith in
+    subst (λ (k : ℕ). HasRecord l lane k image (get_or xs i d)) next (has_at l lane (place + 1) image xs i d has.1 (omega (arith, lt)))
+
+-- an empty list has none
+none_there : (xs : List UndoRecord) (r : UndoRecord) → xs ≡ [] → Contains xs r → ⊥
+none_there xs r is h = omega (arith, h.1, ap (λ (ys : List UndoRecord). length ys) is)
+
+module _ (l : Layout) (s : Setting) (p : Past) (image : List ℕ) (left : IsLeftBy l s p image) where
+  abbrev logs : ℕ → List UndoRecord
+  logs = undo_logs (records_since p.base p.logged)
+
+  abbrev rows : List LaneRow
+  rows = left.shows.control.rows
+
+  abbrev guards : List GuardRow
+  guards = left.shows.parts.guards
+
+  -- what was logged is a legal list
+  legal : IsLegal s p.logged
+  legal = legal_before s p.fresh p.logged left.past.legal
+
+  -- the lanes' live records are the records since what was trimmed
+  live : HasLive l image rows logs
+  live = record {
+    live = λ lane below.
+        let start = sym (left.shows.tells.start lane below) in
+        record {
+          size = omega (arith, left.shows.tells.start lane below, left.shows.tells.logged lane below, live_size p.base lane p.logged, length-reverse (logs lane));
+          each = subst (λ (k : ℕ). HasRecords l lane k image (reverse (logs lane))) start (left.shows.parts.live lane below);
+        };
+    others = λ lane from. empty (logs lane) (omega (arith, ap (λ (xs : List UndoRecord). length xs) (left.lanes lane from), live_size p.base lane p.logged));
+  }
+
+  -- the acknowledged ones among them are those of the cut's sections past the base
+  settled_is : (lane : ℕ) → lane < l.lanes → settled_of rows lane ≡ records_in (p.cut lane - p.base lane) (logs lane)
+  settled_is lane below = omega (arith, left.shows.tells.start lane below, left.shows.tells.settled lane below, cut_place p.base lane p.cut p.logged (left.past.within lane))
+
+  -- a live record's field is one of the image's
+  named : (lane : ℕ) (r : UndoRecord) → Contains (logs lane) r → IsOfImage l r
+  named lane r h = elim (cases_lt lane l.lanes) [
+    | inr from ↦ absurd (none_there (logs lane) r (live.others lane from) h)
+    | inl below ↦
+        let c : Contains (reverse (logs lane)) r = contains_reverse (logs lane) r h in
+        let has = has_at l lane (row_of rows lane).start image (reverse (logs lane)) c.0 r (live.live lane below).each c.1 in
+        subst (IsOfImage l) c.2 has.named
+  ]
+
+  guarded_one : (r : UndoRecord) → IsOfImage l r → IsGuarded s (guard_in guards) r
+  guarded_one (undo.Acq o n) h = tt
+  guarded_one (undo.Rel o n) h = tt
+  guarded_one (undo.WaitRel o n) h = tt
+  guarded_one (undo.Put f v) h = left.shows.parts.guard f.0 h
+
+  -- each lane is at rest where it is settled
+  rest : (lane : ℕ) → IsAtRest rows logs lane
+  rest lane = elim (cases_lt lane l.lanes) [
+    | inl below ↦
+        let ends = rests p.logged p.base p.cut left.past.base_whole left.past.whole left.past.closed left.past.within lane in
+        let same : first_of (records_in (p.cut lane - p.base lane) (logs lane)) (logs lane) ≡ settled_records rows logs lane = ap (λ (k : ℕ). first_of k (logs lane)) (sym (settled_is lane below)) in
+        record {
+          free = ap (λ (xs : List UndoRecord). holding (map undo_action xs)) (sym same) ∙ ends.free;
+          kept = omega (arith, ap (λ (xs : List UndoRecord). ended (map undo_action xs)) same, ends.count, left.shows.tells.kept lane below);
+        }
+    | inr from ↦
+        let none : settled_records rows logs lane ≡ [] = ap (λ (xs : List UndoRecord). first_of (settled_of rows lane) xs) (live.others lane from) ∙ first_none (settled_of rows lane) in
+        record {
+          free = ap (λ (xs : List UndoRecord). holding (map undo_action xs)) none;
+          kept = omega (arith, ap (λ (xs : List UndoRecord). ended (map undo_action xs)) none);
+        }
+  ]
+
+  -- and none of its acknowledged sections takes from outside
+  not_crossed : (lane i : ℕ) → TakesUnsettled (settled_of rows) logs lane i → ⊥
+  not_crossed lane i h = inside p.logged p.base p.cut left.past.base_whole left.past.whole left.past.closed left.past.within (settled_of rows)
+      (λ m j r has. elim (cases_lt m l.lanes) [
+        | inl below ↦ settled_is m below
+        | inr from ↦ absurd (omega (arith, at_some (logs m) j r has, ap (λ (xs : List UndoRecord). length xs) (live.others m from)))
+      ]) lane i h
+
+  -- no test of the logs refuses them
+  legal_logs : (lane place : ℕ) → IsIllegalAt (guard_in guards) rows logs lane place → ⊥
+  legal_logs lane place (Stuck count stuck at) = never_stuck s p.logged p.base legal left.past.base_whole left.past.base_closed (guard_in guards) lane count (λ m r h. guarded_one r (named m r h)) stuck
+  legal_logs lane place (Restless done replays least at) = least.restless (rest lane)
+  legal_logs lane place (Crossing i at_rest least at) = not_crossed lane i least.takes
+
+  -- an image has one layout, one list of guard rows and one control
+  one_header : (other : Layout) → HasHeader image other → other ≡ l
+  one_header other has = one_layout other l has.limits left.shows.parts.header.limits (sym has.spelled ∙ left.shows.parts.header.spelled)
+
+  module _ (m : Layout) (others : List GuardRow) (t : Slot) (c : Control) (has : HasControl image m others t c) where
+    layout_is : m ≡ l
+    layout_is = one_header m has.front.layout.header
+
+    guards_is : others ≡ guards
+    guards_is = guards_are_read l image others guards (subst (λ (k : Layout). HasGuards k image others) layout_is has.front.guards_are) left.shows.parts.guarded
+
+    control_is : c ≡ left.shows.control
+    control_is = one_shown l image left.shows.slot t left.shows.control c left.shows.shows (subst (λ (k : Layout). Shows k image t c) layout_is has.shows)
+
+    rows_is : c.rows ≡ rows
+    rows_is = ap (λ (d : Control). d.rows) control_is
+
+    -- and one list of live records for each lane
+    lanes_is : (logged : List (Vec UndoRecord Global)) → AreLogs m image c.rows logged → (lane : ℕ) → lanes_of logged lane ≡ logs lane
+    lanes_is logged are lane =
+        let mine : HasLive l image rows (lanes_of logged) =
+        subst (λ (rs : List LaneRow). HasLive l image rs (lanes_of logged)) rows_is (subst (λ (k : Layout). HasLive k image c.rows (lanes_of logged)) layout_is are.live) in
+        elim (cases_lt lane l.lanes) [
+          | inr from ↦ mine.others lane from ∙ sym (live.others lane from)
+          | inl below ↦
+              let back : reverse (lanes_of logged lane) ≡ reverse (logs lane) =
+              one_span l lane (row_of rows lane).start (row_of rows lane).logged image (reverse (lanes_of logged lane)) (reverse (logs lane)) (mine.live lane below) (live.live lane below) in
+              sym (reverse-reverse (lanes_of logged lane)) ∙ ap (λ (xs : List UndoRecord). reverse xs) back ∙ reverse-reverse (logs lane)
+        ]
+
+    -- no live place is without a record
+    not_bad : (lane place : ℕ) → lane < m.lanes → IsBadAt m image c.rows lane place → ⊥
+    not_bad lane place below bad_there =
+        let bad : IsBadAt l image rows lane place =
+        subst (λ (rs : List LaneRow). IsBadAt l image rs lane place) rows_is (subst (λ (k : Layout). IsBadAt k image c.rows lane place) layout_is bad_there) in
+        let under : lane < l.lanes = subst (λ (k : Layout). lane < k.lanes) layout_is below in
+        let span = live.live lane under in
+        let i : ℕ = length bad.before.0 in
+        let at : (row_of rows lane).start + i ≡ place = bad.before.1.size in
+        let none : UndoRecord = undo.Put (record { 0 = 0 }) 0 in
+        bad.bad (get_or (reverse (logs lane)) i none)
+        (subst (λ (k : ℕ). HasRecord l lane k image (get_or (reverse (logs lane)) i none)) at
+        (has_at l lane (row_of rows lane).start image (reverse (logs lane)) i none span.each (omega (arith, at, bad.live, span.size))))
+
+    -- nor do the logs show anything that no threads leave
+    not_illegal : (logged : List (Vec UndoRecord Global)) → AreLogs m image c.rows logged → (lane place : ℕ) → IsIllegalAt (guard_in others) c.rows (lanes_of logged) lane place → ⊥
+    not_illegal logged are lane place h =
+        let lanes : lanes_of logged ≡ logs = λ i k. lanes_is logged are k i in
+        legal_logs lane place
+        (subst (λ (rs : List LaneRow). IsIllegalAt (guard_in guards) rs logs lane place) rows_is
+        (subst (λ (ls : ℕ → List UndoRecord). IsIllegalAt (guard_in guards) c.rows ls lane place) lanes
+        (subst (λ (gs : List GuardRow). IsIllegalAt (guard_in gs) c.rows (lanes_of logged) lane place) guards_is h)))
+
+  -- the header's answers
+  layout_read : (answer : Result Layout ImageError) → ReadsHeader image answer → (answer ≡ Ok l) ⊎ (answer ≡ Err image_error.Fault)
+  layout_read answer reads = header_is_read l image answer left.shows.parts.header left.shows.parts.room reads
+
+  -- nor is a guard row bad
+  no_guards : (m : Layout) → HasLayout image m → RefusesRows m image BadHeader → ⊥
+  no_guards m has bad = bad guards (subst (λ (k : Layout). HasGuards k image guards) (sym (one_header m has.header)) left.shows.parts.guarded)
+
+  -- no refusal but that of the device and want of memory
+  pub accepted : (e : RecoverError) → RefusesImage image e → (e ≡ Fault) ⊎ (e ≡ NoMemory)
+  accepted Fault h = inl refl
+  accepted NotFormatted h = elim (layout_read (Err image_error.NotFormatted) h) [ inl is ↦ absurd cc | inr is ↦ absurd cc ]
+  accepted BadHeader (inl h) = absurd (h.1 l left.shows.parts.header)
+  accepted BadHeader (inr h) = absurd (no_guards h.0 h.1 h.2)
+  accepted TooSmall h = absurd (omega (arith, h.2, left.shows.parts.room, ap size_of (one_header h.0 h.1)))
+  accepted NoControl h = absurd (h.3 left.shows.slot left.shows.shows.is_open)
+  accepted BadControl h = absurd (h.3.1 left.shows.slot left.shows.control (subst (λ (k : Layout). Shows k image left.shows.slot left.shows.control) (sym (one_header h.0 h.2.layout.header)) left.shows.shows))
+  accepted Worn h = absurd h
+  accepted (BadRecord lane place) h = absurd (not_bad h.0 h.1 h.2 h.3 h.4 lane.0 place h.5.0 h.5.1)
+  accepted (IllegalLog lane place) h = absurd (not_illegal h.0 h.1 h.2 h.3 h.5 h.4 h.6 lane.0 place h.7)
+  accepted NoMemory h = inr refl
+
+  -- what is found is what the past says
+  pub finds : (found : LoggedImage) → Holds image found → FindsPast l s p found
+  finds found holds =
+      let has = holds.control in
+      record {
+        layout = layout_is found.layout found.guards.items found.slot found.control has;
+        guards = λ f below. ap (λ (gs : List GuardRow). guard_in gs f) (guards_is found.layout found.guards.items found.slot found.control has) ∙ left.shows.parts.guard f below;
+        tells = subst (λ (c : Control). TellsCut l p.logged p.base p.cut c.rows) (sym (control_is found.layout found.guards.items found.slot found.control has)) left.shows.tells;
+        live = lanes_is found.layout found.guards.items found.slot found.control has found.records.items holds.logs;
+      }
+
+  -- and the heap is the kept one
+  pub finds_heap : (heap : List ℕ) (found : LoggedImage) → Holds image found → StandsFor found.layout image heap → heap ≡ kept_heap l s p.logged p.cut
+  finds_heap heap found holds for_it =
+      one_heap l image heap (kept_heap l s p.logged p.cut)
+      (subst (λ (k : Layout). StandsFor k image heap) (layout_is found.layout found.guards.items found.slot found.control holds.control) for_it)
+      (stands l s p left.past left.lanes image left.shows).heap
+
+-- what a crash leaves of a store is such an image
+pub left_always : (l : Layout) (s : Setting) (p : Past) (c : Committed) (d : Device) → IsConsistent l s p c d → Always d (IsLeftBy l s p)
+left_always l s p c d consistent image is = record { past = consistent.past; lanes = none_logged l s p c d consistent; shows = shows_always l s p c d consistent image is }

@@ -1,0 +1,8 @@
+use Rattle.recover.proofs.Accepts.{left_always, accepted}
+use Rattle.recover.proofs.laws.accepted_law.Goals as goal
+
+pub returns-clause-left : goal.returns-clause-left
+returns-clause-left c = left_always
+
+pub returns-clause-accepted : goal.returns-clause-accepted
+returns-clause-accepted c = λ l s p image e left refuses. accepted l s p image left e refuses

@@ -1,0 +1,49 @@
+-- No image that a store leaves is refused; what it holds is what the store's past says, and its heap the kept one (this
+-- project's own).
+use Rattle.std.specs.Prelude.{ℕ, ◌≡◌, ◌<◌, ◌≤◌, ◌⊎◌, List, []}
+use Rattle.heap_model.specs.Setting.{Setting}
+use Rattle.heap_model.specs.Base.{records_since}
+use Rattle.block_disk.specs.Device.{Device}
+use Rattle.block_disk.specs.Images.{Always}
+use Rattle.image.specs.declared.layout.Layout.{Layout}
+use Rattle.undo_log.specs.Dropped.{undo_logs}
+use Rattle.undo_log.specs.StandsFor.{guard_in, StandsFor}
+use Rattle.durable.specs.Past.{Past, IsPast}
+use Rattle.durable.specs.Consistent.{TellsCut, ShowsPast, IsConsistent}
+use Rattle.durable.specs.KeptHeap.{kept_heap}
+use Rattle.durable.specs.declared.committed.Committed.{Committed}
+use Rattle.recover.specs.Logs.{lanes_of}
+use Rattle.recover.specs.Reading.{Holds, RefusesImage}
+use Rattle.recover.specs.declared.error.RecoverError.{RecoverError}
+use Rattle.recover.specs.declared.error.RecoverError.TheVariants.{Fault, NoMemory}
+use Rattle.recover.specs.declared.logged_image.LoggedImage.{LoggedImage}
+
+-- a store of this past leaves this image: it shows the past, whose records are of the image's lanes
+pub record IsLeftBy (l : Layout) (s : Setting) (p : Past) (image : List ℕ) : Type 0 where
+  pub past : IsPast s p
+  pub lanes : (lane : ℕ) → l.lanes ≤ lane → undo_logs p.logged lane ≡ []
+  pub shows : ShowsPast l s p image
+
+-- Whatever a crash leaves of a store's device is such an image.
+abbrev pub LeftLaw : Type 0
+LeftLaw = (l : Layout) (s : Setting) (p : Past) (c : Committed) (d : Device) → IsConsistent l s p c d → Always d (IsLeftBy l s p)
+
+-- No such image is refused: only the device can fail, and memory be wanting.
+abbrev pub AcceptedLaw : Type 0
+AcceptedLaw = (l : Layout) (s : Setting) (p : Past) (image : List ℕ) (e : RecoverError) → IsLeftBy l s p image → RefusesImage image e → (e ≡ Fault) ⊎ (e ≡ NoMemory)
+
+-- what was found in an image is what the past says: the guards, the acknowledged sections, and the records since what was trimmed
+pub record FindsPast (l : Layout) (s : Setting) (p : Past) (found : LoggedImage) : Type 0 where
+  pub layout : found.layout ≡ l
+  pub guards : (f : ℕ) → f < l.fields → guard_in found.guards.items f ≡ s.guard f
+  pub tells : TellsCut l p.logged p.base p.cut found.control.rows
+  pub live : (lane : ℕ) → lanes_of found.records.items lane ≡ undo_logs (records_since p.base p.logged) lane
+
+-- What such an image holds is what the past says.
+abbrev pub FoundLaw : Type 0
+FoundLaw = (l : Layout) (s : Setting) (p : Past) (image : List ℕ) (found : LoggedImage) → IsLeftBy l s p image → Holds image found → FindsPast l s p found
+
+-- The heap that it stands for is the kept one.
+abbrev pub FoundHeapLaw : Type 0
+FoundHeapLaw = (l : Layout) (s : Setting) (p : Past) (image heap : List ℕ) (found : LoggedImage) → IsLeftBy l s p image → Holds image found → StandsFor found.layout image heap →
+    heap ≡ kept_heap l s p.logged p.cut
