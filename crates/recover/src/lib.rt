@@ -9,6 +9,7 @@ mod check;
 mod crossings;
 mod error;
 mod first_numbers;
+mod heap;
 mod lanes;
 mod logged_image;
 mod logs;
