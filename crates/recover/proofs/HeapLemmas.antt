@@ -245,9 +245,6 @@ rises_more ns i rising below k lt = elim (cases_lt (k + 1) (length ns)) [
       omega (arith, here, below k (omega arith), get_or_append_left ns (i ∷ []) 0 k (omega arith))
 ]
 
-pub fields_begin : (P : ℕ → Type 0) → AreFields (λ (f : ℕ). (f < 0) × P f) []
-fields_begin P = record { rising = λ k lt. absurd (omega arith); each = λ f. ((λ h. absurd (let lt : h.0 < 0 = h.1 in omega arith)), (λ h. absurd (let lt : f.0 < 0 = h.0 in omega arith))) }
-
 -- the fields below i that are such, with i if it is one
 pub fields_next : (P : ℕ → Type 0) (i : ℕ) (xs ys : List FieldId) → AreFields (λ (f : ℕ). (f < i) × P f) xs → (P i × (ys ≡ xs ++ record { 0 = i } ∷ [])) ⊎ ((P i → ⊥) × (ys ≡ xs)) → AreFields (λ (f : ℕ). (f < i + 1) × P f) ys
 fields_next P i xs ys are (inr isnt) = subst (AreFields (λ (f : ℕ). (f < i + 1) × P f)) (sym isnt.1) (record {

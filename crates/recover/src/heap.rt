@@ -104,19 +104,15 @@ fn count_next(places: &mut [usize; 32], row: LaneRow, lane: Lane) -> bool
     (place as u64) < row.settled.saturating_sub(row.start)
 }
 
-// Keeps the value before the store, if it isn't settled and no earlier one is kept.
-fn keep_first(before: &mut [Option<u64>], entry: UndoRecord, is_settled: bool)
-    ensures size { length before.new ≡ length before.old }
-    ensures each { (f : ℕ) → f < length before.old → slice_index_or before.new f None ≡ earlier (slice_index_or before.old f None) (if is_settled then None else stored f entry) }
+// Keeps the value before the store, if it isn't settled and no earlier one is kept for its field.
+fn keep_first(values: &mut [Option<u64>], entry: UndoRecord, is_settled: bool)
+    ensures size { length values.new ≡ length values.old }
+    ensures each { (f : ℕ) → f < length values.old → slice_index_or values.new f None ≡ earlier (slice_index_or values.old f None) (if is_settled then None else stored f entry) }
 {
-    if let UndoRecord::Put {
-        field,
-        before: value,
-    } = entry
-    {
+    if let UndoRecord::Put { field, before } = entry {
         let at = field.0 as usize;
-        if !is_settled && at < before.len() && before[at].is_none() {
-            before[at] = Some(value);
+        if !is_settled && at < values.len() && values[at].is_none() {
+            values[at] = Some(before);
         }
     }
 }

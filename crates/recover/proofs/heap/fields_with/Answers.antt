@@ -1,8 +1,8 @@
-use Rattle.std.proofs.Common.{ℕ, ◌≡◌, ◌≢◌, ◌+◌, ◌<◌, ◌≤◌, ◌∙◌, Bool, true, false, Option, Some, None, refl, Vec, Global, length, sym, ap, subst, inl, inr, arith}
+use Rattle.std.proofs.Common.{ℕ, ◌≡◌, ◌≢◌, ◌<◌, ◌∙◌, true, false, Option, Some, None, refl, Vec, Global, length, sym, ap, subst, inl, inr, arith}
 use Rattle.std.specs.Prelude.{is_some, slice_index_or}
 use Rattle.heap_model.specs.declared.ids.FieldId.{FieldId}
 use Rattle.recover.specs.Heap.{AreFields}
-use Rattle.recover.proofs.HeapLemmas.{fields_begin, fields_next, fields_as}
+use Rattle.recover.proofs.HeapLemmas.{fields_next}
 use Rattle.recover.proofs.heap.fields_with.Goals as goal
 use Rattle.recover.proofs.heap.fields_with.Goals.{then-is_some+in-Ok, else-is_some}
 

@@ -1,9 +1,7 @@
 use Rattle.std.proofs.Common.{ℕ, ◌≡◌, ◌≢◌, ◌<◌, ◌↔◌, ◌∙◌, List, Option, None, length, sym, ap, subst, arith, slice_index}
 use Rattle.std.specs.Prelude.{slice_index_or}
 use Rattle.heap_model.specs.declared.record.UndoRecord.{UndoRecord}
-use Rattle.block_disk.specs.Device.{Moment}
 use Rattle.image.specs.Cells.{HasCell}
-use Rattle.image.specs.declared.lane_row.LaneRow.{LaneRow}
 use Rattle.undo_log.specs.StandsFor.{guard_in, settled_of}
 use Rattle.recover.specs.Heap.{first_old, IsOldOrHome, IsUndone}
 use Rattle.recover.specs.Logs.{lanes_of}

@@ -1,4 +1,4 @@
-use Rattle.std.proofs.Common.{◌≡◌, ◌+◌, ◌<◌, ◌≤◌, ◌∙◌, if◌then◌else◌, ℕ, List, ◌∷◌, length, take, get_or, slice_index, arith, None, Option, refl, sym, ap}
+use Rattle.std.proofs.Common.{◌≡◌, ◌+◌, ◌<◌, ◌∙◌, if◌then◌else◌, ℕ, List, ◌∷◌, length, take, get_or, slice_index, arith, None, Option, refl, sym, ap}
 use Rattle.std.specs.Prelude.{nat_lt, slice_index_or}
 use Rattle.std.proofs.lemmas.List.{take_more}
 use Rattle.heap_model.specs.Log.{lane}
@@ -44,7 +44,7 @@ loop-step-preserved c =
     let done : List (ℕ × UndoRecord) = log_of (take i steps) in
     let places : List ℕ = c.loop-step.places in
     let before : List (Option ℕ) = c.loop-step.before.items in
-    let new : List (Option ℕ) = c.keep_first.new.before in
+    let new : List (Option ℕ) = c.keep_first.new.values in
     let more : log_of (take (i + 1) steps) ≡ (s.lane.0, s.entry) ∷ done = ap log_of (take_more steps i none lt) ∙ log_more (take i steps) s in
     let at : slice_index places s.lane.0 ≡ length (lane s.lane.0 done) = c.loop-step.invariant.places s.lane.0 in
     let from : c.from.result ≡ s.lane.0 = c.from.ensures in
