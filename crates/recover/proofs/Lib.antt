@@ -11,3 +11,4 @@ pub mod Blank
 pub mod Unstuck
 pub mod Rests
 pub mod Accepts
+pub mod HeapLemmas

@@ -7,3 +7,4 @@ pub mod Tally
 pub mod Crossings
 pub mod Reading
 pub mod Accepted
+pub mod Heap

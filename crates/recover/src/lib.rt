@@ -10,6 +10,7 @@ mod check;
 mod crossings;
 mod error;
 mod first_numbers;
+mod heap;
 mod lanes;
 mod laws;
 mod logged_image;
