@@ -6,3 +6,5 @@ pub mod CrossingLemmas
 pub mod WalkLemmas
 pub mod SettledLemmas
 pub mod ReadingLemmas
+pub mod PushingLemmas
+pub mod DroppingLemmas

@@ -6,3 +6,5 @@ pub mod Settled
 pub mod Tally
 pub mod Crossings
 pub mod Reading
+pub mod Dropping
+pub mod Live

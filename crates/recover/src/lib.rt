@@ -7,9 +7,13 @@
 
 mod check;
 mod crossings;
+mod dropping;
 mod error;
 mod first_numbers;
+mod graph_of;
 mod lanes;
+mod live;
+mod live_counts;
 mod logged_image;
 mod logs;
 mod monitors;
