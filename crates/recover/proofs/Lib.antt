@@ -8,3 +8,4 @@ pub mod SettledLemmas
 pub mod ReadingLemmas
 pub mod PushingLemmas
 pub mod DroppingLemmas
+pub mod LiveLemmas
