@@ -9,3 +9,4 @@ pub mod ReadingLemmas
 pub mod PushingLemmas
 pub mod DroppingLemmas
 pub mod LiveLemmas
+pub mod StepLemmas
