@@ -1,9 +1,8 @@
 -- What the report says of the lanes' live sections.
-use Rattle.std.proofs.Common.{ℕ, suc, ◌≡◌, ◌≢◌, ◌+◌, ◌-◌, ◌<◌, ◌≤◌, ◌==◌, if◌then◌else◌, ◌++◌, Bool, true, false, List, [], ◌∷◌, length, append_assoc, refl, sym, ap, ◌∙◌, subst, inl, inr, arith}
+use Rattle.std.proofs.Common.{ℕ, suc, ◌≡◌, ◌+◌, ◌-◌, ◌<◌, ◌≤◌, ◌==◌, if◌then◌else◌, ◌++◌, true, false, List, [], ◌∷◌, append_assoc, sym, ap, ◌∙◌, inl, inr, arith}
 use Rattle.std.proofs.lemmas.Bool.{cases_lt}
-use Rattle.std.proofs.lemmas.Bool.Decides.{eqb_tells}
 use Rattle.heap_model.specs.Log.{lane}
-use Rattle.heap_model.specs.Sections.{Action, Takes, Frees, Stores, holding, without, ended, Section, Did}
+use Rattle.heap_model.specs.Sections.{Action, Frees, ended, Section, Did}
 use Rattle.heap_model.specs.Cuts.{Counts}
 use Rattle.heap_model.proofs.Stores.{ended_rises}
 use Rattle.dependence.specs.Reason.{IsLeftOut, IsReason, Previous, Releaser}

@@ -1,5 +1,5 @@
 -- The lanes' live sections, counted.
-use Rattle.std.proofs.Common.{ℕ, zero, suc, ◌≡◌, ◌+◌, ◌-◌, ◌*◌, ◌^◌, ◌<◌, ◌≤◌, ◌==◌, if◌then◌else◌, ◌++◌, Bool, true, false, List, [], ◌∷◌, length, map, get_or, take, drop, reverse, refl, sym, ap, ◌∙◌, subst, inl, inr, arith, Vec, Global, length-take, length-drop}
+use Rattle.std.proofs.Common.{ℕ, zero, suc, ◌≡◌, ◌+◌, ◌-◌, ◌≤◌, ◌==◌, if◌then◌else◌, ◌++◌, true, false, List, [], ◌∷◌, length, map, get_or, take, drop, reverse, refl, sym, ap, ◌∙◌, inl, inr, arith, Vec, Global, length-drop}
 use Rattle.std.proofs.lemmas.Bool.{cases_lt}
 use Rattle.std.proofs.lemmas.List.{map-append, take-append-drop, reverse-append, reverse-reverse, get_or-drop, get_or_past, length-map, length-reverse}
 use Rattle.heap_model.specs.Sections.{Action, Takes, Frees, Stores, undo_action, without, holding, ended}
@@ -15,7 +15,7 @@ use Rattle.recover.specs.declared.live.LiveSections.{LiveSections}
 use Rattle.recover.specs.Logs.{records_of, lanes_of}
 use Rattle.recover.specs.Settled.{settled_records}
 use Rattle.recover.specs.Tally.{FreesHeld, acts_of}
-use Rattle.recover.specs.Dropping.{whole_sections, settled_sections, trimmed_sections, live_sections}
+use Rattle.recover.specs.Dropping.{whole_sections, settled_sections, live_sections}
 use Rattle.recover.specs.Live.{nothing_live, IsLiveOf, IsLiveIn}
 use Rattle.recover.proofs.LogLemmas.{records_past}
 

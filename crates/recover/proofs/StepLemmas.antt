@@ -1,8 +1,8 @@
 -- What the steps of a replay say of the lanes' records, and of the graph of them.
-use Rattle.std.proofs.Common.{ℕ, ◌≡◌, ◌+◌, ◌-◌, ◌*◌, ◌^◌, ◌<◌, ◌≤◌, ◌==◌, if◌then◌else◌, ◌++◌, Bool, true, false, List, [], ◌∷◌, length, map, get_or, take, drop, reverse, refl, sym, ap, ◌∙◌, subst, inl, inr, arith, Some, Contains, Vec, Global}
-use Rattle.std.specs.Prelude.{All, slice_get}
+use Rattle.std.proofs.Common.{ℕ, ◌≡◌, ◌+◌, ◌^◌, ◌<◌, ◌≤◌, ◌==◌, if◌then◌else◌, ◌++◌, Bool, true, false, List, [], ◌∷◌, length, map, get_or, take, drop, refl, sym, ap, ◌∙◌, subst, inl, inr, arith, Some, Contains, Vec, Global}
+use Rattle.std.specs.Prelude.{slice_get}
 use Rattle.std.proofs.lemmas.Bool.{cases_lt, eq-eqb}
-use Rattle.std.proofs.lemmas.List.{length-reverse, length-map}
+use Rattle.std.proofs.lemmas.List.{length-reverse}
 use Rattle.std.proofs.lemmas.List.Elements.{All-contains}
 use Rattle.heap_model.specs.Log.{lane}
 use Rattle.heap_model.specs.Sections.{Action, undo_action, ended, Section, Did}
@@ -10,7 +10,7 @@ use Rattle.heap_model.specs.declared.record.UndoRecord.{UndoRecord}
 use Rattle.heap_model.specs.declared.record.UndoRecord.TheVariants.{Acq, Rel, WaitRel, Put}
 use Rattle.heap_model.proofs.Lanes.{lane_append}
 use Rattle.dependence.specs.Next.{IsObjectBelow}
-use Rattle.dependence.specs.Trace.{Trace, base_of}
+use Rattle.dependence.specs.Trace.{Trace}
 use Rattle.image.specs.Layout.{IsLayout}
 use Rattle.image.specs.Control.{AreRows}
 use Rattle.image.specs.Rows.{IsRow, empty_row}
@@ -21,11 +21,11 @@ use Rattle.undo_log.specs.StandsFor.{row_of}
 use Rattle.recover.specs.declared.live.LiveSections.{LiveSections}
 use Rattle.recover.specs.declared.step.Step.{Step}
 use Rattle.recover.specs.Logs.{records_of, lanes_of, AreLoggable}
-use Rattle.recover.specs.Replay.{IsDone, Replays}
+use Rattle.recover.specs.Replay.{Replays}
 use Rattle.recover.specs.Tables.{log_of}
 use Rattle.recover.specs.Tally.{acts_of}
-use Rattle.recover.specs.Dropping.{acts_in, whole_sections}
-use Rattle.recover.specs.Live.{live_at, trimmed_at, IsLiveIn, IsGraphOf, IsReady}
+use Rattle.recover.specs.Dropping.{acts_in}
+use Rattle.recover.specs.Live.{live_at, IsLiveIn, IsGraphOf, IsReady}
 use Rattle.recover.proofs.LogLemmas.{records_past, row_is}
 use Rattle.recover.proofs.FirstLemmas.{All-reverse}
 use Rattle.recover.proofs.ReplayLemmas.{is_there}

@@ -1,4 +1,4 @@
-use Rattle.std.proofs.Common.{ℕ, ◌≡◌, ◌+◌, ◌-◌, ◌≤◌, ◌++◌, ◌∙◌, List, [], ◌∷◌, sym, ap, subst, arith}
+use Rattle.std.proofs.Common.{ℕ, ◌+◌, ◌-◌, ◌≤◌, ◌++◌, ◌∙◌, List, [], ◌∷◌, sym, ap, subst, arith}
 use Rattle.heap_model.specs.Sections.{Section}
 use Rattle.heap_model.specs.Cuts.{IsStable}
 use Rattle.dependence.specs.Trace.{Trace}

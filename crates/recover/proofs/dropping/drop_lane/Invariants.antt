@@ -1,4 +1,4 @@
-use Rattle.std.proofs.Common.{ℕ, ◌≡◌, ◌-◌, ◌≤◌, ◌++◌, List}
+use Rattle.std.proofs.Common.{◌≡◌, ◌-◌, ◌++◌, List}
 use Rattle.heap_model.specs.Sections.{Section}
 use Rattle.recover.specs.Dropping.{sections_after}
 use Rattle.recover.specs.Live.{AreReported, live_at}

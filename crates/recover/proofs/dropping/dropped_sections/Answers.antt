@@ -1,4 +1,4 @@
-use Rattle.std.proofs.Common.{ℕ, suc, ◌≡◌, ◌+◌, ◌-◌, ◌<◌, ◌≤◌, ◌++◌, ◌∙◌, List, length, refl, sym, ap, subst, arith, Vec, Global}
+use Rattle.std.proofs.Common.{ℕ, suc, ◌≡◌, ◌+◌, ◌-◌, ◌<◌, ◌≤◌, ◌++◌, ◌∙◌, List, sym, ap, subst, arith}
 use Rattle.heap_model.specs.Sections.{Action, Section}
 use Rattle.heap_model.specs.Cuts.{IsStable}
 use Rattle.heap_model.specs.declared.record.UndoRecord.{UndoRecord}
@@ -6,18 +6,17 @@ use Rattle.heap_model.proofs.Existence.{stable_exists}
 use Rattle.image.specs.Rows.{IsRow, empty_row}
 use Rattle.image.specs.declared.lane_row.LaneRow.{LaneRow}
 use Rattle.dependence.specs.Trace.{Trace}
-use Rattle.undo_log.specs.StandsFor.{row_of, settled_of, guard_in}
+use Rattle.undo_log.specs.StandsFor.{row_of, guard_in}
 use Rattle.recover.specs.declared.live.LiveSections.{LiveSections}
 use Rattle.recover.specs.declared.report.Dropped.{Dropped}
-use Rattle.recover.specs.declared.step.Step.{Step}
-use Rattle.recover.specs.Logs.{records_of, lanes_of}
+use Rattle.recover.specs.Logs.{lanes_of}
 use Rattle.recover.specs.Tables.{log_of}
-use Rattle.recover.specs.Dropping.{acts_in, AreEntriesOf, sections_after, settled_sections, trimmed_sections, live_sections, unsettled_sections}
+use Rattle.recover.specs.Dropping.{acts_in, AreEntriesOf, sections_after, settled_sections, trimmed_sections, unsettled_sections}
 use Rattle.recover.specs.Live.{live_at, trimmed_at, IsLiveIn, IsReady, AreReported}
 use Rattle.recover.proofs.LogLemmas.{row_is}
 use Rattle.recover.proofs.SettledLemmas.{lanes_free}
 use Rattle.recover.proofs.PushingLemmas.{pushable}
-use Rattle.recover.proofs.LiveLemmas.{row_past, settled_few, whole_few, live_few}
+use Rattle.recover.proofs.LiveLemmas.{row_past, settled_few, whole_few}
 use Rattle.recover.proofs.StepLemmas.{steps_low, steps_named, ready}
 use Rattle.recover.proofs.dropping.dropped_sections.Goals as goal
 

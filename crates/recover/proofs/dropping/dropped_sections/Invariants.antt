@@ -1,4 +1,4 @@
-use Rattle.std.proofs.Common.{ℕ, ◌≡◌, ◌≤◌}
+use Rattle.std.proofs.Common.{◌≡◌}
 use Rattle.recover.specs.Logs.{lanes_of}
 use Rattle.recover.specs.Dropping.{unsettled_sections}
 use Rattle.recover.specs.Live.{AreReported}

@@ -1,7 +1,6 @@
-use Rattle.std.proofs.Common.{ℕ, ◌≡◌, ◌+◌, ◌<◌, ◌∙◌, List, length, take, get_or, reverse, sym, ap, subst, arith, length-take}
+use Rattle.std.proofs.Common.{ℕ, ◌≡◌, ◌<◌, ◌∙◌, List, length, take, get_or, reverse, sym, ap, subst, arith, length-take}
 use Rattle.std.proofs.lemmas.List.{length-map, length-reverse}
-use Rattle.heap_model.specs.Log.{lane}
-use Rattle.heap_model.specs.Sections.{Action, undo_action, ended}
+use Rattle.heap_model.specs.Sections.{Action, undo_action}
 use Rattle.heap_model.specs.declared.record.UndoRecord.{UndoRecord}
 use Rattle.heap_model.specs.declared.record.UndoRecord.TheVariants.{Acq}
 use Rattle.dependence.specs.Next.{IsNext}

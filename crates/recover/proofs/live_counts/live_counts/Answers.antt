@@ -1,5 +1,4 @@
-use Rattle.std.proofs.Common.{ℕ, zero, suc, ◌≡◌, ◌≢◌, ◌+◌, ◌-◌, ◌<◌, ◌≤◌, ◌∙◌, List, length, replicate, refl, sym, ap, subst, inl, inr, arith, slice_index, slice_set, get_or-set_same, get_or-set_other}
-use Rattle.std.specs.Prelude.{slice_index_or}
+use Rattle.std.proofs.Common.{ℕ, zero, suc, ◌≡◌, ◌≢◌, ◌<◌, ◌∙◌, List, length, replicate, refl, sym, ap, subst, inl, inr, arith, slice_set, get_or-set_same, get_or-set_other}
 use Rattle.std.proofs.lemmas.Bool.{cases_eq}
 use Rattle.std.proofs.lemmas.List.{length-set}
 use Rattle.heap_model.specs.declared.record.UndoRecord.{UndoRecord}
@@ -8,7 +7,7 @@ use Rattle.undo_log.specs.StandsFor.{row_of, settled_of}
 use Rattle.recover.specs.declared.live.LiveSections.{LiveSections}
 use Rattle.recover.specs.Logs.{records_of, lanes_of}
 use Rattle.recover.specs.Live.{IsLiveIn, IsLiveOf, live_at, nothing_live}
-use Rattle.recover.proofs.LiveLemmas.{live_in, live_past}
+use Rattle.recover.proofs.LiveLemmas.{live_in}
 use Rattle.recover.proofs.live_counts.live_counts.Goals as goal
 
 nothing : (n m : ℕ) → live_at (replicate n nothing_live) m ≡ nothing_live

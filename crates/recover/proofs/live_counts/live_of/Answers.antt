@@ -1,5 +1,4 @@
-use Rattle.std.proofs.Common.{◌≡◌, ◌+◌, ◌<◌, ◌≤◌, List, length, arith}
-use Rattle.heap_model.specs.Sections.{holding, ended}
+use Rattle.std.proofs.Common.{List, arith}
 use Rattle.heap_model.specs.declared.record.UndoRecord.{UndoRecord}
 use Rattle.recover.specs.Tally.{acts_of}
 use Rattle.recover.proofs.TallyLemmas.{frees_first}
