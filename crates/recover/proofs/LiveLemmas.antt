@@ -11,7 +11,7 @@ use Rattle.image.specs.Rows.{empty_row}
 use Rattle.image.specs.declared.layout.Layout.{Layout}
 use Rattle.image.specs.declared.lane_row.LaneRow.{LaneRow}
 use Rattle.undo_log.specs.StandsFor.{row_of, settled_of}
-use Rattle.recover.specs.declared.live.LiveSections.{LiveSections}
+use Rattle.recover.specs.declared.live_sections.LiveSections.{LiveSections}
 use Rattle.recover.specs.Logs.{records_of, lanes_of}
 use Rattle.recover.specs.Settled.{settled_records}
 use Rattle.recover.specs.Tally.{FreesHeld, acts_of}

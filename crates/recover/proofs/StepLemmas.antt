@@ -18,7 +18,7 @@ use Rattle.image.specs.declared.layout.Layout.{Layout}
 use Rattle.image.specs.declared.lane_row.LaneRow.{LaneRow}
 use Rattle.undo_log.specs.Area.{IsLoggable}
 use Rattle.undo_log.specs.StandsFor.{row_of}
-use Rattle.recover.specs.declared.live.LiveSections.{LiveSections}
+use Rattle.recover.specs.declared.live_sections.LiveSections.{LiveSections}
 use Rattle.recover.specs.declared.step.Step.{Step}
 use Rattle.recover.specs.Logs.{records_of, lanes_of, AreLoggable}
 use Rattle.recover.specs.Replay.{Replays}

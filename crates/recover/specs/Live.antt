@@ -7,7 +7,7 @@ use Rattle.heap_model.specs.Cuts.{IsStable}
 use Rattle.image.specs.declared.lane_row.LaneRow.{LaneRow}
 use Rattle.dependence.specs.Trace.{Trace, base_of}
 use Rattle.dependence.specs.Next.{IsNext}
-use Rattle.recover.specs.declared.live.LiveSections.{LiveSections}
+use Rattle.recover.specs.declared.live_sections.LiveSections.{LiveSections}
 use Rattle.recover.specs.declared.report.Dropped.{Dropped}
 use Rattle.recover.specs.Tally.{acts_of}
 use Rattle.recover.specs.Dropping.{whole_sections, settled_sections, trimmed_sections, live_sections, acts_in, AreEntriesOf}

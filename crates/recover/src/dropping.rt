@@ -15,8 +15,8 @@ ghost use Rattle.recover.specs.declared.error.RecoverError.TheVariants.{NoMemory
 
 use crate::error::RecoverError;
 use crate::graph_of::graph_of;
-use crate::live::LiveSections;
 use crate::live_counts::live_counts;
+use crate::live_sections::LiveSections;
 use crate::report::{Dropped, Why};
 use crate::step::Step;
 use dependence::Graph;
@@ -32,7 +32,7 @@ use std::alloc::Global;
 /// numbered since the heap was opened: a lane's first live one comes after those of its `kept` ones that aren't live.
 ///
 /// `NoMemory` comes where there is no room for the graph of the sections or for the list. The time is linear in the
-/// records.
+/// records, for each of which the lanes are looked through at most once, and in one more pass over them for each lane.
 pub fn dropped_sections(
     alloc: Global,
     layout: &Layout,
@@ -100,12 +100,12 @@ fn dropped_section(
     Dropped {
         lane,
         section: counts[usize::from(lane.0)].trimmed + section,
-        why: why(graph, counts, lane, section),
+        why: why_dropped(graph, counts, lane, section),
     }
 }
 
 // Why the lane's live section, which isn't settled, is dropped.
-fn why(graph: &mut Graph, counts: &[LiveSections; 32], lane: Lane, section: u64) -> Why
+fn why_dropped(graph: &mut Graph, counts: &[LiveSections; 32], lane: Lane, section: u64) -> Why
     requires lane { lane.0 < 32 }
     requires ready { IsReady counts.now graph.old }
     ensures why { (cut : ℕ → ℕ) → IsStable graph.old.log cut → IsWhy (trimmed_at counts.now) graph.old.log cut (record { lane = lane.0; number = section }) result }

@@ -9,7 +9,7 @@ ghost use Rattle.recover.specs.Tally.{FreesHeld, acts_of};
 ghost use Rattle.recover.specs.Live.{IsLiveIn, IsLiveOf, live_at};
 
 use crate::lanes::records_in;
-use crate::live::LiveSections;
+use crate::live_sections::LiveSections;
 use crate::settled::tally;
 use heap_model::{Lane, UndoRecord};
 use image::LaneRow;

@@ -2,7 +2,7 @@ use Rattle.std.proofs.Common.{ℕ, ◌+◌, ◌-◌, ◌≤◌, ◌++◌, ◌∙
 use Rattle.heap_model.specs.Sections.{Section}
 use Rattle.heap_model.specs.Cuts.{IsStable}
 use Rattle.dependence.specs.Trace.{Trace}
-use Rattle.recover.specs.declared.live.LiveSections.{LiveSections}
+use Rattle.recover.specs.declared.live_sections.LiveSections.{LiveSections}
 use Rattle.recover.specs.declared.report.Dropped.{Dropped}
 use Rattle.recover.specs.Dropping.{AreEntriesOf, IsEntryOf, sections_after}
 use Rattle.recover.specs.Live.{live_at, trimmed_at}

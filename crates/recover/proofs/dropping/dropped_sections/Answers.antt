@@ -7,7 +7,7 @@ use Rattle.image.specs.Rows.{IsRow, empty_row}
 use Rattle.image.specs.declared.lane_row.LaneRow.{LaneRow}
 use Rattle.dependence.specs.Trace.{Trace}
 use Rattle.undo_log.specs.StandsFor.{row_of, guard_in}
-use Rattle.recover.specs.declared.live.LiveSections.{LiveSections}
+use Rattle.recover.specs.declared.live_sections.LiveSections.{LiveSections}
 use Rattle.recover.specs.declared.report.Dropped.{Dropped}
 use Rattle.recover.specs.Logs.{lanes_of}
 use Rattle.recover.specs.Tables.{log_of}

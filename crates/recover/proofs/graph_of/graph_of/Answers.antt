@@ -23,8 +23,13 @@ push-requires-clause-next c =
 -- there are as many actions as steps
 acts_count : (steps : List Step) (i : ℕ) → i < length steps → length (acts_in (log_of (take i steps))) ≡ i
 acts_count steps i lt =
-    omega (arith, length-map {A = ℕ × UndoRecord} {B = ℕ × Action} (log_of (take i steps)) (λ (x : ℕ × UndoRecord). (x.0, undo_action x.1)),
-    length-map {A = Step} {B = ℕ × UndoRecord} (reverse (take i steps)) (λ (s : Step). (s.lane.0, s.entry)), length-reverse (take i steps), length-take i steps)
+    omega (
+      arith,
+      length-map {A = ℕ × UndoRecord} {B = ℕ × Action} (log_of (take i steps)) (λ (x : ℕ × UndoRecord). (x.0, undo_action x.1)),
+      length-map {A = Step} {B = ℕ × UndoRecord} (reverse (take i steps)) (λ (s : Step). (s.lane.0, s.entry)),
+      length-reverse (take i steps),
+      length-take i steps,
+    )
 
 pub push-requires-clause-fits : goal.push-requires-clause-fits
 push-requires-clause-fits c =

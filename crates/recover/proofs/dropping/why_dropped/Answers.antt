@@ -4,10 +4,10 @@ use Rattle.heap_model.specs.Sections.{Section, ended}
 use Rattle.heap_model.proofs.Existence.{stable_exists}
 use Rattle.dependence.specs.Trace.{Trace, section_since, base_of}
 use Rattle.dependence.specs.Reason.{IsLeftOut, IsReason}
-use Rattle.recover.specs.declared.live.LiveSections.{LiveSections}
+use Rattle.recover.specs.declared.live_sections.LiveSections.{LiveSections}
 use Rattle.recover.specs.Live.{IsReady, live_at, trimmed_at}
 use Rattle.recover.proofs.DroppingLemmas.{reason_lane, reason_low, counted}
-use Rattle.recover.proofs.dropping.why.Goals as goal
+use Rattle.recover.proofs.dropping.why_dropped.Goals as goal
 
 -- the lane's section of this number
 abbrev section_of : (l k : ℕ) → Section
@@ -57,7 +57,7 @@ returns-in-Some-clause-why c = λ cut stable.
       left_out = subst (IsLeftOut g.log cut) (since_first counts g c.args.lane.0 c.args.section c.requires.ready) ((c.in-Some.ensures.some cut stable).0 refl);
       first = section_of d.lane.0 d.section;
       reason = reason_first counts g cut c.args.lane.0 c.args.section d.lane.0 d.section c.requires.ready (c.in-Some.ensures.first cut stable);
-      called = record { lane = refl; number_is = ap (λ (i : ℕ). trimmed_at counts i + d.section) c.from-in-Some.ensures };
+      called = record { lane_is = refl; number_is = ap (λ (i : ℕ). trimmed_at counts i + d.section) c.from-in-Some.ensures };
     }
 
 pub returns-in-None-clause-why : goal.returns-in-None-clause-why
@@ -66,4 +66,4 @@ returns-in-None-clause-why c = λ cut stable.
     let counts : List LiveSections = c.args.counts.now in
     let a : Section = section_of c.args.lane.0 c.args.section in
     let whole : c.args.section ≤ ended (lane c.args.lane.0 g.log) = whole_is counts g c.args.lane.0 c.args.section c.from.result c.requires.ready c.from.ensures c.if-section-counts.false in
-    (whole, counted g.log cut a whole (λ out. (let no : false ≡ true = (c.in-None.ensures.some cut stable).1 (subst (IsLeftOut g.log cut) (sym (since_first counts g c.args.lane.0 c.args.section c.requires.ready)) out) in absurd cc)))
+    counted g.log cut a whole (λ out. (let no : false ≡ true = (c.in-None.ensures.some cut stable).1 (subst (IsLeftOut g.log cut) (sym (since_first counts g c.args.lane.0 c.args.section c.requires.ready)) out) in absurd cc))
