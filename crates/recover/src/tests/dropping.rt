@@ -1,4 +1,4 @@
-//! The dropped sections of images with hand-made logs. The reasons and numbers follow from docs/FORMAT.md.
+//! The dropped sections of images with hand-made logs. The reasons and numbers follow from the rules at `Dropped` and `Why`.
 use super::{acq, image_with, rel, row, store};
 use crate::dropping::dropped_sections;
 use crate::replay::replay;
