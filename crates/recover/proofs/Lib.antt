@@ -12,3 +12,7 @@ pub mod Unstuck
 pub mod Rests
 pub mod Accepts
 pub mod HeapLemmas
+pub mod PushingLemmas
+pub mod DroppingLemmas
+pub mod LiveLemmas
+pub mod StepLemmas

@@ -8,3 +8,5 @@ pub mod Crossings
 pub mod Reading
 pub mod Accepted
 pub mod Heap
+pub mod Dropping
+pub mod Live

@@ -8,11 +8,15 @@
 
 mod check;
 mod crossings;
+mod dropping;
 mod error;
 mod first_numbers;
 mod heap;
 mod lanes;
 mod laws;
+mod graph_of;
+mod live_counts;
+mod live_sections;
 mod logged_image;
 mod logs;
 mod monitors;
