@@ -15,8 +15,9 @@ use Rattle.durable.specs.declared.error.StoreError.{StoreError}
 use Rattle.durable.specs.declared.error.StoreError.TheVariants.{Fault}
 use Rattle.durable.specs.declared.store_call.StoreCall.{StoreCall}
 use Rattle.durable.specs.declared.store_call.StoreCall.TheVariants.{Apply, Settle}
+use Rattle.durable.specs.Fresh.{IsOfLanes}
 use Rattle.durable.specs.Calls.{IsClean, MakeAll, Makes, RefusesApply, RefusesSettle, RefusesCall, ShowsAfterSome, StandsAfterSome, StoppedAt}
-use Rattle.durable.specs.Past.{Past, after_apply, after_settle}
+use Rattle.durable.specs.Past.{Past, applied, after_apply, after_settle}
 use Rattle.durable.specs.Store.{Known, HasPast, ShowsStep, StandsForStep}
 use Rattle.durable.proofs.Showing.{past_stands}
 
@@ -95,6 +96,8 @@ module _ (old mid : Known) (d0 d1 d2 : Device) (calls : List StoreCall) (n : ℕ
         within = was.within;
         then = made.0;
         made = made.1;
+        is = made.2.past;
+        of_lanes = subst (λ l. IsOfLanes l.lanes (applied made.0)) was.layout (subst (λ n. IsOfLanes n (applied made.0)) made.2.layout.lanes made.2.remembers.of_lanes);
         shows = subst (λ l. ShowsStep l s made.0 image) was.layout shown;
       }) (shows s made.0 made.2))
 

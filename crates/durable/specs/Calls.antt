@@ -15,7 +15,8 @@ use Rattle.durable.specs.declared.store_call.StoreCall.{StoreCall}
 use Rattle.durable.specs.declared.store_call.StoreCall.TheVariants.{Apply, Log, Home as HomeStep, Settle}
 use Rattle.durable.specs.Apply.{Answers}
 use Rattle.durable.specs.Begin.{IsLeastDirtyOf}
-use Rattle.durable.specs.Past.{Past, applied, after_apply, after_log, after_home, after_settle}
+use Rattle.durable.specs.Past.{Past, IsPast, applied, after_apply, after_log, after_home, after_settle}
+use Rattle.durable.specs.Fresh.{IsOfLanes}
 use Rattle.durable.specs.Remembers.{held_of}
 use Rattle.durable.specs.Store.{Known, ShowsStep, StandsForStep, HasPast}
 
@@ -104,6 +105,9 @@ pub record ShowsAfterSome (l : Layout) (s : Setting) (p : Past) (calls : List St
   pub within : n ≤ length calls
   pub then : Past
   pub made : MakeAll s p (take n calls) then
+  -- a store may have that past, and its records are of the image's lanes
+  pub is : IsPast s then
+  pub of_lanes : IsOfLanes l.lanes (applied then)
   pub shows : ShowsStep l s then image
 
 -- the image stands for the heap acknowledged then, or for that of the stable cut
