@@ -6,3 +6,4 @@ pub mod CrossingLemmas
 pub mod WalkLemmas
 pub mod SettledLemmas
 pub mod ReadingLemmas
+pub mod PuttingLemmas

@@ -6,3 +6,4 @@ pub mod Settled
 pub mod Tally
 pub mod Crossings
 pub mod Reading
+pub mod Putting

@@ -7,12 +7,14 @@
 
 mod check;
 mod crossings;
+mod device;
 mod error;
 mod first_numbers;
 mod lanes;
 mod logged_image;
 mod logs;
 mod monitors;
+mod putting;
 mod reading;
 mod replay;
 mod report;
