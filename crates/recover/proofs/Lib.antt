@@ -7,3 +7,4 @@ pub mod WalkLemmas
 pub mod SettledLemmas
 pub mod ReadingLemmas
 pub mod PuttingLemmas
+pub mod EndingLemmas

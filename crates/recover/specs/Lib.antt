@@ -7,3 +7,4 @@ pub mod Tally
 pub mod Crossings
 pub mod Reading
 pub mod Putting
+pub mod Ending

@@ -8,6 +8,7 @@
 mod check;
 mod crossings;
 mod device;
+mod ending;
 mod error;
 mod first_numbers;
 mod lanes;
