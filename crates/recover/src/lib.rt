@@ -11,6 +11,7 @@ mod device;
 mod ending;
 mod error;
 mod first_numbers;
+mod front;
 mod lanes;
 mod logged_image;
 mod logs;
@@ -18,6 +19,7 @@ mod monitors;
 mod putting;
 mod reading;
 mod replay;
+mod replayed;
 mod report;
 mod rules;
 mod settled;
@@ -25,11 +27,7 @@ mod step;
 mod study;
 mod walk;
 
-pub use check::check_logs;
 pub use error::RecoverError;
-pub use logged_image::LoggedImage;
-pub use logs::read_logs;
-pub use reading::read_image;
 pub use report::{Dropped, Report, Why};
 pub use study::Study;
 
