@@ -8,3 +8,4 @@ pub mod SettledLemmas
 pub mod ReadingLemmas
 pub mod PuttingLemmas
 pub mod EndingLemmas
+pub mod StudyLemmas

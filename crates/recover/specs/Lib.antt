@@ -8,3 +8,6 @@ pub mod Crossings
 pub mod Reading
 pub mod Putting
 pub mod Ending
+pub mod Heap
+pub mod Dropping
+pub mod Study

@@ -8,10 +8,13 @@
 mod check;
 mod crossings;
 mod device;
+mod dropping;
 mod ending;
 mod error;
+mod findings;
 mod first_numbers;
 mod front;
+mod heap;
 mod lanes;
 mod logged_image;
 mod logs;
@@ -24,12 +27,14 @@ mod report;
 mod rules;
 mod settled;
 mod step;
-mod study;
+mod studied;
+mod studying;
 mod walk;
 
 pub use error::RecoverError;
 pub use report::{Dropped, Report, Why};
-pub use study::Study;
+pub use studied::Study;
+pub use studying::study;
 
 #[cfg(test)]
 mod tests;

@@ -1,0 +1,51 @@
+-- The heap that an image stands for, by the replay of its live records: each field takes the value before its first store
+-- that isn't settled. Lists have their newest element first, but for lists of fields.
+use Rattle.std.specs.Prelude.{ℕ, ◌≡◌, ◌↔◌, ◌==◌, if◌then◌else◌, nat_le, List, [], ◌∷◌, length, map, Contains, Option, Some, None}
+use Rattle.std.specs.List.Sorted.{IsStrictlyIncreasing}
+use Rattle.heap_model.specs.Log.{lane}
+use Rattle.heap_model.specs.declared.ids.FieldId.{FieldId}
+use Rattle.heap_model.specs.declared.record.UndoRecord.{UndoRecord}
+use Rattle.heap_model.specs.declared.record.UndoRecord.TheVariants.{Acq, Rel, WaitRel, Put}
+use Rattle.undo_log.specs.OldValues.{OldValue, HasOld, IsUnsettled}
+use Rattle.recover.specs.declared.error.RecoverError.{RecoverError}
+use Rattle.recover.specs.declared.error.RecoverError.TheVariants.{Fault, NoMemory}
+
+-- the value before it, if the record is a store to the field
+abbrev pub stored : (field : ℕ) → UndoRecord → Option ℕ
+stored f (Acq o n) = None
+stored f (Rel o n) = None
+stored f (WaitRel o n) = None
+stored f (Put g before) = if g.0 == f then Some before else None
+
+-- the earlier value, or where there is none the next one
+abbrev pub earlier : Option ℕ → (next : Option ℕ) → Option ℕ
+earlier None next = next
+earlier (Some value) next = Some value
+
+-- the value before the first of these stores to the field that isn't settled, if there is one
+abbrev pub first_old : (settled : ℕ → ℕ) → (field : ℕ) → List (ℕ × UndoRecord) → Option ℕ
+first_old settled f [] = None
+first_old settled f ((l, r) ∷ older) = earlier (first_old settled f older) (if nat_le (settled l) (length (lane l older)) then stored f r else None)
+
+-- the field has this old value, or where there is none the value that it has at home
+abbrev pub IsOldOrHome : Option ℕ → (IsHome : ℕ → Type 0) → ℕ → Type 0
+IsOldOrHome None IsHome v = IsHome v
+IsOldOrHome (Some old) IsHome v = v ≡ old
+
+-- some lane has a store to the field that isn't settled
+pub record IsUndone (guard field : ℕ) (lanes : ℕ → List UndoRecord) (settled : ℕ → ℕ) : Type 0 where
+  pub lane : ℕ
+  pub store : OldValue
+  pub had : HasOld guard field (lanes lane) store
+  pub out : IsUnsettled settled lane store
+
+-- these are all such fields, each once, in rising order
+pub record AreFields (IsSuch : ℕ → Type 0) (fields : List FieldId) : Type 0 where
+  pub rising : IsStrictlyIncreasing (map (λ f. f.0) fields)
+  pub each : (f : FieldId) → Contains fields f ↔ IsSuch f.0
+
+-- finding the heap is refused for a read that fails and for want of memory, and for nothing else
+abbrev pub RefusesHeap : RecoverError → Type 0
+RefusesHeap Fault = Unit {0}
+RefusesHeap NoMemory = Unit {0}
+RefusesHeap _ = ⊥
