@@ -9,3 +9,5 @@ pub mod ReadingLemmas
 pub mod PuttingLemmas
 pub mod EndingLemmas
 pub mod StudyLemmas
+pub mod SurvivalLemmas
+pub mod RecoveryLemmas

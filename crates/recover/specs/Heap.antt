@@ -1,5 +1,6 @@
 -- The heap that an image stands for, by the replay of its live records: each field takes the value before its first store
--- that isn't settled. Lists have their newest element first, but for lists of fields.
+-- that isn't settled (undo after Atlas; the order of the stores to a field is this project's own). A list of records has its
+-- newest first.
 use Rattle.std.specs.Prelude.{ℕ, ◌≡◌, ◌↔◌, ◌==◌, if◌then◌else◌, nat_le, List, [], ◌∷◌, length, map, Contains, Option, Some, None}
 use Rattle.std.specs.List.Sorted.{IsStrictlyIncreasing}
 use Rattle.heap_model.specs.Log.{lane}

@@ -11,3 +11,4 @@ pub mod Ending
 pub mod Heap
 pub mod Dropping
 pub mod Study
+pub mod Recovery

@@ -16,6 +16,7 @@ mod first_numbers;
 mod front;
 mod heap;
 mod lanes;
+mod laws;
 mod logged_image;
 mod logs;
 mod monitors;
@@ -32,6 +33,7 @@ mod studying;
 mod walk;
 
 pub use error::RecoverError;
+pub use laws::{one_study_law, same_heap_law};
 pub use report::{Dropped, Report, Why};
 pub use studied::Study;
 pub use studying::study;
