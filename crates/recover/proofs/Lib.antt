@@ -11,3 +11,4 @@ pub mod EndingLemmas
 pub mod StudyLemmas
 pub mod SurvivalLemmas
 pub mod RecoveryLemmas
+pub mod EndedLemmas
