@@ -12,3 +12,4 @@ pub mod StudyLemmas
 pub mod SurvivalLemmas
 pub mod RecoveryLemmas
 pub mod EndedLemmas
+pub mod FinishLemmas

@@ -22,6 +22,7 @@ mod logs;
 mod monitors;
 mod putting;
 mod reading;
+mod recovering;
 mod replay;
 mod replayed;
 mod report;
