@@ -21,42 +21,6 @@ use Rattle.recover.specs.Settled.{RefusesLegal}
 use Rattle.recover.specs.Reading.{HasLayout, RefusesLayout, RefusesRows, RefusesControl, HasFront, HasControl, RefusesFront, RefusesLive, RefusesImage}
 use Rattle.recover.proofs.LogLemmas.{records_past}
 
-pub refused_layout : (image : List ℕ) (e : RecoverError) → RefusesLayout image e → RefusesFront image e
-refused_layout image Fault h = h
-refused_layout image NotFormatted h = h
-refused_layout image BadHeader h = inl h
-refused_layout image TooSmall h = h
-refused_layout image NoControl h = absurd h
-refused_layout image BadControl h = absurd h
-refused_layout image Worn h = h
-refused_layout image (BadRecord lane place) h = absurd h
-refused_layout image (IllegalLog lane place) h = absurd h
-refused_layout image NoMemory h = absurd h
-
-pub refused_rows : (image : List ℕ) (l : Layout) (e : RecoverError) → HasLayout image l → RefusesRows l image e → RefusesFront image e
-refused_rows image l Fault has h = tt
-refused_rows image l NotFormatted has h = absurd h
-refused_rows image l BadHeader has h = inr (l, has, h)
-refused_rows image l TooSmall has h = absurd h
-refused_rows image l NoControl has h = absurd h
-refused_rows image l BadControl has h = absurd h
-refused_rows image l Worn has h = absurd h
-refused_rows image l (BadRecord lane place) has h = absurd h
-refused_rows image l (IllegalLog lane place) has h = absurd h
-refused_rows image l NoMemory has h = tt
-
-pub refused_control : (image : List ℕ) (l : Layout) (guards : List GuardRow) (e : RecoverError) → HasFront image l guards → RefusesControl l image e → RefusesFront image e
-refused_control image l guards Fault has h = tt
-refused_control image l guards NotFormatted has h = absurd h
-refused_control image l guards BadHeader has h = absurd h
-refused_control image l guards TooSmall has h = absurd h
-refused_control image l guards NoControl has h = (l, guards, has, h)
-refused_control image l guards BadControl has h = (l, guards, has, h)
-refused_control image l guards Worn has h = absurd h
-refused_control image l guards (BadRecord lane place) has h = absurd h
-refused_control image l guards (IllegalLog lane place) has h = absurd h
-refused_control image l guards NoMemory has h = absurd h
-
 pub refused_logs : (image : List ℕ) (l : Layout) (guards : List GuardRow) (c : Control) (e : RecoverError) → RefusesLogs l image c.rows e → RefusesLive image l guards c e
 refused_logs image l guards c Fault h = tt
 refused_logs image l guards c NotFormatted h = h
@@ -82,19 +46,7 @@ refused_legal image l guards c logs (BadRecord lane place) are h = absurd h
 refused_legal image l guards c logs (IllegalLog lane place) are h = (logs, are, h)
 refused_legal image l guards c logs NoMemory are h = tt
 
--- what refuses a part refuses the image
-pub refused_front : (image : List ℕ) (e : RecoverError) → RefusesFront image e → RefusesImage image e
-refused_front image Fault h = tt
-refused_front image NotFormatted h = h
-refused_front image BadHeader h = h
-refused_front image TooSmall h = h
-refused_front image NoControl h = h
-refused_front image BadControl h = h
-refused_front image Worn h = h
-refused_front image (BadRecord lane place) h = absurd h
-refused_front image (IllegalLog lane place) h = absurd h
-refused_front image NoMemory h = tt
-
+-- what refuses the live records refuses the image
 pub refused_live : (image : List ℕ) (l : Layout) (guards : List GuardRow) (s : Slot) (c : Control) (e : RecoverError) → HasControl image l guards s c → RefusesLive image l guards c e → RefusesImage image e
 refused_live image l guards s c Fault has h = tt
 refused_live image l guards s c NotFormatted has h = absurd h

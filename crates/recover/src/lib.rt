@@ -35,6 +35,7 @@ mod walk;
 
 pub use error::RecoverError;
 pub use laws::{one_study_law, same_heap_law};
+pub use recovering::recover;
 pub use report::{Dropped, Report, Why};
 pub use studied::Study;
 pub use studying::study;

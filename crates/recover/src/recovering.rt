@@ -1,5 +1,5 @@
 //! Recovering an image: old values are put back, and then nothing counts of what was logged.
-ghost use Rattle.std.specs.Prelude.{◌≡◌, ◌⊎◌, ◌+◌, ◌-◌, ◌<◌, ◌≤◌, ◌^◌, [], IfErr, IfOk, MatchResult, OnOk};
+ghost use Rattle.std.specs.Prelude.{◌≡◌, ◌⊎◌, ◌+◌, ◌-◌, ◌<◌, ◌≤◌, ◌^◌, [], IfErr, IfOk, MatchResult, OnErr, OnOk};
 ghost use Rattle.block_disk.specs.Device.{HasCause, HasFailed, SameMoments, synced};
 ghost use Rattle.block_disk.specs.Images.{LeavesOnly};
 ghost use Rattle.image.specs.Calls.{after};
@@ -25,7 +25,66 @@ use block_disk::Disk;
 use image::Recovered;
 use std::alloc::Global;
 
-/// Finds out about the image on the device whether it can be recovered, and what that takes.
+/// Recovers the image on the device, of which nothing has to be known: puts the old values back, and then commits a
+/// control with empty logs and the next sequence. It gives the recovered device, and what was kept and dropped.
+///
+/// The calls that change the device are a sync; a write of the home cell of each field that takes an old value back, by
+/// number; a sync; and a commit. Once the first sync was answered, whatever a crash leaves stands for the same heap, so
+/// that another recovery gives it again, and the same report until the new control shows.
+///
+/// Refusals, in this order, each with the device (docs/FORMAT.md, "Which image is refused"); but for the last nothing
+/// was done but the first sync:
+/// - `NotFormatted`, `BadHeader`, `TooSmall`, `NoControl`, `BadControl`: as of [`study`](crate::study);
+/// - `Worn`: the control's sequence is at its last value, 2^64 - 1, so that no other can be committed;
+/// - `BadRecord`, `IllegalLog`: as of [`study`](crate::study);
+/// - `NoMemory`: there was no room for what is read or found;
+/// - `Fault`: a call of the device failed. The image may be recovered again.
+pub fn recover<D: Disk>(alloc: Global, disk: D) -> Result<(Recovered<D>, Report), (D, RecoverError)>
+    ensures ok { IfOk result (λ r. IsRecovery (D.device disk) (D.device r.0.disk) r.0 r.1) }
+    ensures any_moment { IfOk result (λ r. (s : Shape) → IsStudyOf (D.device disk).now.bytes s → LeavesOnly (synced (D.device disk)) (D.device r.0.disk) (IsOnTheWay s)) }
+    ensures refused { IfErr result (λ back. RefusesRecovery (D.device disk).now.bytes back.1) }
+    ensures untouched { IfErr result (λ back. (back.1 ≡ Fault) ⊎ SameMoments (synced (D.device disk)) (D.device back.0)) }
+    ensures interrupted { IfErr result (λ back. (s : Shape) → IsStudyOf (D.device disk).now.bytes s → LeavesOnTheWay s (D.device disk) (D.device back.0)) }
+    ensures cause { IfErr result (λ back. back.1 ≡ Fault → HasFailed (D.device disk).failures (D.device back.0).failures) }
+{
+    let mut disk = disk;
+    match recover_in_place(alloc, &mut disk) {
+        Ok(study) => {
+            let sequence = study.control.sequence + 1;
+            let recovered = Recovered::of(
+                disk,
+                study.layout,
+                study.guards,
+                study.slot.other(),
+                sequence,
+                study.heap,
+            );
+            Ok((recovered, study.report))
+        }
+        Err(error) => Err((disk, error)),
+    }
+}
+
+// Recovers the image, and gives the study of it as it was before.
+fn recover_in_place<D: Disk>(alloc: Global, disk: &mut D) -> Result<Study, RecoverError>
+    ensures ok { IfOk result (λ s. IsStudyOf (D.device disk.old).now.bytes s) }
+    ensures recovered { IfOk result (λ s. IsRecovered (D.device disk.new) s.layout s.guards.items (other s.slot) (s.control.sequence + 1) s.heap.items) }
+    ensures not_worn { IfOk result (λ s. s.control.sequence < 2 ^ 64 - 1) }
+    ensures made { IfOk result (λ s. IsMadeBy s (D.device disk.old) (D.device disk.new)) }
+    ensures any_moment { OnOk result ((s : Shape) → IsStudyOf (D.device disk.old).now.bytes s → LeavesOnly (synced (D.device disk.old)) (D.device disk.new) (IsOnTheWay s)) }
+    ensures refused { IfErr result (RefusesRecovery (D.device disk.old).now.bytes) }
+    ensures untouched { IfErr result (λ e. (e ≡ Fault) ⊎ SameMoments (synced (D.device disk.old)) (D.device disk.new)) }
+    ensures interrupted { OnErr result ((s : Shape) → IsStudyOf (D.device disk.old).now.bytes s → LeavesOnTheWay s (D.device disk.old) (D.device disk.new)) }
+    ensures cause { HasCause (D.device disk.old).failures (D.device disk.new).failures Fault result }
+{
+    // What is read has to be what another crash would leave.
+    sync(disk)?;
+    let found = find_recoverable(alloc, disk)?;
+    finish(disk, &found)?;
+    Ok(found.study)
+}
+
+// Finds out whether the image can be recovered, and what that takes.
 fn find_recoverable<D: Disk>(alloc: Global, disk: &mut D) -> Result<Findings, RecoverError>
     ensures exact { MatchResult result (λ found. IsStudyOf (D.device disk.old).now.bytes found.study) (RefusesRecovery (D.device disk.old).now.bytes) }
     ensures undone { IfOk result (λ found. AreUndone found.study.layout found.study.guards.items found.study.control.rows (lanes_of found.study.records.items) found.undone.items) }

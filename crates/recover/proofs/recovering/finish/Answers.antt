@@ -26,9 +26,12 @@ pub end_recovery-requires-clause-shows : goal.end_recovery-requires-clause-shows
 end_recovery-requires-clause-shows g c =
     let s = c.args.found.now.study in
     let old = g.D.Disk.device c.args.disk.now in
-    let mid = g.D.Disk.device c.put_back.new.disk in
-    (s.control, refl, put_shows s c.args.found.now.undone.items c.requires.undone old mid c.requires.durable c.requires.study
-    (subst (λ (fs : List FieldId). LeavesOnly old mid (ImageBut old (cell_ranges s.layout fs))) c.deref-2.ensures.value c.put_back.ensures.any_moment))
+    let mid = g.D.Disk.device c.put_back.new.disk in (
+      s.control,
+      refl,
+      put_shows s c.args.found.now.undone.items c.requires.undone old mid c.requires.durable c.requires.study
+          (subst (λ (fs : List FieldId). LeavesOnly old mid (ImageBut old (cell_ranges s.layout fs))) c.deref-2.ensures.value c.put_back.ensures.any_moment),
+    )
 
 pub returns-in_err-end_recovery-clause-any_moment : goal.returns-in_err-end_recovery-clause-any_moment
 returns-in_err-end_recovery-clause-any_moment g c =
