@@ -13,3 +13,4 @@ pub mod SurvivalLemmas
 pub mod RecoveryLemmas
 pub mod EndedLemmas
 pub mod FinishLemmas
+pub mod HeapLemmas

@@ -122,7 +122,7 @@ least_without settled done l r (Some p) not_one before = record {
   least = λ m j h. elim h [ inl top ↦ absurd (not_one top.2) | inr rest ↦ before.least m j rest ];
 }
 
-places_more : (places : List ℕ) (done : List (ℕ × UndoRecord)) (l m : ℕ) (r : UndoRecord) → length places ≡ 32 → l < 32 → ((k : ℕ) → slice_index places k ≡ length (lane k done)) →
+pub places_more : (places : List ℕ) (done : List (ℕ × UndoRecord)) (l m : ℕ) (r : UndoRecord) → length places ≡ 32 → l < 32 → ((k : ℕ) → slice_index places k ≡ length (lane k done)) →
     slice_index (slice_set places l (slice_index places l + 1)) m ≡ length (lane m ((l, r) ∷ done))
 places_more places done l m r long low is = elim (eqb_tells l m) [
   | inl e ↦ subst (λ (t : Bool). slice_index (slice_set places l (slice_index places l + 1)) m ≡ length (if t then r ∷ lane m done else lane m done)) (sym e.0)

@@ -32,7 +32,7 @@ pub struct OldHeap {
 /// guard rows and these rows of its control.
 ///
 /// `NoMemory` comes where there is no room for the values or the fields, and `Fault` where a read fails; the device is
-/// left as it was. Each step is looked at once, and each field twice.
+/// left as it was. The time is linear in the steps and the fields; each field without an old value costs one read.
 pub fn old_heap<D: Disk>(
     alloc: Global,
     disk: &mut D,
@@ -52,5 +52,132 @@ pub fn old_heap<D: Disk>(
     ensures same { SameMoments (D.device disk.old) (D.device disk.new) }
     ensures cause { HasCause (D.device disk.old).failures (D.device disk.new).failures Fault result }
 {
-    Err(RecoverError::NoMemory)
+    let before = old_values(alloc, layout.fields, rows, steps)?;
+    let undone = fields_with(alloc, &before)?;
+    let heap = values(alloc, disk, layout, &before)?;
+    Ok(OldHeap { heap, undone })
+}
+
+// By field: the value before its first store that isn't settled, if it has one.
+fn old_values(
+    alloc: Global,
+    fields: u32,
+    rows: &[LaneRow; 32],
+    steps: &[Step],
+) -> Result<Vec<Option<u64>>, RecoverError>
+    requires low { All IsLow steps.now }
+    ensures size { IfOk result (λ before. length before.items ≡ fields) }
+    ensures each { IfOk result (λ before. (f : ℕ) → f < fields → slice_index_or before.items f None ≡ first_old (settled_of rows.now) f (log_of steps.now)) }
+    ensures only_memory { IfErr result (λ e. e ≡ NoMemory) }
+{
+    let mut before = no_values(alloc, fields)?;
+    let mut places = [0; 32];
+    for step in steps {
+        let row = rows[usize::from(step.lane.0)];
+        let is_settled = count_next(&mut places, row, step.lane);
+        keep_first(&mut before, step.entry, is_settled);
+    }
+    Ok(before)
+}
+
+// No value, for each of so many fields.
+fn no_values(alloc: Global, fields: u32) -> Result<Vec<Option<u64>>, RecoverError>
+    ensures size { IfOk result (λ before. length before.items ≡ fields) }
+    ensures none { IfOk result (λ before. (f : ℕ) → slice_index_or before.items f None ≡ None) }
+    ensures only_memory { IfErr result (λ e. e ≡ NoMemory) }
+{
+    match vec![in alloc; None; fields as usize] {
+        Ok(before) => Ok(before),
+        Err(_) => Err(RecoverError::NoMemory),
+    }
+}
+
+// Counts the lane's next record, and tells whether it is settled.
+fn count_next(places: &mut [usize; 32], row: LaneRow, lane: Lane) -> bool
+    requires lane { lane.0 < 32 }
+    requires fits { slice_index places.old lane.0 + 1 < 2 ^ 64 }
+    ensures counted { places.new ≡ slice_set places.old lane.0 (slice_index places.old lane.0 + 1) }
+    ensures settled { result ≡ nat_lt (slice_index places.old lane.0) (row.settled - row.start) }
+{
+    let place = places[usize::from(lane.0)];
+    places[usize::from(lane.0)] = place + 1;
+    (place as u64) < row.settled.saturating_sub(row.start)
+}
+
+// Keeps the value before the store, if it isn't settled and no earlier one is kept for its field.
+fn keep_first(values: &mut [Option<u64>], entry: UndoRecord, is_settled: bool)
+    ensures size { length values.new ≡ length values.old }
+    ensures each { (f : ℕ) → f < length values.old → slice_index_or values.new f None ≡ earlier (slice_index_or values.old f None) (if is_settled then None else stored f entry) }
+{
+    if let UndoRecord::Put { field, before } = entry {
+        let at = field.0 as usize;
+        if !is_settled && at < values.len() && values[at].is_none() {
+            values[at] = Some(before);
+        }
+    }
+}
+
+// The fields with an old value, in rising order.
+fn fields_with(alloc: Global, before: &[Option<u64>]) -> Result<Vec<FieldId>, RecoverError>
+    requires { length before.now < 2 ^ 32 }
+    ensures ok { IfOk result (λ fields. AreFields (λ f. (f < length before.now) × (slice_index_or before.now f None ≢ None)) fields.items) }
+    ensures only_memory { IfErr result (λ e. e ≡ NoMemory) }
+{
+    let mut fields = Vec::new(alloc);
+    for field in 0..before.len() as u32 {
+        if before[field as usize].is_some() {
+            let Ok(()) = fields.push(FieldId(field)) else {
+                return Err(RecoverError::NoMemory);
+            };
+        }
+    }
+    Ok(fields)
+}
+
+// The fields' values: the old ones, and where there is none those of the home cells.
+fn values<D: Disk>(
+    alloc: Global,
+    disk: &mut D,
+    layout: &Layout,
+    before: &[Option<u64>],
+) -> Result<Vec<u64>, RecoverError>
+    requires fits { size_of layout.now ≤ length (D.device disk.old).now.bytes }
+    requires fields { length before.now ≡ layout.now.fields }
+    ensures size { IfOk result (λ heap. length heap.items ≡ layout.now.fields) }
+    ensures each { IfOk result (λ heap. (f : ℕ) → f < layout.now.fields → IsOldOrHome (slice_index_or before.now f None) (HasCell layout.now f (D.device disk.old).now.bytes) (slice_index heap.items f)) }
+    ensures no_other { IfErr result RefusesHeap }
+    ensures same { SameMoments (D.device disk.old) (D.device disk.new) }
+    ensures cause { HasCause (D.device disk.old).failures (D.device disk.new).failures Fault result }
+{
+    let Ok(mut heap) = Vec::with_capacity(alloc, before.len()) else {
+        return Err(RecoverError::NoMemory);
+    };
+    for field in 0..layout.fields {
+        let value = value_of(disk, layout, FieldId(field), before[field as usize])?;
+        heap.push_reserved(value);
+    }
+    Ok(heap)
+}
+
+// The field's value: the old one, or where there is none that of its home cell.
+fn value_of<D: Disk>(
+    disk: &mut D,
+    layout: &Layout,
+    field: FieldId,
+    old: Option<u64>,
+) -> Result<u64, RecoverError>
+    requires fits { size_of layout.now ≤ length (D.device disk.old).now.bytes }
+    requires field { field.0 < layout.now.fields }
+    ensures ok { IfOk result (IsOldOrHome old (HasCell layout.now field.0 (D.device disk.old).now.bytes)) }
+    ensures only_fault { IfErr result (λ e. e ≡ Fault) }
+    ensures same { SameMoments (D.device disk.old) (D.device disk.new) }
+    ensures cause { HasCause (D.device disk.old).failures (D.device disk.new).failures Fault result }
+{
+    if let Some(old) = old {
+        return Ok(old);
+    }
+    match get_cell(disk, layout, field) {
+        Ok(value) => Ok(value),
+        Err(_) => Err(RecoverError::Fault),
+    }
 }
