@@ -14,3 +14,7 @@ pub mod RecoveryLemmas
 pub mod EndedLemmas
 pub mod FinishLemmas
 pub mod HeapLemmas
+pub mod PushingLemmas
+pub mod DroppingLemmas
+pub mod LiveLemmas
+pub mod StepLemmas

@@ -1,6 +1,6 @@
 -- Which sections recovery drops, and why (this project's own; dependence after Atlas). A lane's live sections are numbered
 -- from 1, as its live records count them; a report numbers them since the heap was opened.
-use Rattle.std.specs.Prelude.{ℕ, zero, suc, ◌≡◌, ◌+◌, ◌-◌, ◌<◌, ◌≤◌, ◌==◌, if◌then◌else◌, List, [], ◌∷◌, ◌++◌, length, map}
+use Rattle.std.specs.Prelude.{ℕ, zero, suc, ◌≡◌, ◌+◌, ◌-◌, ◌<◌, ◌==◌, if◌then◌else◌, List, [], ◌∷◌, ◌++◌, length, map}
 use Rattle.heap_model.specs.declared.ids.Lane.{Lane}
 use Rattle.heap_model.specs.declared.record.UndoRecord.{UndoRecord}
 use Rattle.heap_model.specs.Log.{lane}

@@ -12,3 +12,4 @@ pub mod Heap
 pub mod Dropping
 pub mod Study
 pub mod Recovery
+pub mod Live

@@ -10,12 +10,17 @@ ghost use Rattle.recover.specs.Replay.{Replays};
 ghost use Rattle.recover.specs.Settled.{AreLegal};
 ghost use Rattle.recover.specs.Tables.{log_of};
 ghost use Rattle.recover.specs.Dropping.{AreDropped, IsWhy, IsEntryOf, sections_after};
+ghost use Rattle.recover.specs.Live.{IsReady, AreReported, live_at, trimmed_at};
 ghost use Rattle.recover.specs.declared.error.RecoverError.TheVariants.{NoMemory};
 
 use crate::error::RecoverError;
-use crate::report::Dropped;
+use crate::graph_of::graph_of;
+use crate::live_counts::live_counts;
+use crate::live_sections::LiveSections;
+use crate::report::{Dropped, Why};
 use crate::step::Step;
-use heap_model::UndoRecord;
+use dependence::Graph;
+use heap_model::{Lane, UndoRecord};
 use image::{GuardRow, LaneRow, Layout};
 use std::alloc::Global;
 
@@ -27,7 +32,7 @@ use std::alloc::Global;
 /// numbered since the heap was opened: a lane's first live one comes after those of its `kept` ones that aren't live.
 ///
 /// `NoMemory` comes where there is no room for the graph of the sections or for the list. The time is linear in the
-/// records.
+/// records, for each of which the lanes are looked through at most once, and in one more pass over them for each lane.
 pub fn dropped_sections(
     alloc: Global,
     layout: &Layout,
@@ -44,5 +49,76 @@ pub fn dropped_sections(
     requires legal { AreLegal (guard_in guards.now) rows.now (lanes_of logs.now) }
     ensures exact { MatchResult result (λ dropped. AreDropped rows.now (lanes_of logs.now) (log_of steps.now) layout.now.lanes dropped.items) (λ e. e ≡ NoMemory) }
 {
-    Err(RecoverError::NoMemory)
+    let mut graph = graph_of(alloc, layout.lanes, steps)?;
+    let counts = live_counts(rows, logs);
+    let mut dropped = Vec::new(alloc);
+    for lane in 0..layout.lanes {
+        drop_lane(&mut dropped, &mut graph, &counts, Lane(lane))?;
+    }
+    Ok(dropped)
+}
+
+// Adds the lane's live sections that aren't settled.
+fn drop_lane(
+    dropped: &mut Vec<Dropped>,
+    graph: &mut Graph,
+    counts: &[LiveSections; 32],
+    lane: Lane,
+) -> Result<(), RecoverError>
+    requires lane { lane.0 < 32 }
+    requires ready { IsReady counts.now graph.old }
+    requires order { (live_at counts.now lane.0).settled ≤ (live_at counts.now lane.0).live }
+    requires few { (live_at counts.now lane.0).live ≤ (live_at counts.now lane.0).whole + 1 }
+    ensures added { IfOk result (λ _. (before : List Section) → AreReported counts.now graph.old before dropped.old.items →
+        AreReported counts.now graph.old (before ++ sections_after lane.0 (live_at counts.now lane.0).settled ((live_at counts.now lane.0).live - (live_at counts.now lane.0).settled)) dropped.new.items) }
+    ensures no_other { IfErr result (λ e. e ≡ NoMemory) }
+    ensures same { graph.new ≡ graph.old }
+{
+    let sections = counts[usize::from(lane.0)];
+    for before in sections.settled..sections.live {
+        let next = dropped_section(graph, counts, lane, before + 1);
+        let Ok(()) = dropped.push(next) else {
+            return Err(RecoverError::NoMemory);
+        };
+    }
+    Ok(())
+}
+
+// What the report says of the lane's live section.
+fn dropped_section(
+    graph: &mut Graph,
+    counts: &[LiveSections; 32],
+    lane: Lane,
+    section: u64,
+) -> Dropped
+    requires lane { lane.0 < 32 }
+    requires ready { IsReady counts.now graph.old }
+    requires few { section ≤ (live_at counts.now lane.0).whole + 1 }
+    ensures entry { (cut : ℕ → ℕ) → IsStable graph.old.log cut → IsEntryOf (trimmed_at counts.now) graph.old.log cut (record { lane = lane.0; number = section }) result }
+    ensures same { graph.new ≡ graph.old }
+{
+    Dropped {
+        lane,
+        section: counts[usize::from(lane.0)].trimmed + section,
+        why: why_dropped(graph, counts, lane, section),
+    }
+}
+
+// Why the lane's live section, which isn't settled, is dropped.
+fn why_dropped(graph: &mut Graph, counts: &[LiveSections; 32], lane: Lane, section: u64) -> Why
+    requires lane { lane.0 < 32 }
+    requires ready { IsReady counts.now graph.old }
+    ensures why { (cut : ℕ → ℕ) → IsStable graph.old.log cut → IsWhy (trimmed_at counts.now) graph.old.log cut (record { lane = lane.0; number = section }) result }
+    ensures same { graph.new ≡ graph.old }
+{
+    if section > counts[usize::from(lane.0)].whole {
+        return Why::Unfinished;
+    }
+    match graph.reason(lane, section) {
+        Some(first) => Why::After {
+            lane: first.lane,
+            section: counts[usize::from(first.lane.0)].trimmed + first.section,
+        },
+        None => Why::Unsettled,
+    }
 }

@@ -1,8 +1,9 @@
-//! Recovery: what an image holds after a crash, whatever its bytes are.
+//! Recovery: what an image stands for after a crash, whatever its bytes are, and how it is made so.
 //!
-//! [`read_image`] reads an image of which nothing is known, and refuses it by the first thing that is wrong with it:
-//! header, guard rows, control, records, or logs that no threads can have left. It is made of [`read_logs`], which reads
-//! the lanes' live records, and [`check_logs`], which replays them. All only read the device.
+//! [`study`] reads an image of which nothing is known, and refuses it by the first thing that is wrong with it: header,
+//! guard rows, control, records, or logs that no threads can have left. Else it tells what the image holds, the heap that
+//! it stands for, and which sections are kept and dropped. [`recover`] puts that heap into the home cells and empties the
+//! logs; a crash at any moment of it leaves an image that stands for the same heap.
 #![tactic(auto)]
 
 mod check;
@@ -14,9 +15,12 @@ mod error;
 mod findings;
 mod first_numbers;
 mod front;
+mod graph_of;
 mod heap;
 mod lanes;
 mod laws;
+mod live_counts;
+mod live_sections;
 mod logged_image;
 mod logs;
 mod monitors;

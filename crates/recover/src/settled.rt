@@ -60,8 +60,8 @@ fn rests_after(records: &[UndoRecord], settled: usize, kept: u64) -> bool
     held == 0 && whole <= kept
 }
 
-// How many objects the lane holds after these records, and how many sections ended in them.
-fn tally(records: &[UndoRecord]) -> (usize, u64)
+/// How many objects the lane holds after these records, and how many sections ended in them.
+pub fn tally(records: &[UndoRecord]) -> (usize, u64)
     requires held { FreesHeld (acts_of records.now) }
     ensures held { result.0 ≡ length (holding (acts_of records.now)) }
     ensures ended { result.1 ≡ ended (acts_of records.now) }

@@ -1,0 +1,79 @@
+//! The dropped sections of images with hand-made logs. The reasons and numbers follow from the rules at `Dropped` and `Why`.
+use super::{acq, image_with, rel, row, store};
+use crate::dropping::dropped_sections;
+use crate::replay::replay;
+use crate::{Dropped, Why, read_image};
+use block_disk::MemDisk;
+use heap_model::{Lane, UndoRecord};
+use std::alloc::Global;
+use std::test::Fail;
+
+// The dropped sections of the image; none where it is refused or memory is wanting.
+fn dropped_in(alloc: Global, disk: &mut MemDisk) -> Option<Vec<Dropped>> {
+    let Ok(found) = read_image(alloc, disk) else {
+        return None;
+    };
+    let rows = &found.control.rows;
+    let Ok(steps) = replay(alloc, &found.guards, rows, &found.records) else {
+        return None;
+    };
+    dropped_sections(
+        alloc,
+        &found.layout,
+        &found.guards,
+        rows,
+        &found.records,
+        &steps,
+    )
+    .ok()
+}
+
+fn dropped(lane: u8, section: u64, why: Why) -> Dropped {
+    Dropped {
+        lane: Lane(lane),
+        section,
+        why,
+    }
+}
+
+fn after(lane: u8, section: u64) -> Why {
+    Why::After {
+        lane: Lane(lane),
+        section,
+    }
+}
+
+// Two sections of the first lane come before its live ones, and one of the second lane.
+#[test]
+fn each_section_has_its_reason(rt: HostRuntime) -> Result<(), Fail> {
+    let first = [
+        acq(0, 5),
+        store(0),
+        rel(0, 5),
+        acq(3, 0),
+        rel(3, 0),
+        acq(0, 7),
+        rel(0, 7),
+        acq(2, 0),
+        rel(2, 0),
+    ];
+    let second = [
+        acq(1, 3),
+        rel(1, 3),
+        acq(0, 6),
+        acq(1, 4),
+        rel(0, 6),
+        store(1),
+    ];
+    let rows = [row(3, 9, 3), row(2, 6, 2)];
+    let mut disk = image_with(rt.alloc(), rows, &first, &second)?;
+    let wanted = [
+        dropped(0, 4, Why::Unsettled),
+        dropped(0, 5, after(1, 3)),
+        dropped(0, 6, after(0, 5)),
+        dropped(1, 3, Why::Unfinished),
+    ];
+    let found = dropped_in(rt.alloc(), &mut disk).ok_or("no list")?;
+    assert_eq!(rt; found.as_slice(), wanted.as_slice());
+    Ok(())
+}
