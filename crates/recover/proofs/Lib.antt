@@ -11,6 +11,13 @@ pub mod Blank
 pub mod Unstuck
 pub mod Rests
 pub mod Accepts
+pub mod PuttingLemmas
+pub mod EndingLemmas
+pub mod StudyLemmas
+pub mod SurvivalLemmas
+pub mod RecoveryLemmas
+pub mod EndedLemmas
+pub mod FinishLemmas
 pub mod HeapLemmas
 pub mod PushingLemmas
 pub mod DroppingLemmas

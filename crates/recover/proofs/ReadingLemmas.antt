@@ -18,69 +18,46 @@ use Rattle.recover.specs.declared.error.RecoverError.{RecoverError}
 use Rattle.recover.specs.declared.error.RecoverError.TheVariants.{Fault, NotFormatted, BadHeader, TooSmall, NoControl, BadControl, Worn, BadRecord, IllegalLog, NoMemory}
 use Rattle.recover.specs.Logs.{records_of, lanes_of, AreLogs, AreLoggable, AreGuards, RefusesLogs}
 use Rattle.recover.specs.Settled.{RefusesLegal}
-use Rattle.recover.specs.Reading.{HasLayout, RefusesLayout, RefusesRows, RefusesControl, HasFront, HasControl, RefusesImage}
+use Rattle.recover.specs.Reading.{HasLayout, RefusesLayout, RefusesRows, RefusesControl, HasFront, HasControl, RefusesFront, RefusesLive, RefusesImage}
 use Rattle.recover.proofs.LogLemmas.{records_past}
 
-pub refused_layout : (image : List ℕ) (e : RecoverError) → RefusesLayout image e → RefusesImage image e
-refused_layout image Fault h = h
-refused_layout image NotFormatted h = h
-refused_layout image BadHeader h = inl h
-refused_layout image TooSmall h = h
-refused_layout image NoControl h = absurd h
-refused_layout image BadControl h = absurd h
-refused_layout image Worn h = h
-refused_layout image (BadRecord lane place) h = absurd h
-refused_layout image (IllegalLog lane place) h = absurd h
-refused_layout image NoMemory h = absurd h
+pub refused_logs : (image : List ℕ) (l : Layout) (guards : List GuardRow) (c : Control) (e : RecoverError) → RefusesLogs l image c.rows e → RefusesLive image l guards c e
+refused_logs image l guards c Fault h = tt
+refused_logs image l guards c NotFormatted h = h
+refused_logs image l guards c BadHeader h = h
+refused_logs image l guards c TooSmall h = h
+refused_logs image l guards c NoControl h = h
+refused_logs image l guards c BadControl h = h
+refused_logs image l guards c Worn h = h
+refused_logs image l guards c (BadRecord lane place) h = h
+refused_logs image l guards c (IllegalLog lane place) h = absurd h
+refused_logs image l guards c NoMemory h = tt
 
-pub refused_rows : (image : List ℕ) (l : Layout) (e : RecoverError) → HasLayout image l → RefusesRows l image e → RefusesImage image e
-refused_rows image l Fault has h = tt
-refused_rows image l NotFormatted has h = absurd h
-refused_rows image l BadHeader has h = inr (l, has, h)
-refused_rows image l TooSmall has h = absurd h
-refused_rows image l NoControl has h = absurd h
-refused_rows image l BadControl has h = absurd h
-refused_rows image l Worn has h = absurd h
-refused_rows image l (BadRecord lane place) has h = absurd h
-refused_rows image l (IllegalLog lane place) has h = absurd h
-refused_rows image l NoMemory has h = tt
+pub refused_legal : (image : List ℕ) (l : Layout) (guards : List GuardRow) (c : Control) (logs : List (Vec UndoRecord Global)) (e : RecoverError) → AreLogs l image c.rows logs →
+    RefusesLegal (guard_in guards) c.rows (lanes_of logs) e → RefusesLive image l guards c e
+refused_legal image l guards c logs Fault are h = tt
+refused_legal image l guards c logs NotFormatted are h = h
+refused_legal image l guards c logs BadHeader are h = h
+refused_legal image l guards c logs TooSmall are h = h
+refused_legal image l guards c logs NoControl are h = h
+refused_legal image l guards c logs BadControl are h = h
+refused_legal image l guards c logs Worn are h = h
+refused_legal image l guards c logs (BadRecord lane place) are h = absurd h
+refused_legal image l guards c logs (IllegalLog lane place) are h = (logs, are, h)
+refused_legal image l guards c logs NoMemory are h = tt
 
-pub refused_control : (image : List ℕ) (l : Layout) (guards : List GuardRow) (e : RecoverError) → HasFront image l guards → RefusesControl l image e → RefusesImage image e
-refused_control image l guards Fault has h = tt
-refused_control image l guards NotFormatted has h = absurd h
-refused_control image l guards BadHeader has h = absurd h
-refused_control image l guards TooSmall has h = absurd h
-refused_control image l guards NoControl has h = (l, guards, has, h)
-refused_control image l guards BadControl has h = (l, guards, has, h)
-refused_control image l guards Worn has h = absurd h
-refused_control image l guards (BadRecord lane place) has h = absurd h
-refused_control image l guards (IllegalLog lane place) has h = absurd h
-refused_control image l guards NoMemory has h = absurd h
-
-pub refused_logs : (image : List ℕ) (l : Layout) (guards : List GuardRow) (s : Slot) (c : Control) (e : RecoverError) → HasControl image l guards s c → RefusesLogs l image c.rows e → RefusesImage image e
-refused_logs image l guards s c Fault has h = tt
-refused_logs image l guards s c NotFormatted has h = absurd h
-refused_logs image l guards s c BadHeader has h = absurd h
-refused_logs image l guards s c TooSmall has h = absurd h
-refused_logs image l guards s c NoControl has h = absurd h
-refused_logs image l guards s c BadControl has h = absurd h
-refused_logs image l guards s c Worn has h = absurd h
-refused_logs image l guards s c (BadRecord lane place) has h = (l, guards, s, c, has, h)
-refused_logs image l guards s c (IllegalLog lane place) has h = absurd h
-refused_logs image l guards s c NoMemory has h = tt
-
-pub refused_legal : (image : List ℕ) (l : Layout) (guards : List GuardRow) (s : Slot) (c : Control) (logs : List (Vec UndoRecord Global)) (e : RecoverError) → HasControl image l guards s c → AreLogs l image c.rows logs →
-    RefusesLegal (guard_in guards) c.rows (lanes_of logs) e → RefusesImage image e
-refused_legal image l guards s c logs Fault has are h = absurd h
-refused_legal image l guards s c logs NotFormatted has are h = absurd h
-refused_legal image l guards s c logs BadHeader has are h = absurd h
-refused_legal image l guards s c logs TooSmall has are h = absurd h
-refused_legal image l guards s c logs NoControl has are h = absurd h
-refused_legal image l guards s c logs BadControl has are h = absurd h
-refused_legal image l guards s c logs Worn has are h = absurd h
-refused_legal image l guards s c logs (BadRecord lane place) has are h = absurd h
-refused_legal image l guards s c logs (IllegalLog lane place) has are h = (l, guards, s, c, logs, has, are, h)
-refused_legal image l guards s c logs NoMemory has are h = tt
+-- what refuses the live records refuses the image
+pub refused_live : (image : List ℕ) (l : Layout) (guards : List GuardRow) (s : Slot) (c : Control) (e : RecoverError) → HasControl image l guards s c → RefusesLive image l guards c e → RefusesImage image e
+refused_live image l guards s c Fault has h = tt
+refused_live image l guards s c NotFormatted has h = absurd h
+refused_live image l guards s c BadHeader has h = absurd h
+refused_live image l guards s c TooSmall has h = absurd h
+refused_live image l guards s c NoControl has h = absurd h
+refused_live image l guards s c BadControl has h = absurd h
+refused_live image l guards s c Worn has h = h
+refused_live image l guards s c (BadRecord lane place) has h = (l, guards, s, c, has, h)
+refused_live image l guards s c (IllegalLog lane place) has h = (l, guards, s, c, has, h)
+refused_live image l guards s c NoMemory has h = tt
 
 -- the records that an image has are such that it may have
 has_loggable : (l : Layout) (lane from : ℕ) (image : List ℕ) (records : List UndoRecord) → HasRecords l lane from image records → All (IsLoggable l) records

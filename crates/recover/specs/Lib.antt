@@ -7,6 +7,10 @@ pub mod Tally
 pub mod Crossings
 pub mod Reading
 pub mod Accepted
+pub mod Putting
+pub mod Ending
 pub mod Heap
 pub mod Dropping
+pub mod Study
+pub mod Recovery
 pub mod Live

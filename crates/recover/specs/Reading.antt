@@ -65,17 +65,37 @@ pub record Holds (image : List ℕ) (found : LoggedImage) : Type 0 where
 abbrev pub HasBadHeader : List ℕ → Type 0
 HasBadHeader image = RefusesLayout image BadHeader ⊎ ((l : Layout) × HasLayout image l × RefusesRows l image BadHeader)
 
--- what each refusal says of the image: the first test that it doesn't pass
+-- what each refusal to read an image's front says of it: the first test that it doesn't pass
+abbrev pub RefusesFront : List ℕ → RecoverError → Type 0
+RefusesFront image Fault = Unit {0}
+RefusesFront image NotFormatted = RefusesLayout image NotFormatted
+RefusesFront image BadHeader = HasBadHeader image
+RefusesFront image TooSmall = RefusesLayout image TooSmall
+RefusesFront image NoControl = (l : Layout) × (guards : List GuardRow) × HasFront image l guards × RefusesControl l image NoControl
+RefusesFront image BadControl = (l : Layout) × (guards : List GuardRow) × HasFront image l guards × RefusesControl l image BadControl
+RefusesFront image NoMemory = Unit {0}
+RefusesFront image _ = ⊥
+
+-- to read and to replay the live records of an image with this layout, these guard rows and this control
+abbrev pub RefusesLive : List ℕ → Layout → List GuardRow → Control → RecoverError → Type 0
+RefusesLive image l guards c Fault = Unit {0}
+RefusesLive image l guards c (BadRecord lane place) = RefusesLogs l image c.rows (BadRecord lane place)
+RefusesLive image l guards c (IllegalLog lane place) =
+    (logs : List (Vec UndoRecord Global)) × AreLogs l image c.rows logs × IsIllegalAt (guard_in guards) c.rows (lanes_of logs) lane.0 place
+RefusesLive image l guards c NoMemory = Unit {0}
+RefusesLive image l guards c _ = ⊥
+
+-- what each refusal to study an image says of it: the first test that it doesn't pass
 abbrev pub RefusesImage : List ℕ → RecoverError → Type 0
 RefusesImage image Fault = Unit {0}
-RefusesImage image NotFormatted = RefusesLayout image NotFormatted
-RefusesImage image BadHeader = HasBadHeader image
-RefusesImage image TooSmall = RefusesLayout image TooSmall
-RefusesImage image NoControl = (l : Layout) × (guards : List GuardRow) × HasFront image l guards × RefusesControl l image NoControl
-RefusesImage image BadControl = (l : Layout) × (guards : List GuardRow) × HasFront image l guards × RefusesControl l image BadControl
+RefusesImage image NotFormatted = RefusesFront image NotFormatted
+RefusesImage image BadHeader = RefusesFront image BadHeader
+RefusesImage image TooSmall = RefusesFront image TooSmall
+RefusesImage image NoControl = RefusesFront image NoControl
+RefusesImage image BadControl = RefusesFront image BadControl
 RefusesImage image Worn = ⊥
 RefusesImage image (BadRecord lane place) =
-    (l : Layout) × (guards : List GuardRow) × (s : Slot) × (c : Control) × HasControl image l guards s c × RefusesLogs l image c.rows (BadRecord lane place)
+    (l : Layout) × (guards : List GuardRow) × (s : Slot) × (c : Control) × HasControl image l guards s c × RefusesLive image l guards c (BadRecord lane place)
 RefusesImage image (IllegalLog lane place) =
-    (l : Layout) × (guards : List GuardRow) × (s : Slot) × (c : Control) × (logs : List (Vec UndoRecord Global)) × HasControl image l guards s c × AreLogs l image c.rows logs × IsIllegalAt (guard_in guards) c.rows (lanes_of logs) lane.0 place
+    (l : Layout) × (guards : List GuardRow) × (s : Slot) × (c : Control) × HasControl image l guards s c × RefusesLive image l guards c (IllegalLog lane place)
 RefusesImage image NoMemory = Unit {0}

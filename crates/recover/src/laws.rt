@@ -1,5 +1,6 @@
-//! Laws of recovery and the store, each the contract of a function that does nothing.
+//! Laws of recovery, of studies and of what a store leaves, each the contract of a function that does nothing.
 ghost use Rattle.recover.specs.Accepted.{AcceptedLaw, FoundHeapLaw, FoundLaw, LeftLaw};
+ghost use Rattle.recover.specs.Recovery.{OneStudyLaw, SameHeapLaw};
 
 /// No image that a store leaves is refused, whatever a crash left of its device. Only the device can fail, and memory be wanting.
 pub fn accepted_law()
@@ -11,4 +12,11 @@ pub fn accepted_law()
 pub fn found_law()
     ensures found { FoundLaw }
     ensures heap { FoundHeapLaw }
-{}
+
+/// An image has one study, but for the reasons in its report.
+pub fn one_study_law()
+    ensures { OneStudyLaw }
+
+/// Whatever recovery leaves of an image, recovery of that finds the same heap.
+pub fn same_heap_law()
+    ensures { SameHeapLaw }

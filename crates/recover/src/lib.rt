@@ -1,16 +1,21 @@
-//! Recovery: what an image holds after a crash, whatever its bytes are.
+//! Recovery: what an image stands for after a crash, whatever its bytes are, and how it is made so.
 //!
-//! [`read_image`] reads an image of which nothing is known, and refuses it by the first thing that is wrong with it:
-//! header, guard rows, control, records, or logs that no threads can have left. It is made of [`read_logs`], which reads
-//! the lanes' live records, and [`check_logs`], which replays them. All only read the device.
+//! [`study`] reads an image of which nothing is known, and refuses it by the first thing that is wrong with it: header,
+//! guard rows, control, records, or logs that no threads can have left. Else it tells what the image holds, the heap that
+//! it stands for, and which sections are kept and dropped. [`recover`] puts that heap into the home cells and empties the
+//! logs; a crash at any moment of it leaves an image that stands for the same heap.
 //! No image that a store leaves is refused ([`accepted_law`]), and its heap is the one that the store keeps ([`found_law`]).
 #![tactic(auto)]
 
 mod check;
 mod crossings;
+mod device;
 mod dropping;
+mod ending;
 mod error;
+mod findings;
 mod first_numbers;
+mod front;
 mod graph_of;
 mod heap;
 mod lanes;
@@ -20,23 +25,25 @@ mod live_sections;
 mod logged_image;
 mod logs;
 mod monitors;
+mod putting;
 mod reading;
+mod recovering;
 mod replay;
+mod replayed;
 mod report;
 mod rules;
 mod settled;
 mod step;
-mod study;
+mod studied;
+mod studying;
 mod walk;
 
-pub use check::check_logs;
 pub use error::RecoverError;
-pub use laws::{accepted_law, found_law};
-pub use logged_image::LoggedImage;
-pub use logs::read_logs;
-pub use reading::read_image;
+pub use laws::{accepted_law, found_law, one_study_law, same_heap_law};
+pub use recovering::recover;
 pub use report::{Dropped, Report, Why};
-pub use study::Study;
+pub use studied::Study;
+pub use studying::study;
 
 #[cfg(test)]
 mod tests;

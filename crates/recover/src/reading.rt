@@ -1,23 +1,29 @@
 //! Reading an image, whatever its bytes are.
-ghost use Rattle.std.specs.Prelude.{◌≡◌, ◌≤◌, IfErr, IfOk, MatchResult, length};
+ghost use Rattle.std.specs.Prelude.{◌≡◌, ◌≤◌, All, IfErr, IfOk, MatchResult, length};
 ghost use Rattle.block_disk.specs.Device.{HasCause, SameMoments};
 ghost use Rattle.image.specs.Guards.{HasGuards};
 ghost use Rattle.image.specs.Layout.{IsLayout, size_of};
 ghost use Rattle.image.specs.Slots.{Shows};
-ghost use Rattle.recover.specs.Reading.{HasLayout, Holds, RefusesLayout, RefusesRows, RefusesControl, RefusesImage};
+ghost use Rattle.undo_log.specs.StandsFor.{guard_in};
+ghost use Rattle.recover.specs.Logs.{lanes_of};
+ghost use Rattle.recover.specs.Reading.{HasControl, HasLayout, Holds, RefusesControl, RefusesFront, RefusesLayout, RefusesLive, RefusesRows};
+ghost use Rattle.recover.specs.Replay.{Replays};
+ghost use Rattle.recover.specs.Tables.{IsLow, log_of};
 ghost use Rattle.recover.specs.declared.error.RecoverError.TheVariants.{Fault};
 
 use crate::check::check_logs;
 use crate::error::RecoverError;
+use crate::front::Front;
 use crate::logged_image::LoggedImage;
 use crate::logs::read_logs;
+use crate::replayed::Replayed;
 use block_disk::Disk;
 use image::{
     Control, GuardRow, ImageError, Layout, Slot, choose_control, read_guards, read_header,
 };
 use std::alloc::Global;
 
-/// Reads the image on the device, of which nothing has to be known.
+/// Reads what the image on the device, of which nothing has to be known, holds before its lanes' areas.
 ///
 /// Refusals, in this order (docs/FORMAT.md, "Which image is refused"); the device is left as it was:
 /// - `NotFormatted`: the device has fewer than 64 bytes, the name isn't there, or the header's gate is closed;
@@ -27,28 +33,61 @@ use std::alloc::Global;
 /// - `BadHeader`: the guard or the owner of some guard row isn't an object of the image;
 /// - `NoControl`: the gates of both slots are closed;
 /// - `BadControl`: both are open with the same sequence, or the slot that counts doesn't hold the control of an image of
-///   this layout;
-/// - `BadRecord`: a live place whose bytes are no record of the image; the least lane, then the least place;
-/// - `IllegalLog`: see [`check_logs`].
+///   this layout.
 ///
-/// `NoMemory` comes where the guard rows, a lane's records or the replay find no room, and `Fault` where a read fails.
-pub fn read_image<D: Disk>(alloc: Global, disk: &mut D) -> Result<LoggedImage, RecoverError>
-    ensures exact { MatchResult result (Holds (D.device disk.old).now.bytes) (RefusesImage (D.device disk.old).now.bytes) }
+/// `NoMemory` comes where the guard rows find no room, and `Fault` where a read fails.
+pub fn read_front<D: Disk>(alloc: Global, disk: &mut D) -> Result<Front, RecoverError>
+    ensures exact { MatchResult result (λ f. HasControl (D.device disk.old).now.bytes f.layout f.guards.items f.slot f.control) (RefusesFront (D.device disk.old).now.bytes) }
     ensures same { SameMoments (D.device disk.old) (D.device disk.new) }
     ensures cause { HasCause (D.device disk.old).failures (D.device disk.new).failures Fault result }
 {
     let layout = find_layout(disk)?;
     let guards = find_guards(alloc, disk, &layout)?;
     let (slot, control) = find_control(disk, &layout)?;
+    Ok(Front {
+        layout,
+        guards,
+        slot,
+        control,
+    })
+}
+
+/// Reads the live records of the image with this front, and replays them.
+///
+/// Refusals, in this order; the device is left as it was:
+/// - `BadRecord`: a live place whose bytes are no record of the image; the least lane, then the least place;
+/// - `IllegalLog`: see [`check_logs`].
+///
+/// `NoMemory` comes where a lane's records or the replay find no room, and `Fault` where a read fails.
+pub fn read_live<D: Disk>(
+    alloc: Global,
+    disk: &mut D,
+    front: Front,
+) -> Result<Replayed, RecoverError>
+    requires { HasControl (D.device disk.old).now.bytes front.layout front.guards.items front.slot front.control }
+    ensures exact { MatchResult result (λ r. Holds (D.device disk.old).now.bytes r.image) (RefusesLive (D.device disk.old).now.bytes front.layout front.guards.items front.control) }
+    ensures control { IfOk result (λ r. r.image.control ≡ front.control) }
+    ensures replays { IfOk result (λ r. Replays (guard_in r.image.guards.items) (lanes_of r.image.records.items) (log_of r.steps.items)) }
+    ensures low { IfOk result (λ r. All IsLow r.steps.items) }
+    ensures same { SameMoments (D.device disk.old) (D.device disk.new) }
+    ensures cause { HasCause (D.device disk.old).failures (D.device disk.new).failures Fault result }
+{
+    let Front {
+        layout,
+        guards,
+        slot,
+        control,
+    } = front;
     let records = read_logs(alloc, disk, &layout, &control.rows)?;
-    check_logs(alloc, &layout, &guards, &control.rows, &records)?;
-    Ok(LoggedImage {
+    let steps = check_logs(alloc, &layout, &guards, &control.rows, &records)?;
+    let image = LoggedImage {
         layout,
         slot,
         control,
         guards,
         records,
-    })
+    };
+    Ok(Replayed { image, steps })
 }
 
 fn find_layout<D: Disk>(disk: &mut D) -> Result<Layout, RecoverError>

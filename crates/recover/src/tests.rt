@@ -131,7 +131,7 @@ fn refusal(
 }
 
 fn refused_by(alloc: Global, disk: &mut MemDisk) -> Option<RecoverError> {
-    match read_image(alloc, disk) {
+    match study(alloc, disk) {
         Ok(_) => None,
         Err(error) => Some(error),
     }
@@ -151,7 +151,7 @@ fn legal_logs_are_read(rt: HostRuntime) -> Result<(), Fail> {
     let second = [acq(0, 6), wait(0, 6), acq(0, 7), rel(0, 7)];
     let rows = [row(3, 4, 1), row(2, 4, 1)];
     let mut disk = image_with(rt.alloc(), rows, &first, &second)?;
-    let Ok(found) = read_image(rt.alloc(), &mut disk) else {
+    let Ok(found) = study(rt.alloc(), &mut disk) else {
         return Err(Fail::new("refused"));
     };
     assert_eq!(rt; found.layout.size(), 130_208);

@@ -20,10 +20,10 @@ replay-requires-clause-objects c = λ l. all_of_objects c.args.layout.now c.args
 pub replay-requires-clause-range : goal.replay-requires-clause-range
 replay-requires-clause-range c = λ l. all_in_range c.args.layout.now (records_of c.args.logs.now l) (c.requires.logs.each l)
 
-pub returns-in_err-steps : goal.returns-in_err-steps
-returns-in_err-steps c =
+pub returns-in_err-steps-clause-exact : goal.returns-in_err-steps-clause-exact
+returns-in_err-steps-clause-exact c =
     let p = err_from_is_err_and c.from_residual.result c.from_residual.ensures.1 in
-    record { exact = rw (p.1, p.2) (refused_replay (guard_in c.args.guards.now) c.args.rows.now (lanes_of c.args.logs.now) c.in_err-steps.field-0.0 c.in_err-steps.ensures.exact) }
+    rw (p.1, p.2) (refused_replay (guard_in c.args.guards.now) c.args.rows.now (lanes_of c.args.logs.now) c.in_err-steps.field-0.0 c.in_err-steps.ensures.exact)
 
 pub least_restless-requires-clause-held : goal.least_restless-requires-clause-held
 least_restless-requires-clause-held c = lanes_free (guard_in c.args.guards.now) c.args.logs.now (log_of c.in_ok-steps.steps.items) c.in_ok-steps.ensures.exact
@@ -40,10 +40,10 @@ least_restless-requires-clause-within c = λ l lt.
     let row : IsRow c.args.layout.now.capacity (row_of c.args.rows.now l) = row_is c.args.layout.now c.args.rows.now l empty_row c.requires.rows few low in
     omega (arith, row.logged, row.settled, c.requires.logs.size l low)
 
-pub returns-in-Some : goal.returns-in-Some
-returns-in-Some c =
+pub returns-in-Some-clause-exact : goal.returns-in-Some-clause-exact
+returns-in-Some-clause-exact c =
     let rows : List LaneRow = c.args.rows.now in
-    record { exact = Restless (log_of c.in_ok-steps.steps.items) c.in_ok-steps.ensures.exact c.in-Some.ensures.1 (ap (λ (k : ℕ). (row_of rows k).settled) c.from.ensures) }
+    Restless (log_of c.in_ok-steps.steps.items) c.in_ok-steps.ensures.exact c.in-Some.ensures.1 (ap (λ (k : ℕ). (row_of rows k).settled) c.from.ensures)
 
 -- what the walk has found is the least of the lanes' records, and its lane is one of the image
 found_is : (guard : ℕ → ℕ) (rows : List LaneRow) (logs : List (Vec UndoRecord Global)) (walked steps : List Step) (l i : ℕ) → Replays guard (lanes_of logs) (log_of steps) → walked ≡ steps → IsLeastCrossing (settled_of rows) (log_of walked) l i →
@@ -69,27 +69,23 @@ overflow_add-result c =
     let start : (row_of rows c.from-in-Some-least_crossing.result).start ≡ (row_of rows l).start = ap (λ (k : ℕ). (row_of rows k).start) c.from-in-Some-least_crossing.ensures in
     omega (arith, start, row.settled, row.logged, row.limit, found.0.takes.inside)
 
-pub returns-in-Some-least_crossing : goal.returns-in-Some-least_crossing
-returns-in-Some-least_crossing c =
+pub returns-in-Some-least_crossing-clause-exact : goal.returns-in-Some-least_crossing-clause-exact
+returns-in-Some-least_crossing-clause-exact c =
     let guard : ℕ → ℕ = guard_in c.args.guards.now in
     let rows : List LaneRow = c.args.rows.now in
     let l = c.in-Some-least_crossing.found.lane.0 in
     let i = c.in-Some-least_crossing.found.place in
     let found = found_is guard rows c.args.logs.now c.deref.result.now c.in_ok-steps.steps.items l i c.in_ok-steps.ensures.exact c.deref.ensures.value c.in-Some-least_crossing.ensures in
-    record {
-      exact = Crossing i (record { done = log_of c.in_ok-steps.steps.items; replays = c.in_ok-steps.ensures.exact; rest = all_rest rows c.args.logs.now c.in_default.ensures }) found.0
-          (ap (λ (k : ℕ). (row_of rows k).start + i) c.from-in-Some-least_crossing.ensures);
-    }
+    Crossing i (record { done = log_of c.in_ok-steps.steps.items; replays = c.in_ok-steps.ensures.exact; rest = all_rest rows c.args.logs.now c.in_default.ensures }) found.0
+    (ap (λ (k : ℕ). (row_of rows k).start + i) c.from-in-Some-least_crossing.ensures)
 
-pub returns : goal.returns
-returns c =
+pub returns-clause-exact : goal.returns-clause-exact
+returns-clause-exact c =
     let guard : ℕ → ℕ = guard_in c.args.guards.now in
     let rows : List LaneRow = c.args.rows.now in
     let lanes : ℕ → List UndoRecord = lanes_of c.args.logs.now in
     let none = subst (λ (xs : List Step). (l i : ℕ) → Crosses (settled_of rows) (log_of xs) l i → ⊥) c.deref.ensures.value c.in_default-least_crossing.ensures in
     record {
-      exact = record {
-        logs = record { done = log_of c.in_ok-steps.steps.items; replays = c.in_ok-steps.ensures.exact; rest = all_rest rows c.args.logs.now c.in_default.ensures };
-        inside = none_unsettled (settled_of rows) guard lanes (log_of c.in_ok-steps.steps.items) c.in_ok-steps.ensures.exact none;
-      };
+      logs = record { done = log_of c.in_ok-steps.steps.items; replays = c.in_ok-steps.ensures.exact; rest = all_rest rows c.args.logs.now c.in_default.ensures };
+      inside = none_unsettled (settled_of rows) guard lanes (log_of c.in_ok-steps.steps.items) c.in_ok-steps.ensures.exact none;
     }

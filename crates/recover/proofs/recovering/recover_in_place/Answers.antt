@@ -1,0 +1,32 @@
+use Rattle.std.proofs.Common.{inr, OnErr}
+use Rattle.std.proofs.lemmas.Result.{err_from_is_err_and}
+use Rattle.recover.proofs.RecoveryLemmas.{made_by, since_synced}
+use Rattle.recover.proofs.recovering.recover_in_place.Goals as goal
+
+pub returns-in_err-finish-clause-interrupted : goal.returns-in_err-finish-clause-interrupted
+returns-in_err-finish-clause-interrupted g c =
+    let p = err_from_is_err_and c.from_residual-in_err-finish.result c.from_residual-in_err-finish.ensures.1 in
+    let s = c.in_ok-found.found.study in
+    let d0 = g.D.Disk.device c.args.disk.now in
+    let d1 = g.D.Disk.device c.sync.new.disk in
+    let d2 = g.D.Disk.device c.find_recoverable.new.disk in
+    let d3 = g.D.Disk.device c.finish.new.disk in
+    rw p.1 (λ t of. inr (since_synced s d0 d1 d2 d3 c.in_ok-sync.ensures.ok c.find_recoverable.ensures.same c.in_ok-found.ensures.exact c.finish.ensures.any_moment t of))
+
+pub returns-clause-made : goal.returns-clause-made
+returns-clause-made g c =
+    let s = c.in_ok-found.found.study in
+    let d0 = g.D.Disk.device c.args.disk.now in
+    let d1 = g.D.Disk.device c.sync.new.disk in
+    let d2 = g.D.Disk.device c.find_recoverable.new.disk in
+    let d3 = g.D.Disk.device c.finish.new.disk in
+    made_by s c.in_ok-found.found.undone.items d0 d1 d2 d3 c.in_ok-sync.ensures.ok c.find_recoverable.ensures.same c.in_ok-found.ensures.undone c.in_ok-finish.ensures.calls
+
+pub returns-clause-any_moment : goal.returns-clause-any_moment
+returns-clause-any_moment g c = λ t of.
+    let s = c.in_ok-found.found.study in
+    let d0 = g.D.Disk.device c.args.disk.now in
+    let d1 = g.D.Disk.device c.sync.new.disk in
+    let d2 = g.D.Disk.device c.find_recoverable.new.disk in
+    let d3 = g.D.Disk.device c.finish.new.disk in
+    since_synced s d0 d1 d2 d3 c.in_ok-sync.ensures.ok c.find_recoverable.ensures.same c.in_ok-found.ensures.exact c.finish.ensures.any_moment t of

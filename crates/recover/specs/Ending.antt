@@ -1,0 +1,18 @@
+-- What the end of a recovery does to the device (this project's own).
+use Rattle.std.specs.Prelude.{ℕ, ◌+◌, ◌⊎◌, List, [], ◌∷◌}
+use Rattle.block_disk.specs.Device.{Device, synced}
+use Rattle.block_disk.specs.Images.{ImageBut}
+use Rattle.image.specs.Calls.{Call, Sync}
+use Rattle.image.specs.Commit.{OldOrNew, commit_calls}
+use Rattle.image.specs.Control.{control_bytes, empty_control}
+use Rattle.image.specs.declared.control.Control.{Control}
+use Rattle.image.specs.declared.layout.Layout.{Layout}
+use Rattle.image.specs.declared.slot.Slot.{Slot}
+
+-- a sync, and a commit of the control with empty logs and the next sequence
+abbrev pub end_calls : (chosen : Slot) → (sequence : ℕ) → (image : List ℕ) → List Call
+end_calls chosen sequence image = Sync ∷ commit_calls chosen image (control_bytes (empty_control (sequence + 1)))
+
+-- an image from before the end, or, once all was durable, one that shows the old control or the one with empty logs
+abbrev pub IsEnding : Layout → Device → (chosen : Slot) → (old : Control) → (image : List ℕ) → Type 0
+IsEnding l d chosen old image = ImageBut d [] image ⊎ OldOrNew l (synced d) chosen old (empty_control (old.sequence + 1)) image

@@ -1,0 +1,105 @@
+-- What recovery gives, and what it leaves of an image at every moment (this project's own).
+use Rattle.std.specs.Prelude.{ℕ, ◌≡◌, ◌+◌, ◌-◌, ◌^◌, ◌⊎◌, List, []}
+use Rattle.heap_model.specs.Cuts.{counts_of}
+use Rattle.heap_model.specs.declared.ids.FieldId.{FieldId}
+use Rattle.block_disk.specs.Device.{Device, SameMoments, synced}
+use Rattle.block_disk.specs.Images.{LeavesOnly}
+use Rattle.image.specs.Calls.{after}
+use Rattle.image.specs.Control.{empty_control}
+use Rattle.image.specs.Recovered.{Parts}
+use Rattle.image.specs.Slots.{other}
+use Rattle.image.specs.declared.control.Control.{Control}
+use Rattle.image.specs.declared.guard_row.GuardRow.{GuardRow}
+use Rattle.image.specs.declared.layout.Layout.{Layout}
+use Rattle.image.specs.declared.slot.Slot.{Slot}
+use Rattle.recover.specs.declared.error.RecoverError.{RecoverError}
+use Rattle.recover.specs.declared.error.RecoverError.TheVariants.{Fault, NotFormatted, BadHeader, TooSmall, NoControl, BadControl, Worn, BadRecord, IllegalLog, NoMemory}
+use Rattle.recover.specs.declared.report.Report.{Report}
+use Rattle.recover.specs.declared.studied.Study.{Study}
+use Rattle.recover.specs.Ending.{end_calls}
+use Rattle.recover.specs.Logs.{lanes_of, records_of}
+use Rattle.recover.specs.Putting.{put_calls}
+use Rattle.recover.specs.Reading.{HasControl, RefusesImage}
+use Rattle.recover.specs.Study.{AreUndone, IsStudyOf}
+
+-- the study of an image once it was recovered: nothing is logged, and the heap is the same
+pub record IsEnded (s e : Study) : Type 0 where
+  pub layout_is : e.layout ≡ s.layout
+  pub slot_is : e.slot ≡ other s.slot
+  pub control_is : e.control ≡ empty_control (s.control.sequence + 1)
+  pub guards_are : e.guards.items ≡ s.guards.items
+  pub logs_are : (lane : ℕ) → records_of e.records.items lane ≡ []
+  pub heap_is : e.heap.items ≡ s.heap.items
+  pub kept_none : (lane : ℕ) → counts_of e.report.kept lane ≡ 0
+  pub dropped_none : e.report.dropped.items ≡ []
+  pub undone_none : e.report.undone ≡ 0
+
+-- an image on the way: the study is the one from before, or that of the recovered image
+abbrev pub IsOnTheWay : Study → (image : List ℕ) → Type 0
+IsOnTheWay s image = IsStudyOf image s ⊎ ((e : Study) × IsEnded s e × IsStudyOf image e)
+
+-- what an image tells of a study of it: all but the reasons in its report
+pub record AreAlike (a b : Study) : Type 0 where
+  pub layouts : a.layout ≡ b.layout
+  pub slots : a.slot ≡ b.slot
+  pub controls : a.control ≡ b.control
+  pub guards_same : a.guards.items ≡ b.guards.items
+  pub logs_same : (lane : ℕ) → records_of a.records.items lane ≡ records_of b.records.items lane
+  pub heaps : a.heap.items ≡ b.heap.items
+
+-- An image has one study.
+abbrev pub OneStudyLaw : Type 0
+OneStudyLaw = (image : List ℕ) (a b : Study) → IsStudyOf image a → IsStudyOf image b → AreAlike a b
+
+-- Whatever of its images a recovery leaves, another one finds the same heap.
+abbrev pub SameHeapLaw : Type 0
+SameHeapLaw = (image : List ℕ) (s again : Study) → IsOnTheWay s image → IsStudyOf image again → again.heap.items ≡ s.heap.items
+
+-- nothing but the count of its sequence is wrong with the image's control: no other can be committed
+pub record IsWorn (image : List ℕ) : Type 0 where
+  pub layout : Layout
+  pub guards : List GuardRow
+  pub slot : Slot
+  pub control : Control
+  pub shown : HasControl image layout guards slot control
+  pub last : control.sequence ≡ 2 ^ 64 - 1
+
+-- what each refusal to recover an image says of it: the first test that it doesn't pass; the control is tested before the records
+abbrev pub RefusesRecovery : List ℕ → RecoverError → Type 0
+RefusesRecovery image Fault = Unit {0}
+RefusesRecovery image NotFormatted = RefusesImage image NotFormatted
+RefusesRecovery image BadHeader = RefusesImage image BadHeader
+RefusesRecovery image TooSmall = RefusesImage image TooSmall
+RefusesRecovery image NoControl = RefusesImage image NoControl
+RefusesRecovery image BadControl = RefusesImage image BadControl
+RefusesRecovery image Worn = IsWorn image
+RefusesRecovery image (BadRecord lane place) = (IsWorn image → ⊥) × RefusesImage image (BadRecord lane place)
+RefusesRecovery image (IllegalLog lane place) = (IsWorn image → ⊥) × RefusesImage image (IllegalLog lane place)
+RefusesRecovery image NoMemory = Unit {0}
+
+-- the device after old values were put back: a write of the home cell of each of these fields
+abbrev pub put_back_on : Study → List FieldId → Device → Device
+put_back_on s fields d = after (put_calls s.layout s.heap.items fields) d
+
+-- the device after the calls of a recovery, but for its count of failures: a sync, a write for each field that takes an
+-- old value back, by number, and the end
+pub record IsMadeBy (s : Study) (old new : Device) : Type 0 where
+  pub fields : List FieldId
+  pub undone : AreUndone s.layout s.guards.items s.control.rows (lanes_of s.records.items) fields
+  pub calls : SameMoments (after (end_calls s.slot s.control.sequence (put_back_on s fields (synced old)).now.bytes) (put_back_on s fields (synced old))) new
+
+-- what recovery gives: the recovered device with what the study of it found, and the study's report
+pub record IsRecovery {D : Type 0} (old new : Device) (r : Parts D) (report : Report) : Type 0 where
+  pub study : Study
+  pub of : IsStudyOf old.now.bytes study
+  pub layout_is : r.layout ≡ study.layout
+  pub guards_are : r.guards ≡ study.guards.items
+  pub slot_is : r.slot ≡ other study.slot
+  pub sequence_is : r.sequence ≡ study.control.sequence + 1
+  pub heap_is : r.heap ≡ study.heap.items
+  pub report_is : report ≡ study.report
+  pub made : IsMadeBy study old new
+
+-- the images that a recovery leaves: until its first sync those from before, and from then on only such as are on the way
+abbrev pub LeavesOnTheWay : Study → (old new : Device) → Type 0
+LeavesOnTheWay s old new = SameMoments old new ⊎ LeavesOnly (synced old) new (IsOnTheWay s)

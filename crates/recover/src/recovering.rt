@@ -1,0 +1,120 @@
+//! Recovering an image: old values are put back, and then nothing counts of what was logged.
+ghost use Rattle.std.specs.Prelude.{◌≡◌, ◌⊎◌, ◌+◌, ◌-◌, ◌<◌, ◌≤◌, ◌^◌, [], IfErr, IfOk, MatchResult, OnErr, OnOk};
+ghost use Rattle.block_disk.specs.Device.{HasCause, HasFailed, SameMoments, synced};
+ghost use Rattle.block_disk.specs.Images.{LeavesOnly};
+ghost use Rattle.image.specs.Calls.{after};
+ghost use Rattle.image.specs.Recovered.{IsRecovered};
+ghost use Rattle.image.specs.Slots.{other};
+ghost use Rattle.recover.specs.Ending.{end_calls};
+ghost use Rattle.recover.specs.Logs.{lanes_of};
+ghost use Rattle.recover.specs.Recovery.{IsMadeBy, IsOnTheWay, IsRecovery, LeavesOnTheWay, RefusesRecovery, put_back_on};
+ghost use Rattle.recover.specs.Study.{AreUndone, IsStudyOf};
+ghost use Rattle.recover.specs.declared.error.RecoverError.TheVariants.{Fault};
+ghost use Rattle.recover.specs.declared.studied.Study.{Study as Shape};
+
+use crate::device::sync;
+use crate::ending::end_recovery;
+use crate::error::RecoverError;
+use crate::findings::Findings;
+use crate::putting::put_back;
+use crate::reading::read_front;
+use crate::report::Report;
+use crate::studied::Study;
+use crate::studying::find_out;
+use block_disk::Disk;
+use image::Recovered;
+use std::alloc::Global;
+
+/// Recovers the image on the device, of which nothing has to be known: puts the old values back, and then commits a
+/// control with empty logs and the next sequence. It gives the recovered device, and what was kept and dropped.
+///
+/// The calls that change the device are a sync; a write of the home cell of each field that takes an old value back, by
+/// number; a sync; and a commit. Once the first sync was answered, whatever a crash leaves stands for the same heap, so
+/// that another recovery gives it again, and the same report until the new control shows.
+///
+/// Refusals, in this order, each with the device (docs/FORMAT.md, "Which image is refused"); but for the last nothing
+/// was done but the first sync:
+/// - `NotFormatted`, `BadHeader`, `TooSmall`, `NoControl`, `BadControl`: as of [`study`](crate::study);
+/// - `Worn`: the control's sequence is at its last value, 2^64 - 1, so that no other can be committed;
+/// - `BadRecord`, `IllegalLog`: as of [`study`](crate::study);
+/// - `NoMemory`: there was no room for what is read or found;
+/// - `Fault`: a call of the device failed. The image may be recovered again.
+pub fn recover<D: Disk>(alloc: Global, disk: D) -> Result<(Recovered<D>, Report), (D, RecoverError)>
+    ensures ok { IfOk result (λ r. IsRecovery (D.device disk) (D.device r.0.disk) r.0 r.1) }
+    ensures any_moment { IfOk result (λ r. (s : Shape) → IsStudyOf (D.device disk).now.bytes s → LeavesOnly (synced (D.device disk)) (D.device r.0.disk) (IsOnTheWay s)) }
+    ensures refused { IfErr result (λ back. RefusesRecovery (D.device disk).now.bytes back.1) }
+    ensures untouched { IfErr result (λ back. (back.1 ≡ Fault) ⊎ SameMoments (synced (D.device disk)) (D.device back.0)) }
+    ensures interrupted { IfErr result (λ back. (s : Shape) → IsStudyOf (D.device disk).now.bytes s → LeavesOnTheWay s (D.device disk) (D.device back.0)) }
+    ensures cause { IfErr result (λ back. back.1 ≡ Fault → HasFailed (D.device disk).failures (D.device back.0).failures) }
+{
+    let mut disk = disk;
+    match recover_in_place(alloc, &mut disk) {
+        Ok(study) => {
+            let sequence = study.control.sequence + 1;
+            let recovered = Recovered::of(
+                disk,
+                study.layout,
+                study.guards,
+                study.slot.other(),
+                sequence,
+                study.heap,
+            );
+            Ok((recovered, study.report))
+        }
+        Err(error) => Err((disk, error)),
+    }
+}
+
+// Recovers the image, and gives the study of it as it was before.
+fn recover_in_place<D: Disk>(alloc: Global, disk: &mut D) -> Result<Study, RecoverError>
+    ensures ok { IfOk result (λ s. IsStudyOf (D.device disk.old).now.bytes s) }
+    ensures recovered { IfOk result (λ s. IsRecovered (D.device disk.new) s.layout s.guards.items (other s.slot) (s.control.sequence + 1) s.heap.items) }
+    ensures not_worn { IfOk result (λ s. s.control.sequence < 2 ^ 64 - 1) }
+    ensures made { IfOk result (λ s. IsMadeBy s (D.device disk.old) (D.device disk.new)) }
+    ensures any_moment { OnOk result ((s : Shape) → IsStudyOf (D.device disk.old).now.bytes s → LeavesOnly (synced (D.device disk.old)) (D.device disk.new) (IsOnTheWay s)) }
+    ensures refused { IfErr result (RefusesRecovery (D.device disk.old).now.bytes) }
+    ensures untouched { IfErr result (λ e. (e ≡ Fault) ⊎ SameMoments (synced (D.device disk.old)) (D.device disk.new)) }
+    ensures interrupted { OnErr result ((s : Shape) → IsStudyOf (D.device disk.old).now.bytes s → LeavesOnTheWay s (D.device disk.old) (D.device disk.new)) }
+    ensures cause { HasCause (D.device disk.old).failures (D.device disk.new).failures Fault result }
+{
+    // What is read has to be what another crash would leave.
+    sync(disk)?;
+    let found = find_recoverable(alloc, disk)?;
+    finish(disk, &found)?;
+    Ok(found.study)
+}
+
+// Finds out whether the image can be recovered, and what that takes.
+fn find_recoverable<D: Disk>(alloc: Global, disk: &mut D) -> Result<Findings, RecoverError>
+    ensures exact { MatchResult result (λ found. IsStudyOf (D.device disk.old).now.bytes found.study) (RefusesRecovery (D.device disk.old).now.bytes) }
+    ensures undone { IfOk result (λ found. AreUndone found.study.layout found.study.guards.items found.study.control.rows (lanes_of found.study.records.items) found.undone.items) }
+    ensures not_worn { IfOk result (λ found. found.study.control.sequence < 2 ^ 64 - 1) }
+    ensures same { SameMoments (D.device disk.old) (D.device disk.new) }
+    ensures cause { HasCause (D.device disk.old).failures (D.device disk.new).failures Fault result }
+{
+    let front = read_front(alloc, disk)?;
+    // The end has to commit a control, so this comes before anything is written.
+    if front.control.sequence == u64::MAX {
+        return Err(RecoverError::Worn);
+    }
+    find_out(alloc, disk, front)
+}
+
+// Puts the old values back, and ends the recovery.
+fn finish<D: Disk>(disk: &mut D, found: &Findings) -> Result<(), RecoverError>
+    requires study { IsStudyOf (D.device disk.old).now.bytes found.now.study }
+    requires undone { AreUndone found.now.study.layout found.now.study.guards.items found.now.study.control.rows (lanes_of found.now.study.records.items) found.now.undone.items }
+    requires sequence { found.now.study.control.sequence < 2 ^ 64 - 1 }
+    requires durable { (D.device disk.old).now.pending ≡ [] }
+    ensures ok { OnOk result (IsRecovered (D.device disk.new) found.now.study.layout found.now.study.guards.items (other found.now.study.slot) (found.now.study.control.sequence + 1) found.now.study.heap.items) }
+    ensures calls { OnOk result (D.device disk.new ≡ after (end_calls found.now.study.slot found.now.study.control.sequence (put_back_on found.now.study found.now.undone.items (D.device disk.old)).now.bytes)
+        (put_back_on found.now.study found.now.undone.items (D.device disk.old))) }
+    ensures only_fault { IfErr result (λ e. e ≡ Fault) }
+    ensures any_moment { LeavesOnly (D.device disk.old) (D.device disk.new) (IsOnTheWay found.now.study) }
+    ensures cause { HasCause (D.device disk.old).failures (D.device disk.new).failures Fault result }
+{
+    let study = &found.study;
+    put_back(disk, &study.layout, &study.heap, &found.undone)?;
+    end_recovery(disk, &study.layout, study.slot, study.control.sequence)?;
+    Ok(())
+}
