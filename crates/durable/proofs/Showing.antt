@@ -21,17 +21,17 @@ use Rattle.durable.proofs.Pasts.{past_log}
 use Rattle.durable.proofs.Stands.{same_heap, stands}
 
 -- a lane beyond those of the records has none
-lane_beyond : (n l : ℕ) (log : List (ℕ × Record)) → IsOfLanes n log → n ≤ l → lane l log ≡ []
+pub lane_beyond : (n l : ℕ) (log : List (ℕ × Record)) → IsOfLanes n log → n ≤ l → lane l log ≡ []
 lane_beyond n l [] of past = refl
 lane_beyond n l (x ∷ older) of past = ap (λ b. if b then x.1 ∷ lane l older else lane l older) (ne_eqb x.0 l (omega (arith, of.0))) ∙ lane_beyond n l older of.1 past
 
 -- so have the older of them
-of_lanes_before : (n : ℕ) (newer log : List (ℕ × Record)) → IsOfLanes n (newer ++ log) → IsOfLanes n log
+pub of_lanes_before : (n : ℕ) (newer log : List (ℕ × Record)) → IsOfLanes n (newer ++ log) → IsOfLanes n log
 of_lanes_before n [] log of = of
 of_lanes_before n (x ∷ newer) log of = of_lanes_before n newer log of.1
 
 -- the undo logs of lanes that the layout doesn't have
-undone_beyond : (n l : ℕ) (log : List (ℕ × Record)) → IsOfLanes n log → n ≤ l → undo_logs log l ≡ []
+pub undone_beyond : (n l : ℕ) (log : List (ℕ × Record)) → IsOfLanes n log → n ≤ l → undo_logs log l ≡ []
 undone_beyond n l log of past = ap (λ (xs : List Record). map undo_of xs) (lane_beyond n l log of past)
 
 -- a settled past is one
@@ -45,14 +45,16 @@ past_settle s p cut was stable = record {
   closed = stable.closed;
 }
 
+-- what is logged next leaves the heap of the acknowledged cut
+pub logged_heap : (l : Layout) (s : Setting) (p : Past) → IsPast s p → kept_heap l s (p.fresh ++ p.logged) p.cut ≡ kept_heap l s p.logged p.cut
+logged_heap l s p is = sym (same_heap l s p.logged (p.fresh ++ p.logged) p.cut (λ f. kept_grown s p.fresh p.logged p.cut f is.legal is.whole))
+
 -- each such image stands for the heap of the acknowledged cut, or of the stable one
 pub shown_stands : (l : Layout) (s : Setting) (p : Past) → IsPast s p → IsOfLanes l.lanes (applied p) → (image : List ℕ) → ShowsStep l s p image → StandsForStep l s p image
 shown_stands l s p is of image (Shows shown) = Stands (stands l s p is (λ k from. undone_beyond l.lanes k p.logged (of_lanes_before l.lanes p.fresh p.logged of) from) image shown)
 shown_stands l s p is of image (ShowsLogged shown) =
     let after : StandsForCut l s (p.fresh ++ p.logged) p.cut image = stands l s (after_log p) (past_log cut_stays s p is) (λ k from. undone_beyond l.lanes k (p.fresh ++ p.logged) of from) image shown in
-    let same : kept_heap l s (p.fresh ++ p.logged) p.cut ≡ kept_heap l s p.logged p.cut =
-    sym (same_heap l s p.logged (p.fresh ++ p.logged) p.cut (λ f. kept_grown s p.fresh p.logged p.cut f is.legal is.whole)) in
-    Stands (record { heap = subst (StandsFor l image) same after.heap; sections = after.sections })
+    Stands (record { heap = subst (StandsFor l image) (logged_heap l s p is) after.heap; sections = after.sections })
 shown_stands l s p is of image (ShowsSettled cut stable shown) =
     StandsSettled cut stable (stands l s (after_settle p cut) (past_settle s p cut is stable) (λ k from. undone_beyond l.lanes k p.logged (of_lanes_before l.lanes p.fresh p.logged of) from) image shown)
 

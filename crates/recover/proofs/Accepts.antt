@@ -260,7 +260,7 @@ module _ (l : Layout) (s : Setting) (p : Past) (image : List ℕ) (left : IsLeft
   accepted BadControl h = absurd (h.3.1 left.shows.slot left.shows.control (subst (λ (k : Layout). Shows k image left.shows.slot left.shows.control) (sym (one_header h.0 h.2.layout.header)) left.shows.shows))
   accepted Worn h = absurd h
   accepted (BadRecord lane place) h = absurd (not_bad h.0 h.1 h.2 h.3 h.4 lane.0 place h.5.0 h.5.1)
-  accepted (IllegalLog lane place) h = absurd (not_illegal h.0 h.1 h.2 h.3 h.5 h.4 h.6 lane.0 place h.7)
+  accepted (IllegalLog lane place) h = absurd (not_illegal h.0 h.1 h.2 h.3 h.4 h.5.0 h.5.1 lane.0 place h.5.2)
   accepted NoMemory h = inr refl
 
   -- what is found is what the past says

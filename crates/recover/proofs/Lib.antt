@@ -23,3 +23,4 @@ pub mod PushingLemmas
 pub mod DroppingLemmas
 pub mod LiveLemmas
 pub mod StepLemmas
+pub mod WholeRuns

@@ -14,3 +14,4 @@ pub mod Dropping
 pub mod Study
 pub mod Recovery
 pub mod Live
+pub mod WholeRun

@@ -12,11 +12,14 @@ pub fn accepted_law()
 pub fn found_law()
     ensures found { FoundLaw }
     ensures heap { FoundHeapLaw }
+{}
 
 /// An image has one study, but for the reasons in its report.
 pub fn one_study_law()
     ensures { OneStudyLaw }
+{}
 
 /// Whatever recovery leaves of an image, recovery of that finds the same heap.
 pub fn same_heap_law()
     ensures { SameHeapLaw }
+{}

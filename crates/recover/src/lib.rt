@@ -37,6 +37,7 @@ mod step;
 mod studied;
 mod studying;
 mod walk;
+mod whole_run;
 
 pub use error::RecoverError;
 pub use laws::{accepted_law, found_law, one_study_law, same_heap_law};
@@ -44,6 +45,7 @@ pub use recovering::recover;
 pub use report::{Dropped, Report, Why};
 pub use studied::Study;
 pub use studying::study;
+pub use whole_run::{WholeRun, play_and_recover};
 
 #[cfg(test)]
 mod tests;

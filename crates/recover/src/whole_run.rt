@@ -1,0 +1,54 @@
+//! A whole run: calls, a crash, recovery.
+ghost use Rattle.std.specs.Prelude.{IfErr, MatchResult, OnOk};
+ghost use Rattle.heap_model.specs.Setting.{Setting};
+ghost use Rattle.durable.specs.Calls.{MakeAll, StoppedAt};
+ghost use Rattle.durable.specs.Past.{Past};
+ghost use Rattle.durable.specs.Store.{HasPast};
+ghost use Rattle.recover.specs.Recovery.{IsRecovery, RefusesRecovery};
+ghost use Rattle.recover.specs.WholeRun.{CannotRecover, MayBeLeft, Survives};
+
+use crate::error::RecoverError;
+use crate::recovering::recover;
+use crate::report::Report;
+use block_disk::Disk;
+use durable::{Store, StoreCall, StoreError};
+use image::Recovered;
+use std::alloc::Global;
+
+/// What a run and the recovery after it answered.
+#[derive(Drop)]
+pub struct WholeRun<E: Disk> {
+    /// What [`Store::play`] answered.
+    pub played: Result<(), (usize, StoreError)>,
+    /// What [`recover`] answered.
+    pub recovered: Result<(Recovered<E>, Report), (E, RecoverError)>,
+}
+
+/// Plays these calls on the store, as far as they go, and recovers a device with what a crash left of the store's.
+///
+/// **What survives.** Whatever bytes a crash leaves at any moment of the run, recovery takes them, and gives the heap that was
+/// acknowledged after some of the calls: that of the acknowledged sections and of nothing else, each whole, with all that it
+/// depends on. In a settling that the crash cuts off it may be the heap that this settling acknowledges.
+///
+/// The device `left` stands for the machine after the crash: it may be any that holds such bytes. It is refused only where
+/// a call of it fails, memory is wanting, or the control's sequence is at its last value.
+pub fn play_and_recover<D: Disk, E: Disk>(
+    alloc: Global,
+    store: &mut Store<D>,
+    calls: &[StoreCall],
+    left: E,
+) -> WholeRun<E>
+    ensures survives { (s : Setting) (p : Past) → HasPast store.old.known s p (D.device store.old.disk)
+        → MayBeLeft (D.device store.old.disk) (D.device store.new.disk) (E.device left).now.bytes
+        → MatchResult result.recovered (λ r. Survives store.old.known.layout s p calls.now r.0.heap r.1.kept) (λ back. CannotRecover (E.device left).now.bytes back.1) }
+    ensures played { (s : Setting) (p : Past) → HasPast store.old.known s p (D.device store.old.disk)
+        → OnOk result.played ((q : Past) × MakeAll s p calls.now q × HasPast store.new.known s q (D.device store.new.disk)) }
+    ensures stopped { (s : Setting) (p : Past) → HasPast store.old.known s p (D.device store.old.disk)
+        → IfErr result.played (λ e. StoppedAt s p calls.now store.old.known store.new.known (D.device store.new.disk) e.0 e.1) }
+    ensures recovered { MatchResult result.recovered (λ r. IsRecovery (E.device left) (E.device r.0.disk) r.0 r.1) (λ back. RefusesRecovery (E.device left).now.bytes back.1) }
+{
+    WholeRun {
+        played: store.play(calls),
+        recovered: recover(alloc, left),
+    }
+}
