@@ -88,38 +88,65 @@ fn kept(store: &Store<MemDisk>, lane: u8) -> Option<u64> {
     }
 }
 
+// Makes these calls in turn, and looks for these answers.
+fn check_answers(
+    rt: &impl Abort,
+    store: &mut Store<MemDisk>,
+    steps: &[(StoreCall, Result<(), StoreError>)],
+) {
+    for (call, answer) in steps {
+        let made = store.play(&[*call]).map_err(|(_, reason)| reason);
+        assert_eq!(rt; made, *answer, "{call:?}");
+    }
+}
+
 // Each refusal of two sections on one object, and what is taken between them.
 #[test]
 fn two_sections_are_kept(rt: HostRuntime) -> Result<(), Fail> {
     let mut store = fresh(rt.alloc(), 2, 2)?;
-    assert_eq!(rt; store.apply(Lane(2), acq(0, 0)), Err(StoreError::BadLane));
-    assert_eq!(rt; store.apply(Lane(0), acq(4, 0)), Err(StoreError::BadId));
-    assert_eq!(rt; store.apply(Lane(0), rel(0, 0)), Err(StoreError::NotNext));
-    assert_eq!(rt; store.apply(Lane(0), acq(0, 1)), Err(StoreError::NotNext));
-    assert_eq!(rt; store.apply(Lane(0), acq(0, 0)), Ok(()));
-    assert_eq!(rt;
-        store.apply(Lane(0), put(0, 11, 5)),
-        Err(StoreError::NotNext)
-    );
-    assert_eq!(rt; store.apply(Lane(0), put(0, 10, 5)), Ok(()));
-    assert_eq!(rt; store.log_step(), Ok(2));
-    assert_eq!(rt; store.settle(), Err(StoreError::Unwritten));
-    assert_eq!(rt; store.home_step(), Ok(Home::Wrote(FieldId(0))));
-    assert_eq!(rt; store.home_step(), Ok(Home::Done));
-    assert_eq!(rt; store.settle(), Ok(()));
+    let told = [
+        (
+            StoreCall::Apply(Lane(2), acq(0, 0)),
+            Err(StoreError::BadLane),
+        ),
+        (one(acq(4, 0)), Err(StoreError::BadId)),
+        (one(rel(0, 0)), Err(StoreError::NotNext)),
+        (one(acq(0, 1)), Err(StoreError::NotNext)),
+        (one(acq(0, 0)), Ok(())),
+        (one(put(0, 11, 5)), Err(StoreError::NotNext)),
+        (one(put(0, 10, 5)), Ok(())),
+        (StoreCall::Log, Ok(())),
+        (StoreCall::Settle, Err(StoreError::Unwritten)),
+        (StoreCall::Home, Ok(())),
+        (StoreCall::Settle, Ok(())),
+    ];
+    check_answers(&rt, &mut store, &told);
     assert_eq!(rt; kept(&store, 0), Some(0));
     let mut store = still_open(&rt, store, StoreError::Unfinished)?;
-    assert_eq!(rt; store.apply(Lane(0), rel(0, 0)), Ok(()));
+    check_answers(&rt, &mut store, &[(one(rel(0, 0)), Ok(()))]);
     let mut store = still_open(&rt, store, StoreError::Unwritten)?;
-    assert_eq!(rt; store.log_step(), Ok(1));
-    assert_eq!(rt; store.settle(), Ok(()));
-    assert_eq!(rt; kept(&store, 0), Some(1));
-    assert_eq!(rt; store.apply(Lane(0), acq(0, 1)), Ok(()));
-    assert_eq!(rt; store.apply(Lane(0), rel(0, 1)), Ok(()));
-    assert_eq!(rt; store.apply(Lane(0), acq(0, 2)), Err(StoreError::Worn));
-    assert_eq!(rt; store.log_step(), Ok(2));
-    assert_eq!(rt; store.settle(), Ok(()));
+    let rest = [
+        (StoreCall::Log, Ok(())),
+        (StoreCall::Settle, Ok(())),
+        (one(acq(0, 1)), Ok(())),
+        (one(rel(0, 1)), Ok(())),
+        (one(acq(0, 2)), Err(StoreError::Worn)),
+        (StoreCall::Log, Ok(())),
+        (StoreCall::Settle, Ok(())),
+    ];
+    check_answers(&rt, &mut store, &rest);
+    assert_eq!(rt; kept(&store, 0), Some(2));
     assert!(rt; store.close().is_ok(), "closed");
+    Ok(())
+}
+
+#[test]
+fn a_store_is_logged_and_goes_home(rt: HostRuntime) -> Result<(), Fail> {
+    let mut store = fresh(rt.alloc(), 2, 2)?;
+    assert_eq!(rt; store.play(&SECTION), Ok(()));
+    assert_eq!(rt; store.log_step(), Ok(3));
+    assert_eq!(rt; store.home_step(), Ok(Home::Wrote(FieldId(0))));
+    assert_eq!(rt; store.home_step(), Ok(Home::Done));
     Ok(())
 }
 
@@ -191,11 +218,14 @@ fn a_store_whose_device_failed_takes_no_more(rt: HostRuntime) -> Result<(), Fail
     disk.fail_call(17);
     let mut store = store_on(rt.alloc(), disk, 2, 9)?;
     assert_eq!(rt; store.play(&SECTION), Ok(()));
-    assert_eq!(rt; store.log_step(), Err(StoreError::Fault));
-    assert_eq!(rt; store.log_step(), Err(StoreError::Failed));
-    assert_eq!(rt; store.apply(Lane(1), acq(1, 0)), Err(StoreError::Failed));
-    assert_eq!(rt; store.home_step(), Err(StoreError::Failed));
-    assert_eq!(rt; store.settle(), Err(StoreError::Failed));
+    let steps = [
+        (StoreCall::Log, Err(StoreError::Fault)),
+        (StoreCall::Log, Err(StoreError::Failed)),
+        (two(acq(1, 0)), Err(StoreError::Failed)),
+        (StoreCall::Home, Err(StoreError::Failed)),
+        (StoreCall::Settle, Err(StoreError::Failed)),
+    ];
+    check_answers(&rt, &mut store, &steps);
     assert_eq!(rt; store.into_disk().stops(), 17);
     Ok(())
 }
