@@ -1,6 +1,7 @@
 //! Records whose answers are known.
 
-use crate::{Applied, StoreError};
+use crate::StoreError;
+use crate::applied::Applied;
 use heap_model::{FieldId, Lane, LaneRecord, ObjectId, Record};
 use image::{GuardRow, Layout};
 use std::alloc::{AllocError, Global};

@@ -1,9 +1,10 @@
 //! The store (Atlas, OOPSLA 2014): what it remembers of the records applied, and the steps that make them durable.
 //!
-//! [`Applied`] takes the records of each lane in memory, as soon as each may come next. [`log_records`] makes them
-//! durable, [`write_home`] brings a logged value to its home cell, and [`settle`] acknowledges the stable cut. Each is a
-//! step over any disk; whatever it answers, and at every moment until then, each image that a crash may leave stands for
-//! the heap of the acknowledged cut, in `settle` for that of the old one or of the new one.
+//! [`Store::format`] makes an image, and [`Store::adopt`] takes it over. [`Store::apply`] is told the records of each lane,
+//! [`Store::log_step`] makes them durable, [`Store::home_step`] brings a logged value to its home cell, and
+//! [`Store::settle`] acknowledges the stable cut. Whatever a call answers, and at every moment until then, each image that
+//! a crash may leave stands for the heap of the acknowledged cut, in `settle` for that of the old one or of the new one.
+//! [`Store::play`] makes a list of calls, so that this is one theorem.
 #![tactic(auto)]
 
 mod applied;
@@ -33,21 +34,15 @@ mod store;
 mod store_call;
 mod sync;
 
-pub use applied::Applied;
-pub use committed::Committed;
 pub use error::StoreError;
-pub use formatting::format;
-pub use home::{Home, write_home};
+pub use home::Home;
 pub use laws::{beginning_law, standing_law};
-pub use logging::log_records;
-pub use new_records::NewRecords;
-pub use sections::LoggedSections;
-pub use settling::settle;
-pub use stable_sections::StableSections;
 pub use store::Store;
 pub use store_call::StoreCall;
 
 #[cfg(test)]
 mod applied_tests;
+#[cfg(test)]
+mod store_tests;
 #[cfg(test)]
 mod tests;

@@ -1,6 +1,7 @@
 //! An image is made of a schema, as documented.
 
-use crate::{LoggedSections, format};
+use crate::Store;
+use crate::sections::LoggedSections;
 use block_disk::MemDisk;
 use guards::{Schema, SchemaBuilder};
 use heap_model::ObjectId;
@@ -11,7 +12,7 @@ use std::test::Fail;
 const SIZE: u64 = 130_208;
 
 // Four objects, and a field of each of the first two, which guards it; none where memory is wanting.
-fn schema_or_none(alloc: Global) -> Option<Schema> {
+pub fn schema_or_none(alloc: Global) -> Option<Schema> {
     let mut builder = SchemaBuilder::new(alloc);
     builder.object("o0").ok()?;
     builder.object("o1").ok()?;
@@ -26,7 +27,7 @@ fn schema_or_none(alloc: Global) -> Option<Schema> {
 fn an_image_is_made(rt: HostRuntime) -> Result<(), Fail> {
     let schema = schema_or_none(rt.alloc()).ok_or("no schema")?;
     let disk = MemDisk::new(rt.alloc(), SIZE)?;
-    let Ok(made) = format(rt.alloc(), disk, &schema, 2, 4000) else {
+    let Ok(made) = Store::format(rt.alloc(), disk, &schema, 2, 4000) else {
         return Err(Fail::new("refused"));
     };
     assert_eq!(rt; made.heap(), [10, 20].as_slice());

@@ -1,7 +1,7 @@
 use Rattle.std.proofs.Common.{◌∙◌, sym}
 use Rattle.image.specs.Calls.{after}
 use Rattle.image.specs.Format.{format_calls}
-use Rattle.durable.proofs.formatting.format.Goals as goal
+use Rattle.durable.proofs.store.Store.format.Goals as goal
 
 pub returns-in-Ok-write_header-clause-calls : goal.returns-in-Ok-write_header-clause-calls
 returns-in-Ok-write_header-clause-calls g c =
