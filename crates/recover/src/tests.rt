@@ -1,6 +1,7 @@
 //! Images with hand-made logs: what refuses them, and where. The lanes and places follow from the rules of
 //! docs/FORMAT.md, "Which image is refused".
 mod dropping;
+mod recovering;
 
 use super::*;
 use block_disk::{Disk, MemDisk};
