@@ -54,29 +54,59 @@ fn fresh(alloc: Global, schema: &Schema) -> Result<(MemDisk, Layout), Fail>
     Ok((disk, layout))
 }
 
+// The same, for a test that asks nothing more of it.
+fn fresh_disk(alloc: Global, schema: &Schema) -> Result<MemDisk, Fail> {
+    let (disk, _) = fresh(alloc, schema)?;
+    Ok(disk)
+}
+
+// The size of the schema's image with two lanes of 4,000 records.
+fn common_size(schema: &Schema) -> Option<u64> {
+    let layout = Layout::of(schema, 2, 4000)?;
+    Some(layout.size())
+}
+
 #[test]
-fn a_fresh_image_is_as_documented(rt: HostRuntime) -> Result<(), Fail> {
+fn layouts_have_limits(rt: HostRuntime) -> Result<(), Fail> {
     let schema = common_schema(rt.alloc())?;
-    assert_eq!(rt; Layout::of(&schema, 0, 4000), None);
-    assert_eq!(rt; Layout::of(&schema, 33, 4000), None);
-    assert_eq!(rt; Layout::of(&schema, 2, 1999), None);
-    assert_eq!(rt; Layout::of(&schema, 2, 1_048_577), None);
-    let (mut disk, layout) = fresh(rt.alloc(), &schema)?;
-    assert_eq!(rt; layout.size(), 130_208);
-    assert_eq!(rt; disk.size(), 130_208);
-    assert_eq!(rt; disk.stops(), 13);
-    let mut header = [0xff; 64];
-    assert_eq!(rt; disk.read_at(0, &mut header), Ok(()));
+    for (lanes, capacity) in [(0, 4000), (33, 4000), (2, 1999), (2, 1_048_577)] {
+        assert_eq!(rt; Layout::of(&schema, lanes, capacity), None);
+    }
+    assert_eq!(rt; common_size(&schema), Some(130_208));
+    Ok(())
+}
+
+// The first 64 bytes.
+fn documented_header() -> [u8; 64] {
     let mut documented = [0; 64];
     documented[..8].copy_from_slice(b"MONIHEAP");
     documented[8..32].copy_from_slice(&[
         0xa5, 0x02, 0, 0, 0, 0, 0, 0x04, 0, 0, 0, 0x02, 0, 0, 0x0f, 0xa0, 0, 0, 0, 0, 0, 0x01,
         0xfc, 0xa0,
     ]);
-    assert_eq!(rt; header, documented);
-    let mut row = [0xff; 16];
-    assert_eq!(rt; disk.read_at(2176, &mut row), Ok(()));
-    assert_eq!(rt; row, [0, 0, 0, 1, 0, 0, 0, 1, 0, 0, 0, 0, 0, 0, 0, 20]);
+    documented
+}
+
+// Whether the disk begins with these bytes.
+fn has_header(disk: &mut MemDisk, documented: [u8; 64]) -> bool {
+    let mut found = [0xff; 64];
+    disk.read_at(0, &mut found).is_ok() && found == documented
+}
+
+// Whether these are the second field's guard row.
+fn has_row(disk: &mut MemDisk, documented: [u8; 16]) -> bool {
+    let mut found = [0xff; 16];
+    disk.read_at(2176, &mut found).is_ok() && found == documented
+}
+
+#[test]
+fn a_fresh_image_is_as_documented(rt: HostRuntime) -> Result<(), Fail> {
+    let schema = common_schema(rt.alloc())?;
+    let mut disk = fresh_disk(rt.alloc(), &schema)?;
+    assert_eq!(rt; disk.size(), 130_208);
+    assert_eq!(rt; disk.stops(), 13);
+    assert!(rt; has_header(&mut disk, documented_header()));
+    assert!(rt; has_row(&mut disk, [0, 0, 0, 1, 0, 0, 0, 1, 0, 0, 0, 0, 0, 0, 0, 20]));
     Ok(())
 }
 
@@ -147,50 +177,85 @@ fn a_control_has_the_documented_bytes(rt: HostRuntime) {
     }
 }
 
-// One byte of a fresh image is altered, and what reads it refuses it so; the guard rows and the control are read of an
-// image whose header is good.
-#[test]
-fn altered_images_are_refused(rt: HostRuntime) -> Result<(), Fail> {
-    let schema = common_schema(rt.alloc())?;
-    for (at, byte, refusal) in [
-        (0, 0x4e, ImageError::NotFormatted),
-        (7, 0x51, ImageError::NotFormatted),
-        (8, 0, ImageError::NotFormatted),
-        (8, 0xff, ImageError::NotFormatted),
-        (9, 0, ImageError::BadHeader),
-        (9, 33, ImageError::BadHeader),
-        (10, 1, ImageError::BadHeader),
-        (15, 0, ImageError::BadHeader),
-        (14, 0x10, ImageError::BadHeader),
-        (19, 0, ImageError::BadHeader),
-        (22, 0x07, ImageError::BadHeader),
-        (31, 0xa1, ImageError::BadHeader),
-        (32, 1, ImageError::BadHeader),
-        (63, 1, ImageError::BadHeader),
-        (2163, 4, ImageError::BadHeader),
-        (2183, 4, ImageError::BadHeader),
-        (64, 0, ImageError::NoControl),
-        (64, 0xa4, ImageError::NoControl),
-        (79, 0, ImageError::BadControl),
-        (83, 2, ImageError::BadControl),
-        (84, 1, ImageError::BadControl),
-        (95, 1, ImageError::BadControl),
-        (119, 1, ImageError::BadControl),
-        (110, 0x10, ImageError::BadControl),
-        (175, 1, ImageError::BadControl),
-        (1111, 1, ImageError::BadControl),
-    ] {
-        let (mut disk, _) = fresh(rt.alloc(), &schema)?;
-        assert_eq!(rt; disk.write_at(at, &[byte]), Ok(()));
-        assert_eq!(rt;
-            study(rt.alloc(), &mut disk),
-            Err(refusal),
-            "byte {at} is {byte}"
-        );
+// What the readers say of a fresh image with this byte altered.
+fn study_altered(
+    alloc: Global,
+    schema: &Schema,
+    at: u64,
+    byte: u8,
+) -> Result<Result<(Slot, u64), ImageError>, Fail> {
+    let mut disk = fresh_disk(alloc, schema)?;
+    put(&mut disk, at, &[byte])?;
+    Ok(study(alloc, &mut disk))
+}
+
+fn put(disk: &mut MemDisk, at: u64, bytes: &[u8]) -> Result<(), Fail> {
+    disk.write_at(at, bytes).map_err(Fail::new)
+}
+
+// The image with any one of these bytes altered, each at its place, is refused so.
+fn alterations_are_refused(
+    rt: &impl Abort,
+    alloc: Global,
+    alterations: &[(u64, u8)],
+    refusal: ImageError,
+) -> Result<(), Fail> {
+    let schema = common_schema(alloc)?;
+    for (at, byte) in alterations.iter().copied() {
+        let found = study_altered(alloc, &schema, at, byte)?;
+        assert_eq!(rt; found, Err(refusal), "byte {at} is {byte}");
     }
+    Ok(())
+}
+
+#[test]
+fn another_name_is_no_image(rt: HostRuntime) -> Result<(), Fail> {
+    let alterations = [(0, 0x4e), (7, 0x51), (8, 0), (8, 0xff)];
+    alterations_are_refused(&rt, rt.alloc(), &alterations, ImageError::NotFormatted)?;
     let mut small = MemDisk::new(rt.alloc(), 63)?;
     assert_eq!(rt; read_header(&mut small), Err(ImageError::NotFormatted));
     Ok(())
+}
+
+// The last two are of guard rows.
+#[test]
+fn altered_headers_are_refused(rt: HostRuntime) -> Result<(), Fail> {
+    let alterations = [
+        (9, 0),
+        (9, 33),
+        (10, 1),
+        (15, 0),
+        (14, 0x10),
+        (19, 0),
+        (22, 0x07),
+        (31, 0xa1),
+        (32, 1),
+        (63, 1),
+        (2163, 4),
+        (2183, 4),
+    ];
+    alterations_are_refused(&rt, rt.alloc(), &alterations, ImageError::BadHeader)
+}
+
+#[test]
+fn a_closed_gate_shows_no_control(rt: HostRuntime) -> Result<(), Fail> {
+    let alterations = [(64, 0), (64, 0xa4)];
+    alterations_are_refused(&rt, rt.alloc(), &alterations, ImageError::NoControl)
+}
+
+#[test]
+fn altered_controls_are_refused(rt: HostRuntime) -> Result<(), Fail> {
+    let alterations = [
+        (79, 0),
+        (83, 2),
+        (84, 1),
+        (95, 1),
+        (119, 1),
+        (110, 0x10),
+        (175, 1),
+        (1111, 1),
+    ];
+    alterations_are_refused(&rt, rt.alloc(), &alterations, ImageError::BadControl)
 }
 
 // What the readers say of the image, one after the other.
@@ -201,32 +266,36 @@ fn study(alloc: Global, disk: &mut MemDisk) -> Result<(Slot, u64), ImageError> {
     Ok((slot, control.sequence))
 }
 
-// The gates of both slots are open: the greater sequence counts, two equal ones are refused.
+// What the readers say where the gates of both slots are open, with this sequence in slot B.
+fn study_both_open(alloc: Global, sequence: u8) -> Result<Result<(Slot, u64), ImageError>, Fail> {
+    let schema = common_schema(alloc)?;
+    let mut disk = fresh_disk(alloc, &schema)?;
+    let (_, body) = two_lanes();
+    put(&mut disk, 1112, &[0xa5])?;
+    put(&mut disk, 1120, &body)?;
+    put(&mut disk, 1127, &[sequence])?;
+    Ok(study(alloc, &mut disk))
+}
+
+// The greater sequence counts, and two equal ones are refused.
 #[test]
 fn the_greater_sequence_counts(rt: HostRuntime) -> Result<(), Fail> {
-    let schema = common_schema(rt.alloc())?;
-    let (_, body) = two_lanes();
-    for (sequence, answer) in [
-        (0, Ok((Slot::A, 1))),
-        (1, Err(ImageError::BadControl)),
-        (2, Ok((Slot::B, 2))),
-    ] {
-        let (mut disk, _) = fresh(rt.alloc(), &schema)?;
-        assert_eq!(rt; disk.write_at(1112, &[0xa5]), Ok(()));
-        assert_eq!(rt; disk.write_at(1120, &body), Ok(()));
-        assert_eq!(rt; disk.write_at(1127, &[sequence]), Ok(()));
-        assert_eq!(rt; study(rt.alloc(), &mut disk), answer);
-    }
+    assert_eq!(rt; study_both_open(rt.alloc(), 0)?, Ok((Slot::A, 1)));
+    assert_eq!(rt;
+        study_both_open(rt.alloc(), 1)?,
+        Err(ImageError::BadControl)
+    );
+    assert_eq!(rt; study_both_open(rt.alloc(), 2)?, Ok((Slot::B, 2)));
     Ok(())
 }
 
 #[test]
 fn a_small_device_is_told_of_before_its_guard_rows(rt: HostRuntime) -> Result<(), Fail> {
     let schema = common_schema(rt.alloc())?;
-    let (disk, _) = fresh(rt.alloc(), &schema)?;
+    let disk = fresh_disk(rt.alloc(), &schema)?;
     let short = disk.bytes().get(..130_207).ok_or("a small image")?;
     let mut cut = MemDisk::from_bytes(rt.alloc(), short)?;
-    assert_eq!(rt; cut.write_at(2163, &[9]), Ok(()));
+    put(&mut cut, 2163, &[9])?;
     assert_eq!(rt; read_header(&mut cut), Err(ImageError::TooSmall));
     Ok(())
 }
@@ -261,12 +330,10 @@ fn failed_commit(
     commit(disk, layout, chosen, sequence)
 }
 
-// Two commits over a fresh image: four calls into slot B, whose gate is closed, and six into slot A, whose gate is open.
-#[test]
-fn a_crash_in_a_commit_leaves_the_old_control_or_the_new_one(rt: HostRuntime) -> Result<(), Fail> {
-    let schema = common_schema(rt.alloc())?;
-    let (mut disk, layout) = fresh(rt.alloc(), &schema)?;
-    let fresh_stops = disk.stops();
+// A fresh image after two commits: four calls into slot B, whose gate is closed, and six into slot A, whose gate is open.
+fn committed_twice(rt: &impl Abort, alloc: Global) -> Result<MemDisk, Fail> {
+    let schema = common_schema(alloc)?;
+    let (mut disk, layout) = fresh(alloc, &schema)?;
     let Ok(Slot::B) = commit(&mut disk, &layout, Slot::A, 1) else {
         return Err(Fail::new("no commit"));
     };
@@ -275,103 +342,152 @@ fn a_crash_in_a_commit_leaves_the_old_control_or_the_new_one(rt: HostRuntime) ->
         return Err(Fail::new("no commit"));
     };
     assert_eq!(rt; disk.stops(), 23);
-    assert_eq!(rt; fresh_stops, 13);
-    // Of each fill: the first stop at which a crash leaves the second control, and the first at which it leaves the third.
-    for (fill, second, third) in [
-        (Fill::Lost, 18, 24),
-        (Fill::Kept, 16, 22),
-        (Fill::Byte(0), 18, 24),
-        (Fill::Byte(0xff), 18, 24),
-        (Fill::Byte(0xa5), 16, 22),
-    ] {
-        for stop in 14..25 {
-            let mut image = disk.crash_image(stop, fill)?.ok_or("no image")?;
-            let found = control_of_image(&mut image, &layout)?;
-            let expected = if stop < second {
-                (Slot::A, 1)
-            } else if stop < third {
-                (Slot::B, 2)
-            } else {
-                (Slot::A, 3)
-            };
-            assert_eq!(rt; found, expected, "{fill:?} at stop {stop}");
-        }
+    Ok(disk)
+}
+
+// A crash at this stop shows the control of this slot and sequence.
+fn crash_shows(
+    rt: &impl Abort,
+    alloc: Global,
+    disk: &MemDisk,
+    stop: u64,
+    fill: Fill,
+    expected: (Slot, u64),
+) -> Result<(), Fail> {
+    let mut image = disk.crash_image(stop, fill)?.ok_or("no image")?;
+    let found = study(alloc, &mut image);
+    assert_eq!(rt; found, Ok(expected), "{fill:?} at stop {stop}");
+    Ok(())
+}
+
+// A crash shows the first control before the stop `second`, then the second control, and the third from the stop `third`.
+fn crashes_show(
+    rt: &impl Abort,
+    alloc: Global,
+    disk: &MemDisk,
+    fill: Fill,
+    second: u64,
+    third: u64,
+) -> Result<(), Fail> {
+    for stop in 14..25 {
+        let expected = if stop < second {
+            (Slot::A, 1)
+        } else if stop < third {
+            (Slot::B, 2)
+        } else {
+            (Slot::A, 3)
+        };
+        crash_shows(rt, alloc, disk, stop, fill, expected)?;
     }
     Ok(())
 }
 
-// The slot that counts, and its sequence.
-fn control_of_image(image: &mut MemDisk, layout: &Layout) -> Result<(Slot, u64), Fail>
-    requires { IsLayout layout.now }
-{
-    if image.size() < 2160 {
-        return Err(Fail::new("a small image"));
-    }
-    let (slot, control) = choose_control(image, layout).map_err(Fail::new)?;
-    Ok((slot, control.sequence))
+// The image is made by 13 writes and syncs.
+#[test]
+fn a_crash_in_a_commit_leaves_the_old_control_or_the_new_one(rt: HostRuntime) -> Result<(), Fail> {
+    let alloc = rt.alloc();
+    let disk = committed_twice(&rt, alloc)?;
+    crashes_show(&rt, alloc, &disk, Fill::Lost, 18, 24)?;
+    crashes_show(&rt, alloc, &disk, Fill::Kept, 16, 22)?;
+    crashes_show(&rt, alloc, &disk, Fill::Byte(0), 18, 24)?;
+    crashes_show(&rt, alloc, &disk, Fill::Byte(0xff), 18, 24)?;
+    crashes_show(&rt, alloc, &disk, Fill::Byte(0xa5), 16, 22)
 }
 
-// A read and six writes and syncs, each of which fails in turn: a commit over a commit.
+// What the readers say after a commit over a commit, the call of this number in the second of which is a fault.
+fn study_failed_commit(alloc: Global, call: u64) -> Result<Result<(Slot, u64), ImageError>, Fail>
+    requires { 1 ≤ call }
+{
+    let schema = common_schema(alloc)?;
+    let (mut disk, layout) = fresh(alloc, &schema)?;
+    let Ok(Slot::B) = commit(&mut disk, &layout, Slot::A, 1) else {
+        return Err(Fail::new("no commit"));
+    };
+    let Err(ImageError::Fault) = failed_commit(&mut disk, &layout, Slot::B, 2, call) else {
+        return Err(Fail::new("no fault"));
+    };
+    Ok(study(alloc, &mut disk))
+}
+
+// A read and six writes and syncs, each of which fails in turn. At the last of them the new control shows already.
 #[test]
 fn a_fault_in_a_commit_leaves_the_old_control_or_the_new_one(rt: HostRuntime) -> Result<(), Fail> {
-    let schema = common_schema(rt.alloc())?;
-    for (call, sequence) in [(1, 2), (2, 2), (3, 2), (4, 2), (5, 2), (6, 2), (7, 3)] {
-        let (mut disk, layout) = fresh(rt.alloc(), &schema)?;
-        let Ok(Slot::B) = commit(&mut disk, &layout, Slot::A, 1) else {
-            return Err(Fail::new("no commit"));
-        };
-        assert!(rt; call >= 1);
-        let refused = failed_commit(&mut disk, &layout, Slot::B, 2, call);
-        assert_eq!(rt; refused, Err(ImageError::Fault), "call {call}");
-        assert_eq!(rt;
-            control_of_image(&mut disk, &layout)?.1,
-            sequence,
-            "call {call}"
-        );
+    for call in 1..7 {
+        let found = study_failed_commit(rt.alloc(), call)?;
+        assert_eq!(rt; found, Ok((Slot::B, 2)), "call {call}");
     }
-    let (mut disk, layout) = fresh(rt.alloc(), &schema)?;
-    assert_eq!(rt;
-        failed_commit(&mut disk, &layout, Slot::A, 1, 6),
-        Ok(Slot::B)
-    );
+    assert_eq!(rt; study_failed_commit(rt.alloc(), 7)?, Ok((Slot::A, 3)));
     Ok(())
 }
 
-// Each of the calls that make an image fails in turn, and each of the reads of one.
+// Into a slot whose gate is closed there are a read and four writes and syncs.
 #[test]
-fn a_fault_is_answered_as_one(rt: HostRuntime) -> Result<(), Fail> {
+fn a_commit_over_a_closed_gate_makes_five_calls(rt: HostRuntime) -> Result<(), Fail> {
     let schema = common_schema(rt.alloc())?;
-    let layout = Layout::of(&schema, 2, 4000).ok_or("no layout")?;
+    let (mut disk, layout) = fresh(rt.alloc(), &schema)?;
+    let made = failed_commit(&mut disk, &layout, Slot::A, 1, 6);
+    assert_eq!(rt; made, Ok(Slot::B));
+    Ok(())
+}
+
+// Whether the header can be read of an image, the call of this number in the making of which is a fault.
+fn header_of_failed_image(alloc: Global, schema: &Schema, call: u64) -> Result<bool, Fail>
+    requires { 1 ≤ call }
+{
+    let layout = Layout::of(schema, 2, 4000).ok_or("no layout")?;
+    let mut disk = MemDisk::new(alloc, layout.size())?;
+    disk.fail_call(call);
+    let Err(ImageError::Fault) = write_header(&mut disk, &layout, schema) else {
+        return Err(Fail::new("no fault"));
+    };
+    Ok(read_header(&mut disk) == Ok(layout))
+}
+
+// Each of the calls that make an image fails in turn. The header is whole before the last.
+#[test]
+fn a_fault_in_the_making_is_answered_as_one(rt: HostRuntime) -> Result<(), Fail> {
+    let schema = common_schema(rt.alloc())?;
     for call in 1..14 {
-        let mut disk = MemDisk::new(rt.alloc(), layout.size())?;
-        disk.fail_call(call);
-        assert_eq!(rt;
-            write_header(&mut disk, &layout, &schema),
-            Err(ImageError::Fault)
-        );
-        assert_eq!(rt; read_header(&mut disk) == Ok(layout), call == 13);
+        let is_read = header_of_failed_image(rt.alloc(), &schema, call)?;
+        assert_eq!(rt; is_read, call == 13, "call {call}");
     }
+    Ok(())
+}
+
+// What the readers say of a fresh image, where the call of this number is a fault.
+fn study_with_fault(
+    alloc: Global,
+    schema: &Schema,
+    call: u64,
+) -> Result<Result<(Slot, u64), ImageError>, Fail>
+    requires { 1 ≤ call }
+{
+    let mut disk = fresh_disk(alloc, schema)?;
+    disk.fail_call(call);
+    Ok(study(alloc, &mut disk))
+}
+
+#[test]
+fn a_fault_in_the_reading_is_answered_as_one(rt: HostRuntime) -> Result<(), Fail> {
+    let schema = common_schema(rt.alloc())?;
     for call in 1..6 {
-        let (mut disk, _) = fresh(rt.alloc(), &schema)?;
-        disk.fail_call(call);
-        assert_eq!(rt;
-            study(rt.alloc(), &mut disk),
-            Err(ImageError::Fault),
-            "call {call}"
-        );
+        let found = study_with_fault(rt.alloc(), &schema, call)?;
+        assert_eq!(rt; found, Err(ImageError::Fault), "call {call}");
     }
+    Ok(())
+}
+
+#[test]
+fn a_fault_at_a_cell_is_answered_as_one(rt: HostRuntime) -> Result<(), Fail> {
+    let schema = common_schema(rt.alloc())?;
     let (mut disk, layout) = fresh(rt.alloc(), &schema)?;
     assert!(rt; layout.fields == 2);
     disk.fail_call(1);
-    assert_eq!(rt;
-        put_cell(&mut disk, &layout, FieldId(1), 7),
-        Err(ImageError::Fault)
-    );
+    let put = put_cell(&mut disk, &layout, FieldId(1), 7);
+    assert_eq!(rt; put, Err(ImageError::Fault));
     disk.fail_call(1);
-    assert_eq!(rt;
-        get_cell(&mut disk, &layout, FieldId(1)),
-        Err(ImageError::Fault)
-    );
+    let got = get_cell(&mut disk, &layout, FieldId(1));
+    assert_eq!(rt; got, Err(ImageError::Fault));
     assert_eq!(rt; get_cell(&mut disk, &layout, FieldId(1)), Ok(20));
     Ok(())
 }
