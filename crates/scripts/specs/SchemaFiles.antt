@@ -1,5 +1,5 @@
 -- What a schema file declares, and where it is refused (docs/SCRIPTS.md, "The program's fault texts").
-use Rattle.std.specs.Prelude.{◌≡◌, ◌⊎◌, ℕ, ◌+◌, ◌-◌, ◌<◌, ◌≤◌, Bool, true, false, IsTrue, List, [], ◌∷◌, Some, length, take, slice_get}
+use Rattle.std.specs.Prelude.{◌≡◌, ◌⊎◌, ℕ, ◌+◌, ◌-◌, ◌<◌, ◌≤◌, Bool, true, false, IsTrue, List, [], ◌∷◌, Option, Some, length, take, slice_get}
 use Rattle.std.specs.Str.{IsAscii}
 use Rattle.guards.specs.Schema.{Declarations, object_count, field_count, nothing}
 use Rattle.guards.specs.declared.error.SchemaError.{SchemaError}
@@ -20,7 +20,7 @@ use Rattle.scripts.specs.Lines.{IsText, IsSkipped}
 use Rattle.scripts.specs.Machine.{Declaring, Steps}
 use Rattle.scripts.specs.Orders as order
 use Rattle.scripts.specs.Orders.{Order}
-use Rattle.scripts.specs.Runs.{IsWhole}
+use Rattle.scripts.specs.Runs.{IsWhole, OfScript}
 
 -- an object or a field is declared
 abbrev pub declares : Order → Bool
@@ -124,10 +124,11 @@ pub record RefusesEmpty (lines : List (List ℕ)) (ending : Ending) (fault : Sch
   pub empty : (object_count declared ≡ 0) ⊎ (field_count declared ≡ 0)
   pub why : fault.why ≡ kinds.Empty
 
--- at which line a file is refused, and why
-abbrev pub RefusesFile : List (List ℕ) → Ending → SchemaFault → Type 0
-RefusesFile lines ending fault = RefusesAt nothing lines fault ⊎ RefusesBehind lines ending fault ⊎ RefusesEmpty lines ending fault
+-- the bytes that were read are a schema file that declares this
+abbrev pub DeclaresSchema : (old new : Option (List ℕ)) → Declarations → Type 0
+DeclaresSchema old new declared = OfScript old new (λ lines ending. IsWhole ending × DeclaresLines nothing lines declared)
 
--- the file was read to its end, and its lines declare this
-abbrev pub DeclaresFile : List (List ℕ) → Ending → Declarations → Type 0
-DeclaresFile lines ending declared = IsWhole ending × DeclaresLines nothing lines declared
+-- they are one that is refused: at which line, and why
+abbrev pub RefusesSchema : (old new : Option (List ℕ)) → SchemaFault → Type 0
+RefusesSchema old new fault = OfScript old new
+    (λ lines ending. RefusesAt nothing lines fault ⊎ RefusesBehind lines ending fault ⊎ RefusesEmpty lines ending fault)

@@ -5,8 +5,7 @@ ghost use Rattle.guards.specs.declared.builder.TheConstants.{MOST_OBJECTS};
 ghost use Rattle.scripts.specs.Lines.{lines_of};
 ghost use Rattle.scripts.specs.Orders as order;
 ghost use Rattle.scripts.specs.Orders.{order_of};
-ghost use Rattle.scripts.specs.Runs.{OfScript};
-ghost use Rattle.scripts.specs.SchemaFiles.{Answers, DeclaresFile, DeclaresLine, DeclaresLines, RefusesAt, RefusesDeclaration, RefusesFile, RefusesLine, told_of_declaration, told_of_text};
+ghost use Rattle.scripts.specs.SchemaFiles.{Answers, DeclaresLine, DeclaresLines, DeclaresSchema, RefusesAt, RefusesDeclaration, RefusesLine, RefusesSchema, told_of_declaration, told_of_text};
 ghost use Rattle.scripts.specs.declared.answer.Answer.TheVariants as answers;
 ghost use Rattle.scripts.specs.declared.schema_fault.SchemaFaultKind.TheVariants as kinds;
 
@@ -26,10 +25,8 @@ use std::io::Read;
 /// It is refused at the first line that is no such line, that could not be read, for which there was no memory, or that
 /// declares what a script would refuse; at the last line where nothing else is wrong and there is no object or no field.
 pub fn read_schema<R: Read>(alloc: Global, reader: &mut R) -> Result<Schema, SchemaFault>
-    ensures ok { IfOk result (λ schema. OfScript (R.remaining reader.old) (R.remaining reader.new)
-        (λ lines ending. DeclaresFile lines ending schema)) }
-    ensures refused { IfErr result (λ fault. OfScript (R.remaining reader.old) (R.remaining reader.new)
-        (λ lines ending. RefusesFile lines ending fault)) }
+    ensures ok { IfOk result (λ schema. DeclaresSchema (R.remaining reader.old) (R.remaining reader.new) schema) }
+    ensures refused { IfErr result (λ fault. RefusesSchema (R.remaining reader.old) (R.remaining reader.new) fault) }
 {
     let (lines, ending) = read_lines(alloc, reader);
     let mut builder = SchemaBuilder::new(alloc);
