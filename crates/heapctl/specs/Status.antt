@@ -1,5 +1,7 @@
 -- The status with which the program ends (docs/SCRIPTS.md, "The program's fault texts").
 use Rattle.std.specs.Prelude.{ℕ}
+use Rattle.image_file.specs.declared.error.FormatError.{FormatError}
+use Rattle.image_file.specs.declared.error.FormatError.TheVariants.{Schema, BadHeader, Fault, NoMemory}
 use Rattle.scripts.specs.declared.error.ScriptErrorKind.{ScriptErrorKind}
 use Rattle.scripts.specs.declared.error.ScriptErrorKind.TheVariants.{Syntax, NotText, TooLong, Read, Write, Memory}
 
@@ -11,3 +13,10 @@ status_for TooLong = 2
 status_for Read = 1
 status_for Write = 1
 status_for Memory = 1
+
+-- where no image was made: 2 for what the schema file has, 1 for the rest
+abbrev pub status_for_format : FormatError → ℕ
+status_for_format (Schema fault) = 2
+status_for_format BadHeader = 1
+status_for_format Fault = 1
+status_for_format NoMemory = 1

@@ -1,6 +1,38 @@
--- Which words the program takes (this project's own; read as clap 4 reads them).
-use Rattle.std.specs.Prelude.{[], true, codes}
-use Rattle.clap.specs.Simple.{App, new_shape, with_subcommand}
+-- Which words the program takes, and what they ask for (this project's own; read as clap 4 reads them).
+use Rattle.std.specs.Prelude.{◌≡◌, ℕ, ◌^◌, ◌<◌, List, [], ◌∷◌, true, codes, pos, Option, None, Some, unwrap_or}
+use Rattle.std.specs.Str.Parse.{IsNumeral, digits_value, without_leading_plus}
+use Rattle.clap.specs.Simple.{App, Shape, new_app, new_shape, new_rule, with_rule, with_subcommand}
+use Rattle.clap.specs.Walk.{Row, Rule, Text, first_of, one_of}
+use Rattle.clap.specs.declared.builder.value_parser.ValueParser.TheVariants.{Signed}
+use Rattle.heapctl.specs.declared.words.Words.{Words}
+use Rattle.heapctl.specs.declared.words.Words.TheVariants as words
+
+-- an option that has to be there, with a path
+abbrev pub path_option : Text → Rule
+path_option name = record (new_rule name) { long = Some name; value_names = 1; required = true }
+
+-- the number of lanes, 1 to 32, and 4 where nothing is said
+abbrev pub lanes_option : Rule
+lanes_option = record (new_rule (codes "lanes")) {
+  long = Some (codes "lanes");
+  value_names = 1;
+  defaults = codes "4" ∷ [];
+  parser = Some (Signed (pos 1) (pos 32));
+}
+
+-- the records of a lane, 2,000 to 1,048,576, and 4,000 where nothing is said
+abbrev pub capacity_option : Rule
+capacity_option = record (new_rule (codes "capacity")) {
+  long = Some (codes "capacity");
+  value_names = 1;
+  defaults = codes "4000" ∷ [];
+  parser = Some (Signed (pos 2000) (pos 1048576));
+}
+
+-- the word `format` with its options
+abbrev pub format_words : App
+format_words = with_rule (with_rule (with_rule (with_rule (new_app (codes "format"))
+    (path_option (codes "image"))) (path_option (codes "schema"))) lanes_option) capacity_option
 
 -- `heapctl` alone, with a version and no word `help`
 abbrev pub top : App
@@ -9,6 +41,29 @@ top = record {
   subs = [];
 }
 
--- `heapctl` with its word `run`
+-- with the word `run`
+abbrev pub play_words : App
+play_words = with_subcommand top (new_shape (codes "run"))
+
+-- with all its words
 abbrev pub program : App
-program = with_subcommand top (new_shape (codes "run"))
+program = with_subcommand play_words format_words.top
+
+-- the number that an option's text spells, where it spells one that fits
+abbrev pub Reads : (bits : ℕ) → Option Text → ℕ → Type 0
+Reads bits None number = Unit {0}
+Reads bits (Some text) number = IsNumeral 10 (without_leading_plus text) → digits_value 10 (without_leading_plus text) < 2 ^ bits
+    → number ≡ digits_value 10 (without_leading_plus text)
+
+-- an image file is to be made, as the options behind the word say
+pub record AsksToFormat (options : List Row) (image schema : Text) (lanes capacity : ℕ) : Type 0 where
+  pub image_is : image ≡ unwrap_or (first_of (codes "image") options) []
+  pub schema_is : schema ≡ unwrap_or (first_of (codes "schema") options) []
+  pub lanes_are : Reads 8 (one_of (codes "lanes") options) lanes
+  pub capacity_is : Reads 32 (one_of (codes "capacity") options) capacity
+
+-- the word that was met with its options, if one was, asks for this
+abbrev pub AsksFor : Option (Text × List Row) → Words → Type 0
+AsksFor found words.Run = (options : List Row) → found ≡ Some (codes "format", options) → ⊥
+AsksFor found (words.Format image schema lanes capacity) =
+    (options : List Row) × (found ≡ Some (codes "format", options)) × AsksToFormat options image.now schema.now lanes capacity

@@ -1,4 +1,4 @@
-//! `heapctl`: plays a script of threads, crashes and recoveries (`docs/SCRIPTS.md`).
+//! `heapctl`: plays a script of threads, crashes and recoveries, and makes image files (`docs/SCRIPTS.md`).
 //!
 //! Reads the program's words, does what they ask for, and tells the caller by the exit status how it went. Faults go to
 //! standard error, and all else to standard output.
@@ -9,19 +9,32 @@ mod status;
 mod tests;
 mod words;
 
+use block_disk::BackingFile;
 use clap::Error;
 use clap::error::ErrorKind;
+use image_file::format_file;
 use scripts::run_script;
-use status::{FAULT, WRONG_INPUT, status_of};
+use status::{FAULT, WRONG_INPUT, status_of, status_of_format};
+use std::io::Read;
 use std::process::ExitCode;
-use std::rt::Env;
+use std::rt::{Env, Files};
 use std::{env, io};
 use words::{Words, read_words};
 
 // Does what the words ask for.
-fn obey<R: Input + Print + Eprint + AllocGlobal>(rt: &R, words: Words) -> ExitCode {
+fn obey<F, R>(rt: &R, words: Words<'_>) -> ExitCode
+where
+    F: BackingFile + Read + Drop,
+    R: Files<File = F> + Input + Print + Eprint + AllocGlobal,
+{
     match words {
         Words::Run => play(rt),
+        Words::Format {
+            image,
+            schema,
+            lanes,
+            capacity,
+        } => make_image(rt, image, schema, lanes, capacity),
     }
 }
 
@@ -34,6 +47,22 @@ fn play<R: Input + Print + Eprint + AllocGlobal>(rt: &R) -> ExitCode {
         Err(error) => {
             let _ = eprintln!(rt; "heapctl: {error}");
             ExitCode::from(status_of(error.kind))
+        }
+    }
+}
+
+// Makes an image file.
+fn make_image<F, R>(rt: &R, image: &str, schema: &str, lanes: u8, capacity: u32) -> ExitCode
+where
+    F: BackingFile + Read + Drop,
+    R: Files<File = F> + Print + Eprint + AllocGlobal,
+{
+    let mut writer = io::writer(rt);
+    match format_file(rt, rt.alloc(), image, schema, lanes, capacity, &mut writer) {
+        Ok(()) => ExitCode::SUCCESS,
+        Err(error) => {
+            let _ = eprintln!(rt; "heapctl: {error}");
+            ExitCode::from(status_of_format(&error))
         }
     }
 }
@@ -68,7 +97,11 @@ fn no_words<R: Eprint>(rt: &R, error: &io::Error) -> ExitCode {
     ExitCode::from(WRONG_INPUT)
 }
 
-fn run<R: Env + Input + Print + Eprint + AllocGlobal>(rt: &R) -> ExitCode {
+fn run<F, R>(rt: &R) -> ExitCode
+where
+    F: BackingFile + Read + Drop,
+    R: Env + Files<File = F> + Input + Print + Eprint + AllocGlobal,
+{
     let alloc = rt.alloc();
     let arguments = match env::args(rt) {
         Ok(arguments) => arguments,

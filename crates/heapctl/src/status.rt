@@ -1,13 +1,14 @@
 //! The program's exit statuses.
 ghost use Rattle.std.specs.Prelude.{◌≡◌};
-ghost use Rattle.heapctl.specs.Status.{status_for};
+ghost use Rattle.heapctl.specs.Status.{status_for, status_for_format};
 
+use image_file::FormatError;
 use scripts::ScriptErrorKind;
 
-/// Wrong words, or a script that can't be played to its end.
+/// Wrong words, a refused schema file, or a script that can't be played to its end.
 pub const WRONG_INPUT: u8 = 2;
 
-/// What is neither the caller's fault nor the script's: reading, writing, memory.
+/// What is the fault of neither the caller nor a text: reading, writing, memory.
 pub const FAULT: u8 = 1;
 
 /// The status for a script that ended with such an error.
@@ -19,5 +20,15 @@ pub fn status_of(kind: ScriptErrorKind) -> u8
             WRONG_INPUT
         }
         ScriptErrorKind::Read | ScriptErrorKind::Write | ScriptErrorKind::Memory => FAULT,
+    }
+}
+
+/// The status where no image was made.
+pub fn status_of_format(error: &FormatError) -> u8
+    ensures { result ≡ status_for_format error.now }
+{
+    match error {
+        FormatError::Schema(_) => WRONG_INPUT,
+        FormatError::BadHeader | FormatError::Fault | FormatError::NoMemory => FAULT,
     }
 }

@@ -1,14 +1,21 @@
 //! What words are taken, and what is answered to the others.
-use crate::words::read_words;
+use crate::words::{Words, read_words};
 use clap::error::ErrorKind;
 use std::alloc::{AllocError, Global};
+use std::process::Abort;
 
-// What is answered to these words behind the program's name; none where they ask for the script to be played.
-fn answer_to(alloc: Global, words: &[&str]) -> Result<Option<ErrorKind>, AllocError> {
+// These words behind the program's name.
+fn with_name(alloc: Global, words: &[&str]) -> Result<Vec<String>, AllocError> {
     let mut texts = vec![in alloc; String::from_str(alloc, "heapctl")?]?;
     for word in words {
         texts.push(String::from_str(alloc, word)?)?;
     }
+    Ok(texts)
+}
+
+// What is answered to these words; none where they are taken.
+fn answer_to(alloc: Global, words: &[&str]) -> Result<Option<ErrorKind>, AllocError> {
+    let texts = with_name(alloc, words)?;
     match read_words(alloc, texts.as_slice()) {
         Ok(_) => Ok(None),
         Err(answer) => Ok(Some(answer.kind())),
@@ -31,5 +38,51 @@ fn words_are_as_documented(rt: HostRuntime) -> Result<(), AllocError> {
     for (words, kind) in cases {
         assert!(rt; answer_to(rt.alloc(), words)? == kind, "{words:?}");
     }
+    Ok(())
+}
+
+// The options that `format` has to have, and two words behind them.
+fn answer_to_format(
+    alloc: Global,
+    name: &str,
+    number: &str,
+) -> Result<Option<ErrorKind>, AllocError> {
+    let words = ["format", "--image", "i", "--schema", "s", name, number];
+    answer_to(alloc, words.as_slice())
+}
+
+#[test]
+fn numbers_past_the_limits_are_wrong_words(rt: HostRuntime) -> Result<(), AllocError> {
+    let alloc = rt.alloc();
+    let wrong = Some(ErrorKind::ValueValidation);
+    assert!(rt; answer_to_format(alloc, "--lanes", "32")? == None);
+    assert!(rt; answer_to_format(alloc, "--lanes", "33")? == wrong);
+    assert!(rt; answer_to_format(alloc, "--capacity", "1999")? == wrong);
+    assert!(rt; answer_to_format(alloc, "--capacity", "1048576")? == None);
+    let missing = Some(ErrorKind::MissingRequiredArgument);
+    let words = ["format", "--image", "i"];
+    assert!(rt; answer_to(alloc, words.as_slice())? == missing);
+    Ok(())
+}
+
+fn expect_words(rt: &impl Abort, texts: &[String], alloc: Global, asked: Words<'_>) {
+    match read_words(alloc, texts) {
+        Ok(words) => assert_eq!(rt; words, asked),
+        Err(_) => assert!(rt; false, "these words are taken"),
+    }
+}
+
+#[test]
+fn words_of_format_have_their_defaults(rt: HostRuntime) -> Result<(), AllocError> {
+    let alloc = rt.alloc();
+    let words = ["format", "--schema", "s", "--image", "i", "--lanes", "2"];
+    let texts = with_name(alloc, words.as_slice())?;
+    let asked = Words::Format {
+        image: "i",
+        schema: "s",
+        lanes: 2,
+        capacity: 4000,
+    };
+    expect_words(&rt, texts.as_slice(), alloc, asked);
     Ok(())
 }

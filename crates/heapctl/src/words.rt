@@ -1,25 +1,85 @@
 //! The program's words.
-ghost use Rattle.std.specs.Prelude.{◌≡◌, ◌∷◌, [], List, ℕ, codes, map, string_bytes, IfErr, IfOk};
+ghost use Rattle.std.specs.Prelude.{◌≡◌, ◌∷◌, [], List, ℕ, codes, false, map, string_bytes, unwrap_or, IfErr, IfOk};
 ghost use Rattle.clap.specs.Kinds.{FailsBy};
 ghost use Rattle.clap.specs.Faults.{fault_of};
-ghost use Rattle.clap.specs.Simple.{app_of};
+ghost use Rattle.clap.specs.Simple.{app_of, subcommand_of, subcommand_rows_of};
 ghost use Rattle.clap.specs.Values.{kind_of};
+ghost use Rattle.clap.specs.Walk.{first_of, one_of, rows_of, rule_of};
+ghost use Rattle.clap.specs.Matches.{found_of};
 ghost use Rattle.clap.specs.declared.error.kind.ErrorKind.TheVariants.{OutOfMemory};
-ghost use Rattle.heapctl.specs.Words.{program};
+ghost use Rattle.heapctl.specs.Words.{AsksFor, Reads, capacity_option, format_words, lanes_option, path_option, play_words, program};
 
-use clap::{Command, Error};
+use clap::{Arg, ArgMatches, Command, Error, value_parser};
 use std::alloc::{AllocError, Global};
 
 /// What the words ask for.
 #[derive(Clone, Copy, Debug, PartialEq, Eq)]
-pub enum Words {
+pub enum Words<'a> {
     /// To play the script on standard input. No words ask for it too.
     Run,
+    /// To make an image file for the schema that a schema file declares.
+    Format {
+        /// The image file's path.
+        image: &'a str,
+        /// The schema file's path.
+        schema: &'a str,
+        /// The number of lanes, 1 to 32.
+        lanes: u8,
+        /// The records that a lane's area holds, 2,000 to 1,048,576.
+        capacity: u32,
+    },
 }
 
-// The words that there are, with their help.
-fn command<'a>(alloc: Global) -> Result<Command<'a>, AllocError>
-    ensures { IfOk result (λ command. app_of command ≡ program) }
+// An option that takes the path of a file, and has to be there.
+fn path<'a>(alloc: Global, name: &'a str, about: &'a str) -> Arg<'a>
+    ensures rule { rule_of result ≡ path_option name.entry.now }
+    ensures own { result.global ≡ false }
+{
+    Arg::new(alloc, name)
+        .long(name)
+        .value_name("FILE")
+        .help(about)
+        .required(true)
+}
+
+fn lanes<'a>(alloc: Global) -> Arg<'a>
+    ensures rule { rule_of result ≡ lanes_option }
+    ensures own { result.global ≡ false }
+{
+    Arg::new(alloc, "lanes")
+        .long("lanes")
+        .value_name("N")
+        .help("The number of threads, 1 to 32")
+        .value_parser(value_parser!(u8).range(1..=32))
+        .default_value("4")
+}
+
+fn capacity<'a>(alloc: Global) -> Arg<'a>
+    ensures rule { rule_of result ≡ capacity_option }
+    ensures own { result.global ≡ false }
+{
+    Arg::new(alloc, "capacity")
+        .long("capacity")
+        .value_name("N")
+        .help("The records that a thread's log holds, 2000 to 1048576")
+        .value_parser(value_parser!(u32).range(2000..=1_048_576))
+        .default_value("4000")
+}
+
+fn format<'a>(alloc: Global) -> Result<Command<'a>, AllocError>
+    ensures { IfOk result (λ command. app_of command ≡ format_words) }
+{
+    Command::new(alloc, "format")
+        .about("Makes an image file for the objects and fields of a schema file")
+        .arg(path(alloc, "image", "The image file to make"))?
+        .arg(path(alloc, "schema", "The schema file"))?
+        .arg(lanes(alloc))?
+        .arg(capacity(alloc))
+}
+
+// `heapctl` with the word that there was first.
+fn play<'a>(alloc: Global) -> Result<Command<'a>, AllocError>
+    ensures { IfOk result (λ command. app_of command ≡ play_words) }
 {
     let run = Command::new(alloc, "run").about("Plays the script on standard input");
     let top = Command::new(alloc, "heapctl")
@@ -29,19 +89,66 @@ fn command<'a>(alloc: Global) -> Result<Command<'a>, AllocError>
     top.subcommand(run)
 }
 
+// The words that there are, with their help.
+fn command<'a>(alloc: Global) -> Result<Command<'a>, AllocError>
+    ensures { IfOk result (λ command. app_of command ≡ program) }
+{
+    let play = play(alloc)?;
+    let format = format(alloc)?;
+    play.subcommand(format)
+}
+
 /// Reads the words; the program's name comes first.
 ///
 /// An `Err` holds the text to print: for wrong words what is wrong, for `--help` and `--version` what they ask for. Its
 /// kind is `OutOfMemory` where there was no memory.
-pub fn read_words<'a>(alloc: Global, words: &'a [String]) -> Result<Words, Error>
+pub fn read_words<'a>(alloc: Global, words: &'a [String]) -> Result<Words<'a>, Error>
     ensures exact { FailsBy (fault_of program (map (λ s. string_bytes s) words.entry.now)) result }
+    ensures asked { IfOk result (λ asked. AsksFor (subcommand_of program (map (λ s. string_bytes s) words.entry.now)) asked) }
     ensures none { (name : List ℕ) → map (λ s. string_bytes s) words.entry.now ≡ name ∷ [] → IfErr result (λ e. kind_of e ≡ OutOfMemory) }
     ensures run { (name : List ℕ) → map (λ s. string_bytes s) words.entry.now ≡ name ∷ codes "run" ∷ [] → IfErr result (λ e. kind_of e ≡ OutOfMemory) }
 {
     let command = command(alloc)?;
     match command.try_get_matches_from(words) {
-        // There is one word, and no words mean it too.
-        Ok(_) => Ok(Words::Run),
+        Ok(matches) => Ok(asked_by(&matches)),
         Err(answer) => Err(answer),
     }
+}
+
+// What the words ask for in which this was found.
+fn asked_by<'a>(matches: &ArgMatches<'a>) -> Words<'a>
+    ensures { AsksFor (subcommand_rows_of matches.now) result }
+{
+    match matches.subcommand() {
+        Some(("format", found)) => Words::Format {
+            image: text_of(found, "image"),
+            schema: text_of(found, "schema"),
+            lanes: lanes_of(found),
+            capacity: capacity_of(found),
+        },
+        // No words mean the only other word too.
+        _ => Words::Run,
+    }
+}
+
+// The option's text. Each option that is asked for by it has one.
+fn text_of<'a>(found: &ArgMatches<'a>, name: &str) -> &'a str
+    ensures { result.now ≡ unwrap_or (first_of name.now (rows_of (found_of found.now))) [] }
+{
+    match found.get_str(name) {
+        Some(text) => text,
+        None => "",
+    }
+}
+
+fn lanes_of(found: &ArgMatches<'_>) -> u8
+    ensures { Reads 8 (one_of (codes "lanes") (rows_of (found_of found.now))) result }
+{
+    found.get_one::<u8>("lanes").unwrap_or(0)
+}
+
+fn capacity_of(found: &ArgMatches<'_>) -> u32
+    ensures { Reads 32 (one_of (codes "capacity") (rows_of (found_of found.now))) result }
+{
+    found.get_one::<u32>("capacity").unwrap_or(0)
 }

@@ -19,3 +19,7 @@ unplayed order other never e plays_it = let same : other ≡ order = cc in absur
 
 pub not_played : (line : List ℕ) (found : Option Order) (other : Order) → found ≡ Some other → plays other ≡ false → Finds line found → (order : Order) → Asks order line → ⊥
 not_played line found other e never finds order asks = unplayed order other never (sym e ∙ (finds order).1 asks.0) asks.1
+
+-- what was found is all that the line asks for
+pub only : (line : List ℕ) (found : Option Order) (order : Order) → found ≡ Some order → Finds line found → (other : Order) → Says other line → other ≡ order
+only line found order is finds other says = let both : Some other ≡ Some order = sym ((finds other).1 says) ∙ is in cc

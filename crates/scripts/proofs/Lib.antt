@@ -4,6 +4,8 @@ mod AskLemmas
 mod LineLemmas
 mod FaultLemmas
 mod PlayLemmas
+mod SchemaLemmas
+mod DeclarationLemmas
 mod StateLemmas
 mod EventLemmas
 mod NameLemmas

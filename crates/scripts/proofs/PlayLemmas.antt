@@ -102,13 +102,13 @@ played-start start text before = record {
   written = Appends-nil before;
 }
 
-drop_one : (lines : List (List ℕ)) (n : ℕ) (line : List ℕ) (others : List (List ℕ)) → drop n lines ≡ line ∷ others → drop (n + 1) lines ≡ others
+pub drop_one : (lines : List (List ℕ)) (n : ℕ) (line : List ℕ) (others : List (List ℕ)) → drop n lines ≡ line ∷ others → drop (n + 1) lines ≡ others
 drop_one lines n line others e = sym (drop-drop 1 n lines) ∙ ap (drop 1) e
 
-take_one : (lines : List (List ℕ)) (n : ℕ) (line : List ℕ) (others : List (List ℕ)) → drop n lines ≡ line ∷ others → take (n + 1) lines ≡ take n lines ++ line ∷ []
+pub take_one : (lines : List (List ℕ)) (n : ℕ) (line : List ℕ) (others : List (List ℕ)) → drop n lines ≡ line ∷ others → take (n + 1) lines ≡ take n lines ++ line ∷ []
 take_one lines n line others e = take-add n 1 lines ∙ ap (λ l. take n lines ++ take 1 l) e
 
-one_fewer : (lines : List (List ℕ)) (n : ℕ) (line : List ℕ) (others : List (List ℕ)) → drop n lines ≡ line ∷ others → n + 1 ≤ length lines
+pub one_fewer : (lines : List (List ℕ)) (n : ℕ) (line : List ℕ) (others : List (List ℕ)) → drop n lines ≡ line ∷ others → n + 1 ≤ length lines
 one_fewer lines n line others e =
     let len : length (drop n lines) ≡ length lines - n = length-drop n lines in
     let some : length (drop n lines) ≡ length others + 1 = ap length e ∙ omega arith in
@@ -169,11 +169,11 @@ printed_part start text state rest played before now line new after s h some e p
     }
 
 -- at the end all is played
-no_rest : (rest : List ℕ) → (length rest == 0) ≡ true → rest ≡ []
+pub no_rest : (rest : List ℕ) → (length rest == 0) ≡ true → rest ≡ []
 no_rest [] e = refl
 no_rest (b ∷ bs) e = absurd (omega (arith, eqb-true (length (b ∷ bs)) 0 e))
 
-all_taken : {X : Type 0} (lines : List X) (n : ℕ) → drop n lines ≡ [] → take n lines ≡ lines
+pub all_taken : {X : Type 0} (lines : List X) (n : ℕ) → drop n lines ≡ [] → take n lines ≡ lines
 all_taken lines n e = sym (append-nil (take n lines)) ∙ ap (λ l. take n lines ++ l) (sym e) ∙ take-append-drop n lines
 
 pub printed_all : (start : MachineState) (text : List ℕ) (state : MachineState) (rest : List ℕ) (played : ℕ) (before now : Option (List ℕ)) → IsStart start
@@ -195,7 +195,7 @@ fit_front lines zero h = tt
 fit_front [] (suc n) h = tt
 fit_front (line ∷ lines) (suc n) h = (h.0, fit_front lines n h.1)
 
-found_at : (lines : List (List ℕ)) (n : ℕ) (line : List ℕ) (others : List (List ℕ)) → drop n lines ≡ line ∷ others → slice_get lines n ≡ Some line
+pub found_at : (lines : List (List ℕ)) (n : ℕ) (line : List ℕ) (others : List (List ℕ)) → drop n lines ≡ line ∷ others → slice_get lines n ≡ Some line
 found_at [] zero line others e = absurd cc
 found_at [] (suc n) line others e = absurd cc
 found_at (l ∷ ls) zero line others e = let same : l ≡ line = cc in ap Some same

@@ -18,3 +18,4 @@ pub mod Sections
 pub mod OneLane
 pub mod Recovery
 pub mod Runs
+pub mod SchemaFiles

@@ -39,6 +39,10 @@ IsSkipped line = (length line ≡ 0) ⊎ (slice_index line 0 ≡ COMMENT)
 abbrev pub Asks : Order → List ℕ → Type 0
 Asks order line = Says order line × IsTrue (plays order)
 
+-- a line asks for nothing but this
+abbrev pub AsksOnly : Order → List ℕ → Type 0
+AsksOnly order line = (other : Order) → Says other line → other ≡ order
+
 -- a line with nothing wrong
 abbrev pub IsFit : List ℕ → Type 0
 IsFit line = IsText line × (IsSkipped line ⊎ ((order : Order) × Asks order line))

@@ -4,6 +4,8 @@
 //! by [`parse`], the [`Machine`] answers it by an [`Answer`], and [`text`] makes of the answer what is printed. The
 //! machine steps threads on a plain machine of monitors (JLS 17.1) and knows nothing of text; behind it stands a store
 //! of one lane on a device in memory.
+//!
+//! [`read_schema`] reads a schema file, which has a script's declarations alone.
 #![tactic(auto)]
 
 mod answer;
@@ -25,6 +27,8 @@ mod play;
 mod reader;
 mod refusals;
 mod running;
+mod schema_fault;
+mod schema_file;
 mod terms;
 mod texts;
 mod values;
@@ -37,9 +41,13 @@ pub use error::{ScriptError, ScriptErrorKind};
 pub use grammar::parse;
 pub use machine::Machine;
 pub use play::run_script;
+pub use schema_fault::{SchemaFault, SchemaFaultKind};
+pub use schema_file::read_schema;
 pub use texts::text;
 
 #[cfg(test)]
 mod one_lane_tests;
+#[cfg(test)]
+mod schema_file_tests;
 #[cfg(test)]
 mod tests;

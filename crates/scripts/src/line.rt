@@ -1,7 +1,7 @@
 //! From a line to its command, or to its fault.
-ghost use Rattle.std.specs.Prelude.{◌≡◌, IfOk, IfErr, MatchOption};
+ghost use Rattle.std.specs.Prelude.{◌≡◌, IfOk, IfErr, IfSome, MatchOption};
 ghost use Rattle.scripts.specs.Orders.{order_of};
-ghost use Rattle.scripts.specs.Lines.{IsText, IsSkipped, Asks, HasFault};
+ghost use Rattle.scripts.specs.Lines.{IsText, IsSkipped, Asks, AsksOnly, HasFault};
 
 use crate::command::{Command, is_played};
 use crate::error::ScriptErrorKind;
@@ -17,6 +17,8 @@ const COMMENT: u8 = b'#';
 pub(crate) fn read_line(line: &[u8]) -> Result<Option<Command<'_>>, ScriptErrorKind>
     ensures text { IfOk result (λ _. IsText line.now) }
     ensures ok { IfOk result (λ found. MatchOption found (IsSkipped line.now) (λ command. Asks (order_of command) line.now)) }
+    ensures read { IfOk result (λ found. IfSome found (λ _. ¬ IsSkipped line.now)) }
+    ensures own { IfOk result (λ found. IfSome found (λ command. AsksOnly (order_of command) line.now)) }
     ensures fault { IfErr result (λ kind. HasFault line.now kind) }
 {
     if line.len() > LONGEST_LINE {

@@ -1,14 +1,18 @@
-use Rattle.std.proofs.Common.{◌≡◌, ◌∷◌, [], List, ℕ, codes, map, string_bytes, true, ap, ap₂, sym, ◌∙◌, refl}
+use Rattle.std.proofs.Common.{◌≡◌, ◌∷◌, [], List, ℕ, codes, map, string_bytes, true, ap, ap₂, sym, subst, ◌∙◌, refl}
 use Rattle.clap.proofs.OnLiterals.{clap_on_literals}
 use Rattle.clap.specs.Faults.{fault_of, is_simple_and_free}
-use Rattle.clap.specs.Simple.{App}
+use Rattle.clap.specs.Simple.{App, is_simple, subcommand_of}
 use Rattle.clap.specs.Takes.{takes}
-use Rattle.heapctl.specs.Words.{program}
+use Rattle.heapctl.specs.Words.{AsksFor, program}
 use Rattle.heapctl.proofs.words.read_words.Goals as goal
 
 is_plain : is_simple_and_free program ≡ true
 unfolding clap_on_literals
 is_plain = refl
+
+is_plainly_read : is_simple program ≡ true
+unfolding clap_on_literals
+is_plainly_read = refl
 
 takes_none : (name : List ℕ) → takes program (name ∷ []) ≡ true
 unfolding clap_on_literals
@@ -23,8 +27,14 @@ returns-in-Ok-clause-exact c =
     let is = c.in_ok-command.ensures in
     ap (λ (a : App). fault_of a (map (λ s. string_bytes s) c.args.words.now)) (sym is) ∙ c.in-Ok.ensures.kinds (ap is_simple_and_free is ∙ is_plain)
 
-pub returns-clause-none : goal.returns-clause-none
-returns-clause-none c = λ name words_are. c.in-Err.ensures.passes (ap₂ takes c.in_ok-command.ensures words_are ∙ takes_none name)
+pub returns-in-Ok-clause-asked : goal.returns-in-Ok-clause-asked
+returns-in-Ok-clause-asked c =
+    let is = c.in_ok-command.ensures in
+    let met = (c.in-Ok.ensures.matches (ap is_simple is ∙ is_plainly_read)).1 ∙ ap (λ (a : App). subcommand_of a (map (λ s. string_bytes s) c.args.words.now)) is in
+    subst (λ found. AsksFor found c.asked_by.result) met c.asked_by.ensures
 
-pub returns-clause-run : goal.returns-clause-run
-returns-clause-run c = λ name words_are. c.in-Err.ensures.passes (ap₂ takes c.in_ok-command.ensures words_are ∙ takes_run name)
+pub returns-in-Err-clause-none : goal.returns-in-Err-clause-none
+returns-in-Err-clause-none c = λ name words_are. c.in-Err.ensures.passes (ap₂ takes c.in_ok-command.ensures words_are ∙ takes_none name)
+
+pub returns-in-Err-clause-run : goal.returns-in-Err-clause-run
+returns-in-Err-clause-run c = λ name words_are. c.in-Err.ensures.passes (ap₂ takes c.in_ok-command.ensures words_are ∙ takes_run name)

@@ -1,6 +1,6 @@
 use Rattle.std.proofs.Common.{◌≡◌, ◌≤◌, Bool, true, false, Some, None, length, rules, sym, ap, ◌∙◌, inl, inr}
 use Rattle.std.specs.Option.{option_map}
-use Rattle.scripts.proofs.FaultLemmas.{no_form, not_played}
+use Rattle.scripts.proofs.FaultLemmas.{no_form, not_played, only}
 use Rattle.scripts.specs.Orders.{order_of, plays}
 use Rattle.scripts.proofs.line.read_line.Goals as goal
 
@@ -14,3 +14,6 @@ returns-then-not-is_played-clause-fault c =
 
 pub returns-clause-ok : goal.returns-clause-ok
 returns-clause-ok c = ((c.parse.ensures (order_of c.in-Some.command)).0 (ap (option_map order_of) c.in-Some.is), search rules)
+
+pub returns-clause-own : goal.returns-clause-own
+returns-clause-own c = λ other says. only c.args.line.now _ (order_of c.in-Some.command) (ap (option_map order_of) c.in-Some.is) c.parse.ensures other says

@@ -1,0 +1,29 @@
+-- What the text of an option is read as.
+use Rattle.std.proofs.Common.{◌≡◌, ℕ, Bool, true, false, ◌&&◌, List, [], Option, None, Some, Result, Ok, Err, option_map, refl, sym, ap, ◌∙◌}
+use Rattle.std.specs.Prelude.{not, unwrap_or}
+use Rattle.std.specs.Borrow.{Bor}
+use Rattle.std.specs.Str.Parse.{ParsesUnsigned}
+use Rattle.clap.specs.Matches.{ReadsOne}
+use Rattle.heapctl.specs.Words.{Reads}
+
+-- a number
+pub reads_number : {E : Type 0} (gives : List ℕ → Result ℕ E → Type 0) (bits : ℕ) (o : Option (List ℕ)) (r : Option ℕ)
+    → ((u : List ℕ) (x : Result ℕ E) → gives u x → ParsesUnsigned bits 10 u x) → ((t : List ℕ) → o ≡ Some t → ReadsOne gives t r)
+    → Reads bits o (unwrap_or r 0)
+reads_number gives bits None r by reads = tt
+reads_number gives bits (Some t) (Some n) by reads = λ numeral fits. (by t (Ok n) (reads t refl)).1
+reads_number gives bits (Some t) None by reads = λ numeral fits. let failed = reads t refl in absurd (by t (Err failed.0) failed.1 (numeral, fits))
+
+-- a text, and where there is none the empty one
+pub text_there : (r : Option (Bor (List ℕ))) (s : Bor (List ℕ)) (o : Option (List ℕ)) → r ≡ Some s → option_map (λ x. x.now) r ≡ o → s.now ≡ unwrap_or o []
+text_there r s o is e = ap (λ x. unwrap_or x []) (ap (option_map (λ x. x.now)) (sym is) ∙ e)
+
+pub text_missing : (r : Option (Bor (List ℕ))) (o : Option (List ℕ)) → r ≡ None → option_map (λ x. x.now) r ≡ o → [] ≡ unwrap_or o []
+text_missing r o is e = ap (λ x. unwrap_or x []) (ap (option_map (λ x. x.now)) (sym is) ∙ e)
+
+-- of a command that is plain the third part says that no argument is global
+pub third_is_off : (groups external globals others : Bool) → (groups && (not external && (not globals && others))) ≡ true → globals ≡ false
+third_is_off groups external false others e = refl
+third_is_off true false true others e = absurd cc
+third_is_off true true true others e = absurd cc
+third_is_off false external true others e = absurd cc

@@ -1,0 +1,69 @@
+-- What making an image for the schema of a file gives and refuses (docs/SCRIPTS.md, "The program's fault texts").
+use Rattle.std.specs.Prelude.{◌≡◌, ◌⊎◌, ℕ, List, Option, replicate}
+use Rattle.std.specs.Io.KnownBytes.{Appends}
+use Rattle.block_disk.specs.Device.{Device}
+use Rattle.block_disk.specs.Mirror.{new_device}
+use Rattle.block_disk.specs.declared.error.FileError.{FileError}
+use Rattle.block_disk.specs.declared.error.FileError.TheVariants as files
+use Rattle.guards.specs.Schema.{Declarations}
+use Rattle.image.specs.Calls.{after}
+use Rattle.image.specs.Format.{format_calls}
+use Rattle.image.specs.Layout.{size_of}
+use Rattle.image.specs.declared.layout.Layout.{Layout}
+use Rattle.durable.specs.Formatting.{AreLimits, layout_with}
+use Rattle.scripts.specs.declared.answer.Answer.TheVariants.{Formatted}
+use Rattle.scripts.specs.declared.schema_fault.SchemaFault.{SchemaFault}
+use Rattle.scripts.specs.declared.schema_fault.SchemaFaultKind.{SchemaFaultKind}
+use Rattle.scripts.specs.declared.schema_fault.SchemaFaultKind.TheVariants as kinds
+use Rattle.scripts.specs.SchemaFiles.{DeclaresSchema, RefusesSchema}
+use Rattle.scripts.specs.Texts.{text_of}
+use Rattle.image_file.specs.declared.error.FormatError.{FormatError}
+use Rattle.image_file.specs.declared.error.FormatError.TheVariants as errors
+
+-- how a refusal of the schema file is told
+abbrev pub told_by_kind : SchemaFaultKind → SchemaFault → FormatError
+told_by_kind kinds.Read fault = errors.Fault
+told_by_kind kinds.Memory fault = errors.NoMemory
+told_by_kind _ fault = errors.Schema fault
+
+abbrev pub told_of_schema : SchemaFault → FormatError
+told_of_schema fault = told_by_kind fault.why fault
+
+-- how a refusal of the image file is told
+abbrev pub told_of_file : FileError → FormatError
+told_of_file files.Fault = errors.Fault
+told_of_file files.NoMemory = errors.NoMemory
+
+-- what was read of the schema file, by what the reader had left before and has left now: the file declares a schema, its
+-- image may have so many lanes of so many records, and the device holds that image. It had the image's size, and all its
+-- bytes were zero
+pub record MakesImage (old new : Option (List ℕ)) (lanes capacity : ℕ) (layout : Layout) (d : Device) : Type 0 where
+  pub schema : Declarations
+  pub declares : DeclaresSchema old new schema
+  pub limits : AreLimits lanes capacity
+  pub layout_is : layout ≡ layout_with schema lanes capacity
+  pub made : d ≡ after (format_calls layout schema) (new_device (replicate (size_of layout) 0))
+
+-- the size was written, on a line of its own
+abbrev pub PrintsSize : ℕ → (old new : Option (List ℕ)) → Type 0
+PrintsSize size old new = Appends old new (text_of (Formatted size))
+
+-- the size of an image with so many lanes of so many records was written
+pub record PrintsImage (lanes capacity : ℕ) (old new : Option (List ℕ)) : Type 0 where
+  pub schema : Declarations
+  pub limits : AreLimits lanes capacity
+  pub printed : PrintsSize (size_of (layout_with schema lanes capacity)) old new
+
+-- the refusals that come before the image file is touched
+abbrev pub IsBeforeFile : FormatError → Type 0
+IsBeforeFile (errors.Schema fault) = Unit {0}
+IsBeforeFile errors.BadHeader = Unit {0}
+IsBeforeFile errors.Fault = ⊥
+IsBeforeFile errors.NoMemory = ⊥
+
+-- what each refusal says of what was read; a fault and want of memory may come at any time
+abbrev pub RefusesImage : (old new : Option (List ℕ)) → (lanes capacity : ℕ) → FormatError → Type 0
+RefusesImage old new lanes capacity (errors.Schema fault) = RefusesSchema old new fault × (told_of_schema fault ≡ errors.Schema fault)
+RefusesImage old new lanes capacity errors.BadHeader = (schema : Declarations) × DeclaresSchema old new schema × (AreLimits lanes capacity → ⊥)
+RefusesImage old new lanes capacity errors.Fault = Unit {0}
+RefusesImage old new lanes capacity errors.NoMemory = Unit {0}

@@ -1,0 +1,17 @@
+//! What makes the device of a new image.
+ghost use Rattle.std.specs.Prelude.{◌≡◌, Bool, true, replicate, IfOk};
+ghost use Rattle.block_disk.specs.Mirror.{new_device};
+
+use block_disk::{Disk, FileError};
+use std::alloc::Global;
+
+/// What makes the device of a new image, and knows whether it was asked to.
+pub trait DiskMaker<D: Disk> {
+    /// Whether a device was asked for.
+    ghost is_used: { Self → Bool };
+
+    /// Makes a device of `size` zero bytes.
+    fn make_disk(&mut self, alloc: Global, size: u64) -> Result<D, FileError>
+        ensures ok { IfOk result (λ disk. D.device disk ≡ new_device (replicate size 0)) }
+        ensures used { is_used self.new ≡ true };
+}
