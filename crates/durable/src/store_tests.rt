@@ -344,7 +344,8 @@ fn check_last(rt: &impl Abort, alloc: Global, calls: &[StoreCall]) -> Result<(),
     for k in before.stops()..after.stops() {
         check_crashes(rt, alloc, &after, &layout, k + 1, &old, &new)?;
     }
-    check_crashes(rt, alloc, &after, &layout, after.stops() + 1, &new, &new)
+    let behind = after.stops().checked_add(1).ok_or("too many calls")?;
+    check_crashes(rt, alloc, &after, &layout, behind, &new, &new)
 }
 
 // Does so for each of these calls, and gives the acknowledged sections of the two lanes in the end.
