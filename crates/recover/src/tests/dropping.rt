@@ -1,8 +1,6 @@
 //! The dropped sections of images with hand-made logs. The reasons and numbers follow from the rules at `Dropped` and `Why`.
 use super::{acq, image_with, rel, row, store};
-use crate::dropping::dropped_sections;
-use crate::replay::replay;
-use crate::{Dropped, Why, read_image};
+use crate::{Dropped, Why, study};
 use block_disk::MemDisk;
 use heap_model::{Lane, UndoRecord};
 use std::alloc::Global;
@@ -10,22 +8,10 @@ use std::test::Fail;
 
 // The dropped sections of the image; none where it is refused or memory is wanting.
 fn dropped_in(alloc: Global, disk: &mut MemDisk) -> Option<Vec<Dropped>> {
-    let Ok(found) = read_image(alloc, disk) else {
+    let Ok(found) = study(alloc, disk) else {
         return None;
     };
-    let rows = &found.control.rows;
-    let Ok(steps) = replay(alloc, &found.guards, rows, &found.records) else {
-        return None;
-    };
-    dropped_sections(
-        alloc,
-        &found.layout,
-        &found.guards,
-        rows,
-        &found.records,
-        &steps,
-    )
-    .ok()
+    Some(found.report.dropped)
 }
 
 fn dropped(lane: u8, section: u64, why: Why) -> Dropped {
