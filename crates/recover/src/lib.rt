@@ -48,4 +48,6 @@ pub use studying::study;
 pub use whole_run::{WholeRun, play_and_recover};
 
 #[cfg(test)]
+mod run_tests;
+#[cfg(test)]
 mod tests;

@@ -19,7 +19,7 @@ const ROWS_AT: [u64; 2] = [88, 120];
 const AREAS_AT: [u64; 2] = [2208, 66_208];
 
 // Four objects, and a field of each of the first two, which guards it; none where memory is wanting.
-fn schema_or_none(alloc: Global) -> Option<Schema> {
+pub(crate) fn schema_or_none(alloc: Global) -> Option<Schema> {
     let mut builder = SchemaBuilder::new(alloc);
     builder.object("o0").ok()?;
     builder.object("o1").ok()?;

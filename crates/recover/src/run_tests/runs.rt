@@ -1,0 +1,194 @@
+//! Stores whose calls are known, and what recovery answers of what a crash leaves of them.
+use crate::tests::schema_or_none;
+use crate::{Dropped, RecoverError, Report, Why, recover};
+use block_disk::{Fill, MemDisk};
+use durable::{Store, StoreCall, format};
+use heap_model::{Cut, FieldId, Lane, ObjectId, Record};
+use std::alloc::Global;
+use std::test::Fail;
+
+/// What recovery made of an image with two fields.
+#[derive(Clone, Copy, Debug, PartialEq, Eq)]
+pub struct Outcome {
+    /// The sections that it kept.
+    pub kept: Cut,
+    /// Those that it dropped, of which there are two at most.
+    pub dropped: [Option<Dropped>; 2],
+    /// How many fields it put back.
+    pub undone: u32,
+    /// The heap.
+    pub heap: [u64; 2],
+}
+
+pub fn acq(object: u32, number: u64) -> Record {
+    Record::Acq {
+        object: ObjectId(object),
+        number,
+    }
+}
+
+pub fn rel(object: u32, number: u64) -> Record {
+    Record::Rel {
+        object: ObjectId(object),
+        number,
+    }
+}
+
+pub fn wait(object: u32, number: u64) -> Record {
+    Record::WaitRel {
+        object: ObjectId(object),
+        number,
+    }
+}
+
+pub fn put(field: u32, before: u64, after: u64) -> Record {
+    Record::Put {
+        field: FieldId(field),
+        before,
+        after,
+    }
+}
+
+/// The first thread's call.
+pub fn one(record: Record) -> StoreCall {
+    StoreCall::Apply(Lane(0), record)
+}
+
+/// The second thread's call.
+pub fn two(record: Record) -> StoreCall {
+    StoreCall::Apply(Lane(1), record)
+}
+
+/// So many sections of the two lanes.
+pub fn cut(first: u64, second: u64) -> Cut {
+    let mut counts = [0; 32];
+    counts[0] = first;
+    counts[1] = second;
+    Cut { counts }
+}
+
+/// A section that is dropped.
+pub fn dropped(lane: u8, section: u64, why: Why) -> Option<Dropped> {
+    Some(Dropped {
+        lane: Lane(lane),
+        section,
+        why,
+    })
+}
+
+/// Since it depends on this one.
+pub fn after(lane: u8, section: u64) -> Why {
+    Why::After {
+        lane: Lane(lane),
+        section,
+    }
+}
+
+/// A section of the first thread that stores 5, logged, written home and acknowledged.
+pub fn stored() -> [StoreCall; 7] {
+    [
+        one(acq(0, 0)),
+        one(put(0, 10, 5)),
+        one(rel(0, 0)),
+        StoreCall::Log,
+        StoreCall::Home,
+        StoreCall::Home,
+        StoreCall::Settle,
+    ]
+}
+
+/// The first thread stores 1 and frees the guard, but not its other monitor; the second one stores 2 in a section.
+pub fn two_stores() -> [StoreCall; 11] {
+    [
+        one(acq(0, 0)),
+        one(acq(1, 0)),
+        one(put(0, 10, 1)),
+        one(rel(0, 0)),
+        two(acq(0, 1)),
+        two(put(0, 1, 2)),
+        two(rel(0, 1)),
+        StoreCall::Log,
+        StoreCall::Home,
+        StoreCall::Home,
+        StoreCall::Settle,
+    ]
+}
+
+/// The same, and then the first thread ends its section.
+pub fn released() -> [StoreCall; 15] {
+    [
+        one(acq(0, 0)),
+        one(acq(1, 0)),
+        one(put(0, 10, 1)),
+        one(rel(0, 0)),
+        two(acq(0, 1)),
+        two(put(0, 1, 2)),
+        two(rel(0, 1)),
+        StoreCall::Log,
+        StoreCall::Home,
+        StoreCall::Home,
+        StoreCall::Settle,
+        one(rel(1, 0)),
+        StoreCall::Log,
+        StoreCall::Home,
+        StoreCall::Settle,
+    ]
+}
+
+/// A store of the common schema on this disk, with two lanes of 4,000 records.
+pub fn store_on(alloc: Global, disk: MemDisk) -> Result<Store<MemDisk>, Fail> {
+    let schema = schema_or_none(alloc).ok_or("no schema")?;
+    let Ok(made) = format(alloc, disk, &schema, 2, 4000) else {
+        return Err(Fail::new("not formatted"));
+    };
+    let Ok(store) = Store::adopt(alloc, made, 9) else {
+        return Err(Fail::new("not adopted"));
+    };
+    Ok(store)
+}
+
+/// The same on a disk of its own.
+pub fn new_store(alloc: Global) -> Result<Store<MemDisk>, Fail> {
+    let disk = MemDisk::new(alloc, 130_208)?;
+    store_on(alloc, disk)
+}
+
+/// What a crash behind the last of these calls leaves of the store that made them.
+pub fn crashed(alloc: Global, calls: &[StoreCall], fill: Fill) -> Result<MemDisk, Fail> {
+    let mut store = new_store(alloc)?;
+    if store.play(calls).is_err() {
+        return Err(Fail::new("a call is refused"));
+    }
+    let disk = store.into_disk();
+    let image = disk
+        .crash_image(disk.stops() + 1, fill)?
+        .ok_or("no such call")?;
+    Ok(image)
+}
+
+/// What recovery of this disk answers.
+pub fn recovery_of(alloc: Global, disk: MemDisk) -> Result<Result<Outcome, RecoverError>, Fail> {
+    match recover(alloc, disk) {
+        Ok((recovered, report)) => Ok(Ok(outcome_of(recovered.heap(), &report)?)),
+        Err((_, reason)) => Ok(Err(reason)),
+    }
+}
+
+/// This heap and this report.
+pub fn outcome_of(heap: &[u64], report: &Report) -> Result<Outcome, Fail> {
+    let [first, second] = heap else {
+        return Err(Fail::new("not two fields"));
+    };
+    let dropped = match report.dropped.as_slice() {
+        [] => [None, None],
+        [one] => [Some(*one), None],
+        [one, two] => [Some(*one), Some(*two)],
+        _ => return Err(Fail::new("more than two sections are dropped")),
+    };
+    Ok(Outcome {
+        kept: report.kept,
+        dropped,
+        undone: report.undone,
+        heap: [*first, *second],
+    })
+}
