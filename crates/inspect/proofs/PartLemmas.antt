@@ -40,6 +40,13 @@ part_here a b s rest p = part_first a b s (concat rest) p
 pub part_later : (a b c : Option (List ℕ)) (s : List ℕ) (rest : List (List ℕ)) → Appends a b s → AppendsPart b c (concat rest) → AppendsPart a c (concat (s ∷ rest))
 part_later a b c s rest p q = part_second a b c s (concat rest) p q
 
+-- texts that are written whole
+pub all_later : (a b c : Option (List ℕ)) (s : List ℕ) (rest : List (List ℕ)) → Appends a b s → Appends b c (concat rest) → Appends a c (concat (s ∷ rest))
+all_later a b c s rest p q = Appends-trans a b c s (concat rest) p q
+
+pub all_last : (a b : Option (List ℕ)) (s : List ℕ) → Appends a b s → Appends a b (concat (s ∷ []))
+all_last a b s p = subst (Appends a b) (sym (append-nil s)) p
+
 module _ {X : Type 0} (f : X → List ℕ) (xs : List X) (i : ℕ) (d : X) (lt : i < length xs) where
   more : flat_map f (take (i + 1) xs) ≡ flat_map f (take i xs) ++ f (get_or xs i d)
   more = ap (flat_map f) (take_more xs i d lt) ∙ flat_map-append f (take i xs) (get_or xs i d ∷ []) ∙ ap (λ (l : List ℕ). flat_map f (take i xs) ++ l) (append-nil (f (get_or xs i d)))

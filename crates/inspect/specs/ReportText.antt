@@ -24,7 +24,7 @@ dropped_lines dropped = flat_map dropped_line dropped
 abbrev pub report_text : Report → (heap : List ℕ) → (lanes : ℕ) → List ℕ
 report_text r heap lanes = concat (
     list_line (codes "kept") (take lanes r.kept.counts)
-  ∷ dropped_lines r.dropped.items
-  ∷ line (codes "undone " ∷ decimal r.undone ∷ [])
-  ∷ list_line (codes "heap") heap
-  ∷ [])
+    ∷ dropped_lines r.dropped.items
+    ∷ line (codes "undone " ∷ decimal r.undone ∷ [])
+    ∷ list_line (codes "heap") heap
+    ∷ [])

@@ -60,9 +60,15 @@ fn put_section<W: Write>(writer: &mut W, dropped: Dropped) -> Result<(), WriteEr
     let gap = Piece::Words(" ");
     match dropped.why {
         Why::Unfinished => {
-            put_line(writer, &[front, thread, gap, section, Piece::Words(" unfinished")])
+            put_line(
+                writer,
+                &[front, thread, gap, section, Piece::Words(" unfinished")],
+            )
         }
-        Why::After { lane, section: other } => put_line(
+        Why::After {
+            lane,
+            section: other,
+        } => put_line(
             writer,
             &[
                 front,
@@ -76,7 +82,10 @@ fn put_section<W: Write>(writer: &mut W, dropped: Dropped) -> Result<(), WriteEr
             ],
         ),
         Why::Unsettled => {
-            put_line(writer, &[front, thread, gap, section, Piece::Words(" unsettled")])
+            put_line(
+                writer,
+                &[front, thread, gap, section, Piece::Words(" unsettled")],
+            )
         }
     }
 }

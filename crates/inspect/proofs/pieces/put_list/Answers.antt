@@ -14,7 +14,7 @@ returns-in_err-put_numbers-clause-part g c =
     let old = g.W.Write.contents c.args.writer.now in
     let new = g.W.Write.contents c.put_numbers.new.writer in
     always c.from_residual-in_err-put_numbers.result (part_first old new (word ++ numbers) (codes "\n")
-        (part_second old (g.W.Write.contents c.put.new.writer) new word numbers written c.in_err-put_numbers.ensures.part))
+    (part_second old (g.W.Write.contents c.put.new.writer) new word numbers written c.in_err-put_numbers.ensures.part))
 
 pub returns-clause-part : goal.returns-clause-part
 returns-clause-part g c =
@@ -24,4 +24,4 @@ returns-clause-part g c =
     let old = g.W.Write.contents c.args.writer.now in
     let mid = g.W.Write.contents c.put_numbers.new.writer in
     on_err_weaker c.put-2.result (part_second old mid (g.W.Write.contents c.put-2.new.writer) (word ++ numbers) (codes "\n")
-        (Appends-trans old (g.W.Write.contents c.put.new.writer) mid word numbers written c.in_ok-put_numbers.ensures.ok)) c.put-2.ensures.part
+    (Appends-trans old (g.W.Write.contents c.put.new.writer) mid word numbers written c.in_ok-put_numbers.ensures.ok)) c.put-2.ensures.part

@@ -63,4 +63,4 @@ returns-clause-part g c =
     let second : Appends one two dropped = subst (λ (items : List Dropped). Appends one two (dropped_lines items)) c.deref.ensures.value c.in_ok-put_dropped.ensures.ok in
     let third : Appends two three undone = subst (λ (n : ℕ). Appends two three (line (codes "undone " ∷ decimal n ∷ []))) c.from.ensures c.in_ok-put_line.ensures.ok in
     on_err_weaker c.put_list-2.result (λ (part : AppendsPart three four heap). part_later old one four kept (dropped ∷ undone ∷ heap ∷ []) first
-        (part_later one two four dropped (undone ∷ heap ∷ []) second (part_later two three four undone (heap ∷ []) third (part_here three four heap [] part)))) c.put_list-2.ensures.part
+    (part_later one two four dropped (undone ∷ heap ∷ []) second (part_later two three four undone (heap ∷ []) third (part_here three four heap [] part)))) c.put_list-2.ensures.part
