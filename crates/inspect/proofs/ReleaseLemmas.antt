@@ -35,4 +35,4 @@ pub tells_more : (old new : BTreeMap (ℕ × ℕ) SectionId) (list : List Releas
 tells_more old new list x updates tells o n =
     let here : (x.object == o && x.number == n) ≡ is_eq (by_number (x.object, x.number) (o, n)) = both_tied (x.object == o) (x.number == n) (nat_cmp x.object o) (nat_cmp x.number n) (unsigned_ties x.object o) (unsigned_ties x.number n) in
     updates.0 (o, n) ∙ ap (λ (b : Bool). cond b (Some x.section) (finds old o n)) (sym here) ∙ if_is_cond (x.object == o && x.number == n) (Some x.section) (finds old o n)
-        ∙ ap (λ (f : Option SectionId). if x.object == o && x.number == n then Some x.section else f) (tells o n) ∙ sym (releaser_push list x o n)
+    ∙ ap (λ (f : Option SectionId). if x.object == o && x.number == n then Some x.section else f) (tells o n) ∙ sym (releaser_push list x o n)

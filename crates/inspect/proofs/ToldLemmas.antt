@@ -92,5 +92,5 @@ module _ {X : Type 0} (tell : Progress → UndoRecord → List X) where
         let next : List X = tell (progress (reverse (take i xs))) (get_or xs i none) in
         let rest = told_split xs i lt in
         let e : flat_map f (told tell (reverse xs)) ≡ (flat_map f so_far ++ flat_map f next) ++ flat_map f rest.0 =
-          ap (flat_map f) rest.1 ∙ flat_map-append f (so_far ++ next) rest.0 ∙ ap (λ (ys : List ℕ). ys ++ flat_map f rest.0) (flat_map-append f so_far next) in
+        ap (flat_map f) rest.1 ∙ flat_map-append f (so_far ++ next) rest.0 ∙ ap (λ (ys : List ℕ). ys ++ flat_map f rest.0) (flat_map-append f so_far next) in
         subst (AppendsPart a c) (sym e) (part_first a c (flat_map f so_far ++ flat_map f next) (flat_map f rest.0) (part_second a b c (flat_map f so_far) (flat_map f next) p q))

@@ -7,3 +7,4 @@ pub mod Fits
 pub mod SectionText
 pub mod GraphText
 pub mod StudyText
+pub mod WholeGraph

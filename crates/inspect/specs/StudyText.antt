@@ -47,8 +47,8 @@ abbrev pub lane_sections : Form → Study → (lane : ℕ) → List ℕ
 lane_sections form s l = flat_map (section_text form (numbering_of s l)) (live_sections (numbering_of s l) (reverse (records_of s.records.items l)))
 
 -- the live sections, by lane and number
-abbrev pub sections_text : Form → Study → List ℕ
-sections_text form s = by_lane (lane_sections form s) s.layout.lanes
+abbrev pub sections_text : Study → List ℕ
+sections_text s = by_lane (lane_sections Lines s) s.layout.lanes
 
 -- the dependences of live sections on those of other lanes, by section and place
 abbrev pub links_text : Form → Study → List ℕ
@@ -60,4 +60,4 @@ end_text s = concat (list_line (codes "cut") (take s.layout.lanes s.report.kept.
 
 -- what an image holds
 abbrev pub study_text : Study → List ℕ
-study_text s = concat (head_text s ∷ sections_text Lines s ∷ links_text Lines s ∷ end_text s ∷ [])
+study_text s = concat (head_text s ∷ sections_text s ∷ links_text Lines s ∷ end_text s ∷ [])

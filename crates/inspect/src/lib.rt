@@ -7,6 +7,7 @@
 
 mod error;
 mod form;
+mod graph;
 mod graph_lines;
 mod lanes;
 mod links;
@@ -22,5 +23,6 @@ mod study_lines;
 mod writer;
 
 pub use error::{ShowError, WriteError};
+pub use graph::write_graph;
 pub use report_lines::write_report;
 pub use study_lines::write_study;

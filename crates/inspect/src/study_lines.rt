@@ -4,7 +4,7 @@ ghost use Rattle.std.specs.Io.KnownBytes.{Appends};
 ghost use Rattle.image.specs.Layout.{IsLayout};
 ghost use Rattle.inspect.specs.Written.{AppendsPart};
 ghost use Rattle.inspect.specs.Fits.{FitsNumbers};
-ghost use Rattle.inspect.specs.StudyText.{study_text, head_text, image_line, control_line, slot_text, lane_lines, lane_line, sections_text, links_text, end_text};
+ghost use Rattle.inspect.specs.StudyText.{study_text, head_text, image_line, control_line, slot_text, lane_lines, lane_line, sections_text, lane_sections, links_text, end_text};
 ghost use Rattle.inspect.specs.Links.{finds, releases_of, Tells};
 ghost use Rattle.inspect.specs.declared.error.ShowError.TheVariants as kinds;
 ghost use Rattle.inspect.specs.declared.form.Form.TheVariants.{Lines};
@@ -53,7 +53,7 @@ fn put_study<W: Write>(writer: &mut W, study: &Study, releases: &Releases) -> Re
     ensures part { OnErr result (AppendsPart (W.contents writer.old) (W.contents writer.new) (study_text study.now)) }
 {
     put_head(writer, study)?;
-    put_all_sections(writer, Form::Lines, study)?;
+    put_all_sections(writer, study)?;
     put_all_links(writer, Form::Lines, study, releases)?;
     put_end(writer, study)
 }
@@ -150,21 +150,31 @@ fn put_lane<W: Write>(writer: &mut W, lane: Lane, row: &LaneRow) -> Result<(), W
 }
 
 // Writes the live sections of all lanes, by lane and number.
-fn put_all_sections<W: Write>(writer: &mut W, form: Form, study: &Study) -> Result<(), WriteError>
+fn put_all_sections<W: Write>(writer: &mut W, study: &Study) -> Result<(), WriteError>
     requires { FitsNumbers study.now }
-    ensures ok { OnOk result (Appends (W.contents writer.old) (W.contents writer.new) (sections_text form study.now)) }
-    ensures part { OnErr result (AppendsPart (W.contents writer.old) (W.contents writer.new) (sections_text form study.now)) }
+    ensures ok { OnOk result (Appends (W.contents writer.old) (W.contents writer.new) (sections_text study.now)) }
+    ensures part { OnErr result (AppendsPart (W.contents writer.old) (W.contents writer.new) (sections_text study.now)) }
 {
     for lane in 0..study.layout.lanes {
-        let numbering = lane_numbering(study, Lane(lane));
-        put_sections(
-            writer,
-            form,
-            numbering,
-            records_in(&study.records, Lane(lane)),
-        )?;
+        put_lane_sections(writer, Form::Lines, study, Lane(lane))?;
     }
     Ok(())
+}
+
+/// Writes the live sections of one of the study's lanes, by number.
+pub(crate) fn put_lane_sections<W: Write>(
+    writer: &mut W,
+    form: Form,
+    study: &Study,
+    lane: Lane,
+) -> Result<(), WriteError>
+    requires lane { lane.0 < study.now.layout.lanes }
+    requires numbers { FitsNumbers study.now }
+    ensures ok { OnOk result (Appends (W.contents writer.old) (W.contents writer.new) (lane_sections form study.now lane.0)) }
+    ensures part { OnErr result (AppendsPart (W.contents writer.old) (W.contents writer.new) (lane_sections form study.now lane.0)) }
+{
+    let numbering = lane_numbering(study, lane);
+    put_sections(writer, form, numbering, records_in(&study.records, lane))
 }
 
 /// Writes the dependences of the live sections of all lanes on those of others, by section and place.

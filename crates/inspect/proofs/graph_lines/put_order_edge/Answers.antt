@@ -12,4 +12,4 @@ returns-clause-part g c =
     let new = g.W.Write.contents c.put_line.new.writer in
     let later : nat_le s.id.number c.args.numbering.first ≡ false = search rules in
     subst (λ (first : Bool). OnErr c.put_line.result (AppendsPart old new (if first then [] else edge (thread_of s.id.lane)))) (sym later)
-        (subst (λ (text : List ℕ). OnErr c.put_line.result (AppendsPart old new text)) (λ i. edge (c.thread_number-thread.ensures i)) c.put_line.ensures.part)
+    (subst (λ (text : List ℕ). OnErr c.put_line.result (AppendsPart old new text)) (λ i. edge (c.thread_number-thread.ensures i)) c.put_line.ensures.part)

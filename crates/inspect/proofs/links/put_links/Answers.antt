@@ -37,9 +37,9 @@ loop-entry-preserved g c =
     let w = g.W.Write.contents c.loop-entry.writer in
     let new = g.W.Write.contents c.put_taken.new.writer in
     let named : Appends w new (flat_map text (linked_by (finds c.args.releases.now) c.args.numbering c.loop-entry.gone (get_or xs i none))) =
-      subst (λ (taker : SectionId). Appends w new (flat_map text (link_from (finds c.args.releases.now) taker (get_or xs i none)))) c.section.ensures c.in_ok-put_taken.ensures.ok in
+    subst (λ (taker : SectionId). Appends w new (flat_map text (link_from (finds c.args.releases.now) taker (get_or xs i none)))) c.section.ensures c.in_ok-put_taken.ensures.ok in
     let next : Appends w new (flat_map text (linked_by (finds c.args.releases.now) c.args.numbering (progress (reverse (take i xs))) (get_or xs i none))) =
-      subst (λ (p : Progress). Appends w new (flat_map text (linked_by (finds c.args.releases.now) c.args.numbering p (get_or xs i none)))) c.loop-entry.invariant.gone named in
+    subst (λ (p : Progress). Appends w new (flat_map text (linked_by (finds c.args.releases.now) c.args.numbering p (get_or xs i none)))) c.loop-entry.invariant.gone named in
     record {
       gone = c.after-gone.ensures ∙ ap (λ (p : Progress). after_record p (get_or xs i none)) c.loop-entry.invariant.gone ∙ sym (progress_more xs i lt);
       written = next_told (linked_by (finds c.args.releases.now) c.args.numbering) text xs i lt (g.W.Write.contents c.args.writer.now) w new c.loop-entry.invariant.written next;
@@ -54,7 +54,7 @@ returns-in_err-put_taken-clause-part g c =
     let w = g.W.Write.contents c.loop-entry.writer in
     let new = g.W.Write.contents c.put_taken.new.writer in
     let named : AppendsPart w new (flat_map text (linked_by (finds c.args.releases.now) c.args.numbering c.loop-entry.gone (get_or xs i none))) =
-      subst (λ (taker : SectionId). AppendsPart w new (flat_map text (link_from (finds c.args.releases.now) taker (get_or xs i none)))) c.section.ensures c.in_err-put_taken.ensures.part in
+    subst (λ (taker : SectionId). AppendsPart w new (flat_map text (link_from (finds c.args.releases.now) taker (get_or xs i none)))) c.section.ensures c.in_err-put_taken.ensures.part in
     let next : AppendsPart w new (flat_map text (linked_by (finds c.args.releases.now) c.args.numbering (progress (reverse (take i xs))) (get_or xs i none))) =
-      subst (λ (p : Progress). AppendsPart w new (flat_map text (linked_by (finds c.args.releases.now) c.args.numbering p (get_or xs i none)))) c.loop-entry.invariant.gone named in
+    subst (λ (p : Progress). AppendsPart w new (flat_map text (linked_by (finds c.args.releases.now) c.args.numbering p (get_or xs i none)))) c.loop-entry.invariant.gone named in
     always c.from_residual.result (part_told (linked_by (finds c.args.releases.now) c.args.numbering) text xs i lt (g.W.Write.contents c.args.writer.now) w new c.loop-entry.invariant.written next)

@@ -33,9 +33,9 @@ loop-entry-preserved c =
     record {
       gone = c.after-gone.ensures ∙ ap (λ (p : Progress). after_record p r) c.loop-entry.invariant.gone ∙ sym (progress_more xs i lt);
       noted = λ older tells.
-        let before : Tells c.loop-entry.releases (older ++ so_far) = c.loop-entry.invariant.noted older tells in
-        let after : Tells c.note_release.new.releases (older ++ so_far ++ tell c.loop-entry.gone r) = c.in_ok-note_release.ensures (older ++ so_far) before in
-        let same : older ++ so_far ++ tell c.loop-entry.gone r ≡ older ++ told tell (reverse (take (i + 1) xs)) =
+          let before : Tells c.loop-entry.releases (older ++ so_far) = c.loop-entry.invariant.noted older tells in
+          let after : Tells c.note_release.new.releases (older ++ so_far ++ tell c.loop-entry.gone r) = c.in_ok-note_release.ensures (older ++ so_far) before in
+          let same : older ++ so_far ++ tell c.loop-entry.gone r ≡ older ++ told tell (reverse (take (i + 1) xs)) =
           append_assoc older so_far (tell c.loop-entry.gone r) ∙ ap (λ (p : Progress). older ++ (so_far ++ tell p r)) c.loop-entry.invariant.gone ∙ ap (λ (ys : List Release). older ++ ys) (sym (told_more tell xs i lt)) in
-        subst (Tells c.note_release.new.releases) same after;
+          subst (Tells c.note_release.new.releases) same after;
     }

@@ -13,6 +13,6 @@ returns-in_ok-insert-in-Rel c = λ older tells.
     let x : Release = record { object = c.in-Rel.object.0; number = c.in-Rel.number; section = s } in
     let noted : Tells c.insert.new.self (older ++ x ∷ []) = tells_more c.args.releases.now c.insert.new.self older x c.in_ok-insert-in-Rel.ensures.updates tells in
     let named : Tells c.insert.new.self (older ++ released_by c.args.numbering c.args.gone (Rel c.in-Rel.object c.in-Rel.number)) =
-      subst (λ (t : SectionId). Tells c.insert.new.self (older ++ record { object = c.in-Rel.object.0; number = c.in-Rel.number; section = t } ∷ [])) c.section.ensures noted in
+    subst (λ (t : SectionId). Tells c.insert.new.self (older ++ record { object = c.in-Rel.object.0; number = c.in-Rel.number; section = t } ∷ [])) c.section.ensures noted in
     let by = λ (r : UndoRecord). Tells c.insert.new.self (older ++ released_by c.args.numbering c.args.gone r) in
     elim c.in-Rel.is [ inl e ↦ subst by (sym e) named | inr e ↦ subst by (sym e) named ]

@@ -15,6 +15,6 @@ loop-lane-preserved c =
     let noted : Tells c.note_lane.new.releases (by_lane tell l ++ told (released_by c.lane_numbering-numbering.result) (reverse c.records_in.result.now)) = c.in_ok-note_lane.ensures (by_lane tell l) c.loop-lane.invariant in
     let records : c.records_in.result.now ≡ records_of s.records.items l = c.records_in.ensures ∙ ap (λ logs. records_of logs l) c.deref.ensures.value in
     let same : by_lane tell l ++ told (released_by c.lane_numbering-numbering.result) (reverse c.records_in.result.now) ≡ by_lane tell (l + 1) =
-      ap (λ (n : Numbering). by_lane tell l ++ told (released_by n) (reverse c.records_in.result.now)) c.lane_numbering-numbering.ensures
-        ∙ ap (λ (xs : List UndoRecord). by_lane tell l ++ told (released_by (numbering_of s l)) (reverse xs)) records ∙ sym (lanes_more tell l) in
+    ap (λ (n : Numbering). by_lane tell l ++ told (released_by n) (reverse c.records_in.result.now)) c.lane_numbering-numbering.ensures
+    ∙ ap (λ (xs : List UndoRecord). by_lane tell l ++ told (released_by (numbering_of s l)) (reverse xs)) records ∙ sym (lanes_more tell l) in
     subst (Tells c.note_lane.new.releases) same noted

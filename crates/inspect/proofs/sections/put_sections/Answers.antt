@@ -32,8 +32,8 @@ returns-clause-ok g c =
     let mid = g.W.Write.contents c.put_whole_sections.new.writer in
     let new = g.W.Write.contents c.put_unfinished.new.writer in
     on_ok_weaker c.put_unfinished.result (λ (more : Appends mid new (flat_map text (unfinished_section c.args.numbering c.in_ok-gone.gone))).
-        subst (Appends old new) (sym (flat_map-append text whole last)) (Appends-trans old mid new (flat_map text whole) (flat_map text last) c.in_ok-gone.ensures.ok
-        (subst (λ (p : Progress). Appends mid new (flat_map text (unfinished_section c.args.numbering p))) c.in_ok-gone.ensures.progress more))) c.put_unfinished.ensures.ok
+    subst (Appends old new) (sym (flat_map-append text whole last)) (Appends-trans old mid new (flat_map text whole) (flat_map text last) c.in_ok-gone.ensures.ok
+    (subst (λ (p : Progress). Appends mid new (flat_map text (unfinished_section c.args.numbering p))) c.in_ok-gone.ensures.progress more))) c.put_unfinished.ensures.ok
 
 pub returns-clause-part : goal.returns-clause-part
 returns-clause-part g c =
@@ -45,8 +45,8 @@ returns-clause-part g c =
     let mid = g.W.Write.contents c.put_whole_sections.new.writer in
     let new = g.W.Write.contents c.put_unfinished.new.writer in
     on_err_weaker c.put_unfinished.result (λ (more : AppendsPart mid new (flat_map text (unfinished_section c.args.numbering c.in_ok-gone.gone))).
-        subst (AppendsPart old new) (sym (flat_map-append text whole last)) (part_second old mid new (flat_map text whole) (flat_map text last) c.in_ok-gone.ensures.ok
-        (subst (λ (p : Progress). AppendsPart mid new (flat_map text (unfinished_section c.args.numbering p))) c.in_ok-gone.ensures.progress more))) c.put_unfinished.ensures.part
+    subst (AppendsPart old new) (sym (flat_map-append text whole last)) (part_second old mid new (flat_map text whole) (flat_map text last) c.in_ok-gone.ensures.ok
+    (subst (λ (p : Progress). AppendsPart mid new (flat_map text (unfinished_section c.args.numbering p))) c.in_ok-gone.ensures.progress more))) c.put_unfinished.ensures.part
 
 pub returns-in_err-gone-clause-part : goal.returns-in_err-gone-clause-part
 returns-in_err-gone-clause-part g c =

@@ -35,7 +35,7 @@ loop-entry-preserved g c =
     let w = g.W.Write.contents c.loop-entry.writer in
     let new = g.W.Write.contents c.put_ended.new.writer in
     let next : Appends w new (flat_map text (ended_by c.args.numbering (progress (reverse (take i xs))) (get_or xs i none))) =
-      subst (λ (p : Progress). Appends w new (flat_map text (ended_by c.args.numbering p (get_or xs i none)))) c.loop-entry.invariant.gone c.in_ok-put_ended.ensures.ok in
+    subst (λ (p : Progress). Appends w new (flat_map text (ended_by c.args.numbering p (get_or xs i none)))) c.loop-entry.invariant.gone c.in_ok-put_ended.ensures.ok in
     record {
       gone = c.after-gone.ensures ∙ ap (λ (p : Progress). after_record p (get_or xs i none)) c.loop-entry.invariant.gone ∙ sym (progress_more xs i lt);
       written = next_told (ended_by c.args.numbering) text xs i lt (g.W.Write.contents c.args.writer.now) w new c.loop-entry.invariant.written next;
@@ -50,5 +50,5 @@ returns-in_err-put_ended-clause-part g c =
     let w = g.W.Write.contents c.loop-entry.writer in
     let new = g.W.Write.contents c.put_ended.new.writer in
     let next : AppendsPart w new (flat_map text (ended_by c.args.numbering (progress (reverse (take i xs))) (get_or xs i none))) =
-      subst (λ (p : Progress). AppendsPart w new (flat_map text (ended_by c.args.numbering p (get_or xs i none)))) c.loop-entry.invariant.gone c.in_err-put_ended.ensures.part in
+    subst (λ (p : Progress). AppendsPart w new (flat_map text (ended_by c.args.numbering p (get_or xs i none)))) c.loop-entry.invariant.gone c.in_err-put_ended.ensures.part in
     always c.from_residual.result (part_told (ended_by c.args.numbering) text xs i lt (g.W.Write.contents c.args.writer.now) w new c.loop-entry.invariant.written next)

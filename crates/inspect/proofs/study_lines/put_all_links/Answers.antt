@@ -25,8 +25,8 @@ returns-in_err-put_links-clause-part g c =
     let found : finds c.args.releases.now ≡ releaser_in (releases_of s) = λ i o n. c.requires.releases o n i in
     let records : c.records_in.result.now ≡ records_of s.records.items l = c.records_in.ensures ∙ ap (λ logs. records_of logs l) c.deref.ensures.value in
     let part : AppendsPart mid new (tell l) =
-      subst (λ (xs : List UndoRecord). AppendsPart mid new (flat_map (link_text c.args.form) (told (linked_by (releaser_in (releases_of s)) (numbering_of s l)) (reverse xs)))) records
-      (subst (λ (n : Numbering). AppendsPart mid new (flat_map (link_text c.args.form) (told (linked_by (releaser_in (releases_of s)) n) (reverse c.records_in.result.now)))) c.lane_numbering-numbering.ensures (subst (λ (find : ℕ → ℕ → Option SectionId). AppendsPart mid new (flat_map (link_text c.args.form) (told (linked_by find c.lane_numbering-numbering.result) (reverse c.records_in.result.now)))) found c.in_err-put_links.ensures.part)) in
+    subst (λ (xs : List UndoRecord). AppendsPart mid new (flat_map (link_text c.args.form) (told (linked_by (releaser_in (releases_of s)) (numbering_of s l)) (reverse xs)))) records
+    (subst (λ (n : Numbering). AppendsPart mid new (flat_map (link_text c.args.form) (told (linked_by (releaser_in (releases_of s)) n) (reverse c.records_in.result.now)))) c.lane_numbering-numbering.ensures (subst (λ (find : ℕ → ℕ → Option SectionId). AppendsPart mid new (flat_map (link_text c.args.form) (told (linked_by find c.lane_numbering-numbering.result) (reverse c.records_in.result.now)))) found c.in_err-put_links.ensures.part)) in
     always c.from_residual.result (part_lane tell l old mid new s.layout.lanes c.loop-lane-test.true c.loop-lane.invariant part)
 
 pub loop-lane-preserved : goal.loop-lane-preserved
@@ -40,6 +40,6 @@ loop-lane-preserved g c =
     let found : finds c.args.releases.now ≡ releaser_in (releases_of s) = λ i o n. c.requires.releases o n i in
     let records : c.records_in.result.now ≡ records_of s.records.items l = c.records_in.ensures ∙ ap (λ logs. records_of logs l) c.deref.ensures.value in
     let next : Appends mid new (tell l) =
-      subst (λ (xs : List UndoRecord). Appends mid new (flat_map (link_text c.args.form) (told (linked_by (releaser_in (releases_of s)) (numbering_of s l)) (reverse xs)))) records
-      (subst (λ (n : Numbering). Appends mid new (flat_map (link_text c.args.form) (told (linked_by (releaser_in (releases_of s)) n) (reverse c.records_in.result.now)))) c.lane_numbering-numbering.ensures (subst (λ (find : ℕ → ℕ → Option SectionId). Appends mid new (flat_map (link_text c.args.form) (told (linked_by find c.lane_numbering-numbering.result) (reverse c.records_in.result.now)))) found c.in_ok-put_links.ensures.ok)) in
+    subst (λ (xs : List UndoRecord). Appends mid new (flat_map (link_text c.args.form) (told (linked_by (releaser_in (releases_of s)) (numbering_of s l)) (reverse xs)))) records
+    (subst (λ (n : Numbering). Appends mid new (flat_map (link_text c.args.form) (told (linked_by (releaser_in (releases_of s)) n) (reverse c.records_in.result.now)))) c.lane_numbering-numbering.ensures (subst (λ (find : ℕ → ℕ → Option SectionId). Appends mid new (flat_map (link_text c.args.form) (told (linked_by find c.lane_numbering-numbering.result) (reverse c.records_in.result.now)))) found c.in_ok-put_links.ensures.ok)) in
     next_lane tell l old mid new c.loop-lane.invariant next

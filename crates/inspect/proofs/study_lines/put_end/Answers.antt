@@ -26,4 +26,4 @@ returns-clause-part g c =
     let new = g.W.Write.contents c.put_list-2.new.writer in
     let first : Appends old mid cut = subst (λ (counts : List ℕ). Appends old mid (list_line (codes "cut") counts)) c.first_counts.ensures c.in_ok-put_list.ensures.ok in
     on_err_weaker c.put_list-2.result (λ (part : AppendsPart mid new (list_line (codes "heap") c.deref.result.now)).
-        part_later old mid new cut (heap ∷ []) first (part_here mid new heap [] (subst (λ (values : List ℕ). AppendsPart mid new (list_line (codes "heap") values)) c.deref.ensures.value part))) c.put_list-2.ensures.part
+    part_later old mid new cut (heap ∷ []) first (part_here mid new heap [] (subst (λ (values : List ℕ). AppendsPart mid new (list_line (codes "heap") values)) c.deref.ensures.value part))) c.put_list-2.ensures.part

@@ -36,7 +36,7 @@ returns-clause-ok g c =
     let two = g.W.Write.contents c.put_control.new.writer in
     let three = g.W.Write.contents c.put_lanes.new.writer in
     on_ok_weaker c.put_lanes.result (λ (last : Appends two three lanes). all_later old one three image (control ∷ lanes ∷ []) c.in_ok-put_image.ensures.ok
-        (all_later one two three control (lanes ∷ []) c.in_ok-put_control.ensures.ok (all_last two three lanes last))) c.put_lanes.ensures.ok
+    (all_later one two three control (lanes ∷ []) c.in_ok-put_control.ensures.ok (all_last two three lanes last))) c.put_lanes.ensures.ok
 
 pub returns-clause-part : goal.returns-clause-part
 returns-clause-part g c =
@@ -49,4 +49,4 @@ returns-clause-part g c =
     let two = g.W.Write.contents c.put_control.new.writer in
     let three = g.W.Write.contents c.put_lanes.new.writer in
     on_err_weaker c.put_lanes.result (λ (last : AppendsPart two three lanes). part_later old one three image (control ∷ lanes ∷ []) c.in_ok-put_image.ensures.ok
-        (part_later one two three control (lanes ∷ []) c.in_ok-put_control.ensures.ok (part_here two three lanes [] last))) c.put_lanes.ensures.part
+    (part_later one two three control (lanes ∷ []) c.in_ok-put_control.ensures.ok (part_here two three lanes [] last))) c.put_lanes.ensures.part
