@@ -26,3 +26,6 @@ pub use error::{ShowError, WriteError};
 pub use graph::write_graph;
 pub use report_lines::write_report;
 pub use study_lines::write_study;
+
+#[cfg(test)]
+mod tests;
