@@ -1,5 +1,5 @@
 -- The lines of sections and of dependences (docs/SCRIPTS.md, "The inspector's lines").
-use Rattle.std.specs.Prelude.{ℕ, Bool, true, false, List, [], ◌∷◌, codes}
+use Rattle.std.specs.Prelude.{ℕ, List, [], ◌∷◌, codes}
 use Rattle.std.specs.Fmt.{decimal}
 use Rattle.inspect.specs.declared.form.Form.{Form}
 use Rattle.inspect.specs.declared.form.Form.TheVariants.{Lines, Graph}

@@ -4,8 +4,8 @@ use Rattle.std.proofs.lemmas.Result.{on_ok_weaker, on_err_weaker}
 use Rattle.inspect.specs.declared.form.Form.TheVariants.{Graph}
 use Rattle.inspect.specs.Written.{AppendsPart}
 use Rattle.inspect.specs.Pieces.{line}
-use Rattle.inspect.specs.StudyText.{lane_sections, links_text}
-use Rattle.inspect.specs.WholeGraph.{cluster_head, clusters_text}
+use Rattle.inspect.specs.StudyText.{links_text}
+use Rattle.inspect.specs.WholeGraph.{clusters_text}
 use Rattle.inspect.proofs.PartLemmas.{always, all_later, all_last, part_here, part_later}
 use Rattle.inspect.proofs.graph.put_graph.Goals as goal
 

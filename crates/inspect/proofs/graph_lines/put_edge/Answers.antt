@@ -1,4 +1,4 @@
-use Rattle.std.proofs.Common.{ℕ, ◌≡◌, List, [], ◌∷◌, codes, subst, OnOk, OnErr}
+use Rattle.std.proofs.Common.{ℕ, List, [], ◌∷◌, codes, subst, OnOk, OnErr}
 use Rattle.std.specs.Fmt.{decimal}
 use Rattle.std.specs.Io.KnownBytes.{Appends}
 use Rattle.inspect.specs.Written.{AppendsPart}

@@ -1,7 +1,5 @@
-use Rattle.std.specs.Io.KnownBytes.{Appends}
 use Rattle.std.proofs.KnownBytes.{Appends-trans}
 use Rattle.std.proofs.lemmas.Result.{on_ok_weaker, on_err_weaker}
-use Rattle.inspect.specs.Written.{AppendsPart}
 use Rattle.inspect.specs.GraphText.{node_line, order_edge}
 use Rattle.inspect.proofs.PartLemmas.{always, part_first, part_second}
 use Rattle.inspect.proofs.graph_lines.put_node.Goals as goal

@@ -1,4 +1,4 @@
-use Rattle.std.proofs.Common.{ℕ, ◌≡◌, List, [], ◌∷◌, codes, subst, nat_le, OnErr}
+use Rattle.std.proofs.Common.{ℕ, List, [], ◌∷◌, codes, subst, OnErr}
 use Rattle.std.specs.Fmt.{decimal}
 use Rattle.inspect.specs.Written.{AppendsPart}
 use Rattle.inspect.specs.Pieces.{line}

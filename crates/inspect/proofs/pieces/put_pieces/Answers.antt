@@ -1,4 +1,3 @@
-use Rattle.std.proofs.Common.{get_or}
 use Rattle.inspect.specs.Pieces.{piece_text}
 use Rattle.inspect.proofs.PartLemmas.{part_item, always}
 use Rattle.inspect.proofs.pieces.put_pieces.Goals as goal

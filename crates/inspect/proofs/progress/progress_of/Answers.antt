@@ -1,7 +1,7 @@
-use Rattle.std.proofs.Common.{ℕ, ◌≡◌, ◌+◌, ◌<◌, ◌≤◌, ◌^◌, length, arith, take, reverse, sym, ap, subst, ◌∙◌, get_or, List}
+use Rattle.std.proofs.Common.{◌<◌, length, arith, sym, ap, subst, ◌∙◌, get_or, List}
 use Rattle.heap_model.specs.declared.record.UndoRecord.{UndoRecord}
 use Rattle.inspect.specs.declared.progress.Progress.{Progress}
-use Rattle.inspect.specs.Sections.{after_record, progress}
+use Rattle.inspect.specs.Sections.{after_record}
 use Rattle.inspect.proofs.ToldLemmas.{Few, few, progress_more, none}
 use Rattle.inspect.proofs.progress.progress_of.Goals as goal
 

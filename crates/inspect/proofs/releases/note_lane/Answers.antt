@@ -1,7 +1,7 @@
-use Rattle.std.proofs.Common.{ℕ, ◌≡◌, ◌+◌, ◌<◌, ◌≤◌, ◌^◌, ◌++◌, length, arith, take, reverse, sym, ap, subst, ◌∙◌, get_or, List, append_assoc}
+use Rattle.std.proofs.Common.{◌≡◌, ◌+◌, ◌<◌, ◌++◌, length, arith, take, reverse, sym, ap, subst, ◌∙◌, get_or, List, append_assoc}
 use Rattle.heap_model.specs.declared.record.UndoRecord.{UndoRecord}
 use Rattle.inspect.specs.declared.progress.Progress.{Progress}
-use Rattle.inspect.specs.Sections.{after_record, progress, told}
+use Rattle.inspect.specs.Sections.{after_record, told}
 use Rattle.inspect.specs.Links.{Release, Tells, released_by}
 use Rattle.inspect.proofs.ToldLemmas.{Few, few, progress_more, none, told_more}
 use Rattle.inspect.proofs.releases.note_lane.Goals as goal

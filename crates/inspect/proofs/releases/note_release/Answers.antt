@@ -1,10 +1,9 @@
-use Rattle.std.proofs.Common.{ℕ, ◌≡◌, ◌++◌, ◌∷◌, [], Some, List, subst, sym, inl, inr}
-use Rattle.std.specs.BTreeMap.{Updates}
+use Rattle.std.proofs.Common.{◌++◌, ◌∷◌, [], subst, sym, inl, inr}
 use Rattle.heap_model.specs.declared.record.UndoRecord.{UndoRecord}
-use Rattle.heap_model.specs.declared.record.UndoRecord.TheVariants.{Rel, WaitRel}
+use Rattle.heap_model.specs.declared.record.UndoRecord.TheVariants.{Rel}
 use Rattle.inspect.specs.declared.section.SectionId.{SectionId}
 use Rattle.inspect.specs.Links.{Release, Tells, released_by}
-use Rattle.inspect.proofs.ReleaseLemmas.{by_number, tells_more}
+use Rattle.inspect.proofs.ReleaseLemmas.{tells_more}
 use Rattle.inspect.proofs.releases.note_release.Goals as goal
 
 pub returns-in_ok-insert-in-Rel : goal.returns-in_ok-insert-in-Rel

@@ -3,7 +3,7 @@ use Rattle.heap_model.specs.declared.record.UndoRecord.{UndoRecord}
 use Rattle.recover.specs.Logs.{records_of}
 use Rattle.inspect.specs.declared.numbering.Numbering.{Numbering}
 use Rattle.inspect.specs.Sections.{told, by_lane, numbering_of}
-use Rattle.inspect.specs.Links.{Release, Tells, released_by}
+use Rattle.inspect.specs.Links.{Tells, released_by}
 use Rattle.inspect.proofs.LaneLemmas.{lanes_more}
 use Rattle.inspect.proofs.releases.releases_in.Goals as goal
 

@@ -1,5 +1,3 @@
-use Rattle.std.proofs.Common.{get_or}
-use Rattle.recover.specs.declared.report.Dropped.{Dropped}
 use Rattle.inspect.specs.ReportText.{dropped_line}
 use Rattle.inspect.proofs.PartLemmas.{part_item, always}
 use Rattle.inspect.proofs.report_lines.put_dropped.Goals as goal

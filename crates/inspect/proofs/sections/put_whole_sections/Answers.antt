@@ -1,4 +1,4 @@
-use Rattle.std.proofs.Common.{ℕ, ◌≡◌, ◌+◌, ◌<◌, ◌≤◌, ◌^◌, length, arith, take, reverse, sym, ap, subst, ◌∙◌, get_or, List}
+use Rattle.std.proofs.Common.{◌<◌, length, arith, take, reverse, sym, ap, subst, ◌∙◌, get_or, List}
 use Rattle.std.specs.List.{flat_map}
 use Rattle.std.specs.Io.KnownBytes.{Appends}
 use Rattle.heap_model.specs.declared.record.UndoRecord.{UndoRecord}

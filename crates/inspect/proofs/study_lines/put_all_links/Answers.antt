@@ -6,10 +6,9 @@ use Rattle.recover.specs.Logs.{records_of}
 use Rattle.inspect.specs.declared.numbering.Numbering.{Numbering}
 use Rattle.inspect.specs.declared.section.SectionId.{SectionId}
 use Rattle.inspect.specs.Written.{AppendsPart}
-use Rattle.inspect.specs.Sections.{numbering_of, live_sections, told}
+use Rattle.inspect.specs.Sections.{numbering_of, told}
 use Rattle.inspect.specs.Links.{links_in, linked_by, finds, releaser_in, releases_of}
-use Rattle.inspect.specs.SectionText.{section_text, link_text}
-use Rattle.inspect.specs.StudyText.{lane_sections}
+use Rattle.inspect.specs.SectionText.{link_text}
 use Rattle.inspect.proofs.PartLemmas.{always}
 use Rattle.inspect.proofs.LaneLemmas.{next_lane, part_lane}
 use Rattle.inspect.proofs.study_lines.put_all_links.Goals as goal

@@ -1,4 +1,4 @@
-use Rattle.std.proofs.Common.{ℕ, ◌≡◌, reverse, ap, subst, ◌∙◌, List, OnOk, OnErr}
+use Rattle.std.proofs.Common.{◌≡◌, reverse, ap, subst, ◌∙◌, List, OnOk, OnErr}
 use Rattle.std.specs.List.{flat_map}
 use Rattle.std.specs.Io.KnownBytes.{Appends}
 use Rattle.heap_model.specs.declared.record.UndoRecord.{UndoRecord}
