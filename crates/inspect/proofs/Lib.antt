@@ -1,0 +1,4 @@
+pub mod PartLemmas
+pub mod ToldLemmas
+pub mod LaneLemmas
+pub mod ReleaseLemmas

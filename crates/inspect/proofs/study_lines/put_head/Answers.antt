@@ -1,0 +1,52 @@
+use Rattle.std.proofs.Common.{[], ◌∷◌}
+use Rattle.std.specs.Io.KnownBytes.{Appends}
+use Rattle.std.proofs.lemmas.Result.{on_ok_weaker, on_err_weaker}
+use Rattle.inspect.specs.Written.{AppendsPart}
+use Rattle.inspect.specs.StudyText.{image_line, control_line, lane_lines}
+use Rattle.inspect.proofs.PartLemmas.{always, all_later, all_last, part_here, part_later}
+use Rattle.inspect.proofs.study_lines.put_head.Goals as goal
+
+pub returns-in_err-put_image-clause-part : goal.returns-in_err-put_image-clause-part
+returns-in_err-put_image-clause-part g c =
+    let s = c.args.study.now in
+    let image = image_line s.layout in
+    let control = control_line s.slot s.control in
+    let lanes = lane_lines s.layout.lanes s.control.rows in
+    always c.from_residual.result (part_here (g.W.Write.contents c.args.writer.now) (g.W.Write.contents c.put_image.new.writer) image (control ∷ lanes ∷ []) c.in_err-put_image.ensures.part)
+
+pub returns-in_err-put_control-clause-part : goal.returns-in_err-put_control-clause-part
+returns-in_err-put_control-clause-part g c =
+    let s = c.args.study.now in
+    let image = image_line s.layout in
+    let control = control_line s.slot s.control in
+    let lanes = lane_lines s.layout.lanes s.control.rows in
+    let old = g.W.Write.contents c.args.writer.now in
+    let one = g.W.Write.contents c.put_image.new.writer in
+    let two = g.W.Write.contents c.put_control.new.writer in
+    always c.from_residual-in_err-put_control.result (part_later old one two image (control ∷ lanes ∷ []) c.in_ok-put_image.ensures.ok (part_here one two control (lanes ∷ []) c.in_err-put_control.ensures.part))
+
+pub returns-clause-ok : goal.returns-clause-ok
+returns-clause-ok g c =
+    let s = c.args.study.now in
+    let image = image_line s.layout in
+    let control = control_line s.slot s.control in
+    let lanes = lane_lines s.layout.lanes s.control.rows in
+    let old = g.W.Write.contents c.args.writer.now in
+    let one = g.W.Write.contents c.put_image.new.writer in
+    let two = g.W.Write.contents c.put_control.new.writer in
+    let three = g.W.Write.contents c.put_lanes.new.writer in
+    on_ok_weaker c.put_lanes.result (λ (last : Appends two three lanes). all_later old one three image (control ∷ lanes ∷ []) c.in_ok-put_image.ensures.ok
+    (all_later one two three control (lanes ∷ []) c.in_ok-put_control.ensures.ok (all_last two three lanes last))) c.put_lanes.ensures.ok
+
+pub returns-clause-part : goal.returns-clause-part
+returns-clause-part g c =
+    let s = c.args.study.now in
+    let image = image_line s.layout in
+    let control = control_line s.slot s.control in
+    let lanes = lane_lines s.layout.lanes s.control.rows in
+    let old = g.W.Write.contents c.args.writer.now in
+    let one = g.W.Write.contents c.put_image.new.writer in
+    let two = g.W.Write.contents c.put_control.new.writer in
+    let three = g.W.Write.contents c.put_lanes.new.writer in
+    on_err_weaker c.put_lanes.result (λ (last : AppendsPart two three lanes). part_later old one three image (control ∷ lanes ∷ []) c.in_ok-put_image.ensures.ok
+    (part_later one two three control (lanes ∷ []) c.in_ok-put_control.ensures.ok (part_here two three lanes [] last))) c.put_lanes.ensures.part

@@ -1,0 +1,10 @@
+pub mod Written
+pub mod Pieces
+pub mod ReportText
+pub mod Sections
+pub mod Links
+pub mod Fits
+pub mod SectionText
+pub mod GraphText
+pub mod StudyText
+pub mod WholeGraph

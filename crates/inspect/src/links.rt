@@ -1,0 +1,105 @@
+//! What sections take from those of other lanes, written one by one.
+ghost use Rattle.std.specs.Prelude.{◌≡◌, ◌+◌, ◌<◌, ◌^◌, OnOk, OnErr, length, reverse};
+ghost use Rattle.std.specs.Io.KnownBytes.{Appends};
+ghost use Rattle.std.specs.List.{flat_map};
+ghost use Rattle.inspect.specs.Written.{AppendsPart};
+ghost use Rattle.inspect.specs.Sections.{told};
+ghost use Rattle.inspect.specs.Links.{finds, linked_by, link_from, taken_in};
+ghost use Rattle.inspect.specs.SectionText.{link_text};
+
+use crate::error::WriteError;
+use crate::form::Form;
+use crate::graph_lines::put_edge;
+use crate::numbering::Numbering;
+use crate::progress::Progress;
+use crate::releases::{Releases, releaser};
+use crate::section::{Link, SectionId};
+use crate::section_lines::put_link_line;
+use heap_model::{ObjectId, UndoRecord};
+use std::io::Write;
+
+/// Writes a dependence for each acquire of the lane of what a section of another lane released, by place. The lane's live
+/// records have the oldest first.
+pub(crate) fn put_links<W: Write>(
+    writer: &mut W,
+    form: Form,
+    releases: &Releases,
+    numbering: Numbering,
+    records: &[UndoRecord],
+) -> Result<(), WriteError>
+    requires { numbering.first + length records.now < 2 ^ 64 }
+    ensures ok { OnOk result (Appends (W.contents writer.old) (W.contents writer.new) (flat_map (link_text form) (told (linked_by (finds releases.now) numbering) (reverse records.now)))) }
+    ensures part { OnErr result (AppendsPart (W.contents writer.old) (W.contents writer.new) (flat_map (link_text form) (told (linked_by (finds releases.now) numbering) (reverse records.now)))) }
+{
+    let mut gone = Progress::begin();
+    for entry in records {
+        put_taken(
+            writer,
+            form,
+            releases,
+            numbering.section(gone.ended),
+            *entry,
+        )?;
+        gone = gone.after(*entry);
+    }
+    Ok(())
+}
+
+// Writes the dependence of the section by the record, if there is one.
+fn put_taken<W: Write>(
+    writer: &mut W,
+    form: Form,
+    releases: &Releases,
+    taker: SectionId,
+    entry: UndoRecord,
+) -> Result<(), WriteError>
+    ensures ok { OnOk result (Appends (W.contents writer.old) (W.contents writer.new) (flat_map (link_text form) (link_from (finds releases.now) taker entry))) }
+    ensures part { OnErr result (AppendsPart (W.contents writer.old) (W.contents writer.new) (flat_map (link_text form) (link_from (finds releases.now) taker entry))) }
+{
+    let UndoRecord::Acq { object, number } = entry else {
+        return Ok(());
+    };
+    match taken_from(releases, taker, object, number) {
+        Some(releaser) => put_link(
+            writer,
+            form,
+            Link {
+                taker,
+                releaser,
+                object,
+                number,
+            },
+        ),
+        None => Ok(()),
+    }
+}
+
+// The section of another lane that released what the section acquires at this number.
+fn taken_from(
+    releases: &Releases,
+    taker: SectionId,
+    object: ObjectId,
+    number: u64,
+) -> Option<SectionId>
+    ensures { result ≡ taken_in (finds releases.now) taker object.0 number }
+{
+    if number == 0 {
+        return None;
+    }
+    let from = releaser(releases, object, number - 1)?;
+    if from.lane == taker.lane {
+        None
+    } else {
+        Some(from)
+    }
+}
+
+fn put_link<W: Write>(writer: &mut W, form: Form, link: Link) -> Result<(), WriteError>
+    ensures ok { OnOk result (Appends (W.contents writer.old) (W.contents writer.new) (link_text form link)) }
+    ensures part { OnErr result (AppendsPart (W.contents writer.old) (W.contents writer.new) (link_text form link)) }
+{
+    match form {
+        Form::Lines => put_link_line(writer, link),
+        Form::Graph => put_edge(writer, link),
+    }
+}

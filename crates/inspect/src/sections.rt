@@ -1,0 +1,112 @@
+//! The live sections of a lane, written one by one.
+ghost use Rattle.std.specs.Prelude.{◌≡◌, ◌+◌, ◌<◌, ◌^◌, IfOk, OnOk, OnErr, length, reverse};
+ghost use Rattle.std.specs.Io.KnownBytes.{Appends};
+ghost use Rattle.std.specs.List.{flat_map};
+ghost use Rattle.inspect.specs.Written.{AppendsPart};
+ghost use Rattle.inspect.specs.Sections.{progress, ended_by, whole_sections, unfinished_section, live_sections};
+ghost use Rattle.inspect.specs.SectionText.{section_text};
+
+use crate::error::WriteError;
+use crate::form::Form;
+use crate::graph_lines::put_node;
+use crate::numbering::Numbering;
+use crate::progress::Progress;
+use crate::section::Section;
+use crate::section_lines::put_section_line;
+use heap_model::UndoRecord;
+use std::io::Write;
+
+/// Writes each live section of the lane, by number. The lane's live records have the oldest first.
+pub(crate) fn put_sections<W: Write>(
+    writer: &mut W,
+    form: Form,
+    numbering: Numbering,
+    records: &[UndoRecord],
+) -> Result<(), WriteError>
+    requires { numbering.first + length records.now < 2 ^ 64 }
+    ensures ok { OnOk result (Appends (W.contents writer.old) (W.contents writer.new) (flat_map (section_text form numbering) (live_sections numbering (reverse records.now)))) }
+    ensures part { OnErr result (AppendsPart (W.contents writer.old) (W.contents writer.new) (flat_map (section_text form numbering) (live_sections numbering (reverse records.now)))) }
+{
+    let gone = put_whole_sections(writer, form, numbering, records)?;
+    put_unfinished(writer, form, numbering, gone)
+}
+
+fn put_whole_sections<W: Write>(
+    writer: &mut W,
+    form: Form,
+    numbering: Numbering,
+    records: &[UndoRecord],
+) -> Result<Progress, WriteError>
+    requires { numbering.first + length records.now < 2 ^ 64 }
+    ensures ok { OnOk result (Appends (W.contents writer.old) (W.contents writer.new) (flat_map (section_text form numbering) (whole_sections numbering (reverse records.now)))) }
+    ensures progress { IfOk result (λ gone. gone ≡ progress (reverse records.now)) }
+    ensures part { OnErr result (AppendsPart (W.contents writer.old) (W.contents writer.new) (flat_map (section_text form numbering) (whole_sections numbering (reverse records.now)))) }
+{
+    let mut gone = Progress::begin();
+    for entry in records {
+        put_ended(writer, form, numbering, gone, *entry)?;
+        gone = gone.after(*entry);
+    }
+    Ok(gone)
+}
+
+// Writes the section that the record ends, if it ends one.
+fn put_ended<W: Write>(
+    writer: &mut W,
+    form: Form,
+    numbering: Numbering,
+    gone: Progress,
+    entry: UndoRecord,
+) -> Result<(), WriteError>
+    requires number { numbering.first + gone.ended < 2 ^ 64 }
+    requires records { gone.since + 1 < 2 ^ 64 }
+    ensures ok { OnOk result (Appends (W.contents writer.old) (W.contents writer.new) (flat_map (section_text form numbering) (ended_by numbering gone entry))) }
+    ensures part { OnErr result (AppendsPart (W.contents writer.old) (W.contents writer.new) (flat_map (section_text form numbering) (ended_by numbering gone entry))) }
+{
+    if !gone.ends(entry) {
+        return Ok(());
+    }
+    let section = Section {
+        id: numbering.section(gone.ended),
+        is_whole: true,
+        records: gone.since + 1,
+    };
+    put_section(writer, form, numbering, section)
+}
+
+// Writes the section that the lane is in, if it is in one.
+fn put_unfinished<W: Write>(
+    writer: &mut W,
+    form: Form,
+    numbering: Numbering,
+    gone: Progress,
+) -> Result<(), WriteError>
+    requires number { numbering.first + gone.ended < 2 ^ 64 }
+    ensures ok { OnOk result (Appends (W.contents writer.old) (W.contents writer.new) (flat_map (section_text form numbering) (unfinished_section numbering gone))) }
+    ensures part { OnErr result (AppendsPart (W.contents writer.old) (W.contents writer.new) (flat_map (section_text form numbering) (unfinished_section numbering gone))) }
+{
+    if gone.since == 0 {
+        return Ok(());
+    }
+    let section = Section {
+        id: numbering.section(gone.ended),
+        is_whole: false,
+        records: gone.since,
+    };
+    put_section(writer, form, numbering, section)
+}
+
+fn put_section<W: Write>(
+    writer: &mut W,
+    form: Form,
+    numbering: Numbering,
+    section: Section,
+) -> Result<(), WriteError>
+    ensures ok { OnOk result (Appends (W.contents writer.old) (W.contents writer.new) (section_text form numbering section)) }
+    ensures part { OnErr result (AppendsPart (W.contents writer.old) (W.contents writer.new) (section_text form numbering section)) }
+{
+    match form {
+        Form::Lines => put_section_line(writer, section),
+        Form::Graph => put_node(writer, numbering, section),
+    }
+}

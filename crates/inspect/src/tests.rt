@@ -1,0 +1,275 @@
+//! Texts of hand-made studies, by the rules of docs/SCRIPTS.md.
+ghost use Rattle.std.specs.Prelude.{◌≡◌, ◌<◌, IfOk, length};
+ghost use Rattle.image.specs.Layout.{IsLayout};
+ghost use Rattle.recover.specs.Logs.{records_of};
+ghost use Rattle.inspect.specs.Fits.{FitsNumbers};
+
+use super::*;
+use heap_model::{Cut, FieldId, Lane, ObjectId, UndoRecord};
+use image::{Control, LaneRow, Layout, Slot};
+use recover::{Dropped, Report, Study, Why};
+use std::alloc::{AllocError, Global};
+use std::io;
+use std::io::Write;
+use std::test::Fail;
+
+// Takes two bytes a call at most; the call of this number, counted from 1, fails.
+#[derive(Drop)]
+struct Sink {
+    taken: Vec<u8>,
+    calls: u64,
+    fault: u64,
+}
+
+impl Write for Sink {
+    fn write(&mut self, buf: &[u8]) -> io::Result<usize> {
+        self.calls = self.calls.saturating_add(1);
+        if self.calls == self.fault {
+            return Err(io::Error::from(io::ErrorKind::Interrupted));
+        }
+        let count = buf.len().min(2);
+        self.taken.extend_from_slice(&buf[..count])?;
+        Ok(count)
+    }
+
+    fn flush(&mut self) -> io::Result<()> {
+        Ok(())
+    }
+}
+
+fn writer_failing(alloc: Global, fault: u64) -> Sink {
+    Sink {
+        taken: Vec::new(alloc),
+        calls: 0,
+        fault,
+    }
+}
+
+fn row(settled: u64, logged: u64, kept: u64) -> LaneRow
+    ensures { result.kept ≡ kept }
+{
+    LaneRow {
+        start: 0,
+        settled,
+        logged,
+        kept,
+    }
+}
+
+fn acq(object: u32, number: u64) -> UndoRecord {
+    UndoRecord::Acq {
+        object: ObjectId(object),
+        number,
+    }
+}
+
+fn rel(object: u32, number: u64) -> UndoRecord {
+    UndoRecord::Rel {
+        object: ObjectId(object),
+        number,
+    }
+}
+
+fn store(before: u64) -> UndoRecord {
+    UndoRecord::Put {
+        field: FieldId(0),
+        before,
+    }
+}
+
+// The lanes' records, one lane after the other.
+fn both(
+    alloc: Global,
+    first: &[UndoRecord],
+    second: &[UndoRecord],
+) -> Result<Vec<Vec<UndoRecord>>, AllocError>
+    ensures first { IfOk result (λ logs. records_of logs.items 0 ≡ first.now) }
+    ensures second { IfOk result (λ logs. records_of logs.items 1 ≡ second.now) }
+{
+    let mut logs = Vec::new(alloc);
+    logs.push(Vec::from_slice(alloc, first)?)?;
+    logs.push(Vec::from_slice(alloc, second)?)?;
+    Ok(logs)
+}
+
+// The study of an image of two lanes.
+fn study_of(
+    alloc: Global,
+    rows: (LaneRow, LaneRow),
+    first: &[UndoRecord],
+    second: &[UndoRecord],
+    report: Report,
+) -> Result<Study, AllocError>
+    requires first_row { rows.0.kept < 100 }
+    requires second_row { rows.1.kept < 100 }
+    requires first { length first.now < 100 }
+    requires second { length second.now < 100 }
+    ensures limits { IfOk result (λ s. IsLayout s.layout) }
+    ensures numbers { IfOk result FitsNumbers }
+{
+    let mut control = Control {
+        sequence: 3,
+        version: 1,
+        rows: [LaneRow::EMPTY; 32],
+    };
+    control.rows[0] = rows.0;
+    control.rows[1] = rows.1;
+    Ok(Study {
+        layout: Layout {
+            objects: 4,
+            fields: 2,
+            lanes: 2,
+            capacity: 4000,
+        },
+        slot: Slot::A,
+        control,
+        guards: Vec::new(alloc),
+        records: both(alloc, first, second)?,
+        heap: Vec::from_slice(alloc, &[10, 20])?,
+        report,
+    })
+}
+
+// Thread 1 still holds o1 when it frees o0, which thread 2 then takes.
+fn unfinished(alloc: Global) -> Result<Study, AllocError>
+    ensures limits { IfOk result (λ s. IsLayout s.layout) }
+    ensures numbers { IfOk result FitsNumbers }
+{
+    let dropped = [
+        Dropped {
+            lane: Lane(0),
+            section: 1,
+            why: Why::Unfinished,
+        },
+        Dropped {
+            lane: Lane(1),
+            section: 1,
+            why: Why::After {
+                lane: Lane(0),
+                section: 1,
+            },
+        },
+    ];
+    let report = Report {
+        kept: Cut { counts: [0; 32] },
+        dropped: Vec::from_slice(alloc, &dropped)?,
+        undone: 1,
+    };
+    study_of(
+        alloc,
+        (row(0, 4, 0), row(0, 3, 0)),
+        &[acq(0, 0), acq(1, 0), store(10), rel(0, 0)],
+        &[acq(0, 1), store(1), rel(0, 1)],
+        report,
+    )
+}
+
+// Of thread 1's live sections one is settled, the third; thread 2's second has taken what the fourth freed.
+fn settled(alloc: Global) -> Result<Study, AllocError>
+    ensures limits { IfOk result (λ s. IsLayout s.layout) }
+    ensures numbers { IfOk result FitsNumbers }
+{
+    let mut counts = [0; 32];
+    counts[0] = 3;
+    counts[1] = 1;
+    let report = Report {
+        kept: Cut { counts },
+        dropped: Vec::new(alloc),
+        undone: 0,
+    };
+    study_of(
+        alloc,
+        (row(3, 5, 3), row(0, 2, 1)),
+        &[acq(0, 4), store(10), rel(0, 4), acq(0, 5), rel(0, 5)],
+        &[acq(0, 6), store(10)],
+        report,
+    )
+}
+
+#[test]
+fn a_report_is_written(rt: HostRuntime) -> Result<(), Fail> {
+    let study = unfinished(rt.alloc())?;
+    let mut out = writer_failing(rt.alloc(), 0);
+    write_report(&study.report, &study.heap, 2, &mut out)?;
+    let lines = b"kept 0 0
+dropped t1 1 unfinished
+dropped t2 1 after t1 1
+undone 1
+heap 10 20
+";
+    assert_eq!(rt; &*out.taken, lines.as_slice());
+    let mut broken = writer_failing(rt.alloc(), 9);
+    assert_eq!(rt;
+        write_report(&study.report, &study.heap, 2, &mut broken),
+        Err(WriteError)
+    );
+    assert_eq!(rt; &*broken.taken, b"kept 0 0\ndr".as_slice());
+    Ok(())
+}
+
+#[test]
+fn a_study_is_written(rt: HostRuntime) -> Result<(), Fail> {
+    let alloc = rt.alloc();
+    let mut out = writer_failing(alloc, 0);
+    write_study(alloc, &unfinished(alloc)?, &mut out)?;
+    let lines = b"image lanes 2 capacity 4000 objects 4 fields 2 size 130208
+control a sequence 3 version 1
+lane t1 start 0 settled 0 logged 4 kept 0
+lane t2 start 0 settled 0 logged 3 kept 0
+section t1 1 unfinished records 4
+section t2 1 whole records 3
+depends t2 1 on t1 1 object 0 number 1
+cut 0 0
+heap 10 20
+";
+    assert_eq!(rt; &*out.taken, lines.as_slice());
+    let mut broken = writer_failing(alloc, 1);
+    assert_eq!(rt;
+        write_study(alloc, &unfinished(alloc)?, &mut broken),
+        Err(ShowError::Write)
+    );
+    Ok(())
+}
+
+#[test]
+fn numbers_go_on_from_what_is_kept(rt: HostRuntime) -> Result<(), Fail> {
+    let alloc = rt.alloc();
+    let mut out = writer_failing(alloc, 0);
+    write_study(alloc, &settled(alloc)?, &mut out)?;
+    let lines = b"image lanes 2 capacity 4000 objects 4 fields 2 size 130208
+control a sequence 3 version 1
+lane t1 start 0 settled 3 logged 5 kept 3
+lane t2 start 0 settled 0 logged 2 kept 1
+section t1 3 whole records 3
+section t1 4 whole records 2
+section t2 2 unfinished records 2
+depends t2 2 on t1 4 object 0 number 6
+cut 3 1
+heap 10 20
+";
+    assert_eq!(rt; &*out.taken, lines.as_slice());
+    Ok(())
+}
+
+#[test]
+fn a_graph_is_written(rt: HostRuntime) -> Result<(), Fail> {
+    let alloc = rt.alloc();
+    let mut out = writer_failing(alloc, 0);
+    write_graph(alloc, &settled(alloc)?, &mut out)?;
+    let lines = b"digraph sections {
+subgraph cluster_t1 {
+label=\"t1\"
+\"t1.3\" [label=\"t1 3\\nwhole, 3 records\", style=filled]
+\"t1.4\" [label=\"t1 4\\nwhole, 2 records\"]
+\"t1.4\" -> \"t1.3\" [style=dotted]
+}
+subgraph cluster_t2 {
+label=\"t2\"
+\"t2.2\" [label=\"t2 2\\nunfinished, 2 records\"]
+}
+\"t2.2\" -> \"t1.4\" [label=\"object 0 number 6\"]
+}
+";
+    assert_eq!(rt; &*out.taken, lines.as_slice());
+    Ok(())
+}
