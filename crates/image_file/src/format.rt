@@ -8,7 +8,7 @@ use crate::disk_maker::DiskMaker;
 use crate::error::FormatError;
 use crate::new_file::NewFile;
 use block_disk::{BackingFile, Disk};
-use durable::format;
+use durable::Store;
 use image::{ImageError, Layout, Recovered};
 use scripts::{Answer, read_schema, text};
 use std::alloc::Global;
@@ -44,7 +44,7 @@ pub fn format_image<D: Disk + Drop, S: Read, M: DiskMaker<D>, W: Write>(
     };
     let size = layout.size();
     let disk = maker.make_disk(alloc, size)?;
-    let made = match format(alloc, disk, &schema, lanes, capacity) {
+    let made = match Store::format(alloc, disk, &schema, lanes, capacity) {
         Ok(made) => made,
         // The device has the image's size, so that these two are all.
         Err((_, ImageError::NoMemory)) => return Err(FormatError::NoMemory),
