@@ -4,10 +4,10 @@ mod crashes;
 mod runs;
 
 use crate::run_tests::runs::{
-    Outcome, acq, after, crashed, cut, dropped, new_store, one, outcome_of, put, recovery_of, rel,
+    Outcome, acq, after, answered, crashed, cut, dropped, new_store, one, put, recovery_of, rel,
     released, store_on, stored, two, two_stores, wait,
 };
-use crate::{RecoverError, Why, play_and_recover};
+use crate::{RecoverError, WholeRun, Why, play_and_recover};
 use block_disk::{Fill, MemDisk};
 use durable::{StoreCall, StoreError};
 use std::process::Abort;
@@ -139,18 +139,20 @@ fn a_section_whose_sync_failed_is_as_never_logged(rt: HostRuntime) -> Result<(),
 fn a_whole_run_is_played_and_recovered(rt: HostRuntime) -> Result<(), Fail> {
     let left = crashed(rt.alloc(), &released(), Fill::Lost)?;
     let mut store = new_store(rt.alloc())?;
-    let run = play_and_recover(rt.alloc(), &mut store, &released(), left);
-    assert_eq!(rt; run.played, Ok(()));
-    let Ok((recovered, report)) = run.recovered else {
-        return Err(Fail::new("not recovered"));
-    };
+    let WholeRun { played, recovered } = play_and_recover(
+        rt.alloc(),
+        &mut store,
+        &released(),
+        left,
+    );
+    assert_eq!(rt; played, Ok(()));
     let wanted = Outcome {
         kept: cut(1, 1),
         dropped: [None, None],
         undone: 0,
         heap: [2, 20],
     };
-    assert_eq!(rt; outcome_of(recovered.heap(), &report)?, wanted);
+    assert_eq!(rt; answered(recovered)?, Ok(wanted));
     assert_eq!(rt; store.into_disk().stops(), 13 + 12 + 1 + 7 + 8 + 7);
     Ok(())
 }

@@ -31,8 +31,8 @@ fn recovered_at(
 
 // Each crash with this fill while the disk was written.
 fn check_crashes(rt: &impl Abort, alloc: Global, disk: &MemDisk, fill: Fill) -> Result<(), Fail> {
-    for ended in 0..=disk.stops() {
-        recovered_at(rt, alloc, disk, ended + 1, fill)?;
+    for k in 1..disk.stops().saturating_add(2) {
+        recovered_at(rt, alloc, disk, k, fill)?;
     }
     Ok(())
 }
@@ -44,8 +44,8 @@ fn check_crashes_twice(
     disk: &MemDisk,
     fill: Fill,
 ) -> Result<(), Fail> {
-    for ended in 0..=disk.stops() {
-        let again = recovered_at(rt, alloc, disk, ended + 1, fill)?;
+    for k in 1..disk.stops().saturating_add(2) {
+        let again = recovered_at(rt, alloc, disk, k, fill)?;
         check_crashes(rt, alloc, &again, fill)?;
     }
     Ok(())

@@ -4,6 +4,7 @@ use crate::{Dropped, RecoverError, Report, Why, recover};
 use block_disk::{Fill, MemDisk};
 use durable::{Store, StoreCall, format};
 use heap_model::{Cut, FieldId, Lane, ObjectId, Record};
+use image::Recovered;
 use std::alloc::Global;
 use std::test::Fail;
 
@@ -161,14 +162,21 @@ pub fn crashed(alloc: Global, calls: &[StoreCall], fill: Fill) -> Result<MemDisk
     }
     let disk = store.into_disk();
     let image = disk
-        .crash_image(disk.stops() + 1, fill)?
+        .crash_image(disk.stops().saturating_add(1), fill)?
         .ok_or("no such call")?;
     Ok(image)
 }
 
 /// What recovery of this disk answers.
 pub fn recovery_of(alloc: Global, disk: MemDisk) -> Result<Result<Outcome, RecoverError>, Fail> {
-    match recover(alloc, disk) {
+    answered(recover(alloc, disk))
+}
+
+/// What recovery answered.
+pub fn answered(
+    answer: Result<(Recovered<MemDisk>, Report), (MemDisk, RecoverError)>,
+) -> Result<Result<Outcome, RecoverError>, Fail> {
+    match answer {
         Ok((recovered, report)) => Ok(Ok(outcome_of(recovered.heap(), &report)?)),
         Err((_, reason)) => Ok(Err(reason)),
     }
