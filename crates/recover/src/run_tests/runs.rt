@@ -2,7 +2,7 @@
 use crate::tests::schema_or_none;
 use crate::{Dropped, RecoverError, Report, Why, recover};
 use block_disk::{Fill, MemDisk};
-use durable::{Store, StoreCall, format};
+use durable::{Store, StoreCall};
 use heap_model::{Cut, FieldId, Lane, ObjectId, Record};
 use image::Recovered;
 use std::alloc::Global;
@@ -139,7 +139,7 @@ pub fn released() -> [StoreCall; 15] {
 /// A store of the common schema on this disk, with two lanes of 4,000 records.
 pub fn store_on(alloc: Global, disk: MemDisk) -> Result<Store<MemDisk>, Fail> {
     let schema = schema_or_none(alloc).ok_or("no schema")?;
-    let Ok(made) = format(alloc, disk, &schema, 2, 4000) else {
+    let Ok(made) = Store::format(alloc, disk, &schema, 2, 4000) else {
         return Err(Fail::new("not formatted"));
     };
     let Ok(store) = Store::adopt(alloc, made, 9) else {
