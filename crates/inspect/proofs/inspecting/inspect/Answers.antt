@@ -1,4 +1,4 @@
-use Rattle.std.proofs.Common.{ℕ, ◌≡◌, Option, List, Result, Ok, Err, IfErr, OnOk, subst}
+use Rattle.std.proofs.Common.{ℕ, Option, List, Result, Ok, Err, IfErr, subst}
 use Rattle.std.proofs.lemmas.Result.{on_ok_weaker}
 use Rattle.std.specs.Io.KnownBytes.{Appends}
 use Rattle.recover.specs.Study.{IsStudyOf}
@@ -6,7 +6,7 @@ use Rattle.recover.specs.declared.studied.Study.{Study as Studied}
 use Rattle.recover.specs.declared.error.RecoverError.TheVariants.{Fault, NotFormatted, BadHeader, TooSmall, NoControl, BadControl, Worn, BadRecord, IllegalLog, NoMemory}
 use Rattle.inspect.specs.declared.error.InspectError.{InspectError}
 use Rattle.inspect.specs.declared.error.InspectError.TheVariants.{Study, Write}
-use Rattle.inspect.specs.Inspection.{Inspects, IsNotShown, Refuses}
+use Rattle.inspect.specs.Inspection.{IsNotShown, Refuses}
 use Rattle.inspect.specs.StudyText.{study_text}
 use Rattle.inspect.proofs.StudyLemmas.{limits_of, fits_of}
 use Rattle.inspect.proofs.inspecting.inspect.Goals as goal
