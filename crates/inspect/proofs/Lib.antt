@@ -2,3 +2,4 @@ pub mod PartLemmas
 pub mod ToldLemmas
 pub mod LaneLemmas
 pub mod ReleaseLemmas
+pub mod StudyLemmas

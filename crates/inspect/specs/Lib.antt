@@ -8,3 +8,4 @@ pub mod SectionText
 pub mod GraphText
 pub mod StudyText
 pub mod WholeGraph
+pub mod Inspection

@@ -1,14 +1,15 @@
 //! What a user looks at after a crash: what recovery made of an image, and what the image holds.
 //!
-//! [`write_report`] writes the lines of a [`recover::Report`]. [`write_study`] writes what an image holds, line by line,
-//! and [`write_graph`] the same sections and dependences as a graph. All write in small pieces; a fault of the writer
-//! leaves a beginning of the text.
+//! [`inspect`] reads an image and writes what it holds. [`write_report`] writes the lines of a [`recover::Report`].
+//! [`write_study`] writes what an image holds, line by line, and [`write_graph`] the same sections and dependences as a
+//! graph. All write in small pieces; a fault of the writer leaves a beginning of the text.
 #![tactic(auto)]
 
 mod error;
 mod form;
 mod graph;
 mod graph_lines;
+mod inspecting;
 mod lanes;
 mod links;
 mod numbering;
@@ -22,8 +23,9 @@ mod sections;
 mod study_lines;
 mod writer;
 
-pub use error::{ShowError, WriteError};
+pub use error::{InspectError, ShowError, WriteError};
 pub use graph::write_graph;
+pub use inspecting::inspect;
 pub use report_lines::write_report;
 pub use study_lines::write_study;
 

@@ -1,10 +1,13 @@
-//! Texts of hand-made studies, by the rules of docs/SCRIPTS.md.
+//! Texts of hand-made studies and of an image, by the rules of docs/SCRIPTS.md.
 ghost use Rattle.std.specs.Prelude.{◌≡◌, ◌<◌, IfOk, length};
 ghost use Rattle.image.specs.Layout.{IsLayout};
 ghost use Rattle.recover.specs.Logs.{records_of};
 ghost use Rattle.inspect.specs.Fits.{FitsNumbers};
 
 use super::*;
+use block_disk::MemDisk;
+use durable::Store;
+use guards::{Schema, SchemaBuilder};
 use heap_model::{Cut, FieldId, Lane, ObjectId, UndoRecord};
 use image::{Control, LaneRow, Layout, Slot};
 use recover::{Dropped, Report, Study, Why};
@@ -269,6 +272,45 @@ label=\"t2\"
 }
 \"t2.2\" -> \"t1.4\" [label=\"object 0 number 6\"]
 }
+";
+    assert_eq!(rt; &*out.taken, lines.as_slice());
+    Ok(())
+}
+
+// Four objects, and a field of each of the first two, which guards it; none where memory is wanting.
+fn schema_or_none(alloc: Global) -> Option<Schema> {
+    let mut builder = SchemaBuilder::new(alloc);
+    builder.object("o0").ok()?;
+    builder.object("o1").ok()?;
+    builder.object("o2").ok()?;
+    builder.object("o3").ok()?;
+    builder.field(ObjectId(0), "f0", ObjectId(0), 10).ok()?;
+    builder.field(ObjectId(1), "f1", ObjectId(1), 20).ok()?;
+    builder.build().ok()
+}
+
+// The image of the schema with two lanes of 4,000 records; none where memory is wanting.
+fn formatted(alloc: Global) -> Option<MemDisk> {
+    let schema = schema_or_none(alloc)?;
+    let disk = MemDisk::new(alloc, 130_208).ok()?;
+    let Ok(made) = Store::format(alloc, disk, &schema, 2, 4000) else {
+        return None;
+    };
+    Some(made.into_disk())
+}
+
+#[test]
+fn a_formatted_image_is_inspected(rt: HostRuntime) -> Result<(), Fail> {
+    let alloc = rt.alloc();
+    let mut disk = formatted(alloc).ok_or("no image")?;
+    let mut out = writer_failing(alloc, 0);
+    inspect(alloc, &mut disk, &mut out)?;
+    let lines = b"image lanes 2 capacity 4000 objects 4 fields 2 size 130208
+control a sequence 1 version 1
+lane t1 start 0 settled 0 logged 0 kept 0
+lane t2 start 0 settled 0 logged 0 kept 0
+cut 0 0
+heap 10 20
 ";
     assert_eq!(rt; &*out.taken, lines.as_slice());
     Ok(())

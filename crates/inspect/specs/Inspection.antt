@@ -1,0 +1,34 @@
+-- What inspecting an image writes.
+use Rattle.std.specs.Prelude.{ℕ, Option, List, []}
+use Rattle.std.specs.Io.KnownBytes.{Appends}
+use Rattle.recover.specs.Reading.{RefusesImage}
+use Rattle.recover.specs.Study.{IsStudyOf}
+use Rattle.recover.specs.declared.studied.Study.{Study}
+use Rattle.inspect.specs.declared.error.InspectError.{InspectError}
+use Rattle.inspect.specs.declared.error.InspectError.TheVariants as inspect_error
+use Rattle.recover.specs.declared.error.RecoverError.TheVariants.{NoMemory}
+use Rattle.inspect.specs.StudyText.{study_text}
+use Rattle.inspect.specs.Written.{AppendsPart}
+
+-- the lines of a study of the image were written
+pub record Inspects (image : List ℕ) (old new : Option (List ℕ)) : Type 0 where
+  pub study : Study
+  pub studied : IsStudyOf image study
+  pub written : Appends old new (study_text study)
+
+-- a beginning of them was written
+pub record InspectsPart (image : List ℕ) (old new : Option (List ℕ)) : Type 0 where
+  pub study : Study
+  pub studied : IsStudyOf image study
+  pub written : AppendsPart old new (study_text study)
+
+-- what each refusal says of the image, and of what was written: nothing, or a beginning of the lines
+abbrev pub Refuses : List ℕ → Option (List ℕ) → Option (List ℕ) → InspectError → Type 0
+Refuses image old new (inspect_error.Study e) = RefusesImage image e × Appends old new []
+Refuses image old new inspect_error.Write = InspectsPart image old new
+
+-- what each refusal to write a study says of what was written
+abbrev pub IsNotShown : Option (List ℕ) → Option (List ℕ) → (text : List ℕ) → InspectError → Type 0
+IsNotShown old new text (inspect_error.Study NoMemory) = Appends old new []
+IsNotShown old new text (inspect_error.Study e) = ⊥
+IsNotShown old new text inspect_error.Write = AppendsPart old new text
