@@ -10,8 +10,8 @@ use Rattle.heap_model.specs.Setting.{Setting}
 use Rattle.heap_model.specs.Log.{lane, holder, number, value, awaited, IsAllowed, MayFollow, IsRecordOf}
 use Rattle.heap_model.specs.Sections.{action, actions, holding}
 use Rattle.heap_model.specs.Plain.{log_from}
-use Rattle.durable.specs.declared.apply_error.ApplyError.{ApplyError}
-use Rattle.durable.specs.declared.apply_error.ApplyError.TheVariants.{BadLane, BadId, Worn, NotNext, TooLong, LogFull}
+use Rattle.durable.specs.declared.error.StoreError.{StoreError}
+use Rattle.durable.specs.declared.error.StoreError.TheVariants.{Failed, BadLane, BadId, Worn, NotNext, TooLong, LogFull, Unwritten, Fault, Unfinished}
 use Rattle.durable.specs.declared.states.MonitorState.{MonitorState}
 use Rattle.durable.specs.declared.states.FieldState.{FieldState}
 use Rattle.durable.specs.declared.states.LaneState.{LaneState}
@@ -93,13 +93,17 @@ module _ (s : Setting) (m : Memory) (p : Past) (was : Remembers s m p) where
     full_from : IsFull m p l → IsFullIn m.capacity (lane_in m.lanes l)
     full_from h = ((was.lanes l lt).held ∙ h.0, omega (arith, h.1, (was.lanes l lt).place))
 
-  pub answers_from : (l : ℕ) (r : Record) (answer : Result (Unit {0}) ApplyError) → Judges m.last m.capacity m.lanes m.monitors m.fields l r answer → Answers s m p l r answer
+  pub answers_from : (l : ℕ) (r : Record) (answer : Result (Unit {0}) StoreError) → Judges m.last m.capacity m.lanes m.monitors m.fields l r answer → Answers s m p l r answer
   answers_from l r (Err BadLane) h = h
   answers_from l r (Err BadId) h = (h.0, λ is. h.1 (named_from r is))
   answers_from l r (Err Worn) h = (h.0, named_to r h.1, worn_to l h.0 r h.1 h.2)
   answers_from l r (Err NotNext) h = (h.0, named_to r h.1, (λ worn. h.2.0 (worn_from l h.0 r h.1 worn)), (λ next. h.2.1 (next_from l h.0 r h.1 next)))
   answers_from l r (Err TooLong) h = (h.0, named_to r h.1, (λ worn. h.2.0 (worn_from l h.0 r h.1 worn)), next_to l h.0 r h.1 h.2.1, long_to l h.0 r h.1 (next_to l h.0 r h.1 h.2.1) h.2.2)
   answers_from l r (Err LogFull) h = (h.0, named_to r h.1, (λ worn. h.2.0 (worn_from l h.0 r h.1 worn)), next_to l h.0 r h.1 h.2.1, (λ long. h.2.2 (long_from l h.0 r h.1 (next_to l h.0 r h.1 h.2.1) long)), full_to l h.0 r h.1 h.2.3)
+  answers_from l r (Err Failed) h = h
+  answers_from l r (Err Unwritten) h = h
+  answers_from l r (Err Fault) h = h
+  answers_from l r (Err Unfinished) h = h
   answers_from l r (Ok done) h = (h.0, named_to r h.1, (λ worn. h.2.0 (worn_from l h.0 r h.1 worn)), next_to l h.0 r h.1 h.2.1, (λ long. h.2.2 (long_from l h.0 r h.1 (next_to l h.0 r h.1 h.2.1) long)), (λ full. h.2.3 (full_from l h.0 r h.1 full)))
 
   -- after a record that is taken
@@ -189,7 +193,7 @@ pub fresh_free : (s : Setting) (m : Memory) (p : Past) → Remembers s m p → (
 fresh_free s m p was l lt le = omega (arith, ap (λ log. length (lane l log)) was.fresh, (was.lanes l lt).start, (was.lanes l lt).place, lane_long l p.fresh p.logged)
 
 -- the same judgement of equal lists
-pub judged_by : (last capacity : ℕ) (ls ls' : List LaneState) (ms ms' : List MonitorState) (fs fs' : List FieldState) (l : ℕ) (r : Record) (answer : Result (Unit {0}) ApplyError) →
+pub judged_by : (last capacity : ℕ) (ls ls' : List LaneState) (ms ms' : List MonitorState) (fs fs' : List FieldState) (l : ℕ) (r : Record) (answer : Result (Unit {0}) StoreError) →
     ls' ≡ ls → ms' ≡ ms → fs' ≡ fs → Judges last capacity ls' ms' fs' l r answer → Judges last capacity ls ms fs l r answer
 judged_by last capacity ls ls' ms ms' fs fs' l r answer a b c h =
     subst (λ (xs : List FieldState). Judges last capacity ls ms xs l r answer) c

@@ -5,8 +5,8 @@ use Rattle.heap_model.specs.declared.record.Record.TheVariants.{Acq, Rel, WaitRe
 use Rattle.heap_model.specs.Setting.{Setting}
 use Rattle.heap_model.specs.Log.{lane, awaited, IsAllowed, MayFollow, IsRecordOf}
 use Rattle.heap_model.specs.Sections.{action, actions, holding}
-use Rattle.durable.specs.declared.apply_error.ApplyError.{ApplyError}
-use Rattle.durable.specs.declared.apply_error.ApplyError.TheVariants.{BadLane, BadId, Worn, NotNext, TooLong, LogFull}
+use Rattle.durable.specs.declared.error.StoreError.{StoreError}
+use Rattle.durable.specs.declared.error.StoreError.TheVariants.{BadLane, BadId, Worn, NotNext, TooLong, LogFull}
 use Rattle.durable.specs.declared.states.LaneState.{LaneState}
 use Rattle.durable.specs.Past.{Past, applied}
 use Rattle.durable.specs.Memory.{Memory, lane_in}
@@ -36,7 +36,7 @@ abbrev pub IsFull : Memory → Past → (lane : ℕ) → Type 0
 IsFull m p l = (held_of p l ≡ 0) × ((lane_in m.lanes l).start + m.capacity < place_of p l + 1000)
 
 -- Why a record is refused, in the order in which the reasons are tried, and when it is taken.
-abbrev pub Answers : Setting → Memory → Past → (lane : ℕ) → Record → Result (Unit {0}) ApplyError → Type 0
+abbrev pub Answers : Setting → Memory → Past → (lane : ℕ) → Record → Result (Unit {0}) StoreError → Type 0
 Answers s m p l r (Err BadLane) = length m.lanes ≤ l
 Answers s m p l r (Err BadId) = (l < length m.lanes) × (¬ IsRecordOf s r)
 Answers s m p l r (Err Worn) = (l < length m.lanes) × IsRecordOf s r × IsWorn s p l r
@@ -44,3 +44,4 @@ Answers s m p l r (Err NotNext) = (l < length m.lanes) × IsRecordOf s r × (¬ 
 Answers s m p l r (Err TooLong) = (l < length m.lanes) × IsRecordOf s r × (¬ IsWorn s p l r) × IsNext s p l r × IsTooLong p l r
 Answers s m p l r (Err LogFull) = (l < length m.lanes) × IsRecordOf s r × (¬ IsWorn s p l r) × IsNext s p l r × (¬ IsTooLong p l r) × IsFull m p l
 Answers s m p l r (Ok done) = (l < length m.lanes) × IsRecordOf s r × (¬ IsWorn s p l r) × IsNext s p l r × (¬ IsTooLong p l r) × (¬ IsFull m p l)
+Answers s m p l r (Err _) = ⊥

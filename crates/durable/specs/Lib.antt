@@ -19,3 +19,5 @@ pub mod Ends
 pub mod Counted
 pub mod Sections
 pub mod KeptSections
+pub mod Store
+pub mod Calls

@@ -1,6 +1,7 @@
 -- How far a lane may go: a section has 1,000 records at most, begins below place 2 ^ 62, and where its lane's area has room for it.
-use Rattle.std.specs.Prelude.{ℕ, ◌≡◌, ◌+◌, ◌<◌, ◌≤◌, ◌^◌}
+use Rattle.std.specs.Prelude.{ℕ, ◌≡◌, ◌+◌, ◌<◌, ◌≤◌, ◌^◌, length}
 use Rattle.durable.specs.declared.states.LaneState.{LaneState}
+use Rattle.durable.specs.Memory.{Memory, lane_in}
 
 pub record IsWithin (capacity : ℕ) (s : LaneState) : Type 0 where
   -- the open section with the releases that it needs
@@ -12,3 +13,7 @@ pub record IsWithin (capacity : ℕ) (s : LaneState) : Type 0 where
   -- places
   pub low : s.place < 2 ^ 62 + 1001
   pub open_low : 0 < s.held → s.place < 2 ^ 62 + s.section
+
+-- each lane is
+abbrev pub AreWithin : Memory → Type 0
+AreWithin m = (l : ℕ) → l < length m.lanes → IsWithin m.capacity (lane_in m.lanes l)

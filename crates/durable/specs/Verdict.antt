@@ -3,8 +3,8 @@ use Rattle.std.specs.Prelude.{ℕ, ◌≡◌, ◌+◌, ◌<◌, ◌≤◌, ◌^�
 use Rattle.heap_model.specs.declared.record.Record.{Record}
 use Rattle.heap_model.specs.declared.record.Record.TheVariants.{Acq, Rel, WaitRel, Put}
 use Rattle.heap_model.specs.Log.{MayFollow}
-use Rattle.durable.specs.declared.apply_error.ApplyError.{ApplyError}
-use Rattle.durable.specs.declared.apply_error.ApplyError.TheVariants.{BadLane, BadId, Worn, NotNext, TooLong, LogFull}
+use Rattle.durable.specs.declared.error.StoreError.{StoreError}
+use Rattle.durable.specs.declared.error.StoreError.TheVariants.{BadLane, BadId, Worn, NotNext, TooLong, LogFull}
 use Rattle.durable.specs.declared.states.MonitorState.{MonitorState}
 use Rattle.durable.specs.declared.states.FieldState.{FieldState}
 use Rattle.durable.specs.declared.states.LaneState.{LaneState}
@@ -38,17 +38,16 @@ abbrev pub IsFullIn : (capacity : ℕ) → LaneState → Type 0
 IsFullIn capacity s = (s.held ≡ 0) × (s.start + capacity < s.place + 1000)
 
 -- the answer to a record whose lane and names are good
-abbrev pub JudgesNamed : (last capacity : ℕ) → LaneState → List MonitorState → List FieldState → (lane : ℕ) → Record → Result (Unit {0}) ApplyError → Type 0
-JudgesNamed last capacity s monitors fields l r (Err BadLane) = ⊥
-JudgesNamed last capacity s monitors fields l r (Err BadId) = ⊥
+abbrev pub JudgesNamed : (last capacity : ℕ) → LaneState → List MonitorState → List FieldState → (lane : ℕ) → Record → Result (Unit {0}) StoreError → Type 0
 JudgesNamed last capacity s monitors fields l r (Err Worn) = IsWornIn last s r
 JudgesNamed last capacity s monitors fields l r (Err NotNext) = (¬ IsWornIn last s r) × (¬ IsNextIn last monitors fields l s r)
 JudgesNamed last capacity s monitors fields l r (Err TooLong) = (¬ IsWornIn last s r) × IsNextIn last monitors fields l s r × IsTooLongIn s r
 JudgesNamed last capacity s monitors fields l r (Err LogFull) = (¬ IsWornIn last s r) × IsNextIn last monitors fields l s r × (¬ IsTooLongIn s r) × IsFullIn capacity s
 JudgesNamed last capacity s monitors fields l r (Ok done) = (¬ IsWornIn last s r) × IsNextIn last monitors fields l s r × (¬ IsTooLongIn s r) × (¬ IsFullIn capacity s)
+JudgesNamed last capacity s monitors fields l r (Err _) = ⊥
 
 -- the answer to any record
-abbrev pub Judges : (last capacity : ℕ) → List LaneState → List MonitorState → List FieldState → (lane : ℕ) → Record → Result (Unit {0}) ApplyError → Type 0
+abbrev pub Judges : (last capacity : ℕ) → List LaneState → List MonitorState → List FieldState → (lane : ℕ) → Record → Result (Unit {0}) StoreError → Type 0
 Judges last capacity lanes monitors fields l r (Err BadLane) = length lanes ≤ l
 Judges last capacity lanes monitors fields l r (Err BadId) = (l < length lanes) × (¬ IsNamed (length monitors) (length fields) r)
 Judges last capacity lanes monitors fields l r (Err Worn) = (l < length lanes) × IsNamed (length monitors) (length fields) r × JudgesNamed last capacity (lane_in lanes l) monitors fields l r (Err Worn)
@@ -56,6 +55,7 @@ Judges last capacity lanes monitors fields l r (Err NotNext) = (l < length lanes
 Judges last capacity lanes monitors fields l r (Err TooLong) = (l < length lanes) × IsNamed (length monitors) (length fields) r × JudgesNamed last capacity (lane_in lanes l) monitors fields l r (Err TooLong)
 Judges last capacity lanes monitors fields l r (Err LogFull) = (l < length lanes) × IsNamed (length monitors) (length fields) r × JudgesNamed last capacity (lane_in lanes l) monitors fields l r (Err LogFull)
 Judges last capacity lanes monitors fields l r (Ok done) = (l < length lanes) × IsNamed (length monitors) (length fields) r × JudgesNamed last capacity (lane_in lanes l) monitors fields l r (Ok done)
+Judges last capacity lanes monitors fields l r (Err _) = ⊥
 
 -- one more than the record's release number, if it has one, fits a word
 abbrev pub NumberFits : Record → Type 0

@@ -1,23 +1,25 @@
 //! What a store remembers of the records applied.
 
-ghost use Rattle.std.specs.Prelude.{◌≡◌, ◌+◌, ◌<◌, ◌≤◌, ◌↔◌, ℕ, false, length, reverse, map, IsTrue, IfOk, OnOk, OnErr, MatchOption};
+ghost use Rattle.std.specs.Prelude.{◌≡◌, ◌+◌, ◌<◌, ◌≤◌, ◌↔◌, ℕ, false, length, IsTrue, IfOk, OnOk, OnErr, MatchOption};
 ghost use Rattle.heap_model.specs.Setting.{Setting};
-ghost use Rattle.heap_model.specs.Record.{undo_of};
-ghost use Rattle.heap_model.specs.Log.{lane as lane_of, value as value_of};
+ghost use Rattle.heap_model.specs.Log.{value as value_of};
 ghost use Rattle.heap_model.specs.Plain.{log_from};
 ghost use Rattle.image.specs.Layout.{IsLayout};
 ghost use Rattle.durable.specs.Past.{Past, applied, no_past, after_apply, after_log, after_home};
 ghost use Rattle.durable.specs.Memory.{lane_in, KeepsLayout};
 ghost use Rattle.durable.specs.Remembers.{Remembers, place_of, held_of};
 ghost use Rattle.durable.specs.Apply.{Answers};
+ghost use Rattle.durable.specs.Fresh.{undo_log_of};
+ghost use Rattle.durable.specs.Limits.{AreWithin};
 ghost use Rattle.durable.specs.Begin.{HasRows, IsSettingOf, IsLeastDirtyOf};
 
-use crate::apply_error::ApplyError;
 use crate::beginning::{FREE, IDLE, fields_of};
 use crate::check::{any_open, check, field_at, lane_at};
 use crate::dirty::DirtyFields;
+use crate::error::StoreError;
 use crate::fresh::FreshRecords;
 use crate::logged::log_all;
+use crate::new_records::NewRecords;
 use crate::note::{note_lane, note_monitor, note_store};
 use crate::states::{FieldState, LaneState, MonitorState};
 use heap_model::{FieldId, Lane, LaneRecord, Record, UndoRecord};
@@ -87,8 +89,8 @@ impl Applied {
 
     /// Applies the lane's next record, in constant time and with no memory taken.
     ///
-    /// A refusal changes nothing. The reasons are tried in the order of [`ApplyError`].
-    pub fn apply(&mut self, lane: Lane, record: Record) -> Result<(), ApplyError>
+    /// A refusal changes nothing. The reasons are tried in the order of [`StoreError`].
+    pub fn apply(&mut self, lane: Lane, record: Record) -> Result<(), StoreError>
         ensures answer { (s : Setting) (p : Past) → Remembers s self.old p → Answers s self.old p lane.0 «record» result }
         ensures ok { (s : Setting) (p : Past) → Remembers s self.old p → OnOk result (Remembers s self.new (after_apply p lane.0 «record»)) }
         ensures err { OnErr result (self.new ≡ self.old) }
@@ -168,13 +170,10 @@ impl Applied {
         self.fresh.records()
     }
 
-    /// The lane's records that are not yet logged, the oldest first, as its undo log keeps them.
-    pub fn fresh_of(&self, lane: Lane) -> &[UndoRecord]
-        requires { lane.0 < length self.now.lanes }
-        ensures { (s : Setting) (p : Past) → Remembers s self.now p → result.now ≡ reverse (map undo_of (lane_of lane.0 p.fresh)) }
-    {
-        self.fresh.of(lane)
-    }
+    /// What is true of each lane's limits, whatever was applied.
+    pub fn within_law(&self)
+        ensures { AreWithin self.now }
+    {}
 
     /// Takes the fresh records for logged. The fields that they store to are dirty then.
     ///
@@ -200,5 +199,19 @@ impl Applied {
         ensures kept { KeepsLayout self.old self.new }
     {
         self.dirty.clear(field);
+    }
+}
+
+impl NewRecords for Applied {
+    ghost lanes = { λ m. length m.lanes };
+
+    ghost fresh = { λ m l. undo_log_of l m.fresh };
+
+    /// The lane's records that are not yet logged, the oldest first, as its undo log keeps them.
+    fn of(&self, lane: Lane) -> &[UndoRecord]
+        requires { lane.0 < length self.now.lanes }
+        ensures { result.now ≡ undo_log_of lane.0 self.now.fresh }
+    {
+        self.fresh.of(lane)
     }
 }

@@ -1,6 +1,6 @@
 //! Records whose answers are known.
 
-use crate::{Applied, ApplyError};
+use crate::{Applied, StoreError};
 use heap_model::{FieldId, Lane, LaneRecord, ObjectId, Record};
 use image::{GuardRow, Layout};
 use std::alloc::{AllocError, Global};
@@ -63,23 +63,23 @@ fn memory(alloc: Global, last: u64) -> Result<Applied, AllocError> {
 fn refusals_come_in_order(rt: HostRuntime) {
     let mut applied = memory(rt.alloc(), 2).expect(&rt, "there is memory");
     let steps = [
-        (2, acq(9, 9), Err(ApplyError::BadLane)),
-        (0, acq(4, 9), Err(ApplyError::BadId)),
-        (0, put(2, 10, 5), Err(ApplyError::BadId)),
-        (0, rel(0, 2), Err(ApplyError::Worn)),
-        (0, rel(0, 0), Err(ApplyError::NotNext)),
-        (0, acq(0, 1), Err(ApplyError::NotNext)),
+        (2, acq(9, 9), Err(StoreError::BadLane)),
+        (0, acq(4, 9), Err(StoreError::BadId)),
+        (0, put(2, 10, 5), Err(StoreError::BadId)),
+        (0, rel(0, 2), Err(StoreError::Worn)),
+        (0, rel(0, 0), Err(StoreError::NotNext)),
+        (0, acq(0, 1), Err(StoreError::NotNext)),
         (0, acq(0, 0), Ok(())),
-        (1, acq(0, 0), Err(ApplyError::NotNext)),
-        (1, put(0, 10, 5), Err(ApplyError::NotNext)),
-        (0, put(0, 11, 5), Err(ApplyError::NotNext)),
-        (0, put(1, 20, 5), Err(ApplyError::NotNext)),
+        (1, acq(0, 0), Err(StoreError::NotNext)),
+        (1, put(0, 10, 5), Err(StoreError::NotNext)),
+        (0, put(0, 11, 5), Err(StoreError::NotNext)),
+        (0, put(1, 20, 5), Err(StoreError::NotNext)),
         (0, put(0, 10, 5), Ok(())),
         (0, rel(0, 0), Ok(())),
         (1, acq(0, 1), Ok(())),
         (1, put(0, 5, 6), Ok(())),
         (1, rel(0, 1), Ok(())),
-        (0, acq(0, 2), Err(ApplyError::Worn)),
+        (0, acq(0, 2), Err(StoreError::Worn)),
     ];
     for (lane, record, answer) in steps {
         assert_eq!(rt; applied.apply(Lane(lane), record), answer, "{record:?}");
@@ -94,13 +94,13 @@ fn a_wait_is_followed_by_its_acquire(rt: HostRuntime) {
         (0, acq(0, 0), Ok(())),
         (0, acq(1, 0), Ok(())),
         (0, wait(0, 0), Ok(())),
-        (0, put(1, 20, 5), Err(ApplyError::NotNext)),
-        (0, rel(1, 0), Err(ApplyError::NotNext)),
+        (0, put(1, 20, 5), Err(StoreError::NotNext)),
+        (0, rel(1, 0), Err(StoreError::NotNext)),
         (0, acq(0, 1), Ok(())),
         (0, put(1, 20, 5), Ok(())),
         (0, rel(0, 1), Ok(())),
         (0, wait(1, 0), Ok(())),
-        (0, acq(0, 2), Err(ApplyError::NotNext)),
+        (0, acq(0, 2), Err(StoreError::NotNext)),
         (0, acq(1, 1), Ok(())),
     ];
     for (lane, record, answer) in steps {
@@ -114,8 +114,8 @@ fn section(applied: &mut Applied, number: u64) -> bool {
     for _ in 0..998 {
         taken = taken && applied.apply(Lane(0), put(0, 10, 10)) == Ok(());
     }
-    taken = taken && applied.apply(Lane(0), put(0, 10, 10)) == Err(ApplyError::TooLong);
-    taken = taken && applied.apply(Lane(0), acq(1, 0)) == Err(ApplyError::TooLong);
+    taken = taken && applied.apply(Lane(0), put(0, 10, 10)) == Err(StoreError::TooLong);
+    taken = taken && applied.apply(Lane(0), acq(1, 0)) == Err(StoreError::TooLong);
     taken && applied.apply(Lane(0), rel(0, number)) == Ok(())
 }
 
@@ -126,12 +126,12 @@ fn sections_and_areas_have_an_end(rt: HostRuntime) {
     assert!(rt; section(&mut applied, 0), "the first section");
     assert!(rt; section(&mut applied, 1), "the second section");
     let third = applied.apply(Lane(0), acq(0, 2));
-    assert_eq!(rt; third, Err(ApplyError::LogFull));
+    assert_eq!(rt; third, Err(StoreError::LogFull));
     assert_eq!(rt; applied.fresh().len(), 2000);
     applied.logged_all();
     assert_eq!(rt; applied.fresh().len(), 0);
     let third = applied.apply(Lane(0), acq(0, 2));
-    assert_eq!(rt; third, Err(ApplyError::LogFull));
+    assert_eq!(rt; third, Err(StoreError::LogFull));
     let other = applied.apply(Lane(1), acq(0, 2));
     assert_eq!(rt; other, Ok(()));
     assert!(rt; applied.any_open(), "lane 1 holds o0");

@@ -7,7 +7,7 @@ ghost use Rattle.durable.specs.Memory.{monitor_in, field_in, lane_in, guard_in, 
 ghost use Rattle.durable.specs.Apply.{HasLastNumber};
 ghost use Rattle.durable.specs.Verdict.{IsNamed, Allows, IsWornIn, IsNextIn, IsTooLongIn, IsFullIn, Judges, JudgesNamed};
 
-use crate::apply_error::ApplyError;
+use crate::error::StoreError;
 use crate::states::{FieldState, LaneState, MonitorState};
 use heap_model::{FieldId, Lane, ObjectId, Record};
 
@@ -173,7 +173,7 @@ pub fn check(
     fields: &[FieldState],
     lane: Lane,
     record: Record,
-) -> Result<(), ApplyError>
+) -> Result<(), StoreError>
     requires guards { (f : ℕ) → f < length fields.now → guard_in fields.now f < length monitors.now }
     requires place { (l : ℕ) → l < length lanes.now → (lane_in lanes.now l).place + 1000 < 2 ^ 64 }
     requires start { (l : ℕ) → l < length lanes.now → (lane_in lanes.now l).start ≤ (lane_in lanes.now l).place }
@@ -181,10 +181,10 @@ pub fn check(
     ensures { Judges last capacity lanes.now monitors.now fields.now lane.0 «record» result }
 {
     if lanes.len() <= lane.0 as usize {
-        return Err(ApplyError::BadLane);
+        return Err(StoreError::BadLane);
     }
     if !is_named(monitors.len(), fields.len(), record) {
-        return Err(ApplyError::BadId);
+        return Err(StoreError::BadId);
     }
     judge(
         last,
@@ -206,7 +206,7 @@ fn judge(
     fields: &[FieldState],
     lane: Lane,
     record: Record,
-) -> Result<(), ApplyError>
+) -> Result<(), StoreError>
     requires named { IsNamed (length monitors.now) (length fields.now) «record» }
     requires guards { (f : ℕ) → f < length fields.now → guard_in fields.now f < length monitors.now }
     requires place { state.place + 1000 < 2 ^ 64 }
@@ -215,16 +215,16 @@ fn judge(
     ensures { JudgesNamed last capacity state monitors.now fields.now lane.0 «record» result }
 {
     if is_worn(last, state, record) {
-        return Err(ApplyError::Worn);
+        return Err(StoreError::Worn);
     }
     if !is_next(last, monitors, fields, lane, state, record) {
-        return Err(ApplyError::NotNext);
+        return Err(StoreError::NotNext);
     }
     if is_too_long(state, record) {
-        return Err(ApplyError::TooLong);
+        return Err(StoreError::TooLong);
     }
     if is_full(capacity, state) {
-        return Err(ApplyError::LogFull);
+        return Err(StoreError::LogFull);
     }
     Ok(())
 }

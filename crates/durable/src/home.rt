@@ -16,6 +16,15 @@ use block_disk::Disk;
 use heap_model::FieldId;
 use image::{Layout, put_cell};
 
+/// What a home step did.
+#[derive(Clone, Copy, Debug, PartialEq, Eq)]
+pub enum Home {
+    /// It wrote this field's logged value into its home cell.
+    Wrote(FieldId),
+    /// No field is dirty: there was nothing to write.
+    Done,
+}
+
 /// Writes the logged value of a dirty field into its home cell, in one write. A crash may leave any bytes there; what
 /// recovery puts back is in the undo log by then. `Fault` is the one refusal.
 pub fn write_home<D: Disk>(

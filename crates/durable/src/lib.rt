@@ -7,7 +7,6 @@
 #![tactic(auto)]
 
 mod applied;
-mod apply_error;
 mod beginning;
 mod bits;
 mod check;
@@ -25,24 +24,28 @@ mod logged_lane;
 mod logging;
 mod new_records;
 mod note;
+mod play;
 mod sections;
 mod settling;
 mod stable_sections;
 mod states;
+mod store;
+mod store_call;
 mod sync;
 
 pub use applied::Applied;
-pub use apply_error::ApplyError;
 pub use committed::Committed;
 pub use error::StoreError;
 pub use formatting::format;
-pub use home::write_home;
+pub use home::{Home, write_home};
 pub use laws::{beginning_law, standing_law};
 pub use logging::log_records;
 pub use new_records::NewRecords;
 pub use sections::LoggedSections;
 pub use settling::settle;
 pub use stable_sections::StableSections;
+pub use store::Store;
+pub use store_call::StoreCall;
 
 #[cfg(test)]
 mod applied_tests;

@@ -15,9 +15,11 @@ mod logs;
 mod monitors;
 mod reading;
 mod replay;
+mod report;
 mod rules;
 mod settled;
 mod step;
+mod study;
 mod walk;
 
 pub use check::check_logs;
@@ -25,6 +27,8 @@ pub use error::RecoverError;
 pub use logged_image::LoggedImage;
 pub use logs::read_logs;
 pub use reading::read_image;
+pub use report::{Dropped, Report, Why};
+pub use study::Study;
 
 #[cfg(test)]
 mod tests;

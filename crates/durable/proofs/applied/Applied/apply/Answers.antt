@@ -5,7 +5,7 @@ use Rattle.heap_model.specs.declared.record.LaneRecord.{LaneRecord}
 use Rattle.heap_model.specs.Setting.{Setting}
 use Rattle.heap_model.specs.Log.{lane}
 use Rattle.heap_model.specs.Plain.{log_from}
-use Rattle.durable.specs.declared.apply_error.ApplyError.{ApplyError}
+use Rattle.durable.specs.declared.error.StoreError.{StoreError}
 use Rattle.durable.specs.declared.states.MonitorState.{MonitorState}
 use Rattle.durable.specs.declared.states.FieldState.{FieldState}
 use Rattle.durable.specs.declared.states.LaneState.{LaneState}

@@ -1,0 +1,69 @@
+-- A store: what it knows beside its device, and when it has a past (this project's own).
+use Rattle.std.specs.Prelude.{ℕ, ◌≡◌, ◌<◌, ◌≤◌, Bool, false, List, length}
+use Rattle.heap_model.specs.Setting.{Setting}
+use Rattle.heap_model.specs.Sections.{actions}
+use Rattle.heap_model.specs.Cuts.{IsStable}
+use Rattle.block_disk.specs.Device.{Device}
+use Rattle.block_disk.specs.Images.{Always}
+use Rattle.image.specs.Layout.{IsLayout}
+use Rattle.image.specs.declared.layout.Layout.{Layout}
+use Rattle.undo_log.specs.Dropped.{undo_logs, records_in}
+use Rattle.durable.specs.Past.{Past, IsPast, after_log, after_settle}
+use Rattle.durable.specs.Consistent.{TellsCut, ShowsPast, IsConsistent}
+use Rattle.durable.specs.KeptHeap.{StandsForCut}
+use Rattle.durable.specs.Memory.{Memory, lane_in}
+use Rattle.durable.specs.Remembers.{Remembers}
+use Rattle.durable.specs.Sections.{Logged, TellsSections}
+use Rattle.durable.specs.declared.committed.Committed.{Committed}
+
+-- what a store knows beside its device: the layout of the image, the control that counts, what was applied, what was
+-- logged, and whether the device has failed
+pub record Known : Type 0 where
+  pub layout : Layout
+  pub committed : Committed
+  pub memory : Memory
+  pub logged : Logged
+  pub has_failed : Bool
+
+-- a store over whatever device
+pub record Parts (D : Type 0) : Type 0 where
+  pub disk : D
+  pub known : Known
+
+-- it has the lanes of the image, and knows how many records each lane's area holds
+pub record FitsLayout (x : Known) : Type 0 where
+  pub limits : IsLayout x.layout
+  pub lanes : length x.memory.lanes ≡ x.layout.lanes
+  pub capacity : x.memory.capacity ≡ x.layout.capacity
+  pub logged_lanes : x.logged.lanes ≡ x.layout.lanes
+  pub logged_capacity : x.logged.capacity ≡ x.layout.capacity
+
+-- the setting has the objects and fields of the image, and its release numbers fit a record
+pub record FitsImage (l : Layout) (s : Setting) : Type 0 where
+  pub objects : s.objects ≡ l.objects
+  pub fields : s.fields ≡ l.fields
+  pub last : s.last ≤ 1099511627775
+
+-- The image shows the past, or what logging makes of it, or what settling does: a call that a crash cuts off leaves one or the other.
+pub data ShowsStep (l : Layout) (s : Setting) (p : Past) (image : List ℕ) : Type 0 where
+  Shows : ShowsPast l s p image → ShowsStep l s p image
+  ShowsLogged : ShowsPast l s (after_log p) image → ShowsStep l s p image
+  ShowsSettled : (cut : ℕ → ℕ) → IsStable (actions p.logged) cut → ShowsPast l s (after_settle p cut) image → ShowsStep l s p image
+
+-- the image stands for the heap of the acknowledged cut, or of the stable one
+pub data StandsForStep (l : Layout) (s : Setting) (p : Past) (image : List ℕ) : Type 0 where
+  Stands : StandsForCut l s p.logged p.cut image → StandsForStep l s p image
+  StandsSettled : (cut : ℕ → ℕ) → IsStable (actions p.logged) cut → StandsForCut l s p.logged cut image → StandsForStep l s p image
+
+-- The store has this past: what it knows tells of it, and its device agrees. After a fault the device is only known to show
+-- the past or what a step makes of it.
+pub record HasPast (x : Known) (s : Setting) (p : Past) (d : Device) : Type 0 where
+  pub layout : FitsLayout x
+  pub setting : FitsImage x.layout s
+  pub past : IsPast s p
+  pub remembers : Remembers s x.memory p
+  pub sections : TellsSections x.logged p.base p.logged
+  pub starts : (l : ℕ) → l < x.layout.lanes → (lane_in x.memory.lanes l).start ≡ records_in (p.base l) (undo_logs p.logged l)
+  pub tells : TellsCut x.layout p.logged p.base p.cut x.committed.rows
+  pub agrees : x.has_failed ≡ false → IsConsistent x.layout s p x.committed d
+  pub images : Always d (ShowsStep x.layout s p)

@@ -1,0 +1,361 @@
+//! The store: a heap whose sections survive a crash whole or not at all (Atlas, OOPSLA 2014).
+ghost use Rattle.std.specs.Prelude.{◌≡◌, ◌⊎◌, ◌+◌, ◌<◌, ◌≤◌, ◌^◌, ◌↔◌, ℕ, [], true, false, length, Ok, Err, IfErr, IfOk, IsErrOf, OnErr, OnOk, MatchResult};
+ghost use Rattle.block_disk.specs.Device.{HasCause};
+ghost use Rattle.block_disk.specs.Images.{Always, LeavesOnly};
+ghost use Rattle.heap_model.specs.Setting.{Setting};
+ghost use Rattle.heap_model.specs.Log.{value as value_of};
+ghost use Rattle.heap_model.specs.Sections.{actions};
+ghost use Rattle.heap_model.specs.Cuts.{IsStable, counts_of};
+ghost use Rattle.image.specs.Layout.{IsLayout};
+ghost use Rattle.undo_log.specs.Dropped.{undo_logs, records_in};
+ghost use Rattle.undo_log.specs.StandsFor.{row_of};
+ghost use Rattle.durable.specs.Apply.{Answers};
+ghost use Rattle.durable.specs.Begin.{HasRows, IsSettingOf};
+ghost use Rattle.durable.specs.Calls.{AnswersHome, HasOpen, IsClean, IsWritten, RefusesApply, RefusesClose, RefusesHome, RefusesLog, RefusesSettle, after_home_step};
+ghost use Rattle.durable.specs.KeptHeap.{StandsForCut, StandsForEither};
+ghost use Rattle.durable.specs.Memory.{lane_in};
+ghost use Rattle.durable.specs.Past.{Past, applied, no_past, after_apply, after_log, after_settle};
+ghost use Rattle.durable.specs.Remembers.{Remembers};
+ghost use Rattle.durable.specs.Sections.{TellsSections};
+ghost use Rattle.durable.specs.Store.{HasPast, ShowsStep, StandsForStep};
+ghost use Rattle.durable.specs.declared.error.StoreError.TheVariants.{Fault};
+
+use crate::applied::Applied;
+use crate::committed::Committed;
+use crate::error::StoreError;
+use crate::home::{Home, write_home};
+use crate::logging::log_records;
+use crate::sections::LoggedSections;
+use crate::settling::settle;
+use block_disk::Disk;
+use heap_model::{Cut, FieldId, Lane, Record};
+use image::{GuardRow, LaneRow, Layout, Recovered, RecoveredParts};
+use std::alloc::{AllocError, Global};
+use std::marker::Model;
+
+/// A heap whose sections survive a crash whole or not at all, on a device of its own.
+///
+/// It is told the lanes' records as they come ([`apply`](Store::apply)), makes them durable ([`log_step`](Store::log_step)), writes
+/// logged values home ([`home_step`](Store::home_step)) and acknowledges the stable cut ([`settle`](Store::settle)). Whatever a crash leaves of its
+/// device, at any moment of any call, stands for the heap of the acknowledged cut, in `settle` for that of the old one or
+/// of the new one. All its memory is taken by [`adopt`](Store::adopt).
+///
+/// Contracts see what it knows as plain data beside its device, and say which pasts it has: what it was told, and what
+/// became of that. After a `Fault` every call that applies or writes answers `Failed`; what there is to read stays.
+#[derive(Drop)]
+pub struct Store<D: Disk> {
+    disk: D,
+    layout: Layout,
+    committed: Committed,
+    applied: Applied,
+    sections: LoggedSections,
+    has_failed: bool,
+}
+
+impl<D: Disk> Model for Store<D> {
+    ghost use Rattle.heap_model.specs.Setting.{Setting};
+    ghost use Rattle.durable.specs.Past.{Past};
+    ghost use Rattle.durable.specs.Store.{HasPast, Parts};
+
+    ghost Value = { Parts D };
+
+    ghost view = { λ x. record { disk = x.disk; known = record { layout = x.layout; committed = x.committed; memory = x.applied; logged = x.sections; has_failed = x.has_failed } } };
+
+    ghost invariant = { λ x. (s : Setting) × (p : Past) × HasPast (record { layout = x.layout; committed = x.committed; memory = x.applied; logged = x.sections; has_failed = x.has_failed }) s p (D.device x.disk) };
+}
+
+impl<D: Disk> Store<D> {
+    /// Takes over a device with empty logs. Release numbers stay at `last` or below.
+    ///
+    /// It takes all the memory that the store will need: for each record of each lane's area what the undo log keeps of it,
+    /// the record itself, what the graph of sections takes, and a word. After want of memory the device is given back as it was.
+    pub fn adopt(
+        alloc: Global,
+        recovered: Recovered<D>,
+        last: u64,
+    ) -> Result<Store<D>, (Recovered<D>, AllocError)>
+        requires last { last ≤ 1099511627775 }
+        ensures past { (s : Setting) → IsSettingOf recovered.layout recovered.guards recovered.heap last s → IfOk result (λ x. HasPast x.known s no_past (D.device x.disk)) }
+        ensures disk { IfOk result (λ x. x.disk ≡ recovered.disk) }
+        ensures layout { IfOk result (λ x. x.known.layout ≡ recovered.layout) }
+        ensures refused { IfErr result (λ back. back.0 ≡ recovered) }
+    {
+        let RecoveredParts {
+            disk,
+            layout,
+            guards,
+            slot,
+            sequence,
+            heap,
+        } = recovered.into_parts();
+        match memory(alloc, &layout, &guards, &heap, last) {
+            Ok((applied, sections)) => Ok(Store {
+                disk,
+                layout,
+                committed: Committed::empty(slot, sequence),
+                applied,
+                sections,
+                has_failed: false,
+            }),
+            Err(error) => Err((
+                Recovered::of(disk, layout, guards, slot, sequence, heap),
+                error,
+            )),
+        }
+    }
+
+    /// Applies the lane's next record, in memory alone and in constant time.
+    ///
+    /// Refusals, in this order: `Failed`; `BadLane`; `BadId`; `Worn` (the release number is the last or more, or a section would
+    /// begin at place 2^62 or later); `NotNext`; `TooLong`; `LogFull`. A refusal changes nothing.
+    pub fn apply(&mut self, lane: Lane, record: Record) -> Result<(), StoreError>
+        ensures answer { (s : Setting) (p : Past) → HasPast self.old.known s p (D.device self.old.disk)
+            → MatchResult result (λ done. Answers s self.old.known.memory p lane.0 «record» (Ok done)) (RefusesApply self.old.known s p lane.0 «record») }
+        ensures ok { (s : Setting) (p : Past) → HasPast self.old.known s p (D.device self.old.disk)
+            → OnOk result (HasPast self.new.known s (after_apply p lane.0 «record») (D.device self.new.disk)) }
+        ensures err { OnErr result (self.new ≡ self.old) }
+        ensures disk { self.new.disk ≡ self.old.disk }
+        ensures layout { self.new.known.layout ≡ self.old.known.layout }
+    {
+        if self.has_failed {
+            return Err(StoreError::Failed);
+        }
+        self.applied.apply(lane, record)
+    }
+
+    /// Makes all applied records of all lanes durable, and answers how many there were.
+    ///
+    /// It takes a write for each record, a sync and the calls of a commit; with no record it takes no call. The time is linear
+    /// in the records. Refusals, in this order: `Failed`; `Worn`: there are records, and the control's sequence is at its last
+    /// value; `Fault`. After the first two nothing has changed.
+    pub fn log_step(&mut self) -> Result<u64, StoreError>
+        ensures ok { (s : Setting) (p : Past) → HasPast self.old.known s p (D.device self.old.disk)
+            → OnOk result (HasPast self.new.known s (after_log p) (D.device self.new.disk)) }
+        ensures answer { (s : Setting) (p : Past) → HasPast self.old.known s p (D.device self.old.disk)
+            → MatchResult result (λ count. (self.old.known.has_failed ≡ false) × (count ≡ length p.fresh)) (RefusesLog self.old.known p) }
+        ensures none { (s : Setting) (p : Past) → HasPast self.old.known s p (D.device self.old.disk)
+            → p.fresh ≡ [] → D.device self.new.disk ≡ D.device self.old.disk }
+        ensures kept { (s : Setting) (p : Past) → HasPast self.old.known s p (D.device self.old.disk)
+            → OnErr result (HasPast self.new.known s p (D.device self.new.disk)) }
+        ensures refused { IfErr result (λ e. (e ≡ Fault) ⊎ (self.new ≡ self.old)) }
+        ensures failed { IsErrOf result Fault → self.new.known.has_failed ≡ true }
+        ensures any_moment { (s : Setting) (p : Past) → HasPast self.old.known s p (D.device self.old.disk)
+            → LeavesOnly (D.device self.old.disk) (D.device self.new.disk) (StandsForCut self.old.known.layout s p.logged p.cut) }
+        ensures shown { (s : Setting) (p : Past) → HasPast self.old.known s p (D.device self.old.disk)
+            → LeavesOnly (D.device self.old.disk) (D.device self.new.disk) (ShowsStep self.old.known.layout s p) }
+        ensures cause { HasCause (D.device self.old.disk).failures (D.device self.new.disk).failures Fault result }
+        ensures layout { self.new.known.layout ≡ self.old.known.layout }
+    {
+        if self.has_failed {
+            return Err(StoreError::Failed);
+        }
+        self.applied.within_law();
+        match log_records(
+            &mut self.disk,
+            &self.layout,
+            &mut self.committed,
+            &self.applied,
+        ) {
+            Ok(count) => {
+                self.sections.push_all(self.applied.fresh());
+                self.applied.logged_all();
+                Ok(count)
+            }
+            Err(reason) => {
+                self.has_failed = reason == StoreError::Fault;
+                Err(reason)
+            }
+        }
+    }
+
+    /// Writes the least dirty field's logged value into its home cell, in one write, or answers that no field is dirty.
+    ///
+    /// The time is amortized constant. Refusals, in this order: `Failed`, after which nothing has changed; `Fault`.
+    pub fn home_step(&mut self) -> Result<Home, StoreError>
+        ensures ok { (s : Setting) (p : Past) → HasPast self.old.known s p (D.device self.old.disk)
+            → IfOk result (λ home. HasPast self.new.known s (after_home_step p home) (D.device self.new.disk)) }
+        ensures answer { (s : Setting) (p : Past) → HasPast self.old.known s p (D.device self.old.disk)
+            → MatchResult result (λ home. (self.old.known.has_failed ≡ false) × AnswersHome s p home) (RefusesHome self.old.known) }
+        ensures kept { (s : Setting) (p : Past) → HasPast self.old.known s p (D.device self.old.disk)
+            → OnErr result (HasPast self.new.known s p (D.device self.new.disk)) }
+        ensures refused { IfErr result (λ e. (e ≡ Fault) ⊎ (self.new ≡ self.old)) }
+        ensures failed { IsErrOf result Fault → self.new.known.has_failed ≡ true }
+        ensures any_moment { (s : Setting) (p : Past) → HasPast self.old.known s p (D.device self.old.disk)
+            → LeavesOnly (D.device self.old.disk) (D.device self.new.disk) (StandsForCut self.old.known.layout s p.logged p.cut) }
+        ensures shown { (s : Setting) (p : Past) → HasPast self.old.known s p (D.device self.old.disk)
+            → LeavesOnly (D.device self.old.disk) (D.device self.new.disk) (ShowsStep self.old.known.layout s p) }
+        ensures cause { HasCause (D.device self.old.disk).failures (D.device self.new.disk).failures Fault result }
+        ensures layout { self.new.known.layout ≡ self.old.known.layout }
+    {
+        if self.has_failed {
+            return Err(StoreError::Failed);
+        }
+        let Some(field) = self.applied.least_dirty() else {
+            return Ok(Home::Done);
+        };
+        let value = self.applied.logged_value(field);
+        match write_home(&mut self.disk, &self.layout, field, value) {
+            Ok(()) => {
+                self.applied.home_written(field);
+                Ok(Home::Wrote(field))
+            }
+            Err(reason) => {
+                self.has_failed = true;
+                Err(reason)
+            }
+        }
+    }
+
+    /// Makes the home cells durable, and then acknowledges the stable cut of what is logged.
+    ///
+    /// It takes a sync and the calls of a commit. The time is linear in the records since the lanes' starts. Refusals, in this
+    /// order: `Failed`; `Unwritten`: a field is dirty; `Worn`: the control's sequence is at its last value; `Fault`. But for
+    /// the last nothing has changed.
+    pub fn settle(&mut self) -> Result<(), StoreError>
+        ensures ok { (s : Setting) (p : Past) (cut : ℕ → ℕ) → HasPast self.old.known s p (D.device self.old.disk) → IsStable (actions p.logged) cut
+            → OnOk result (HasPast self.new.known s (after_settle p cut) (D.device self.new.disk)) }
+        ensures answer { (s : Setting) (p : Past) → HasPast self.old.known s p (D.device self.old.disk)
+            → MatchResult result (λ done. (self.old.known.has_failed ≡ false) × IsClean s p) (RefusesSettle self.old.known s p) }
+        ensures kept { (s : Setting) (p : Past) → HasPast self.old.known s p (D.device self.old.disk)
+            → OnErr result (HasPast self.new.known s p (D.device self.new.disk)) }
+        ensures refused { IfErr result (λ e. (e ≡ Fault) ⊎ (self.new ≡ self.old)) }
+        ensures failed { IsErrOf result Fault → self.new.known.has_failed ≡ true }
+        ensures any_moment { (s : Setting) (p : Past) (cut : ℕ → ℕ) → HasPast self.old.known s p (D.device self.old.disk) → IsStable (actions p.logged) cut
+            → LeavesOnly (D.device self.old.disk) (D.device self.new.disk) (StandsForEither self.old.known.layout s p.logged p.cut cut) }
+        ensures shown { (s : Setting) (p : Past) → HasPast self.old.known s p (D.device self.old.disk)
+            → LeavesOnly (D.device self.old.disk) (D.device self.new.disk) (ShowsStep self.old.known.layout s p) }
+        ensures cause { HasCause (D.device self.old.disk).failures (D.device self.new.disk).failures Fault result }
+        ensures layout { self.new.known.layout ≡ self.old.known.layout }
+    {
+        if self.has_failed {
+            return Err(StoreError::Failed);
+        }
+        if self.applied.least_dirty().is_some() {
+            return Err(StoreError::Unwritten);
+        }
+        let stable = self.sections.stable();
+        match settle(
+            &mut self.disk,
+            &self.layout,
+            &mut self.committed,
+            &stable.cut,
+            &stable.places,
+        ) {
+            Ok(()) => Ok(()),
+            Err(reason) => {
+                self.has_failed = reason == StoreError::Fault;
+                Err(reason)
+            }
+        }
+    }
+
+    /// How many sections of the lane are acknowledged.
+    pub fn acknowledged(&self, lane: Lane) -> u64
+        requires { lane.0 < self.now.known.layout.lanes }
+        ensures { (s : Setting) (p : Past) → HasPast self.now.known s p (D.device self.now.disk) → result ≡ p.cut lane.0 }
+    {
+        self.committed.rows[usize::from(lane.0)].kept
+    }
+
+    /// The field's value after all applied stores.
+    pub fn heap_value(&self, field: FieldId) -> u64
+        requires { field.0 < self.now.known.layout.fields }
+        ensures { (s : Setting) (p : Past) → HasPast self.now.known s p (D.device self.now.disk) → result ≡ value_of s.first field.0 (applied p) }
+    {
+        self.applied.value(field)
+    }
+
+    /// The first place of the lane that wasn't trimmed: so many of its records are no longer needed.
+    pub fn trimmed(&self, lane: Lane) -> u64
+        requires { lane.0 < self.now.known.layout.lanes }
+        ensures { (s : Setting) (p : Past) → HasPast self.now.known s p (D.device self.now.disk) → result ≡ records_in (p.base lane.0) (undo_logs p.logged lane.0) }
+    {
+        self.applied.start(lane)
+    }
+
+    /// The layout of its image.
+    pub fn layout(&self) -> Layout
+        ensures { result ≡ self.now.known.layout }
+    {
+        self.layout
+    }
+
+    /// The device, if nothing is left to do: its home cells are the heap, and all of that is acknowledged.
+    ///
+    /// Refusals, in this order: `Failed`; `Unfinished`: a lane holds a monitor; `Unwritten`: a record isn't logged, a field is
+    /// dirty, or a logged section that has ended isn't acknowledged. After a refusal the store is given back as it was.
+    pub fn close(self) -> Result<D, (Store<D>, StoreError)>
+        ensures ok { (s : Setting) (p : Past) → HasPast self.known s p (D.device self.disk) → OnOk result ((self.known.has_failed ≡ false) × (¬ HasOpen p) × IsWritten s p) }
+        ensures disk { IfOk result (λ disk. disk ≡ self.disk) }
+        ensures refused { (s : Setting) (p : Past) → HasPast self.known s p (D.device self.disk) → IfErr result (λ back. RefusesClose self.known s p back.1) }
+        ensures back { IfErr result (λ back. back.0 ≡ self) }
+    {
+        match self.is_closable() {
+            Ok(()) => Ok(self.disk),
+            Err(reason) => Err((self, reason)),
+        }
+    }
+
+    // Whether nothing is left to do, and else why not.
+    fn is_closable(&self) -> Result<(), StoreError>
+        ensures { (s : Setting) (p : Past) → HasPast self.now.known s p (D.device self.now.disk)
+            → MatchResult result (λ done. (self.now.known.has_failed ≡ false) × (¬ HasOpen p) × IsWritten s p) (RefusesClose self.now.known s p) }
+    {
+        if self.has_failed {
+            return Err(StoreError::Failed);
+        }
+        if self.applied.any_open() {
+            return Err(StoreError::Unfinished);
+        }
+        let is_logged = self.applied.fresh().is_empty();
+        let is_home = self.applied.least_dirty().is_none();
+        let is_acknowledged = self.sections.is_all_within(&kept_cut(&self.committed.rows));
+        if is_logged && is_home && is_acknowledged {
+            Ok(())
+        } else {
+            Err(StoreError::Unwritten)
+        }
+    }
+
+    /// The device, as it is: as a stop leaves it.
+    pub fn into_disk(self) -> D
+        ensures disk { result ≡ self.disk }
+        ensures shown { (s : Setting) (p : Past) → HasPast self.known s p (D.device self.disk) → Always (D.device result) (ShowsStep self.known.layout s p) }
+        ensures crash { (s : Setting) (p : Past) → HasPast self.known s p (D.device self.disk) → Always (D.device result) (StandsForStep self.known.layout s p) }
+    {
+        self.disk
+    }
+}
+
+// The memory of a store that was told nothing: what is applied, and what is logged.
+fn memory(
+    alloc: Global,
+    layout: &Layout,
+    guards: &[GuardRow],
+    heap: &[u64],
+    last: u64,
+) -> Result<(Applied, LoggedSections), AllocError>
+    requires layout { IsLayout layout.now }
+    requires rows { HasRows layout.now guards.now }
+    requires heap { length heap.now ≡ layout.now.fields }
+    ensures remembers { (s : Setting) → IsSettingOf layout.now guards.now heap.now last s → IfOk result (λ m. Remembers s m.0 no_past) }
+    ensures lanes { IfOk result (λ m. (length m.0.lanes ≡ layout.now.lanes) × (m.0.capacity ≡ layout.now.capacity)) }
+    ensures starts { IfOk result (λ m. (l : ℕ) → (lane_in m.0.lanes l).start ≡ 0) }
+    ensures logged { IfOk result (λ m. TellsSections m.1 (λ l. 0) []) }
+    ensures logged_lanes { IfOk result (λ m. (m.1.lanes ≡ layout.now.lanes) × (m.1.capacity ≡ layout.now.capacity)) }
+{
+    let applied = Applied::new(alloc, layout, guards, heap, last)?;
+    let sections = LoggedSections::with_capacity(alloc, layout.lanes, layout.capacity)?;
+    Ok((applied, sections))
+}
+
+// The acknowledged sections by these rows.
+fn kept_cut(rows: &[LaneRow; 32]) -> Cut
+    ensures { (l : ℕ) → l < 32 → counts_of result l ≡ (row_of rows.now l).kept }
+{
+    let mut counts = [0; 32];
+    for (lane, row) in rows.iter().enumerate() {
+        counts[lane] = row.kept;
+    }
+    Cut { counts }
+}
