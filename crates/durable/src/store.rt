@@ -273,6 +273,13 @@ impl<D: Disk> Store<D> {
         self.applied.start(lane)
     }
 
+    /// Its device.
+    pub fn disk(&self) -> &D
+        ensures { result.now ≡ self.now.disk }
+    {
+        &self.disk
+    }
+
     /// The layout of its image.
     pub fn layout(&self) -> Layout
         ensures { result ≡ self.now.known.layout }

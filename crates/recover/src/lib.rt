@@ -19,6 +19,7 @@ mod report;
 mod rules;
 mod settled;
 mod step;
+mod stub;
 mod study;
 mod walk;
 
@@ -29,6 +30,7 @@ pub use logs::read_logs;
 pub use reading::read_image;
 pub use report::{Dropped, Report, Why};
 pub use study::Study;
+pub use stub::recover;
 
 #[cfg(test)]
 mod tests;

@@ -9,5 +9,3 @@ mod EventLemmas
 mod NameLemmas
 mod PlanLemmas
 mod FieldLemmas
-pub mod Device
-pub mod Store

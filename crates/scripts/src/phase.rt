@@ -12,11 +12,13 @@ use crate::answer::{Answer, Refusal};
 use crate::command::{Command, Step};
 use crate::declaring::Declaring;
 use crate::down::Down;
-use crate::one_lane::OneLane;
+use crate::monitors::Monitors;
+use crate::opening::{Outcome, format_store, restore};
 use crate::running::Running;
 use block_disk::Fill;
 use heap_model::Lane;
 use image::Layout;
+use lock_word::LAST_NUMBER;
 use std::alloc::{AllocError, Global};
 
 /// The state of the machine.
@@ -57,12 +59,12 @@ impl Phase {
                 first,
             } => self.field(name, owner, guard, *first),
             Command::Format { lanes, capacity } => self.format(alloc, *lanes, *capacity),
-            Command::Step { thread, step } => self.thread_step(*thread, step),
+            Command::Step { thread, step } => self.thread_step(alloc, *thread, step),
             Command::Log => self.log(),
             Command::Home => self.home(),
             Command::Settle => self.settle(alloc),
             Command::Heap => self.heap(alloc),
-            Command::Crash { fill, back } => self.crash(alloc, *fill, *back),
+            Command::Crash { fill, back } => self.crash(*fill, *back),
             Command::Recover => self.recover(alloc),
             // Scripts have no such line yet: it ends a run before it comes here.
             Command::Trim | Command::Show => Ok(self.refuse()),
@@ -115,12 +117,17 @@ impl Phase {
         }
     }
 
-    fn thread_step(self, thread: Lane, step: &Step<'_>) -> Result<(Phase, Answer), AllocError>
+    fn thread_step(
+        self,
+        alloc: Global,
+        thread: Lane,
+        step: &Step<'_>,
+    ) -> Result<(Phase, Answer), AllocError>
         ensures { IfOk result (λ r. machine.Steps (shown self) (order.Act thread (step_of step.now)) r.1 (shown r.0)) }
     {
         match self {
             Phase::Running(mut running) => {
-                let answer = running.step(thread, step)?;
+                let answer = running.step(alloc, thread, step)?;
                 Ok((Phase::Running(running), answer))
             }
             other => Ok(other.refuse()),
@@ -175,18 +182,11 @@ impl Phase {
         }
     }
 
-    fn crash(self, alloc: Global, fill: Fill, back: u64) -> Result<(Phase, Answer), AllocError>
+    fn crash(self, fill: Fill, back: u64) -> Result<(Phase, Answer), AllocError>
         ensures { IfOk result (λ r. machine.Steps (shown self) (order.Crash fill back) r.1 (shown r.0)) }
     {
-        // Scripts have no other form of the line yet: it ends a run before it comes here.
-        if back != 0 || matches!(&fill, Fill::Byte(_)) {
-            return Ok(self.refuse());
-        }
         match self {
-            Phase::Running(running) => {
-                let (schema, disk) = running.crash(alloc, fill)?;
-                Ok((Phase::Down(Down::new(schema, disk)), Answer::Crashed))
-            }
+            Phase::Running(running) => crash_running(running, fill, back),
             other => Ok(other.refuse()),
         }
     }
@@ -195,12 +195,7 @@ impl Phase {
         ensures { IfOk result (λ r. machine.Steps (shown self) order.Recover r.1 (shown r.0)) }
     {
         match self {
-            Phase::Down(down) => match down.recover(alloc)? {
-                Ok((running, report)) => {
-                    Ok((Phase::Running(running), Answer::Recovered(report)))
-                }
-                Err((down, why)) => Ok((Phase::Down(down), Answer::Refused(why))),
-            },
+            Phase::Down(down) => recover_down(alloc, down),
             other => Ok(other.refuse()),
         }
     }
@@ -225,13 +220,41 @@ fn format_declared(
         ));
     }
     let schema = declaring.build();
-    // The store has the same limits, so it doesn't refuse these.
-    let Some(store) = OneLane::format(alloc, &schema, lanes, capacity)? else {
-        return Err(AllocError);
-    };
-    let size = store.size();
-    let running = Running::formatted(alloc, schema, store)?;
+    let store = format_store(alloc, &schema, lanes as u8, capacity as u32)?;
+    let monitors = Monitors::new(alloc, schema, LAST_NUMBER, lanes as u8)?;
+    let running = Running::new(monitors, store);
+    let size = running.size();
     Ok((Phase::Running(running), Answer::Formatted(size)))
+}
+
+// Crashes the device with all but the last `back` writes and syncs ended and the next begun.
+fn crash_running(running: Running, fill: Fill, back: u64) -> Result<(Phase, Answer), AllocError>
+    ensures { IfOk result (λ r. machine.Crashes (machine.Running running) r.1 (shown r.0) running fill back) }
+{
+    let Some(disk) = running.crash_image(fill, back)? else {
+        return Ok((Phase::Running(running), Answer::Refused(Refusal::Back)));
+    };
+    let down = Down::new(running.into_schema(), disk);
+    Ok((Phase::Down(down), Answer::Crashed))
+}
+
+// Recovers the device that a crash left.
+fn recover_down(alloc: Global, down: Down) -> Result<(Phase, Answer), AllocError>
+    ensures { IfOk result (λ r. machine.RecoversDevice (machine.Down down) r.1 (shown r.0) down) }
+{
+    let (schema, disk) = down.into_parts();
+    match restore(alloc, disk)? {
+        Outcome::Restored(store, report) => {
+            let lanes = store.layout().lanes;
+            let monitors = Monitors::with_values(alloc, schema, LAST_NUMBER, lanes, &report.heap)?;
+            let running = Running::new(monitors, store);
+            Ok((Phase::Running(running), Answer::Recovered(report)))
+        }
+        Outcome::Refused(disk, why) => {
+            let down = Down::new(schema, disk);
+            Ok((Phase::Down(down), Answer::Refused(why)))
+        }
+    }
 }
 
 // Whether an image may have so many lanes, and room for so many records in each.
