@@ -24,7 +24,6 @@ mod logged_lane;
 mod logging;
 mod new_records;
 mod note;
-mod play;
 mod sections;
 mod settling;
 mod stable_sections;

@@ -12,7 +12,7 @@ pub fn recover<D: Disk>(
     alloc: Global,
     disk: D,
 ) -> Result<(Recovered<D>, Report), (D, RecoverError)>
-    ensures back { IfErr result (λ refused. D.device refused.0 ≡ D.device disk) }
+    ensures back { IfErr result (λ refused. (D.device refused.0).now.bytes ≡ (D.device disk).now.bytes) }
 {
     let _ = alloc;
     Err((disk, RecoverError::NotFormatted))

@@ -9,3 +9,6 @@ mod EventLemmas
 mod NameLemmas
 mod PlanLemmas
 mod FieldLemmas
+mod StoreLemmas
+mod WaitLemmas
+mod ListLemmas

@@ -21,9 +21,7 @@ use Rattle.block_disk.specs.Images.{LeavesOnly}
 use Rattle.block_disk.specs.Memory.{Memory, fresh, device_of}
 use Rattle.block_disk.specs.declared.crash.Fill.{Fill}
 use Rattle.image.specs.Layout.{size_of}
-use Rattle.recover.specs.declared.error.RecoverError.{RecoverError}
 use Rattle.durable.specs.Apply.{Answers}
-use Rattle.durable.specs.Begin.{IsSettingOf}
 use Rattle.durable.specs.Calls.{IsClean, RefusesApply, RefusesLog, RefusesSettle}
 use Rattle.durable.specs.Formatting.{layout_with}
 use Rattle.durable.specs.Past.{Past, applied, no_past, after_apply, after_log, after_settle}
@@ -41,9 +39,9 @@ use Rattle.scripts.specs.Limits.{IsFormattable}
 use Rattle.scripts.specs.Lookups.{object_of, field_of}
 use Rattle.scripts.specs.Orders.{Order, Action}
 use Rattle.scripts.specs.Orders as order
-use Rattle.scripts.specs.Refusals.{told_of_store, told_of_recovery}
+use Rattle.scripts.specs.Refusals.{told_of_store}
 use Rattle.scripts.specs.States.{Live, Wreck, Tells}
-use Rattle.scripts.specs.Reports.{Recovered, Found, IsReportOf}
+use Rattle.scripts.specs.Reports.{Restores, RefusesDisk}
 use Rattle.scripts.specs.Table.{Table, lanes_of, setting_of, state_of, IsAfter}
 use Rattle.scripts.specs.WaitSets.{wait_set, least_of}
 
@@ -303,27 +301,20 @@ module _ (old : MachineState) (answer : Answer) (new : MachineState) where
 
   -- the device is recovered: the store was told nothing, and each field has the value that is told of it
   pub record Recovers (w : Wreck) : Type 0 where
-    pub recovered : Recovered Memory
-    pub found : Found
-    pub report : Report
     pub live : Live
-    pub reported : IsReportOf recovered found report
+    pub report : Report
     pub answers : answer ≡ answers.Recovered report
     pub runs : new ≡ Running live
-    pub restored : IsRestored w.schema recovered.layout.lanes recovered.heap live.monitors
-    pub layout : live.store.known.layout ≡ recovered.layout
-    pub disk : live.store.disk ≡ recovered.disk
-    pub tells : (s : Setting) → IsSettingOf recovered.layout recovered.guards recovered.heap LAST_NUMBER s → Tells live.store s no_past
+    pub restores : Restores live.store report
+    pub restored : IsRestored w.schema live.store.known.layout.lanes report.heap.items live.monitors
 
-  -- the image is refused, and the machine stays down: the disk reads as it did
+  -- the image is refused, and the machine stays down
   pub record RefusesImage (w : Wreck) : Type 0 where
-    pub reason : RecoverError
     pub refusal : Refusal
     pub disk : Memory
-    pub told : told_of_recovery reason ≡ Ok refusal
     pub answers : answer ≡ Refused refusal
     pub stays : new ≡ Down (record w { disk = disk })
-    pub bytes : (device_of disk).now.bytes ≡ (device_of w.disk).now.bytes
+    pub refuses : RefusesDisk w.disk disk refusal
 
   -- the device is recovered, or its image is refused
   abbrev pub RecoversDevice : Wreck → Type 0

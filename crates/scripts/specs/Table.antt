@@ -43,9 +43,12 @@ lanes_of table = length table.pauses
 abbrev pub pause_at : Table → (thread : ℕ) → Pause
 pause_at table thread = slice_index_or table.pauses thread Awake
 
--- what the threads' events are judged by
+-- what events and records are judged by, by a schema and a bound on release numbers
+abbrev pub setting_in : Declarations → (last : ℕ) → Setting
+setting_in schema last = record { objects = object_count schema; fields = field_count schema; guard = guard_of schema; first = first_of schema; last = last }
+
 abbrev pub setting_of : Table → Setting
-setting_of table = record { objects = object_count table.schema; fields = field_count table.schema; guard = guard_of table.schema; first = first_of table.schema; last = table.last }
+setting_of table = setting_in table.schema table.last
 
 -- the plain state
 abbrev pub state_of : Table → State

@@ -1,14 +1,8 @@
 //! The machine between a crash and a recovery.
-ghost use Rattle.std.specs.Prelude.{◌≡◌, IfOk};
-ghost use Rattle.guards.specs.Schema.{Declarations};
-ghost use Rattle.block_disk.specs.Memory.{Memory};
+ghost use Rattle.std.specs.Prelude.{◌≡◌};
 
-use crate::answer::Answer;
-use crate::opening::{Outcome, restore};
-use crate::running::Running;
 use block_disk::MemDisk;
 use guards::Schema;
-use std::alloc::{AllocError, Global};
 use std::marker::Model;
 
 /// The schema, and what the crash left of the device.

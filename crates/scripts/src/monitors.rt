@@ -4,7 +4,7 @@ ghost use Rattle.guards.specs.Schema.{Declarations, object_count, field_count, g
 ghost use Rattle.heap_model.specs.State.{initial_state, Awake};
 ghost use Rattle.heap_model.specs.Events.{MayDo};
 ghost use Rattle.scripts.specs.Monitor.{MayRise};
-ghost use Rattle.scripts.specs.Table.{monitor_at, pause_at, lanes_of, setting_of, state_of, IsStepOf, IsAfter};
+ghost use Rattle.scripts.specs.Table.{monitor_at, pause_at, lanes_of, setting_of, state_of, IsWhole, IsStepOf, IsAfter};
 ghost use Rattle.scripts.specs.WaitSets.{IsPauseOf};
 ghost use Rattle.heap_model.specs.declared.event.Event.TheVariants.{Enter, NestedEnter, NestedExit, Exit, Load, Store, Wait};
 
@@ -66,6 +66,7 @@ impl Monitors {
         last: u64,
         lanes: u8,
     ) -> Result<Monitors, AllocError>
+        requires { lanes ≤ 32 }
         ensures lanes { IfOk result (λ m. lanes_of m ≡ lanes) }
         ensures schema { IfOk result (λ m. m.schema ≡ schema) }
         ensures last { IfOk result (λ m. m.last ≡ last) }
@@ -83,6 +84,7 @@ impl Monitors {
         lanes: u8,
         heap: &[u64],
     ) -> Result<Monitors, AllocError>
+        requires { lanes ≤ 32 }
         ensures lanes { IfOk result (λ m. lanes_of m ≡ lanes) }
         ensures schema { IfOk result (λ m. m.schema ≡ schema) }
         ensures last { IfOk result (λ m. m.last ≡ last) }
@@ -101,7 +103,8 @@ impl Monitors {
         lanes: u8,
         values: Vec<u64>,
     ) -> Result<Monitors, AllocError>
-        requires { length values.items ≡ field_count schema }
+        requires values { length values.items ≡ field_count schema }
+        requires few { lanes ≤ 32 }
         ensures lanes { IfOk result (λ m. lanes_of m ≡ lanes) }
         ensures schema { IfOk result (λ m. m.schema ≡ schema) }
         ensures last { IfOk result (λ m. m.last ≡ last) }
@@ -131,6 +134,13 @@ impl Monitors {
         ensures { result ≡ self.now.last }
     {
         self.last
+    }
+
+    /// There is a monitor for each object and a value for each field, whatever was done.
+    pub(crate) fn whole_law(&self)
+        ensures { IsWhole self.now }
+    {
+        let _ = &self.monitors;
     }
 
     /// The schema, without the monitors.

@@ -1,5 +1,5 @@
 //! The states of the machine, and the lines that each takes.
-ghost use Rattle.std.specs.Prelude.{◌≡◌, ◌↔◌, IfOk, IsTrue};
+ghost use Rattle.std.specs.Prelude.{◌≡◌, ◌≤◌, ◌↔◌, IfOk, IfSome, IsSome};
 ghost use Rattle.guards.specs.Schema.{nothing};
 ghost use Rattle.scripts.specs.Orders.{order_of, step_of};
 ghost use Rattle.scripts.specs.Orders as order;
@@ -13,7 +13,7 @@ use crate::command::{Command, Step};
 use crate::declaring::Declaring;
 use crate::down::Down;
 use crate::monitors::Monitors;
-use crate::opening::{Outcome, format_store, restore};
+use crate::opening::{format_store, restore};
 use crate::running::Running;
 use block_disk::Fill;
 use heap_model::Lane;
@@ -213,17 +213,16 @@ fn format_declared(
     if declaring.is_empty() {
         return Ok((Phase::Declaring(declaring), Answer::Refused(Refusal::Empty)));
     }
-    if !is_formattable(lanes, capacity) {
+    let Some((lanes, capacity)) = format_numbers(lanes, capacity) else {
         return Ok((
             Phase::Declaring(declaring),
             Answer::Refused(Refusal::BadHeader),
         ));
-    }
+    };
     let schema = declaring.build();
-    let store = format_store(alloc, &schema, lanes as u8, capacity as u32)?;
-    let monitors = Monitors::new(alloc, schema, LAST_NUMBER, lanes as u8)?;
+    let (store, size) = format_store(alloc, &schema, lanes, capacity)?;
+    let monitors = Monitors::new(alloc, schema, LAST_NUMBER, lanes)?;
     let running = Running::new(monitors, store);
-    let size = running.size();
     Ok((Phase::Running(running), Answer::Formatted(size)))
 }
 
@@ -244,25 +243,26 @@ fn recover_down(alloc: Global, down: Down) -> Result<(Phase, Answer), AllocError
 {
     let (schema, disk) = down.into_parts();
     match restore(alloc, disk)? {
-        Outcome::Restored(store, report) => {
+        Ok((store, report)) => {
             let lanes = store.layout().lanes;
             let monitors = Monitors::with_values(alloc, schema, LAST_NUMBER, lanes, &report.heap)?;
             let running = Running::new(monitors, store);
             Ok((Phase::Running(running), Answer::Recovered(report)))
         }
-        Outcome::Refused(disk, why) => {
+        Err((disk, why)) => {
             let down = Down::new(schema, disk);
             Ok((Phase::Down(down), Answer::Refused(why)))
         }
     }
 }
 
-// Whether an image may have so many lanes, and room for so many records in each.
-fn is_formattable(lanes: u64, capacity: u64) -> bool
-    ensures { IsTrue result ↔ IsFormattable lanes capacity }
+// The numbers of an image that may have so many lanes, and room for so many records in each.
+fn format_numbers(lanes: u64, capacity: u64) -> Option<(u8, u32)>
+    ensures limits { IsSome result ↔ IsFormattable lanes capacity }
+    ensures same { IfSome result (λ numbers. (numbers.0 ≡ lanes) × (numbers.1 ≡ capacity) × (numbers.0 ≤ 32)) }
 {
     let (Ok(lanes), Ok(capacity)) = (u8::try_from(lanes), u32::try_from(capacity)) else {
-        return false;
+        return None;
     };
     let smallest = Layout {
         objects: 1,
@@ -270,5 +270,8 @@ fn is_formattable(lanes: u64, capacity: u64) -> bool
         lanes,
         capacity,
     };
-    smallest.is_within_limits()
+    if !smallest.is_within_limits() {
+        return None;
+    }
+    Some((lanes, capacity))
 }

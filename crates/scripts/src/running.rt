@@ -8,16 +8,14 @@ ghost use Rattle.heap_model.specs.State.{Awake};
 ghost use Rattle.scripts.specs.Table.{lanes_of, setting_of, state_of, IsStepOf};
 ghost use Rattle.scripts.specs.Orders.{step_of};
 ghost use Rattle.scripts.specs.Orders as order;
-ghost use Rattle.image.specs.Layout.{size_of};
 ghost use Rattle.scripts.specs.Lookups.{LooksUp, object_of, field_of};
 ghost use Rattle.scripts.specs.Machine as machine;
 
 use crate::answer::{Answer, Refusal};
 use crate::command::Step;
-use crate::logged::record_of;
 use crate::monitors::Monitors;
 use crate::refusals::refused_call;
-use crate::store_calls::{acknowledged_counts, applied_values, write_homes};
+use crate::store_calls::{acknowledged_counts, applied_values, keep_record, write_homes};
 use block_disk::{Fill, MemDisk};
 use durable::Store;
 use guards::Schema;
@@ -219,10 +217,8 @@ impl Running {
         requires allowed { MayDo (setting_of self.old.monitors) (state_of self.old.monitors) thread.0 event.now }
         ensures { IfOk result (λ answer. machine.Does (machine.Running self.old) answer (machine.Running self.new) self.old thread.0 said event.now) }
     {
-        if let Some(next) = record_of(event) {
-            if let Err(why) = self.store.apply(thread, next) {
-                return Ok(Answer::Refused(refused_call(why)?));
-            }
+        if let Err(why) = keep_record(&mut self.store, thread, event) {
+            return Ok(Answer::Refused(refused_call(why)?));
         }
         self.monitors.perform(thread, event)?;
         Ok(said)
@@ -274,7 +270,10 @@ impl Running {
         if stops < back {
             return Ok(None);
         }
-        disk.crash_image(stops - back + 1, fill)
+        let Some(begun) = (stops - back).checked_add(1) else {
+            return Err(AllocError);
+        };
+        disk.crash_image(begun, fill)
     }
 
     /// The schema, without monitors and store.
@@ -282,12 +281,5 @@ impl Running {
         ensures { result ≡ self.monitors.schema }
     {
         self.monitors.into_schema()
-    }
-
-    /// The size of the image, in bytes.
-    pub(crate) fn size(&self) -> u64
-        ensures { result ≡ size_of self.now.store.known.layout }
-    {
-        self.store.layout().size()
     }
 }

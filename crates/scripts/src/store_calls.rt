@@ -1,15 +1,34 @@
 //! Calls of the store for all fields, or for all lanes.
-ghost use Rattle.std.specs.Prelude.{◌≡◌, ◌<◌, ℕ, length, slice_index, IfOk};
+ghost use Rattle.std.specs.Prelude.{◌≡◌, ◌<◌, ℕ, length, slice_index, IfOk, IfErr, OnOk, OnErr};
 ghost use Rattle.heap_model.specs.Setting.{Setting};
 ghost use Rattle.heap_model.specs.Log.{value};
+ghost use Rattle.heap_model.specs.History.{logged};
 ghost use Rattle.durable.specs.Past.{Past, applied};
 ghost use Rattle.scripts.specs.States.{Tells};
 ghost use Rattle.scripts.specs.Homes.{BringsHome};
+ghost use Rattle.scripts.specs.Machine.{Keeps, RefusesRecord};
 
+use crate::logged::record_of;
 use block_disk::MemDisk;
-use durable::{Home, Store};
-use heap_model::{FieldId, Lane};
+use durable::{Home, Store, StoreError};
+use heap_model::{Event, FieldId, Lane};
 use std::alloc::{AllocError, Global};
+
+/// Keeps the record of the thread's event, if it has one. A refusal changes nothing.
+pub(crate) fn keep_record(
+    store: &mut Store<MemDisk>,
+    thread: Lane,
+    event: &Event,
+) -> Result<(), StoreError>
+    ensures kept { OnOk result (Keeps store.old thread.0 (logged event.now) store.new) }
+    ensures refused { IfErr result (λ e. (s : Setting) (p : Past) → Tells store.old s p → RefusesRecord store.old s p thread.0 (logged event.now) e) }
+    ensures err { OnErr result (store.new ≡ store.old) }
+{
+    match record_of(event) {
+        None => Ok(()),
+        Some(next) => store.apply(thread, next),
+    }
+}
 
 /// Takes home steps until no field is dirty, and answers how many cells were written. A fault of the device is want of
 /// memory.

@@ -1,5 +1,5 @@
 //! The wait sets of the monitors: who waits, who is woken, and who takes a monitor again (JLS 17.2).
-ghost use Rattle.std.specs.Prelude.{◌≡◌, ◌≢◌, ◌<◌, ◌≤◌, ◌+◌, ◌^◌, ◌↔◌, ◌++◌, ◌∷◌, [], ℕ, List, take, if◌then◌else◌, IsTrue, Some, None, IfOk, OnOk};
+ghost use Rattle.std.specs.Prelude.{◌≡◌, ◌≢◌, ◌<◌, ◌≤◌, ◌+◌, ◌^◌, ◌↔◌, ◌++◌, ◌∷◌, [], ℕ, List, All, take, if◌then◌else◌, IsTrue, Some, None, IfOk, OnOk};
 ghost use Rattle.guards.specs.Schema.{object_count};
 ghost use Rattle.heap_model.specs.State.{Awake, InSet, Woken, IsWoken, with_at, woken_from};
 ghost use Rattle.heap_model.specs.Events.{MayDo};
@@ -60,6 +60,7 @@ impl Monitors {
         requires held { (state_of self.old).owner object.0 ≡ Some thread.0 }
         ensures { IsAfter self.old thread.0 (Wait object ((state_of self.old).number object.0)) self.new }
     {
+        self.whole_law();
         let monitor = self.monitor(object);
         let again = monitor.again();
         self.set_monitor(object, monitor.freed());
@@ -75,6 +76,7 @@ impl Monitors {
         requires rise { number + 1 < 2 ^ 64 }
         ensures { IsAfter self.old thread.0 (Resume object number) self.new }
     {
+        self.whole_law();
         let again = self.pause(thread).again();
         self.set_monitor(
             object,
@@ -126,9 +128,7 @@ impl Monitors {
             (Notify object (least_of (wait_set (lanes_of self.old) (state_of self.old) object.0))) self.new) }
     {
         let mut set = self.wait_set(alloc, object)?;
-        if let Some(least) = set.first().copied() {
-            self.wake(thread, least, object);
-        }
+        self.wake_least(thread, object, &set);
         set.truncate(1);
         Ok(set)
     }
@@ -146,6 +146,17 @@ impl Monitors {
         let set = self.wait_set(alloc, object)?;
         self.wake_all(thread, object);
         Ok(set)
+    }
+
+    // Removes the first of these threads of the object's wait set, if there is one.
+    fn wake_least(&mut self, thread: Lane, object: ObjectId, set: &[Lane])
+        requires { All (λ l. l.0 < lanes_of self.old) set.now }
+        ensures { IsAfter self.old thread.0 (Notify object (least_of set.now)) self.new }
+    {
+        if set.is_empty() {
+            return;
+        }
+        self.wake(thread, set[0], object);
     }
 
     // Removes this thread of the object's wait set.
