@@ -7,9 +7,10 @@ loop-lane-preserved c =
     let xs = c.loop-lane.counts.items in
     let ys = c.push.new.self.items in
     let long = c.loop-lane.invariant.0 in
-    let items = c.in_ok-push.ensures.items in
-    (length-more xs ys c.acknowledged.result c.loop-lane.lane long items,
-    λ s p t. each-more xs ys c.acknowledged.result c.loop-lane.lane p.cut long items (c.loop-lane.invariant.1 s p t) (c.acknowledged.ensures s p t))
+    let items = c.in_ok-push.ensures.items in (
+      length-more xs ys c.acknowledged.result c.loop-lane.lane long items,
+      λ s p t. each-more xs ys c.acknowledged.result c.loop-lane.lane p.cut long items (c.loop-lane.invariant.1 s p t) (c.acknowledged.ensures s p t),
+    )
 
 pub returns-clause-counts : goal.returns-clause-counts
 returns-clause-counts c = λ s p t l in'.
