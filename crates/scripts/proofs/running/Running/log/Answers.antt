@@ -23,6 +23,6 @@ returns c =
       }))
       | in-Err+in_ok-refused_call-in-Err w ↦
           let told = sym w.refused_call.ensures ∙ w.in_ok-refused_call-in-Err.was in
-          rw w.result-is (inr (refused-line a x y (RefusesLog x.known) w.in-Err.why w.in_ok-refused_call-in-Err.field-0 told
+          rw w.result-is (inr (refused-line a x y (λ s p reason. RefusesLog x.known p reason) w.in-Err.why w.in_ok-refused_call-in-Err.field-0 told
           (told-unchanged x y w.in-Err.why w.in_ok-refused_call-in-Err.field-0 told (rw w.in-Err.is at step.refused)) (λ s p t. rw w.in-Err.is at step.answer s p t)))
     ])
