@@ -170,6 +170,11 @@ impl Applied {
         self.fresh.records()
     }
 
+    /// What is true of each lane's limits, whatever was applied.
+    pub fn within_law(&self)
+        ensures { AreWithin self.now }
+    {}
+
     /// Takes the fresh records for logged. The fields that they store to are dirty then.
     ///
     /// The time is linear in the fresh records.

@@ -24,6 +24,7 @@ mod logged_lane;
 mod logging;
 mod new_records;
 mod note;
+mod play;
 mod sections;
 mod settling;
 mod stable_sections;

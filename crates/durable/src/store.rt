@@ -50,12 +50,7 @@ pub struct Store<D: Disk> {
     applied: Applied,
     sections: LoggedSections,
     has_failed: bool,
-    never: Never,
 }
-
-/// Nothing: this store can't be had.
-#[derive(Clone, Copy, Debug, PartialEq, Eq, Drop)]
-pub enum Never {}
 
 impl<D: Disk> Model for Store<D> {
     ghost use Rattle.heap_model.specs.Setting.{Setting};
@@ -85,8 +80,28 @@ impl<D: Disk> Store<D> {
         ensures layout { IfOk result (λ x. x.known.layout ≡ recovered.layout) }
         ensures refused { IfErr result (λ back. back.0 ≡ recovered) }
     {
-        let _ = (alloc, last);
-        Err((recovered, AllocError))
+        let RecoveredParts {
+            disk,
+            layout,
+            guards,
+            slot,
+            sequence,
+            heap,
+        } = recovered.into_parts();
+        match memory(alloc, &layout, &guards, &heap, last) {
+            Ok((applied, sections)) => Ok(Store {
+                disk,
+                layout,
+                committed: Committed::empty(slot, sequence),
+                applied,
+                sections,
+                has_failed: false,
+            }),
+            Err(error) => Err((
+                Recovered::of(disk, layout, guards, slot, sequence, heap),
+                error,
+            )),
+        }
     }
 
     /// Applies the lane's next record, in memory alone and in constant time.
@@ -102,7 +117,10 @@ impl<D: Disk> Store<D> {
         ensures disk { self.new.disk ≡ self.old.disk }
         ensures layout { self.new.known.layout ≡ self.old.known.layout }
     {
-        match self.never {}
+        if self.has_failed {
+            return Err(StoreError::Failed);
+        }
+        self.applied.apply(lane, record)
     }
 
     /// Makes all applied records of all lanes durable, and answers how many there were.
@@ -128,7 +146,26 @@ impl<D: Disk> Store<D> {
         ensures cause { HasCause (D.device self.old.disk).failures (D.device self.new.disk).failures Fault result }
         ensures layout { self.new.known.layout ≡ self.old.known.layout }
     {
-        match self.never {}
+        if self.has_failed {
+            return Err(StoreError::Failed);
+        }
+        self.applied.within_law();
+        match log_records(
+            &mut self.disk,
+            &self.layout,
+            &mut self.committed,
+            &self.applied,
+        ) {
+            Ok(count) => {
+                self.sections.push_all(self.applied.fresh());
+                self.applied.logged_all();
+                Ok(count)
+            }
+            Err(reason) => {
+                self.has_failed = reason == StoreError::Fault;
+                Err(reason)
+            }
+        }
     }
 
     /// Writes the least dirty field's logged value into its home cell, in one write, or answers that no field is dirty.
@@ -150,7 +187,23 @@ impl<D: Disk> Store<D> {
         ensures cause { HasCause (D.device self.old.disk).failures (D.device self.new.disk).failures Fault result }
         ensures layout { self.new.known.layout ≡ self.old.known.layout }
     {
-        match self.never {}
+        if self.has_failed {
+            return Err(StoreError::Failed);
+        }
+        let Some(field) = self.applied.least_dirty() else {
+            return Ok(Home::Done);
+        };
+        let value = self.applied.logged_value(field);
+        match write_home(&mut self.disk, &self.layout, field, value) {
+            Ok(()) => {
+                self.applied.home_written(field);
+                Ok(Home::Wrote(field))
+            }
+            Err(reason) => {
+                self.has_failed = true;
+                Err(reason)
+            }
+        }
     }
 
     /// Makes the home cells durable, and then acknowledges the stable cut of what is logged.
@@ -174,7 +227,26 @@ impl<D: Disk> Store<D> {
         ensures cause { HasCause (D.device self.old.disk).failures (D.device self.new.disk).failures Fault result }
         ensures layout { self.new.known.layout ≡ self.old.known.layout }
     {
-        match self.never {}
+        if self.has_failed {
+            return Err(StoreError::Failed);
+        }
+        if self.applied.least_dirty().is_some() {
+            return Err(StoreError::Unwritten);
+        }
+        let stable = self.sections.stable();
+        match settle(
+            &mut self.disk,
+            &self.layout,
+            &mut self.committed,
+            &stable.cut,
+            &stable.places,
+        ) {
+            Ok(()) => Ok(()),
+            Err(reason) => {
+                self.has_failed = reason == StoreError::Fault;
+                Err(reason)
+            }
+        }
     }
 
     /// How many sections of the lane are acknowledged.
@@ -182,7 +254,7 @@ impl<D: Disk> Store<D> {
         requires { lane.0 < self.now.known.layout.lanes }
         ensures { (s : Setting) (p : Past) → HasPast self.now.known s p (D.device self.now.disk) → result ≡ p.cut lane.0 }
     {
-        match self.never {}
+        self.committed.rows[usize::from(lane.0)].kept
     }
 
     /// The field's value after all applied stores.
@@ -190,7 +262,7 @@ impl<D: Disk> Store<D> {
         requires { field.0 < self.now.known.layout.fields }
         ensures { (s : Setting) (p : Past) → HasPast self.now.known s p (D.device self.now.disk) → result ≡ value_of s.first field.0 (applied p) }
     {
-        match self.never {}
+        self.applied.value(field)
     }
 
     /// The first place of the lane that wasn't trimmed: so many of its records are no longer needed.
@@ -198,21 +270,21 @@ impl<D: Disk> Store<D> {
         requires { lane.0 < self.now.known.layout.lanes }
         ensures { (s : Setting) (p : Past) → HasPast self.now.known s p (D.device self.now.disk) → result ≡ records_in (p.base lane.0) (undo_logs p.logged lane.0) }
     {
-        match self.never {}
+        self.applied.start(lane)
     }
 
     /// Its device.
     pub fn disk(&self) -> &D
         ensures { result.now ≡ self.now.disk }
     {
-        match self.never {}
+        &self.disk
     }
 
     /// The layout of its image.
     pub fn layout(&self) -> Layout
         ensures { result ≡ self.now.known.layout }
     {
-        match self.never {}
+        self.layout
     }
 
     /// The device, if nothing is left to do: its home cells are the heap, and all of that is acknowledged.
@@ -225,7 +297,31 @@ impl<D: Disk> Store<D> {
         ensures refused { (s : Setting) (p : Past) → HasPast self.known s p (D.device self.disk) → IfErr result (λ back. RefusesClose self.known s p back.1) }
         ensures back { IfErr result (λ back. back.0 ≡ self) }
     {
-        match self.never {}
+        match self.is_closable() {
+            Ok(()) => Ok(self.disk),
+            Err(reason) => Err((self, reason)),
+        }
+    }
+
+    // Whether nothing is left to do, and else why not.
+    fn is_closable(&self) -> Result<(), StoreError>
+        ensures { (s : Setting) (p : Past) → HasPast self.now.known s p (D.device self.now.disk)
+            → MatchResult result (λ done. (self.now.known.has_failed ≡ false) × (¬ HasOpen p) × IsWritten s p) (RefusesClose self.now.known s p) }
+    {
+        if self.has_failed {
+            return Err(StoreError::Failed);
+        }
+        if self.applied.any_open() {
+            return Err(StoreError::Unfinished);
+        }
+        let is_logged = self.applied.fresh().is_empty();
+        let is_home = self.applied.least_dirty().is_none();
+        let is_acknowledged = self.sections.is_all_within(&kept_cut(&self.committed.rows));
+        if is_logged && is_home && is_acknowledged {
+            Ok(())
+        } else {
+            Err(StoreError::Unwritten)
+        }
     }
 
     /// The device, as it is: as a stop leaves it.
@@ -234,6 +330,39 @@ impl<D: Disk> Store<D> {
         ensures shown { (s : Setting) (p : Past) → HasPast self.known s p (D.device self.disk) → Always (D.device result) (ShowsStep self.known.layout s p) }
         ensures crash { (s : Setting) (p : Past) → HasPast self.known s p (D.device self.disk) → Always (D.device result) (StandsForStep self.known.layout s p) }
     {
-        match self.never {}
+        self.disk
     }
+}
+
+// The memory of a store that was told nothing: what is applied, and what is logged.
+fn memory(
+    alloc: Global,
+    layout: &Layout,
+    guards: &[GuardRow],
+    heap: &[u64],
+    last: u64,
+) -> Result<(Applied, LoggedSections), AllocError>
+    requires layout { IsLayout layout.now }
+    requires rows { HasRows layout.now guards.now }
+    requires heap { length heap.now ≡ layout.now.fields }
+    ensures remembers { (s : Setting) → IsSettingOf layout.now guards.now heap.now last s → IfOk result (λ m. Remembers s m.0 no_past) }
+    ensures lanes { IfOk result (λ m. (length m.0.lanes ≡ layout.now.lanes) × (m.0.capacity ≡ layout.now.capacity)) }
+    ensures starts { IfOk result (λ m. (l : ℕ) → (lane_in m.0.lanes l).start ≡ 0) }
+    ensures logged { IfOk result (λ m. TellsSections m.1 (λ l. 0) []) }
+    ensures logged_lanes { IfOk result (λ m. (m.1.lanes ≡ layout.now.lanes) × (m.1.capacity ≡ layout.now.capacity)) }
+{
+    let applied = Applied::new(alloc, layout, guards, heap, last)?;
+    let sections = LoggedSections::with_capacity(alloc, layout.lanes, layout.capacity)?;
+    Ok((applied, sections))
+}
+
+// The acknowledged sections by these rows.
+fn kept_cut(rows: &[LaneRow; 32]) -> Cut
+    ensures { (l : ℕ) → l < 32 → counts_of result l ≡ (row_of rows.now l).kept }
+{
+    let mut counts = [0; 32];
+    for (lane, row) in rows.iter().enumerate() {
+        counts[lane] = row.kept;
+    }
+    Cut { counts }
 }
