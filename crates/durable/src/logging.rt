@@ -47,7 +47,7 @@ pub fn log_records<D: Disk, F: NewRecords>(
         → p.fresh ≡ [] → (result ≡ Ok 0) × (committed.new ≡ committed.old) × (D.device disk.new ≡ D.device disk.old) }
     ensures worn { (s : Setting) (p : Past) → MayLog layout.now s p committed.old (D.device disk.old) (F.fresh fresh.now)
         → IsErrOf result Worn ↔ ((committed.old.sequence ≡ 2 ^ 64 - 1) × (p.fresh ≢ [])) }
-    ensures no_call { IsErrOf result Worn → D.device disk.new ≡ D.device disk.old }
+    ensures no_call { IsErrOf result Worn → disk.new ≡ disk.old }
     ensures no_other { IfErr result (λ e. (e ≡ Worn) ⊎ (e ≡ Fault)) }
     ensures err { OnErr result (committed.new ≡ committed.old) }
     ensures any_moment { (s : Setting) (p : Past) → MayLog layout.now s p committed.old (D.device disk.old) (F.fresh fresh.now)

@@ -36,7 +36,7 @@ pub fn settle<D: Disk>(
     ensures ok { (s : Setting) (p : Past) → MaySettle layout.now s p committed.old (D.device disk.old) cut.now places.now
         → OnOk result (IsConsistent layout.now s (after_settle p (counts_of cut.now)) committed.new (D.device disk.new)) }
     ensures worn { IsErrOf result Worn ↔ (committed.old.sequence ≡ 2 ^ 64 - 1) }
-    ensures no_call { IsErrOf result Worn → D.device disk.new ≡ D.device disk.old }
+    ensures no_call { IsErrOf result Worn → disk.new ≡ disk.old }
     ensures no_other { IfErr result (λ e. (e ≡ Worn) ⊎ (e ≡ Fault)) }
     ensures err { OnErr result (committed.new ≡ committed.old) }
     ensures any_moment { (s : Setting) (p : Past) → MaySettle layout.now s p committed.old (D.device disk.old) cut.now places.now

@@ -141,7 +141,7 @@ impl<D: Disk> Store<D> {
             → p.fresh ≡ [] → D.device self.new.disk ≡ D.device self.old.disk }
         ensures kept { (s : Setting) (p : Past) → HasPast self.old.known s p (D.device self.old.disk)
             → OnErr result (HasPast self.new.known s p (D.device self.new.disk)) }
-        ensures refused { IfErr result (λ e. (e ≡ Fault) ⊎ ((self.new.known ≡ self.old.known) × (D.device self.new.disk ≡ D.device self.old.disk))) }
+        ensures refused { IfErr result (λ e. (e ≡ Fault) ⊎ (self.new ≡ self.old)) }
         ensures failed { IsErrOf result Fault → self.new.known.has_failed ≡ true }
         ensures any_moment { (s : Setting) (p : Past) → HasPast self.old.known s p (D.device self.old.disk)
             → LeavesOnly (D.device self.old.disk) (D.device self.new.disk) (StandsForCut self.old.known.layout s p.logged p.cut) }
@@ -186,7 +186,7 @@ impl<D: Disk> Store<D> {
             → MatchResult result (λ home. (self.old.known.has_failed ≡ false) × AnswersHome s p home) (RefusesHome self.old.known) }
         ensures kept { (s : Setting) (p : Past) → HasPast self.old.known s p (D.device self.old.disk)
             → OnErr result (HasPast self.new.known s p (D.device self.new.disk)) }
-        ensures refused { IfErr result (λ e. (e ≡ Fault) ⊎ ((self.new.known ≡ self.old.known) × (D.device self.new.disk ≡ D.device self.old.disk))) }
+        ensures refused { IfErr result (λ e. (e ≡ Fault) ⊎ (self.new ≡ self.old)) }
         ensures failed { IsErrOf result Fault → self.new.known.has_failed ≡ true }
         ensures any_moment { (s : Setting) (p : Past) → HasPast self.old.known s p (D.device self.old.disk)
             → LeavesOnly (D.device self.old.disk) (D.device self.new.disk) (StandsForCut self.old.known.layout s p.logged p.cut) }
@@ -227,7 +227,7 @@ impl<D: Disk> Store<D> {
             → MatchResult result (λ done. (self.old.known.has_failed ≡ false) × IsClean s p) (RefusesSettle self.old.known s p) }
         ensures kept { (s : Setting) (p : Past) → HasPast self.old.known s p (D.device self.old.disk)
             → OnErr result (HasPast self.new.known s p (D.device self.new.disk)) }
-        ensures refused { IfErr result (λ e. (e ≡ Fault) ⊎ ((self.new.known ≡ self.old.known) × (D.device self.new.disk ≡ D.device self.old.disk))) }
+        ensures refused { IfErr result (λ e. (e ≡ Fault) ⊎ (self.new ≡ self.old)) }
         ensures failed { IsErrOf result Fault → self.new.known.has_failed ≡ true }
         ensures any_moment { (s : Setting) (p : Past) (cut : ℕ → ℕ) → HasPast self.old.known s p (D.device self.old.disk) → IsStable (actions p.logged) cut
             → LeavesOnly (D.device self.old.disk) (D.device self.new.disk) (StandsForEither self.old.known.layout s p.logged p.cut cut) }
@@ -283,6 +283,13 @@ impl<D: Disk> Store<D> {
         ensures { (s : Setting) (p : Past) → HasPast self.now.known s p (D.device self.now.disk) → result ≡ records_in (p.base lane.0) (undo_logs p.logged lane.0) }
     {
         self.applied.start(lane)
+    }
+
+    /// Its device, to look at.
+    pub fn disk(&self) -> &D
+        ensures { result.now ≡ self.now.disk }
+    {
+        &self.disk
     }
 
     /// The layout of its image.

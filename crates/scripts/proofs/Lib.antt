@@ -11,5 +11,6 @@ mod EventLemmas
 mod NameLemmas
 mod PlanLemmas
 mod FieldLemmas
-pub mod Device
-pub mod Store
+mod StoreLemmas
+mod WaitLemmas
+mod ListLemmas

@@ -3,11 +3,14 @@ use Rattle.std.proofs.Common.{◌≡◌, ◌≢◌, ℕ, ◌<◌, inl, inr, Bool
 use Rattle.std.proofs.lemmas.Bool.Decides.{eqb_tells}
 use Rattle.std.proofs.lemmas.List.{get_or-set_same, get_or-set_other, get_or-replicate, get_or_past, length-replicate}
 use Rattle.std.proofs.lemmas.Bool.{cases_lt}
-use Rattle.heap_model.specs.State.{Awake, with_at, initial_state}
+use Rattle.heap_model.specs.State.{State, with_at, initial_state}
 use Rattle.scripts.specs.declared.monitor.Monitor.{Monitor}
 use Rattle.scripts.specs.declared.monitor.Monitor.TheVariants.{Free}
 use Rattle.scripts.specs.Monitor.{owner_in, count_in, number_in}
-use Rattle.scripts.specs.Table.{Table, monitor_at, state_of}
+use Rattle.scripts.specs.Table.{Table, monitor_at, pause_at, state_of}
+use Rattle.scripts.specs.WaitSets.{waiting_in}
+use Rattle.scripts.specs.declared.pause.Pause.{Pause}
+use Rattle.scripts.specs.declared.pause.Pause.TheVariants.{Awake}
 
 -- a test on two numbers, split
 by_test : (a b : ℕ) (F : Bool → Type 0) → (a ≡ b → F true) → (a ≢ b → F false) → F (a == b)
@@ -67,14 +70,38 @@ pub state_of-stored : (t : Table) (f v : ℕ) → f < length t.values → state_
 state_of-stored t f v in' = let at : (i : ℕ) → get_or (set t.values f v) i 0 ≡ with_at (state_of t).value f v i = at-set t.values f v 0 in' in
     λ j. record (state_of t) { value = λ i. at i j }
 
--- the state in which all monitors are free
-pub state_of-free : (t : Table) (n : ℕ) → t.monitors ≡ replicate n (Free 0) → state_of t ≡ initial_state (slice_index t.values)
-state_of-free t n free =
-    let at : (o : ℕ) → monitor_at t o ≡ Free 0 = λ o. ap (λ ms. get_or ms o (Free 0)) free ∙ elim (cases_lt o n) [
-      | inl below ↦ get_or-replicate n o (Free 0) (Free 0) below
-      | inr past ↦ get_or_past (replicate n (Free 0)) o (Free 0) (omega (arith, length-replicate n (Free 0)))
-    ] in
-    λ j. record { owner = λ o. owner_in (at o j); count = λ o. count_in (at o j); number = λ o. number_in (at o j); value = λ f. get_or t.values f 0; waiting = λ u. Awake }
+-- the state with a thread that waits otherwise
+pub state_of-paused : (t : Table) (l : ℕ) (p : Pause) → l < length t.pauses
+    → state_of (record t { pauses = set t.pauses l p }) ≡ record (state_of t) { waiting = with_at (state_of t).waiting l (waiting_in p) }
+state_of-paused t l p in' =
+    let at : (i : ℕ) → waiting_in (pause_at (record t { pauses = set t.pauses l p }) i) ≡ with_at (state_of t).waiting l (waiting_in p) i =
+    λ i. ap waiting_in (at-set t.pauses l p Awake in' i) ∙ part-with_at waiting_in (pause_at t) l p i in
+    λ j. record (state_of t) { waiting = λ i. at i j }
+
+-- the state with another monitor, and with a thread that waits otherwise
+pub state_of-both : (t : Table) (o : ℕ) (m : Monitor) (l : ℕ) (p : Pause) → o < length t.monitors → l < length t.pauses
+    → state_of (record t { monitors = set t.monitors o m; pauses = set t.pauses l p }) ≡ record (state_of t) {
+      owner = with_at (state_of t).owner o (owner_in m);
+      count = with_at (state_of t).count o (count_in m);
+      number = with_at (state_of t).number o (number_in m);
+      waiting = with_at (state_of t).waiting l (waiting_in p);
+    }
+state_of-both t o m l p in' lane = state_of-paused (record t { monitors = set t.monitors o m }) l p lane
+    ∙ ap (λ (s : State). record s { waiting = with_at (state_of t).waiting l (waiting_in p) }) (state_of-set t o m in')
+
+-- a list of one value has it everywhere
+everywhere : {X : Type 0} (xs : List X) (n : ℕ) (x : X) → xs ≡ replicate n x → (i : ℕ) → get_or xs i x ≡ x
+everywhere xs n x all i = ap (λ ys. get_or ys i x) all ∙ elim (cases_lt i n) [
+  | inl below ↦ get_or-replicate n i x x below
+  | inr past ↦ get_or_past (replicate n x) i x (omega (arith, length-replicate n x))
+]
+
+-- the state in which all monitors are free and all threads awake
+pub state_of-free : (t : Table) (n k : ℕ) → t.monitors ≡ replicate n (Free 0) → t.pauses ≡ replicate k Awake → state_of t ≡ initial_state (slice_index t.values)
+state_of-free t n k free awake =
+    let at : (o : ℕ) → monitor_at t o ≡ Free 0 = everywhere t.monitors n (Free 0) free in
+    let paused : (u : ℕ) → pause_at t u ≡ Awake = everywhere t.pauses k Awake awake in
+    λ j. record { owner = λ o. owner_in (at o j); count = λ o. count_in (at o j); number = λ o. number_in (at o j); value = λ f. get_or t.values f 0; waiting = λ u. waiting_in (paused u j) }
 
 -- two lists of numbers as long as one another, the same at each place
 pub same-values : (xs ys : List ℕ) → length xs ≡ length ys → ((f : ℕ) → f < length ys → get_or xs f 0 ≡ get_or ys f 0) → slice_index xs ≡ slice_index ys

@@ -1,7 +1,6 @@
 -- What a line asks for, apart from where its names lie in memory (docs/SCRIPTS.md, "Lines").
-use Rattle.std.specs.Prelude.{ℕ, List, Bool, true, false, ◌==◌}
+use Rattle.std.specs.Prelude.{ℕ, List, Bool, true, false}
 use Rattle.block_disk.specs.declared.crash.Fill.{Fill}
-use Rattle.block_disk.specs.declared.crash.Fill.TheVariants.{Lost, Kept, Byte}
 use Rattle.heap_model.specs.declared.ids.Lane.{Lane}
 use Rattle.scripts.specs.declared.command.Command.{Command}
 use Rattle.scripts.specs.declared.command.Step.{Step}
@@ -61,23 +60,8 @@ order_of (command.Crash fill back) = Crash fill back
 order_of command.Show = Show
 order_of command.Recover = Recover
 
--- whether threads may do this by now
-abbrev pub plays_step : Action → Bool
-plays_step (Wait name) = false
-plays_step Resume = false
-plays_step (Notify name) = false
-plays_step (NotifyAll name) = false
-plays_step _ = true
-
--- whether a crash that leaves this, so many writes and syncs before now, may be had by now
-abbrev pub plays_crash : Fill → ℕ → Bool
-plays_crash (Byte byte) back = false
-plays_crash _ back = back == 0
-
 -- whether scripts may have this by now; the rest is read, and ends the run as a line of no form does
 abbrev pub plays : Order → Bool
-plays (Act thread action) = plays_step action
-plays (Crash fill back) = plays_crash fill back
 plays Trim = false
 plays Show = false
 plays _ = true

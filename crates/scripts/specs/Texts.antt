@@ -5,12 +5,12 @@ use Rattle.std.specs.List.{flat_map}
 use Rattle.heap_model.specs.declared.ids.Lane.{Lane}
 use Rattle.scripts.specs.declared.answer.Answer.{Answer}
 use Rattle.scripts.specs.declared.answer.Answer.TheVariants as answers
-use Rattle.scripts.specs.declared.answer.Dropped.{Dropped}
+use Rattle.recover.specs.declared.report.Dropped.{Dropped}
 use Rattle.scripts.specs.declared.answer.Refusal.{Refusal}
 use Rattle.scripts.specs.declared.answer.Refusal.TheVariants as refusals
 use Rattle.scripts.specs.declared.answer.Report.{Report}
-use Rattle.scripts.specs.declared.answer.Why.{Why}
-use Rattle.scripts.specs.declared.answer.Why.TheVariants as why
+use Rattle.recover.specs.declared.report.Why.{Why}
+use Rattle.recover.specs.declared.report.Why.TheVariants as why
 
 -- a word and numbers, each behind a space
 abbrev pub list_line : List ℕ → List ℕ → List ℕ
@@ -76,11 +76,22 @@ place_text (Some at) = codes " t" ++ decimal (thread_of at.0) ++ codes " " ++ de
 abbrev pub refused_line : Refusal → List ℕ
 refused_line refusal = codes "refused " ++ why_refused refusal ++ place_text (place_of refusal) ++ codes "\n"
 
+-- the threads that were woken, each behind a space
+abbrev pub woken_threads : List Lane → List ℕ
+woken_threads lanes = flat_map (λ lane. codes " t" ++ decimal (thread_of lane)) lanes
+
+-- who was woken, or that nobody was
+abbrev pub woke_line : List Lane → List ℕ
+woke_line [] = codes "none\n"
+woke_line (lane ∷ lanes) = codes "woke" ++ woken_threads (lane ∷ lanes) ++ codes "\n"
+
 -- what a line prints
 abbrev pub text_of : Answer → List ℕ
 text_of answers.Silent = []
 text_of answers.Done = codes "ok\n"
 text_of (answers.Formatted size) = codes "formatted " ++ decimal size ++ codes "\n"
+text_of answers.Waiting = codes "waiting\n"
+text_of (answers.Woke lanes) = woke_line lanes.items
 text_of (answers.Value value) = codes "value " ++ decimal value ++ codes "\n"
 text_of (answers.Logged count) = codes "logged " ++ decimal count ++ codes "\n"
 text_of (answers.Wrote count) = codes "wrote " ++ decimal count ++ codes "\n"

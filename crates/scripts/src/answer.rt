@@ -1,5 +1,6 @@
 //! What the machine answers to a command.
 use heap_model::Lane;
+use recover::Dropped;
 
 /// What a line prints.
 #[derive(Debug, Drop, PartialEq, Eq)]
@@ -10,6 +11,10 @@ pub enum Answer {
     Done,
     /// The image is formatted, and has this size in bytes.
     Formatted(u64),
+    /// The thread waits.
+    Waiting,
+    /// These threads were woken, in order.
+    Woke(Vec<Lane>),
     /// The value that was loaded.
     Value(u64),
     /// How many records were written to the log.
@@ -39,25 +44,6 @@ pub struct Report {
     pub undone: u64,
     /// The value of each field.
     pub heap: Vec<u64>,
-}
-
-/// A section that recovery dropped. Sections of a lane are numbered from 1.
-#[derive(Clone, Copy, Debug, PartialEq, Eq)]
-pub struct Dropped {
-    pub lane: Lane,
-    pub section: u64,
-    pub why: Why,
-}
-
-/// Why a section is dropped.
-#[derive(Clone, Copy, Debug, PartialEq, Eq)]
-pub enum Why {
-    /// It had not ended.
-    Unfinished,
-    /// It depends on this section, which is dropped.
-    After { lane: Lane, section: u64 },
-    /// It was not acknowledged.
-    Unsettled,
 }
 
 /// Why a line is refused (docs/SCRIPTS.md, "Refusals").

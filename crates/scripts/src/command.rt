@@ -1,6 +1,6 @@
 //! What a line asks for.
 ghost use Rattle.std.specs.Prelude.{◌≡◌};
-ghost use Rattle.scripts.specs.Orders.{order_of, step_of, plays, plays_step};
+ghost use Rattle.scripts.specs.Orders.{order_of, plays};
 
 use block_disk::Fill;
 use heap_model::Lane;
@@ -76,18 +76,7 @@ pub fn is_played(command: &Command<'_>) -> bool
     ensures { result ≡ plays (order_of command.now) }
 {
     match command {
-        Command::Step { step, .. } => is_played_step(step),
-        Command::Crash { fill, back } => !matches!(fill, Fill::Byte(_)) && *back == 0,
         Command::Trim | Command::Show => false,
-        _ => true,
-    }
-}
-
-fn is_played_step(step: &Step<'_>) -> bool
-    ensures { result ≡ plays_step (step_of step.now) }
-{
-    match step {
-        Step::Wait(_) | Step::Resume | Step::Notify(_) | Step::NotifyAll(_) => false,
         _ => true,
     }
 }

@@ -2,8 +2,8 @@
 //!
 //! [`run_script`] reads a text, plays it line by line, and writes what each line prints. A line becomes a [`Command`]
 //! by [`parse`], the [`Machine`] answers it by an [`Answer`], and [`text`] makes of the answer what is printed. The
-//! machine steps threads on a plain machine of monitors (JLS 17.1) and knows nothing of text; behind it stands a store
-//! of one lane on a device in memory.
+//! machine steps threads on a plain machine of monitors and wait sets (JLS 17.1, 17.2) and knows nothing of text; behind
+//! it stands a store on a device in memory.
 //!
 //! [`read_schema`] reads a schema file, which has a script's declarations alone.
 #![tactic(auto)]
@@ -21,7 +21,8 @@ mod machine;
 mod monitor;
 mod monitors;
 mod names;
-mod one_lane;
+mod opening;
+mod pause;
 mod phase;
 mod play;
 mod reader;
@@ -29,13 +30,15 @@ mod refusals;
 mod running;
 mod schema_fault;
 mod schema_file;
+mod store_calls;
 mod terms;
 mod texts;
 mod values;
+mod wait_sets;
 mod words;
 mod writer;
 
-pub use answer::{Answer, Dropped, Refusal, Report, Why};
+pub use answer::{Answer, Refusal, Report};
 pub use command::{Command, Step, is_played};
 pub use error::{ScriptError, ScriptErrorKind};
 pub use grammar::parse;
@@ -45,8 +48,6 @@ pub use schema_fault::{SchemaFault, SchemaFaultKind};
 pub use schema_file::read_schema;
 pub use texts::text;
 
-#[cfg(test)]
-mod one_lane_tests;
 #[cfg(test)]
 mod schema_file_tests;
 #[cfg(test)]

@@ -85,7 +85,18 @@ impl Monitor {
         }
     }
 
-    /// The monitor without its last lock: free, with the next number.
+    /// How many locks its owner has, less one.
+    pub(crate) fn again(self) -> u64
+        requires { owner_in self ≢ None }
+        ensures { count_in self ≡ result + 1 }
+    {
+        match self {
+            Monitor::Free { .. } => unreachable!(),
+            Monitor::Held { again, .. } => again,
+        }
+    }
+
+    /// The monitor, free: its owner gives up all its locks, and its number rises by one.
     pub(crate) fn freed(self) -> Monitor
         requires rise { MayRise self }
         requires held { owner_in self ≢ None }

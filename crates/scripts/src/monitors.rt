@@ -1,13 +1,15 @@
 //! The plain machine of monitors: which thread owns each, how often it has become free, and each field's value.
 ghost use Rattle.std.specs.Prelude.{◌≡◌, ◌≢◌, ◌<◌, ◌≤◌, ◌↔◌, ℕ, IsTrue, Some, None, length, replicate, slice_index, slice_set, IfOk, IfErr, OnOk, OnErr, IsErrOf, IsErr};
 ghost use Rattle.guards.specs.Schema.{Declarations, object_count, field_count, guard_of, first_of};
-ghost use Rattle.heap_model.specs.State.{initial_state};
+ghost use Rattle.heap_model.specs.State.{initial_state, Awake};
 ghost use Rattle.heap_model.specs.Events.{MayDo};
 ghost use Rattle.scripts.specs.Monitor.{MayRise};
-ghost use Rattle.scripts.specs.Table.{monitor_at, setting_of, state_of, IsStepOf, IsAfter};
-ghost use Rattle.heap_model.specs.declared.event.Event.TheVariants.{Enter, NestedEnter, NestedExit, Exit, Load, Store};
+ghost use Rattle.scripts.specs.Table.{monitor_at, pause_at, lanes_of, setting_of, state_of, IsWhole, IsStepOf, IsAfter};
+ghost use Rattle.scripts.specs.WaitSets.{IsPauseOf};
+ghost use Rattle.heap_model.specs.declared.event.Event.TheVariants.{Enter, NestedEnter, NestedExit, Exit, Load, Store, Wait};
 
 use crate::monitor::Monitor;
+use crate::pause::Pause;
 use crate::values::{first_values, values_in};
 use guards::Schema;
 use heap_model::{Event, FieldId, Lane, ObjectId};
@@ -21,6 +23,10 @@ pub(crate) enum MonitorRefusal {
     Held,
     /// The thread doesn't own the monitor: for a load or a store that of the field's guard.
     NotHeld,
+    /// The thread doesn't wait.
+    NotWaiting,
+    /// The thread is in a wait set still.
+    InSet,
     /// The monitor is free and its release number is the last: it is never taken again.
     Worn,
 }
@@ -28,13 +34,16 @@ pub(crate) enum MonitorRefusal {
 /// The monitors and the values of a schema's objects and fields. Contracts see them as `heap_model`'s plain state
 /// ([`State`](heap_model)), and what a thread does as an event of it.
 ///
-/// A step is asked for before it is done: `may_enter`, `may_exit` and `may_store` answer the event that the step would
-/// be, or refuse it; [`Monitors::perform`] does it. So whoever keeps the record of the event may refuse it in between.
+/// A step is asked for before it is done: `may_enter`, `may_exit`, `may_store`, `may_wait` and `may_resume` answer the event
+/// that the step would be, or refuse it; [`Monitors::perform`] does it. So whoever keeps the record of the event may refuse
+/// it in between. Waits lie in `wait_sets`.
 #[derive(Drop)]
 pub(crate) struct Monitors {
     schema: Schema,
     last: u64,
     monitors: Vec<Monitor>,
+    // By lane.
+    pauses: Vec<Pause>,
     values: Vec<u64>,
 }
 
@@ -43,37 +52,47 @@ impl Model for Monitors {
 
     ghost Value = { Table };
 
-    ghost view = { λ m. record { schema = m.schema; last = m.last; monitors = m.monitors.items; values = m.values.items } };
+    ghost view = { λ m. record { schema = m.schema; last = m.last; monitors = m.monitors.items; pauses = m.pauses.items; values = m.values.items } };
 
-    ghost invariant = { λ m. IsWhole (record { schema = m.schema; last = m.last; monitors = m.monitors.items; values = m.values.items }) };
+    ghost invariant = { λ m. IsWhole (record { schema = m.schema; last = m.last; monitors = m.monitors.items; pauses = m.pauses.items; values = m.values.items }) };
 }
 
 impl Monitors {
-    /// All monitors free, with release number 0, and each field with its first value. A monitor whose number is `last`
-    /// or more is never taken.
-    pub(crate) fn new(alloc: Global, schema: Schema, last: u64) -> Result<Monitors, AllocError>
+    /// All monitors free, with release number 0, each field with its first value, and so many threads, all awake. A
+    /// monitor whose number is `last` or more is never taken.
+    pub(crate) fn new(
+        alloc: Global,
+        schema: Schema,
+        last: u64,
+        lanes: u8,
+    ) -> Result<Monitors, AllocError>
+        requires { lanes ≤ 32 }
+        ensures lanes { IfOk result (λ m. lanes_of m ≡ lanes) }
         ensures schema { IfOk result (λ m. m.schema ≡ schema) }
         ensures last { IfOk result (λ m. m.last ≡ last) }
         ensures state { IfOk result (λ m. state_of m ≡ initial_state (first_of schema)) }
     {
         let values = first_values(alloc, &schema)?;
-        Monitors::holding(alloc, schema, last, values)
+        Monitors::holding(alloc, schema, last, lanes, values)
     }
 
-    /// All monitors free, with release number 0, and each field with its value in `heap`, which has one for each.
+    /// All monitors free, with release number 0, each field with its value in `heap`, and so many threads, all awake.
     pub(crate) fn with_values(
         alloc: Global,
         schema: Schema,
         last: u64,
+        lanes: u8,
         heap: &[u64],
     ) -> Result<Monitors, AllocError>
+        requires { lanes ≤ 32 }
+        ensures lanes { IfOk result (λ m. lanes_of m ≡ lanes) }
         ensures schema { IfOk result (λ m. m.schema ≡ schema) }
         ensures last { IfOk result (λ m. m.last ≡ last) }
         ensures state { IfOk result (λ m. state_of m ≡ initial_state (slice_index m.values)) }
         ensures values { IfOk result (λ m. (f : ℕ) → f < field_count schema → slice_index m.values f ≡ slice_index heap.now f) }
     {
         let values = values_in(alloc, heap, schema.fields() as usize)?;
-        Monitors::holding(alloc, schema, last, values)
+        Monitors::holding(alloc, schema, last, lanes, values)
     }
 
     // All monitors free, and the fields with these values.
@@ -81,19 +100,24 @@ impl Monitors {
         alloc: Global,
         schema: Schema,
         last: u64,
+        lanes: u8,
         values: Vec<u64>,
     ) -> Result<Monitors, AllocError>
-        requires { length values.items ≡ field_count schema }
+        requires values { length values.items ≡ field_count schema }
+        requires few { lanes ≤ 32 }
+        ensures lanes { IfOk result (λ m. lanes_of m ≡ lanes) }
         ensures schema { IfOk result (λ m. m.schema ≡ schema) }
         ensures last { IfOk result (λ m. m.last ≡ last) }
         ensures values { IfOk result (λ m. m.values ≡ values.items) }
         ensures state { IfOk result (λ m. state_of m ≡ initial_state (slice_index values.items)) }
     {
         let monitors = free_monitors(alloc, schema.objects() as usize)?;
+        let pauses = awake(alloc, lanes)?;
         Ok(Monitors {
             schema,
             last,
             monitors,
+            pauses,
             values,
         })
     }
@@ -105,6 +129,20 @@ impl Monitors {
         &self.schema
     }
 
+    /// The bound on release numbers.
+    pub(crate) fn last(&self) -> u64
+        ensures { result ≡ self.now.last }
+    {
+        self.last
+    }
+
+    /// There is a monitor for each object and a value for each field, whatever was done.
+    pub(crate) fn whole_law(&self)
+        ensures { IsWhole self.now }
+    {
+        let _ = &self.monitors;
+    }
+
     /// The schema, without the monitors.
     pub(crate) fn into_schema(self) -> Schema
         ensures { result ≡ self.schema }
@@ -113,17 +151,10 @@ impl Monitors {
         schema
     }
 
-    /// The value of each field, by number.
-    pub(crate) fn values(&self) -> &[u64]
-        ensures { result.now ≡ self.now.values }
-    {
-        &self.values
-    }
-
     /// What it would be if the thread locked the object's monitor: a first lock of a free one, or one more of its own.
     pub(crate) fn may_enter(&self, thread: Lane, object: ObjectId) -> Result<Event, MonitorRefusal>
         requires { object.0 < object_count self.now.schema }
-        ensures allowed { IfOk result (MayDo (setting_of self.now) (state_of self.now) thread.0) }
+        ensures allowed { (state_of self.now).waiting thread.0 ≡ Awake → IfOk result (MayDo (setting_of self.now) (state_of self.now) thread.0) }
         ensures kind { IfOk result (IsStepOf (setting_of self.now)) }
         ensures free { let s = state_of self.now in s.owner object.0 ≡ None → s.number object.0 < self.now.last
             → result ≡ Ok (Enter object (s.number object.0)) }
@@ -154,7 +185,7 @@ impl Monitors {
     /// What it would be if the thread gave up one lock of the object's monitor: the last one, or one of several.
     pub(crate) fn may_exit(&self, thread: Lane, object: ObjectId) -> Result<Event, MonitorRefusal>
         requires { object.0 < object_count self.now.schema }
-        ensures allowed { IfOk result (MayDo (setting_of self.now) (state_of self.now) thread.0) }
+        ensures allowed { (state_of self.now).waiting thread.0 ≡ Awake → IfOk result (MayDo (setting_of self.now) (state_of self.now) thread.0) }
         ensures kind { IfOk result (IsStepOf (setting_of self.now)) }
         ensures last { let s = state_of self.now in s.owner object.0 ≡ Some thread.0 → s.count object.0 ≡ 1
             → result ≡ Ok (Exit object (s.number object.0)) }
@@ -183,7 +214,7 @@ impl Monitors {
     /// The field's value, to a thread that owns the field's guard.
     pub(crate) fn load(&self, thread: Lane, field: FieldId) -> Result<u64, MonitorRefusal>
         requires { field.0 < field_count self.now.schema }
-        ensures allowed { IfOk result (λ v. MayDo (setting_of self.now) (state_of self.now) thread.0 (Load field v)) }
+        ensures allowed { (state_of self.now).waiting thread.0 ≡ Awake → IfOk result (λ v. MayDo (setting_of self.now) (state_of self.now) thread.0 (Load field v)) }
         ensures ok { let s = state_of self.now in s.owner (guard_of self.now.schema field.0) ≡ Some thread.0
             → result ≡ Ok (s.value field.0) }
         ensures not_held { (state_of self.now).owner (guard_of self.now.schema field.0) ≢ Some thread.0
@@ -203,7 +234,7 @@ impl Monitors {
         after: u64,
     ) -> Result<Event, MonitorRefusal>
         requires { field.0 < field_count self.now.schema }
-        ensures allowed { IfOk result (MayDo (setting_of self.now) (state_of self.now) thread.0) }
+        ensures allowed { (state_of self.now).waiting thread.0 ≡ Awake → IfOk result (MayDo (setting_of self.now) (state_of self.now) thread.0) }
         ensures kind { IfOk result (IsStepOf (setting_of self.now)) }
         ensures ok { let s = state_of self.now in s.owner (guard_of self.now.schema field.0) ≡ Some thread.0
             → result ≡ Ok (Store field (s.value field.0) after) }
@@ -220,6 +251,7 @@ impl Monitors {
 
     /// Does what the thread's event does. Want of memory changes nothing; only a nested enter meets it.
     pub(crate) fn perform(&mut self, thread: Lane, event: &Event) -> Result<(), AllocError>
+        requires lane { thread.0 < lanes_of self.old }
         requires kind { IsStepOf (setting_of self.old) event.now }
         requires allowed { MayDo (setting_of self.old) (state_of self.old) thread.0 event.now }
         ensures ok { OnOk result (IsAfter self.old thread.0 event.now self.new) }
@@ -246,18 +278,47 @@ impl Monitors {
             }
             Event::Store { field, after, .. } => self.set_value(*field, *after),
             Event::Load { .. } => {}
-            // Threads don't wait yet.
-            Event::Wait { .. }
-            | Event::Resume { .. }
-            | Event::Notify { .. }
-            | Event::NotifyAll { .. }
-            | Event::Look { .. } => unreachable!(),
+            Event::Wait { object, .. } => self.go_waiting(thread, *object),
+            Event::Resume { object, number } => self.come_back(thread, *object, *number),
+            // These have functions of their own.
+            Event::Notify { .. } | Event::NotifyAll { .. } | Event::Look { .. } => unreachable!(),
         }
         Ok(())
     }
 
-    // Puts another monitor in the object's place.
-    fn set_monitor(&mut self, object: ObjectId, monitor: Monitor)
+    /// Whether the thread is one of those that there are.
+    pub(crate) fn has_lane(&self, thread: Lane) -> bool
+        ensures { IsTrue result ↔ (thread.0 < lanes_of self.now) }
+    {
+        usize::from(thread.0) < self.pauses.len()
+    }
+
+    /// What it would be if the thread waited on the object's monitor.
+    pub(crate) fn may_wait(&self, thread: Lane, object: ObjectId) -> Result<Event, MonitorRefusal>
+        requires { object.0 < object_count self.now.schema }
+        ensures allowed { (state_of self.now).waiting thread.0 ≡ Awake → IfOk result (MayDo (setting_of self.now) (state_of self.now) thread.0) }
+        ensures kind { IfOk result (IsStepOf (setting_of self.now)) }
+        ensures ok { let s = state_of self.now in s.owner object.0 ≡ Some thread.0 → result ≡ Ok (Wait object (s.number object.0)) }
+        ensures not_held { (state_of self.now).owner object.0 ≢ Some thread.0 → result ≡ Err MonitorRefusal.NotHeld }
+    {
+        match self.monitor(object) {
+            Monitor::Free { .. } => Err(MonitorRefusal::NotHeld),
+            Monitor::Held {
+                thread: owner,
+                number,
+                ..
+            } => {
+                if owner == thread {
+                    Ok(Event::Wait { object, number })
+                } else {
+                    Err(MonitorRefusal::NotHeld)
+                }
+            }
+        }
+    }
+
+    /// Puts another monitor in the object's place.
+    pub(crate) fn set_monitor(&mut self, object: ObjectId, monitor: Monitor)
         requires object { object.0 < object_count self.old.schema }
         requires rise { MayRise monitor }
         ensures { self.new ≡ record self.old { monitors = slice_set self.old.monitors object.0 monitor } }
@@ -273,8 +334,17 @@ impl Monitors {
         self.values[field.0 as usize] = value;
     }
 
-    // Whether the thread owns the object's monitor.
-    fn owns(&self, thread: Lane, object: ObjectId) -> bool
+    /// Puts the thread into another state of waiting.
+    pub(crate) fn set_pause(&mut self, thread: Lane, pause: Pause)
+        requires lane { thread.0 < lanes_of self.old }
+        requires object { IsPauseOf (object_count self.old.schema) pause }
+        ensures { self.new ≡ record self.old { pauses = slice_set self.old.pauses thread.0 pause } }
+    {
+        self.pauses[usize::from(thread.0)] = pause;
+    }
+
+    /// Whether the thread owns the object's monitor.
+    pub(crate) fn owns(&self, thread: Lane, object: ObjectId) -> bool
         requires { object.0 < object_count self.now.schema }
         ensures { IsTrue result ↔ ((state_of self.now).owner object.0 ≡ Some thread.0) }
     {
@@ -284,8 +354,24 @@ impl Monitors {
         }
     }
 
-    // The object's monitor.
-    fn monitor(&self, object: ObjectId) -> Monitor
+    /// What the thread waits for.
+    pub(crate) fn pause(&self, thread: Lane) -> Pause
+        requires { thread.0 < lanes_of self.now }
+        ensures pause { result ≡ pause_at self.now thread.0 }
+        ensures object { IsPauseOf (object_count self.now.schema) result }
+    {
+        self.pauses[usize::from(thread.0)]
+    }
+
+    /// How many threads there are.
+    pub(crate) fn lanes(&self) -> u8
+        ensures { result ≡ lanes_of self.now }
+    {
+        self.pauses.len() as u8
+    }
+
+    /// The object's monitor.
+    pub(crate) fn monitor(&self, object: ObjectId) -> Monitor
         requires { object.0 < object_count self.now.schema }
         ensures monitor { result ≡ monitor_at self.now object.0 }
         ensures rise { MayRise result }
@@ -300,4 +386,12 @@ fn free_monitors(alloc: Global, count: usize) -> Result<Vec<Monitor>, AllocError
 {
     let free = Monitor::Free { number: 0 };
     Ok(vec![in alloc; free; count]?)
+}
+
+// So many threads, all awake.
+fn awake(alloc: Global, lanes: u8) -> Result<Vec<Pause>, AllocError>
+    ensures { IfOk result (λ v. v.items ≡ replicate lanes Pause.Awake) }
+{
+    let pause = Pause::Awake;
+    Ok(vec![in alloc; pause; usize::from(lanes)]?)
 }

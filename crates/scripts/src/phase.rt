@@ -1,5 +1,5 @@
 //! The states of the machine, and the lines that each takes.
-ghost use Rattle.std.specs.Prelude.{◌≡◌, ◌↔◌, IfOk, IsTrue};
+ghost use Rattle.std.specs.Prelude.{◌≡◌, ◌≤◌, ◌↔◌, IfOk, IfSome, IsSome};
 ghost use Rattle.guards.specs.Schema.{nothing};
 ghost use Rattle.scripts.specs.Orders.{order_of, step_of};
 ghost use Rattle.scripts.specs.Orders as order;
@@ -12,11 +12,13 @@ use crate::answer::{Answer, Refusal};
 use crate::command::{Command, Step};
 use crate::declaring::Declaring;
 use crate::down::Down;
-use crate::one_lane::OneLane;
+use crate::monitors::Monitors;
+use crate::opening::{format_store, restore};
 use crate::running::Running;
 use block_disk::Fill;
 use heap_model::Lane;
 use image::Layout;
+use lock_word::LAST_NUMBER;
 use std::alloc::{AllocError, Global};
 
 /// The state of the machine.
@@ -57,12 +59,12 @@ impl Phase {
                 first,
             } => self.field(name, owner, guard, *first),
             Command::Format { lanes, capacity } => self.format(alloc, *lanes, *capacity),
-            Command::Step { thread, step } => self.thread_step(*thread, step),
+            Command::Step { thread, step } => self.thread_step(alloc, *thread, step),
             Command::Log => self.log(),
             Command::Home => self.home(),
             Command::Settle => self.settle(alloc),
             Command::Heap => self.heap(alloc),
-            Command::Crash { fill, back } => self.crash(alloc, *fill, *back),
+            Command::Crash { fill, back } => self.crash(*fill, *back),
             Command::Recover => self.recover(alloc),
             // Scripts have no such line yet: it ends a run before it comes here.
             Command::Trim | Command::Show => Ok(self.refuse()),
@@ -115,12 +117,17 @@ impl Phase {
         }
     }
 
-    fn thread_step(self, thread: Lane, step: &Step<'_>) -> Result<(Phase, Answer), AllocError>
+    fn thread_step(
+        self,
+        alloc: Global,
+        thread: Lane,
+        step: &Step<'_>,
+    ) -> Result<(Phase, Answer), AllocError>
         ensures { IfOk result (λ r. machine.Steps (shown self) (order.Act thread (step_of step.now)) r.1 (shown r.0)) }
     {
         match self {
             Phase::Running(mut running) => {
-                let answer = running.step(thread, step)?;
+                let answer = running.step(alloc, thread, step)?;
                 Ok((Phase::Running(running), answer))
             }
             other => Ok(other.refuse()),
@@ -175,18 +182,11 @@ impl Phase {
         }
     }
 
-    fn crash(self, alloc: Global, fill: Fill, back: u64) -> Result<(Phase, Answer), AllocError>
+    fn crash(self, fill: Fill, back: u64) -> Result<(Phase, Answer), AllocError>
         ensures { IfOk result (λ r. machine.Steps (shown self) (order.Crash fill back) r.1 (shown r.0)) }
     {
-        // Scripts have no other form of the line yet: it ends a run before it comes here.
-        if back != 0 || matches!(&fill, Fill::Byte(_)) {
-            return Ok(self.refuse());
-        }
         match self {
-            Phase::Running(running) => {
-                let (schema, disk) = running.crash(alloc, fill)?;
-                Ok((Phase::Down(Down::new(schema, disk)), Answer::Crashed))
-            }
+            Phase::Running(running) => crash_running(running, fill, back),
             other => Ok(other.refuse()),
         }
     }
@@ -195,12 +195,7 @@ impl Phase {
         ensures { IfOk result (λ r. machine.Steps (shown self) order.Recover r.1 (shown r.0)) }
     {
         match self {
-            Phase::Down(down) => match down.recover(alloc)? {
-                Ok((running, report)) => {
-                    Ok((Phase::Running(running), Answer::Recovered(report)))
-                }
-                Err((down, why)) => Ok((Phase::Down(down), Answer::Refused(why))),
-            },
+            Phase::Down(down) => recover_down(alloc, down),
             other => Ok(other.refuse()),
         }
     }
@@ -218,28 +213,56 @@ fn format_declared(
     if declaring.is_empty() {
         return Ok((Phase::Declaring(declaring), Answer::Refused(Refusal::Empty)));
     }
-    if !is_formattable(lanes, capacity) {
+    let Some((lanes, capacity)) = format_numbers(lanes, capacity) else {
         return Ok((
             Phase::Declaring(declaring),
             Answer::Refused(Refusal::BadHeader),
         ));
-    }
-    let schema = declaring.build();
-    // The store has the same limits, so it doesn't refuse these.
-    let Some(store) = OneLane::format(alloc, &schema, lanes, capacity)? else {
-        return Err(AllocError);
     };
-    let size = store.size();
-    let running = Running::formatted(alloc, schema, store)?;
+    let schema = declaring.build();
+    let (store, size) = format_store(alloc, &schema, lanes, capacity)?;
+    let monitors = Monitors::new(alloc, schema, LAST_NUMBER, lanes)?;
+    let running = Running::new(monitors, store);
     Ok((Phase::Running(running), Answer::Formatted(size)))
 }
 
-// Whether an image may have so many lanes, and room for so many records in each.
-fn is_formattable(lanes: u64, capacity: u64) -> bool
-    ensures { IsTrue result ↔ IsFormattable lanes capacity }
+// Crashes the device with all but the last `back` writes and syncs ended and the next begun.
+fn crash_running(running: Running, fill: Fill, back: u64) -> Result<(Phase, Answer), AllocError>
+    ensures { IfOk result (λ r. machine.Crashes (machine.Running running) r.1 (shown r.0) running fill back) }
+{
+    let Some(disk) = running.crash_image(fill, back)? else {
+        return Ok((Phase::Running(running), Answer::Refused(Refusal::Back)));
+    };
+    let down = Down::new(running.into_schema(), disk);
+    Ok((Phase::Down(down), Answer::Crashed))
+}
+
+// Recovers the device that a crash left.
+fn recover_down(alloc: Global, down: Down) -> Result<(Phase, Answer), AllocError>
+    ensures { IfOk result (λ r. machine.RecoversDevice (machine.Down down) r.1 (shown r.0) down) }
+{
+    let (schema, disk) = down.into_parts();
+    match restore(alloc, disk)? {
+        Ok((store, report)) => {
+            let lanes = store.layout().lanes;
+            let monitors = Monitors::with_values(alloc, schema, LAST_NUMBER, lanes, &report.heap)?;
+            let running = Running::new(monitors, store);
+            Ok((Phase::Running(running), Answer::Recovered(report)))
+        }
+        Err((disk, why)) => {
+            let down = Down::new(schema, disk);
+            Ok((Phase::Down(down), Answer::Refused(why)))
+        }
+    }
+}
+
+// The numbers of an image that may have so many lanes, and room for so many records in each.
+fn format_numbers(lanes: u64, capacity: u64) -> Option<(u8, u32)>
+    ensures limits { IsSome result ↔ IsFormattable lanes capacity }
+    ensures same { IfSome result (λ numbers. (numbers.0 ≡ lanes) × (numbers.1 ≡ capacity) × (numbers.0 ≤ 32)) }
 {
     let (Ok(lanes), Ok(capacity)) = (u8::try_from(lanes), u32::try_from(capacity)) else {
-        return false;
+        return None;
     };
     let smallest = Layout {
         objects: 1,
@@ -247,5 +270,8 @@ fn is_formattable(lanes: u64, capacity: u64) -> bool
         lanes,
         capacity,
     };
-    smallest.is_within_limits()
+    if !smallest.is_within_limits() {
+        return None;
+    }
+    Some((lanes, capacity))
 }

@@ -1,11 +1,12 @@
-//! How a script tells of what the schema, the monitors and the store refuse.
+//! How a script tells of what the schema, the monitors, the store and recovery refuse.
 ghost use Rattle.std.specs.Prelude.{◌≡◌};
-ghost use Rattle.scripts.specs.Refusals.{told_of_monitor, told_of_schema, told_of_store};
+ghost use Rattle.scripts.specs.Refusals.{told_of_monitor, told_of_recovery, told_of_schema, told_of_store};
 
 use crate::answer::Refusal;
 use crate::monitors::MonitorRefusal;
-use crate::one_lane::ApplyRefusal;
+use durable::StoreError;
 use guards::SchemaError;
+use recover::RecoverError;
 use std::alloc::AllocError;
 
 impl From<MonitorRefusal> for Refusal {
@@ -16,19 +17,45 @@ impl From<MonitorRefusal> for Refusal {
             MonitorRefusal::Held => Refusal::Held,
             MonitorRefusal::NotHeld => Refusal::NotHeld,
             MonitorRefusal::Worn => Refusal::Worn,
+            MonitorRefusal::NotWaiting => Refusal::NotWaiting,
+            MonitorRefusal::InSet => Refusal::InSet,
         }
     }
 }
 
-impl From<ApplyRefusal> for Refusal {
-    ghost from_gives = { λ why told. told ≡ told_of_store why };
+/// Why the store refuses a call. A fault of the device in memory is want of memory, and so is each call after it; the
+/// other reasons are none that the monitors leave.
+pub(crate) fn refused_call(why: StoreError) -> Result<Refusal, AllocError>
+    ensures { result ≡ told_of_store why }
+{
+    match why {
+        StoreError::Worn => Ok(Refusal::Worn),
+        StoreError::TooLong => Ok(Refusal::TooLong),
+        StoreError::LogFull => Ok(Refusal::LogFull),
+        StoreError::Unwritten => Ok(Refusal::Unwritten),
+        StoreError::Failed
+        | StoreError::BadLane
+        | StoreError::BadId
+        | StoreError::NotNext
+        | StoreError::Fault
+        | StoreError::Unfinished => Err(AllocError),
+    }
+}
 
-    fn from(why: ApplyRefusal) -> Refusal {
-        match why {
-            ApplyRefusal::Worn => Refusal::Worn,
-            ApplyRefusal::TooLong => Refusal::TooLong,
-            ApplyRefusal::LogFull => Refusal::LogFull,
-        }
+/// Why an image isn't recovered. A fault of the device in memory is want of memory, which is no refusal.
+pub(crate) fn refused_recovery(why: RecoverError) -> Result<Refusal, AllocError>
+    ensures { result ≡ told_of_recovery why }
+{
+    match why {
+        RecoverError::NotFormatted => Ok(Refusal::NotFormatted),
+        RecoverError::BadHeader => Ok(Refusal::BadHeader),
+        RecoverError::TooSmall => Ok(Refusal::TooSmall),
+        RecoverError::NoControl => Ok(Refusal::NoControl),
+        RecoverError::BadControl => Ok(Refusal::BadControl),
+        RecoverError::Worn => Ok(Refusal::Worn),
+        RecoverError::BadRecord { lane, place } => Ok(Refusal::BadRecord { lane, place }),
+        RecoverError::IllegalLog { lane, place } => Ok(Refusal::IllegalLog { lane, place }),
+        RecoverError::Fault | RecoverError::NoMemory => Err(AllocError),
     }
 }
 

@@ -1,70 +1,58 @@
 //! The machine while it runs: threads step on the monitors, and the store keeps what they do.
-ghost use Rattle.std.specs.Prelude.{◌≡◌, ◌<◌, IfOk, MatchResult, None};
+ghost use Rattle.std.specs.Prelude.{◌≡◌, ◌<◌, ◌≤◌, ◌+◌, ◌-◌, ℕ, IfOk, IfSome, MatchResult, MatchOption, None, length};
 ghost use Rattle.guards.specs.Schema.{Declarations, first_of, names_of, object_count, field_count};
+ghost use Rattle.block_disk.specs.Crash.{crash_bytes, done_at};
+ghost use Rattle.block_disk.specs.Memory.{fresh};
 ghost use Rattle.heap_model.specs.Events.{MayDo};
-ghost use Rattle.scripts.specs.Table.{setting_of, state_of, IsStepOf};
+ghost use Rattle.heap_model.specs.State.{Awake};
+ghost use Rattle.scripts.specs.Table.{lanes_of, setting_of, state_of, IsStepOf};
 ghost use Rattle.scripts.specs.Orders.{step_of};
+ghost use Rattle.scripts.specs.Orders as order;
 ghost use Rattle.scripts.specs.Lookups.{LooksUp, object_of, field_of};
 ghost use Rattle.scripts.specs.Machine as machine;
 
 use crate::answer::{Answer, Refusal};
 use crate::command::Step;
-use crate::logged::record_of;
 use crate::monitors::Monitors;
-use crate::one_lane::OneLane;
+use crate::refusals::refused_call;
+use crate::store_calls::{acknowledged_counts, applied_values, keep_record, write_homes};
 use block_disk::{Fill, MemDisk};
+use durable::Store;
 use guards::Schema;
 use heap_model::{Event, FieldId, Lane, ObjectId};
-use lock_word::LAST_NUMBER;
 use std::alloc::{AllocError, Global};
 use std::marker::Model;
 
-/// The one thread that steps: the store writes its lane, and no other yet.
-const WRITTEN_LANE: Lane = Lane(0);
-
-/// The monitors, and the store behind them. Contracts see the monitors.
+/// The monitors, and the store behind them.
 #[derive(Drop)]
 pub(crate) struct Running {
     monitors: Monitors,
-    store: OneLane,
+    store: Store<MemDisk>,
 }
 
 impl Model for Running {
-    ghost use Rattle.scripts.specs.Table.{Table};
+    ghost use Rattle.scripts.specs.States.{Live};
 
-    ghost Value = { Table };
+    ghost Value = { Live };
 
-    ghost view = { λ r. r.monitors };
+    ghost view = { λ r. record { monitors = r.monitors; store = r.store } };
 }
 
 impl Running {
-    /// The machine after a format: each field has its first value.
-    pub(crate) fn formatted(
-        alloc: Global,
-        schema: Schema,
-        store: OneLane,
-    ) -> Result<Running, AllocError>
-        ensures { IfOk result (machine.IsFresh schema (first_of schema)) }
+    /// These monitors over this store.
+    pub(crate) fn new(monitors: Monitors, store: Store<MemDisk>) -> Running
+        ensures { result ≡ record { monitors = monitors; store = store } }
     {
-        let monitors = Monitors::new(alloc, schema, LAST_NUMBER)?;
-        Ok(Running { monitors, store })
-    }
-
-    /// The machine after a recovery that gave this heap.
-    pub(crate) fn recovered(
-        alloc: Global,
-        schema: Schema,
-        store: OneLane,
-        heap: &[u64],
-    ) -> Result<Running, AllocError>
-        ensures { IfOk result (machine.IsRestored schema heap.now) }
-    {
-        let monitors = Monitors::with_values(alloc, schema, LAST_NUMBER, heap)?;
-        Ok(Running { monitors, store })
+        Running { monitors, store }
     }
 
     /// Takes the thread's step.
-    pub(crate) fn step(&mut self, thread: Lane, step: &Step<'_>) -> Result<Answer, AllocError>
+    pub(crate) fn step(
+        &mut self,
+        alloc: Global,
+        thread: Lane,
+        step: &Step<'_>,
+    ) -> Result<Answer, AllocError>
         ensures { IfOk result (λ answer. machine.StepsAs (machine.Running self.old) answer (machine.Running self.new) self.old thread.0 (step_of step.now)) }
     {
         match step {
@@ -72,41 +60,41 @@ impl Running {
             Step::Exit(name) => self.exit(thread, name),
             Step::Load(name) => Ok(self.load(thread, name)),
             Step::Store(name, value) => self.store(thread, name, *value),
-            // Scripts have no such line yet: it ends a run before it comes here.
-            Step::Wait(_) | Step::Resume | Step::Notify(_) | Step::NotifyAll(_) => {
-                Ok(Answer::Refused(Refusal::State))
-            }
+            Step::Wait(name) => self.wait(thread, name),
+            Step::Resume => self.resume(thread),
+            Step::Notify(name) => self.notify(alloc, thread, name),
+            Step::NotifyAll(name) => self.notify_all(alloc, thread, name),
         }
     }
 
     fn enter(&mut self, thread: Lane, name: &str) -> Result<Answer, AllocError>
-        ensures { IfOk result (λ answer. machine.EntersNamed (machine.Running self.old) answer (machine.Running self.new) self.old thread.0 name.now) }
+        ensures { IfOk result (λ answer. machine.StepsAs (machine.Running self.old) answer (machine.Running self.new) self.old thread.0 (order.Enter name.now)) }
     {
         let object = match self.object(thread, name) {
             Ok(object) => object,
             Err(why) => return Ok(Answer::Refused(why)),
         };
         match self.monitors.may_enter(thread, object) {
-            Ok(event) => self.perform(thread, &event),
+            Ok(event) => self.perform(thread, &event, Answer::Done),
             Err(why) => Ok(Answer::Refused(Refusal::from(why))),
         }
     }
 
     fn exit(&mut self, thread: Lane, name: &str) -> Result<Answer, AllocError>
-        ensures { IfOk result (λ answer. machine.ExitsNamed (machine.Running self.old) answer (machine.Running self.new) self.old thread.0 name.now) }
+        ensures { IfOk result (λ answer. machine.StepsAs (machine.Running self.old) answer (machine.Running self.new) self.old thread.0 (order.Exit name.now)) }
     {
         let object = match self.object(thread, name) {
             Ok(object) => object,
             Err(why) => return Ok(Answer::Refused(why)),
         };
         match self.monitors.may_exit(thread, object) {
-            Ok(event) => self.perform(thread, &event),
+            Ok(event) => self.perform(thread, &event, Answer::Done),
             Err(why) => Ok(Answer::Refused(Refusal::from(why))),
         }
     }
 
     fn load(&self, thread: Lane, name: &str) -> Answer
-        ensures { machine.LoadsNamed (machine.Running self.now) result (machine.Running self.now) self.now thread.0 name.now }
+        ensures { machine.StepsAs (machine.Running self.now) result (machine.Running self.now) self.now thread.0 (order.Load name.now) }
     {
         let field = match self.field(thread, name) {
             Ok(field) => field,
@@ -119,103 +107,179 @@ impl Running {
     }
 
     fn store(&mut self, thread: Lane, name: &str, value: u64) -> Result<Answer, AllocError>
-        ensures { IfOk result (λ answer. machine.StoresNamed (machine.Running self.old) answer (machine.Running self.new) self.old thread.0 name.now value) }
+        ensures { IfOk result (λ answer. machine.StepsAs (machine.Running self.old) answer (machine.Running self.new) self.old thread.0 (order.Store name.now value)) }
     {
         let field = match self.field(thread, name) {
             Ok(field) => field,
             Err(why) => return Ok(Answer::Refused(why)),
         };
         match self.monitors.may_store(thread, field, value) {
-            Ok(event) => self.perform(thread, &event),
+            Ok(event) => self.perform(thread, &event, Answer::Done),
             Err(why) => Ok(Answer::Refused(Refusal::from(why))),
         }
     }
 
+    fn wait(&mut self, thread: Lane, name: &str) -> Result<Answer, AllocError>
+        ensures { IfOk result (λ answer. machine.StepsAs (machine.Running self.old) answer (machine.Running self.new) self.old thread.0 (order.Wait name.now)) }
+    {
+        let object = match self.object(thread, name) {
+            Ok(object) => object,
+            Err(why) => return Ok(Answer::Refused(why)),
+        };
+        match self.monitors.may_wait(thread, object) {
+            Ok(event) => self.perform(thread, &event, Answer::Waiting),
+            Err(why) => Ok(Answer::Refused(Refusal::from(why))),
+        }
+    }
+
+    fn resume(&mut self, thread: Lane) -> Result<Answer, AllocError>
+        ensures { IfOk result (λ answer. machine.StepsAs (machine.Running self.old) answer (machine.Running self.new) self.old thread.0 order.Resume) }
+    {
+        if !self.monitors.has_lane(thread) {
+            return Ok(Answer::Refused(Refusal::Lane));
+        }
+        match self.monitors.may_resume(thread) {
+            Ok(event) => self.perform(thread, &event, Answer::Done),
+            Err(why) => Ok(Answer::Refused(Refusal::from(why))),
+        }
+    }
+
+    fn notify(&mut self, alloc: Global, thread: Lane, name: &str) -> Result<Answer, AllocError>
+        ensures { IfOk result (λ answer. machine.StepsAs (machine.Running self.old) answer (machine.Running self.new) self.old thread.0 (order.Notify name.now)) }
+    {
+        let object = match self.object(thread, name) {
+            Ok(object) => object,
+            Err(why) => return Ok(Answer::Refused(why)),
+        };
+        if !self.monitors.owns(thread, object) {
+            return Ok(Answer::Refused(Refusal::NotHeld));
+        }
+        let woken = self.monitors.notify(alloc, thread, object)?;
+        Ok(Answer::Woke(woken))
+    }
+
+    fn notify_all(&mut self, alloc: Global, thread: Lane, name: &str) -> Result<Answer, AllocError>
+        ensures { IfOk result (λ answer. machine.StepsAs (machine.Running self.old) answer (machine.Running self.new) self.old thread.0 (order.NotifyAll name.now)) }
+    {
+        let object = match self.object(thread, name) {
+            Ok(object) => object,
+            Err(why) => return Ok(Answer::Refused(why)),
+        };
+        if !self.monitors.owns(thread, object) {
+            return Ok(Answer::Refused(Refusal::NotHeld));
+        }
+        let woken = self.monitors.notify_all(alloc, thread, object)?;
+        Ok(Answer::Woke(woken))
+    }
+
     // The object that the thread's step names.
     fn object(&self, thread: Lane, name: &str) -> Result<ObjectId, Refusal>
-        ensures named { LooksUp object_of self.now.schema.objects name.now thread.0 result }
-        ensures within { IfOk result (λ o. o.0 < object_count self.now.schema) }
+        ensures named { LooksUp object_of self.now.monitors self.now.monitors.schema.objects name.now thread.0 result }
+        ensures within { IfOk result (λ o. o.0 < object_count self.now.monitors.schema) }
+        ensures lane { IfOk result (λ o. thread.0 < lanes_of self.now.monitors) }
+        ensures awake { IfOk result (λ o. (state_of self.now.monitors).waiting thread.0 ≡ Awake) }
     {
-        if thread != WRITTEN_LANE {
+        if !self.monitors.has_lane(thread) {
             return Err(Refusal::Lane);
         }
-        match self.monitors.schema().object_named(name) {
-            Some(object) => Ok(object),
-            None => Err(Refusal::Unknown),
+        let Some(object) = self.monitors.schema().object_named(name) else {
+            return Err(Refusal::Unknown);
+        };
+        if self.monitors.is_waiting(thread) {
+            return Err(Refusal::Waiting);
         }
+        Ok(object)
     }
 
     // The field that the thread's step names.
     fn field(&self, thread: Lane, name: &str) -> Result<FieldId, Refusal>
-        ensures named { LooksUp field_of (names_of self.now.schema.fields) name.now thread.0 result }
-        ensures within { IfOk result (λ f. f.0 < field_count self.now.schema) }
+        ensures named { LooksUp field_of self.now.monitors (names_of self.now.monitors.schema.fields) name.now thread.0 result }
+        ensures within { IfOk result (λ f. f.0 < field_count self.now.monitors.schema) }
+        ensures lane { IfOk result (λ f. thread.0 < lanes_of self.now.monitors) }
+        ensures awake { IfOk result (λ f. (state_of self.now.monitors).waiting thread.0 ≡ Awake) }
     {
-        if thread != WRITTEN_LANE {
+        if !self.monitors.has_lane(thread) {
             return Err(Refusal::Lane);
         }
-        match self.monitors.schema().field_named(name) {
-            Some(field) => Ok(field),
-            None => Err(Refusal::Unknown),
+        let Some(field) = self.monitors.schema().field_named(name) else {
+            return Err(Refusal::Unknown);
+        };
+        if self.monitors.is_waiting(thread) {
+            return Err(Refusal::Waiting);
         }
+        Ok(field)
     }
 
-    // Does the event, if the store takes its record. The store is asked first: what it refuses is not done.
-    fn perform(&mut self, thread: Lane, event: &Event) -> Result<Answer, AllocError>
-        requires kind { IsStepOf (setting_of self.old) event.now }
-        requires allowed { MayDo (setting_of self.old) (state_of self.old) thread.0 event.now }
-        ensures { IfOk result (λ answer. machine.Does (machine.Running self.old) answer (machine.Running self.new) self.old thread.0 event.now) }
+    // Does the event, if the store takes its record, and answers so. The store is asked first: what it refuses is not done.
+    fn perform(&mut self, thread: Lane, event: &Event, said: Answer) -> Result<Answer, AllocError>
+        requires lane { thread.0 < lanes_of self.old.monitors }
+        requires kind { IsStepOf (setting_of self.old.monitors) event.now }
+        requires allowed { MayDo (setting_of self.old.monitors) (state_of self.old.monitors) thread.0 event.now }
+        ensures { IfOk result (λ answer. machine.Does (machine.Running self.old) answer (machine.Running self.new) self.old thread.0 said event.now) }
     {
-        if let Some(next) = record_of(event) {
-            if let Err(why) = self.store.apply(next) {
-                return Ok(Answer::Refused(Refusal::from(why)));
-            }
+        if let Err(why) = keep_record(&mut self.store, thread, event) {
+            return Ok(Answer::Refused(refused_call(why)?));
         }
         self.monitors.perform(thread, event)?;
-        Ok(Answer::Done)
+        Ok(said)
     }
 
     /// Logs the records that no log has yet.
     pub(crate) fn log(&mut self) -> Result<Answer, AllocError>
-        ensures { IfOk result (λ answer. machine.LogsRecords (machine.Running self.old) answer (machine.Running self.new)) }
+        ensures { IfOk result (λ answer. machine.LogsRecords (machine.Running self.old) answer (machine.Running self.new) self.old) }
     {
-        Ok(Answer::Logged(self.store.log()?))
+        match self.store.log_step() {
+            Ok(records) => Ok(Answer::Logged(records)),
+            Err(why) => Ok(Answer::Refused(refused_call(why)?)),
+        }
     }
 
     /// Writes home until nothing is left to write.
     pub(crate) fn home(&mut self) -> Result<Answer, AllocError>
-        ensures { IfOk result (λ answer. machine.WritesHome (machine.Running self.old) answer (machine.Running self.new)) }
+        ensures { IfOk result (λ answer. machine.WritesHome (machine.Running self.old) answer (machine.Running self.new) self.old) }
     {
-        Ok(Answer::Wrote(self.store.home()?))
+        Ok(Answer::Wrote(write_homes(&mut self.store)?))
     }
 
     /// Settles what may be settled.
     pub(crate) fn settle(&mut self, alloc: Global) -> Result<Answer, AllocError>
-        ensures { IfOk result (λ answer. machine.Settles (machine.Running self.old) answer (machine.Running self.new)) }
+        ensures { IfOk result (λ answer. machine.Settles (machine.Running self.old) answer (machine.Running self.new) self.old) }
     {
-        match self.store.settle(alloc)? {
-            Some(sections) => Ok(Answer::Acknowledged(sections)),
-            None => Ok(Answer::Refused(Refusal::Unwritten)),
+        match self.store.settle() {
+            Ok(()) => Ok(Answer::Acknowledged(acknowledged_counts(alloc, &self.store)?)),
+            Err(why) => Ok(Answer::Refused(refused_call(why)?)),
         }
     }
 
-    /// The values of all fields.
+    /// The applied values of all fields.
     pub(crate) fn heap(&self, alloc: Global) -> Result<Answer, AllocError>
         ensures { IfOk result (λ answer. machine.TellsHeap (machine.Running self.now) answer (machine.Running self.now) self.now) }
     {
-        Ok(Answer::Heap(self.monitors.values().to_vec(alloc)?))
+        Ok(Answer::Heap(applied_values(alloc, &self.store)?))
     }
 
-    /// The schema, and what a crash leaves of the device.
-    pub(crate) fn crash(self, alloc: Global, fill: Fill) -> Result<(Schema, MemDisk), AllocError>
-        ensures { IfOk result (λ r. r.0 ≡ self.schema) }
+    /// What a crash leaves of the device with all but the last `back` writes and syncs ended and the next begun, if there
+    /// were so many.
+    pub(crate) fn crash_image(&self, fill: Fill, back: u64) -> Result<Option<MemDisk>, AllocError>
+        ensures { IfOk result (λ left. MatchOption left (length self.now.store.disk.stops < back)
+            (λ disk. (back ≤ length self.now.store.disk.stops) × (disk ≡ fresh (crash_bytes fill self.now.store.disk.first
+            (done_at (length self.now.store.disk.stops + 1 - back) self.now.store.disk.stops))))) }
     {
-        let disk = self.store.crash(alloc, fill)?;
-        let Running { monitors, .. } = self;
-        Ok((monitors.into_schema(), disk))
+        let disk = self.store.disk();
+        let stops = disk.stops();
+        if stops < back {
+            return Ok(None);
+        }
+        let Some(begun) = (stops - back).checked_add(1) else {
+            return Err(AllocError);
+        };
+        disk.crash_image(begun, fill)
     }
 
-    /// The size of the image, in bytes.
-    pub(crate) fn size(&self) -> u64 {
-        self.store.size()
+    /// The schema, without monitors and store.
+    pub(crate) fn into_schema(self) -> Schema
+        ensures { result ≡ self.monitors.schema }
+    {
+        self.monitors.into_schema()
     }
 }

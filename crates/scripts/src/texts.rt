@@ -1,10 +1,11 @@
 //! The text of an answer.
 ghost use Rattle.std.specs.Prelude.{◌≡◌, ◌+◌, ◌++◌, IfOk, OnOk, string_bytes};
-ghost use Rattle.scripts.specs.Texts.{text_of, list_line, dropped_line, dropped_lines, why_dropped, report_text, refused_line, why_refused, place_of, place_text};
-ghost use Rattle.scripts.specs.declared.answer.Why.TheVariants as kinds;
+ghost use Rattle.scripts.specs.Texts.{text_of, list_line, dropped_line, dropped_lines, why_dropped, report_text, refused_line, why_refused, place_of, place_text, woke_line, woken_threads};
+ghost use Rattle.recover.specs.declared.report.Why.TheVariants as kinds;
 
-use crate::answer::{Answer, Dropped, Refusal, Report, Why};
+use crate::answer::{Answer, Refusal, Report};
 use heap_model::Lane;
+use recover::{Dropped, Why};
 use std::alloc::{AllocError, Global};
 use std::fmt::Write;
 
@@ -16,6 +17,8 @@ pub fn text(alloc: Global, answer: &Answer) -> Result<String, AllocError>
         Answer::Silent => Ok(String::new(alloc)),
         Answer::Done => String::from_str(alloc, "ok\n"),
         Answer::Formatted(size) => format!(in alloc; "formatted {size}\n"),
+        Answer::Waiting => String::from_str(alloc, "waiting\n"),
+        Answer::Woke(lanes) => woke(alloc, lanes),
         Answer::Value(value) => format!(in alloc; "value {value}\n"),
         Answer::Logged(count) => format!(in alloc; "logged {count}\n"),
         Answer::Wrote(count) => format!(in alloc; "wrote {count}\n"),
@@ -44,6 +47,30 @@ fn push_list(text: &mut String, word: &str, numbers: &[u64]) -> Result<(), Alloc
         write!(text, " {number}")?;
     }
     text.push_str("\n")
+}
+
+fn woke(alloc: Global, lanes: &[Lane]) -> Result<String, AllocError>
+    ensures { IfOk result (λ text. string_bytes text ≡ woke_line lanes.now) }
+{
+    if lanes.is_empty() {
+        return String::from_str(alloc, "none\n");
+    }
+    let mut text = String::new(alloc);
+    text.push_str("woke")?;
+    push_threads(&mut text, lanes)?;
+    text.push_str("\n")?;
+    Ok(text)
+}
+
+// Adds the threads of these lanes.
+fn push_threads(text: &mut String, lanes: &[Lane]) -> Result<(), AllocError>
+    ensures { OnOk result (string_bytes text.new ≡ string_bytes text.old ++ woken_threads lanes.now) }
+{
+    for lane in lanes {
+        let thread = thread_number(*lane);
+        write!(text, " t{thread}")?;
+    }
+    Ok(())
 }
 
 fn recovered(alloc: Global, report: &Report) -> Result<String, AllocError>

@@ -1,19 +1,40 @@
-use Rattle.std.proofs.Common.{rules, refl, subst}
+use Rattle.std.proofs.Common.{◌≡◌, Bool, true, false, IsTrue, IsSome, refl, sym, ◌∙◌, ap, subst}
+use Rattle.durable.specs.Formatting.{layout_with}
+use Rattle.durable.specs.Past.{no_past}
 use Rattle.guards.specs.Schema.{Declarations, first_of}
+use Rattle.heap_model.specs.State.{initial_state}
+use Rattle.heap_model.specs.Setting.{Setting}
+use Rattle.image.specs.Layout.{size_of}
+use Rattle.lock_word.specs.declared.number.TheConstants.{LAST_NUMBER}
+use Rattle.scripts.specs.declared.answer.Answer.TheVariants.{Formatted}
 use Rattle.scripts.specs.Machine as machine
+use Rattle.scripts.specs.States.{Tells}
+use Rattle.scripts.specs.Table.{setting_in}
 use Rattle.scripts.proofs.phase.format_declared.Goals as goal
 
+not_both : (b : Bool) → IsTrue b → b ≡ false → ⊥
+not_both b is isnt = absurd (let both : true ≡ false = sym is ∙ isnt in cc)
+
 pub returns : goal.returns
-returns c = record {
-  refused = λ empty. absurd (let t = c.is_empty.ensures.1 empty in cc);
-  passed = λ some. record {
-    refused = λ bad. absurd (bad (c.is_formattable.ensures.0 (search rules)));
-    passed = λ good. record {
-      size = c.size-size.result;
-      table = c.in_ok-running.running;
-      answers = refl;
-      runs = refl;
-      fresh = subst (λ (d : Declarations). machine.IsFresh d (first_of d) c.in_ok-running.running) c.build-schema.ensures c.in_ok-running.ensures;
-    };
-  };
-}
+returns c =
+    let layout : layout_with c.build-schema.result c.in-Some.lanes c.in-Some.capacity ≡ layout_with c.args.declaring c.args.lanes c.args.capacity = λ i. layout_with (c.build-schema.ensures i) (c.in-Some.ensures.same.0 i) (c.in-Some.ensures.same.1 i) in
+    let schema = c.in_ok-monitors.ensures.schema in
+    record {
+      refused = λ empty. absurd (not_both c.is_empty.result (c.is_empty.ensures.1 empty) c.if-is_empty.false);
+      passed = λ some. record {
+        refused = λ bad. absurd (bad (c.format_numbers.ensures.limits.0 (subst IsSome (sym c.in-Some.is) refl)));
+        passed = λ good. record {
+          live = record { monitors = c.in_ok-monitors.monitors; store = c.in_ok-store.store };
+          answers = ap Formatted (c.in_ok-store.ensures.size ∙ ap size_of layout);
+          runs = ap machine.Running c.new-running.ensures;
+          layout = c.in_ok-store.ensures.layout ∙ layout;
+          fresh_monitors = record {
+            schema_is = schema ∙ c.build-schema.ensures;
+            last = c.in_ok-monitors.ensures.last;
+            lanes_are = c.in_ok-monitors.ensures.lanes ∙ c.in-Some.ensures.same.0;
+            state = c.in_ok-monitors.ensures.state ∙ ap (λ (d : Declarations). initial_state (first_of d)) c.build-schema.ensures;
+          };
+          tells = subst (λ (s : Setting). Tells c.in_ok-store.store s no_past) (λ i. setting_in (sym schema i) (sym c.in_ok-monitors.ensures.last i)) c.in_ok-store.ensures.tells;
+        };
+      };
+    }

@@ -107,7 +107,7 @@ pub returns-in_default : goal.returns-in_default
 returns-in_default g c =
     let worn : c.in-Err.reason ≡ Worn = ⊎_elim (λ is. is) (λ is. absurd (c.in_default.not-Fault is)) c.in-Err.ensures.no_other in
     let same = c.in-Err.ensures.no_call (ap Err worn) in
-    let device = same ∙ ap (λ z. g.D.Disk.device z.disk) c.self.view_is in
+    let device = ap g.D.Disk.device same ∙ ap (λ z. g.D.Disk.device z.disk) c.self.view_is in
     record {
       ok = λ s p has. tt;
       running = tt;
@@ -118,12 +118,9 @@ returns-in_default g c =
       none = λ s p has none. device;
       kept = λ s p has. (
           let was = to_parts g.D.Disk.device _ c.args.self.now (λ x d. HasPast x s p d) c.self.view_is has in
-          kept_has _ s p _ was _ _ _ c.in-Err.ensures.err refl same);
-      refused = inr (
-        (λ i. record { layout = c.self.inside.layout; committed = c.in-Err.ensures.err i; memory = c.self.inside.applied; logged = c.self.inside.sections; has_failed = c.self.inside.has_failed })
-            ∙ ap (λ z. z.known) c.self.view_is,
-        device,
-      );
+          kept_has _ s p _ was _ _ _ c.in-Err.ensures.err refl (ap g.D.Disk.device same));
+      refused = inr ((λ i. record { disk = same i; known = record { layout = c.self.inside.layout; committed = c.in-Err.ensures.err i; memory = c.self.inside.applied; logged = c.self.inside.sections; has_failed = c.self.inside.has_failed } })
+          ∙ c.self.view_is);
       failed = λ is. absurd (c.in_default.not-Fault (let same : c.in-Err.reason ≡ Fault = cc in same));
       any_moment = λ s p has. (
           let was = to_parts g.D.Disk.device _ c.args.self.now (λ x d. HasPast x s p d) c.self.view_is has in

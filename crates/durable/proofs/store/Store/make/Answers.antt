@@ -46,11 +46,11 @@ pub returns-in-Settle-clause-refused : goal.returns-in-Settle-clause-refused
 returns-in-Settle-clause-refused g c = λ s p has. settle_refused s p c.args.call c.settle.result c.args.self.now.known _ c.in-Settle.is (c.settle.ensures.answer s p has)
 
 pub returns-in-Err-clause-unchanged : goal.returns-in-Err-clause-unchanged
-returns-in-Err-clause-unchanged g c = ⊎_elim (λ fault. inl fault) (λ both. inr both.0) c.in-Err.ensures.refused
+returns-in-Err-clause-unchanged g c = ⊎_elim (λ fault. inl fault) (λ same. inr (ap (λ z. z.known) same)) c.in-Err.ensures.refused
 
 pub returns-in-Err-home_step-clause-unchanged : goal.returns-in-Err-home_step-clause-unchanged
-returns-in-Err-home_step-clause-unchanged g c = ⊎_elim (λ fault. inl fault) (λ both. inr both.0) c.in-Err-home_step.ensures.refused
+returns-in-Err-home_step-clause-unchanged g c = ⊎_elim (λ fault. inl fault) (λ same. inr (ap (λ z. z.known) same)) c.in-Err-home_step.ensures.refused
 
 pub returns-in-Settle-clause-unchanged : goal.returns-in-Settle-clause-unchanged
 returns-in-Settle-clause-unchanged g c =
-    if_err_weaker _ (λ e. (e ≡ Fault) ⊎ (c.settle.new.self.known ≡ c.args.self.now.known)) c.settle.result (λ e. ⊎_elim (λ fault. inl fault) (λ both. inr both.0)) c.settle.ensures.refused
+    if_err_weaker _ (λ e. (e ≡ Fault) ⊎ (c.settle.new.self.known ≡ c.args.self.now.known)) c.settle.result (λ e. ⊎_elim (λ fault. inl fault) (λ same. inr (ap (λ z. z.known) same))) c.settle.ensures.refused

@@ -94,7 +94,7 @@ pub returns-in_default : goal.returns-in_default
 returns-in_default g c =
     let worn : c.in-Err.reason ≡ Worn = ⊎_elim (λ is. is) (λ is. absurd (c.in_default.not-Fault is)) c.in-Err.ensures.no_other in
     let same = c.in-Err.ensures.no_call (ap Err worn) in
-    let device = same ∙ ap (λ z. g.D.Disk.device z.disk) c.self.view_is in
+    let device = ap g.D.Disk.device same ∙ ap (λ z. g.D.Disk.device z.disk) c.self.view_is in
     record {
       ok = λ s p cut has stable. tt;
       running = tt;
@@ -103,12 +103,9 @@ returns-in_default g c =
           from_parts g.D.Disk.device _ c.args.self.now (λ x d. RefusesSettle x s p c.in-Err.reason) c.self.view_is (settle_refused (record { layout = c.self.inside.layout; committed = c.self.inside.committed; memory = c.self.inside.applied; logged = c.self.inside.sections; has_failed = c.self.inside.has_failed }) s p c.in-Err.reason c.if-self.false worn (none_dirty s p c.least_dirty.result (sym c.is_some.ensures ∙ c.if-is_some.false) (c.least_dirty.ensures s p was.remembers)) (c.in-Err.ensures.worn.0 (ap Err worn))));
       kept = λ s p has. (
           let was = to_parts g.D.Disk.device _ c.args.self.now (λ x d. HasPast x s p d) c.self.view_is has in
-          kept_has _ s p _ was _ _ _ c.in-Err.ensures.err c.stable-stable.ensures.same same);
-      refused = inr (
-        (λ i. record { layout = c.self.inside.layout; committed = c.in-Err.ensures.err i; memory = c.self.inside.applied; logged = c.stable-stable.ensures.same i; has_failed = c.self.inside.has_failed })
-            ∙ ap (λ z. z.known) c.self.view_is,
-        device,
-      );
+          kept_has _ s p _ was _ _ _ c.in-Err.ensures.err c.stable-stable.ensures.same (ap g.D.Disk.device same));
+      refused = inr ((λ i. record { disk = same i; known = record { layout = c.self.inside.layout; committed = c.in-Err.ensures.err i; memory = c.self.inside.applied; logged = c.stable-stable.ensures.same i; has_failed = c.self.inside.has_failed } })
+          ∙ c.self.view_is);
       failed = λ is. absurd (c.in_default.not-Fault (let again : c.in-Err.reason ≡ Fault = cc in again));
       any_moment = λ s p cut has stable. (
           let was = to_parts g.D.Disk.device _ c.args.self.now (λ x d. HasPast x s p d) c.self.view_is has in

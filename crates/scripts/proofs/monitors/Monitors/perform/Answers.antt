@@ -1,7 +1,8 @@
-use Rattle.std.proofs.Common.{◌+◌, ◌-◌, ◌∙◌, sym, ap, arith, subst}
+use Rattle.std.proofs.Common.{ℕ, ◌+◌, ◌-◌, ◌∙◌, sym, ap, arith, subst}
 use Rattle.scripts.specs.declared.monitor.Monitor.TheVariants.{Free}
 use Rattle.scripts.specs.Monitor.{owner_in, count_in, number_in}
-use Rattle.scripts.specs.Table.{IsWhole}
+use Rattle.heap_model.specs.declared.event.Event.TheVariants.{Wait}
+use Rattle.scripts.specs.Table.{IsWhole, IsAfter}
 use Rattle.scripts.proofs.EventLemmas.{after-Enter, after-NestedEnter, after-NestedExit, after-Exit, after-Store}
 use Rattle.scripts.proofs.monitors.Monitors.perform.Goals as goal
 
@@ -50,3 +51,8 @@ pub returns-in-Store-clause-ok : goal.returns-in-Store-clause-ok
 returns-in-Store-clause-ok c =
     let whole : IsWhole c.args.self.now = subst IsWhole c.self.view_is c.self.invariant in
     rw c.in-Store.is (after-Store c.args.self.now c.set_value.new.self c.args.thread.0 whole c.in-Store.field c.in-Store.before c.in-Store.after (rw c.in-Store.is at c.requires.kind) c.set_value.ensures)
+
+pub returns-in-Wait-clause-ok : goal.returns-in-Wait-clause-ok
+returns-in-Wait-clause-ok c =
+    let allowed = rw c.in-Wait.is at c.requires.allowed in
+    rw c.in-Wait.is (subst (λ (n : ℕ). IsAfter c.args.self.now c.args.thread.0 (Wait c.in-Wait.object n) c.go_waiting.new.self) allowed.2 c.go_waiting.ensures)

@@ -1,0 +1,25 @@
+use Rattle.std.proofs.Common.{◌≡◌, ◌<◌, inl, refl, sym, ◌∙◌, ap, subst, slice_index}
+use Rattle.guards.specs.Schema.{Declarations, field_count}
+use Rattle.image.specs.declared.layout.Layout.{Layout}
+use Rattle.block_disk.specs.Memory.{Memory}
+use Rattle.scripts.specs.Machine as machine
+use Rattle.scripts.proofs.phase.recover_down.Goals as goal
+
+pub returns-in_ok-monitors-in-Ok : goal.returns-in_ok-monitors-in-Ok
+returns-in_ok-monitors-in-Ok c = inl (record {
+  live = record { monitors = c.in_ok-monitors-in-Ok.monitors; store = c.in-Ok.store };
+  report = c.in-Ok.report;
+  answers = refl;
+  runs = ap machine.Running c.new-running.ensures;
+  restores = rw c.in-Ok.is at c.in_ok-store.ensures;
+  restored = record {
+    first = slice_index c.in_ok-monitors-in-Ok.monitors.values;
+    fresh_monitors = record {
+      schema_is = c.in_ok-monitors-in-Ok.ensures.schema ∙ (ap (λ (p : Declarations × Memory). p.0) c.into_parts-schema.ensures);
+      last = c.in_ok-monitors-in-Ok.ensures.last;
+      lanes_are = c.in_ok-monitors-in-Ok.ensures.lanes ∙ ap (λ (l : Layout). l.lanes) c.layout-lanes.ensures;
+      state = c.in_ok-monitors-in-Ok.ensures.state;
+    };
+    values = λ f below. c.in_ok-monitors-in-Ok.ensures.values f (subst (λ (d : Declarations). f < field_count d) (sym (ap (λ (p : Declarations × Memory). p.0) c.into_parts-schema.ensures)) below) ∙ ap (λ xs. slice_index xs f) c.deref.ensures.value;
+  };
+})

@@ -1,0 +1,31 @@
+use Rattle.std.proofs.Common.{rules, ◌≡◌, ℕ, List, Some, Result, MatchResult, sym, ap, refl, subst}
+use Rattle.heap_model.specs.declared.ids.ObjectId.{ObjectId}
+use Rattle.heap_model.specs.State.{Awake}
+use Rattle.scripts.specs.declared.answer.Answer.{Answer}
+use Rattle.scripts.specs.declared.answer.Answer.TheVariants.{Woke}
+use Rattle.scripts.specs.declared.answer.Refusal.{Refusal}
+use Rattle.scripts.specs.Lookups.{object_of}
+use Rattle.scripts.specs.States.{Live}
+use Rattle.scripts.specs.Table.{state_of}
+use Rattle.scripts.specs.Machine as machine
+use Rattle.scripts.proofs.PlanLemmas.{looked_up, notified}
+use Rattle.scripts.proofs.StoreLemmas.{live}
+use Rattle.scripts.proofs.running.Running.notify.Goals as goal
+
+pub returns : goal.returns
+returns c =
+    let m : Live = c.args.self.now in
+    let m0 : Live = live c.self.inside.monitors c.self.inside.store in
+    let t : ℕ = c.args.thread.0 in
+    let o : ObjectId = c.in-Ok.object in
+    let table = c.notify.new.self in
+    let old : machine.MachineState = machine.Running m in
+    let new : machine.MachineState = machine.Running (live table c.self.inside.store) in
+    let said : Answer = Woke c.in_ok-woken.woken in
+    let w = c.in_ok-woken.ensures in
+    let awake : (state_of m0.monitors).waiting t ≡ Awake = subst (λ (z : Live). (state_of z.monitors).waiting t ≡ Awake) (sym c.self.view_is) c.in-Ok.ensures.awake in
+    let mine : (state_of m0.monitors).owner o.0 ≡ Some t = c.owns.ensures.0 (search rules) in
+    let woke : machine.Notifies old said new m t o = subst (λ (z : Live). machine.Notifies (machine.Running z) said new z t o) c.self.view_is
+    (notified (machine.Running m0) said new m0 t o table awake mine refl (ap Some w.woken) w.after) in
+    looked_up old said new object_of m m.monitors.schema.objects c.args.name.now t c.object.result (machine.Notifies old said new m t) c.object.ensures.named
+    (subst (λ (r : Result ObjectId Refusal). MatchResult r (machine.Notifies old said new m t) (machine.Refuses old said new)) (sym c.in-Ok.is) woke)

@@ -1,0 +1,11 @@
+use Rattle.std.proofs.Common.{◌≡◌, ◌+◌, ℕ}
+use Rattle.heap_model.specs.Setting.{Setting}
+use Rattle.durable.specs.Past.{Past}
+use Rattle.scripts.specs.Homes.{WriteHomes}
+use Rattle.scripts.specs.States.{Tells}
+use Rattle.scripts.proofs.store_calls.write_homes.Given as goal
+
+-- the store has what so many home writes leave: more of them go on from there
+abbrev pub invariant-loop-written : goal.invariant-loop-written
+invariant-loop-written l = (s : Setting) (p : Past) → Tells l.initial.store s p
+    → (now : Past) × Tells l.store s now × ((n : ℕ) (q : Past) → WriteHomes s now n q → WriteHomes s p (l.written + n) q)

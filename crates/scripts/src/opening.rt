@@ -1,0 +1,126 @@
+//! A store over a device in memory: of a new image, and of one that was recovered.
+ghost use Rattle.std.specs.Prelude.{◌≡◌, ◌<◌, ℕ, length, slice_index, IfOk, MatchResult};
+ghost use Rattle.heap_model.specs.Cuts.{counts_of};
+ghost use Rattle.heap_model.specs.Setting.{Setting};
+ghost use Rattle.image.specs.Layout.{size_of};
+ghost use Rattle.durable.specs.Begin.{IsSettingOf};
+ghost use Rattle.durable.specs.Formatting.{layout_with};
+ghost use Rattle.durable.specs.Past.{no_past};
+ghost use Rattle.scripts.specs.Reports.{Restores, RefusesDisk};
+ghost use Rattle.scripts.specs.States.{Tells};
+ghost use Rattle.scripts.specs.Table.{setting_in};
+
+use crate::answer::{Refusal, Report};
+use crate::refusals::refused_recovery;
+use block_disk::MemDisk;
+use durable::Store;
+use guards::Schema;
+use heap_model::Cut;
+use image::{Layout, Recovered};
+use lock_word::LAST_NUMBER;
+use recover::recover;
+use std::alloc::{AllocError, Global};
+
+/// Makes and formats a device of the image's size, for so many lanes with room for `capacity` records each: the store over
+/// it, and the image's size in bytes.
+///
+/// A fault of the device is want of memory.
+pub(crate) fn format_store(
+    alloc: Global,
+    schema: &Schema,
+    lanes: u8,
+    capacity: u32,
+) -> Result<(Store<MemDisk>, u64), AllocError>
+    ensures size { IfOk result (λ made. made.1 ≡ size_of (layout_with schema.now lanes capacity)) }
+    ensures layout { IfOk result (λ made. made.0.known.layout ≡ layout_with schema.now lanes capacity) }
+    ensures tells { IfOk result (λ made. Tells made.0 (setting_in schema.now LAST_NUMBER) no_past) }
+{
+    let Some(layout) = Layout::of(schema, lanes, capacity) else {
+        return Err(AllocError);
+    };
+    let size = layout.size();
+    let disk = MemDisk::new(alloc, size)?;
+    match Store::format(alloc, disk, schema, lanes, capacity) {
+        Ok(made) => Ok((adopt(alloc, made)?, size)),
+        Err(_) => Err(AllocError),
+    }
+}
+
+// The store over a device with empty logs.
+fn adopt(alloc: Global, recovered: Recovered<MemDisk>) -> Result<Store<MemDisk>, AllocError>
+    ensures layout { IfOk result (λ store. store.known.layout ≡ recovered.layout) }
+    ensures disk { IfOk result (λ store. store.disk ≡ recovered.disk) }
+    ensures tells { (s : Setting) → IsSettingOf recovered.layout recovered.guards recovered.heap LAST_NUMBER s → IfOk result (λ store. Tells store s no_past) }
+{
+    match Store::adopt(alloc, recovered, LAST_NUMBER) {
+        Ok(store) => Ok(store),
+        Err(_) => Err(AllocError),
+    }
+}
+
+/// Recovers the device: the store over it and what was found, or the device, which is refused. A fault of the device is
+/// want of memory.
+pub(crate) fn restore(
+    alloc: Global,
+    disk: MemDisk,
+) -> Result<Result<(Store<MemDisk>, Report), (MemDisk, Refusal)>, AllocError>
+    ensures { IfOk result (λ outcome. MatchResult outcome (λ made. Restores made.0 made.1) (λ back. RefusesDisk disk back.0 back.1)) }
+{
+    match recover(alloc, disk) {
+        Ok((recovered, found)) => Ok(Ok(restored(alloc, recovered, found)?)),
+        Err((disk, error)) => Ok(Err((disk, refused_recovery(error)?))),
+    }
+}
+
+// The store over a device that was recovered, and what is told of that.
+fn restored(
+    alloc: Global,
+    recovered: Recovered<MemDisk>,
+    found: recover::Report,
+) -> Result<(Store<MemDisk>, Report), AllocError>
+    ensures { IfOk result (λ made. Restores made.0 made.1) }
+{
+    let heap = recovered.heap().to_vec(alloc)?;
+    let store = adopt(alloc, recovered)?;
+    let report = report_of(alloc, found, heap, store.layout().lanes)?;
+    Ok((store, report))
+}
+
+// What was found, for so many lanes.
+fn report_of(
+    alloc: Global,
+    found: recover::Report,
+    heap: Vec<u64>,
+    lanes: u8,
+) -> Result<Report, AllocError>
+    ensures lanes { IfOk result (λ report. length report.kept.items ≡ lanes) }
+    ensures kept { IfOk result (λ report. (l : ℕ) → l < lanes → slice_index report.kept.items l ≡ counts_of found.kept l) }
+    ensures dropped { IfOk result (λ report. report.dropped ≡ found.dropped) }
+    ensures undone { IfOk result (λ report. report.undone ≡ found.undone) }
+    ensures heap { IfOk result (λ report. report.heap ≡ heap) }
+{
+    let recover::Report {
+        kept,
+        dropped,
+        undone,
+    } = found;
+    let kept = kept_counts(alloc, &kept, lanes)?;
+    Ok(Report {
+        kept,
+        dropped,
+        undone: u64::from(undone),
+        heap,
+    })
+}
+
+// The kept sections of each of so many lanes.
+fn kept_counts(alloc: Global, kept: &Cut, lanes: u8) -> Result<Vec<u64>, AllocError>
+    ensures count { IfOk result (λ v. length v.items ≡ lanes) }
+    ensures counts { IfOk result (λ v. (l : ℕ) → l < lanes → slice_index v.items l ≡ counts_of kept.now l) }
+{
+    let mut counts = Vec::with_capacity(alloc, usize::from(lanes))?;
+    for lane in 0..usize::from(lanes) {
+        counts.push(kept.counts.get(lane).copied().unwrap_or(0))?;
+    }
+    Ok(counts)
+}
