@@ -19,6 +19,7 @@ ghost use Rattle.durable.specs.Remembers.{Remembers};
 ghost use Rattle.durable.specs.Sections.{TellsSections};
 ghost use Rattle.durable.specs.Store.{HasPast, ShowsStep, StandsForStep};
 ghost use Rattle.durable.specs.declared.error.StoreError.TheVariants.{Fault};
+ghost use Rattle.durable.specs.declared.home.Home.TheVariants.{Done};
 
 use crate::applied::Applied;
 use crate::committed::Committed;
@@ -177,13 +178,17 @@ impl<D: Disk> Store<D> {
 
     /// Writes the least dirty field's logged value into its home cell, in one write, or answers that no field is dirty.
     ///
-    /// The time is amortized constant. Refusals, in this order: `Failed`, after which nothing has changed; `Fault`.
+    /// With no dirty field it takes no call of the device. The time is amortized constant. Refusals, in this order: `Failed`,
+    /// after which nothing has changed; `Fault`.
     pub fn home_step(&mut self) -> Result<Home, StoreError>
         ensures ok { (s : Setting) (p : Past) → HasPast self.old.known s p (D.device self.old.disk)
             → IfOk result (λ home. HasPast self.new.known s (after_home_step p home) (D.device self.new.disk)) }
         ensures running { OnOk result ((self.old.known.has_failed ≡ false) × (self.new.known.has_failed ≡ false)) }
         ensures answer { (s : Setting) (p : Past) → HasPast self.old.known s p (D.device self.old.disk)
             → MatchResult result (λ home. (self.old.known.has_failed ≡ false) × AnswersHome s p home) (RefusesHome self.old.known) }
+        ensures done { result ≡ Ok Done → self.new ≡ self.old }
+        ensures none { (s : Setting) (p : Past) → HasPast self.old.known s p (D.device self.old.disk)
+            → IsClean s p → self.new ≡ self.old }
         ensures kept { (s : Setting) (p : Past) → HasPast self.old.known s p (D.device self.old.disk)
             → OnErr result (HasPast self.new.known s p (D.device self.new.disk)) }
         ensures refused { IfErr result (λ e. (e ≡ Fault) ⊎ (self.new ≡ self.old)) }

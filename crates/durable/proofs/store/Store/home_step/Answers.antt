@@ -57,6 +57,12 @@ returns-in-Ok-clause-answer g c = λ s p has.
     let was = to_parts g.D.Disk.device _ c.args.self.now (λ x d. HasPast x s p d) c.self.view_is has in
     from_parts g.D.Disk.device _ c.args.self.now (λ x d. (x.has_failed ≡ false) × IsLeastDirtyOf s p c.in-Some.field.0) c.self.view_is (c.if-self.false, c.in-Some.ensures s p was.remembers)
 
+pub returns-in-Ok-clause-none : goal.returns-in-Ok-clause-none
+returns-in-Ok-clause-none g c = λ s p has clean.
+    let was = to_parts g.D.Disk.device _ c.args.self.now (λ x d. HasPast x s p d) c.self.view_is has in
+    let least = c.in-Some.ensures s p was.remembers in
+    absurd (let no : true ≡ false = sym least.among ∙ clean c.in-Some.field.0 least.field_is in cc)
+
 pub returns-in-Ok-clause-any_moment : goal.returns-in-Ok-clause-any_moment
 returns-in-Ok-clause-any_moment g c = λ s p has.
     let was = to_parts g.D.Disk.device _ c.args.self.now (λ x d. HasPast x s p d) c.self.view_is has in
@@ -74,6 +80,12 @@ returns-in-Err-clause-kept g c = λ s p has.
     let was = to_parts g.D.Disk.device _ c.args.self.now (λ x d. HasPast x s p d) c.self.view_is has in
     let may = may_go_home _ s p _ was c.in-Some.field.0 c.logged_value-value.result c.if-self.false (c.in-Some.ensures s p was.remembers) (c.logged_value-value.ensures s p was.remembers) in
     failed_has _ s p _ was _ _ _ refl refl (shows_now _ s p _ was _ c.if-self.false (c.in-Err.ensures.shown s p _ may))
+
+pub returns-in-Err-clause-none : goal.returns-in-Err-clause-none
+returns-in-Err-clause-none g c = λ s p has clean.
+    let was = to_parts g.D.Disk.device _ c.args.self.now (λ x d. HasPast x s p d) c.self.view_is has in
+    let least = c.in-Some.ensures s p was.remembers in
+    absurd (let no : true ≡ false = sym least.among ∙ clean c.in-Some.field.0 least.field_is in cc)
 
 pub returns-in-Err-clause-any_moment : goal.returns-in-Err-clause-any_moment
 returns-in-Err-clause-any_moment g c = λ s p has.
