@@ -1,5 +1,5 @@
 -- What one call of a store makes of its past, and what a list of them does.
-use Rattle.std.proofs.Common.{ℕ, ◌≡◌, ◌≢◌, ◌<◌, ◌≤◌, ◌+◌, ◌⊎◌, ◌∷◌, ◌++◌, [], List, Some, Result, Ok, Err, IfErr, OnOk, MatchResult, false, length, take, slice_get, refl, sym, ap, inl, inr, ⊎_elim, ◌∙◌, subst, arith}
+use Rattle.std.proofs.Common.{ℕ, zero, suc, ◌≡◌, ◌≢◌, ◌<◌, ◌≤◌, ◌+◌, ◌⊎◌, ◌∷◌, ◌++◌, [], List, None, Some, Result, Ok, Err, IfErr, OnOk, MatchResult, false, length, take, slice_get, refl, sym, ap, inl, inr, ⊎_elim, ◌∙◌, subst, arith}
 use Rattle.std.proofs.lemmas.List.{take_more, take_all}
 use Rattle.std.proofs.lemmas.Option.{get_or_from_slice_get}
 use Rattle.heap_model.specs.declared.ids.Lane.{Lane}
@@ -16,7 +16,7 @@ use Rattle.durable.specs.declared.error.StoreError.TheVariants.{Fault}
 use Rattle.durable.specs.declared.store_call.StoreCall.{StoreCall}
 use Rattle.durable.specs.declared.store_call.StoreCall.TheVariants.{Apply, Settle}
 use Rattle.durable.specs.Fresh.{IsOfLanes}
-use Rattle.durable.specs.Calls.{IsClean, MakeAll, Makes, RefusesApply, RefusesSettle, RefusesCall, ShowsAfterSome, StandsAfterSome, StoppedAt}
+use Rattle.durable.specs.Calls.{AreQuiet, IsClean, IsQuiet, MakeAll, Makes, RefusesApply, RefusesSettle, RefusesCall, ShowsAfterSome, StandsAfterSome, StoppedAt}
 use Rattle.durable.specs.Past.{Past, applied, after_apply, after_settle}
 use Rattle.durable.specs.Store.{Known, HasPast, ShowsStep, StandsForStep}
 use Rattle.durable.proofs.Showing.{past_stands}
@@ -67,6 +67,7 @@ pub record Played (old new : Known) (d0 d1 : Device) (calls : List StoreCall) (n
   pub made : (s : Setting) (p : Past) → HasPast old s p d0 → (q : Past) × MakeAll s p (take n calls) q × HasPast new s q d1
   pub shown : (s : Setting) (p : Past) → HasPast old s p d0 → LeavesOnly d0 d1 (ShowsAfterSome old.layout s p calls)
   pub stands : (s : Setting) (p : Past) → HasPast old s p d0 → LeavesOnly d0 d1 (StandsAfterSome old.layout s p calls)
+  pub quiet : (s : Setting) (p : Past) → HasPast old s p d0 → AreQuiet s p calls → d1 ≡ d0
 
 pub played_none : (old : Known) (d : Device) (calls : List StoreCall) → Played old old d d calls 0
 played_none old d calls = record {
@@ -77,6 +78,7 @@ played_none old d calls = record {
   made = λ s p has. (p, refl, has);
   shown = λ s p has. begin d (ShowsAfterSome old.layout s p calls);
   stands = λ s p has. begin d (StandsAfterSome old.layout s p calls);
+  quiet = λ s p has are. refl;
 }
 
 -- one call more
@@ -84,8 +86,21 @@ made_more : (s : Setting) (p q r : Past) (calls : List StoreCall) (call : StoreC
 made_more s p q r [] call made makes = (r, subst (λ (m : Past). Makes s m call r) made makes, refl)
 made_more s p q r (first ∷ calls) call (mid, one, made) makes = (mid, one, made_more s mid q r calls call made makes)
 
+-- each of quiet calls is quiet when its turn comes
+quiet_at : (s : Setting) (p q : Past) (calls : List StoreCall) (n : ℕ) (call : StoreCall) → AreQuiet s p calls → MakeAll s p (take n calls) q → slice_get calls n ≡ Some call → IsQuiet s q call
+quiet_at s p q [] n call are made is = absurd (let no : None ≡ Some call = is in cc)
+quiet_at s p q (first ∷ calls) zero call are made is = subst (λ (m : Past). IsQuiet s m call) (sym made) (subst (λ (c : StoreCall). IsQuiet s p c) (let same : Some first ≡ Some call = is in cc) are.0)
+quiet_at s p q (first ∷ calls) (suc n) call are (mid, one, made) is = quiet_at s mid q calls n call (are.1 mid one) made is
+
 module _ (old mid : Known) (d0 d1 d2 : Device) (calls : List StoreCall) (n : ℕ) (was : Played old mid d0 d1 calls n) (lt : n < length calls)
     (shows : (s : Setting) (p : Past) → HasPast mid s p d1 → LeavesOnly d1 d2 (ShowsStep mid.layout s p)) where
+  -- quiet calls leave the device
+  pub quiet_on : (call : StoreCall) → slice_get calls n ≡ Some call → ((s : Setting) (p : Past) → HasPast mid s p d1 → IsQuiet s p call → d2 ≡ d1) →
+      (s : Setting) (p : Past) → HasPast old s p d0 → AreQuiet s p calls → d2 ≡ d0
+  quiet_on call is quiet s p has are =
+      let made = was.made s p has in
+      quiet s made.0 made.2 (quiet_at s p made.0 calls n call are made.1 is) ∙ was.quiet s p has are
+
   -- whatever it answered
   pub shown_on : (s : Setting) (p : Past) → HasPast old s p d0 → LeavesOnly d0 d2 (ShowsAfterSome old.layout s p calls)
   shown_on s p has =
@@ -114,8 +129,9 @@ module _ (old mid : Known) (d0 d1 d2 : Device) (calls : List StoreCall) (n : ℕ
       }) (shows s made.0 made.2))
 
   pub played_more : (new : Known) (call : StoreCall) → new.layout ≡ mid.layout → (mid.has_failed ≡ false) × (new.has_failed ≡ false) → d1.failures ≤ d2.failures → slice_get calls n ≡ Some call →
-      ((s : Setting) (p : Past) → HasPast mid s p d1 → (q : Past) × Makes s p call q × HasPast new s q d2) → Played old new d0 d2 calls (n + 1)
-  played_more new call layout running later is makes = record {
+      ((s : Setting) (p : Past) → HasPast mid s p d1 → (q : Past) × Makes s p call q × HasPast new s q d2) →
+      ((s : Setting) (p : Past) → HasPast mid s p d1 → IsQuiet s p call → d2 ≡ d1) → Played old new d0 d2 calls (n + 1)
+  played_more new call layout running later is makes quiet = record {
     within = omega arith;
     layout = layout ∙ was.layout;
     running = running.1 ∙ sym running.0 ∙ was.running;
@@ -127,13 +143,14 @@ module _ (old mid : Known) (d0 d1 d2 : Device) (calls : List StoreCall) (n : ℕ
         (next.0, subst (λ cs. MakeAll s p cs next.0) (sym longer) (made_more s p made.0 next.0 (take n calls) call made.1 next.1), next.2);
     shown = shown_on;
     stands = stands_on;
+    quiet = quiet_on call is quiet;
   }
 
   pub stopped : (new : Known) (call : StoreCall) (reason : StoreError) → slice_get calls n ≡ Some call → ((s : Setting) (p : Past) → HasPast mid s p d1 → RefusesCall mid s p call reason) →
-      ((s : Setting) (p : Past) → HasPast mid s p d1 → HasPast new s p d2) → (reason ≡ Fault) ⊎ (new ≡ mid) → (s : Setting) (p : Past) → HasPast old s p d0 → StoppedAt s p calls old new d2 n reason
-  stopped new call reason is refuses kept unchanged s p has =
+      ((s : Setting) (p : Past) → HasPast mid s p d1 → HasPast new s p d2) → (reason ≡ Fault) ⊎ (new ≡ mid) → (reason ≡ Fault) ⊎ (d2 ≡ d1) → (s : Setting) (p : Past) → HasPast old s p d0 → StoppedAt s p calls old new d2 n reason
+  stopped new call reason is refuses kept unchanged untouched s p has =
       let made = was.made s p has in
-      record { call = call; is = is; then = made.0; made = made.1; has = kept s made.0 made.2; known = mid; device = d1; had = made.2; running = was.running; refused = refuses s made.0 made.2; unchanged = ⊎_elim (λ fault. inl fault) (λ same. inr (sym same)) unchanged }
+      record { call = call; is = is; then = made.0; made = made.1; has = kept s made.0 made.2; known = mid; device = d1; had = made.2; running = was.running; refused = refuses s made.0 made.2; unchanged = ⊎_elim (λ fault. inl fault) (λ same. inr (sym same)) unchanged; untouched = ⊎_elim (λ fault. inl fault) (λ same. inr (sym same)) untouched }
 
 -- all of them
 pub played_all : (old new : Known) (d0 d1 : Device) (calls : List StoreCall) (n : ℕ) → Played old new d0 d1 calls n → length calls ≤ n →

@@ -94,6 +94,18 @@ Makes s p Log q = q ≡ after_log p
 Makes s p HomeStep q = (home : Home) × AnswersHome s p home × (q ≡ after_home_step p home)
 Makes s p Settle q = (cut : ℕ → ℕ) × IsClean s p × IsStable (actions p.logged) cut × (q ≡ after_settle p cut)
 
+-- The call doesn't touch the device: a record is told, or nothing is there to be logged or to be written home.
+abbrev pub IsQuiet : Setting → Past → StoreCall → Type 0
+IsQuiet s p (Apply l r) = Unit {0}
+IsQuiet s p Log = p.fresh ≡ []
+IsQuiet s p HomeStep = IsClean s p
+IsQuiet s p Settle = ⊥
+
+-- so is each of these calls, after those before it
+abbrev pub AreQuiet : Setting → Past → List StoreCall → Type 0
+AreQuiet s p [] = Unit {0}
+AreQuiet s p (call ∷ calls) = IsQuiet s p call × ((next : Past) → Makes s p call next → AreQuiet s next calls)
+
 -- what a list of calls makes of it, the first of them first
 abbrev pub MakeAll : Setting → Past → List StoreCall → Past → Type 0
 MakeAll s p [] q = q ≡ p
@@ -118,7 +130,8 @@ pub record StandsAfterSome (l : Layout) (s : Setting) (p : Past) (calls : List S
   pub made : MakeAll s p (take n calls) then
   pub stands : StandsForStep l s then image
 
--- So many calls were made, none with a fault, and the next was refused for this reason: but for a fault it left the store as it was.
+-- So many calls were made, none with a fault, and the next was refused for this reason: but for a fault it left the store and its
+-- device as they were.
 pub record StoppedAt (s : Setting) (p : Past) (calls : List StoreCall) (old new : Known) (d : Device) (n : ℕ) (reason : StoreError) : Type 0 where
   pub call : StoreCall
   pub is : slice_get calls n ≡ Some call
@@ -132,3 +145,4 @@ pub record StoppedAt (s : Setting) (p : Past) (calls : List StoreCall) (old new 
   pub running : known.has_failed ≡ old.has_failed
   pub refused : RefusesCall known s then call reason
   pub unchanged : (reason ≡ Fault) ⊎ (known ≡ new)
+  pub untouched : (reason ≡ Fault) ⊎ (device ≡ d)

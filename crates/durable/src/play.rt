@@ -3,7 +3,7 @@ ghost use Rattle.std.specs.Prelude.{◌≡◌, ◌⊎◌, ℕ, true, false, IfEr
 ghost use Rattle.block_disk.specs.Device.{HasCause, HasFailed};
 ghost use Rattle.block_disk.specs.Images.{LeavesOnly};
 ghost use Rattle.heap_model.specs.Setting.{Setting};
-ghost use Rattle.durable.specs.Calls.{MakeAll, Makes, RefusesCall, ShowsAfterSome, StandsAfterSome, StoppedAt};
+ghost use Rattle.durable.specs.Calls.{AreQuiet, IsQuiet, MakeAll, Makes, RefusesCall, ShowsAfterSome, StandsAfterSome, StoppedAt};
 ghost use Rattle.durable.specs.Past.{Past};
 ghost use Rattle.durable.specs.Store.{HasPast, ShowsStep};
 ghost use Rattle.durable.specs.declared.error.StoreError.TheVariants.{Fault};
@@ -15,7 +15,7 @@ use block_disk::Disk;
 
 impl<D: Disk> Store<D> {
     /// Makes these calls, in order. It stops at the first refusal, and answers its place among them and the reason; what was
-    /// done before it stands.
+    /// done before it stands. Where no call has anything to write the device isn't called.
     ///
     /// Whatever a crash leaves at any moment stands for the heap that was acknowledged after some of the calls, or that the
     /// next settling acknowledges.
@@ -25,6 +25,8 @@ impl<D: Disk> Store<D> {
         ensures stopped { (s : Setting) (p : Past) → HasPast self.old.known s p (D.device self.old.disk)
             → IfErr result (λ e. StoppedAt s p calls.now self.old.known self.new.known (D.device self.new.disk) e.0 e.1) }
         ensures running { OnOk result (self.new.known.has_failed ≡ self.old.known.has_failed) }
+        ensures quiet { (s : Setting) (p : Past) → HasPast self.old.known s p (D.device self.old.disk)
+            → AreQuiet s p calls.now → D.device self.new.disk ≡ D.device self.old.disk }
         ensures shown { (s : Setting) (p : Past) → HasPast self.old.known s p (D.device self.old.disk)
             → LeavesOnly (D.device self.old.disk) (D.device self.new.disk) (ShowsAfterSome self.old.known.layout s p calls.now) }
         ensures any_moment { (s : Setting) (p : Past) → HasPast self.old.known s p (D.device self.old.disk)
@@ -50,7 +52,9 @@ impl<D: Disk> Store<D> {
         ensures kept { (s : Setting) (p : Past) → HasPast self.old.known s p (D.device self.old.disk)
             → OnErr result (HasPast self.new.known s p (D.device self.new.disk)) }
         ensures running { OnOk result ((self.old.known.has_failed ≡ false) × (self.new.known.has_failed ≡ false)) }
-        ensures unchanged { IfErr result (λ e. (e ≡ Fault) ⊎ (self.new.known ≡ self.old.known)) }
+        ensures quiet { (s : Setting) (p : Past) → HasPast self.old.known s p (D.device self.old.disk)
+            → IsQuiet s p call → D.device self.new.disk ≡ D.device self.old.disk }
+        ensures unchanged { IfErr result (λ e. (e ≡ Fault) ⊎ (self.new ≡ self.old)) }
         ensures failed { IsErrOf result Fault → self.new.known.has_failed ≡ true }
         ensures shown { (s : Setting) (p : Past) → HasPast self.old.known s p (D.device self.old.disk)
             → LeavesOnly (D.device self.old.disk) (D.device self.new.disk) (ShowsStep self.old.known.layout s p) }

@@ -5,7 +5,7 @@ use Rattle.std.proofs.Common.{◌≡◌, ℕ, ◌≤◌, false, refl, sym, ap, s
 use Rattle.heap_model.proofs.Existence.{stable_exists}
 use Rattle.heap_model.specs.Sections.{actions}
 use Rattle.durable.specs.declared.store_call.StoreCall.{StoreCall}
-use Rattle.durable.specs.Calls.{Makes, RefusesCall, after_home_step}
+use Rattle.durable.specs.Calls.{IsQuiet, Makes, RefusesCall, after_home_step}
 use Rattle.durable.specs.Past.{after_log}
 use Rattle.durable.proofs.Playing.{apply_made, apply_refused, settle_made, settle_refused, no_cause}
 use Rattle.durable.proofs.store.Store.make.Goals as goal
@@ -45,12 +45,22 @@ returns-in-Settle-clause-ok g c = λ s p has.
 pub returns-in-Settle-clause-refused : goal.returns-in-Settle-clause-refused
 returns-in-Settle-clause-refused g c = λ s p has. settle_refused s p c.args.call c.settle.result c.args.self.now.known _ c.in-Settle.is (c.settle.ensures.answer s p has)
 
-pub returns-in-Err-clause-unchanged : goal.returns-in-Err-clause-unchanged
-returns-in-Err-clause-unchanged g c = ⊎_elim (λ fault. inl fault) (λ same. inr (ap (λ z. z.known) same)) c.in-Err.ensures.refused
+pub returns-in-Apply-clause-quiet : goal.returns-in-Apply-clause-quiet
+returns-in-Apply-clause-quiet g c = λ s p has quiet. ap g.D.Disk.device c.apply.ensures.disk
 
-pub returns-in-Err-home_step-clause-unchanged : goal.returns-in-Err-home_step-clause-unchanged
-returns-in-Err-home_step-clause-unchanged g c = ⊎_elim (λ fault. inl fault) (λ same. inr (ap (λ z. z.known) same)) c.in-Err-home_step.ensures.refused
+pub returns-in-Ok-clause-quiet : goal.returns-in-Ok-clause-quiet
+returns-in-Ok-clause-quiet g c = λ s p has quiet. c.in-Ok.ensures.none s p has (subst (λ (call : StoreCall). IsQuiet s p call) c.in-Log.is quiet)
 
-pub returns-in-Settle-clause-unchanged : goal.returns-in-Settle-clause-unchanged
-returns-in-Settle-clause-unchanged g c =
-    if_err_weaker _ (λ e. (e ≡ Fault) ⊎ (c.settle.new.self.known ≡ c.args.self.now.known)) c.settle.result (λ e. ⊎_elim (λ fault. inl fault) (λ same. inr (ap (λ z. z.known) same))) c.settle.ensures.refused
+pub returns-in-Err-clause-quiet : goal.returns-in-Err-clause-quiet
+returns-in-Err-clause-quiet g c = λ s p has quiet. c.in-Err.ensures.none s p has (subst (λ (call : StoreCall). IsQuiet s p call) c.in-Log.is quiet)
+
+pub returns-in-Ok-home_step-clause-quiet : goal.returns-in-Ok-home_step-clause-quiet
+returns-in-Ok-home_step-clause-quiet g c = λ s p has quiet.
+    ap (λ z. g.D.Disk.device z.disk) (c.in-Ok-home_step.ensures.none s p has (subst (λ (call : StoreCall). IsQuiet s p call) c.in-Home.is quiet))
+
+pub returns-in-Err-home_step-clause-quiet : goal.returns-in-Err-home_step-clause-quiet
+returns-in-Err-home_step-clause-quiet g c = λ s p has quiet.
+    ap (λ z. g.D.Disk.device z.disk) (c.in-Err-home_step.ensures.none s p has (subst (λ (call : StoreCall). IsQuiet s p call) c.in-Home.is quiet))
+
+pub returns-in-Settle-clause-quiet : goal.returns-in-Settle-clause-quiet
+returns-in-Settle-clause-quiet g c = λ s p has quiet. absurd (subst (λ (call : StoreCall). IsQuiet s p call) c.in-Settle.is quiet)

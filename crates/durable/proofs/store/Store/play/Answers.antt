@@ -1,6 +1,6 @@
 use Rattle.std.proofs.Common.{◌∙◌, ap, inl, inr, ⊎_elim, arith}
 use Rattle.std.proofs.lemmas.Option.{slice_get-get_or}
-use Rattle.durable.proofs.Playing.{played_none, shown_on, stands_on, played_more, played_all, stopped, fault_since}
+use Rattle.durable.proofs.Playing.{played_none, shown_on, stands_on, played_more, played_all, quiet_on, stopped, fault_since}
 use Rattle.durable.proofs.store.Store.play.Goals as goal
 
 pub loop-place-init : goal.loop-place-init
@@ -10,7 +10,9 @@ pub returns-in-Err-clause-stopped : goal.returns-in-Err-clause-stopped
 returns-in-Err-clause-stopped g c =
     stopped c.args.self.now.known c.loop-place.self.known (g.D.Disk.device c.args.self.now.disk) (g.D.Disk.device c.loop-place.self.disk) (g.D.Disk.device c.make.new.self.disk)
     c.args.calls.now c.loop-place.place c.loop-place.invariant c.loop-place-test.true c.make.ensures.shown c.make.new.self.known _ c.in-Err.reason (slice_get-get_or c.args.calls.now c.loop-place.place _ c.loop-place-test.true)
-    c.in-Err.ensures.refused c.in-Err.ensures.kept c.in-Err.ensures.unchanged
+    c.in-Err.ensures.refused c.in-Err.ensures.kept
+    (⊎_elim (λ fault. inl fault) (λ same. inr (ap (λ z. z.known) same)) c.in-Err.ensures.unchanged)
+    (⊎_elim (λ fault. inl fault) (λ same. inr (ap (λ z. g.D.Disk.device z.disk) same)) c.in-Err.ensures.unchanged)
 
 pub returns-in-Err-clause-shown : goal.returns-in-Err-clause-shown
 returns-in-Err-clause-shown g c =
@@ -22,6 +24,11 @@ returns-in-Err-clause-any_moment g c =
     stands_on c.args.self.now.known c.loop-place.self.known (g.D.Disk.device c.args.self.now.disk) (g.D.Disk.device c.loop-place.self.disk) (g.D.Disk.device c.make.new.self.disk)
     c.args.calls.now c.loop-place.place c.loop-place.invariant c.loop-place-test.true c.make.ensures.shown
 
+pub returns-in-Err-clause-quiet : goal.returns-in-Err-clause-quiet
+returns-in-Err-clause-quiet g c =
+    quiet_on c.args.self.now.known c.loop-place.self.known (g.D.Disk.device c.args.self.now.disk) (g.D.Disk.device c.loop-place.self.disk) (g.D.Disk.device c.make.new.self.disk)
+    c.args.calls.now c.loop-place.place c.loop-place.invariant c.loop-place-test.true c.make.ensures.shown _ (slice_get-get_or c.args.calls.now c.loop-place.place _ c.loop-place-test.true) c.make.ensures.quiet
+
 pub returns-in-Err-clause-cause : goal.returns-in-Err-clause-cause
 returns-in-Err-clause-cause g c = fault_since _ _ _ c.make.result c.in-Err.reason c.loop-place.invariant.later c.make.ensures.cause c.in-Err.is
 
@@ -32,7 +39,7 @@ pub loop-place-preserved : goal.loop-place-preserved
 loop-place-preserved g c =
     played_more c.args.self.now.known c.loop-place.self.known (g.D.Disk.device c.args.self.now.disk) (g.D.Disk.device c.loop-place.self.disk) (g.D.Disk.device c.make.new.self.disk)
     c.args.calls.now c.loop-place.place c.loop-place.invariant c.loop-place-test.true c.make.ensures.shown c.make.new.self.known _ c.make.ensures.layout c.in_default.ensures.running c.make.ensures.cause.later
-    (slice_get-get_or c.args.calls.now c.loop-place.place _ c.loop-place-test.true) c.in_default.ensures.ok
+    (slice_get-get_or c.args.calls.now c.loop-place.place _ c.loop-place-test.true) c.in_default.ensures.ok c.make.ensures.quiet
 
 pub returns-clause-ok : goal.returns-clause-ok
 returns-clause-ok g c = played_all c.args.self.now.known c.loop-place.self.known (g.D.Disk.device c.args.self.now.disk) (g.D.Disk.device c.loop-place.self.disk) c.args.calls.now c.loop-place.place c.loop-place.invariant
@@ -43,6 +50,9 @@ returns-clause-shown g c = c.loop-place.invariant.shown
 
 pub returns-clause-any_moment : goal.returns-clause-any_moment
 returns-clause-any_moment g c = c.loop-place.invariant.stands
+
+pub returns-clause-quiet : goal.returns-clause-quiet
+returns-clause-quiet g c = c.loop-place.invariant.quiet
 
 pub returns-clause-layout : goal.returns-clause-layout
 returns-clause-layout g c = c.loop-place.invariant.layout
