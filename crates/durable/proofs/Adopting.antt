@@ -9,14 +9,13 @@ use Rattle.image.specs.declared.slot.Slot.{Slot}
 use Rattle.durable.specs.Past.{no_past}
 use Rattle.durable.specs.Begin.{HasRows, IsSettingOf}
 use Rattle.durable.specs.Consistent.{IsConsistent}
-use Rattle.durable.specs.Laws.{empty_committed}
 use Rattle.durable.specs.Memory.{Memory, lane_in}
 use Rattle.durable.specs.Remembers.{Remembers}
 use Rattle.durable.specs.Sections.{Logged, TellsSections}
 use Rattle.durable.specs.Store.{HasPast, Shows}
 use Rattle.durable.specs.declared.committed.Committed.{Committed}
 use Rattle.durable.proofs.Begins.{no_row, setting_of, setting_is}
-use Rattle.durable.proofs.Begun.{begins}
+use Rattle.durable.proofs.Begun.{begins, empty_committed}
 use Rattle.durable.proofs.Stands.{shows_always}
 
 -- what is recovered has a row for each field

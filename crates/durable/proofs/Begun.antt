@@ -1,6 +1,6 @@
 -- A store begins with a device as recovery leaves it.
 use Rattle.std.proofs.Common.{◌≡◌, inr, ℕ, zero, suc, ◌<◌, if◌then◌else◌, true, false, List, [], ◌∷◌, get_or, map, refl, ap, subst, ◌∙◌, arith}
-use Rattle.std.specs.Prelude.{replicate}
+use Rattle.std.specs.Prelude.{replicate, slice_index}
 use Rattle.std.proofs.lemmas.Bool.{ne_eqb}
 use Rattle.heap_model.specs.declared.record.Record.{Record}
 use Rattle.heap_model.specs.Record.{undo_of}
@@ -19,10 +19,19 @@ use Rattle.image.specs.declared.lane_row.LaneRow.{LaneRow}
 use Rattle.image.specs.declared.layout.Layout.{Layout}
 use Rattle.image.specs.declared.slot.Slot.{Slot}
 use Rattle.image.proofs.Commits.{steady_now}
+use Rattle.undo_log.specs.StandsFor.{guard_in}
 use Rattle.durable.specs.Past.{Past, IsPast, applied, no_past, after_apply}
 use Rattle.durable.specs.Consistent.{HasParts, IsConsistent}
-use Rattle.durable.specs.Laws.{IsSettingOf, empty_committed}
 use Rattle.durable.specs.declared.committed.Committed.{Committed}
+
+-- the control of a device as recovery leaves it: nothing in any log
+abbrev pub empty_committed : Slot → (sequence : ℕ) → Committed
+empty_committed slot sequence = record { slot = slot; sequence = sequence; rows = replicate 32 empty_row }
+
+-- the fields' guards are those of the guard rows, and their first values those of the home cells
+pub record IsSettingOf (l : Layout) (rows : List GuardRow) (heap : List ℕ) (s : Setting) : Type 0 where
+  pub guard : (f : ℕ) → f < l.fields → guard_in rows f ≡ s.guard f
+  pub first : (f : ℕ) → f < l.fields → slice_index heap f ≡ s.first f
 
 -- a cut with nothing in it is closed
 none_closed : IsClosed [] (λ l. 0)

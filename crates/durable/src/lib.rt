@@ -36,7 +36,7 @@ mod sync;
 
 pub use error::StoreError;
 pub use home::Home;
-pub use laws::{beginning_law, standing_law};
+pub use laws::standing_law;
 pub use store::Store;
 pub use store_call::StoreCall;
 
