@@ -18,7 +18,7 @@ ghost use Rattle.durable.specs.Past.{Past, applied, no_past, after_apply, after_
 ghost use Rattle.durable.specs.Remembers.{Remembers};
 ghost use Rattle.durable.specs.Sections.{TellsSections};
 ghost use Rattle.durable.specs.Store.{HasPast, ShowsStep, StandsForStep};
-ghost use Rattle.durable.specs.declared.error.StoreError.TheVariants.{Fault};
+ghost use Rattle.durable.specs.declared.error.StoreError.TheVariants.{Fault, Worn};
 ghost use Rattle.durable.specs.declared.home.Home.TheVariants.{Done};
 
 use crate::applied::Applied;
@@ -140,6 +140,8 @@ impl<D: Disk> Store<D> {
             → MatchResult result (λ count. (self.old.known.has_failed ≡ false) × (count ≡ length p.fresh)) (RefusesLog self.old.known p) }
         ensures none { (s : Setting) (p : Past) → HasPast self.old.known s p (D.device self.old.disk)
             → p.fresh ≡ [] → D.device self.new.disk ≡ D.device self.old.disk }
+        ensures worn { (s : Setting) (p : Past) → HasPast self.old.known s p (D.device self.old.disk)
+            → self.old.known.has_failed ≡ false → p.fresh ≢ [] → self.old.known.committed.sequence ≡ 2 ^ 64 - 1 → IsErrOf result Worn }
         ensures kept { (s : Setting) (p : Past) → HasPast self.old.known s p (D.device self.old.disk)
             → OnErr result (HasPast self.new.known s p (D.device self.new.disk)) }
         ensures refused { IfErr result (λ e. (e ≡ Fault) ⊎ (self.new ≡ self.old)) }
@@ -230,6 +232,8 @@ impl<D: Disk> Store<D> {
         ensures running { OnOk result ((self.old.known.has_failed ≡ false) × (self.new.known.has_failed ≡ false)) }
         ensures answer { (s : Setting) (p : Past) → HasPast self.old.known s p (D.device self.old.disk)
             → MatchResult result (λ done. (self.old.known.has_failed ≡ false) × IsClean s p) (RefusesSettle self.old.known s p) }
+        ensures worn { (s : Setting) (p : Past) → HasPast self.old.known s p (D.device self.old.disk)
+            → self.old.known.has_failed ≡ false → IsClean s p → self.old.known.committed.sequence ≡ 2 ^ 64 - 1 → IsErrOf result Worn }
         ensures kept { (s : Setting) (p : Past) → HasPast self.old.known s p (D.device self.old.disk)
             → OnErr result (HasPast self.new.known s p (D.device self.new.disk)) }
         ensures refused { IfErr result (λ e. (e ≡ Fault) ⊎ (self.new ≡ self.old)) }

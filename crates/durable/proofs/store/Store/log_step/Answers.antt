@@ -73,6 +73,11 @@ returns-in-Ok-clause-none g c = λ s p has none.
     let was = to_parts g.D.Disk.device _ c.args.self.now (λ x d. HasPast x s p d) c.self.view_is has in
     (c.in-Ok.ensures.none s p (may_log _ s p _ was c.fresh-fresh.ensures.within c.fresh-fresh.ensures.words c.if-self.false) none).2 ∙ ap (λ z. g.D.Disk.device z.disk) c.self.view_is
 
+pub returns-in-Ok-clause-worn : goal.returns-in-Ok-clause-worn
+returns-in-Ok-clause-worn g c = λ s p has serves fresh last.
+    let was = to_parts g.D.Disk.device _ c.args.self.now (λ x d. HasPast x s p d) c.self.view_is has in
+    (c.in-Ok.ensures.worn s p (may_log _ s p _ was c.fresh-fresh.ensures.within c.fresh-fresh.ensures.words c.if-self.false)).1 (ap (λ z. z.known.committed.sequence) c.self.view_is ∙ last, fresh)
+
 pub returns-in-Ok-clause-any_moment : goal.returns-in-Ok-clause-any_moment
 returns-in-Ok-clause-any_moment g c = λ s p has.
     let was = to_parts g.D.Disk.device _ c.args.self.now (λ x d. HasPast x s p d) c.self.view_is has in
@@ -92,6 +97,11 @@ pub returns-in-Fault-clause-kept : goal.returns-in-Fault-clause-kept
 returns-in-Fault-clause-kept g c = λ s p has.
     let was = to_parts g.D.Disk.device _ c.args.self.now (λ x d. HasPast x s p d) c.self.view_is has in
     failed_has _ s p _ was _ _ _ c.in-Err.ensures.err refl (logs_now _ s p _ was _ (logs_then _ s p _ _ (c.in-Err.ensures.shown s p (may_log _ s p _ was c.fresh-fresh.ensures.within c.fresh-fresh.ensures.words c.if-self.false))))
+
+pub returns-in-Fault-clause-worn : goal.returns-in-Fault-clause-worn
+returns-in-Fault-clause-worn g c = λ s p has serves fresh last.
+    let was = to_parts g.D.Disk.device _ c.args.self.now (λ x d. HasPast x s p d) c.self.view_is has in
+    (c.in-Err.ensures.worn s p (may_log _ s p _ was c.fresh-fresh.ensures.within c.fresh-fresh.ensures.words c.if-self.false)).1 (ap (λ z. z.known.committed.sequence) c.self.view_is ∙ last, fresh)
 
 pub returns-in-Fault-clause-any_moment : goal.returns-in-Fault-clause-any_moment
 returns-in-Fault-clause-any_moment g c = λ s p has.
@@ -116,6 +126,9 @@ returns-in_default g c =
           let last = (c.in-Err.ensures.worn s p (may_log _ s p _ was c.fresh-fresh.ensures.within c.fresh-fresh.ensures.words c.if-self.false)).0 (ap Err worn) in
           from_parts g.D.Disk.device _ c.args.self.now (λ x d. RefusesLog x p c.in-Err.reason) c.self.view_is (log_refused (record { layout = c.self.inside.layout; committed = c.self.inside.committed; memory = c.self.inside.applied; logged = c.self.inside.sections; has_failed = c.self.inside.has_failed }) p c.in-Err.reason c.if-self.false worn last.0 last.1));
       none = λ s p has none. device;
+      worn = λ s p has serves fresh last. (
+          let was = to_parts g.D.Disk.device _ c.args.self.now (λ x d. HasPast x s p d) c.self.view_is has in
+          (c.in-Err.ensures.worn s p (may_log _ s p _ was c.fresh-fresh.ensures.within c.fresh-fresh.ensures.words c.if-self.false)).1 (ap (λ z. z.known.committed.sequence) c.self.view_is ∙ last, fresh));
       kept = λ s p has. (
           let was = to_parts g.D.Disk.device _ c.args.self.now (λ x d. HasPast x s p d) c.self.view_is has in
           kept_has _ s p _ was _ _ _ c.in-Err.ensures.err refl (ap g.D.Disk.device same));

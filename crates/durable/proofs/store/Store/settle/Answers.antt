@@ -23,6 +23,12 @@ returns-then-is_some-clause-answer g c = λ s p has.
     let was = to_parts g.D.Disk.device _ c.args.self.now (λ x d. HasPast x s p d) c.self.view_is has in
     from_parts g.D.Disk.device _ c.args.self.now (λ x d. (x.has_failed ≡ false) × HasDirty s p) c.self.view_is (c.if-self.false, some_dirty s p c.least_dirty.result (sym c.is_some.ensures ∙ c.if-is_some.true) (c.least_dirty.ensures s p was.remembers))
 
+pub returns-then-is_some-clause-worn : goal.returns-then-is_some-clause-worn
+returns-then-is_some-clause-worn g c = λ s p has serves clean last.
+    let was = to_parts g.D.Disk.device _ c.args.self.now (λ x d. HasPast x s p d) c.self.view_is has in
+    let dirty = some_dirty s p c.least_dirty.result (sym c.is_some.ensures ∙ c.if-is_some.true) (c.least_dirty.ensures s p was.remembers) in
+    absurd (let no : true ≡ false = sym dirty.2 ∙ clean dirty.0 dirty.1 in cc)
+
 pub returns-then-is_some-clause-any_moment : goal.returns-then-is_some-clause-any_moment
 returns-then-is_some-clause-any_moment g c = λ s p cut has stable. begin (g.D.Disk.device c.args.self.now.disk) (StandsForEither c.args.self.now.known.layout s p.logged p.cut cut)
 
@@ -59,6 +65,10 @@ returns-in-Ok-clause-answer g c = λ s p has.
     let was = to_parts g.D.Disk.device _ c.args.self.now (λ x d. HasPast x s p d) c.self.view_is has in
     from_parts g.D.Disk.device _ c.args.self.now (λ x d. (x.has_failed ≡ false) × IsClean s p) c.self.view_is (c.if-self.false, none_dirty s p c.least_dirty.result (sym c.is_some.ensures ∙ c.if-is_some.false) (c.least_dirty.ensures s p was.remembers))
 
+pub returns-in-Ok-clause-worn : goal.returns-in-Ok-clause-worn
+returns-in-Ok-clause-worn g c = λ s p has serves clean last.
+    c.in-Ok.ensures.worn.1 (ap (λ z. z.known.committed.sequence) c.self.view_is ∙ last)
+
 pub returns-in-Ok-clause-any_moment : goal.returns-in-Ok-clause-any_moment
 returns-in-Ok-clause-any_moment g c = λ s p cut has stable.
     let was = to_parts g.D.Disk.device _ c.args.self.now (λ x d. HasPast x s p d) c.self.view_is has in
@@ -79,6 +89,10 @@ returns-in-Fault-clause-kept g c = λ s p has.
     let was = to_parts g.D.Disk.device _ c.args.self.now (λ x d. HasPast x s p d) c.self.view_is has in
     failed_has _ s p _ was _ _ _ c.in-Err.ensures.err c.stable-stable.ensures.same
     (logs_now _ s p _ was _ (settles_then _ s p _ _ _ (c.stable-stable.ensures.stable p.base p.logged was.sections) (c.in-Err.ensures.shown s p (may_settle _ s p _ was c.stable-stable.result.cut c.stable-stable.result.places c.if-self.false (none_dirty s p c.least_dirty.result (sym c.is_some.ensures ∙ c.if-is_some.false) (c.least_dirty.ensures s p was.remembers)) (c.stable-stable.ensures.stable p.base p.logged was.sections) (c.stable-stable.ensures.behind p.base p.logged was.sections)))))
+
+pub returns-in-Fault-clause-worn : goal.returns-in-Fault-clause-worn
+returns-in-Fault-clause-worn g c = λ s p has serves clean last.
+    c.in-Err.ensures.worn.1 (ap (λ z. z.known.committed.sequence) c.self.view_is ∙ last)
 
 pub returns-in-Fault-clause-any_moment : goal.returns-in-Fault-clause-any_moment
 returns-in-Fault-clause-any_moment g c = λ s p cut has stable.
@@ -101,6 +115,7 @@ returns-in_default g c =
       answer = λ s p has. (
           let was = to_parts g.D.Disk.device _ c.args.self.now (λ x d. HasPast x s p d) c.self.view_is has in
           from_parts g.D.Disk.device _ c.args.self.now (λ x d. RefusesSettle x s p c.in-Err.reason) c.self.view_is (settle_refused (record { layout = c.self.inside.layout; committed = c.self.inside.committed; memory = c.self.inside.applied; logged = c.self.inside.sections; has_failed = c.self.inside.has_failed }) s p c.in-Err.reason c.if-self.false worn (none_dirty s p c.least_dirty.result (sym c.is_some.ensures ∙ c.if-is_some.false) (c.least_dirty.ensures s p was.remembers)) (c.in-Err.ensures.worn.0 (ap Err worn))));
+      worn = λ s p has serves clean last. c.in-Err.ensures.worn.1 (ap (λ z. z.known.committed.sequence) c.self.view_is ∙ last);
       kept = λ s p has. (
           let was = to_parts g.D.Disk.device _ c.args.self.now (λ x d. HasPast x s p d) c.self.view_is has in
           kept_has _ s p _ was _ _ _ c.in-Err.ensures.err c.stable-stable.ensures.same (ap g.D.Disk.device same));
