@@ -56,11 +56,7 @@ pub fn is_named(objects: usize, fields: usize, record: Record) -> bool
 /// A record's values fit their words, as its type says.
 pub fn word_law(record: Record)
     ensures { FitsWord «record» }
-{
-    match record {
-        Record::Acq { .. } | Record::Rel { .. } | Record::WaitRel { .. } | Record::Put { .. } => {}
-    }
-}
+{}
 
 // Whether the record's release number, if it has one, is the last or more.
 fn has_last_number(last: u64, record: Record) -> bool
