@@ -1,4 +1,6 @@
 //! Why an image can't be studied or recovered.
+ghost use Rattle.std.specs.Prelude.{◌≡◌, ◌+◌};
+
 use heap_model::Lane;
 use thiserror::Error;
 
@@ -26,13 +28,58 @@ pub enum RecoverError {
     /// The control's sequence is at its last value, 2^64 - 1, so that no other can be committed.
     #[error("worn")]
     Worn,
-    /// The bytes at this live place are no record, or they name an object or a field that the image doesn't have.
-    #[error("bad record")]
+    /// The bytes at this live place are no record, or they name an object or a field that the image doesn't have. Its text
+    /// names the thread, which is the lane numbered from 1.
+    #[error("bad record t{thread} {place}", thread = thread_number(*.lane))]
     BadRecord { lane: Lane, place: u64 },
-    /// No threads can have left these logs. The place is that of the first record that shows it.
-    #[error("illegal log")]
+    /// No threads can have left these logs. The place is that of the first record that shows it. Its text names the
+    /// thread too.
+    #[error("illegal log t{thread} {place}", thread = thread_number(*.lane))]
     IllegalLog { lane: Lane, place: u64 },
     /// There was no memory.
     #[error("no memory")]
     NoMemory,
+}
+
+// Threads are numbered from 1.
+fn thread_number(lane: Lane) -> u64
+    ensures { result ≡ lane.0 + 1 }
+{
+    u64::from(lane.0) + 1
+}
+
+#[cfg(test)]
+mod tests {
+    use super::*;
+    use std::test::Fail;
+
+    // The words of docs/SCRIPTS.md; a fault and want of memory are those of the program's texts.
+    #[test]
+    fn errors_print_as_documented(rt: HostRuntime) -> Result<(), Fail> {
+        let bad = RecoverError::BadRecord {
+            lane: Lane(1),
+            place: 7,
+        };
+        let illegal = RecoverError::IllegalLog {
+            lane: Lane(0),
+            place: 0,
+        };
+        let cases = [
+            (RecoverError::Fault, "fault"),
+            (RecoverError::NotFormatted, "not formatted"),
+            (RecoverError::BadHeader, "bad header"),
+            (RecoverError::TooSmall, "too small"),
+            (RecoverError::NoControl, "no control"),
+            (RecoverError::BadControl, "bad control"),
+            (RecoverError::Worn, "worn"),
+            (bad, "bad record t2 7"),
+            (illegal, "illegal log t1 0"),
+            (RecoverError::NoMemory, "no memory"),
+        ];
+        for (error, text) in cases {
+            let shown = format!(in rt.alloc(); "{error}")?;
+            assert_eq!(rt; shown.as_str(), text);
+        }
+        Ok(())
+    }
 }

@@ -1,11 +1,17 @@
 //! A whole run: calls, a crash, recovery.
-ghost use Rattle.std.specs.Prelude.{IfErr, MatchResult, OnOk};
+ghost use Rattle.std.specs.Prelude.{◌≡◌, ◌⊎◌, true, IfErr, IfOk, MatchResult, OnOk};
+ghost use Rattle.block_disk.specs.Device.{HasFailed, SameMoments, synced};
+ghost use Rattle.block_disk.specs.Images.{LeavesOnly};
 ghost use Rattle.heap_model.specs.Setting.{Setting};
 ghost use Rattle.durable.specs.Calls.{MakeAll, StoppedAt};
 ghost use Rattle.durable.specs.Past.{Past};
 ghost use Rattle.durable.specs.Store.{HasPast};
-ghost use Rattle.recover.specs.Recovery.{IsRecovery, RefusesRecovery};
+ghost use Rattle.durable.specs.declared.error.StoreError.TheVariants.{Fault as StoreFault};
+ghost use Rattle.recover.specs.Recovery.{IsOnTheWay, IsRecovery, LeavesOnTheWay, RefusesRecovery};
+ghost use Rattle.recover.specs.Study.{IsStudyOf};
 ghost use Rattle.recover.specs.WholeRun.{CannotRecover, MayBeLeft, Survives};
+ghost use Rattle.recover.specs.declared.error.RecoverError.TheVariants.{Fault};
+ghost use Rattle.recover.specs.declared.studied.Study.{Study as Shape};
 
 use crate::error::RecoverError;
 use crate::recovering::recover;
@@ -31,7 +37,8 @@ pub struct WholeRun<E: Disk> {
 /// depends on. In a settling that the crash cuts off it may be the heap that this settling acknowledges.
 ///
 /// The device `left` stands for the machine after the crash: it may be any that holds such bytes. It is refused only where
-/// a call of it fails, memory is wanting, or the control's sequence is at its last value.
+/// a call of it fails, memory is wanting, or the control's sequence is at its last value. What a refusal of either leaves is
+/// what [`Store::play`] and [`recover`] say.
 pub fn play_and_recover<D: Disk, E: Disk>(
     alloc: Global,
     store: &mut Store<D>,
@@ -45,7 +52,14 @@ pub fn play_and_recover<D: Disk, E: Disk>(
         → OnOk result.played ((q : Past) × MakeAll s p calls.now q × HasPast store.new.known s q (D.device store.new.disk)) }
     ensures stopped { (s : Setting) (p : Past) → HasPast store.old.known s p (D.device store.old.disk)
         → IfErr result.played (λ e. StoppedAt s p calls.now store.old.known store.new.known (D.device store.new.disk) e.0 e.1) }
+    ensures running { OnOk result.played (store.new.known.has_failed ≡ store.old.known.has_failed) }
+    ensures failed { IfErr result.played (λ e. e.1 ≡ StoreFault → store.new.known.has_failed ≡ true) }
+    ensures store_cause { IfErr result.played (λ e. e.1 ≡ StoreFault → HasFailed (D.device store.old.disk).failures (D.device store.new.disk).failures) }
     ensures recovered { MatchResult result.recovered (λ r. IsRecovery (E.device left) (E.device r.0.disk) r.0 r.1) (λ back. RefusesRecovery (E.device left).now.bytes back.1) }
+    ensures any_moment { IfOk result.recovered (λ r. (s : Shape) → IsStudyOf (E.device left).now.bytes s → LeavesOnly (synced (E.device left)) (E.device r.0.disk) (IsOnTheWay s)) }
+    ensures untouched { IfErr result.recovered (λ back. (back.1 ≡ Fault) ⊎ SameMoments (synced (E.device left)) (E.device back.0)) }
+    ensures interrupted { IfErr result.recovered (λ back. (s : Shape) → IsStudyOf (E.device left).now.bytes s → LeavesOnTheWay s (E.device left) (E.device back.0)) }
+    ensures cause { IfErr result.recovered (λ back. back.1 ≡ Fault → HasFailed (E.device left).failures (E.device back.0).failures) }
 {
     WholeRun {
         played: store.play(calls),
