@@ -1,5 +1,5 @@
 -- What survives a whole run.
-use Rattle.std.proofs.Common.{◌≡◌, ◌⊎◌, inl, inr, ⊎_elim, ℕ, ◌<◌, ◌≤◌, ◌++◌, List, Result, Ok, Err, MatchResult, IfOk, IfErr, length, refl, sym, ◌∙◌, ap, subst, arith}
+use Rattle.std.proofs.Common.{◌≡◌, ◌⊎◌, inl, inr, ⊎_elim, ℕ, ◌<◌, ◌≤◌, ◌++◌, List, [], ◌∷◌, Result, Ok, Err, MatchResult, IfOk, IfErr, length, take, refl, sym, ◌∙◌, ap, subst, arith}
 use Rattle.heap_model.specs.declared.cut.Cut.{Cut}
 use Rattle.heap_model.specs.Setting.{Setting}
 use Rattle.heap_model.specs.Cuts.{counts_of}
@@ -9,14 +9,17 @@ use Rattle.block_disk.proofs.Images.{left_now}
 use Rattle.image.specs.Recovered.{Parts}
 use Rattle.image.specs.declared.layout.Layout.{Layout}
 use Rattle.undo_log.specs.StandsFor.{row_of}
-use Rattle.durable.specs.Calls.{ShowsAfterSome}
+use Rattle.durable.specs.Calls.{MakeAll, Makes, ShowsAfterSome}
 use Rattle.durable.specs.Fresh.{IsOfLanes}
 use Rattle.durable.specs.KeptHeap.{kept_heap}
 use Rattle.durable.specs.Past.{Past, IsPast, applied, after_log, after_settle}
 use Rattle.durable.specs.Store.{Known, HasPast, ShowsStep}
 use Rattle.durable.specs.Store.ShowsStep.{Shows, ShowsLogged, ShowsSettled}
+use Rattle.durable.specs.declared.home.Home.TheVariants.{Wrote, Done}
 use Rattle.durable.specs.declared.store_call.StoreCall.{StoreCall}
-use Rattle.durable.proofs.Pasts.{past_log}
+use Rattle.durable.specs.declared.store_call.StoreCall.TheVariants.{Apply, Log, Settle}
+use Rattle.durable.specs.declared.store_call.StoreCall.TheVariants.{Home as HomeStep}
+use Rattle.durable.proofs.Pasts.{past_apply, past_home, past_log}
 use Rattle.heap_model.proofs.Stays.{cut_stays}
 use Rattle.durable.proofs.Showing.{undone_beyond, of_lanes_before, past_settle, logged_heap}
 use Rattle.recover.specs.Accepted.{IsLeftBy}
@@ -85,10 +88,34 @@ cannot l s p image left (BadRecord lane place) refuses = ⊎_elim (λ is. inl is
 cannot l s p image left (IllegalLog lane place) refuses = ⊎_elim (λ is. inl is) (λ is. inr (inl is)) (accepted l s p image left (IllegalLog lane place) refuses.1)
 cannot l s p image left NoMemory refuses = inr (inl refl)
 
+-- no call takes back what is acknowledged
+grows_by : (s : Setting) (p q : Past) (call : StoreCall) → IsPast s p → Makes s p call q → IsPast s q × ((l : ℕ) → p.cut l ≤ q.cut l)
+grows_by s p q (Apply l r) is (legal, same) = subst (λ (x : Past). IsPast s x × ((l : ℕ) → p.cut l ≤ x.cut l)) (sym same) (past_apply s p l.0 r is legal, λ l. omega arith)
+grows_by s p q Log is same = subst (λ (x : Past). IsPast s x × ((l : ℕ) → p.cut l ≤ x.cut l)) (sym same) (past_log cut_stays s p is, λ l. omega arith)
+grows_by s p q HomeStep is (Wrote f, answers, same) = subst (λ (x : Past). IsPast s x × ((l : ℕ) → p.cut l ≤ x.cut l)) (sym same) (past_home s p f.0 is, λ l. omega arith)
+grows_by s p q HomeStep is (Done, answers, same) = subst (λ (x : Past). IsPast s x × ((l : ℕ) → p.cut l ≤ x.cut l)) (sym same) (is, λ l. omega arith)
+grows_by s p q Settle is (cut, clean, stable, same) = subst (λ (x : Past). IsPast s x × ((l : ℕ) → p.cut l ≤ x.cut l)) (sym same) (past_settle s p cut is stable, stable.greatest p.cut is.whole is.closed)
+
+grows : (s : Setting) (p q : Past) (calls : List StoreCall) → IsPast s p → MakeAll s p calls q → (l : ℕ) → p.cut l ≤ q.cut l
+grows s p q [] is same l = subst (λ (x : Past). p.cut l ≤ x.cut l) (sym same) (omega arith)
+grows s p q (call ∷ calls) is (mid, one, rest) l =
+    let next = grows_by s p mid call is one in
+    let low = next.1 l in
+    let high = grows s mid q calls next.0 rest l in
+    omega (arith, low, high)
+
+-- nor does the settling after them
+at_least : (s : Setting) (p : Past) (then : Past) (cut : ℕ → ℕ) → IsPast s then → ((l : ℕ) → p.cut l ≤ then.cut l) → IsAcknowledged then cut → (l : ℕ) → p.cut l ≤ cut l
+at_least s p then cut is up (inl same) l = subst (λ (c : ℕ → ℕ). p.cut l ≤ c l) (sym same) (up l)
+at_least s p then cut is up (inr stable) l =
+    let low = up l in
+    let high = stable.greatest then.cut is.whole is.closed l in
+    omega (arith, low, high)
+
 -- what a study of it finds
-found : (l : Layout) (s : Setting) (p : Past) (calls : List StoreCall) (image : List ℕ) (some : ShowsAfterSome l s p calls image) (study : Study) → IsStudyOf image study →
+found : (l : Layout) (s : Setting) (p : Past) (calls : List StoreCall) (image : List ℕ) → IsPast s p → (some : ShowsAfterSome l s p calls image) (study : Study) → IsStudyOf image study →
     Survives l s p calls study.heap.items study.report.kept
-found l s p calls image some study of =
+found l s p calls image was some study of =
     let left = left_by l s some.then image some.is some.of_lanes some.shows in
     let tells = (finds l s left.past image left.is (held_by study) of.holds).tells in
     record {
@@ -98,6 +125,7 @@ found l s p calls image some study of =
       made = some.made;
       cut = left.past.cut;
       acknowledged = left.acknowledged;
+      stays = at_least s p some.then left.past.cut some.is (grows s p some.then (take some.n calls) was some.made) left.acknowledged;
       heap_is = finds_heap l s left.past image left.is study.heap.items (held_by study) of.holds of.stands ∙ left.heap;
       kept_are = λ lane below. of.reports.kept_are lane ∙ tells.kept lane below;
     }
@@ -109,7 +137,7 @@ pub survives : {E : Type 0} (x : Known) (s : Setting) (p : Past) (calls : List S
     MatchResult answer (λ r. Survives x.layout s p calls r.0.heap r.1.kept) (λ back. CannotRecover image.now.bytes back.1)
 survives x s p calls old new device image has leaves left (Ok r) done refused =
     let some = shows_some x s p calls old new image.now.bytes has leaves left in
-    let study = found x.layout s p calls image.now.bytes some done.study done.of in
+    let study = found x.layout s p calls image.now.bytes has.past some done.study done.of in
     subst (λ (heap : List ℕ). Survives x.layout s p calls heap r.1.kept) (sym done.heap_is)
     (subst (λ (report : Report). Survives x.layout s p calls done.study.heap.items report.kept) (sym done.report_is) study)
 survives x s p calls old new device image has leaves left (Err back) done refused =

@@ -22,7 +22,8 @@ MayBeLeft old new image = LeftSince (length old.past) new image
 abbrev pub IsAcknowledged : Past → (cut : ℕ → ℕ) → Type 0
 IsAcknowledged p cut = (cut ≡ p.cut) ⊎ IsStable (actions p.logged) cut
 
--- The heap is the one acknowledged after the first n of the calls, and the sections that were kept are those.
+-- The heap is the one acknowledged after the first n of the calls, and the sections that were kept are those. Each section that was
+-- acknowledged before is one of them.
 pub record Survives (l : Layout) (s : Setting) (p : Past) (calls : List StoreCall) (heap : List ℕ) (kept : Cut) : Type 0 where
   pub n : ℕ
   pub within : n ≤ length calls
@@ -30,6 +31,7 @@ pub record Survives (l : Layout) (s : Setting) (p : Past) (calls : List StoreCal
   pub made : MakeAll s p (take n calls) then
   pub cut : ℕ → ℕ
   pub acknowledged : IsAcknowledged then cut
+  pub stays : (lane : ℕ) → p.cut lane ≤ cut lane
   pub heap_is : heap ≡ kept_heap l s then.logged cut
   pub kept_are : (lane : ℕ) → lane < l.lanes → counts_of kept lane ≡ cut lane
 
