@@ -1,5 +1,5 @@
 //! The sections of a study as a graph, in Graphviz's DOT language.
-ghost use Rattle.std.specs.Prelude.{◌≡◌, ◌<◌, [], OnOk, OnErr, IfErr};
+ghost use Rattle.std.specs.Prelude.{◌≡◌, ◌<◌, [], OnOk, OnErr, IfErr, length};
 ghost use Rattle.std.specs.Io.KnownBytes.{Appends};
 ghost use Rattle.inspect.specs.Written.{AppendsPart};
 ghost use Rattle.inspect.specs.Fits.{FitsNumbers};
@@ -23,12 +23,13 @@ use std::io::Write;
 /// section is acknowledged, and a dotted arrow to the lane's section before it; then an arrow for each dependence on a section
 /// of another lane. Arrows go from a section to what it depends on.
 ///
-/// `NoMemory` comes first, where there is no room for the table of the live releases: nothing is written then. After
+/// `NoMemory` comes first, where there are live releases and no room for their table: nothing is written then. After
 /// `Write` a beginning of the text is written.
 pub fn write_graph<W: Write>(alloc: Global, study: &Study, writer: &mut W) -> Result<(), ShowError>
     requires { FitsNumbers study.now }
     ensures ok { OnOk result (Appends (W.contents writer.old) (W.contents writer.new) (graph_text study.now)) }
     ensures no_memory { IfErr result (λ e. e ≡ kinds.NoMemory → Appends (W.contents writer.old) (W.contents writer.new) []) }
+    ensures needed { IfErr result (λ e. e ≡ kinds.NoMemory → 0 < length (releases_of study.now)) }
     ensures part { IfErr result (λ e. e ≡ kinds.Write → AppendsPart (W.contents writer.old) (W.contents writer.new) (graph_text study.now)) }
 {
     let Ok(releases) = releases_in(alloc, study) else {
