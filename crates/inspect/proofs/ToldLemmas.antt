@@ -67,7 +67,8 @@ module _ {X : Type 0} (tell : Progress → UndoRecord → List X) where
       let next : List X = tell (progress (newer ++ older)) r in
       (rest.0 ++ next, ap (λ (xs : List X). xs ++ next) rest.1 ∙ append_assoc (told tell older) rest.0 next)
 
-  told_split : (xs : List UndoRecord) (i : ℕ) → i < length xs
+  -- what a record tells, among what all tell
+  pub told_split : (xs : List UndoRecord) (i : ℕ) → i < length xs
       → (more : List X) × (told tell (reverse xs) ≡ (told tell (reverse (take i xs)) ++ tell (progress (reverse (take i xs))) (get_or xs i none)) ++ more)
   told_split xs i lt =
       let parts : reverse xs ≡ reverse (drop (i + 1) xs) ++ reverse (take (i + 1) xs) = ap reverse (sym (take-append-drop (i + 1) xs)) ∙ reverse-append (take (i + 1) xs) (drop (i + 1) xs) in

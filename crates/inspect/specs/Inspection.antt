@@ -1,4 +1,4 @@
--- What inspecting an image writes.
+-- What inspecting an image writes: a text of its study.
 use Rattle.std.specs.Prelude.{ℕ, Option, List, []}
 use Rattle.std.specs.Io.KnownBytes.{Appends}
 use Rattle.recover.specs.Reading.{RefusesImage}
@@ -6,26 +6,34 @@ use Rattle.recover.specs.Study.{IsStudyOf}
 use Rattle.recover.specs.declared.studied.Study.{Study}
 use Rattle.inspect.specs.declared.error.InspectError.{InspectError}
 use Rattle.inspect.specs.declared.error.InspectError.TheVariants as inspect_error
+use Rattle.inspect.specs.declared.form.Form.{Form}
+use Rattle.inspect.specs.declared.form.Form.TheVariants.{Lines, Graph}
 use Rattle.recover.specs.declared.error.RecoverError.TheVariants.{NoMemory}
 use Rattle.inspect.specs.StudyText.{study_text}
+use Rattle.inspect.specs.WholeGraph.{graph_text}
 use Rattle.inspect.specs.Written.{AppendsPart}
 
--- the lines of a study of the image were written
-pub record Inspects (image : List ℕ) (old new : Option (List ℕ)) : Type 0 where
+-- the text of a study, in one of the forms
+abbrev pub text_in : Form → Study → List ℕ
+text_in Lines = study_text
+text_in Graph = graph_text
+
+-- this text of a study of the image was written
+pub record Inspects (text : Study → List ℕ) (image : List ℕ) (old new : Option (List ℕ)) : Type 0 where
   pub study : Study
   pub studied : IsStudyOf image study
-  pub written : Appends old new (study_text study)
+  pub written : Appends old new (text study)
 
--- a beginning of them was written
-pub record InspectsPart (image : List ℕ) (old new : Option (List ℕ)) : Type 0 where
+-- a beginning of it was written
+pub record InspectsPart (text : Study → List ℕ) (image : List ℕ) (old new : Option (List ℕ)) : Type 0 where
   pub study : Study
   pub studied : IsStudyOf image study
-  pub written : AppendsPart old new (study_text study)
+  pub written : AppendsPart old new (text study)
 
--- what each refusal says of the image, and of what was written: nothing, or a beginning of the lines
-abbrev pub Refuses : List ℕ → Option (List ℕ) → Option (List ℕ) → InspectError → Type 0
-Refuses image old new (inspect_error.Study e) = RefusesImage image e × Appends old new []
-Refuses image old new inspect_error.Write = InspectsPart image old new
+-- what each refusal says of the image, and of what was written: nothing, or a beginning of the text
+abbrev pub Refuses : (text : Study → List ℕ) → List ℕ → Option (List ℕ) → Option (List ℕ) → InspectError → Type 0
+Refuses text image old new (inspect_error.Study e) = RefusesImage image e × Appends old new []
+Refuses text image old new inspect_error.Write = InspectsPart text image old new
 
 -- what each refusal to write a study says of what was written
 abbrev pub IsNotShown : Option (List ℕ) → Option (List ℕ) → (text : List ℕ) → InspectError → Type 0

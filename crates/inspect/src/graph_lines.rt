@@ -1,8 +1,8 @@
 //! The nodes and edges of a graph of sections, in Graphviz's DOT language.
-ghost use Rattle.std.specs.Prelude.{◌≡◌, ◌≤◌, ◌↔◌, IsTrue, OnOk, OnErr};
+ghost use Rattle.std.specs.Prelude.{◌≡◌, ◌<◌, ◌≤◌, ◌↔◌, IsTrue, OnOk, OnErr};
 ghost use Rattle.std.specs.Io.KnownBytes.{Appends};
 ghost use Rattle.inspect.specs.Written.{AppendsPart};
-ghost use Rattle.inspect.specs.GraphText.{node_text, node_line, order_edge, link_edge, style_text};
+ghost use Rattle.inspect.specs.GraphText.{node_text, node_line, order_edge, heading_edge, before_edge, link_edge, style_text};
 
 use crate::error::WriteError;
 use crate::numbering::Numbering;
@@ -12,7 +12,7 @@ use crate::section::{Link, Section};
 use crate::section_lines::state;
 use std::io::Write;
 
-/// Writes the node of a section, and the edge to the lane's live section before it, if there is one.
+/// Writes the node of a section, and the edge that puts it below the lane's live section before it, or below the heading.
 pub(crate) fn put_node<W: Write>(
     writer: &mut W,
     numbering: Numbering,
@@ -63,6 +63,7 @@ fn style(is_kept: bool) -> &'static str
     if is_kept { ", style=filled" } else { "" }
 }
 
+// Sections of a lane stand in its column by number.
 fn put_order_edge<W: Write>(
     writer: &mut W,
     numbering: Numbering,
@@ -72,8 +73,36 @@ fn put_order_edge<W: Write>(
     ensures part { OnErr result (AppendsPart (W.contents writer.old) (W.contents writer.new) (order_edge numbering section)) }
 {
     if section.id.number <= numbering.first {
-        return Ok(());
+        put_heading_edge(writer, section)
+    } else {
+        put_before_edge(writer, section)
     }
+}
+
+fn put_heading_edge<W: Write>(writer: &mut W, section: Section) -> Result<(), WriteError>
+    ensures ok { OnOk result (Appends (W.contents writer.old) (W.contents writer.new) (heading_edge section)) }
+    ensures part { OnErr result (AppendsPart (W.contents writer.old) (W.contents writer.new) (heading_edge section)) }
+{
+    let thread = thread_number(section.id.lane);
+    put_line(
+        writer,
+        &[
+            Piece::Words("\"t"),
+            Piece::Number(thread),
+            Piece::Words("\" -> \"t"),
+            Piece::Number(thread),
+            Piece::Words("."),
+            Piece::Number(section.id.number),
+            Piece::Words("\" [style=invis]"),
+        ],
+    )
+}
+
+fn put_before_edge<W: Write>(writer: &mut W, section: Section) -> Result<(), WriteError>
+    requires { 0 < section.id.number }
+    ensures ok { OnOk result (Appends (W.contents writer.old) (W.contents writer.new) (before_edge section)) }
+    ensures part { OnErr result (AppendsPart (W.contents writer.old) (W.contents writer.new) (before_edge section)) }
+{
     let thread = thread_number(section.id.lane);
     put_line(
         writer,
@@ -81,12 +110,12 @@ fn put_order_edge<W: Write>(
             Piece::Words("\"t"),
             Piece::Number(thread),
             Piece::Words("."),
-            Piece::Number(section.id.number),
+            Piece::Number(section.id.number - 1),
             Piece::Words("\" -> \"t"),
             Piece::Number(thread),
             Piece::Words("."),
-            Piece::Number(section.id.number - 1),
-            Piece::Words("\" [style=dotted]"),
+            Piece::Number(section.id.number),
+            Piece::Words("\" [style=dotted, dir=back]"),
         ],
     )
 }
@@ -113,7 +142,7 @@ pub(crate) fn put_edge<W: Write>(writer: &mut W, link: Link) -> Result<(), Write
             Piece::Number(u64::from(link.object.0)),
             Piece::Words(" number "),
             Piece::Number(link.number),
-            Piece::Words("\"]"),
+            Piece::Words("\", constraint=false]"),
         ],
     )
 }

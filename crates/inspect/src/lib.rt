@@ -1,8 +1,8 @@
 //! What a user looks at after a crash: what recovery made of an image, and what the image holds.
 //!
-//! [`inspect`] reads an image and writes what it holds. [`write_report`] writes the lines of a [`recover::Report`].
-//! [`write_study`] writes what an image holds, line by line, and [`write_graph`] the same sections and dependences as a
-//! graph. All write in small pieces; a fault of the writer leaves a beginning of the text.
+//! [`inspect`] reads an image and writes what it holds, line by line; [`draw`] writes its sections and dependences as a graph.
+//! [`write_study`] and [`write_graph`] write the same of a [`recover::Study`], and [`write_report`] the lines of a
+//! [`recover::Report`]. All write in small pieces; a fault of the writer leaves a beginning of the text.
 #![tactic(auto)]
 
 mod error;
@@ -25,7 +25,7 @@ mod writer;
 
 pub use error::{InspectError, ShowError, WriteError};
 pub use graph::write_graph;
-pub use inspecting::inspect;
+pub use inspecting::{draw, inspect};
 pub use report_lines::write_report;
 pub use study_lines::write_study;
 

@@ -1,5 +1,5 @@
 //! The live releases of a study, by object and number.
-ghost use Rattle.std.specs.Prelude.{◌≡◌, ◌+◌, ◌<◌, ◌≤◌, ◌^◌, ◌++◌, ℕ, List, IfOk, OnOk, length, reverse};
+ghost use Rattle.std.specs.Prelude.{◌≡◌, ◌+◌, ◌<◌, ◌≤◌, ◌^◌, ◌++◌, ℕ, List, IfOk, OnOk, OnErr, length, reverse};
 ghost use Rattle.undo_log.specs.StandsFor.{row_of};
 ghost use Rattle.recover.specs.Logs.{records_of};
 ghost use Rattle.inspect.specs.Sections.{told};
@@ -25,10 +25,11 @@ pub(crate) fn releaser(releases: &Releases, object: ObjectId, number: u64) -> Op
     releases.get(&(object.0, number)).copied()
 }
 
-/// All live releases of the study.
+/// All live releases of the study. Memory is wanting only where there are some.
 pub(crate) fn releases_in(alloc: Global, study: &Study) -> Result<Releases, AllocError>
     requires { FitsNumbers study.now }
-    ensures { IfOk result (λ releases. Tells releases (releases_of study.now)) }
+    ensures ok { IfOk result (λ releases. Tells releases (releases_of study.now)) }
+    ensures no_memory { OnErr result (0 < length (releases_of study.now)) }
 {
     let mut releases = BTreeMap::new(alloc);
     for lane in 0..study.layout.lanes {
@@ -48,7 +49,8 @@ fn note_lane(
     records: &[UndoRecord],
 ) -> Result<(), AllocError>
     requires { numbering.first + length records.now < 2 ^ 64 }
-    ensures { OnOk result ((older : List Release) → Tells releases.old older → Tells releases.new (older ++ told (released_by numbering) (reverse records.now))) }
+    ensures ok { OnOk result ((older : List Release) → Tells releases.old older → Tells releases.new (older ++ told (released_by numbering) (reverse records.now))) }
+    ensures no_memory { OnErr result (0 < length (told (released_by numbering) (reverse records.now))) }
 {
     let mut gone = Progress::begin();
     for entry in records {
@@ -66,7 +68,8 @@ fn note_release(
     entry: UndoRecord,
 ) -> Result<(), AllocError>
     requires { numbering.first + gone.ended < 2 ^ 64 }
-    ensures { OnOk result ((older : List Release) → Tells releases.old older → Tells releases.new (older ++ released_by numbering gone entry)) }
+    ensures ok { OnOk result ((older : List Release) → Tells releases.old older → Tells releases.new (older ++ released_by numbering gone entry)) }
+    ensures no_memory { OnErr result (0 < length (released_by numbering gone entry)) }
 {
     match entry {
         UndoRecord::Rel { object, number } | UndoRecord::WaitRel { object, number } => {

@@ -27,13 +27,14 @@ use std::io::Write;
 /// Writes what an image holds: the image, its control, each lane, each live section, each dependence of a live section on
 /// one of another lane, the acknowledged cut, and the heap that the image stands for.
 ///
-/// `NoMemory` comes first, where there is no room for the table of the live releases: nothing is written then. After
+/// `NoMemory` comes first, where there are live releases and no room for their table: nothing is written then. After
 /// `Write` a beginning of the lines is written. The time is that of a sort of the live releases.
 pub fn write_study<W: Write>(alloc: Global, study: &Study, writer: &mut W) -> Result<(), ShowError>
     requires limits { IsLayout study.now.layout }
     requires numbers { FitsNumbers study.now }
     ensures ok { OnOk result (Appends (W.contents writer.old) (W.contents writer.new) (study_text study.now)) }
     ensures no_memory { IfErr result (λ e. e ≡ kinds.NoMemory → Appends (W.contents writer.old) (W.contents writer.new) []) }
+    ensures needed { IfErr result (λ e. e ≡ kinds.NoMemory → 0 < length (releases_of study.now)) }
     ensures part { IfErr result (λ e. e ≡ kinds.Write → AppendsPart (W.contents writer.old) (W.contents writer.new) (study_text study.now)) }
 {
     let Ok(releases) = releases_in(alloc, study) else {

@@ -1,15 +1,17 @@
-//! Texts of hand-made studies and of an image, by the rules of docs/SCRIPTS.md.
+//! Texts of hand-made studies, by the rules of docs/SCRIPTS.md and, for graphs, of `write_graph`.
 ghost use Rattle.std.specs.Prelude.{◌≡◌, ◌<◌, IfOk, length};
 ghost use Rattle.image.specs.Layout.{IsLayout};
 ghost use Rattle.recover.specs.Logs.{records_of};
 ghost use Rattle.inspect.specs.Fits.{FitsNumbers};
+
+mod images;
 
 use super::*;
 use block_disk::MemDisk;
 use durable::Store;
 use guards::{Schema, SchemaBuilder};
 use heap_model::{Cut, FieldId, Lane, ObjectId, UndoRecord};
-use image::{Control, LaneRow, Layout, Slot};
+use image::{Control, LaneRow, Layout, Recovered, Slot};
 use recover::{Dropped, Report, Study, Why};
 use std::alloc::{AllocError, Global};
 use std::io;
@@ -134,10 +136,7 @@ fn study_of(
 }
 
 // Thread 1 still holds o1 when it frees o0, which thread 2 then takes.
-fn unfinished(alloc: Global) -> Result<Study, AllocError>
-    ensures limits { IfOk result (λ s. IsLayout s.layout) }
-    ensures numbers { IfOk result FitsNumbers }
-{
+fn unfinished(alloc: Global) -> Result<Report, AllocError> {
     let dropped = [
         Dropped {
             lane: Lane(0),
@@ -153,18 +152,11 @@ fn unfinished(alloc: Global) -> Result<Study, AllocError>
             },
         },
     ];
-    let report = Report {
+    Ok(Report {
         kept: Cut { counts: [0; 32] },
         dropped: Vec::from_slice(alloc, &dropped)?,
         undone: 1,
-    };
-    study_of(
-        alloc,
-        (row(0, 4, 0), row(0, 3, 0)),
-        &[acq(0, 0), acq(1, 0), store(10), rel(0, 0)],
-        &[acq(0, 1), store(1), rel(0, 1)],
-        report,
-    )
+    })
 }
 
 // Of thread 1's live sections one is settled, the third; thread 2's second has taken what the fourth freed.
@@ -191,9 +183,9 @@ fn settled(alloc: Global) -> Result<Study, AllocError>
 
 #[test]
 fn a_report_is_written(rt: HostRuntime) -> Result<(), Fail> {
-    let study = unfinished(rt.alloc())?;
+    let report = unfinished(rt.alloc())?;
     let mut out = writer_failing(rt.alloc(), 0);
-    write_report(&study.report, &study.heap, 2, &mut out)?;
+    write_report(&report, &[10, 20], 2, &mut out)?;
     let lines = b"kept 0 0
 dropped t1 1 unfinished
 dropped t2 1 after t1 1
@@ -203,34 +195,10 @@ heap 10 20
     assert_eq!(rt; &*out.taken, lines.as_slice());
     let mut broken = writer_failing(rt.alloc(), 9);
     assert_eq!(rt;
-        write_report(&study.report, &study.heap, 2, &mut broken),
+        write_report(&report, &[10, 20], 2, &mut broken),
         Err(WriteError)
     );
     assert_eq!(rt; &*broken.taken, b"kept 0 0\ndr".as_slice());
-    Ok(())
-}
-
-#[test]
-fn a_study_is_written(rt: HostRuntime) -> Result<(), Fail> {
-    let alloc = rt.alloc();
-    let mut out = writer_failing(alloc, 0);
-    write_study(alloc, &unfinished(alloc)?, &mut out)?;
-    let lines = b"image lanes 2 capacity 4000 objects 4 fields 2 size 130208
-control a sequence 3 version 1
-lane t1 start 0 settled 0 logged 4 kept 0
-lane t2 start 0 settled 0 logged 3 kept 0
-section t1 1 unfinished records 4
-section t2 1 whole records 3
-depends t2 1 on t1 1 object 0 number 1
-cut 0 0
-heap 10 20
-";
-    assert_eq!(rt; &*out.taken, lines.as_slice());
-    let mut broken = writer_failing(alloc, 1);
-    assert_eq!(rt;
-        write_study(alloc, &unfinished(alloc)?, &mut broken),
-        Err(ShowError::Write)
-    );
     Ok(())
 }
 
@@ -260,17 +228,23 @@ fn a_graph_is_written(rt: HostRuntime) -> Result<(), Fail> {
     let mut out = writer_failing(alloc, 0);
     write_graph(alloc, &settled(alloc)?, &mut out)?;
     let lines = b"digraph sections {
-subgraph cluster_t1 {
-label=\"t1\"
+rankdir=LR
+subgraph t1 {
+rank=same
+\"t1\" [shape=plaintext]
 \"t1.3\" [label=\"t1 3\\nwhole, 3 records\", style=filled]
+\"t1\" -> \"t1.3\" [style=invis]
 \"t1.4\" [label=\"t1 4\\nwhole, 2 records\"]
-\"t1.4\" -> \"t1.3\" [style=dotted]
+\"t1.3\" -> \"t1.4\" [style=dotted, dir=back]
 }
-subgraph cluster_t2 {
-label=\"t2\"
+subgraph t2 {
+rank=same
+\"t2\" [shape=plaintext]
 \"t2.2\" [label=\"t2 2\\nunfinished, 2 records\"]
+\"t2\" -> \"t2.2\" [style=invis]
 }
-\"t2.2\" -> \"t1.4\" [label=\"object 0 number 6\"]
+\"t1\" -> \"t2\" [style=invis]
+\"t2.2\" -> \"t1.4\" [label=\"object 0 number 6\", constraint=false]
 }
 ";
     assert_eq!(rt; &*out.taken, lines.as_slice());
@@ -290,28 +264,11 @@ fn schema_or_none(alloc: Global) -> Option<Schema> {
 }
 
 // The image of the schema with two lanes of 4,000 records; none where memory is wanting.
-fn formatted(alloc: Global) -> Option<MemDisk> {
+fn formatted(alloc: Global) -> Option<Recovered<MemDisk>> {
     let schema = schema_or_none(alloc)?;
     let disk = MemDisk::new(alloc, 130_208).ok()?;
     let Ok(made) = Store::format(alloc, disk, &schema, 2, 4000) else {
         return None;
     };
-    Some(made.into_disk())
-}
-
-#[test]
-fn a_formatted_image_is_inspected(rt: HostRuntime) -> Result<(), Fail> {
-    let alloc = rt.alloc();
-    let mut disk = formatted(alloc).ok_or("no image")?;
-    let mut out = writer_failing(alloc, 0);
-    inspect(alloc, &mut disk, &mut out)?;
-    let lines = b"image lanes 2 capacity 4000 objects 4 fields 2 size 130208
-control a sequence 1 version 1
-lane t1 start 0 settled 0 logged 0 kept 0
-lane t2 start 0 settled 0 logged 0 kept 0
-cut 0 0
-heap 10 20
-";
-    assert_eq!(rt; &*out.taken, lines.as_slice());
-    Ok(())
+    Some(made)
 }

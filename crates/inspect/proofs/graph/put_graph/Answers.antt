@@ -5,70 +5,70 @@ use Rattle.inspect.specs.declared.form.Form.TheVariants.{Graph}
 use Rattle.inspect.specs.Written.{AppendsPart}
 use Rattle.inspect.specs.Pieces.{line}
 use Rattle.inspect.specs.StudyText.{links_text}
-use Rattle.inspect.specs.WholeGraph.{clusters_text}
+use Rattle.inspect.specs.WholeGraph.{columns_text}
 use Rattle.inspect.proofs.PartLemmas.{always, all_later, all_last, part_here, part_later}
 use Rattle.inspect.proofs.graph.put_graph.Goals as goal
 
 pub returns-in_err-put_line-clause-part : goal.returns-in_err-put_line-clause-part
 returns-in_err-put_line-clause-part g c =
     let s = c.args.study.now in
-    let begin = line (codes "digraph sections {" ∷ []) in
-    let clusters = clusters_text s in
+    let begin = line (codes "digraph sections {\nrankdir=LR" ∷ []) in
+    let columns = columns_text s in
     let links = links_text Graph s in
     let end = line (codes "}" ∷ []) in
     let old = g.W.Write.contents c.args.writer.now in
     let one = g.W.Write.contents c.put_line.new.writer in
-    always c.from_residual.result (part_here old one begin (clusters ∷ links ∷ end ∷ []) c.in_err-put_line.ensures.part)
+    always c.from_residual.result (part_here old one begin (columns ∷ links ∷ end ∷ []) c.in_err-put_line.ensures.part)
 
-pub returns-in_err-put_clusters-clause-part : goal.returns-in_err-put_clusters-clause-part
-returns-in_err-put_clusters-clause-part g c =
+pub returns-in_err-put_columns-clause-part : goal.returns-in_err-put_columns-clause-part
+returns-in_err-put_columns-clause-part g c =
     let s = c.args.study.now in
-    let begin = line (codes "digraph sections {" ∷ []) in
-    let clusters = clusters_text s in
+    let begin = line (codes "digraph sections {\nrankdir=LR" ∷ []) in
+    let columns = columns_text s in
     let links = links_text Graph s in
     let end = line (codes "}" ∷ []) in
     let old = g.W.Write.contents c.args.writer.now in
     let one = g.W.Write.contents c.put_line.new.writer in
-    let two = g.W.Write.contents c.put_clusters.new.writer in
-    always c.from_residual-in_err-put_clusters.result (part_later old one two begin (clusters ∷ links ∷ end ∷ []) c.in_ok-put_line.ensures.ok (part_here one two clusters (links ∷ end ∷ []) c.in_err-put_clusters.ensures.part))
+    let two = g.W.Write.contents c.put_columns.new.writer in
+    always c.from_residual-in_err-put_columns.result (part_later old one two begin (columns ∷ links ∷ end ∷ []) c.in_ok-put_line.ensures.ok (part_here one two columns (links ∷ end ∷ []) c.in_err-put_columns.ensures.part))
 
 pub returns-in_err-put_all_links-clause-part : goal.returns-in_err-put_all_links-clause-part
 returns-in_err-put_all_links-clause-part g c =
     let s = c.args.study.now in
-    let begin = line (codes "digraph sections {" ∷ []) in
-    let clusters = clusters_text s in
+    let begin = line (codes "digraph sections {\nrankdir=LR" ∷ []) in
+    let columns = columns_text s in
     let links = links_text Graph s in
     let end = line (codes "}" ∷ []) in
     let old = g.W.Write.contents c.args.writer.now in
     let one = g.W.Write.contents c.put_line.new.writer in
-    let two = g.W.Write.contents c.put_clusters.new.writer in
+    let two = g.W.Write.contents c.put_columns.new.writer in
     let three = g.W.Write.contents c.put_all_links.new.writer in
-    always c.from_residual-in_err-put_all_links.result (part_later old one three begin (clusters ∷ links ∷ end ∷ []) c.in_ok-put_line.ensures.ok (part_later one two three clusters (links ∷ end ∷ []) c.in_ok-put_clusters.ensures.ok (part_here two three links (end ∷ []) c.in_err-put_all_links.ensures.part)))
+    always c.from_residual-in_err-put_all_links.result (part_later old one three begin (columns ∷ links ∷ end ∷ []) c.in_ok-put_line.ensures.ok (part_later one two three columns (links ∷ end ∷ []) c.in_ok-put_columns.ensures.ok (part_here two three links (end ∷ []) c.in_err-put_all_links.ensures.part)))
 
 pub returns-clause-ok : goal.returns-clause-ok
 returns-clause-ok g c =
     let s = c.args.study.now in
-    let begin = line (codes "digraph sections {" ∷ []) in
-    let clusters = clusters_text s in
+    let begin = line (codes "digraph sections {\nrankdir=LR" ∷ []) in
+    let columns = columns_text s in
     let links = links_text Graph s in
     let end = line (codes "}" ∷ []) in
     let old = g.W.Write.contents c.args.writer.now in
     let one = g.W.Write.contents c.put_line.new.writer in
-    let two = g.W.Write.contents c.put_clusters.new.writer in
+    let two = g.W.Write.contents c.put_columns.new.writer in
     let three = g.W.Write.contents c.put_all_links.new.writer in
     let four = g.W.Write.contents c.put_line-2.new.writer in
-    on_ok_weaker c.put_line-2.result (λ (last : Appends three four end). all_later old one four begin (clusters ∷ links ∷ end ∷ []) c.in_ok-put_line.ensures.ok (all_later one two four clusters (links ∷ end ∷ []) c.in_ok-put_clusters.ensures.ok (all_later two three four links (end ∷ []) c.in_ok-put_all_links.ensures.ok (all_last three four end last)))) c.put_line-2.ensures.ok
+    on_ok_weaker c.put_line-2.result (λ (last : Appends three four end). all_later old one four begin (columns ∷ links ∷ end ∷ []) c.in_ok-put_line.ensures.ok (all_later one two four columns (links ∷ end ∷ []) c.in_ok-put_columns.ensures.ok (all_later two three four links (end ∷ []) c.in_ok-put_all_links.ensures.ok (all_last three four end last)))) c.put_line-2.ensures.ok
 
 pub returns-clause-part : goal.returns-clause-part
 returns-clause-part g c =
     let s = c.args.study.now in
-    let begin = line (codes "digraph sections {" ∷ []) in
-    let clusters = clusters_text s in
+    let begin = line (codes "digraph sections {\nrankdir=LR" ∷ []) in
+    let columns = columns_text s in
     let links = links_text Graph s in
     let end = line (codes "}" ∷ []) in
     let old = g.W.Write.contents c.args.writer.now in
     let one = g.W.Write.contents c.put_line.new.writer in
-    let two = g.W.Write.contents c.put_clusters.new.writer in
+    let two = g.W.Write.contents c.put_columns.new.writer in
     let three = g.W.Write.contents c.put_all_links.new.writer in
     let four = g.W.Write.contents c.put_line-2.new.writer in
-    on_err_weaker c.put_line-2.result (λ (last : AppendsPart three four end). part_later old one four begin (clusters ∷ links ∷ end ∷ []) c.in_ok-put_line.ensures.ok (part_later one two four clusters (links ∷ end ∷ []) c.in_ok-put_clusters.ensures.ok (part_later two three four links (end ∷ []) c.in_ok-put_all_links.ensures.ok (part_here three four end [] last)))) c.put_line-2.ensures.part
+    on_err_weaker c.put_line-2.result (λ (last : AppendsPart three four end). part_later old one four begin (columns ∷ links ∷ end ∷ []) c.in_ok-put_line.ensures.ok (part_later one two four columns (links ∷ end ∷ []) c.in_ok-put_columns.ensures.ok (part_later two three four links (end ∷ []) c.in_ok-put_all_links.ensures.ok (part_here three four end [] last)))) c.put_line-2.ensures.part

@@ -11,7 +11,7 @@ returns-clause-ok g c =
     subst (λ (text : List ℕ). OnOk c.put_line.result (Appends (g.W.Write.contents c.args.writer.now) (g.W.Write.contents c.put_line.new.writer) text))
     (λ i. line (codes "\"t" ∷ decimal (c.thread_number-taker.ensures i) ∷ codes "." ∷ decimal k.taker.number
     ∷ codes "\" -> \"t" ∷ decimal (c.thread_number-releaser.ensures i) ∷ codes "." ∷ decimal k.releaser.number
-    ∷ codes "\" [label=\"object " ∷ decimal (c.from.ensures i) ∷ codes " number " ∷ decimal k.number ∷ codes "\"]" ∷ []))
+    ∷ codes "\" [label=\"object " ∷ decimal (c.from.ensures i) ∷ codes " number " ∷ decimal k.number ∷ codes "\", constraint=false]" ∷ []))
     c.put_line.ensures.ok
 
 pub returns-clause-part : goal.returns-clause-part
@@ -20,5 +20,5 @@ returns-clause-part g c =
     subst (λ (text : List ℕ). OnErr c.put_line.result (AppendsPart (g.W.Write.contents c.args.writer.now) (g.W.Write.contents c.put_line.new.writer) text))
     (λ i. line (codes "\"t" ∷ decimal (c.thread_number-taker.ensures i) ∷ codes "." ∷ decimal k.taker.number
     ∷ codes "\" -> \"t" ∷ decimal (c.thread_number-releaser.ensures i) ∷ codes "." ∷ decimal k.releaser.number
-    ∷ codes "\" [label=\"object " ∷ decimal (c.from.ensures i) ∷ codes " number " ∷ decimal k.number ∷ codes "\"]" ∷ []))
+    ∷ codes "\" [label=\"object " ∷ decimal (c.from.ensures i) ∷ codes " number " ∷ decimal k.number ∷ codes "\", constraint=false]" ∷ []))
     c.put_line.ensures.part

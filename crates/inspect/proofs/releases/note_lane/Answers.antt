@@ -1,9 +1,10 @@
-use Rattle.std.proofs.Common.{◌≡◌, ◌+◌, ◌<◌, ◌++◌, length, arith, take, reverse, sym, ap, subst, ◌∙◌, get_or, List, append_assoc}
+use Rattle.std.proofs.Common.{◌≡◌, ◌+◌, ◌<◌, ◌++◌, length, arith, take, reverse, sym, ap, subst, ◌∙◌, get_or, List, append_assoc, length-append}
 use Rattle.heap_model.specs.declared.record.UndoRecord.{UndoRecord}
 use Rattle.inspect.specs.declared.progress.Progress.{Progress}
-use Rattle.inspect.specs.Sections.{after_record, told}
+use Rattle.inspect.specs.Sections.{after_record, progress, told}
 use Rattle.inspect.specs.Links.{Release, Tells, released_by}
-use Rattle.inspect.proofs.ToldLemmas.{Few, few, progress_more, none, told_more}
+use Rattle.inspect.proofs.PartLemmas.{always}
+use Rattle.inspect.proofs.ToldLemmas.{Few, few, progress_more, none, told_more, told_split}
 use Rattle.inspect.proofs.releases.note_lane.Goals as goal
 
 pub note_release-requires : goal.note_release-requires
@@ -34,8 +35,20 @@ loop-entry-preserved c =
       gone = c.after-gone.ensures ∙ ap (λ (p : Progress). after_record p r) c.loop-entry.invariant.gone ∙ sym (progress_more xs i lt);
       noted = λ older tells.
           let before : Tells c.loop-entry.releases (older ++ so_far) = c.loop-entry.invariant.noted older tells in
-          let after : Tells c.note_release.new.releases (older ++ so_far ++ tell c.loop-entry.gone r) = c.in_ok-note_release.ensures (older ++ so_far) before in
+          let after : Tells c.note_release.new.releases (older ++ so_far ++ tell c.loop-entry.gone r) = c.in_ok-note_release.ensures.ok (older ++ so_far) before in
           let same : older ++ so_far ++ tell c.loop-entry.gone r ≡ older ++ told tell (reverse (take (i + 1) xs)) =
           append_assoc older so_far (tell c.loop-entry.gone r) ∙ ap (λ (p : Progress). older ++ (so_far ++ tell p r)) c.loop-entry.invariant.gone ∙ ap (λ (ys : List Release). older ++ ys) (sym (told_more tell xs i lt)) in
           subst (Tells c.note_release.new.releases) same after;
     }
+
+pub returns-in_err-note_release-clause-no_memory : goal.returns-in_err-note_release-clause-no_memory
+returns-in_err-note_release-clause-no_memory c =
+    let i = c.loop-entry.entry-index in
+    let xs : List UndoRecord = c.args.records.now in
+    let tell = released_by c.args.numbering in
+    let r : UndoRecord = get_or xs i none in
+    let so_far : List Release = told tell (reverse (take i xs)) in
+    let next : List Release = tell (progress (reverse (take i xs))) r in
+    let some : 0 < length next = subst (λ (p : Progress). 0 < length (tell p r)) c.loop-entry.invariant.gone c.in_err-note_release.ensures.no_memory in
+    let rest = told_split tell xs i c.loop-entry-test.true in
+    always c.from_residual.result (subst (λ (ys : List Release). 0 < length ys) (sym rest.1) (omega (arith, length-append (so_far ++ next) rest.0, length-append so_far next, some)))
