@@ -299,13 +299,14 @@ module _ (old : MachineState) (answer : Answer) (new : MachineState) where
         disk = fresh (crash_bytes fill m.store.disk.first (done_at (length m.store.disk.stops + 1 - back) m.store.disk.stops));
       })))
 
-  -- the device is recovered: the store was told nothing, and each field has the value that is told of it
+  -- the device is recovered: the store is over what recovery made of it and was told nothing, and each field has the value
+  -- that is told of it
   pub record Recovers (w : Wreck) : Type 0 where
     pub live : Live
     pub report : Report
     pub answers : answer ≡ answers.Recovered report
     pub runs : new ≡ Running live
-    pub restores : Restores live.store report
+    pub restores : Restores w.disk live.store report
     pub restored : IsRestored w.schema live.store.known.layout.lanes report.heap.items live.monitors
 
   -- the image is refused, and the machine stays down
