@@ -1,4 +1,4 @@
-use Rattle.std.proofs.Common.{◌≡◌, ℕ, List, refl, ◌∙◌, ap, subst, arith}
+use Rattle.std.proofs.Common.{ℕ, List, refl, ◌∙◌, ap, subst, arith}
 use Rattle.block_disk.specs.Crash.{done_at, LeftSinceStop}
 use Rattle.block_disk.specs.Device.{Image}
 use Rattle.block_disk.specs.Memory.{Memory, moment_after}
