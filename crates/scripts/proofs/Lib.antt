@@ -14,3 +14,4 @@ mod FieldLemmas
 mod StoreLemmas
 mod WaitLemmas
 mod ListLemmas
+mod CrashLemmas

@@ -17,5 +17,6 @@ pub mod Lookups
 pub mod Limits
 pub mod Machine
 pub mod Phases
+pub mod Crashing
 pub mod Runs
 pub mod SchemaFiles

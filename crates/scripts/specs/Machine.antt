@@ -1,5 +1,5 @@
 -- What a line does to the machine, and which lines are refused, and why (docs/SCRIPTS.md, "Lines" and "Refusals").
-use Rattle.std.specs.Prelude.{ℕ, ◌+◌, ◌-◌, ◌≡◌, ◌≢◌, ◌<◌, ◌≤◌, ◌⊎◌, List, [], Option, Some, None, Result, Ok, Contains, length, take, slice_get, slice_index}
+use Rattle.std.specs.Prelude.{ℕ, false, ◌≡◌, ◌≢◌, ◌<◌, ◌≤◌, ◌⊎◌, List, [], Option, Some, None, Result, Ok, Contains, length, take, slice_get, slice_index}
 use Rattle.guards.specs.Schema.{Declarations, object_count, field_count, names_of, guard_of, first_of, nothing, with_object, with_field}
 use Rattle.guards.specs.declared.builder.TheConstants.{MOST_OBJECTS, MOST_FIELDS}
 use Rattle.lock_word.specs.declared.number.TheConstants.{LAST_NUMBER}
@@ -16,9 +16,10 @@ use Rattle.heap_model.specs.History.{logged}
 use Rattle.heap_model.specs.Log.{value}
 use Rattle.heap_model.specs.Sections.{actions}
 use Rattle.heap_model.specs.Cuts.{IsStable}
-use Rattle.block_disk.specs.Crash.{crash_bytes, done_at}
+use Rattle.block_disk.specs.Crash.{done_at, LeftSinceStop}
+use Rattle.block_disk.specs.Device.{Image}
 use Rattle.block_disk.specs.Images.{LeavesOnly}
-use Rattle.block_disk.specs.Memory.{Memory, fresh, device_of}
+use Rattle.block_disk.specs.Memory.{Memory, fresh, device_of, moment_after}
 use Rattle.block_disk.specs.declared.crash.Fill.{Fill}
 use Rattle.image.specs.Layout.{size_of}
 use Rattle.durable.specs.Apply.{Answers}
@@ -40,7 +41,7 @@ use Rattle.scripts.specs.Lookups.{object_of, field_of}
 use Rattle.scripts.specs.Orders.{Order, Action}
 use Rattle.scripts.specs.Orders as order
 use Rattle.scripts.specs.Refusals.{told_of_store}
-use Rattle.scripts.specs.States.{Live, Wreck, Tells}
+use Rattle.scripts.specs.States.{Live, Wreck, Tells, begun_at, crash_back}
 use Rattle.scripts.specs.Reports.{Restores, RefusesDisk}
 use Rattle.scripts.specs.Table.{Table, lanes_of, setting_of, state_of, IsAfter}
 use Rattle.scripts.specs.WaitSets.{wait_set, least_of}
@@ -268,6 +269,8 @@ module _ (old : MachineState) (answer : Answer) (new : MachineState) where
     pub sections : List ℕ
     pub answers : acknowledged_in answer ≡ Some sections
     pub runs : new ≡ Running (record m { store = store })
+    pub layout : store.known.layout ≡ m.store.known.layout
+    pub running : store.known.has_failed ≡ false
     pub shown : (s : Setting) (p : Past) → Tells m.store s p
         → LeavesOnly (device_of m.store.disk) (device_of store.disk) (ShowsStep m.store.known.layout s p)
     pub clean : (s : Setting) (p : Past) → Tells m.store s p → IsClean s p
@@ -290,22 +293,26 @@ module _ (old : MachineState) (answer : Answer) (new : MachineState) where
         → slice_index values f ≡ value s.first f (applied p)
 
   -- the machine goes down with the disk that a crash leaves, all but the last so many writes and syncs ended and the next
-  -- begun
+  -- begun: such bytes as the device may hold after a crash at that very moment
+  pub record GoesDown (m : Live) (fill : Fill) (back : ℕ) : Type 0 where
+    pub answers : answer ≡ Crashed
+    pub down : new ≡ Down (record { schema = m.monitors.schema; disk = fresh (crash_back fill back m.store.disk) })
+    pub possible : Image (moment_after m.store.disk.first (done_at (begun_at back m.store.disk) m.store.disk.stops)) (crash_back fill back m.store.disk)
+    pub any_moment : LeftSinceStop (begun_at back m.store.disk) m.store.disk (crash_back fill back m.store.disk)
+
+  -- unless there were fewer writes and syncs
   abbrev pub Crashes : Live → Fill → (back : ℕ) → Type 0
   Crashes m fill back =
-      Tests (length m.store.disk.stops < back) why.Back (
-      (answer ≡ Crashed) × (new ≡ Down (record {
-        schema = m.monitors.schema;
-        disk = fresh (crash_bytes fill m.store.disk.first (done_at (length m.store.disk.stops + 1 - back) m.store.disk.stops));
-      })))
+      Tests (length m.store.disk.stops < back) why.Back (GoesDown m fill back)
 
-  -- the device is recovered: the store was told nothing, and each field has the value that is told of it
+  -- the device is recovered: the store is over what recovery made of it and was told nothing, and each field has the value
+  -- that is told of it
   pub record Recovers (w : Wreck) : Type 0 where
     pub live : Live
     pub report : Report
     pub answers : answer ≡ answers.Recovered report
     pub runs : new ≡ Running live
-    pub restores : Restores live.store report
+    pub restores : Restores w.disk live.store report
     pub restored : IsRestored w.schema live.store.known.layout.lanes report.heap.items live.monitors
 
   -- the image is refused, and the machine stays down

@@ -3,7 +3,8 @@
 //! [`run_script`] reads a text, plays it line by line, and writes what each line prints. A line becomes a [`Command`]
 //! by [`parse`], the [`Machine`] answers it by an [`Answer`], and [`text`] makes of the answer what is printed. The
 //! machine steps threads on a plain machine of monitors and wait sets (JLS 17.1, 17.2) and knows nothing of text; behind
-//! it stands a store on a device in memory.
+//! it stands a store on a device in memory. What a script's `settle` acknowledges, a `recover` after a crash keeps
+//! ([`crash_law`]).
 //!
 //! [`read_schema`] reads a schema file, which has a script's declarations alone.
 #![tactic(auto)]
@@ -14,6 +15,7 @@ mod declaring;
 mod down;
 mod error;
 mod grammar;
+mod laws;
 mod line;
 mod lines;
 mod logged;
@@ -42,6 +44,7 @@ pub use answer::{Answer, Refusal, Report};
 pub use command::{Command, Step, is_played};
 pub use error::{ScriptError, ScriptErrorKind};
 pub use grammar::parse;
+pub use laws::crash_law;
 pub use machine::Machine;
 pub use play::run_script;
 pub use schema_fault::{SchemaFault, SchemaFaultKind};

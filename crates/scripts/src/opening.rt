@@ -6,7 +6,7 @@ ghost use Rattle.image.specs.Layout.{size_of};
 ghost use Rattle.durable.specs.Begin.{IsSettingOf};
 ghost use Rattle.durable.specs.Formatting.{layout_with};
 ghost use Rattle.durable.specs.Past.{no_past};
-ghost use Rattle.scripts.specs.Reports.{Restores, RefusesDisk};
+ghost use Rattle.scripts.specs.Reports.{Reopens, Restores, RefusesDisk};
 ghost use Rattle.scripts.specs.States.{Tells};
 ghost use Rattle.scripts.specs.Table.{setting_in};
 
@@ -64,7 +64,7 @@ pub(crate) fn restore(
     alloc: Global,
     disk: MemDisk,
 ) -> Result<Result<(Store<MemDisk>, Report), (MemDisk, Refusal)>, AllocError>
-    ensures { IfOk result (λ outcome. MatchResult outcome (λ made. Restores made.0 made.1) (λ back. RefusesDisk disk back.0 back.1)) }
+    ensures { IfOk result (λ outcome. MatchResult outcome (λ made. Restores disk made.0 made.1) (λ back. RefusesDisk disk back.0 back.1)) }
 {
     match recover(alloc, disk) {
         Ok((recovered, found)) => Ok(Ok(restored(alloc, recovered, found)?)),
@@ -78,7 +78,7 @@ fn restored(
     recovered: Recovered<MemDisk>,
     found: recover::Report,
 ) -> Result<(Store<MemDisk>, Report), AllocError>
-    ensures { IfOk result (λ made. Restores made.0 made.1) }
+    ensures { IfOk result (λ made. Reopens recovered found made.0 made.1) }
 {
     let heap = recovered.heap().to_vec(alloc)?;
     let store = adopt(alloc, recovered)?;

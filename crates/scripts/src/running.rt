@@ -1,8 +1,9 @@
 //! The machine while it runs: threads step on the monitors, and the store keeps what they do.
-ghost use Rattle.std.specs.Prelude.{◌≡◌, ◌<◌, ◌≤◌, ◌+◌, ◌-◌, ℕ, IfOk, IfSome, MatchResult, MatchOption, None, length};
+ghost use Rattle.std.specs.Prelude.{◌≡◌, ◌<◌, ◌≤◌, ℕ, IfOk, IfSome, MatchResult, MatchOption, None, length};
 ghost use Rattle.guards.specs.Schema.{Declarations, first_of, names_of, object_count, field_count};
-ghost use Rattle.block_disk.specs.Crash.{crash_bytes, done_at};
-ghost use Rattle.block_disk.specs.Memory.{fresh};
+ghost use Rattle.block_disk.specs.Crash.{done_at, LeftSinceStop};
+ghost use Rattle.block_disk.specs.Device.{Image};
+ghost use Rattle.block_disk.specs.Memory.{fresh, moment_after};
 ghost use Rattle.heap_model.specs.Events.{MayDo};
 ghost use Rattle.heap_model.specs.State.{Awake};
 ghost use Rattle.scripts.specs.Table.{lanes_of, setting_of, state_of, IsStepOf};
@@ -10,6 +11,7 @@ ghost use Rattle.scripts.specs.Orders.{step_of};
 ghost use Rattle.scripts.specs.Orders as order;
 ghost use Rattle.scripts.specs.Lookups.{LooksUp, object_of, field_of};
 ghost use Rattle.scripts.specs.Machine as machine;
+ghost use Rattle.scripts.specs.States.{begun_at, crash_back};
 
 use crate::answer::{Answer, Refusal};
 use crate::command::Step;
@@ -261,9 +263,11 @@ impl Running {
     /// What a crash leaves of the device with all but the last `back` writes and syncs ended and the next begun, if there
     /// were so many.
     pub(crate) fn crash_image(&self, fill: Fill, back: u64) -> Result<Option<MemDisk>, AllocError>
-        ensures { IfOk result (λ left. MatchOption left (length self.now.store.disk.stops < back)
-            (λ disk. (back ≤ length self.now.store.disk.stops) × (disk ≡ fresh (crash_bytes fill self.now.store.disk.first
-            (done_at (length self.now.store.disk.stops + 1 - back) self.now.store.disk.stops))))) }
+        ensures image { IfOk result (λ left. MatchOption left (length self.now.store.disk.stops < back)
+            (λ disk. (back ≤ length self.now.store.disk.stops) × (disk ≡ fresh (crash_back fill back self.now.store.disk)))) }
+        ensures possible { let d = self.now.store.disk in
+            IfOk result (λ left. IfSome left (λ disk. Image (moment_after d.first (done_at (begun_at back d) d.stops)) disk.first)) }
+        ensures any_moment { IfOk result (λ left. IfSome left (λ disk. LeftSinceStop (begun_at back self.now.store.disk) self.now.store.disk disk.first)) }
     {
         let disk = self.store.disk();
         let stops = disk.stops();

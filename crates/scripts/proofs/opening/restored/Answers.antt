@@ -7,8 +7,6 @@ pub returns : goal.returns
 returns c =
     let same : c.layout.result ≡ c.args.recovered.layout = c.layout.ensures ∙ c.in_ok-store.ensures.layout in
     record {
-      recovered = c.args.recovered;
-      found = c.args.found;
       reported = record {
         lanes = c.in_ok-report.ensures.lanes ∙ ap (λ (l : Layout). l.lanes) same;
         kept = λ l below. c.in_ok-report.ensures.kept l (subst (λ n. l < n) (sym (ap (λ (l : Layout). l.lanes) same)) below);

@@ -3,6 +3,7 @@ use Rattle.guards.specs.Schema.{Declarations, field_count}
 use Rattle.image.specs.declared.layout.Layout.{Layout}
 use Rattle.block_disk.specs.Memory.{Memory}
 use Rattle.scripts.specs.Machine as machine
+use Rattle.scripts.specs.Reports.{Restores}
 use Rattle.scripts.proofs.phase.recover_down.Goals as goal
 
 pub returns-in_ok-monitors-in-Ok : goal.returns-in_ok-monitors-in-Ok
@@ -11,7 +12,7 @@ returns-in_ok-monitors-in-Ok c = inl (record {
   report = c.in-Ok.report;
   answers = refl;
   runs = ap machine.Running c.new-running.ensures;
-  restores = rw c.in-Ok.is at c.in_ok-store.ensures;
+  restores = subst (λ (d : Memory). Restores d c.in-Ok.store c.in-Ok.report) (ap (λ (p : Declarations × Memory). p.1) c.into_parts-schema.ensures) (rw c.in-Ok.is at c.in_ok-store.ensures);
   restored = record {
     first = slice_index c.in_ok-monitors-in-Ok.monitors.values;
     fresh_monitors = record {

@@ -1,0 +1,11 @@
+use Rattle.scripts.proofs.CrashLemmas.{rest, call, told_again}
+use Rattle.scripts.proofs.laws.crash_law.Goals as goal
+
+pub returns-clause-rest : goal.returns-clause-rest
+returns-clause-rest c = rest
+
+pub returns-clause-call : goal.returns-clause-call
+returns-clause-call c = call
+
+pub returns-clause-told : goal.returns-clause-told
+returns-clause-told c = told_again
