@@ -64,7 +64,7 @@ fn print_size<W: Write>(alloc: Global, size: u64, writer: &mut W) -> Result<(), 
     let Ok(line) = text(alloc, &Answer::Formatted(size)) else {
         return Err(FormatError::NoMemory);
     };
-    match writer.write_all(line.as_bytes()) {
+    match writer.write_all(&line) {
         Ok(()) => Ok(()),
         Err(_) => Err(FormatError::Fault),
     }

@@ -120,7 +120,7 @@ module _ (m : Live) (s : Setting) (p : Past) (has : Tells m.store s p) (d : Devi
         layout = same;
         lanes = reported.lanes ∙ lanes;
         heap = reported.heap ∙ heap;
-        kept = λ lane below. reported.kept lane (subst (λ n. lane < n) (sym lanes) below) ∙ kept lane below;
+        kept = λ lane below. ap (λ (found : Found). counts_of found.kept lane) reported.found_is ∙ kept lane below;
         restored = subst (λ (n : ℕ). IsRestored m.monitors.schema n r.report.heap.items r.live.monitors) (ap (λ (l : Layout). l.lanes) same) r.restored;
       }
 
@@ -234,14 +234,22 @@ call m now s p asked said fill back down new told has (inr settle) steps =
 
 -- a settling, a crash with all calls ended, and recovery
 module _ (m : Live) (s : Setting) (p : Past) (has : Tells m.store s p) (fill : Fill) (acknowledged : List ℕ) (down new : MachineState) (said told : Answer) where
-  same_told : (now : Live) (a : Acknowledges (Running m) said (Running now) m) (cut : ℕ → ℕ) → IsStable (actions p.logged) cut → acknowledged_in said ≡ Some acknowledged
-      → (done : Survives (record { monitors = m.monitors; store = a.store }) s p.logged cut told new) → done.report.kept.items ≡ acknowledged
-  same_told now a cut stable says done =
-      let told_is : a.sections ≡ acknowledged = let same = sym a.answers ∙ says in cc in
+  told_is : (now : Live) (a : Acknowledges (Running m) said (Running now) m) → acknowledged_in said ≡ Some acknowledged → a.sections ≡ acknowledged
+  told_is now a says = let same = sym a.answers ∙ says in cc
+
+  keeps_told : (now : Live) (a : Acknowledges (Running m) said (Running now) m) (cut : ℕ → ℕ) → IsStable (actions p.logged) cut → acknowledged_in said ≡ Some acknowledged
+      → Survives (record { monitors = m.monitors; store = a.store }) s p.logged cut told new → KeepsTold (record { monitors = m.monitors; store = a.store }) s p acknowledged told new
+  keeps_told now a cut stable says done =
       let lanes = ap (λ (l : Layout). l.lanes) a.layout in
-      ext_get_or 0 done.report.kept.items a.sections (done.lanes ∙ lanes ∙ sym a.lanes)
-      (λ i lt. let below : i < m.store.known.layout.lanes = subst (λ n. i < n) (done.lanes ∙ lanes) lt in
-      done.kept i (subst (λ n. i < n) (sym lanes) below) ∙ sym (a.counts s p cut has stable i below)) ∙ told_is
+      subst (λ (list : List ℕ). KeepsTold (record { monitors = m.monitors; store = a.store }) s p list told new) (told_is now a says)
+      (record {
+        cut = cut;
+        stable = stable;
+        survives = done;
+        lanes = a.lanes ∙ sym lanes ∙ sym done.lanes;
+        same = λ lane lt. let below : lane < m.store.known.layout.lanes = subst (λ n. lane < n) a.lanes lt in
+            done.kept lane (subst (λ n. lane < n) (sym lanes) below) ∙ sym (a.counts s p cut has stable lane below);
+      })
 
   settled : (now : Live) → Settles (Running m) said (Running now) m → acknowledged_in said ≡ Some acknowledged → Steps (Running now) (order.Crash fill 0) Crashed down → Steps down order.Recover told new
       → KeepsTold now s p acknowledged told new ⊎ IsAtItsEnd down told
@@ -252,7 +260,7 @@ module _ (m : Live) (s : Setting) (p : Past) (has : Tells m.store s p) (fill : F
       let outcome = rest over s (after_settle p stable.0) fill down new told (a.after s p stable.0 has stable.1) a.running
       (subst (λ (x : Live). Crashes (Running x) Crashed down x fill 0) is crash) recover in
       subst (λ (x : Live). KeepsTold x s p acknowledged told new ⊎ IsAtItsEnd down told) (sym is)
-      (⊎_elim (λ done. inl (record { cut = stable.0; stable = stable.1; survives = done; same = same_told now a stable.0 stable.1 says done })) (λ end. inr end) outcome)
+      (⊎_elim (λ done. inl (keeps_told now a stable.0 stable.1 says done)) (λ end. inr end) outcome)
   settled now (inr refused) says crash recover = absurd (let none = ap acknowledged_in refused.refuses.0 in let same = sym none ∙ says in cc)
 
 pub told_again : ToldLaw

@@ -6,7 +6,7 @@ use Rattle.block_disk.specs.declared.crash.Fill.{Fill}
 use Rattle.heap_model.specs.declared.record.Record.{Record}
 use Rattle.heap_model.specs.Setting.{Setting}
 use Rattle.heap_model.specs.Sections.{actions}
-use Rattle.heap_model.specs.Cuts.{IsStable}
+use Rattle.heap_model.specs.Cuts.{IsStable, counts_of}
 use Rattle.durable.specs.KeptHeap.{kept_heap}
 use Rattle.durable.specs.Past.{Past}
 use Rattle.recover.specs.Recovery.{IsWorn}
@@ -29,9 +29,9 @@ pub record Survives (m : Live) (s : Setting) (log : List (ℕ × Record)) (cut :
   pub tells : told ≡ Recovered report
   pub runs : new ≡ Running live
   pub layout : live.store.known.layout ≡ m.store.known.layout
-  pub lanes : length report.kept.items ≡ m.store.known.layout.lanes
+  pub lanes : report.lanes ≡ m.store.known.layout.lanes
   pub heap : report.heap.items ≡ kept_heap m.store.known.layout s log cut
-  pub kept : (lane : ℕ) → lane < m.store.known.layout.lanes → slice_index report.kept.items lane ≡ cut lane
+  pub kept : (lane : ℕ) → lane < m.store.known.layout.lanes → counts_of report.found.kept lane ≡ cut lane
   pub restored : IsRestored m.monitors.schema m.store.known.layout.lanes report.heap.items live.monitors
 
 -- the sequence of the controls on the disk is at its end, so that no more can be recovered there
@@ -62,12 +62,13 @@ CallLaw = (m now : Live) (s : Setting) (p : Past) (asked : Order) (said : Answer
     → IsSince m.store.disk now.store.disk back → Steps (Running now) (order.Crash fill back) Crashed down → Steps down order.Recover told new
     → ((cut : ℕ → ℕ) × IsAcknowledged p cut × Survives m s p.logged cut told new) ⊎ IsAtItsEnd down told
 
--- the machine runs again with the sections of the stable cut, and tells as kept what was told as acknowledged
+-- the machine runs again with the sections of the stable cut, and tells as kept, lane by lane, what was told as acknowledged
 pub record KeepsTold (m : Live) (s : Setting) (p : Past) (acknowledged : List ℕ) (told : Answer) (new : MachineState) : Type 0 where
   pub cut : ℕ → ℕ
   pub stable : IsStable (actions p.logged) cut
   pub survives : Survives m s p.logged cut told new
-  pub same : survives.report.kept.items ≡ acknowledged
+  pub lanes : length acknowledged ≡ survives.report.lanes
+  pub same : (lane : ℕ) → lane < length acknowledged → counts_of survives.report.found.kept lane ≡ slice_index acknowledged lane
 
 -- What `settle` tells as acknowledged, `recover` tells as kept after a crash that comes next with all writes and syncs ended.
 abbrev pub ToldLaw : Type 0

@@ -12,6 +12,7 @@ pub mod Answers
 pub mod States
 pub mod Homes
 pub mod Reports
+pub mod Studies
 pub mod Refusals
 pub mod Lookups
 pub mod Limits

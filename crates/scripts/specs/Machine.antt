@@ -17,7 +17,7 @@ use Rattle.heap_model.specs.Log.{value}
 use Rattle.heap_model.specs.Sections.{actions}
 use Rattle.heap_model.specs.Cuts.{IsStable}
 use Rattle.block_disk.specs.Crash.{done_at, LeftSinceStop}
-use Rattle.block_disk.specs.Device.{Image}
+use Rattle.block_disk.specs.Device.{Image, SameMoments}
 use Rattle.block_disk.specs.Images.{LeavesOnly}
 use Rattle.block_disk.specs.Memory.{Memory, fresh, device_of, moment_after}
 use Rattle.block_disk.specs.declared.crash.Fill.{Fill}
@@ -28,8 +28,12 @@ use Rattle.durable.specs.Formatting.{layout_with}
 use Rattle.durable.specs.Past.{Past, applied, no_past, after_apply, after_log, after_settle}
 use Rattle.durable.specs.Store.{Parts, ShowsStep}
 use Rattle.durable.specs.declared.error.StoreError.{StoreError}
+use Rattle.recover.specs.Reading as reading
+use Rattle.recover.specs.Study.{IsStudyOf}
+use Rattle.recover.specs.declared.error.RecoverError.{RecoverError}
+use Rattle.recover.specs.declared.studied.Study.{Study}
 use Rattle.scripts.specs.declared.answer.Answer.{Answer}
-use Rattle.scripts.specs.declared.answer.Answer.TheVariants.{Silent, Done, Formatted, Value, Waiting, Logged, Wrote, Crashed, Refused}
+use Rattle.scripts.specs.declared.answer.Answer.TheVariants.{Silent, Done, Formatted, Value, Waiting, Logged, Wrote, Crashed, Shown, Refused}
 use Rattle.scripts.specs.declared.answer.Answer.TheVariants as answers
 use Rattle.scripts.specs.declared.answer.Report.{Report}
 use Rattle.scripts.specs.declared.answer.Refusal.{Refusal}
@@ -40,7 +44,7 @@ use Rattle.scripts.specs.Limits.{IsFormattable}
 use Rattle.scripts.specs.Lookups.{object_of, field_of}
 use Rattle.scripts.specs.Orders.{Order, Action}
 use Rattle.scripts.specs.Orders as order
-use Rattle.scripts.specs.Refusals.{told_of_store}
+use Rattle.scripts.specs.Refusals.{told_of_recovery, told_of_store}
 use Rattle.scripts.specs.States.{Live, Wreck, Tells, begun_at, crash_back}
 use Rattle.scripts.specs.Reports.{Restores, RefusesDisk}
 use Rattle.scripts.specs.Table.{Table, lanes_of, setting_of, state_of, IsAfter}
@@ -305,6 +309,30 @@ module _ (old : MachineState) (answer : Answer) (new : MachineState) where
   Crashes m fill back =
       Tests (length m.store.disk.stops < back) why.Back (GoesDown m fill back)
 
+  -- the study of the image is shown. The machine stays down, with a device on which nothing was done
+  pub record Shows (w : Wreck) : Type 0 where
+    pub study : Study
+    pub disk : Memory
+    pub answers : answer ≡ Shown study
+    pub stays : new ≡ Down (record w { disk = disk })
+    pub studied : IsStudyOf (device_of w.disk).now.bytes study
+    pub same : SameMoments (device_of w.disk) (device_of disk)
+
+  -- there is none: the image is refused by the first thing that is wrong with it
+  pub record ShowsNone (w : Wreck) : Type 0 where
+    pub reason : RecoverError
+    pub refusal : Refusal
+    pub disk : Memory
+    pub told : told_of_recovery reason ≡ Ok refusal
+    pub answers : answer ≡ Refused refusal
+    pub stays : new ≡ Down (record w { disk = disk })
+    pub because : reading.RefusesImage (device_of w.disk).now.bytes reason
+    pub same : SameMoments (device_of w.disk) (device_of disk)
+
+  -- the image is shown, or refused
+  abbrev pub ShowsImage : Wreck → Type 0
+  ShowsImage w = Shows w ⊎ ShowsNone w
+
   -- the device is recovered: the store is over what recovery made of it and was told nothing, and each field has the value
   -- that is told of it
   pub record Recovers (w : Wreck) : Type 0 where
@@ -360,5 +388,5 @@ Steps old order.Settle answer new = WhileRunning old (Settles old answer new) (R
 Steps old order.Trim answer new = Refuses old answer new why.State
 Steps old order.Heap answer new = WhileRunning old (TellsHeap old answer new) (Refuses old answer new why.State)
 Steps old (order.Crash fill back) answer new = WhileRunning old (λ m. Crashes old answer new m fill back) (Refuses old answer new why.State)
-Steps old order.Show answer new = Refuses old answer new why.State
+Steps old order.Show answer new = WhileDown old (ShowsImage old answer new) (Refuses old answer new why.State)
 Steps old order.Recover answer new = WhileDown old (RecoversDevice old answer new) (Refuses old answer new why.State)

@@ -63,5 +63,4 @@ order_of command.Recover = Recover
 -- whether scripts may have this by now; the rest is read, and ends the run as a line of no form does
 abbrev pub plays : Order → Bool
 plays Trim = false
-plays Show = false
 plays _ = true

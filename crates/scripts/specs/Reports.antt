@@ -1,6 +1,5 @@
 -- What a script tells of a recovery.
-use Rattle.std.specs.Prelude.{ℕ, ◌≡◌, ◌<◌, Ok, length, slice_index}
-use Rattle.heap_model.specs.Cuts.{counts_of}
+use Rattle.std.specs.Prelude.{◌≡◌, Ok}
 use Rattle.heap_model.specs.Setting.{Setting}
 use Rattle.block_disk.specs.Device.{SameMoments, synced}
 use Rattle.block_disk.specs.Images.{LeavesOnly}
@@ -29,12 +28,10 @@ Recovered D = image.Parts D
 abbrev pub Found : Type 0
 Found = recover.Report
 
--- the kept sections of each lane, the dropped ones, how many fields were put back, and the heap
+-- what recovery found is told as it is, with the lanes and the heap of the recovered device
 pub record IsReportOf {D : Type 0} (recovered : Recovered D) (found : Found) (told : Report) : Type 0 where
-  pub lanes : length told.kept.items ≡ recovered.layout.lanes
-  pub kept : (l : ℕ) → l < recovered.layout.lanes → slice_index told.kept.items l ≡ counts_of found.kept l
-  pub dropped : told.dropped.items ≡ found.dropped.items
-  pub undone : told.undone ≡ found.undone
+  pub found_is : told.found ≡ found
+  pub lanes : told.lanes ≡ recovered.layout.lanes
   pub heap : told.heap.items ≡ recovered.heap
 
 -- the store over a device that was recovered, which was told nothing, and what is told of what was found

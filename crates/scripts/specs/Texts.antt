@@ -3,14 +3,12 @@ use Rattle.std.specs.Prelude.{ℕ, ◌+◌, Option, None, Some, List, [], ◌∷
 use Rattle.std.specs.Fmt.{decimal}
 use Rattle.std.specs.List.{flat_map}
 use Rattle.heap_model.specs.declared.ids.Lane.{Lane}
+use Rattle.inspect.specs.ReportText.{report_text}
+use Rattle.inspect.specs.StudyText.{study_text}
 use Rattle.scripts.specs.declared.answer.Answer.{Answer}
 use Rattle.scripts.specs.declared.answer.Answer.TheVariants as answers
-use Rattle.recover.specs.declared.report.Dropped.{Dropped}
 use Rattle.scripts.specs.declared.answer.Refusal.{Refusal}
 use Rattle.scripts.specs.declared.answer.Refusal.TheVariants as refusals
-use Rattle.scripts.specs.declared.answer.Report.{Report}
-use Rattle.recover.specs.declared.report.Why.{Why}
-use Rattle.recover.specs.declared.report.Why.TheVariants as why
 
 -- a word and numbers, each behind a space
 abbrev pub list_line : List ℕ → List ℕ → List ℕ
@@ -19,23 +17,6 @@ list_line word numbers = word ++ flat_map (λ number. codes " " ++ decimal numbe
 -- the number of a lane's thread
 abbrev pub thread_of : Lane → ℕ
 thread_of lane = lane.0 + 1
-
--- why a section is dropped
-abbrev pub why_dropped : Why → List ℕ
-why_dropped why.Unfinished = codes " unfinished\n"
-why_dropped (why.After lane section) = codes " after t" ++ decimal (thread_of lane) ++ codes " " ++ decimal section ++ codes "\n"
-why_dropped why.Unsettled = codes " unsettled\n"
-
-abbrev pub dropped_line : Dropped → List ℕ
-dropped_line dropped = codes "dropped t" ++ decimal (thread_of dropped.lane) ++ codes " " ++ decimal dropped.section ++ why_dropped dropped.why
-
-abbrev pub dropped_lines : List Dropped → List ℕ
-dropped_lines dropped = flat_map dropped_line dropped
-
--- what recovery found
-abbrev pub report_text : Report → List ℕ
-report_text report = list_line (codes "kept") report.kept.items ++ dropped_lines report.dropped.items
-    ++ (codes "undone " ++ decimal report.undone ++ codes "\n") ++ list_line (codes "heap") report.heap.items
 
 -- why a line is refused, in words
 abbrev pub why_refused : Refusal → List ℕ
@@ -98,5 +79,6 @@ text_of (answers.Wrote count) = codes "wrote " ++ decimal count ++ codes "\n"
 text_of (answers.Acknowledged counts) = list_line (codes "acknowledged") counts.items
 text_of (answers.Heap values) = list_line (codes "heap") values.items
 text_of answers.Crashed = codes "crashed\n"
-text_of (answers.Recovered report) = report_text report
+text_of (answers.Shown study) = study_text study
+text_of (answers.Recovered report) = report_text report.found report.heap.items report.lanes
 text_of (answers.Refused refusal) = refused_line refusal

@@ -1,9 +1,9 @@
 //! What the machine answers to a command.
+use crate::image_study::ImageStudy;
 use heap_model::Lane;
-use recover::Dropped;
 
 /// What a line prints.
-#[derive(Debug, Drop, PartialEq, Eq)]
+#[derive(Drop)]
 pub enum Answer {
     /// Nothing: an object or a field was declared.
     Silent,
@@ -27,21 +27,21 @@ pub enum Answer {
     Heap(Vec<u64>),
     /// The device has crashed.
     Crashed,
+    /// What the image on the device holds.
+    Shown(ImageStudy),
     /// The device is recovered.
     Recovered(Report),
     /// The line was refused, and has changed nothing.
     Refused(Refusal),
 }
 
-/// What recovery found.
-#[derive(Debug, Drop, PartialEq, Eq)]
+/// What recovery made of the device.
+#[derive(Drop)]
 pub struct Report {
-    /// How many sections of each lane are kept since the last format or recovery.
-    pub kept: Vec<u64>,
-    /// The sections that are dropped, by lane and number.
-    pub dropped: Vec<Dropped>,
-    /// How many fields were put back.
-    pub undone: u64,
+    /// What it has kept and dropped.
+    pub found: recover::Report,
+    /// How many lanes the image has.
+    pub lanes: u8,
     /// The value of each field.
     pub heap: Vec<u64>,
 }

@@ -71,12 +71,12 @@ pub enum Step<'a> {
     NotifyAll(&'a str),
 }
 
-/// Whether scripts may have this command by now. The others are read, and end the run as a line of no form does.
+/// Whether scripts may have this command by now. Another is read, and ends the run as a line of no form does.
 pub fn is_played(command: &Command<'_>) -> bool
     ensures { result ≡ plays (order_of command.now) }
 {
     match command {
-        Command::Trim | Command::Show => false,
+        Command::Trim => false,
         _ => true,
     }
 }

@@ -1,6 +1,5 @@
 //! A store over a device in memory: of a new image, and of one that was recovered.
-ghost use Rattle.std.specs.Prelude.{◌≡◌, ◌<◌, ℕ, length, slice_index, IfOk, MatchResult};
-ghost use Rattle.heap_model.specs.Cuts.{counts_of};
+ghost use Rattle.std.specs.Prelude.{◌≡◌, IfOk, MatchResult};
 ghost use Rattle.heap_model.specs.Setting.{Setting};
 ghost use Rattle.image.specs.Layout.{size_of};
 ghost use Rattle.durable.specs.Begin.{IsSettingOf};
@@ -15,7 +14,6 @@ use crate::refusals::refused_recovery;
 use block_disk::MemDisk;
 use durable::Store;
 use guards::Schema;
-use heap_model::Cut;
 use image::{Layout, Recovered};
 use lock_word::LAST_NUMBER;
 use recover::recover;
@@ -82,45 +80,7 @@ fn restored(
 {
     let heap = recovered.heap().to_vec(alloc)?;
     let store = adopt(alloc, recovered)?;
-    let report = report_of(alloc, found, heap, store.layout().lanes)?;
+    let lanes = store.layout().lanes;
+    let report = Report { found, lanes, heap };
     Ok((store, report))
-}
-
-// What was found, for so many lanes.
-fn report_of(
-    alloc: Global,
-    found: recover::Report,
-    heap: Vec<u64>,
-    lanes: u8,
-) -> Result<Report, AllocError>
-    ensures lanes { IfOk result (λ report. length report.kept.items ≡ lanes) }
-    ensures kept { IfOk result (λ report. (l : ℕ) → l < lanes → slice_index report.kept.items l ≡ counts_of found.kept l) }
-    ensures dropped { IfOk result (λ report. report.dropped ≡ found.dropped) }
-    ensures undone { IfOk result (λ report. report.undone ≡ found.undone) }
-    ensures heap { IfOk result (λ report. report.heap ≡ heap) }
-{
-    let recover::Report {
-        kept,
-        dropped,
-        undone,
-    } = found;
-    let kept = kept_counts(alloc, &kept, lanes)?;
-    Ok(Report {
-        kept,
-        dropped,
-        undone: u64::from(undone),
-        heap,
-    })
-}
-
-// The kept sections of each of so many lanes.
-fn kept_counts(alloc: Global, kept: &Cut, lanes: u8) -> Result<Vec<u64>, AllocError>
-    ensures count { IfOk result (λ v. length v.items ≡ lanes) }
-    ensures counts { IfOk result (λ v. (l : ℕ) → l < lanes → slice_index v.items l ≡ counts_of kept.now l) }
-{
-    let mut counts = Vec::with_capacity(alloc, usize::from(lanes))?;
-    for lane in 0..usize::from(lanes) {
-        counts.push(kept.counts.get(lane).copied().unwrap_or(0))?;
-    }
-    Ok(counts)
 }

@@ -65,9 +65,10 @@ impl Phase {
             Command::Settle => self.settle(alloc),
             Command::Heap => self.heap(alloc),
             Command::Crash { fill, back } => self.crash(*fill, *back),
+            Command::Show => self.show(alloc),
             Command::Recover => self.recover(alloc),
             // Scripts have no such line yet: it ends a run before it comes here.
-            Command::Trim | Command::Show => Ok(self.refuse()),
+            Command::Trim => Ok(self.refuse()),
         }
     }
 
@@ -187,6 +188,18 @@ impl Phase {
     {
         match self {
             Phase::Running(running) => crash_running(running, fill, back),
+            other => Ok(other.refuse()),
+        }
+    }
+
+    fn show(self, alloc: Global) -> Result<(Phase, Answer), AllocError>
+        ensures { IfOk result (λ r. machine.Steps (shown self) order.Show r.1 (shown r.0)) }
+    {
+        match self {
+            Phase::Down(mut down) => {
+                let answer = down.show(alloc)?;
+                Ok((Phase::Down(down), answer))
+            }
             other => Ok(other.refuse()),
         }
     }

@@ -96,5 +96,5 @@ fn play_line<W: Write>(
     let Ok(printed) = text(alloc, &answer) else {
         return Err(ScriptErrorKind::Memory);
     };
-    put(writer, printed.as_bytes())
+    put(writer, &printed)
 }

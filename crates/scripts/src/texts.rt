@@ -1,41 +1,48 @@
 //! The text of an answer.
 ghost use Rattle.std.specs.Prelude.{◌≡◌, ◌+◌, ◌++◌, IfOk, OnOk, string_bytes};
-ghost use Rattle.scripts.specs.Texts.{text_of, list_line, dropped_line, dropped_lines, why_dropped, report_text, refused_line, why_refused, place_of, place_text, woke_line, woken_threads};
-ghost use Rattle.recover.specs.declared.report.Why.TheVariants as kinds;
+ghost use Rattle.inspect.specs.ReportText.{report_text};
+ghost use Rattle.scripts.specs.Texts.{text_of, list_line, refused_line, why_refused, place_of, place_text, woke_line, woken_threads};
 
 use crate::answer::{Answer, Refusal, Report};
 use heap_model::Lane;
-use recover::{Dropped, Why};
+use inspect::write_report;
 use std::alloc::{AllocError, Global};
 use std::fmt::Write;
 
 /// What a line prints that was answered so: whole lines, or nothing.
-pub fn text(alloc: Global, answer: &Answer) -> Result<String, AllocError>
-    ensures { IfOk result (λ text. string_bytes text ≡ text_of answer.now) }
+pub fn text(alloc: Global, answer: &Answer) -> Result<Vec<u8>, AllocError>
+    ensures { IfOk result (λ text. text.items ≡ text_of answer.now) }
 {
     match answer {
-        Answer::Silent => Ok(String::new(alloc)),
-        Answer::Done => String::from_str(alloc, "ok\n"),
-        Answer::Formatted(size) => format!(in alloc; "formatted {size}\n"),
-        Answer::Waiting => String::from_str(alloc, "waiting\n"),
+        Answer::Silent => Ok(Vec::new(alloc)),
+        Answer::Done => line(alloc, "ok\n"),
+        Answer::Formatted(size) => Ok(format!(in alloc; "formatted {size}\n")?.into_bytes()),
+        Answer::Waiting => line(alloc, "waiting\n"),
         Answer::Woke(lanes) => woke(alloc, lanes),
-        Answer::Value(value) => format!(in alloc; "value {value}\n"),
-        Answer::Logged(count) => format!(in alloc; "logged {count}\n"),
-        Answer::Wrote(count) => format!(in alloc; "wrote {count}\n"),
+        Answer::Value(value) => Ok(format!(in alloc; "value {value}\n")?.into_bytes()),
+        Answer::Logged(count) => Ok(format!(in alloc; "logged {count}\n")?.into_bytes()),
+        Answer::Wrote(count) => Ok(format!(in alloc; "wrote {count}\n")?.into_bytes()),
         Answer::Acknowledged(counts) => list(alloc, "acknowledged", counts),
         Answer::Heap(values) => list(alloc, "heap", values),
-        Answer::Crashed => String::from_str(alloc, "crashed\n"),
+        Answer::Crashed => line(alloc, "crashed\n"),
+        Answer::Shown(study) => study.lines(alloc),
         Answer::Recovered(report) => recovered(alloc, report),
         Answer::Refused(refusal) => refused(alloc, refusal),
     }
 }
 
-fn list(alloc: Global, word: &str, numbers: &[u64]) -> Result<String, AllocError>
-    ensures { IfOk result (λ text. string_bytes text ≡ list_line word.now numbers.now) }
+fn line(alloc: Global, words: &str) -> Result<Vec<u8>, AllocError>
+    ensures { IfOk result (λ text. text.items ≡ words.now) }
+{
+    Ok(String::from_str(alloc, words)?.into_bytes())
+}
+
+fn list(alloc: Global, word: &str, numbers: &[u64]) -> Result<Vec<u8>, AllocError>
+    ensures { IfOk result (λ text. text.items ≡ list_line word.now numbers.now) }
 {
     let mut text = String::new(alloc);
     push_list(&mut text, word, numbers)?;
-    Ok(text)
+    Ok(text.into_bytes())
 }
 
 // Adds the line of a word and numbers.
@@ -49,17 +56,17 @@ fn push_list(text: &mut String, word: &str, numbers: &[u64]) -> Result<(), Alloc
     text.push_str("\n")
 }
 
-fn woke(alloc: Global, lanes: &[Lane]) -> Result<String, AllocError>
-    ensures { IfOk result (λ text. string_bytes text ≡ woke_line lanes.now) }
+fn woke(alloc: Global, lanes: &[Lane]) -> Result<Vec<u8>, AllocError>
+    ensures { IfOk result (λ text. text.items ≡ woke_line lanes.now) }
 {
     if lanes.is_empty() {
-        return String::from_str(alloc, "none\n");
+        return line(alloc, "none\n");
     }
     let mut text = String::new(alloc);
     text.push_str("woke")?;
     push_threads(&mut text, lanes)?;
     text.push_str("\n")?;
-    Ok(text)
+    Ok(text.into_bytes())
 }
 
 // Adds the threads of these lanes.
@@ -73,51 +80,14 @@ fn push_threads(text: &mut String, lanes: &[Lane]) -> Result<(), AllocError>
     Ok(())
 }
 
-fn recovered(alloc: Global, report: &Report) -> Result<String, AllocError>
-    ensures { IfOk result (λ text. string_bytes text ≡ report_text report.now) }
+fn recovered(alloc: Global, report: &Report) -> Result<Vec<u8>, AllocError>
+    ensures { IfOk result (λ text. text.items ≡ report_text report.now.found report.now.heap.items report.now.lanes) }
 {
-    let mut text = String::new(alloc);
-    push_list(&mut text, "kept", &report.kept)?;
-    push_dropped(&mut text, &report.dropped)?;
-    let undone = report.undone;
-    write!(text, "undone {undone}\n")?;
-    push_list(&mut text, "heap", &report.heap)?;
-    Ok(text)
-}
-
-fn push_dropped(text: &mut String, dropped: &[Dropped]) -> Result<(), AllocError>
-    ensures { OnOk result (string_bytes text.new ≡ string_bytes text.old ++ dropped_lines dropped.now) }
-{
-    for section in dropped {
-        push_section(text, section)?;
+    let mut text = Vec::new(alloc);
+    match write_report(&report.found, &report.heap, report.lanes, &mut text) {
+        Ok(()) => Ok(text),
+        Err(_) => Err(AllocError),
     }
-    Ok(())
-}
-
-fn push_section(text: &mut String, dropped: &Dropped) -> Result<(), AllocError>
-    ensures { OnOk result (string_bytes text.new ≡ string_bytes text.old ++ dropped_line dropped.now) }
-{
-    let thread = thread_number(dropped.lane);
-    let section = dropped.section;
-    write!(text, "dropped t{thread} {section}")?;
-    push_why(text, dropped.why)
-}
-
-fn push_why(text: &mut String, why: Why) -> Result<(), AllocError>
-    ensures { OnOk result (string_bytes text.new ≡ string_bytes text.old ++ why_dropped why) }
-{
-    match why {
-        Why::Unfinished => text.push_str(" unfinished\n"),
-        Why::After { lane, section } => push_after(text, lane, section),
-        Why::Unsettled => text.push_str(" unsettled\n"),
-    }
-}
-
-fn push_after(text: &mut String, lane: Lane, section: u64) -> Result<(), AllocError>
-    ensures { OnOk result (string_bytes text.new ≡ string_bytes text.old ++ why_dropped (kinds.After lane section)) }
-{
-    let thread = thread_number(lane);
-    write!(text, " after t{thread} {section}\n")
 }
 
 // The thread of a lane, by the number that texts show.
@@ -127,15 +97,15 @@ fn thread_number(lane: Lane) -> u64
     lane.0 as u64 + 1
 }
 
-fn refused(alloc: Global, refusal: &Refusal) -> Result<String, AllocError>
-    ensures { IfOk result (λ text. string_bytes text ≡ refused_line refusal.now) }
+fn refused(alloc: Global, refusal: &Refusal) -> Result<Vec<u8>, AllocError>
+    ensures { IfOk result (λ text. text.items ≡ refused_line refusal.now) }
 {
     let mut text = String::new(alloc);
     text.push_str("refused ")?;
     text.push_str(words_of(refusal))?;
     push_place(&mut text, place_in(refusal))?;
     text.push_str("\n")?;
-    Ok(text)
+    Ok(text.into_bytes())
 }
 
 // Adds the record that is to blame, if there is one.

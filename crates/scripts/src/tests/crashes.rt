@@ -1,0 +1,241 @@
+//! What is shown and recovered after a crash.
+use crate::tests::expect_run;
+use std::alloc::{AllocError, Global};
+use std::process::Abort;
+use std::test::Fail;
+
+// A section that is logged, written home and acknowledged.
+const ACKNOWLEDGED: (&[u8], &[u8]) = (
+    b"\
+object o0\n\
+object o1\n\
+object o2\n\
+object o3\n\
+field f0 o0 o0 10\n\
+field f1 o1 o1 20\n\
+format 2 4000\n\
+t1 enter o0\n\
+t1 store f0 5\n\
+t1 exit o0\n\
+log\n\
+home\n\
+settle\n\
+",
+    b"\
+formatted 130208\n\
+ok\n\
+ok\n\
+ok\n\
+logged 3\n\
+wrote 1\n\
+acknowledged 1 0\n\
+",
+);
+
+// Two sections, of which the second took what the first freed. Both are acknowledged once the first has ended.
+const BOTH: (&[u8], &[u8]) = (
+    b"\
+object o0\n\
+object o1\n\
+object o2\n\
+object o3\n\
+field f0 o0 o0 10\n\
+field f1 o1 o1 20\n\
+format 2 4000\n\
+t1 enter o0\n\
+t1 enter o1\n\
+t1 store f0 1\n\
+t1 exit o0\n\
+t2 enter o0\n\
+t2 store f0 2\n\
+t2 exit o0\n\
+log\n\
+home\n\
+settle\n\
+t1 exit o1\n\
+log\n\
+home\n\
+settle\n\
+",
+    b"\
+formatted 130208\n\
+ok\n\
+ok\n\
+ok\n\
+ok\n\
+ok\n\
+ok\n\
+ok\n\
+logged 7\n\
+wrote 1\n\
+acknowledged 0 0\n\
+ok\n\
+logged 1\n\
+wrote 0\n\
+acknowledged 1 1\n\
+",
+);
+
+// A section that is logged and written home, and not acknowledged.
+const LOGGED: (&[u8], &[u8]) = (
+    b"\
+object o0\n\
+object o1\n\
+object o2\n\
+object o3\n\
+field f0 o0 o0 10\n\
+field f1 o1 o1 20\n\
+format 2 4000\n\
+t1 enter o0\n\
+t1 store f0 5\n\
+t1 exit o0\n\
+log\n\
+home\n\
+",
+    b"\
+formatted 130208\n\
+ok\n\
+ok\n\
+ok\n\
+logged 3\n\
+wrote 1\n\
+",
+);
+
+const SECTION_KEPT: &[u8] = b"kept 1 0\nundone 0\nheap 5 20\n";
+
+const SECTION_DROPPED: &[u8] = b"kept 0 0\ndropped t1 1 unsettled\nundone 1\nheap 10 20\n";
+
+const BOTH_KEPT: &[u8] = b"kept 1 1\nundone 0\nheap 2 20\n";
+
+const BOTH_DROPPED: &[u8] = b"\
+kept 0 0\n\
+dropped t1 1 unsettled\n\
+dropped t2 1 unsettled\n\
+undone 1\n\
+heap 10 20\n\
+";
+
+fn joined(alloc: Global, parts: [&[u8]; 3]) -> Result<Vec<u8>, AllocError> {
+    let mut text = Vec::new(alloc);
+    for part in parts {
+        text.extend_from_slice(part)?;
+    }
+    Ok(text)
+}
+
+// Plays the script, then this crash and a recovery.
+fn expect_recovery(
+    rt: &impl Abort,
+    alloc: Global,
+    script: (&[u8], &[u8]),
+    crash: &[u8],
+    report: &[u8],
+) -> Result<(), AllocError> {
+    let (lines, printed) = script;
+    let lines = joined(alloc, [lines, crash, b"recover\n"])?;
+    let printed = joined(alloc, [printed, b"crashed\n", report])?;
+    expect_run(rt, alloc, &lines, &printed, Ok(()));
+    Ok(())
+}
+
+// The last calls of a settling, from the end: a sync, the gate's opening, a sync, the body, a sync, the gate's closing.
+#[test]
+fn crashes_are_recovered(rt: HostRuntime) -> Result<(), Fail> {
+    let cases = [
+        (LOGGED, b"crash kept\n".as_slice(), SECTION_DROPPED),
+        (ACKNOWLEDGED, b"crash kept back 2\n", SECTION_KEPT),
+        (ACKNOWLEDGED, b"crash lost back 2\n", SECTION_DROPPED),
+        (ACKNOWLEDGED, b"crash a5 back 3\n", SECTION_DROPPED),
+        (ACKNOWLEDGED, b"crash a5 back 6\n", SECTION_DROPPED),
+        (BOTH, b"crash lost back 1\n", BOTH_DROPPED),
+        (BOTH, b"crash kept back 1\n", BOTH_KEPT),
+    ];
+    for (script, crash, report) in cases {
+        expect_recovery(&rt, rt.alloc(), script, crash, report)?;
+    }
+    Ok(())
+}
+
+// A section that drags another along, shown after the crash and not before it.
+const DRAGGED: (&[u8], &[u8]) = (
+    b"\
+object o0\n\
+object o1\n\
+object o2\n\
+object o3\n\
+field f0 o0 o0 10\n\
+field f1 o1 o1 20\n\
+format 2 4000\n\
+t1 enter o0\n\
+t1 enter o1\n\
+t1 store f0 1\n\
+t1 exit o0\n\
+t2 enter o0\n\
+t2 store f0 2\n\
+t2 exit o0\n\
+log\n\
+home\n\
+settle\n\
+show\n\
+crash lost\n\
+show\n\
+recover\n\
+",
+    b"\
+formatted 130208\n\
+ok\n\
+ok\n\
+ok\n\
+ok\n\
+ok\n\
+ok\n\
+ok\n\
+logged 7\n\
+wrote 1\n\
+acknowledged 0 0\n\
+refused state\n\
+crashed\n\
+image lanes 2 capacity 4000 objects 4 fields 2 size 130208\n\
+control a sequence 3 version 1\n\
+lane t1 start 0 settled 0 logged 4 kept 0\n\
+lane t2 start 0 settled 0 logged 3 kept 0\n\
+section t1 1 unfinished records 4\n\
+section t2 1 whole records 3\n\
+depends t2 1 on t1 1 object 0 number 1\n\
+cut 0 0\n\
+heap 10 20\n\
+kept 0 0\n\
+dropped t1 1 unfinished\n\
+dropped t2 1 after t1 1\n\
+undone 1\n\
+heap 10 20\n\
+",
+);
+
+// A crash before the last sync of the format.
+const UNFORMATTED: (&[u8], &[u8]) = (
+    b"\
+object o0\n\
+field f0 o0 o0 10\n\
+format 1 2000\n\
+crash lost back 1\n\
+show\n\
+recover\n\
+heap\n\
+",
+    b"\
+formatted 34184\n\
+crashed\n\
+refused not formatted\n\
+refused not formatted\n\
+refused state\n\
+",
+);
+
+#[test]
+fn images_are_shown(rt: HostRuntime) {
+    for (script, printed) in [DRAGGED, UNFORMATTED] {
+        expect_run(&rt, rt.alloc(), script, printed, Ok(()));
+    }
+}
