@@ -14,3 +14,5 @@ mod FieldLemmas
 mod StoreLemmas
 mod WaitLemmas
 mod ListLemmas
+mod HomeLemmas
+mod AgreementLemmas
