@@ -15,3 +15,5 @@ mod StoreLemmas
 mod WaitLemmas
 mod ListLemmas
 mod CrashLemmas
+mod HomeLemmas
+mod AgreementLemmas

@@ -11,6 +11,7 @@ pub mod Table
 pub mod Answers
 pub mod States
 pub mod Homes
+pub mod Agreement
 pub mod Reports
 pub mod Studies
 pub mod Refusals

@@ -139,8 +139,8 @@ impl Phase {
         ensures { IfOk result (λ r. machine.Steps (shown self) order.Log r.1 (shown r.0)) }
     {
         match self {
-            Phase::Running(mut running) => {
-                let answer = running.log()?;
+            Phase::Running(running) => {
+                let (running, answer) = running.log()?;
                 Ok((Phase::Running(running), answer))
             }
             other => Ok(other.refuse()),
@@ -151,8 +151,8 @@ impl Phase {
         ensures { IfOk result (λ r. machine.Steps (shown self) order.Home r.1 (shown r.0)) }
     {
         match self {
-            Phase::Running(mut running) => {
-                let answer = running.home()?;
+            Phase::Running(running) => {
+                let (running, answer) = running.home()?;
                 Ok((Phase::Running(running), answer))
             }
             other => Ok(other.refuse()),
@@ -163,8 +163,8 @@ impl Phase {
         ensures { IfOk result (λ r. machine.Steps (shown self) order.Settle r.1 (shown r.0)) }
     {
         match self {
-            Phase::Running(mut running) => {
-                let answer = running.settle(alloc)?;
+            Phase::Running(running) => {
+                let (running, answer) = running.settle(alloc)?;
                 Ok((Phase::Running(running), answer))
             }
             other => Ok(other.refuse()),
@@ -255,7 +255,7 @@ fn recover_down(alloc: Global, down: Down) -> Result<(Phase, Answer), AllocError
     ensures { IfOk result (λ r. machine.RecoversDevice (machine.Down down) r.1 (shown r.0) down) }
 {
     let (schema, disk) = down.into_parts();
-    match restore(alloc, disk)? {
+    match restore(alloc, &schema, disk)? {
         Ok((store, report)) => {
             let lanes = store.layout().lanes;
             let monitors = Monitors::with_values(alloc, schema, LAST_NUMBER, lanes, &report.heap)?;

@@ -1,5 +1,6 @@
 //! How a script tells of what the schema, the monitors, the store and recovery refuse.
-ghost use Rattle.std.specs.Prelude.{◌≡◌};
+ghost use Rattle.std.specs.Prelude.{◌≡◌, Ok};
+ghost use Rattle.scripts.specs.Agreement.{IsForCall, IsForRecord};
 ghost use Rattle.scripts.specs.Refusals.{told_of_monitor, told_of_recovery, told_of_schema, told_of_store};
 
 use crate::answer::Refusal;
@@ -23,22 +24,41 @@ impl From<MonitorRefusal> for Refusal {
     }
 }
 
-/// Why the store refuses a call. A fault of the device in memory is want of memory, and so is each call after it; the
-/// other reasons are none that the monitors leave.
-pub(crate) fn refused_call(why: StoreError) -> Result<Refusal, AllocError>
-    ensures { result ≡ told_of_store why }
+/// Why the store refuses the record of an event that the monitors allow.
+pub(crate) fn refused_record(why: StoreError) -> Refusal
+    requires { IsForRecord why }
+    ensures { told_of_store why ≡ Ok result }
 {
     match why {
-        StoreError::Worn => Ok(Refusal::Worn),
-        StoreError::TooLong => Ok(Refusal::TooLong),
-        StoreError::LogFull => Ok(Refusal::LogFull),
-        StoreError::Unwritten => Ok(Refusal::Unwritten),
+        StoreError::Worn => Refusal::Worn,
+        StoreError::TooLong => Refusal::TooLong,
+        StoreError::LogFull => Refusal::LogFull,
         StoreError::Failed
         | StoreError::BadLane
         | StoreError::BadId
         | StoreError::NotNext
+        | StoreError::Unwritten
         | StoreError::Fault
-        | StoreError::Unfinished => Err(AllocError),
+        | StoreError::Unfinished => unreachable!(),
+    }
+}
+
+/// Why the store refuses to log or to settle. A fault of the device in memory is want of memory, which is no refusal.
+pub(crate) fn refused_call(why: StoreError) -> Result<Refusal, AllocError>
+    requires { IsForCall why }
+    ensures { result ≡ told_of_store why }
+{
+    match why {
+        StoreError::Worn => Ok(Refusal::Worn),
+        StoreError::Unwritten => Ok(Refusal::Unwritten),
+        StoreError::Fault => Err(AllocError),
+        StoreError::Failed
+        | StoreError::BadLane
+        | StoreError::BadId
+        | StoreError::NotNext
+        | StoreError::TooLong
+        | StoreError::LogFull
+        | StoreError::Unfinished => unreachable!(),
     }
 }
 

@@ -6,6 +6,7 @@ ghost use Rattle.block_disk.specs.Device.{Image};
 ghost use Rattle.block_disk.specs.Memory.{fresh, moment_after};
 ghost use Rattle.heap_model.specs.Events.{MayDo};
 ghost use Rattle.heap_model.specs.State.{Awake};
+ghost use Rattle.scripts.specs.Agreement.{Agrees};
 ghost use Rattle.scripts.specs.Table.{lanes_of, setting_of, state_of, IsStepOf};
 ghost use Rattle.scripts.specs.Orders.{step_of};
 ghost use Rattle.scripts.specs.Orders as order;
@@ -16,16 +17,19 @@ ghost use Rattle.scripts.specs.States.{begun_at, crash_back};
 use crate::answer::{Answer, Refusal};
 use crate::command::Step;
 use crate::monitors::Monitors;
-use crate::refusals::refused_call;
+use crate::refusals::{refused_call, refused_record};
 use crate::store_calls::{acknowledged_counts, applied_values, keep_record, write_homes};
 use block_disk::{Fill, MemDisk};
 use durable::Store;
 use guards::Schema;
-use heap_model::{Event, FieldId, Lane, ObjectId};
+use heap_model::{Event, FieldId, Lane, ObjectId, log_law, stable_law};
 use std::alloc::{AllocError, Global};
 use std::marker::Model;
 
-/// The monitors, and the store behind them.
+/// The monitors, and the store behind them. They agree: what the store was told are the logged events of a legal history,
+/// and the monitors are in the state after it. So the store never refuses a step's record as one that isn't the next.
+///
+/// Its device hasn't failed: after a fault there is no such machine, and a call that may meet one takes it whole.
 #[derive(Drop)]
 pub(crate) struct Running {
     monitors: Monitors,
@@ -34,15 +38,19 @@ pub(crate) struct Running {
 
 impl Model for Running {
     ghost use Rattle.scripts.specs.States.{Live};
+    ghost use Rattle.scripts.specs.Agreement.{Agrees};
 
     ghost Value = { Live };
 
     ghost view = { λ r. record { monitors = r.monitors; store = r.store } };
+
+    ghost invariant = { λ r. Agrees r.monitors r.store };
 }
 
 impl Running {
     /// These monitors over this store.
     pub(crate) fn new(monitors: Monitors, store: Store<MemDisk>) -> Running
+        requires { Agrees monitors store }
         ensures { result ≡ record { monitors = monitors; store = store } }
     {
         Running { monitors, store }
@@ -219,38 +227,56 @@ impl Running {
         requires allowed { MayDo (setting_of self.old.monitors) (state_of self.old.monitors) thread.0 event.now }
         ensures { IfOk result (λ answer. machine.Does (machine.Running self.old) answer (machine.Running self.new) self.old thread.0 said event.now) }
     {
+        // What the monitors allow is the next of the store's records.
+        log_law();
         if let Err(why) = keep_record(&mut self.store, thread, event) {
-            return Ok(Answer::Refused(refused_call(why)?));
+            return Ok(Answer::Refused(refused_record(why)));
         }
         self.monitors.perform(thread, event)?;
         Ok(said)
     }
 
     /// Logs the records that no log has yet.
-    pub(crate) fn log(&mut self) -> Result<Answer, AllocError>
-        ensures { IfOk result (λ answer. machine.LogsRecords (machine.Running self.old) answer (machine.Running self.new) self.old) }
+    pub(crate) fn log(self) -> Result<(Running, Answer), AllocError>
+        ensures { IfOk result (λ r. machine.LogsRecords (machine.Running self) r.1 (machine.Running r.0) self) }
     {
-        match self.store.log_step() {
-            Ok(records) => Ok(Answer::Logged(records)),
-            Err(why) => Ok(Answer::Refused(refused_call(why)?)),
-        }
+        let Running {
+            monitors,
+            mut store,
+        } = self;
+        let answer = match store.log_step() {
+            Ok(records) => Answer::Logged(records),
+            Err(why) => Answer::Refused(refused_call(why)?),
+        };
+        Ok((Running { monitors, store }, answer))
     }
 
     /// Writes home until nothing is left to write.
-    pub(crate) fn home(&mut self) -> Result<Answer, AllocError>
-        ensures { IfOk result (λ answer. machine.WritesHome (machine.Running self.old) answer (machine.Running self.new) self.old) }
+    pub(crate) fn home(self) -> Result<(Running, Answer), AllocError>
+        ensures { IfOk result (λ r. machine.WritesHome (machine.Running self) r.1 (machine.Running r.0) self) }
     {
-        Ok(Answer::Wrote(write_homes(&mut self.store)?))
+        let Running {
+            monitors,
+            mut store,
+        } = self;
+        let cells = write_homes(&mut store)?;
+        Ok((Running { monitors, store }, Answer::Wrote(cells)))
     }
 
     /// Settles what may be settled.
-    pub(crate) fn settle(&mut self, alloc: Global) -> Result<Answer, AllocError>
-        ensures { IfOk result (λ answer. machine.Settles (machine.Running self.old) answer (machine.Running self.new) self.old) }
+    pub(crate) fn settle(self, alloc: Global) -> Result<(Running, Answer), AllocError>
+        ensures { IfOk result (λ r. machine.Settles (machine.Running self) r.1 (machine.Running r.0) self) }
     {
-        match self.store.settle() {
-            Ok(()) => Ok(Answer::Acknowledged(acknowledged_counts(alloc, &self.store)?)),
-            Err(why) => Ok(Answer::Refused(refused_call(why)?)),
-        }
+        let Running {
+            monitors,
+            mut store,
+        } = self;
+        stable_law();
+        let answer = match store.settle() {
+            Ok(()) => Answer::Acknowledged(acknowledged_counts(alloc, &store)?),
+            Err(why) => Answer::Refused(refused_call(why)?),
+        };
+        Ok((Running { monitors, store }, answer))
     }
 
     /// The applied values of all fields.

@@ -1,5 +1,5 @@
 //! Calls of the store for all fields, or for all lanes.
-ghost use Rattle.std.specs.Prelude.{◌≡◌, ◌<◌, ℕ, length, slice_index, IfOk, IfErr, OnOk, OnErr};
+ghost use Rattle.std.specs.Prelude.{◌≡◌, ◌<◌, ℕ, false, length, slice_index, IfOk, IfErr, OnOk, OnErr};
 ghost use Rattle.heap_model.specs.Setting.{Setting};
 ghost use Rattle.heap_model.specs.Log.{value};
 ghost use Rattle.heap_model.specs.History.{logged};
@@ -23,6 +23,7 @@ pub(crate) fn keep_record(
     ensures kept { OnOk result (Keeps store.old thread.0 (logged event.now) store.new) }
     ensures refused { IfErr result (λ e. (s : Setting) (p : Past) → Tells store.old s p → RefusesRecord store.old s p thread.0 (logged event.now) e) }
     ensures err { OnErr result (store.new ≡ store.old) }
+    ensures running { store.old.known.has_failed ≡ false → store.new.known.has_failed ≡ false }
 {
     match record_of(event) {
         None => Ok(()),
@@ -33,18 +34,20 @@ pub(crate) fn keep_record(
 /// Takes home steps until no field is dirty, and answers how many cells were written. A fault of the device is want of
 /// memory.
 pub(crate) fn write_homes(store: &mut Store<MemDisk>) -> Result<u64, AllocError>
-    ensures { (s : Setting) (p : Past) → Tells store.old s p → IfOk result (BringsHome store.new s p) }
+    ensures homes { (s : Setting) (p : Past) → Tells store.old s p → IfOk result (BringsHome store.new s p) }
+    ensures running { store.old.known.has_failed ≡ false → OnOk result (store.new.known.has_failed ≡ false) }
+    ensures layout { store.new.known.layout ≡ store.old.known.layout }
 {
     let fields = store.layout().fields;
-    for written in 0..=fields {
+    // A step writes a greater field than the one before it, so no field is dirty after as many steps as there are fields.
+    for written in 0..fields {
         match store.home_step() {
             Ok(Home::Wrote(_)) => {}
             Ok(Home::Done) => return Ok(u64::from(written)),
             Err(_) => return Err(AllocError),
         }
     }
-    // Each step leaves one field less dirty, so it doesn't come here.
-    Err(AllocError)
+    Ok(u64::from(fields))
 }
 
 /// The applied value of each field, by number.

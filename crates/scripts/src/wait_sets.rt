@@ -1,5 +1,5 @@
 //! The wait sets of the monitors: who waits, who is woken, and who takes a monitor again (JLS 17.2).
-ghost use Rattle.std.specs.Prelude.{◌≡◌, ◌≢◌, ◌<◌, ◌≤◌, ◌+◌, ◌^◌, ◌↔◌, ◌++◌, ◌∷◌, [], ℕ, List, All, take, if◌then◌else◌, IsTrue, Some, None, IfOk, OnOk};
+ghost use Rattle.std.specs.Prelude.{◌≡◌, ◌≢◌, ◌<◌, ◌≤◌, ◌+◌, ◌^◌, ◌↔◌, ◌++◌, ◌∷◌, [], ℕ, List, All, take, if◌then◌else◌, IsTrue, Some, None, IfOk, OnErr, OnOk};
 ghost use Rattle.guards.specs.Schema.{object_count};
 ghost use Rattle.heap_model.specs.State.{Awake, InSet, Woken, IsWoken, with_at, woken_from};
 ghost use Rattle.heap_model.specs.Events.{MayDo};
@@ -126,6 +126,7 @@ impl Monitors {
         ensures woken { IfOk result (λ v. v.items ≡ take 1 (wait_set (lanes_of self.old) (state_of self.old) object.0)) }
         ensures after { IfOk result (λ v. IsAfter self.old thread.0
             (Notify object (least_of (wait_set (lanes_of self.old) (state_of self.old) object.0))) self.new) }
+        ensures err { OnErr result (self.new ≡ self.old) }
     {
         let mut set = self.wait_set(alloc, object)?;
         self.wake_least(thread, object, &set);
@@ -142,6 +143,7 @@ impl Monitors {
     ) -> Result<Vec<Lane>, AllocError>
         ensures woken { IfOk result (λ v. v.items ≡ wait_set (lanes_of self.old) (state_of self.old) object.0) }
         ensures after { IfOk result (λ v. IsAfter self.old thread.0 (NotifyAll object v.items) self.new) }
+        ensures err { OnErr result (self.new ≡ self.old) }
     {
         let set = self.wait_set(alloc, object)?;
         self.wake_all(thread, object);

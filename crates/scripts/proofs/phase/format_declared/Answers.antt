@@ -10,6 +10,9 @@ use Rattle.scripts.specs.declared.answer.Answer.TheVariants.{Formatted}
 use Rattle.scripts.specs.Machine as machine
 use Rattle.scripts.specs.States.{Tells}
 use Rattle.scripts.specs.Table.{setting_in}
+use Rattle.image.specs.declared.layout.Layout.{Layout}
+use Rattle.scripts.specs.Limits.{IsFormattable}
+use Rattle.scripts.proofs.AgreementLemmas.{agree-formatted}
 use Rattle.scripts.proofs.phase.format_declared.Goals as goal
 
 not_both : (b : Bool) → IsTrue b → b ≡ false → ⊥
@@ -38,3 +41,16 @@ returns c =
         };
       };
     }
+
+pub format_store-requires : goal.format_store-requires
+format_store-requires c =
+    let same = c.in-Some.ensures.same in
+    let good : IsFormattable c.args.lanes c.args.capacity = c.format_numbers.ensures.limits.0 (subst IsSome (sym c.in-Some.is) refl) in
+    subst (λ n. IsFormattable n c.in-Some.capacity) (sym same.0) (subst (λ n. IsFormattable c.args.lanes n) (sym same.1) good)
+
+pub new-running-requires : goal.new-running-requires
+new-running-requires c =
+    let monitors = c.in_ok-monitors.ensures in
+    let store = c.in_ok-store.ensures in
+    agree-formatted c.build-schema.result c.in_ok-monitors.monitors c.in_ok-store.store monitors.schema monitors.last monitors.state store.tells
+    (ap (λ (l : Layout). l.lanes) store.layout ∙ sym monitors.lanes) store.running

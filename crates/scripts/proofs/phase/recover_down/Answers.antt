@@ -4,6 +4,7 @@ use Rattle.image.specs.declared.layout.Layout.{Layout}
 use Rattle.block_disk.specs.Memory.{Memory}
 use Rattle.scripts.specs.Machine as machine
 use Rattle.scripts.specs.Reports.{Restores}
+use Rattle.scripts.proofs.AgreementLemmas.{agree-restored}
 use Rattle.scripts.proofs.phase.recover_down.Goals as goal
 
 pub returns-in_ok-monitors-in-Ok : goal.returns-in_ok-monitors-in-Ok
@@ -12,7 +13,7 @@ returns-in_ok-monitors-in-Ok c = inl (record {
   report = c.in-Ok.report;
   answers = refl;
   runs = ap machine.Running c.new-running.ensures;
-  restores = subst (λ (d : Memory). Restores d c.in-Ok.store c.in-Ok.report) (ap (λ (p : Declarations × Memory). p.1) c.into_parts-schema.ensures) (rw c.in-Ok.is at c.in_ok-store.ensures);
+  restores = subst (λ (d : Memory). Restores d c.in-Ok.store c.in-Ok.report) (ap (λ (p : Declarations × Memory). p.1) c.into_parts-schema.ensures) (rw c.in-Ok.is at c.in_ok-store.ensures.restored);
   restored = record {
     first = slice_index c.in_ok-monitors-in-Ok.monitors.values;
     fresh_monitors = record {
@@ -24,3 +25,10 @@ returns-in_ok-monitors-in-Ok c = inl (record {
     values = λ f below. c.in_ok-monitors-in-Ok.ensures.values f (subst (λ (d : Declarations). f < field_count d) (sym (ap (λ (p : Declarations × Memory). p.0) c.into_parts-schema.ensures)) below) ∙ ap (λ xs. slice_index xs f) c.deref.ensures.value;
   };
 })
+
+pub new-running-requires : goal.new-running-requires
+new-running-requires c =
+    let monitors = c.in_ok-monitors-in-Ok.ensures in
+    agree-restored c.into_parts-schema.result.0 c.in-Ok.report.heap.items c.in_ok-monitors-in-Ok.monitors c.in-Ok.store monitors.schema monitors.last monitors.state
+    (λ f below. monitors.values f below ∙ ap (λ xs. slice_index xs f) c.deref.ensures.value) (rw c.in-Ok.is at c.in_ok-store.ensures.begins)
+    (sym (monitors.lanes ∙ ap (λ (l : Layout). l.lanes) c.layout-lanes.ensures))

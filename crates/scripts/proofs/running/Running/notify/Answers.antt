@@ -1,4 +1,4 @@
-use Rattle.std.proofs.Common.{rules, ◌≡◌, ℕ, List, Some, Result, MatchResult, sym, ap, refl, subst}
+use Rattle.std.proofs.Common.{rules, ◌≡◌, ◌<◌, ℕ, List, Some, Result, MatchResult, sym, ap, refl, subst}
 use Rattle.heap_model.specs.declared.ids.ObjectId.{ObjectId}
 use Rattle.heap_model.specs.State.{Awake}
 use Rattle.scripts.specs.declared.answer.Answer.{Answer}
@@ -6,10 +6,15 @@ use Rattle.scripts.specs.declared.answer.Answer.TheVariants.{Woke}
 use Rattle.scripts.specs.declared.answer.Refusal.{Refusal}
 use Rattle.scripts.specs.Lookups.{object_of}
 use Rattle.scripts.specs.States.{Live}
-use Rattle.scripts.specs.Table.{state_of}
+use Rattle.scripts.specs.Table.{Table, lanes_of, state_of}
 use Rattle.scripts.specs.Machine as machine
 use Rattle.scripts.proofs.PlanLemmas.{looked_up, notified}
 use Rattle.scripts.proofs.StoreLemmas.{live}
+use Rattle.scripts.proofs.AgreementLemmas.{goes-on}
+use Rattle.scripts.proofs.WaitLemmas.{least-may, beyond-awake}
+use Rattle.scripts.specs.WaitSets.{least_of, wait_set}
+use Rattle.guards.specs.Schema.{object_count}
+use Rattle.heap_model.specs.declared.event.Event.TheVariants.{Notify}
 use Rattle.scripts.proofs.running.Running.notify.Goals as goal
 
 pub returns : goal.returns
@@ -29,3 +34,14 @@ returns c =
     (notified (machine.Running m0) said new m0 t o table awake mine refl (ap Some w.woken) w.after) in
     looked_up old said new object_of m m.monitors.schema.objects c.args.name.now t c.object.result (machine.Notifies old said new m t) c.object.ensures.named
     (subst (λ (r : Result ObjectId Refusal). MatchResult r (machine.Notifies old said new m t) (machine.Refuses old said new)) (sym c.in-Ok.is) woke)
+
+pub invariant_of-self-2 : goal.invariant_of-self-2
+invariant_of-self-2 c =
+    let a : Table = c.self.inside.monitors in
+    let t : ℕ = c.args.thread.0 in
+    let o : ObjectId = c.in-Ok.object in
+    let awake : (state_of a).waiting t ≡ Awake = subst (λ (z : Live). (state_of z.monitors).waiting t ≡ Awake) (sym c.self.view_is) c.in-Ok.ensures.awake in
+    let mine : (state_of a).owner o.0 ≡ Some t = c.owns.ensures.0 (search rules) in
+    let within : o.0 < object_count a.schema = subst (λ (z : Live). o.0 < object_count z.monitors.schema) (sym c.self.view_is) c.in-Ok.ensures.within in
+    goes-on a c.notify.new.self c.self.inside.store c.self.inside.store t (Notify o (least_of (wait_set (lanes_of a) (state_of a) o.0))) c.self.invariant
+    (awake, mine, least-may (state_of a) o.0 (lanes_of a) (beyond-awake a)) within refl c.self.invariant.running c.in_ok-woken.ensures.after
