@@ -1,6 +1,8 @@
 -- What showing an image writes, and drawing it (docs/SCRIPTS.md, "The inspector's lines").
 use Rattle.std.specs.Prelude.{ℕ, ◌≡◌, ◌⊎◌, Option, List, []}
 use Rattle.std.specs.Io.KnownBytes.{Appends, Consumes, IsAtEnd}
+use Rattle.block_disk.specs.declared.error.FileError.{FileError}
+use Rattle.block_disk.specs.declared.error.FileError.TheVariants as files
 use Rattle.inspect.specs.Inspection.{Inspects, Refuses}
 use Rattle.inspect.specs.declared.error.InspectError.{InspectError}
 use Rattle.inspect.specs.declared.error.InspectError.TheVariants as inspections
@@ -16,6 +18,11 @@ pub record ReadsImage (old new : Option (List ℕ)) (image : List ℕ) : Type 0 
 -- why an image can't be had: the reader failed, or there was no memory
 abbrev pub IsUnread : RecoverError → Type 0
 IsUnread why = (why ≡ Fault) ⊎ (why ≡ NoMemory)
+
+-- how a refusal of the image file is told
+abbrev pub told_of_attaching : FileError → RecoverError
+told_of_attaching files.Fault = Fault
+told_of_attaching files.NoMemory = NoMemory
 
 -- how a refusal to inspect an image is told
 abbrev pub told_of_inspection : InspectError → RecoverError

@@ -1,6 +1,8 @@
 //! How refusals of the layers below are told of an image.
-ghost use Rattle.std.specs.Prelude.{◌≡◌};
-ghost use Rattle.image_file.specs.Showing.{IsUnread, told_of_inspection};
+ghost use Rattle.std.specs.Prelude.{◌≡◌, ◌≢◌};
+ghost use Rattle.std.specs.IoError.{error_kind};
+ghost use Rattle.recover.specs.declared.error.RecoverError.TheVariants.{Fault, NoMemory};
+ghost use Rattle.image_file.specs.Showing.{IsUnread, told_of_attaching, told_of_inspection};
 
 use block_disk::FileError;
 use inspect::InspectError;
@@ -9,7 +11,7 @@ use std::io::{Error, ErrorKind};
 
 /// There is no device over the image file.
 pub(crate) fn refusal_of_file(error: FileError) -> RecoverError
-    ensures { IsUnread result }
+    ensures { result ≡ told_of_attaching error }
 {
     match error {
         FileError::Fault => RecoverError::Fault,
@@ -19,12 +21,13 @@ pub(crate) fn refusal_of_file(error: FileError) -> RecoverError
 
 /// The image could not be read.
 pub(crate) fn refusal_of_reading(error: &Error) -> RecoverError
-    ensures { IsUnread result }
+    ensures memory { error_kind error.now ≡ ErrorKind.OutOfMemory → result ≡ NoMemory }
+    ensures other { error_kind error.now ≢ ErrorKind.OutOfMemory → result ≡ Fault }
+    ensures unread { IsUnread result }
 {
-    if error.kind() == ErrorKind::OutOfMemory {
-        RecoverError::NoMemory
-    } else {
-        RecoverError::Fault
+    match error.kind() {
+        ErrorKind::OutOfMemory => RecoverError::NoMemory,
+        _ => RecoverError::Fault,
     }
 }
 

@@ -196,10 +196,10 @@ fn a_refused_file_keeps_each_byte(rt: HostRuntime) -> Result<(), Fail> {
 
 #[test]
 fn a_missing_file_is_a_fault(rt: HostRuntime) -> Result<(), Fail> {
-    check(recover_there(&rt, "image"), Err(RecoverError::Fault), b"")?;
-    check(show_there(&rt, "image"), Err(RecoverError::Fault), b"")?;
-    check(draw_there(&rt, "image"), Err(RecoverError::Fault), b"")?;
-    assert!(rt; fs::metadata(&rt, "image").is_err());
+    check(recover_there(&rt, "missing"), Err(RecoverError::Fault), b"")?;
+    check(show_there(&rt, "missing"), Err(RecoverError::Fault), b"")?;
+    check(draw_there(&rt, "missing"), Err(RecoverError::Fault), b"")?;
+    assert!(rt; fs::metadata(&rt, "missing").is_err());
     Ok(())
 }
 
