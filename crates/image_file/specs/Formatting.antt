@@ -1,5 +1,5 @@
 -- What making an image for the schema of a file gives and refuses (docs/SCRIPTS.md, "The program's fault texts").
-use Rattle.std.specs.Prelude.{◌≡◌, ◌⊎◌, ℕ, List, Option, replicate}
+use Rattle.std.specs.Prelude.{◌≡◌, ℕ, List, Option, replicate}
 use Rattle.std.specs.Io.KnownBytes.{Appends}
 use Rattle.block_disk.specs.Device.{Device}
 use Rattle.block_disk.specs.Mirror.{new_device}

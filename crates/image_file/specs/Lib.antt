@@ -1,1 +1,4 @@
 pub mod Formatting
+pub mod Telling
+pub mod Recovering
+pub mod Showing

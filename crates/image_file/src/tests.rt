@@ -1,4 +1,6 @@
-//! Image files in an empty folder, and makers and writers that fail.
+//! Image files in an empty folder.
+mod files;
+
 use super::*;
 use scripts::{SchemaFault, SchemaFaultKind};
 use std::fs;

@@ -1,0 +1,53 @@
+-- What showing an image writes, and drawing it (docs/SCRIPTS.md, "The inspector's lines").
+use Rattle.std.specs.Prelude.{ℕ, ◌≡◌, ◌⊎◌, Option, List, []}
+use Rattle.std.specs.Io.KnownBytes.{Appends, Consumes, IsAtEnd}
+use Rattle.block_disk.specs.declared.error.FileError.{FileError}
+use Rattle.block_disk.specs.declared.error.FileError.TheVariants as files
+use Rattle.inspect.specs.Inspection.{Inspects, Refuses}
+use Rattle.inspect.specs.declared.error.InspectError.{InspectError}
+use Rattle.inspect.specs.declared.error.InspectError.TheVariants as inspections
+use Rattle.recover.specs.declared.error.RecoverError.{RecoverError}
+use Rattle.recover.specs.declared.error.RecoverError.TheVariants.{Fault, NoMemory}
+use Rattle.recover.specs.declared.studied.Study.{Study}
+
+-- all that the reader had left was read: this image
+pub record ReadsImage (old new : Option (List ℕ)) (image : List ℕ) : Type 0 where
+  pub taken : Consumes old new image
+  pub whole : IsAtEnd new
+
+-- why an image can't be had: the reader failed, or there was no memory
+abbrev pub IsUnread : RecoverError → Type 0
+IsUnread why = (why ≡ Fault) ⊎ (why ≡ NoMemory)
+
+-- how a refusal of the image file is told
+abbrev pub told_of_attaching : FileError → RecoverError
+told_of_attaching files.Fault = Fault
+told_of_attaching files.NoMemory = NoMemory
+
+-- how a refusal to inspect an image is told
+abbrev pub told_of_inspection : InspectError → RecoverError
+told_of_inspection (inspections.Study why) = why
+told_of_inspection inspections.Write = Fault
+
+-- the image was read, and its text written
+pub record Shows (text : Study → List ℕ) (read_old read_new old new : Option (List ℕ)) : Type 0 where
+  pub image : List ℕ
+  pub read : ReadsImage read_old read_new image
+  pub shown : Inspects text image old new
+
+-- the image was not had, and nothing was written
+pub record IsNotRead (old new : Option (List ℕ)) (why : RecoverError) : Type 0 where
+  pub why_is : IsUnread why
+  pub silent : Appends old new []
+
+-- the image was read, and it is refused, or the writer failed
+pub record IsNotShown (text : Study → List ℕ) (read_old read_new old new : Option (List ℕ)) (why : RecoverError) : Type 0 where
+  pub image : List ℕ
+  pub read : ReadsImage read_old read_new image
+  pub reason : InspectError
+  pub told : why ≡ told_of_inspection reason
+  pub refused : Refuses text image old new reason
+
+-- what a refusal says of what was read, and of what was written
+abbrev pub RefusesToShow : (text : Study → List ℕ) → (read_old read_new old new : Option (List ℕ)) → RecoverError → Type 0
+RefusesToShow text read_old read_new old new why = IsNotRead old new why ⊎ IsNotShown text read_old read_new old new why
