@@ -1,8 +1,8 @@
 -- What the text of an option is read as.
-use Rattle.std.proofs.Common.{◌≡◌, ℕ, Bool, true, false, ◌&&◌, List, [], Option, None, Some, Result, Ok, Err, option_map, refl, sym, ap, ◌∙◌}
-use Rattle.std.specs.Prelude.{not, unwrap_or}
+use Rattle.std.proofs.Common.{◌≡◌, ◌↔◌, ℕ, Bool, true, false, ◌&&◌, List, [], Option, None, Some, Result, Ok, Err, option_map, refl, sym, ap, ◌∙◌, arith, codes, length, subst}
+use Rattle.std.specs.Prelude.{IsTrue, not, unwrap_or}
 use Rattle.std.specs.Borrow.{Bor}
-use Rattle.std.specs.Str.Parse.{ParsesUnsigned}
+use Rattle.std.specs.Str.Parse.{ParsesBool, ParsesUnsigned, parse_bool_error}
 use Rattle.clap.specs.Matches.{ReadsOne}
 use Rattle.heapctl.specs.Words.{Reads}
 
@@ -13,6 +13,31 @@ pub reads_number : {E : Type 0} (gives : List ℕ → Result ℕ E → Type 0) (
 reads_number gives bits None r by reads = tt
 reads_number gives bits (Some t) (Some n) by reads = λ numeral fits. (by t (Ok n) (reads t refl)).1
 reads_number gives bits (Some t) None by reads = λ numeral fits. let failed = reads t refl in absurd (by t (Err failed.0) failed.1 (numeral, fits))
+
+-- the type of a value
+abbrev pub type_of : {E : Type 0} → E → Type 0
+type_of {E} e = E
+
+-- a flag
+pub reads_flag : (o : Option (List ℕ)) (r : Option Bool) → (o ≡ None → r ≡ None)
+    → ((t : List ℕ) → o ≡ Some t → ReadsOne (ParsesBool {E = type_of parse_bool_error}) t r) → IsTrue (unwrap_or r false) ↔ (o ≡ Some (codes "true"))
+reads_flag None r none reads =
+    subst (λ x. IsTrue (unwrap_or x false) ↔ (None ≡ Some (codes "true"))) (sym (none refl)) ((λ is. absurd cc), (λ is. absurd cc))
+reads_flag (Some t) (Some true) none reads = ((λ is. ap Some (reads t refl)), (λ is. refl))
+reads_flag (Some t) (Some false) none reads =
+    let other : t ≡ codes "false" = reads t refl in (
+      (λ is. absurd cc),
+      (λ is.
+          let same : t ≡ codes "true" = cc in
+          let lengths : 5 ≡ 4 = ap length (sym other ∙ same) in
+          absurd (omega arith)),
+    )
+reads_flag (Some t) None none reads = (
+  (λ is. absurd cc),
+  (λ is.
+      let same : t ≡ codes "true" = cc in
+      absurd ((reads t refl).1.0 same)),
+)
 
 -- a text, and where there is none the empty one
 pub text_there : (r : Option (Bor (List ℕ))) (s : Bor (List ℕ)) (o : Option (List ℕ)) → r ≡ Some s → option_map (λ x. x.now) r ≡ o → s.now ≡ unwrap_or o []

@@ -1,8 +1,9 @@
 -- Which words the program takes, and what they ask for (this project's own; read as clap 4 reads them).
-use Rattle.std.specs.Prelude.{◌≡◌, ℕ, ◌^◌, ◌<◌, List, [], ◌∷◌, true, codes, pos, Option, None, Some, unwrap_or}
+use Rattle.std.specs.Prelude.{◌≡◌, ◌≢◌, ℕ, ◌^◌, ◌<◌, List, [], ◌∷◌, true, codes, pos, Option, None, Some, unwrap_or}
 use Rattle.std.specs.Str.Parse.{IsNumeral, digits_value, without_leading_plus}
 use Rattle.clap.specs.Simple.{App, Shape, new_app, new_shape, new_rule, with_rule, with_subcommand}
 use Rattle.clap.specs.Walk.{Row, Rule, Text, first_of, one_of}
+use Rattle.clap.specs.declared.builder.action.ArgAction.TheVariants.{SetTrue}
 use Rattle.clap.specs.declared.builder.value_parser.ValueParser.TheVariants.{Signed}
 use Rattle.heapctl.specs.declared.words.Words.{Words}
 use Rattle.heapctl.specs.declared.words.Words.TheVariants as words
@@ -29,10 +30,22 @@ capacity_option = record (new_rule (codes "capacity")) {
   parser = Some (Signed (pos 2000) (pos 1048576));
 }
 
+-- the flag that asks for a graph
+abbrev pub dot_flag : Rule
+dot_flag = record (new_rule (codes "dot")) { long = Some (codes "dot"); action = Some SetTrue }
+
 -- the word `format` with its options
 abbrev pub format_words : App
 format_words = with_rule (with_rule (with_rule (with_rule (new_app (codes "format"))
     (path_option (codes "image"))) (path_option (codes "schema"))) lanes_option) capacity_option
+
+-- the word `show` with its options
+abbrev pub show_words : App
+show_words = with_rule (with_rule (new_app (codes "show")) (path_option (codes "image"))) dot_flag
+
+-- the word `recover` with its option
+abbrev pub recover_words : App
+recover_words = with_rule (new_app (codes "recover")) (path_option (codes "image"))
 
 -- `heapctl` alone, with a version and no word `help`
 abbrev pub top : App
@@ -47,7 +60,7 @@ play_words = with_subcommand top (new_shape (codes "run"))
 
 -- with all its words
 abbrev pub program : App
-program = with_subcommand play_words format_words.top
+program = with_subcommand (with_subcommand (with_subcommand play_words format_words.top) show_words.top) recover_words.top
 
 -- the number that an option's text spells, where it spells one that fits
 abbrev pub Reads : (bits : ℕ) → Option Text → ℕ → Type 0
@@ -55,15 +68,30 @@ Reads bits None number = Unit {0}
 Reads bits (Some text) number = IsNumeral 10 (without_leading_plus text) → digits_value 10 (without_leading_plus text) < 2 ^ bits
     → number ≡ digits_value 10 (without_leading_plus text)
 
+-- the flag was met: it reads as `true`
+abbrev pub IsSet : Text → List Row → Type 0
+IsSet name options = one_of name options ≡ Some (codes "true")
+
+-- the path behind `--image`
+abbrev pub image_of : List Row → Text
+image_of options = unwrap_or (first_of (codes "image") options) []
+
 -- an image file is to be made, as the options behind the word say
 pub record AsksToFormat (options : List Row) (image schema : Text) (lanes capacity : ℕ) : Type 0 where
-  pub image_is : image ≡ unwrap_or (first_of (codes "image") options) []
+  pub image_is : image ≡ image_of options
   pub schema_is : schema ≡ unwrap_or (first_of (codes "schema") options) []
   pub lanes_are : Reads 8 (one_of (codes "lanes") options) lanes
   pub capacity_is : Reads 32 (one_of (codes "capacity") options) capacity
 
 -- the word that was met with its options, if one was, asks for this
 abbrev pub AsksFor : Option (Text × List Row) → Words → Type 0
-AsksFor found words.Run = (options : List Row) → found ≡ Some (codes "format", options) → ⊥
+AsksFor found words.Run = (options : List Row) → (found ≢ Some (codes "format", options))
+    × (found ≢ Some (codes "show", options)) × (found ≢ Some (codes "recover", options))
 AsksFor found (words.Format image schema lanes capacity) =
     (options : List Row) × (found ≡ Some (codes "format", options)) × AsksToFormat options image.now schema.now lanes capacity
+AsksFor found (words.Show image) =
+    (options : List Row) × (found ≡ Some (codes "show", options)) × (image.now ≡ image_of options) × (IsSet (codes "dot") options → ⊥)
+AsksFor found (words.Draw image) =
+    (options : List Row) × (found ≡ Some (codes "show", options)) × (image.now ≡ image_of options) × IsSet (codes "dot") options
+AsksFor found (words.Recover image) =
+    (options : List Row) × (found ≡ Some (codes "recover", options)) × (image.now ≡ image_of options)

@@ -1,4 +1,4 @@
-//! `heapctl`: plays a script of threads, crashes and recoveries, and makes image files (`docs/SCRIPTS.md`).
+//! `heapctl`: plays a script of threads, crashes and recoveries; makes, shows and recovers image files (`docs/SCRIPTS.md`).
 //!
 //! Reads the program's words, does what they ask for, and tells the caller by the exit status how it went. Faults go to
 //! standard error, and all else to standard output.
@@ -12,7 +12,8 @@ mod words;
 use block_disk::BackingFile;
 use clap::Error;
 use clap::error::ErrorKind;
-use image_file::format_file;
+use image_file::{draw_file, format_file, recover_file, show_file};
+use recover::RecoverError;
 use scripts::run_script;
 use status::{FAULT, WRONG_INPUT, status_of, status_of_format};
 use std::io::Read;
@@ -35,6 +36,9 @@ where
             lanes,
             capacity,
         } => make_image(rt, image, schema, lanes, capacity),
+        Words::Show { image } => show_image(rt, image),
+        Words::Draw { image } => draw_image(rt, image),
+        Words::Recover { image } => recover_image(rt, image),
     }
 }
 
@@ -67,8 +71,49 @@ where
     }
 }
 
+// Prints what an image file holds.
+fn show_image<F, R>(rt: &R, image: &str) -> ExitCode
+where
+    F: BackingFile + Read + Drop,
+    R: Files<File = F> + Print + Eprint + AllocGlobal,
+{
+    let mut writer = io::writer(rt);
+    exit_code_of(rt, show_file(rt, rt.alloc(), image, &mut writer))
+}
+
+// Prints the sections of an image file as a graph.
+fn draw_image<F, R>(rt: &R, image: &str) -> ExitCode
+where
+    F: BackingFile + Read + Drop,
+    R: Files<File = F> + Print + Eprint + AllocGlobal,
+{
+    let mut writer = io::writer(rt);
+    exit_code_of(rt, draw_file(rt, rt.alloc(), image, &mut writer))
+}
+
+// Recovers an image file, and prints the report.
+fn recover_image<F, R>(rt: &R, image: &str) -> ExitCode
+where
+    F: BackingFile + Read + Drop,
+    R: Files<File = F> + Print + Eprint + AllocGlobal,
+{
+    let mut writer = io::writer(rt);
+    exit_code_of(rt, recover_file(rt, rt.alloc(), image, &mut writer))
+}
+
+// How work on an image file ended. That one is refused is no fault of the words.
+fn exit_code_of<R: Eprint>(rt: &R, answer: Result<(), RecoverError>) -> ExitCode {
+    match answer {
+        Ok(()) => ExitCode::SUCCESS,
+        Err(error) => {
+            let _ = eprintln!(rt; "heapctl: {error}");
+            ExitCode::from(FAULT)
+        }
+    }
+}
+
 // Prints what `clap` answers to wrong words, to `--help` and to `--version`.
-fn show<R: Print + Eprint>(rt: &R, answer: &Error) -> ExitCode {
+fn print_answer<R: Print + Eprint>(rt: &R, answer: &Error) -> ExitCode {
     // Want of memory is no fault of the words, and has no text of its own.
     if answer.kind() == ErrorKind::OutOfMemory {
         return out_of_memory(rt);
@@ -112,7 +157,7 @@ where
     };
     match read_words(alloc, texts.as_slice()) {
         Ok(words) => obey(rt, words),
-        Err(answer) => show(rt, &answer),
+        Err(answer) => print_answer(rt, &answer),
     }
 }
 

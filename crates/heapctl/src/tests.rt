@@ -86,3 +86,57 @@ fn words_of_format_have_their_defaults(rt: HostRuntime) -> Result<(), AllocError
     expect_words(&rt, texts.as_slice(), alloc, asked);
     Ok(())
 }
+
+#[test]
+fn words_on_an_image_are_as_documented(rt: HostRuntime) -> Result<(), AllocError> {
+    let cases = [
+        (
+            ["recover"].as_slice(),
+            Some(ErrorKind::MissingRequiredArgument),
+        ),
+        (
+            ["show", "--dot"].as_slice(),
+            Some(ErrorKind::MissingRequiredArgument),
+        ),
+        (
+            ["show", "--image"].as_slice(),
+            Some(ErrorKind::InvalidValue),
+        ),
+        (
+            ["recover", "--image", "i", "--dot"].as_slice(),
+            Some(ErrorKind::UnknownArgument),
+        ),
+    ];
+    for (words, kind) in cases {
+        assert!(rt; answer_to(rt.alloc(), words)? == kind, "{words:?}");
+    }
+    Ok(())
+}
+
+#[test]
+fn words_on_an_image_ask_for_what_they_say(rt: HostRuntime) -> Result<(), AllocError> {
+    let alloc = rt.alloc();
+    let cases = [
+        (
+            ["show", "--image", "i"].as_slice(),
+            Words::Show { image: "i" },
+        ),
+        (
+            ["show", "--image", "i", "--dot"].as_slice(),
+            Words::Draw { image: "i" },
+        ),
+        (
+            ["show", "--dot", "--image", "i"].as_slice(),
+            Words::Draw { image: "i" },
+        ),
+        (
+            ["recover", "--image", "i"].as_slice(),
+            Words::Recover { image: "i" },
+        ),
+    ];
+    for (words, asked) in cases {
+        let texts = with_name(alloc, words)?;
+        expect_words(&rt, texts.as_slice(), alloc, asked);
+    }
+    Ok(())
+}

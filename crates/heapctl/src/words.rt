@@ -1,5 +1,5 @@
 //! The program's words.
-ghost use Rattle.std.specs.Prelude.{◌≡◌, ◌∷◌, [], List, ℕ, codes, false, map, string_bytes, unwrap_or, IfErr, IfOk};
+ghost use Rattle.std.specs.Prelude.{◌≡◌, ◌↔◌, ◌∷◌, [], List, ℕ, codes, false, map, string_bytes, unwrap_or, IfErr, IfOk, IsTrue};
 ghost use Rattle.clap.specs.Kinds.{FailsBy};
 ghost use Rattle.clap.specs.Faults.{fault_of};
 ghost use Rattle.clap.specs.Simple.{app_of, subcommand_of, subcommand_rows_of};
@@ -7,9 +7,9 @@ ghost use Rattle.clap.specs.Values.{kind_of};
 ghost use Rattle.clap.specs.Walk.{first_of, one_of, rows_of, rule_of};
 ghost use Rattle.clap.specs.Matches.{found_of};
 ghost use Rattle.clap.specs.declared.error.kind.ErrorKind.TheVariants.{OutOfMemory};
-ghost use Rattle.heapctl.specs.Words.{AsksFor, Reads, capacity_option, format_words, lanes_option, path_option, play_words, program};
+ghost use Rattle.heapctl.specs.Words.{AsksFor, IsSet, Reads, capacity_option, dot_flag, format_words, lanes_option, path_option, play_words, program, recover_words, show_words};
 
-use clap::{Arg, ArgMatches, Command, Error, value_parser};
+use clap::{Arg, ArgAction, ArgMatches, Command, Error, value_parser};
 use std::alloc::{AllocError, Global};
 
 /// What the words ask for.
@@ -27,6 +27,21 @@ pub enum Words<'a> {
         lanes: u8,
         /// The records that a lane's area holds, 2,000 to 1,048,576.
         capacity: u32,
+    },
+    /// To print what an image file holds.
+    Show {
+        /// The image file's path.
+        image: &'a str,
+    },
+    /// To print the sections of an image file as a graph for Graphviz.
+    Draw {
+        /// The image file's path.
+        image: &'a str,
+    },
+    /// To recover an image file after a crash.
+    Recover {
+        /// The image file's path.
+        image: &'a str,
     },
 }
 
@@ -66,6 +81,16 @@ fn capacity<'a>(alloc: Global) -> Arg<'a>
         .default_value("4000")
 }
 
+fn dot<'a>(alloc: Global) -> Arg<'a>
+    ensures rule { rule_of result ≡ dot_flag }
+    ensures own { result.global ≡ false }
+{
+    Arg::new(alloc, "dot")
+        .long("dot")
+        .help("Prints its sections as a graph for Graphviz, and nothing else")
+        .action(ArgAction::SetTrue)
+}
+
 fn format<'a>(alloc: Global) -> Result<Command<'a>, AllocError>
     ensures { IfOk result (λ command. app_of command ≡ format_words) }
 {
@@ -75,6 +100,23 @@ fn format<'a>(alloc: Global) -> Result<Command<'a>, AllocError>
         .arg(path(alloc, "schema", "The schema file"))?
         .arg(lanes(alloc))?
         .arg(capacity(alloc))
+}
+
+fn show<'a>(alloc: Global) -> Result<Command<'a>, AllocError>
+    ensures { IfOk result (λ command. app_of command ≡ show_words) }
+{
+    Command::new(alloc, "show")
+        .about("Prints what an image file holds, and leaves the file as it is")
+        .arg(path(alloc, "image", "The image file to read"))?
+        .arg(dot(alloc))
+}
+
+fn recover<'a>(alloc: Global) -> Result<Command<'a>, AllocError>
+    ensures { IfOk result (λ command. app_of command ≡ recover_words) }
+{
+    Command::new(alloc, "recover")
+        .about("Recovers an image file after a crash, and prints what was kept and dropped")
+        .arg(path(alloc, "image", "The image file to recover"))
 }
 
 // `heapctl` with the word that there was first.
@@ -95,7 +137,11 @@ fn command<'a>(alloc: Global) -> Result<Command<'a>, AllocError>
 {
     let play = play(alloc)?;
     let format = format(alloc)?;
-    play.subcommand(format)
+    let show = show(alloc)?;
+    let recover = recover(alloc)?;
+    play.subcommand(format)?
+        .subcommand(show)?
+        .subcommand(recover)
 }
 
 /// Reads the words; the program's name comes first.
@@ -126,6 +172,17 @@ fn asked_by<'a>(matches: &ArgMatches<'a>) -> Words<'a>
             lanes: lanes_of(found),
             capacity: capacity_of(found),
         },
+        Some(("show", found)) => {
+            let image = text_of(found, "image");
+            if is_set(found, "dot") {
+                Words::Draw { image }
+            } else {
+                Words::Show { image }
+            }
+        }
+        Some(("recover", found)) => Words::Recover {
+            image: text_of(found, "image"),
+        },
         // No words mean the only other word too.
         _ => Words::Run,
     }
@@ -151,4 +208,11 @@ fn capacity_of(found: &ArgMatches<'_>) -> u32
     ensures { Reads 32 (one_of (codes "capacity") (rows_of (found_of found.now))) result }
 {
     found.get_one::<u32>("capacity").unwrap_or(0)
+}
+
+// The flag was met.
+fn is_set(found: &ArgMatches<'_>, name: &str) -> bool
+    ensures { IsTrue result ↔ IsSet name.now (rows_of (found_of found.now)) }
+{
+    found.get_one::<bool>(name).unwrap_or(false)
 }

@@ -1,12 +1,22 @@
-use Rattle.std.proofs.Common.{ap, ap₂, ◌∙◌}
+use Rattle.std.proofs.Common.{◌≡◌, true, ap, ap₂, refl, ◌∙◌}
 use Rattle.std.proofs.lemmas.Result.{IfOk-weaker}
-use Rattle.clap.specs.Simple.{App, with_subcommand}
+use Rattle.clap.specs.Built.{AddsSubcommand}
+use Rattle.clap.specs.Simple.{App, app_of, with_subcommand}
+use Rattle.clap.specs.declared.builder.command.Command.{Command}
 use Rattle.heapctl.proofs.OptionLemmas.{third_is_off}
 use Rattle.heapctl.proofs.words.command.Goals as goal
 
+-- a plain word more
+word_added : (old word new : Command) (before added : App) → app_of old ≡ before → app_of word ≡ added → added.top.is_plain ≡ true
+    → AddsSubcommand old word new → app_of new ≡ with_subcommand before added.top
+word_added old word new before added old_is word_is plain adds =
+    let local = third_is_off _ _ _ _ (ap (λ (a : App). a.top.is_plain) word_is ∙ plain) in
+    adds.shape local ∙ ap₂ with_subcommand old_is (ap (λ (a : App). a.top) word_is)
+
 pub returns : goal.returns
 returns c =
-    let local = third_is_off _ _ _ _ (ap (λ (a : App). a.top.is_plain) c.in_ok-format.ensures) in
-    IfOk-weaker c.subcommand.result _ _
-    (λ made adds. adds.shape local ∙ ap₂ with_subcommand c.in_ok-play.ensures (ap (λ (a : App). a.top) c.in_ok-format.ensures))
-    c.subcommand.ensures
+    let with_format = word_added _ _ _ _ _ c.in_ok-play.ensures c.in_ok-format.ensures refl c.in_ok-subcommand.ensures in
+    let with_show = word_added _ _ _ _ _ with_format c.in_ok-show.ensures refl c.in_ok-subcommand-2.ensures in
+    IfOk-weaker c.subcommand-3.result _ _
+    (λ made adds. word_added _ _ made _ _ with_show c.in_ok-recover.ensures refl adds)
+    c.subcommand-3.ensures
