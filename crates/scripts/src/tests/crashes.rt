@@ -116,26 +116,26 @@ undone 1\n\
 heap 10 20\n\
 ";
 
-fn joined(alloc: Global, parts: [&[u8]; 3]) -> Result<Vec<u8>, AllocError> {
+fn joined(alloc: Global, first: &[u8], second: &[u8], third: &[u8]) -> Result<Vec<u8>, AllocError> {
     let mut text = Vec::new(alloc);
-    for part in parts {
-        text.extend_from_slice(part)?;
-    }
+    text.extend_from_slice(first)?;
+    text.extend_from_slice(second)?;
+    text.extend_from_slice(third)?;
     Ok(text)
 }
 
-// Plays the script, then this crash and a recovery.
+// Plays the lines, which print this, then the crash and a recovery.
 fn expect_recovery(
     rt: &impl Abort,
     alloc: Global,
-    script: (&[u8], &[u8]),
+    lines: &[u8],
+    printed: &[u8],
     crash: &[u8],
     report: &[u8],
 ) -> Result<(), AllocError> {
-    let (lines, printed) = script;
-    let lines = joined(alloc, [lines, crash, b"recover\n"])?;
-    let printed = joined(alloc, [printed, b"crashed\n", report])?;
-    expect_run(rt, alloc, &lines, &printed, Ok(()));
+    let script = joined(alloc, lines, crash, b"recover\n")?;
+    let wanted = joined(alloc, printed, b"crashed\n", report)?;
+    expect_run(rt, alloc, &script, &wanted, Ok(()));
     Ok(())
 }
 
@@ -152,7 +152,8 @@ fn crashes_are_recovered(rt: HostRuntime) -> Result<(), Fail> {
         (BOTH, b"crash kept back 1\n", BOTH_KEPT),
     ];
     for (script, crash, report) in cases {
-        expect_recovery(&rt, rt.alloc(), script, crash, report)?;
+        let (lines, printed) = script;
+        expect_recovery(&rt, rt.alloc(), lines, printed, crash, report)?;
     }
     Ok(())
 }
