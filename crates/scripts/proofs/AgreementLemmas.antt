@@ -1,5 +1,5 @@
 -- The monitors and the store agree, from the start and after each step.
-use Rattle.std.proofs.Common.{◌≡◌, ◌<◌, ◌≤◌, ℕ, zero, suc, false, true, List, [], ◌∷◌, Option, Some, None, slice_index, refl, sym, ap, ◌∙◌, subst, arith}
+use Rattle.std.proofs.Common.{◌≡◌, ◌<◌, ℕ, zero, suc, false, true, List, [], ◌∷◌, Option, Some, None, slice_index, refl, sym, ap, ◌∙◌, subst, arith}
 use Rattle.guards.specs.Schema.{Declarations, field_count, first_of}
 use Rattle.lock_word.specs.declared.number.TheConstants.{LAST_NUMBER}
 use Rattle.image.specs.declared.guard_row.GuardRow.{GuardRow}
@@ -11,7 +11,7 @@ use Rattle.heap_model.specs.declared.event.Event.TheVariants.{Enter, NestedEnter
 use Rattle.heap_model.specs.Setting.{Setting}
 use Rattle.heap_model.specs.State.{State, initial_state}
 use Rattle.heap_model.specs.Events.{MayDo, IsEventOf, after_event}
-use Rattle.heap_model.specs.History.{state_after, IsLegalHistory, log_of, logged, with_record}
+use Rattle.heap_model.specs.History.{state_after, IsLegalHistory, logged, with_record}
 use Rattle.heap_model.specs.Laws.{LogLaw}
 use Rattle.heap_model.specs.Log.{IsLegal}
 use Rattle.block_disk.specs.Memory.{Memory}

@@ -1,4 +1,4 @@
-use Rattle.std.proofs.Common.{◌≡◌, ◌∙◌, sym, ap, subst, rules}
+use Rattle.std.proofs.Common.{◌∙◌, sym, subst, rules}
 use Rattle.block_disk.specs.Memory.{Memory}
 use Rattle.image.specs.Recovered.{Parts}
 use Rattle.scripts.specs.Agreement.{FitsSchema}

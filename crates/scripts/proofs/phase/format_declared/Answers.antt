@@ -5,7 +5,6 @@ use Rattle.guards.specs.Schema.{Declarations, first_of}
 use Rattle.heap_model.specs.State.{initial_state}
 use Rattle.heap_model.specs.Setting.{Setting}
 use Rattle.image.specs.Layout.{size_of}
-use Rattle.lock_word.specs.declared.number.TheConstants.{LAST_NUMBER}
 use Rattle.scripts.specs.declared.answer.Answer.TheVariants.{Formatted}
 use Rattle.scripts.specs.Machine as machine
 use Rattle.scripts.specs.States.{Tells}

@@ -1,4 +1,4 @@
-use Rattle.std.proofs.Common.{◌≡◌, ◌<◌, inl, refl, sym, ◌∙◌, ap, subst, slice_index}
+use Rattle.std.proofs.Common.{◌<◌, inl, refl, sym, ◌∙◌, ap, subst, slice_index}
 use Rattle.guards.specs.Schema.{Declarations, field_count}
 use Rattle.image.specs.declared.layout.Layout.{Layout}
 use Rattle.block_disk.specs.Memory.{Memory}

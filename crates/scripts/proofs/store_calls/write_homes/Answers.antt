@@ -1,4 +1,4 @@
-use Rattle.std.proofs.Common.{◌≡◌, ◌<◌, ℕ, suc, ◌+◌, ◌∙◌, refl, sym, subst, ap, arith, rules, ◌≤◌}
+use Rattle.std.proofs.Common.{◌≡◌, ℕ, suc, ◌+◌, ◌∙◌, refl, sym, subst, ap, arith, rules}
 use Rattle.std.proofs.Math.Numerals.{add-one}
 use Rattle.image.specs.declared.layout.Layout.{Layout}
 use Rattle.heap_model.specs.Setting.{Setting}

@@ -1,4 +1,4 @@
-use Rattle.std.proofs.Common.{◌≡◌, ◌∙◌, sym, inl, inr, refl, subst, ap}
+use Rattle.std.proofs.Common.{◌≡◌, ◌∙◌, sym, inl, inr, refl, subst}
 use Rattle.block_disk.specs.Memory.{Memory}
 use Rattle.durable.specs.Calls.{RefusesLog}
 use Rattle.durable.specs.Past.{after_log}

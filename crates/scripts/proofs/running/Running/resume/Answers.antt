@@ -1,4 +1,4 @@
-use Rattle.std.proofs.Common.{◌≡◌, ◌<◌, ◌≤◌, ℕ, Result, refl, sym, ap, subst, arith, rules}
+use Rattle.std.proofs.Common.{◌<◌, ℕ, Result, refl, sym, ap, subst, arith, rules}
 use Rattle.heap_model.specs.declared.event.Event.{Event}
 use Rattle.scripts.specs.declared.answer.Answer.{Answer}
 use Rattle.scripts.specs.declared.answer.Answer.TheVariants.{Done, Refused}

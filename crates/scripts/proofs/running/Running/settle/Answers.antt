@@ -1,4 +1,4 @@
-use Rattle.std.proofs.Common.{◌≡◌, ◌<◌, ◌∙◌, ℕ, sym, inl, inr, refl, subst, ap}
+use Rattle.std.proofs.Common.{◌≡◌, ◌<◌, ◌∙◌, sym, inl, inr, refl, subst, ap}
 use Rattle.block_disk.specs.Memory.{Memory}
 use Rattle.heap_model.specs.Sections.{actions}
 use Rattle.image.specs.declared.layout.Layout.{Layout}
