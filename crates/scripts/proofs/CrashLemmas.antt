@@ -36,7 +36,8 @@ use Rattle.scripts.specs.declared.answer.Answer.TheVariants.{Crashed, Refused}
 use Rattle.scripts.specs.declared.answer.Refusal.{Refusal}
 use Rattle.scripts.specs.declared.answer.Refusal.TheVariants.{Worn}
 use Rattle.scripts.specs.Answers.{acknowledged_in}
-use Rattle.scripts.specs.Crashing.{Survives, IsAtItsEnd, RestLaw, IsSince, CallLaw, KeepsTold, ToldLaw}
+use Rattle.scripts.specs.Agreement.{setting_from}
+use Rattle.scripts.specs.Crashing.{HistoryLaw, Survives, IsAtItsEnd, RestLaw, IsSince, CallLaw, KeepsTold, ToldLaw}
 use Rattle.scripts.specs.Machine.{MachineState, Running, Down, Steps, IsRestored, Recovers, RefusesImage, GoesDown, Crashes, LogsRecords, Settles, Acknowledges}
 use Rattle.scripts.specs.Orders.{Order}
 use Rattle.scripts.specs.Orders as order
@@ -161,14 +162,14 @@ at_rest m image left =
     subst (λ (ss : List Stop). LeftSince (length (moments_before d.first ss)) (device_of d) image) all left
 
 pub rest : RestLaw
-rest m s p fill down new told has running crash recover =
+rest m s p fill down new told has crash recover =
     let goes = went_down m fill 0 down crash in
     let image = crash_back fill 0 m.store.disk in
     let l = m.store.known.layout in
     let d = device_of m.store.disk in
     let left = at_rest m image goes.any_moment in
     let leaves = begin d (ShowsStep l s p) in
-    let by = left_always l s p m.store.known.committed d (has.agrees running) image (left_now d image left) in
+    let by = left_always l s p m.store.known.committed d (has.agrees goes.agrees.running) image (left_now d image left) in
     let outcome = elim (subst (λ (x : MachineState). Steps x order.Recover told new) goes.down recover) as (λ _. Survives m s p.logged p.cut told new ⊎ IsAtItsEnd (Down (wreck_of m image)) told) [
       | inl r ↦
           let recovery = r.restores.recovery in
@@ -179,6 +180,12 @@ rest m s p fill down new told has running crash recover =
       | inr r ↦ inr (at_its_end m s p has d leaves image left told new r)
     ] in
     subst (λ (x : MachineState). Survives m s p.logged p.cut told new ⊎ IsAtItsEnd x told) (sym goes.down) outcome
+
+pub history : HistoryLaw
+history m fill down new told crash recover =
+    let agrees = (went_down m fill 0 down crash).agrees in
+    ⊎_elim (λ done. inl (record { agrees = agrees; survives = done })) (λ end. inr end)
+    (rest m (setting_from m.monitors agrees.first) agrees.past fill down new told agrees.tells crash recover)
 
 -- an image of later moments is one of these
 since : (t u : ℕ) (ms : List Moment) (image : List ℕ) → u ≤ t → LeftIn t ms image → LeftIn u ms image
@@ -256,7 +263,7 @@ module _ (m : Live) (s : Setting) (p : Past) (has : Tells m.store s p) (fill : F
       let over : Live = record { monitors = m.monitors; store = a.store } in
       let is = one_live now over a.runs in
       let stable = stable_exists (actions p.logged) in
-      let outcome = rest over s (after_settle p stable.0) fill down new told (a.after s p stable.0 has stable.1) a.running
+      let outcome = rest over s (after_settle p stable.0) fill down new told (a.after s p stable.0 has stable.1)
       (subst (λ (x : Live). Crashes (Running x) Crashed down x fill 0) is crash) recover in
       subst (λ (x : Live). KeepsTold x s p acknowledged told new ⊎ IsAtItsEnd down told) (sym is)
       (⊎_elim (λ done. inl (keeps_told now a stable.0 stable.1 says done)) (λ end. inr end) outcome)

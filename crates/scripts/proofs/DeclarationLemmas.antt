@@ -1,5 +1,5 @@
 -- What a line of a schema file is refused for.
-use Rattle.std.proofs.Common.{◌≡◌, ℕ, Bool, true, false, List, Option, None, Some, MatchOption, IfSome, Result, Ok, Err, IfErr, OnErr, refl, sym, ap, ◌∙◌, subst}
+use Rattle.std.proofs.Common.{◌≡◌, ℕ, true, false, List, Option, None, Some, MatchOption, IfSome, Result, Ok, Err, IfErr, OnErr, refl, sym, ap, ◌∙◌, subst}
 use Rattle.std.specs.Prelude.{IsTrue}
 use Rattle.guards.specs.Schema.{Declarations}
 use Rattle.guards.specs.declared.error.SchemaError.{SchemaError}

@@ -1,5 +1,5 @@
 -- A line that asks for nothing that is played.
-use Rattle.std.proofs.Common.{◌≡◌, ℕ, Bool, true, false, List, Option, None, Some, sym, ap, ◌∙◌}
+use Rattle.std.proofs.Common.{◌≡◌, ℕ, true, false, List, Option, None, Some, sym, ◌∙◌}
 use Rattle.scripts.specs.Grammar.{Says}
 use Rattle.scripts.specs.Lines.{Asks}
 use Rattle.scripts.specs.Orders.{Order, plays}

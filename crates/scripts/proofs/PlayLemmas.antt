@@ -1,17 +1,17 @@
 -- A run goes line by line, and prints what its lines print.
-use Rattle.std.proofs.Common.{◌≡◌, ◌≢◌, ◌⊎◌, ℕ, zero, suc, length-drop, ◌+◌, ◌-◌, ◌<◌, ◌≤◌, Bool, true, false, List, [], ◌∷◌, ◌++◌, ◌==◌, ◌&&◌, if◌then◌else◌, Option, None, Some, length, take, drop, refl, sym, ap, subst, ◌∙◌, inl, inr, append-nil, append_assoc, take-append-drop, arith}
+use Rattle.std.proofs.Common.{◌≡◌, ℕ, zero, suc, length-drop, ◌+◌, ◌-◌, ◌<◌, ◌≤◌, Bool, true, false, List, [], ◌∷◌, ◌++◌, ◌==◌, ◌&&◌, if◌then◌else◌, Option, Some, length, take, drop, refl, sym, ap, subst, ◌∙◌, inl, inr, append-nil, take-append-drop, arith}
 use Rattle.std.proofs.Math.Seq.{take-add}
 use Rattle.std.proofs.KnownBytes.{Appends-nil, Appends-trans}
 use Rattle.std.proofs.lemmas.Bool.{eqb-true, and_parts}
 use Rattle.std.proofs.lemmas.List.{drop-drop, take_all}
 use Rattle.std.proofs.lemmas.List.Folds.{concat-append}
 use Rattle.std.specs.Io.KnownBytes.{Appends}
-use Rattle.std.specs.List.{AllByRecursion, concat, onto_first}
+use Rattle.std.specs.List.{concat, onto_first}
 use Rattle.std.specs.Prelude.{slice_get}
-use Rattle.scripts.specs.Cutting.{end_length, first_line, other_lines}
+use Rattle.scripts.specs.Cutting.{first_line, other_lines}
 use Rattle.scripts.specs.Lines.{begins_with_line_feed, lines_of, IsFit}
 use Rattle.scripts.specs.Machine.{MachineState, IsStart}
-use Rattle.scripts.specs.Runs.{Skips, Obeys, PlaysLine, Plays, AreFit, Prints, PrintsPart, PlaysAndPrints, PlaysInPart, MayStop, StopsAt}
+use Rattle.scripts.specs.Runs.{PlaysLine, Plays, AreFit, Prints, PrintsPart, PlaysAndPrints, PlaysInPart, MayStop, StopsAt}
 use Rattle.scripts.specs.declared.error.ScriptError.{ScriptError}
 use Rattle.scripts.specs.declared.lines.TheConstants.{LINE_FEED, CARRIAGE_RETURN}
 

@@ -1,5 +1,5 @@
 -- What the store's calls make of the machine.
-use Rattle.std.proofs.Common.{◌≡◌, ◌⊎◌, ℕ, ◌<◌, inl, inr, List, Result, Ok, Err, IfErr, OnErr, OnOk, IfOk, MatchResult, length, slice_index, refl, sym, ap, subst}
+use Rattle.std.proofs.Common.{◌≡◌, ◌⊎◌, ℕ, inl, inr, Result, Ok, Err, IfErr, OnOk, MatchResult, refl, ap}
 use Rattle.heap_model.specs.Setting.{Setting}
 use Rattle.block_disk.specs.Memory.{Memory}
 use Rattle.heap_model.specs.declared.record.Record.{Record}
@@ -9,7 +9,6 @@ use Rattle.durable.specs.Past.{Past, after_apply}
 use Rattle.durable.specs.Store.{Parts}
 use Rattle.durable.specs.declared.error.StoreError.{StoreError}
 use Rattle.durable.specs.declared.error.StoreError.TheVariants.{Fault}
-use Rattle.scripts.specs.declared.answer.Answer.{Answer}
 use Rattle.scripts.specs.declared.answer.Answer.TheVariants.{Refused}
 use Rattle.scripts.specs.declared.answer.Refusal.{Refusal}
 use Rattle.scripts.specs.Refusals.{told_of_store}

@@ -1,11 +1,10 @@
 -- What the words of a line are read as.
-use Rattle.std.proofs.Common.{◌≡◌, ℕ, ◌+◌, ◌<◌, ◌^◌, Bool, true, false, List, [], ◌∷◌, ◌&&◌, Option, None, Some, Result, Ok, Err, length, ltb, refl, sym, ap, ◌∙◌, subst, arith, rules, tests, inl, inr, if◌then◌else◌}
+use Rattle.std.proofs.Common.{◌≡◌, ℕ, ◌<◌, ◌^◌, Bool, true, List, ◌&&◌, Option, None, Some, Result, Ok, Err, length, ltb, refl, sym, ap, ◌∙◌, rules, inl, inr, if◌then◌else◌}
 use Rattle.std.proofs.lemmas.Bool.{cases_Bool, and_parts, lt-ltb, ltb-true}
-use Rattle.std.proofs.lemmas.Bool.Decides.{nat_tests}
 use Rattle.std.proofs.lemmas.Str.Parse.{IsNumeralModel, numerals_by_value, parse_digits}
 use Rattle.std.specs.Char.{is_ascii_digit}
 use Rattle.std.specs.List.{list_all}
-use Rattle.std.specs.Result.{IsOk, MatchResult, OkIff, result_ok}
+use Rattle.std.specs.Result.{IsOk, MatchResult, result_ok}
 use Rattle.std.specs.Str.Parse.{digits_value, ParsesUnsigned}
 use Rattle.scripts.specs.Reading.{number_in}
 

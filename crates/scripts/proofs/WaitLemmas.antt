@@ -1,7 +1,6 @@
 -- The threads of a wait set, and what waking them makes of a state.
-use Rattle.std.proofs.Common.{◌≡◌, ◌≢◌, ◌⊎◌, ◌↔◌, ℕ, suc, ◌+◌, ◌<◌, ◌≤◌, ◌==◌, ◌++◌, ◌∷◌, [], Bool, true, false, if◌then◌else◌, List, All, Contains, Option, Some, None, refl, sym, ap, ◌∙◌, subst, inl, inr, arith, ltb, length, get_or}
+use Rattle.std.proofs.Common.{◌≡◌, ◌↔◌, ℕ, suc, ◌+◌, ◌<◌, ◌≤◌, ◌==◌, ◌++◌, ◌∷◌, [], true, if◌then◌else◌, List, All, Contains, Some, None, refl, sym, ap, ◌∙◌, subst, inl, inr, arith, ltb, length, get_or}
 use Prim.Native.Nat.{zero}
-use Rattle.std.specs.List.{filter, range_with_len}
 use Rattle.std.proofs.Math.Numerals.{add-one}
 use Rattle.std.proofs.lemmas.Bool.{cond_both, cond-true, cond-false, cases_eq, cases_lt, lt-ltb, le-ltb}
 use Rattle.std.proofs.lemmas.Bool.Decides.{eqb_tells}

@@ -1,5 +1,5 @@
 -- What `recover` gives after a crash: the acknowledged sections and no others, from script to script (this project's own).
-use Rattle.std.specs.Prelude.{ℕ, ◌-◌, ◌≡◌, ◌≤◌, ◌<◌, ◌⊎◌, false, Some, List, length, slice_index}
+use Rattle.std.specs.Prelude.{ℕ, ◌-◌, ◌≡◌, ◌≤◌, ◌<◌, ◌⊎◌, Some, List, length, slice_index}
 use Rattle.block_disk.specs.Crash.{first_stops}
 use Rattle.block_disk.specs.Memory.{Memory, device_of, moments_before}
 use Rattle.block_disk.specs.declared.crash.Fill.{Fill}
@@ -15,6 +15,7 @@ use Rattle.scripts.specs.declared.answer.Answer.{Answer}
 use Rattle.scripts.specs.declared.answer.Answer.TheVariants.{Crashed, Recovered, Refused}
 use Rattle.scripts.specs.declared.answer.Refusal.TheVariants.{Worn}
 use Rattle.scripts.specs.declared.answer.Report.{Report}
+use Rattle.scripts.specs.Agreement.{Agrees, setting_from}
 use Rattle.scripts.specs.Answers.{acknowledged_in}
 use Rattle.scripts.specs.Machine.{MachineState, Running, Steps, IsRestored, WhileDown}
 use Rattle.scripts.specs.Orders.{Order}
@@ -39,12 +40,22 @@ pub record IsAtItsEnd (down : MachineState) (told : Answer) : Type 0 where
   pub refused : told ≡ Refused Worn
   pub last : WhileDown down (λ w. IsWorn (device_of w.disk).now.bytes) ⊥
 
--- With all writes and syncs ended, a crash of a store that hasn't failed leaves what is recovered to the heap of the
--- acknowledged sections.
+-- With all writes and syncs ended, a crash leaves what is recovered to the heap of the acknowledged sections.
 abbrev pub RestLaw : Type 0
-RestLaw = (m : Live) (s : Setting) (p : Past) (fill : Fill) (down new : MachineState) (told : Answer) → Tells m.store s p → m.store.known.has_failed ≡ false
+RestLaw = (m : Live) (s : Setting) (p : Past) (fill : Fill) (down new : MachineState) (told : Answer) → Tells m.store s p
     → Steps (Running m) (order.Crash fill 0) Crashed down → Steps down order.Recover told new
     → Survives m s p.logged p.cut told new ⊎ IsAtItsEnd down told
+
+-- The monitors stood where a legal history of the threads' events leads, and what is recovered is the heap of the acknowledged
+-- sections of its logged events.
+pub record SurvivesOf (m : Live) (told : Answer) (new : MachineState) : Type 0 where
+  pub agrees : Agrees m.monitors m.store
+  pub survives : Survives m (setting_from m.monitors agrees.first) agrees.past.logged agrees.past.cut told new
+
+-- so it is after each crash with all writes and syncs ended, whatever the threads did before
+abbrev pub HistoryLaw : Type 0
+HistoryLaw = (m : Live) (fill : Fill) (down new : MachineState) (told : Answer)
+    → Steps (Running m) (order.Crash fill 0) Crashed down → Steps down order.Recover told new → SurvivesOf m told new ⊎ IsAtItsEnd down told
 
 -- a crash with all but the last so many ended finds what was before ended: the moments of the first device are over then
 abbrev pub IsSince : (before now : Memory) → (back : ℕ) → Type 0

@@ -1,5 +1,5 @@
 -- What a line does to the machine, and which lines are refused, and why (docs/SCRIPTS.md, "Lines" and "Refusals").
-use Rattle.std.specs.Prelude.{ℕ, false, ◌≡◌, ◌≢◌, ◌<◌, ◌≤◌, ◌⊎◌, List, [], Option, Some, None, Result, Ok, Contains, length, take, slice_get, slice_index}
+use Rattle.std.specs.Prelude.{ℕ, false, ◌≡◌, ◌≢◌, ◌<◌, ◌≤◌, ◌⊎◌, List, [], Option, Some, None, Ok, Contains, length, take, slice_get, slice_index}
 use Rattle.guards.specs.Schema.{Declarations, object_count, field_count, names_of, guard_of, first_of, nothing, with_object, with_field}
 use Rattle.guards.specs.declared.builder.TheConstants.{MOST_OBJECTS, MOST_FIELDS}
 use Rattle.lock_word.specs.declared.number.TheConstants.{LAST_NUMBER}
@@ -38,6 +38,7 @@ use Rattle.scripts.specs.declared.answer.Answer.TheVariants as answers
 use Rattle.scripts.specs.declared.answer.Report.{Report}
 use Rattle.scripts.specs.declared.answer.Refusal.{Refusal}
 use Rattle.scripts.specs.declared.answer.Refusal.TheVariants as why
+use Rattle.scripts.specs.Agreement.{Agrees}
 use Rattle.scripts.specs.Answers.{heap_in, acknowledged_in, woken_in}
 use Rattle.scripts.specs.Homes.{BringsHome}
 use Rattle.scripts.specs.Limits.{IsFormattable}
@@ -297,9 +298,10 @@ module _ (old : MachineState) (answer : Answer) (new : MachineState) where
         → slice_index values f ≡ value s.first f (applied p)
 
   -- the machine goes down with the disk that a crash leaves, all but the last so many writes and syncs ended and the next
-  -- begun: such bytes as the device may hold after a crash at that very moment
+  -- begun: such bytes as the device may hold after a crash at that very moment. Until then the monitors and the store agreed
   pub record GoesDown (m : Live) (fill : Fill) (back : ℕ) : Type 0 where
     pub answers : answer ≡ Crashed
+    pub agrees : Agrees m.monitors m.store
     pub down : new ≡ Down (record { schema = m.monitors.schema; disk = fresh (crash_back fill back m.store.disk) })
     pub possible : Image (moment_after m.store.disk.first (done_at (begun_at back m.store.disk) m.store.disk.stops)) (crash_back fill back m.store.disk)
     pub any_moment : LeftSinceStop (begun_at back m.store.disk) m.store.disk (crash_back fill back m.store.disk)

@@ -289,6 +289,7 @@ impl Running {
     /// What a crash leaves of the device with all but the last `back` writes and syncs ended and the next begun, if there
     /// were so many.
     pub(crate) fn crash_image(&self, fill: Fill, back: u64) -> Result<Option<MemDisk>, AllocError>
+        ensures agrees { Agrees self.now.monitors self.now.store }
         ensures image { IfOk result (λ left. MatchOption left (length self.now.store.disk.stops < back)
             (λ disk. (back ≤ length self.now.store.disk.stops) × (disk ≡ fresh (crash_back fill back self.now.store.disk)))) }
         ensures possible { let d = self.now.store.disk in

@@ -1,8 +1,11 @@
-use Rattle.scripts.proofs.CrashLemmas.{rest, call, told_again}
+use Rattle.scripts.proofs.CrashLemmas.{rest, history, call, told_again}
 use Rattle.scripts.proofs.laws.crash_law.Goals as goal
 
 pub returns-clause-rest : goal.returns-clause-rest
 returns-clause-rest c = rest
+
+pub returns-clause-history : goal.returns-clause-history
+returns-clause-history c = history
 
 pub returns-clause-call : goal.returns-clause-call
 returns-clause-call c = call

@@ -1,4 +1,4 @@
-use Rattle.std.proofs.Common.{◌≡◌, ◌≤◌, Bool, true, false, Some, None, length, rules, sym, ap, ◌∙◌, inl, inr}
+use Rattle.std.proofs.Common.{◌≡◌, false, rules, ap}
 use Rattle.std.specs.Option.{option_map}
 use Rattle.scripts.proofs.FaultLemmas.{no_form, not_played, only}
 use Rattle.scripts.specs.Orders.{order_of, plays}

@@ -1,4 +1,4 @@
-use Rattle.std.proofs.Common.{ℕ, length, ◌≡◌, ◌≢◌, ◌≤◌, ◌<◌, get_or}
+use Rattle.std.proofs.Common.{ℕ, length, ◌≢◌, ◌≤◌, ◌<◌, get_or}
 use Rattle.scripts.specs.declared.lines.TheConstants.{LINE_FEED}
 use Rattle.scripts.proofs.lines.ended_len.Given as goal
 

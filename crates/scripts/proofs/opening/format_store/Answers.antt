@@ -1,4 +1,4 @@
-use Rattle.std.proofs.Common.{◌≡◌, ◌<◌, ℕ, refl, sym, ap, subst, arith}
+use Rattle.std.proofs.Common.{◌<◌, refl, sym, ap, subst}
 use Rattle.image.specs.declared.layout.Layout.{Layout}
 use Rattle.image.specs.declared.guard_row.GuardRow.{GuardRow}
 use Rattle.lock_word.specs.declared.number.TheConstants.{LAST_NUMBER}

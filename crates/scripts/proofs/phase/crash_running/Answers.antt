@@ -16,6 +16,7 @@ returns c =
       refused = λ few. absurd (omega (arith, few, enough));
       passed = λ some. record {
         answers = refl;
+        agrees = c.crash_image.ensures.agrees;
         down = ap machine.Down (c.new-down.ensures ∙ (λ i. record { schema = c.into_schema.ensures i; disk = image.1 i }));
         possible = subst (λ (xs : List ℕ). Image (moment_after d.first (done_at (begun_at c.args.back d) d.stops)) xs) bytes (rw c.in-Some.is at c.in_ok-disk.ensures.possible);
         any_moment = subst (λ (xs : List ℕ). LeftSinceStop (begun_at c.args.back d) d xs) bytes (rw c.in-Some.is at c.in_ok-disk.ensures.any_moment);

@@ -1,4 +1,4 @@
-use Rattle.std.proofs.Common.{◌≡◌, ◌+◌, length, refl, sym, ap, subst, ◌∙◌, inr}
+use Rattle.std.proofs.Common.{◌≡◌, ◌+◌, length, sym, ap, subst, ◌∙◌, inr}
 use Rattle.scripts.proofs.PlayLemmas.{prints-fit, prints-front}
 use Rattle.scripts.specs.Lines.{lines_of}
 use Rattle.scripts.specs.Runs.{AreFit, IsMissing}

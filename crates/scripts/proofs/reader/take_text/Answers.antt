@@ -1,4 +1,4 @@
-use Rattle.std.proofs.Common.{◌≡◌, ◌++◌, take, rules, subst, sym, ap}
+use Rattle.std.proofs.Common.{◌≡◌, ◌++◌, take, rules, subst}
 use Rattle.std.specs.Io.KnownBytes.{Consumes}
 use Rattle.std.proofs.KnownBytes.{Consumes-trans}
 use Rattle.scripts.proofs.reader.take_text.Goals as goal

@@ -1,5 +1,4 @@
-use Rattle.std.proofs.Common.{Result, sym, subst}
-use Rattle.guards.specs.Schema.{Declarations}
+use Rattle.std.proofs.Common.{sym, subst}
 use Rattle.scripts.specs.Orders as order
 use Rattle.scripts.specs.SchemaFiles.{RefusesDeclaration}
 use Rattle.scripts.specs.declared.schema_fault.SchemaFaultKind.{SchemaFaultKind}

@@ -1,8 +1,7 @@
-use Rattle.std.proofs.Common.{◌≡◌, Option, Some, Result, OnOk, IfErr, sym, subst, ◌∙◌}
+use Rattle.std.proofs.Common.{Option, OnOk, IfErr, sym, subst, ◌∙◌}
 use Rattle.heap_model.specs.Setting.{Setting}
 use Rattle.heap_model.specs.declared.record.Record.{Record}
 use Rattle.durable.specs.Past.{Past}
-use Rattle.durable.specs.declared.error.StoreError.{StoreError}
 use Rattle.scripts.specs.States.{Tells}
 use Rattle.scripts.specs.Machine.{Keeps, RefusesRecord}
 use Rattle.scripts.proofs.StoreLemmas.{took, not_took}

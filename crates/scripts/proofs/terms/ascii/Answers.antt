@@ -1,4 +1,3 @@
-use Rattle.std.proofs.Common.{Ok, Err}
 use Rattle.std.proofs.lemmas.Str.{IsUtf8-from_ascii}
 use Rattle.scripts.proofs.TermLemmas.{ok_unless}
 use Rattle.scripts.proofs.terms.ascii.Goals as goal

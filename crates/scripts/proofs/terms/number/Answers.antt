@@ -1,4 +1,4 @@
-use Rattle.std.proofs.Common.{◌≡◌, ◌∙◌, true, sym, rules, ap}
+use Rattle.std.proofs.Common.{◌≡◌, ◌∙◌, true, rules, ap}
 use Rattle.std.specs.Char.{is_ascii_digit}
 use Rattle.std.specs.List.{list_all}
 use Rattle.scripts.proofs.TermLemmas.{number-parsed}

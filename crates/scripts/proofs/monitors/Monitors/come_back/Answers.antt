@@ -1,6 +1,5 @@
-use Rattle.std.proofs.Common.{◌≡◌, ◌+◌, ◌∙◌, sym, ap, set}
+use Rattle.std.proofs.Common.{◌∙◌, sym, ap, set}
 use Rattle.heap_model.specs.State.{kept_count}
-use Rattle.scripts.specs.declared.monitor.Monitor.TheVariants.{Held}
 use Rattle.scripts.specs.declared.pause.Pause.TheVariants.{Awake}
 use Rattle.scripts.specs.Table.{Table, IsWhole}
 use Rattle.scripts.specs.WaitSets.{waiting_in}

@@ -1,4 +1,4 @@
-use Rattle.std.proofs.Common.{◌≡◌, ◌+◌, ◌∙◌, sym, ap, set}
+use Rattle.std.proofs.Common.{◌+◌, ◌∙◌, sym, ap, set}
 use Rattle.scripts.specs.declared.monitor.Monitor.TheVariants.{Free}
 use Rattle.scripts.specs.declared.pause.Pause.TheVariants.{InSet}
 use Rattle.scripts.specs.Monitor.{count_in, number_in}

@@ -1,4 +1,3 @@
-use Rattle.heap_model.specs.declared.event.Event.TheVariants.{NotifyAll}
 use Rattle.scripts.proofs.monitors.Monitors.notify_all.Goals as goal
 
 pub returns-clause-after : goal.returns-clause-after
