@@ -1,11 +1,11 @@
 -- The summary of a set's words stays true.
-use Rattle.std.proofs.Common.{ℕ, ◌≡◌, ◌≢◌, ◌+◌, ◌/◌, ◌%◌, ◌<◌, ◌==◌, Bool, true, false, nat_lt, if◌then◌else◌, List, length, slice_index, refl, sym, ap, ◌∙◌, subst, inl, inr, arith}
+use Rattle.std.proofs.Common.{ℕ, ◌≡◌, ◌≢◌, ◌/◌, ◌<◌, ◌==◌, Bool, true, false, nat_lt, if◌then◌else◌, List, length, slice_index, sym, ap, ◌∙◌, inl, inr, arith}
 use Rattle.std.proofs.lemmas.Bool.{cases_lt, lt-ltb, ltb-true}
 use Rattle.std.proofs.lemmas.Bool.Decides.{eqb_tells}
 use mathlib.Core.Logic.{dite}
 use native.Mathlib.Decide.{ℕ_discrete}
 use Rattle.durable.specs.Bits.{has_bit, IsLowestIn, IsFirstWord}
-use Rattle.durable.specs.Dirty.{DirtySet, is_dirty_in, IsSummed, IsLeastDirty}
+use Rattle.durable.specs.Dirty.{IsSummed, IsLeastDirty}
 use Rattle.durable.proofs.BitLaws.{no_bit, bit_none}
 
 -- one bit changed, and the summary of its word

@@ -1,18 +1,18 @@
 -- What is remembered after the fresh records were logged.
-use Rattle.std.proofs.Common.{ℕ, ◌≡◌, ◌≢◌, ◌+◌, ◌<◌, ◌≤◌, ◌==◌, if◌then◌else◌, Bool, true, false, List, [], ◌∷◌, ◌++◌, length, take, get_or, slice_set, refl, sym, ap, ◌∙◌, subst, inl, inr, arith}
+use Rattle.std.proofs.Common.{ℕ, ◌≡◌, ◌+◌, ◌<◌, ◌==◌, if◌then◌else◌, Bool, true, false, List, [], ◌∷◌, ◌++◌, length, take, get_or, slice_set, refl, sym, ap, ◌∙◌, inl, inr, arith}
 use Rattle.std.proofs.lemmas.Bool.Decides.{eqb_tells}
 use Rattle.std.proofs.lemmas.List.{take_more}
 use Rattle.heap_model.specs.declared.record.Record.{Record}
 use Rattle.heap_model.specs.declared.record.Record.TheVariants.{Acq, Rel, WaitRel, Put}
 use Rattle.heap_model.specs.declared.record.LaneRecord.{LaneRecord}
 use Rattle.heap_model.specs.Setting.{Setting}
-use Rattle.heap_model.specs.Log.{lane, value}
+use Rattle.heap_model.specs.Log.{value}
 use Rattle.heap_model.specs.Plain.{log_from}
 use Rattle.durable.specs.declared.states.FieldState.{FieldState}
-use Rattle.durable.specs.Past.{Past, applied, has_store, after_log, after_home}
+use Rattle.durable.specs.Past.{Past, has_store, after_log, after_home}
 use Rattle.durable.specs.Dirty.{DirtySet, is_dirty_in}
-use Rattle.durable.specs.Memory.{Memory, new_field, field_in, value_in, guard_in, lane_in}
-use Rattle.durable.specs.Remembers.{RemembersLane, Remembers}
+use Rattle.durable.specs.Memory.{Memory, new_field, field_in, value_in, guard_in}
+use Rattle.durable.specs.Remembers.{Remembers}
 use Rattle.durable.proofs.FreshLaws.{log_snoc}
 use Rattle.durable.proofs.Remembering.{at_set}
 use Rattle.durable.proofs.Verdicts.{lane_long}

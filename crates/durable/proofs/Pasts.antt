@@ -1,5 +1,5 @@
 -- What a store's past stays.
-use Rattle.std.proofs.Common.{ℕ, ◌≤◌, ◌++◌, arith}
+use Rattle.std.proofs.Common.{ℕ}
 use Rattle.heap_model.specs.declared.record.Record.{Record}
 use Rattle.heap_model.specs.Setting.{Setting}
 use Rattle.heap_model.specs.Log.{IsLegal}

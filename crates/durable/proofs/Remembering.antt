@@ -1,24 +1,21 @@
 -- What is remembered after one more record.
-use Rattle.std.proofs.Common.{ℕ, ◌≡◌, ◌≢◌, ◌+◌, ◌-◌, ◌<◌, ◌≤◌, ◌==◌, ◌⊎◌, if◌then◌else◌, Bool, true, false, List, [], ◌∷◌, ◌++◌, length, slice_index_or, slice_set, Option, Some, None, refl, sym, ap, ◌∙◌, subst, inl, inr, ⊎_elim, arith}
+use Rattle.std.proofs.Common.{ℕ, ◌≡◌, ◌≢◌, ◌+◌, ◌<◌, ◌==◌, if◌then◌else◌, Bool, true, false, List, [], ◌∷◌, ◌++◌, length, slice_index_or, slice_set, Some, None, refl, sym, ap, ◌∙◌, inl, inr, arith}
 use Rattle.std.proofs.lemmas.Bool.{eq-eqb, ne_eqb}
 use Rattle.std.proofs.lemmas.Bool.Decides.{eqb_tells}
 use Rattle.std.proofs.lemmas.List.{get_or-set_same, get_or-set_other, length-set}
-use mathlib.Core.Logic.{dite}
-use native.Mathlib.Decide.{ℕ_discrete}
 use Rattle.heap_model.specs.declared.ids.Lane.{Lane}
 use Rattle.heap_model.specs.declared.record.Record.{Record}
 use Rattle.heap_model.specs.declared.record.Record.TheVariants.{Acq, Rel, WaitRel, Put}
 use Rattle.heap_model.specs.Setting.{Setting}
 use Rattle.heap_model.specs.Events.{lane_number}
-use Rattle.heap_model.specs.Log.{lane, holder, number, value, awaited, IsAllowed, MayFollow, IsRecordOf}
+use Rattle.heap_model.specs.Log.{lane, holder, number, value, awaited, IsAllowed}
 use Rattle.heap_model.specs.Sections.{Action, action, actions, holding}
 use Rattle.durable.specs.declared.states.MonitorState.{MonitorState}
 use Rattle.durable.specs.declared.states.FieldState.{FieldState}
 use Rattle.durable.specs.declared.states.LaneState.{LaneState}
 use Rattle.durable.specs.Past.{Past, applied, after_apply}
-use Rattle.durable.specs.Fresh.{IsOfLanes}
-use Rattle.durable.specs.Memory.{Memory, new_monitor, new_field, new_lane, monitor_in, field_in, lane_in, holder_in, number_in, value_in, guard_in, object_number, held_after, awaited_after, lane_after, monitors_after, fields_after, KeepsLayout}
-use Rattle.durable.specs.Remembers.{open_section, held_of, section_of, place_of, RemembersLane, Remembers}
+use Rattle.durable.specs.Memory.{Memory, new_monitor, new_field, new_lane, monitor_in, field_in, lane_in, holder_in, number_in, value_in, object_number, held_after, awaited_after, lane_after, monitors_after, fields_after, KeepsLayout}
+use Rattle.durable.specs.Remembers.{open_section, RemembersLane}
 use Rattle.durable.specs.Verdict.{IsNamed}
 use Rattle.durable.proofs.Held.{held_next}
 

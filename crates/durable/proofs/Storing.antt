@@ -1,5 +1,5 @@
 -- What a store has after each of its steps.
-use Rattle.std.proofs.Common.{◌≡◌, ◌≢◌, ◌⊎◌, inl, inr, ⊎_elim, ℕ, ◌+◌, ◌-◌, ◌<◌, ◌≤◌, ◌^◌, Bool, true, false, List, [], ◌∷◌, ◌++◌, length, map, reverse, Option, Some, None, Result, Ok, Err, OnOk, OnErr, IfErr, MatchResult, refl, sym, ◌∙◌, ap, subst, arith}
+use Rattle.std.proofs.Common.{◌≡◌, ◌≢◌, ⊎_elim, ℕ, ◌+◌, ◌-◌, ◌<◌, ◌^◌, Bool, true, false, List, [], ◌∷◌, ◌++◌, length, map, reverse, Option, Some, None, Result, Ok, Err, OnOk, OnErr, IfErr, MatchResult, refl, sym, ◌∙◌, ap, subst, arith}
 use Rattle.std.specs.Prelude.{All}
 use Rattle.std.proofs.lemmas.List.{length-reverse, get_or-reverse}
 use Rattle.std.proofs.lemmas.List.Elements.{All-nil, All-cons}
@@ -7,7 +7,7 @@ use Rattle.heap_model.specs.declared.record.Record.{Record}
 use Rattle.heap_model.specs.declared.record.UndoRecord.{UndoRecord}
 use Rattle.heap_model.specs.Record.{undo_of}
 use Rattle.heap_model.specs.Setting.{Setting}
-use Rattle.heap_model.specs.Log.{lane, value, IsLegal}
+use Rattle.heap_model.specs.Log.{lane, value}
 use Rattle.heap_model.specs.Sections.{Action, actions}
 use Rattle.std.specs.Prelude.{slice_index, MatchOption}
 use Rattle.std.specs.Option.{is_some}
@@ -28,9 +28,9 @@ use Rattle.durable.specs.Fresh.{IsOfLanes, undo_log_of}
 use Rattle.durable.specs.Limits.{AreWithin, FitWords}
 use Rattle.durable.specs.Memory.{Memory, KeepsLayout, lane_in}
 use Rattle.durable.specs.NewRecords.{FitsLane}
-use Rattle.durable.specs.Past.{Past, IsPast, applied, after_apply, after_log, after_home, after_settle}
+use Rattle.durable.specs.Past.{Past, after_apply, after_log, after_home, after_settle}
 use Rattle.durable.specs.Remembers.{Remembers}
-use Rattle.durable.specs.Sections.{Logged, TellsSections, MayBeLogged, start_in}
+use Rattle.durable.specs.Sections.{Logged, TellsSections, MayBeLogged}
 use Rattle.durable.specs.Apply.{Answers}
 use Rattle.durable.specs.Begin.{IsLeastDirtyOf}
 use Rattle.durable.specs.Calls.{HasDirty, IsClean, RefusesApply, RefusesLog, RefusesSettle}

@@ -1,13 +1,12 @@
 -- What is judged by the memory is so of the past.
-use Rattle.std.proofs.Common.{ℕ, ◌≡◌, ◌≢◌, ◌+◌, ◌-◌, ◌<◌, ◌≤◌, ◌^◌, ◌==◌, ◌⊎◌, if◌then◌else◌, Bool, true, false, List, [], ◌∷◌, ◌++◌, length, slice_set, Option, Some, None, Result, Ok, Err, refl, sym, ap, ◌∙◌, subst, inl, inr, ⊎_elim, arith}
+use Rattle.std.proofs.Common.{ℕ, ◌≡◌, ◌+◌, ◌<◌, ◌≤◌, ◌^◌, ◌==◌, if◌then◌else◌, true, false, List, [], ◌∷◌, ◌++◌, length, slice_set, Result, Ok, Err, refl, sym, ap, ◌∙◌, subst, inl, inr, ⊎_elim, arith}
 use Rattle.std.proofs.lemmas.Bool.{cases_lt}
 use Rattle.std.proofs.lemmas.Bool.Decides.{eqb_tells}
 use Rattle.heap_model.specs.declared.ids.Lane.{Lane}
 use Rattle.heap_model.specs.declared.record.Record.{Record}
-use Rattle.heap_model.specs.declared.record.LaneRecord.{LaneRecord}
 use Rattle.heap_model.specs.declared.record.Record.TheVariants.{Acq, Rel, WaitRel, Put}
 use Rattle.heap_model.specs.Setting.{Setting}
-use Rattle.heap_model.specs.Log.{lane, holder, number, value, awaited, IsAllowed, MayFollow, IsRecordOf}
+use Rattle.heap_model.specs.Log.{lane, holder, IsAllowed, MayFollow, IsRecordOf}
 use Rattle.heap_model.specs.Sections.{action, actions, holding}
 use Rattle.heap_model.specs.Plain.{log_from}
 use Rattle.durable.specs.declared.error.StoreError.{StoreError}
@@ -17,14 +16,14 @@ use Rattle.durable.specs.declared.states.FieldState.{FieldState}
 use Rattle.durable.specs.declared.states.LaneState.{LaneState}
 use Rattle.durable.specs.Past.{Past, applied, after_apply}
 use Rattle.durable.specs.Fresh.{IsOfLanes}
-use Rattle.durable.specs.Memory.{Memory, lane_in, field_in, value_in, holder_in, number_in, guard_in, new_lane, object_number, held_after, lane_after}
-use Rattle.durable.specs.Remembers.{held_of, section_of, place_of, RemembersLane, Remembers}
+use Rattle.durable.specs.Memory.{Memory, lane_in, holder_in, guard_in, new_lane, held_after, lane_after}
+use Rattle.durable.specs.Remembers.{RemembersLane, Remembers}
 use Rattle.durable.specs.Apply.{HasLastNumber, IsWorn, IsNext, IsTooLong, IsFull, Answers}
-use Rattle.durable.specs.Verdict.{IsNamed, Allows, IsWornIn, IsNextIn, IsTooLongIn, IsFullIn, JudgesNamed, Judges, NumberFits}
+use Rattle.durable.specs.Verdict.{IsNamed, Allows, IsWornIn, IsNextIn, IsTooLongIn, IsFullIn, Judges}
 use Rattle.durable.specs.Limits.{IsWithin}
 use Rattle.durable.proofs.FreshLaws.{log_snoc}
 use Rattle.durable.proofs.Held.{held_next}
-use Rattle.durable.proofs.Remembering.{at_set, lane_now, lane_other, holder_next, number_next, value_next, part_next, fields_long, monitors_long, memory_after}
+use Rattle.durable.proofs.Remembering.{lane_now, lane_other, holder_next, number_next, value_next, part_next, fields_long, monitors_long, memory_after}
 use Rattle.std.proofs.lemmas.List.{get_or-set_same, get_or-set_other, length-set}
 use mathlib.Core.Logic.{dite}
 use native.Mathlib.Decide.{ℕ_discrete}

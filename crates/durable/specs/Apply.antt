@@ -1,5 +1,5 @@
 -- What a store answers to a record, and why (this project's own).
-use Rattle.std.specs.Prelude.{ℕ, ◌≡◌, ◌+◌, ◌<◌, ◌≤◌, ◌^◌, ◌⊎◌, Option, None, Some, Result, Ok, Err, List, ◌∷◌, length}
+use Rattle.std.specs.Prelude.{ℕ, ◌≡◌, ◌+◌, ◌<◌, ◌≤◌, ◌^◌, ◌⊎◌, Result, Ok, Err, ◌∷◌, length}
 use Rattle.heap_model.specs.declared.record.Record.{Record}
 use Rattle.heap_model.specs.declared.record.Record.TheVariants.{Acq, Rel, WaitRel, Put}
 use Rattle.heap_model.specs.Setting.{Setting}
@@ -7,7 +7,6 @@ use Rattle.heap_model.specs.Log.{lane, awaited, IsAllowed, MayFollow, IsRecordOf
 use Rattle.heap_model.specs.Sections.{action, actions, holding}
 use Rattle.durable.specs.declared.error.StoreError.{StoreError}
 use Rattle.durable.specs.declared.error.StoreError.TheVariants.{BadLane, BadId, Worn, NotNext, TooLong, LogFull}
-use Rattle.durable.specs.declared.states.LaneState.{LaneState}
 use Rattle.durable.specs.Past.{Past, applied}
 use Rattle.durable.specs.Memory.{Memory, lane_in}
 use Rattle.durable.specs.Remembers.{held_of, section_of, place_of}

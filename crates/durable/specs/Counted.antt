@@ -1,5 +1,5 @@
 -- What is counted of a lane's logged records (this project's own).
-use Rattle.std.specs.Prelude.{ℕ, ◌+◌, ◌<◌, nat_lt, if◌then◌else◌, List, slice_index_or, slice_set}
+use Rattle.std.specs.Prelude.{ℕ, ◌+◌, nat_lt, if◌then◌else◌, List, slice_index_or, slice_set}
 use Rattle.heap_model.specs.declared.record.Record.{Record}
 use Rattle.heap_model.specs.Sections.{action}
 use Rattle.dependence.specs.Counts.{held_after, ended_after}

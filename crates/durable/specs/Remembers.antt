@@ -1,5 +1,5 @@
 -- When a memory is that of a past (this project's own).
-use Rattle.std.specs.Prelude.{ℕ, ◌≡◌, ◌+◌, ◌<◌, ◌≤◌, ◌^◌, ◌==◌, if◌then◌else◌, List, [], ◌∷◌, length}
+use Rattle.std.specs.Prelude.{ℕ, ◌≡◌, ◌<◌, ◌≤◌, ◌==◌, if◌then◌else◌, List, [], ◌∷◌, length}
 use Rattle.heap_model.specs.Setting.{Setting}
 use Rattle.heap_model.specs.Log.{lane, holder, number, value, awaited, IsLegal}
 use Rattle.heap_model.specs.Sections.{Action, actions, holding}
@@ -8,7 +8,7 @@ use Rattle.durable.specs.declared.states.LaneState.{LaneState}
 use Rattle.durable.specs.Past.{Past, applied}
 use Rattle.durable.specs.Dirty.{is_dirty_in}
 use Rattle.durable.specs.Fresh.{IsOfLanes}
-use Rattle.durable.specs.Memory.{Memory, monitor_in, field_in, lane_in, holder_in, number_in, value_in, guard_in, object_number}
+use Rattle.durable.specs.Memory.{Memory, field_in, lane_in, holder_in, number_in, value_in, guard_in, object_number}
 
 -- what a lane did in the section that it is in, the newest first: nothing where it holds nothing (Atlas)
 abbrev pub open_section : List Action → List Action

@@ -1,8 +1,7 @@
 -- What is true of the fields of `Applied`.
-use Rattle.std.specs.Prelude.{ℕ, ◌≡◌, ◌+◌, ◌<◌, ◌≤◌, ◌^◌, length}
+use Rattle.std.specs.Prelude.{ℕ, ◌≡◌, ◌<◌, length}
 use Rattle.heap_model.specs.Setting.{Setting}
 use Rattle.durable.specs.declared.applied.Applied.TheInside.{Inside}
-use Rattle.durable.specs.declared.states.LaneState.{LaneState}
 use Rattle.durable.specs.Past.{Past}
 use Rattle.durable.specs.Memory.{Memory, lane_in}
 use Rattle.durable.specs.Remembers.{Remembers}

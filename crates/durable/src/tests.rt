@@ -12,7 +12,7 @@ use std::test::Fail;
 const SIZE: u64 = 130_208;
 
 // Four objects, and a field of each of the first two, which guards it; none where memory is wanting.
-pub fn schema_or_none(alloc: Global) -> Option<Schema> {
+pub(crate) fn schema_or_none(alloc: Global) -> Option<Schema> {
     let mut builder = SchemaBuilder::new(alloc);
     builder.object("o0").ok()?;
     builder.object("o1").ok()?;

@@ -1,13 +1,11 @@
 -- The study of a recovered image.
-use Rattle.std.proofs.Common.{ℕ, zero, suc, ◌≡◌, ◌∙◌, ◌+◌, ◌-◌, ◌<◌, ◌≤◌, ◌^◌, List, [], ◌∷◌, ◌++◌, length, length-append, get_or, replicate, map, reverse, take, refl, sym, ap, subst, inl, inr, arith, Vec, Global}
+use Rattle.std.proofs.Common.{ℕ, zero, suc, ◌≡◌, ◌∙◌, ◌+◌, ◌-◌, ◌≤◌, List, [], ◌∷◌, ◌++◌, length, length-append, get_or, replicate, map, reverse, take, refl, sym, ap, subst, arith, Vec, Global}
 use Rattle.std.proofs.lemmas.List.{length-replicate}
 use Rattle.heap_model.specs.Cuts.{counts_of, IsStable}
 use Rattle.heap_model.specs.Sections.{Section, DependsOn, Earlier, Took, undo_action, holding, ended}
-use Rattle.heap_model.specs.declared.ids.ObjectId.{ObjectId}
 use Rattle.heap_model.specs.declared.record.UndoRecord.{UndoRecord}
 use Rattle.image.specs.Cells.{HasCells}
 use Rattle.image.specs.Control.{empty_control}
-use Rattle.image.specs.Layout.{IsLayout}
 use Rattle.image.specs.Rows.{empty_row}
 use Rattle.image.specs.Slots.{Shows, other}
 use Rattle.image.specs.declared.control.Control.{Control}
@@ -21,7 +19,7 @@ use Rattle.recover.specs.declared.report.Dropped.{Dropped}
 use Rattle.recover.specs.declared.report.Report.{Report}
 use Rattle.recover.specs.declared.studied.Study.{Study}
 use Rattle.recover.specs.Dropping.{AreDropped, AreEntriesOf, sections_after, settled_sections, trimmed_sections, unsettled_sections}
-use Rattle.recover.specs.Logs.{AreLogs, lanes_of, records_of}
+use Rattle.recover.specs.Logs.{lanes_of, records_of}
 use Rattle.recover.specs.Reading.{HasFront, Holds}
 use Rattle.recover.specs.Recovery.{IsEnded}
 use Rattle.recover.specs.Replay.{Replays}

@@ -1,5 +1,5 @@
 -- The end of a recovery: a sync, and a commit over a device on which nothing is pending.
-use Rattle.std.proofs.Common.{◌≡◌, ℕ, ◌+◌, List, [], inl, inr, refl, sym, subst}
+use Rattle.std.proofs.Common.{◌≡◌, ℕ, ◌+◌, [], inl, inr, refl, sym, subst}
 use Rattle.block_disk.specs.Device.{Device, synced}
 use Rattle.block_disk.specs.Images.{Always, ImageBut, LeavesOnly}
 use Rattle.block_disk.proofs.Images.{always_now, and_then, leaves_synced, weaker}

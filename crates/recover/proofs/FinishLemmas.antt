@@ -1,5 +1,5 @@
 -- What putting back and the end of a recovery leave.
-use Rattle.std.proofs.Common.{ℕ, ◌≡◌, ◌+◌, ◌*◌, ◌<◌, ◌≤◌, ◌⊎◌, All, List, [], ◌∷◌, length, refl, ap, subst, inl, inr, arith}
+use Rattle.std.proofs.Common.{ℕ, ◌≡◌, ◌+◌, ◌*◌, ◌≤◌, All, List, [], ◌∷◌, refl, ap, inl, inr, arith}
 use Rattle.std.specs.Prelude.{slice_index}
 use Rattle.heap_model.specs.declared.ids.FieldId.{FieldId}
 use Rattle.block_disk.specs.Device.{Range, Device, SameOutside, synced}

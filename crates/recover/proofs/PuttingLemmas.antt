@@ -1,11 +1,11 @@
 -- What the writes of home cells make of a device, and what they leave of its images.
-use Rattle.std.proofs.Common.{◌≡◌, inl, inr, ℕ, zero, suc, ◌+◌, ◌<◌, ◌≤◌, All, List, [], ◌∷◌, ◌++◌, length, get_or, refl, sym, ap, subst, arith}
+use Rattle.std.proofs.Common.{◌≡◌, inl, inr, ℕ, zero, suc, ◌<◌, ◌≤◌, All, List, [], ◌∷◌, ◌++◌, length, get_or, refl, sym, subst, arith}
 use Rattle.std.specs.Prelude.{slice_index}
 use Rattle.std.specs.Int.{to_be_bytes, w64}
 use Rattle.std.proofs.lemmas.Bool.{cases_lt}
 use Rattle.std.proofs.lemmas.Bool.Decides.{eqb_tells}
 use Rattle.heap_model.specs.declared.ids.FieldId.{FieldId}
-use Rattle.block_disk.specs.Device.{Range, Device, IsClear, SameOutside, written}
+use Rattle.block_disk.specs.Device.{Device, IsClear, SameOutside, written}
 use Rattle.block_disk.specs.Images.{Always, ImageBut, IsApart, LeavesOnly}
 use Rattle.block_disk.proofs.Images.{besides_then, besides_wider, follows, now_too, weaker}
 use Rattle.block_disk.proofs.Ranges.{outside_more, spliced_same}

@@ -18,7 +18,7 @@ use Rattle.recover.specs.declared.error.RecoverError.{RecoverError}
 use Rattle.recover.specs.declared.error.RecoverError.TheVariants.{Fault, NotFormatted, BadHeader, TooSmall, NoControl, BadControl, Worn, BadRecord, IllegalLog, NoMemory}
 use Rattle.recover.specs.Logs.{records_of, lanes_of, AreLogs, AreLoggable, AreGuards, RefusesLogs}
 use Rattle.recover.specs.Settled.{RefusesLegal}
-use Rattle.recover.specs.Reading.{HasLayout, RefusesLayout, RefusesRows, RefusesControl, HasFront, HasControl, RefusesFront, RefusesLive, RefusesImage}
+use Rattle.recover.specs.Reading.{HasLayout, HasControl, RefusesLive, RefusesImage}
 use Rattle.recover.proofs.LogLemmas.{records_past}
 
 pub refused_logs : (image : List ℕ) (l : Layout) (guards : List GuardRow) (c : Control) (e : RecoverError) → RefusesLogs l image c.rows e → RefusesLive image l guards c e

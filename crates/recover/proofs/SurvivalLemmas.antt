@@ -1,5 +1,5 @@
 -- What a change of home cells leaves of an image, and what one image determines.
-use Rattle.std.proofs.Common.{ℕ, zero, suc, ◌≡◌, ◌+◌, ◌-◌, ◌*◌, ◌<◌, ◌≤◌, ◌∙◌, All, List, [], ◌∷◌, length, reverse, get_or, refl, sym, ap, subst, inl, inr, arith, Vec, Global, Result, Ok, Err}
+use Rattle.std.proofs.Common.{ℕ, suc, ◌≡◌, ◌+◌, ◌-◌, ◌*◌, ◌<◌, ◌≤◌, ◌∙◌, All, List, [], ◌∷◌, reverse, get_or, refl, sym, ap, subst, inl, inr, arith, Vec, Global, Result, Ok, Err}
 use Rattle.std.specs.Prelude.{Contains, slice_index}
 use Rattle.std.proofs.lemmas.Bool.{cases_lt}
 use Rattle.std.proofs.lemmas.List.{reverse-reverse}
@@ -21,7 +21,7 @@ use Rattle.image.specs.declared.layout.Layout.{Layout}
 use Rattle.image.specs.declared.slot.Slot.{Slot}
 use Rattle.image.proofs.Commits.{shows_survives}
 use Rattle.image.proofs.Places.{places, header_survives, guards_survive, cell_survives}
-use Rattle.image.proofs.Reading.{control_is_chosen, guards_are_read, one_layout}
+use Rattle.image.proofs.Reading.{control_is_chosen, guards_are_read}
 use Rattle.undo_log.specs.OldValues.{OldValue, HasOld, TakesBack, NothingBack, FirstBack, IsUnsettled}
 use Rattle.undo_log.specs.StandsFor.{HasLive, StandsFor, row_of, settled_of, guard_in}
 use Rattle.undo_log.proofs.Frames.{records_survive}
@@ -31,7 +31,7 @@ use Rattle.recover.specs.declared.studied.Study.{Study}
 use Rattle.recover.specs.Heap.{IsUndone}
 use Rattle.recover.specs.Logs.{AreLogs, lanes_of}
 use Rattle.recover.specs.Putting.{cell_ranges}
-use Rattle.recover.specs.Reading.{HasControl, HasFront, Holds}
+use Rattle.recover.specs.Reading.{HasFront, Holds}
 use Rattle.recover.specs.Study.{AreUndone, IsStudyOf, held_by}
 use Rattle.recover.proofs.PuttingLemmas.{cells_apart}
 use Rattle.recover.proofs.StudyLemmas.{stands_for}

@@ -1,14 +1,11 @@
 -- What survives a whole run.
-use Rattle.std.proofs.Common.{◌≡◌, ◌⊎◌, inl, inr, ⊎_elim, ℕ, ◌<◌, ◌≤◌, ◌++◌, List, [], ◌∷◌, Result, Ok, Err, MatchResult, IfOk, IfErr, length, take, refl, sym, ◌∙◌, ap, subst, arith}
-use Rattle.heap_model.specs.declared.cut.Cut.{Cut}
+use Rattle.std.proofs.Common.{◌≡◌, inl, inr, ⊎_elim, ℕ, ◌≤◌, ◌++◌, List, [], ◌∷◌, Result, Ok, Err, MatchResult, IfOk, IfErr, length, take, refl, sym, ◌∙◌, subst, arith}
 use Rattle.heap_model.specs.Setting.{Setting}
-use Rattle.heap_model.specs.Cuts.{counts_of}
-use Rattle.block_disk.specs.Device.{Device, LeftSince}
-use Rattle.block_disk.specs.Images.{Always, LeavesOnly}
+use Rattle.block_disk.specs.Device.{Device}
+use Rattle.block_disk.specs.Images.{LeavesOnly}
 use Rattle.block_disk.proofs.Images.{left_now}
 use Rattle.image.specs.Recovered.{Parts}
 use Rattle.image.specs.declared.layout.Layout.{Layout}
-use Rattle.undo_log.specs.StandsFor.{row_of}
 use Rattle.durable.specs.Calls.{MakeAll, Makes, ShowsAfterSome}
 use Rattle.durable.specs.Fresh.{IsOfLanes}
 use Rattle.durable.specs.KeptHeap.{kept_heap}
@@ -23,7 +20,7 @@ use Rattle.durable.proofs.Pasts.{past_apply, past_home, past_log}
 use Rattle.heap_model.proofs.Stays.{cut_stays}
 use Rattle.durable.proofs.Showing.{undone_beyond, of_lanes_before, past_settle, logged_heap}
 use Rattle.recover.specs.Accepted.{IsLeftBy}
-use Rattle.recover.specs.Recovery.{IsRecovery, IsWorn, RefusesRecovery}
+use Rattle.recover.specs.Recovery.{IsRecovery, RefusesRecovery}
 use Rattle.recover.specs.Study.{IsStudyOf, held_by}
 use Rattle.recover.specs.WholeRun.{IsAcknowledged, Survives, CannotRecover, MayBeLeft}
 use Rattle.recover.specs.declared.error.RecoverError.{RecoverError}

@@ -21,28 +21,28 @@ pub struct Outcome {
     pub heap: [u64; 2],
 }
 
-pub fn acq(object: u32, number: u64) -> Record {
+pub(crate) fn acq(object: u32, number: u64) -> Record {
     Record::Acq {
         object: ObjectId(object),
         number,
     }
 }
 
-pub fn rel(object: u32, number: u64) -> Record {
+pub(crate) fn rel(object: u32, number: u64) -> Record {
     Record::Rel {
         object: ObjectId(object),
         number,
     }
 }
 
-pub fn wait(object: u32, number: u64) -> Record {
+pub(crate) fn wait(object: u32, number: u64) -> Record {
     Record::WaitRel {
         object: ObjectId(object),
         number,
     }
 }
 
-pub fn put(field: u32, before: u64, after: u64) -> Record {
+pub(crate) fn put(field: u32, before: u64, after: u64) -> Record {
     Record::Put {
         field: FieldId(field),
         before,
@@ -51,17 +51,17 @@ pub fn put(field: u32, before: u64, after: u64) -> Record {
 }
 
 /// The first thread's call.
-pub fn one(record: Record) -> StoreCall {
+pub(crate) fn one(record: Record) -> StoreCall {
     StoreCall::Apply(Lane(0), record)
 }
 
 /// The second thread's call.
-pub fn two(record: Record) -> StoreCall {
+pub(crate) fn two(record: Record) -> StoreCall {
     StoreCall::Apply(Lane(1), record)
 }
 
 /// So many sections of the two lanes.
-pub fn cut(first: u64, second: u64) -> Cut {
+pub(crate) fn cut(first: u64, second: u64) -> Cut {
     let mut counts = [0; 32];
     counts[0] = first;
     counts[1] = second;
@@ -69,7 +69,7 @@ pub fn cut(first: u64, second: u64) -> Cut {
 }
 
 /// A section that is dropped.
-pub fn dropped(lane: u8, section: u64, why: Why) -> Option<Dropped> {
+pub(crate) fn dropped(lane: u8, section: u64, why: Why) -> Option<Dropped> {
     Some(Dropped {
         lane: Lane(lane),
         section,
@@ -78,7 +78,7 @@ pub fn dropped(lane: u8, section: u64, why: Why) -> Option<Dropped> {
 }
 
 /// Since it depends on this one.
-pub fn after(lane: u8, section: u64) -> Why {
+pub(crate) fn after(lane: u8, section: u64) -> Why {
     Why::After {
         lane: Lane(lane),
         section,
@@ -86,7 +86,7 @@ pub fn after(lane: u8, section: u64) -> Why {
 }
 
 /// A section of the first thread that stores 5, logged, written home and acknowledged.
-pub fn stored() -> [StoreCall; 7] {
+pub(crate) fn stored() -> [StoreCall; 7] {
     [
         one(acq(0, 0)),
         one(put(0, 10, 5)),
@@ -99,7 +99,7 @@ pub fn stored() -> [StoreCall; 7] {
 }
 
 /// The first thread stores 1 and frees the guard, but not its other monitor; the second one stores 2 in a section.
-pub fn two_stores() -> [StoreCall; 11] {
+pub(crate) fn two_stores() -> [StoreCall; 11] {
     [
         one(acq(0, 0)),
         one(acq(1, 0)),
@@ -116,7 +116,7 @@ pub fn two_stores() -> [StoreCall; 11] {
 }
 
 /// The same, and then the first thread ends its section.
-pub fn released() -> [StoreCall; 15] {
+pub(crate) fn released() -> [StoreCall; 15] {
     [
         one(acq(0, 0)),
         one(acq(1, 0)),
@@ -137,7 +137,7 @@ pub fn released() -> [StoreCall; 15] {
 }
 
 /// A store of the common schema on this disk, with two lanes of 4,000 records.
-pub fn store_on(alloc: Global, disk: MemDisk) -> Result<Store<MemDisk>, Fail> {
+pub(crate) fn store_on(alloc: Global, disk: MemDisk) -> Result<Store<MemDisk>, Fail> {
     let schema = schema_or_none(alloc).ok_or("no schema")?;
     let Ok(made) = Store::format(alloc, disk, &schema, 2, 4000) else {
         return Err(Fail::new("not formatted"));
@@ -149,13 +149,13 @@ pub fn store_on(alloc: Global, disk: MemDisk) -> Result<Store<MemDisk>, Fail> {
 }
 
 /// The same on a disk of its own.
-pub fn new_store(alloc: Global) -> Result<Store<MemDisk>, Fail> {
+pub(crate) fn new_store(alloc: Global) -> Result<Store<MemDisk>, Fail> {
     let disk = MemDisk::new(alloc, 130_208)?;
     store_on(alloc, disk)
 }
 
 /// What a crash behind the last of these calls leaves of the store that made them.
-pub fn crashed(alloc: Global, calls: &[StoreCall], fill: Fill) -> Result<MemDisk, Fail> {
+pub(crate) fn crashed(alloc: Global, calls: &[StoreCall], fill: Fill) -> Result<MemDisk, Fail> {
     let mut store = new_store(alloc)?;
     if store.play(calls).is_err() {
         return Err(Fail::new("a call is refused"));
@@ -168,12 +168,15 @@ pub fn crashed(alloc: Global, calls: &[StoreCall], fill: Fill) -> Result<MemDisk
 }
 
 /// What recovery of this disk answers.
-pub fn recovery_of(alloc: Global, disk: MemDisk) -> Result<Result<Outcome, RecoverError>, Fail> {
+pub(crate) fn recovery_of(
+    alloc: Global,
+    disk: MemDisk,
+) -> Result<Result<Outcome, RecoverError>, Fail> {
     answered(recover(alloc, disk))
 }
 
 /// What recovery answered.
-pub fn answered(
+pub(crate) fn answered(
     answer: Result<(Recovered<MemDisk>, Report), (MemDisk, RecoverError)>,
 ) -> Result<Result<Outcome, RecoverError>, Fail> {
     match answer {
@@ -183,7 +186,7 @@ pub fn answered(
 }
 
 /// This heap and this report.
-pub fn outcome_of(heap: &[u64], report: &Report) -> Result<Outcome, Fail> {
+pub(crate) fn outcome_of(heap: &[u64], report: &Report) -> Result<Outcome, Fail> {
     let [first, second] = heap else {
         return Err(Fail::new("not two fields"));
     };

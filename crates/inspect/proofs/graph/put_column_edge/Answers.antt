@@ -1,4 +1,4 @@
-use Rattle.std.proofs.Common.{rules, ℕ, ◌≡◌, ◌+◌, ◌==◌, ◌∙◌, Bool, false, List, [], ◌∷◌, codes, sym, subst, OnErr, if◌then◌else◌}
+use Rattle.std.proofs.Common.{rules, ℕ, ◌≡◌, ◌+◌, ◌==◌, Bool, false, List, [], ◌∷◌, codes, sym, subst, OnErr, if◌then◌else◌}
 use Rattle.std.specs.Fmt.{decimal}
 use Rattle.inspect.specs.Written.{AppendsPart}
 use Rattle.inspect.specs.Pieces.{line}

@@ -1,13 +1,10 @@
-use Rattle.std.proofs.Common.{ℕ, List, sym, subst, Vec, Global}
+use Rattle.std.proofs.Common.{List, sym, subst, Vec, Global}
 use Rattle.std.proofs.lemmas.Result.{err_from_is_err_and}
 use Rattle.heap_model.specs.declared.record.UndoRecord.{UndoRecord}
-use Rattle.block_disk.specs.Device.{Moment}
 use Rattle.image.specs.declared.guard_row.GuardRow.{GuardRow}
 use Rattle.undo_log.specs.StandsFor.{guard_in}
 use Rattle.recover.specs.Logs.{lanes_of, AreLoggable}
-use Rattle.recover.specs.Replay.{Replays}
-use Rattle.recover.specs.Settled.{AreLegal, RefusesLegal}
-use Rattle.recover.specs.Tables.{log_of}
+use Rattle.recover.specs.Settled.{RefusesLegal}
 use Rattle.recover.proofs.ReadingLemmas.{refused_logs, refused_legal, logs_loggable}
 use Rattle.recover.proofs.reading.read_live.Goals as goal
 

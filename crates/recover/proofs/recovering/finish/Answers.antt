@@ -1,7 +1,6 @@
 use Rattle.std.proofs.Common.{ℕ, ◌<◌, All, List, subst, sym, refl}
 use Rattle.std.specs.Prelude.{slice_index}
 use Rattle.heap_model.specs.declared.ids.FieldId.{FieldId}
-use Rattle.block_disk.specs.Device.{Device}
 use Rattle.block_disk.specs.Images.{ImageBut, LeavesOnly}
 use Rattle.image.specs.Cells.{HasCell}
 use Rattle.recover.specs.Putting.{cell_ranges}

@@ -1,7 +1,6 @@
 use Rattle.std.proofs.Common.{◌≡◌, ◌∙◌, refl, sym, subst}
 use Rattle.block_disk.specs.Device.{Device, synced}
 use Rattle.block_disk.specs.Images.{LeavesOnly}
-use Rattle.image.specs.Recovered.{Parts}
 use Rattle.recover.specs.Recovery.{IsMadeBy, IsOnTheWay}
 use Rattle.recover.proofs.recovering.recover.Goals as goal
 

@@ -1,4 +1,4 @@
-use Rattle.std.proofs.Common.{inr, OnErr}
+use Rattle.std.proofs.Common.{inr}
 use Rattle.std.proofs.lemmas.Result.{err_from_is_err_and}
 use Rattle.recover.proofs.RecoveryLemmas.{made_by, since_synced}
 use Rattle.recover.proofs.recovering.recover_in_place.Goals as goal

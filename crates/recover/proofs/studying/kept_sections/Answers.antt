@@ -1,4 +1,4 @@
-use Rattle.std.proofs.Common.{ℕ, ◌≡◌, ◌≢◌, ◌<◌, ◌≤◌, ◌∙◌, List, length, refl, sym, ap, subst, inl, inr, arith, slice_index, slice_set, get_or-set_same, get_or-set_other}
+use Rattle.std.proofs.Common.{ℕ, ◌≡◌, ◌<◌, ◌≤◌, ◌∙◌, List, length, refl, sym, ap, subst, inl, inr, arith, slice_index, slice_set, get_or-set_same, get_or-set_other}
 use Rattle.std.proofs.lemmas.Bool.{cases_eq, cases_lt}
 use Rattle.std.proofs.lemmas.List.{length-set, get_or_past}
 use Rattle.image.specs.Rows.{empty_row}

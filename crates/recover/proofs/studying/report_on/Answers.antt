@@ -1,4 +1,4 @@
-use Rattle.std.proofs.Common.{List, ◌<◌, ◌≤◌, length, sym, subst, arith, ℕ, Vec, Global}
+use Rattle.std.proofs.Common.{List, ◌<◌, ◌≤◌, length, sym, subst, arith, Vec, Global}
 use Rattle.heap_model.specs.declared.record.UndoRecord.{UndoRecord}
 use Rattle.undo_log.specs.StandsFor.{guard_in, settled_of}
 use Rattle.recover.specs.Heap.{IsUndone}

@@ -1,22 +1,20 @@
-use Rattle.std.proofs.Common.{ℕ, ◌≡◌, ◌+◌, ◌<◌, ◌≤◌, List, [], ◌∷◌, ◌++◌, length, slice_set, Result, Ok, Err, sym, ap, ◌∙◌, subst, arith}
+use Rattle.std.proofs.Common.{ℕ, ◌≡◌, ◌<◌, ◌≤◌, List, length, slice_set, Ok, Err, sym, ap, ◌∙◌, subst}
 use Rattle.std.specs.Vec.{with_items}
 use Rattle.std.proofs.lemmas.List.{with_items_is, length-set}
 use Rattle.heap_model.specs.declared.record.LaneRecord.{LaneRecord}
-use Rattle.heap_model.specs.Setting.{Setting}
 use Rattle.heap_model.specs.Log.{lane}
 use Rattle.heap_model.specs.Plain.{log_from}
-use Rattle.durable.specs.declared.error.StoreError.{StoreError}
 use Rattle.durable.specs.declared.states.MonitorState.{MonitorState}
 use Rattle.durable.specs.declared.states.FieldState.{FieldState}
 use Rattle.durable.specs.declared.states.LaneState.{LaneState}
-use Rattle.durable.specs.Past.{Past, after_apply}
+use Rattle.durable.specs.Past.{after_apply}
 use Rattle.durable.specs.Memory.{Memory, lane_in, lane_after, monitors_after, fields_after, KeepsLayout}
 use Rattle.durable.specs.Remembers.{Remembers}
 use Rattle.durable.specs.Apply.{Answers}
 use Rattle.durable.specs.Verdict.{Judges}
 use Rattle.durable.specs.Limits.{IsWithin, FitWords}
 use Rattle.durable.proofs.FreshLaws.{log_snoc}
-use Rattle.durable.specs.Within.{memory_of, IsKept}
+use Rattle.durable.specs.Within.{memory_of}
 use Rattle.durable.proofs.Remembering.{memory_after, keeps_after}
 use Rattle.durable.proofs.Verdicts.{answers_from, remembers_next, within_next, all_within, start_within, fresh_free, judged_by}
 use Rattle.durable.proofs.applied.Applied.apply.Goals as goal

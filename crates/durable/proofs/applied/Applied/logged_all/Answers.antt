@@ -2,11 +2,10 @@ use Rattle.std.proofs.Common.{ℕ, ◌≡◌, ◌<◌, true, if◌then◌else◌
 use Rattle.std.specs.Vec.{with_items}
 use Rattle.std.proofs.lemmas.List.{with_items_is}
 use Rattle.heap_model.specs.declared.record.LaneRecord.{LaneRecord}
-use Rattle.heap_model.specs.Setting.{Setting}
 use Rattle.heap_model.specs.Log.{value}
 use Rattle.heap_model.specs.Plain.{log_from}
 use Rattle.durable.specs.declared.states.FieldState.{FieldState}
-use Rattle.durable.specs.Past.{Past, has_store, after_log}
+use Rattle.durable.specs.Past.{has_store, after_log}
 use Rattle.durable.specs.Dirty.{is_dirty_in}
 use Rattle.durable.specs.Memory.{Memory, field_in, value_in, guard_in}
 use Rattle.durable.specs.Remembers.{Remembers}

@@ -1,7 +1,4 @@
-use Rattle.std.proofs.Common.{ℕ, ◌≡◌, List, length, replicate, refl, sym, ap, ◌∙◌, subst, arith}
-use Rattle.heap_model.specs.Setting.{Setting}
-use Rattle.durable.specs.declared.states.MonitorState.{MonitorState}
-use Rattle.durable.specs.declared.states.LaneState.{LaneState}
+use Rattle.std.proofs.Common.{◌≡◌, List, length, replicate, refl, sym, ◌∙◌, subst}
 use Rattle.heap_model.specs.declared.record.LaneRecord.{LaneRecord}
 use Rattle.heap_model.specs.Plain.{log_from}
 use Rattle.durable.specs.Limits.{FitWords}

@@ -1,5 +1,5 @@
-use Rattle.std.proofs.Common.{ℕ, ◌≡◌, false, List, slice_index, sym, ap, ◌∙◌, subst}
-use Rattle.durable.specs.Bits.{has_bit, IsFirstWord, IsLowestIn}
+use Rattle.std.proofs.Common.{ℕ, ◌≡◌, false, List, slice_index, subst}
+use Rattle.durable.specs.Bits.{IsFirstWord, IsLowestIn}
 use Rattle.durable.specs.Dirty.{DirtySet, is_dirty_in, IsLeastDirty}
 use Rattle.durable.proofs.DirtyLaws.{least_dirty, none_dirty}
 use Rattle.durable.proofs.dirty.DirtyFields.least.Goals as goal

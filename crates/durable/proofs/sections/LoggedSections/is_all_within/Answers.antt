@@ -1,10 +1,5 @@
-use Rattle.std.proofs.Common.{ℕ, ◌≡◌, ◌<◌, ◌≤◌, inl, inr, sym, ap, ◌∙◌, subst, arith}
+use Rattle.std.proofs.Common.{inl, inr, sym, subst, arith}
 use Rattle.std.proofs.lemmas.Bool.{cases_lt}
-use Rattle.heap_model.specs.Log.{lane as lane_of}
-use Rattle.heap_model.specs.declared.record.Record.{Record as AnyRecord}
-use Rattle.heap_model.specs.Sections.{Action, actions, ended}
-use Rattle.heap_model.specs.Cuts.{counts_of}
-use Rattle.durable.specs.Counted.{lane_in}
 use Rattle.durable.specs.Sections.{Logged, TellsSections}
 use Rattle.durable.specs.KeptSections.{logged_of}
 use Rattle.durable.proofs.SectionLaws.{none_past}

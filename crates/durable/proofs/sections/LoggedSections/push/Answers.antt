@@ -1,12 +1,9 @@
-use Rattle.std.proofs.Common.{ℕ, ◌≡◌, ◌+◌, ◌*◌, ◌<◌, ◌≤◌, ◌∷◌, [], List, length, slice_set, sym, ap, ◌∙◌, refl, subst, arith}
+use Rattle.std.proofs.Common.{ℕ, ◌≡◌, ◌+◌, ◌*◌, ◌≤◌, ◌∷◌, [], List, length, sym, ap, ◌∙◌, subst, arith}
 use Rattle.std.specs.Vec.{with_items}
 use Rattle.std.proofs.lemmas.List.{with_items_is}
-use Rattle.heap_model.specs.declared.record.Record.{Record as AnyRecord}
 use Rattle.heap_model.specs.declared.record.UndoRecord.{UndoRecord}
-use Rattle.heap_model.specs.Record.{undo_of}
-use Rattle.heap_model.specs.Sections.{Action, undo_action}
-use Rattle.dependence.specs.Next.{IsNext, IsObjectBelow}
-use Rattle.durable.specs.declared.logged_lane.LoggedLane.{LoggedLane}
+use Rattle.heap_model.specs.Sections.{undo_action}
+use Rattle.dependence.specs.Next.{IsNext}
 use Rattle.durable.specs.Counted.{lane_in, lane_after, ends_after}
 use Rattle.durable.specs.Sections.{Logged, TellsSections, MayBeLogged}
 use Rattle.durable.specs.KeptSections.{logged_of}

@@ -1,10 +1,10 @@
-use Rattle.std.proofs.Common.{ℕ, ◌≡◌, ◌+◌, ◌<◌, ◌≤◌, List, ◌++◌, length, take, sym, ap, ◌∙◌, subst, arith}
+use Rattle.std.proofs.Common.{ℕ, ◌≡◌, ◌<◌, List, ◌++◌, length, take, sym, ◌∙◌, subst, arith}
 use Rattle.std.proofs.lemmas.List.{take_all}
 use Rattle.heap_model.specs.declared.record.Record.{Record as AnyRecord}
 use Rattle.heap_model.specs.declared.record.Record.TheVariants.{Acq}
 use Rattle.heap_model.specs.declared.record.LaneRecord.{LaneRecord}
 use Rattle.heap_model.specs.Plain.{log_from}
-use Rattle.durable.specs.Sections.{TellsSections, MayBeLogged}
+use Rattle.durable.specs.Sections.{TellsSections}
 use Rattle.durable.proofs.SectionLaws.{log_more, next_may}
 use Rattle.durable.proofs.sections.LoggedSections.push_all.Goals as goal
 

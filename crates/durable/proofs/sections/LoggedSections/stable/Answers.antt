@@ -1,4 +1,4 @@
-use Rattle.std.proofs.Common.{ℕ, ◌≡◌, ◌<◌, List, slice_index, sym, ap, ◌∙◌, subst}
+use Rattle.std.proofs.Common.{ℕ, List, slice_index, sym, ap, ◌∙◌, subst}
 use Rattle.heap_model.specs.Cuts.{counts_of}
 use Rattle.durable.specs.Ends.{slot_of}
 use Rattle.durable.specs.Sections.{Logged, TellsSections}

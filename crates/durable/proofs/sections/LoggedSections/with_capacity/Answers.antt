@@ -1,4 +1,4 @@
-use Rattle.std.proofs.Common.{ℕ, ◌≡◌, ◌*◌, ◌+◌, List, slice_index, replicate, ap, ◌∙◌}
+use Rattle.std.proofs.Common.{ℕ, List, slice_index, ap, ◌∙◌}
 use Rattle.durable.specs.Counted.{new_lane}
 use Rattle.durable.proofs.SectionLaws.{tells_nothing, one_value}
 use Rattle.durable.proofs.sections.LoggedSections.with_capacity.Goals as goal

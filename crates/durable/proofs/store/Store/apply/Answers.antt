@@ -1,13 +1,5 @@
-use Rattle.std.proofs.Common.{◌≡◌, ◌≢◌, ◌⊎◌, inl, inr, ⊎_elim, ℕ, ◌-◌, ◌<◌, ◌≤◌, ◌^◌, Bool, true, false, List, [], Result, Ok, Err, OnOk, MatchResult, refl, sym, ◌∙◌, ap, subst, arith}
-use Rattle.heap_model.specs.Setting.{Setting}
-use Rattle.block_disk.specs.Device.{Device}
-use Rattle.block_disk.specs.Images.{Always, LeavesOnly}
-use Rattle.block_disk.proofs.Images.{begin, now_too, weaker}
-use Rattle.durable.specs.Store.{Known, Parts, HasPast, ShowsStep}
-use Rattle.durable.specs.Store.ShowsStep.{Shows, ShowsLogged, ShowsSettled}
-use Rattle.durable.specs.Consistent.{ShowsPast, ShowsEither, IsConsistent}
-use Rattle.durable.specs.KeptHeap.{StandsForCut}
-use Rattle.durable.specs.Past.{Past, applied, after_apply, after_log, after_home, after_settle}
+use Rattle.std.proofs.Common.{Ok, MatchResult}
+use Rattle.durable.specs.Store.{HasPast}
 use Rattle.durable.specs.Apply.{Answers}
 use Rattle.durable.specs.Calls.{RefusesApply}
 use Rattle.durable.proofs.Storing.{to_parts, from_parts, apply_has, apply_ok, apply_answers, never_fault}

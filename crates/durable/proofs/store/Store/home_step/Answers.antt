@@ -1,13 +1,9 @@
-use Rattle.std.proofs.Common.{◌≡◌, ◌≢◌, ◌⊎◌, inl, inr, ⊎_elim, ℕ, ◌-◌, ◌<◌, ◌≤◌, ◌^◌, Bool, true, false, List, [], Result, Ok, Err, OnOk, MatchResult, refl, sym, ◌∙◌, ap, subst, arith}
-use Rattle.heap_model.specs.Setting.{Setting}
-use Rattle.block_disk.specs.Device.{Device}
-use Rattle.block_disk.specs.Images.{Always, LeavesOnly}
-use Rattle.block_disk.proofs.Images.{begin, now_too, weaker}
-use Rattle.durable.specs.Store.{Known, Parts, HasPast, ShowsStep}
-use Rattle.durable.specs.Store.ShowsStep.{Shows, ShowsLogged, ShowsSettled}
-use Rattle.durable.specs.Consistent.{ShowsPast, ShowsEither, IsConsistent}
+use Rattle.std.proofs.Common.{◌≡◌, true, false, refl, sym, ◌∙◌, arith}
+use Rattle.block_disk.specs.Images.{LeavesOnly}
+use Rattle.block_disk.proofs.Images.{begin}
+use Rattle.durable.specs.Store.{HasPast, ShowsStep}
 use Rattle.durable.specs.KeptHeap.{StandsForCut}
-use Rattle.durable.specs.Past.{Past, applied, after_apply, after_log, after_home, after_settle}
+use Rattle.durable.specs.Past.{after_home}
 use Rattle.durable.specs.Begin.{IsLeastDirtyOf}
 use Rattle.durable.specs.Calls.{IsClean}
 use Rattle.durable.proofs.Storing.{to_parts, from_parts, home_has, failed_has, may_go_home, shows_now, shows_then}

@@ -1,9 +1,5 @@
-use Rattle.std.proofs.Common.{ℕ, ◌≡◌, ◌<◌, ◌==◌, true, false, not, length, ⊎_elim, sym, ap, ◌∙◌, subst, arith}
-use Rattle.std.specs.Option.{is_some}
-use Rattle.heap_model.specs.Setting.{Setting}
+use Rattle.std.proofs.Common.{◌≡◌, true, false, not, ⊎_elim, sym, ap, ◌∙◌, subst, arith}
 use Rattle.heap_model.specs.Cuts.{counts_of}
-use Rattle.durable.specs.Calls.{HasOpen, IsWritten}
-use Rattle.durable.specs.Past.{Past}
 use Rattle.durable.specs.Store.{Known, Parts, HasPast}
 use Rattle.durable.proofs.Ending.{open_told, logged_told, unlogged_told, clean_told, dirty_told, acknowledged_told, told_acknowledged}
 use Rattle.durable.proofs.store.Store.is_closable.Goals as goal

@@ -1,7 +1,5 @@
-use Rattle.std.proofs.Common.{◌≡◌, ◌⊎◌, inl, inr, ⊎_elim}
-use Rattle.durable.specs.declared.error.StoreError.TheVariants.{Fault}
-use Rattle.durable.proofs.Storing.{if_err_weaker}
-use Rattle.std.proofs.Common.{◌≡◌, ℕ, ◌≤◌, false, refl, sym, ap, subst, arith}
+use Rattle.std.proofs.Common.{◌≡◌}
+use Rattle.std.proofs.Common.{◌≡◌, false, refl, sym, ap, subst, arith}
 use Rattle.heap_model.proofs.Existence.{stable_exists}
 use Rattle.heap_model.specs.Sections.{actions}
 use Rattle.durable.specs.declared.store_call.StoreCall.{StoreCall}

@@ -1,20 +1,14 @@
-use Rattle.std.proofs.Common.{◌≡◌, ◌≢◌, ◌⊎◌, inl, inr, ⊎_elim, ℕ, ◌-◌, ◌<◌, ◌≤◌, ◌^◌, Bool, true, false, List, [], Result, Ok, Err, OnOk, MatchResult, refl, sym, ◌∙◌, ap, subst, arith}
-use Rattle.heap_model.specs.Setting.{Setting}
-use Rattle.block_disk.specs.Device.{Device}
-use Rattle.block_disk.specs.Images.{Always, LeavesOnly}
-use Rattle.block_disk.proofs.Images.{begin, now_too, weaker}
-use Rattle.durable.specs.Store.{Known, Parts, HasPast, ShowsStep}
-use Rattle.durable.specs.Store.ShowsStep.{Shows, ShowsLogged, ShowsSettled}
-use Rattle.durable.specs.Consistent.{ShowsPast, ShowsEither, IsConsistent}
-use Rattle.durable.specs.KeptHeap.{StandsForCut}
-use Rattle.durable.specs.Past.{Past, applied, after_apply, after_log, after_home, after_settle}
+use Rattle.std.proofs.Common.{◌≡◌, inr, ⊎_elim, ℕ, true, false, Err, sym, ◌∙◌, ap, subst}
+use Rattle.block_disk.specs.Images.{LeavesOnly}
+use Rattle.block_disk.proofs.Images.{begin}
+use Rattle.durable.specs.Store.{HasPast, ShowsStep}
+use Rattle.durable.specs.Past.{after_settle}
 use Rattle.heap_model.specs.Sections.{actions}
-use Rattle.heap_model.specs.Cuts.{IsStable, counts_of}
+use Rattle.heap_model.specs.Cuts.{counts_of}
 use Rattle.block_disk.specs.Device.{HasCause}
 use Rattle.durable.specs.declared.error.StoreError.TheVariants.{Worn, Fault}
 use Rattle.durable.specs.Calls.{HasDirty, IsClean, RefusesSettle}
 use Rattle.durable.specs.KeptHeap.{StandsForEither}
-use Rattle.durable.specs.Steps.{MaySettle}
 use Rattle.durable.proofs.Storing.{one_stable, to_parts, from_parts, settled_has, failed_has, kept_has, logs_now, settles_then, settle_refused, may_settle, none_dirty, some_dirty}
 use Rattle.durable.proofs.store.Store.settle.Goals as goal
 
