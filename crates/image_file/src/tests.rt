@@ -1,4 +1,4 @@
-//! Image files in an empty folder.
+//! Image files in a folder that the tests share.
 mod files;
 
 use super::*;
@@ -26,10 +26,10 @@ fn format_there(rt: &HostRuntime, image: &str, schema: &str) -> (Result<(), Form
 #[test]
 fn a_schema_file_gives_an_image_file(rt: HostRuntime) -> Result<(), Fail> {
     fs::write(&rt, "schema", SCHEMA)?;
-    let (made, written) = format_there(&rt, "image", "schema");
+    let (made, written) = format_there(&rt, "made", "schema");
     assert_eq!(rt; made, Ok(()));
     assert_eq!(rt; written.as_slice(), b"formatted 130208\n".as_slice());
-    let image = fs::read(&rt, "image")?;
+    let image = fs::read(&rt, "made")?;
     assert_eq!(rt; image.len(), 130_208);
     assert!(rt;
         image.starts_with(
@@ -41,17 +41,17 @@ fn a_schema_file_gives_an_image_file(rt: HostRuntime) -> Result<(), Fail> {
 
 #[test]
 fn a_refused_schema_makes_no_file(rt: HostRuntime) -> Result<(), Fail> {
-    fs::write(&rt, "schema", "object a\nobject a\n")?;
-    let (made, written) = format_there(&rt, "image", "schema");
+    fs::write(&rt, "bad_schema", "object a\nobject a\n")?;
+    let (made, written) = format_there(&rt, "unmade", "bad_schema");
     let fault = SchemaFault {
         line: 2,
         why: SchemaFaultKind::DoubleName,
     };
     assert_eq!(rt; made, Err(FormatError::Schema(fault)));
     assert!(rt; written.is_empty());
-    assert!(rt; fs::metadata(&rt, "image").is_err());
-    let (made, _) = format_there(&rt, "image", "missing");
+    assert!(rt; fs::metadata(&rt, "unmade").is_err());
+    let (made, _) = format_there(&rt, "unmade", "missing");
     assert_eq!(rt; made, Err(FormatError::Fault));
-    assert!(rt; fs::metadata(&rt, "image").is_err());
+    assert!(rt; fs::metadata(&rt, "unmade").is_err());
     Ok(())
 }

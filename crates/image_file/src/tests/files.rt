@@ -50,7 +50,7 @@ fn check(answer: Answer, wanted: Result<(), RecoverError>, lines: &[u8]) -> Resu
 #[test]
 fn file_round(rt: HostRuntime) -> Result<(), Fail> {
     fs::write(&rt, "schema", SCHEMA)?;
-    let (made, written) = format_there(&rt, "image", "schema");
+    let (made, written) = format_there(&rt, "round", "schema");
     assert_eq!(rt; made, Ok(()));
     assert_eq!(rt; written.as_slice(), b"formatted 130208\n".as_slice());
     let lines = b"image lanes 2 capacity 4000 objects 4 fields 2 size 130208
@@ -60,10 +60,10 @@ lane t2 start 0 settled 0 logged 0 kept 0
 cut 0 0
 heap 10 20
 ";
-    check(show_there(&rt, "image"), Ok(()), lines)?;
-    check(recover_there(&rt, "image"), Ok(()), NOTHING_UNDONE)?;
-    check(recover_there(&rt, "image"), Ok(()), NOTHING_UNDONE)?;
-    let (drawn, _) = draw_there(&rt, "image");
+    check(show_there(&rt, "round"), Ok(()), lines)?;
+    check(recover_there(&rt, "round"), Ok(()), NOTHING_UNDONE)?;
+    check(recover_there(&rt, "round"), Ok(()), NOTHING_UNDONE)?;
+    let (drawn, _) = draw_there(&rt, "round");
     assert_eq!(rt; drawn, Ok(()));
     Ok(())
 }
@@ -132,7 +132,7 @@ fn crashed(rt: &HostRuntime) -> Result<MemDisk, Fail> {
 
 #[test]
 fn a_crashed_file_is_shown_and_recovered(rt: HostRuntime) -> Result<(), Fail> {
-    fs::write(&rt, "image", crashed(&rt)?.bytes())?;
+    fs::write(&rt, "crashed", crashed(&rt)?.bytes())?;
     let lines = b"image lanes 2 capacity 4000 objects 4 fields 2 size 130208
 control a sequence 3 version 1
 lane t1 start 0 settled 0 logged 4 kept 0
@@ -143,25 +143,25 @@ depends t2 1 on t1 1 object 0 number 1
 cut 0 0
 heap 10 20
 ";
-    check(show_there(&rt, "image"), Ok(()), lines)?;
+    check(show_there(&rt, "crashed"), Ok(()), lines)?;
     let lines = b"kept 0 0
 dropped t1 1 unfinished
 dropped t2 1 after t1 1
 undone 1
 heap 10 20
 ";
-    check(recover_there(&rt, "image"), Ok(()), lines)?;
-    check(recover_there(&rt, "image"), Ok(()), NOTHING_UNDONE)?;
+    check(recover_there(&rt, "crashed"), Ok(()), lines)?;
+    check(recover_there(&rt, "crashed"), Ok(()), NOTHING_UNDONE)?;
     Ok(())
 }
 
 // Checks that a file of these bytes is refused for this reason, and keeps them.
 fn check_refused(rt: &HostRuntime, bytes: &[u8], why: RecoverError) -> Result<(), Fail> {
-    fs::write(rt, "image", bytes)?;
-    check(recover_there(rt, "image"), Err(why), b"")?;
-    check(show_there(rt, "image"), Err(why), b"")?;
-    check(draw_there(rt, "image"), Err(why), b"")?;
-    let left = fs::read(rt, "image")?;
+    fs::write(rt, "refused", bytes)?;
+    check(recover_there(rt, "refused"), Err(why), b"")?;
+    check(show_there(rt, "refused"), Err(why), b"")?;
+    check(draw_there(rt, "refused"), Err(why), b"")?;
+    let left = fs::read(rt, "refused")?;
     if left.as_slice() != bytes {
         return Err(Fail::new("another file"));
     }
@@ -226,16 +226,16 @@ impl Write for OneLine {
 // The image is recovered all the same.
 #[test]
 fn a_writer_that_fails_is_a_fault(rt: HostRuntime) -> Result<(), Fail> {
-    fs::write(&rt, "image", crashed(&rt)?.bytes())?;
+    fs::write(&rt, "half_told", crashed(&rt)?.bytes())?;
     let mut writer = OneLine {
         taken: Vec::new(rt.alloc()),
     };
-    let shown = show_file(&rt, rt.alloc(), "image", &mut writer);
+    let shown = show_file(&rt, rt.alloc(), "half_told", &mut writer);
     assert_eq!(rt; shown, Err(RecoverError::Fault));
     writer.taken.clear();
-    let recovered = recover_file(&rt, rt.alloc(), "image", &mut writer);
+    let recovered = recover_file(&rt, rt.alloc(), "half_told", &mut writer);
     assert_eq!(rt; recovered, Err(RecoverError::Fault));
     assert_eq!(rt; writer.taken.as_slice(), b"kept 0 0\n".as_slice());
-    check(recover_there(&rt, "image"), Ok(()), NOTHING_UNDONE)?;
+    check(recover_there(&rt, "half_told"), Ok(()), NOTHING_UNDONE)?;
     Ok(())
 }
