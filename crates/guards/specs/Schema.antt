@@ -2,7 +2,7 @@
 --
 -- Objects and fields have a name each. They are numbered from 0, in the order of declaration.
 use Rattle.std.specs.Prelude.{◌≢◌, ℕ, ◌^◌, ◌<◌, ◌≤◌, List, [], ◌∷◌, ◌++◌, length, map, Contains, slice_index}
-use Rattle.guards.specs.declared.builder.TheConstants.{MOST_OBJECTS, MOST_FIELDS}
+use Rattle.heap_model.specs.declared.limits.TheConstants.{MOST_OBJECTS, MOST_FIELDS}
 use Rattle.heap_model.specs.declared.ids.ObjectId.{ObjectId}
 
 -- a field: its name, the object that has it, the object whose monitor guards it, and the value

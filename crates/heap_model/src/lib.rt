@@ -10,6 +10,7 @@ mod cut;
 mod event;
 mod ids;
 mod laws;
+mod limits;
 mod numbering;
 pub mod plain;
 mod record;
@@ -17,11 +18,12 @@ mod step;
 
 pub use cut::Cut;
 pub use event::{Event, Sight};
-pub use ids::{FieldId, LANES, Lane, ObjectId};
+pub use ids::{FieldId, Lane, ObjectId};
 pub use laws::{
     log_law, next_law, order_law, own_law, own_log_law, sent_law, stable_law, stay_law, trim_law,
     undo_law, union_law,
 };
+pub use limits::{LANES, LAST_NUMBER, MOST_FIELDS, MOST_OBJECTS, SECTION_RECORDS};
 pub use record::{LaneRecord, Record, UndoRecord};
 
 #[cfg(test)]
