@@ -4,7 +4,7 @@ use Rattle.std.proofs.lemmas.Bool.{eqb-true}
 use Rattle.heap_model.specs.declared.record.Record.{Record}
 use Rattle.heap_model.specs.declared.record.Record.TheVariants.{Acq, Put}
 use Rattle.heap_model.specs.Setting.{Setting}
-use Rattle.heap_model.specs.State.{Waiting, Awake, InSet, Woken, with_at, woken, woken_from, IsWoken}
+use Rattle.heap_model.specs.State.{Waiting, Awake, InSet, Woken, with_at, woken, woken_from, IsWoken, awaited_in}
 use Rattle.heap_model.specs.History.{state_after, IsLegalHistory, with_record, log_of}
 use Rattle.heap_model.specs.Log.{holder, number, value, awaited, MayFollow, IsLegal}
 use Rattle.heap_model.specs.declared.event.Event.{Event}
@@ -69,42 +69,36 @@ value_log g ((t, Notify p (Some u)) ∷ h) i is = value_log g h i is
 value_log g ((t, NotifyAll p w) ∷ h) i is = value_log g h i is
 value_log g ((t, Look p w) ∷ h) i is = value_log g h i is
 
--- the object that a waiting thread comes back to
-abbrev pub owed : Waiting → Option ℕ
-owed Awake = None
-owed (InSet o c) = Some o
-owed (Woken o c) = Some o
-
-owed_woken : (w : Waiting) → owed (woken w) ≡ owed w
+owed_woken : (w : Waiting) → awaited_in (woken w) ≡ awaited_in w
 owed_woken Awake = refl
 owed_woken (InSet o c) = refl
 owed_woken (Woken o c) = refl
 
-owed_woken_from : (o : ℕ) (w : Waiting) → owed (woken_from o w) ≡ owed w
+owed_woken_from : (o : ℕ) (w : Waiting) → awaited_in (woken_from o w) ≡ awaited_in w
 owed_woken_from o Awake = refl
-owed_woken_from o (InSet p c) = elim (p == o) as (λ b. owed (if b then Woken p c else InSet p c) ≡ Some p) [ true ↦ refl | false ↦ refl ]
+owed_woken_from o (InSet p c) = elim (p == o) as (λ b. awaited_in (if b then Woken p c else InSet p c) ≡ Some p) [ true ↦ refl | false ↦ refl ]
 owed_woken_from o (Woken p c) = refl
 
 -- a record of an awake thread that is no wait leaves all as they wait
-awake_stays : (w : ℕ → Waiting) (u t : ℕ) (v : Option ℕ) → w u ≡ Awake → v ≡ owed (w t) → (if u == t then None else v) ≡ owed (w t)
-awake_stays w u t v awake ih = by_test u t None v (owed (w t)) (λ e. ap owed (sym awake ∙ ap w e)) ih
+awake_stays : (w : ℕ → Waiting) (u t : ℕ) (v : Option ℕ) → w u ≡ Awake → v ≡ awaited_in (w t) → (if u == t then None else v) ≡ awaited_in (w t)
+awake_stays w u t v awake ih = by_test u t None v (awaited_in (w t)) (λ e. ap awaited_in (sym awake ∙ ap w e)) ih
 
 -- the thread's own state changes with its record
-owed_changes : (w : ℕ → Waiting) (u t : ℕ) (new : Waiting) (v : Option ℕ) → v ≡ owed (w t) → (if u == t then owed new else v) ≡ owed (with_at w u new t)
-owed_changes w u t new v ih = elim (u == t) as (λ b. (if b then owed new else v) ≡ owed (if b then new else w t)) [ true ↦ refl | false ↦ ih ]
+owed_changes : (w : ℕ → Waiting) (u t : ℕ) (new : Waiting) (v : Option ℕ) → v ≡ awaited_in (w t) → (if u == t then awaited_in new else v) ≡ awaited_in (with_at w u new t)
+owed_changes w u t new v ih = elim (u == t) as (λ b. (if b then awaited_in new else v) ≡ awaited_in (if b then new else w t)) [ true ↦ refl | false ↦ ih ]
 
-owed_notified : (w : ℕ → Waiting) (u t : ℕ) → owed (w t) ≡ owed (with_at w u (woken (w u)) t)
-owed_notified w u t = elim (u == t) as (λ b. (u == t) ≡ b → owed (w t) ≡ owed (if b then woken (w u) else w t))
-    [ true ↦ λ e. sym (owed_woken (w u) ∙ ap (λ k. owed (w k)) (eqb-true u t e)) | false ↦ λ e. refl ] refl
+owed_notified : (w : ℕ → Waiting) (u t : ℕ) → awaited_in (w t) ≡ awaited_in (with_at w u (woken (w u)) t)
+owed_notified w u t = elim (u == t) as (λ b. (u == t) ≡ b → awaited_in (w t) ≡ awaited_in (if b then woken (w u) else w t))
+    [ true ↦ λ e. sym (owed_woken (w u) ∙ ap (λ k. awaited_in (w k)) (eqb-true u t e)) | false ↦ λ e. refl ] refl
 
-pub waits_log : (g : Setting) (h : List (ℕ × Event)) (t : ℕ) → IsLegalHistory g h → awaited t (log_of g h) ≡ owed ((state_after g h).waiting t)
+pub waits_log : (g : Setting) (h : List (ℕ × Event)) (t : ℕ) → IsLegalHistory g h → awaited t (log_of g h) ≡ awaited_in ((state_after g h).waiting t)
 waits_log g [] t legal = refl
 waits_log g ((u, Enter p n) ∷ h) t legal = awake_stays (state_after g h).waiting u t _ legal.1.0 (waits_log g h t legal.0)
 waits_log g ((u, NestedEnter p) ∷ h) t legal = waits_log g h t legal.0
 waits_log g ((u, NestedExit p) ∷ h) t legal = waits_log g h t legal.0
 waits_log g ((u, Exit p n) ∷ h) t legal = awake_stays (state_after g h).waiting u t _ legal.1.0 (waits_log g h t legal.0)
 waits_log g ((u, Load f v) ∷ h) t legal = waits_log g h t legal.0
-waits_log g ((u, Store f b a) ∷ h) t legal = store_or_none (g.is_logged f.0) u (Put f b a) (log_of g h) (λ log. awaited t log ≡ owed ((state_after g h).waiting t))
+waits_log g ((u, Store f b a) ∷ h) t legal = store_or_none (g.is_logged f.0) u (Put f b a) (log_of g h) (λ log. awaited t log ≡ awaited_in ((state_after g h).waiting t))
     (λ _. awake_stays (state_after g h).waiting u t _ legal.1.0 (waits_log g h t legal.0)) (λ _. waits_log g h t legal.0)
 waits_log g ((u, Wait p n) ∷ h) t legal = owed_changes (state_after g h).waiting u t (InSet p.0 ((state_after g h).count p.0)) _ (waits_log g h t legal.0)
 waits_log g ((u, Resume p n) ∷ h) t legal = owed_changes (state_after g h).waiting u t Awake _ (waits_log g h t legal.0)
@@ -114,10 +108,10 @@ waits_log g ((u, NotifyAll p w) ∷ h) t legal = waits_log g h t legal.0 ∙ sym
 waits_log g ((u, Look p w) ∷ h) t legal = waits_log g h t legal.0
 
 -- whoever is awake may do anything next
-awake_follows : (v : Option ℕ) (w : Waiting) (r : Record) → v ≡ owed w → w ≡ Awake → MayFollow v r
-awake_follows v w r e awake = subst (λ x. MayFollow x r) (sym (e ∙ ap owed awake)) tt
+awake_follows : (v : Option ℕ) (w : Waiting) (r : Record) → v ≡ awaited_in w → w ≡ Awake → MayFollow v r
+awake_follows v w r e awake = subst (λ x. MayFollow x r) (sym (e ∙ ap awaited_in awake)) tt
 
-woken_follows : (w : Waiting) (o : ObjectId) (n : ℕ) → IsWoken o.0 w → MayFollow (owed w) (Acq o n)
+woken_follows : (w : Waiting) (o : ObjectId) (n : ℕ) → IsWoken o.0 w → MayFollow (awaited_in w) (Acq o n)
 woken_follows Awake o n h = elim h [ ]
 woken_follows (InSet p c) o n h = elim h [ ]
 woken_follows (Woken p c) o n h = sym h

@@ -106,6 +106,10 @@ not_mine : (t u : ℕ) (w : Own) (s : State) (o : ℕ) → Agrees t w s → u �
 not_mine t u w s o a ne (inl e) = a.hold o ∙ ap (λ x. hold_in x (s.count o) (s.number o) t) e
 not_mine t u w s o a ne (inr e) = a.hold o ∙ ap (λ x. hold_in x (s.count o) (s.number o) t) e ∙ hold_theirs t u (s.count o) (s.number o) ne
 
+-- A free object is none.
+pub hold_in_free : (t : ℕ) (w : Own) (s : State) (o : ℕ) → Agrees t w s → s.owner o ≡ None → w.hold o ≡ None
+hold_in_free t w s o a e = a.hold o ∙ ap (λ x. hold_in x (s.count o) (s.number o) t) e
+
 -- another's event
 pub other_step : (g : Setting) (t u : ℕ) (w : Own) (s : State) (e : Event) → u ≢ t → Agrees t w s → MayDo g s u e → Agrees t w (after_event s u e)
 other_step g t u w s (Enter p n) ne a may = record {

@@ -6,6 +6,7 @@ use Rattle.heap_model.specs.Setting.{Setting}
 use Rattle.heap_model.specs.History.{state_after, IsLegalHistory, log_of}
 use Rattle.heap_model.specs.Own.{Agrees, own, own_log, sent_of}
 use Rattle.heap_model.specs.Log.{lane, value, IsLegal, IsLaneWisePrefix}
+use Rattle.heap_model.specs.StateOf.{IsStateOf}
 use Rattle.heap_model.specs.Sections.{Action, actions}
 use Rattle.heap_model.specs.Cuts.{IsWhole, IsClosed, IsStable, union}
 use Rattle.heap_model.specs.KeptHeap.{kept_value, put_back}
@@ -27,6 +28,10 @@ OneStableLaw = (log : List (ℕ × Action)) (c d : ℕ → ℕ) → IsStable log
 -- The logged events of a legal history are a legal list of records.
 abbrev pub LogLaw : Type 0
 LogLaw = (s : Setting) (history : List (ℕ × Event)) → IsLegalHistory s history → IsLegal s (log_of s history)
+
+-- The state after a legal history is that of its log.
+abbrev pub StateLaw : Type 0
+StateLaw = (g : Setting) (history : List (ℕ × Event)) → IsLegalHistory g history → IsStateOf g (log_of g history) (state_after g history)
 
 -- A lane of the log is the log of that thread's own events.
 abbrev pub OwnLogLaw : Type 0

@@ -1,7 +1,7 @@
 //! What no clause says: that the definitions mean what docs/SCRIPTS.md's examples show, and that the calls succeed.
 
 use crate::plain::{replay, stable_cut};
-use crate::{Cut, FieldId, LANES, Lane, LaneRecord, ObjectId, Record, UndoRecord};
+use crate::{Cut, FieldId, LANES, Lane, LaneRecord, ObjectId, Record, UndoRecord, earliest_law};
 use std::alloc::Global;
 use std::process::Abort;
 use std::test::Fail;
@@ -63,6 +63,12 @@ fn check(
     replay(alloc, &mut heap, records, &cut)?;
     assert_eq!(rt; heap, kept);
     Ok(())
+}
+
+// The law holds of whatever is listed: an undo log's records are.
+#[test]
+fn the_earliest_is_found_of_any_type(_rt: HostRuntime) {
+    earliest_law::<UndoRecord>();
 }
 
 // A section that took what an unfinished one freed stays out with it, until that ends.
