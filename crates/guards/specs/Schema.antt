@@ -1,9 +1,10 @@
 -- What a schema declares (this project's own).
 --
 -- Objects and fields have a name each. They are numbered from 0, in the order of declaration.
-use Rattle.std.specs.Prelude.{◌≢◌, ℕ, ◌^◌, ◌<◌, ◌≤◌, List, [], ◌∷◌, ◌++◌, length, map, Contains, slice_index}
-use Rattle.guards.specs.declared.builder.TheConstants.{MOST_OBJECTS, MOST_FIELDS}
+use Rattle.std.specs.Prelude.{◌≢◌, ℕ, ◌^◌, ◌<◌, ◌≤◌, true, List, [], ◌∷◌, ◌++◌, length, map, Contains, slice_index}
+use Rattle.heap_model.specs.declared.limits.TheConstants.{MOST_OBJECTS, MOST_FIELDS}
 use Rattle.heap_model.specs.declared.ids.ObjectId.{ObjectId}
+use Rattle.heap_model.specs.Setting.{Setting}
 
 -- a field: its name, the object that has it, the object whose monitor guards it, and the value
 -- with which it begins
@@ -53,6 +54,18 @@ guard_of schema field = slice_index (guards_of schema.fields) field
 -- the value with which the field of this number begins
 abbrev pub first_of : Declarations → ℕ → ℕ
 first_of schema field = slice_index (firsts_of schema.fields) field
+
+-- what events and records are judged by, where the fields begin with the values of this heap and no monitor is taken at
+-- the number `last`. Logs keep the stores of each field
+abbrev pub setting_of : Declarations → (heap : List ℕ) → (last : ℕ) → Setting
+setting_of schema heap last = record {
+  objects = object_count schema;
+  fields = field_count schema;
+  guard = guard_of schema;
+  first = λ field. slice_index heap field;
+  is_logged = λ field. true;
+  last = last;
+}
 
 -- nothing is declared
 abbrev pub nothing : Declarations

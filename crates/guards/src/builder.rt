@@ -2,22 +2,17 @@
 
 ghost use Rattle.std.specs.Prelude.{◌≡◌, ◌≢◌, ◌<◌, ◌≤◌, ◌↔◌, ◌⊎◌, ℕ, [], Some, Contains, IfOk, IfErr, IfSome, OnOk, OnErr, IsErr, IsErrOf, slice_get};
 ghost use Rattle.guards.specs.Schema.{object_count, field_count, names_of, nothing, with_object, with_field, field_of, IsNewName, IsSchema};
+ghost use Rattle.heap_model.specs.declared.limits.TheConstants.{MOST_OBJECTS, MOST_FIELDS};
 
 use crate::error::SchemaError;
 use crate::field_row::FieldRow;
 use crate::fields::{add_field, has_field};
 use crate::names::{add_name, has_name, number_named};
 use crate::schema::Schema;
-use heap_model::{FieldId, ObjectId};
+use heap_model::{FieldId, MOST_FIELDS, MOST_OBJECTS, ObjectId};
 use indexmap::IndexMap;
 use std::alloc::Global;
 use std::marker::Model;
-
-/// How many objects a schema may have.
-pub const MOST_OBJECTS: usize = 4_096;
-
-/// How many fields a schema may have.
-pub const MOST_FIELDS: usize = 16_384;
 
 /// A schema in the making. Contracts see what was declared so far.
 ///

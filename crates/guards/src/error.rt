@@ -15,8 +15,8 @@ pub enum SchemaError {
     /// The owner or the guard is no object that is declared.
     #[error("unknown")]
     UnknownObject,
-    /// There are [`MOST_OBJECTS`](crate::MOST_OBJECTS) objects, or
-    /// [`MOST_FIELDS`](crate::MOST_FIELDS) fields, already.
+    /// There are [`MOST_OBJECTS`](heap_model::MOST_OBJECTS) objects, or
+    /// [`MOST_FIELDS`](heap_model::MOST_FIELDS) fields, already.
     #[error("too many")]
     TooMany,
     /// The allocator gave no memory.

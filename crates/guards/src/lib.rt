@@ -12,7 +12,7 @@ mod fields;
 mod names;
 mod schema;
 
-pub use builder::{MOST_FIELDS, MOST_OBJECTS, SchemaBuilder};
+pub use builder::SchemaBuilder;
 pub use error::SchemaError;
 pub use schema::Schema;
 

@@ -13,7 +13,7 @@ abbrev pub In : ℕ → List ℕ → Type 0
 In o [] = ⊥
 In o (p ∷ ps) = (p ≡ o) ⊎ In o ps
 
-in_without : (o p : ℕ) (ps : List ℕ) → p ≢ o → In o ps → In o (without p ps)
+pub in_without : (o p : ℕ) (ps : List ℕ) → p ≢ o → In o ps → In o (without p ps)
 in_without o p [] differ h = elim h [ ]
 in_without o p (q ∷ qs) differ (inl h) = cond_both (q == p) qs (q ∷ without p qs) (λ xs. In o xs) (λ e. absurd (differ (sym (eqb-true q p e) ∙ h))) (λ e. inl h)
 in_without o p (q ∷ qs) differ (inr h) = cond_both (q == p) qs (q ∷ without p qs) (λ xs. In o xs) (λ e. h) (λ e. inr (in_without o p qs differ h))
@@ -36,9 +36,9 @@ ended_stores : (m l : ℕ) (log : List (ℕ × Action)) → ended (lane l ((m, S
 ended_stores m l log = elim (m == l) as (λ b. ended (if b then Stores ∷ lane l log else lane l log) ≡ ended (lane l log)) [ true ↦ refl | false ↦ refl ]
 
 -- The holder's lane holds the object.
-pub holds_in : (s : Setting) (log : List (ℕ × Record)) (o l : ℕ) → IsLegal s log → holder o log ≡ Some l → In o (holding (lane l (actions log)))
-holds_in s [] o l legal h = cc
-holds_in s ((m, Acq p n) ∷ older) o l legal h = elim (eqb_tells p.0 o) [
+pub holder_holds : (log : List (ℕ × Record)) (o l : ℕ) → holder o log ≡ Some l → In o (holding (lane l (actions log)))
+holder_holds [] o l h = cc
+holder_holds ((m, Acq p n) ∷ older) o l h = elim (eqb_tells p.0 o) [
   | inl e ↦
       let same : Some m ≡ Some l = subst (λ b. (if b then Some m else holder o older) ≡ Some l) e.0 h in
       let ml : m ≡ l = cc in
@@ -47,24 +47,27 @@ holds_in s ((m, Acq p n) ∷ older) o l legal h = elim (eqb_tells p.0 o) [
         | inr d ↦ absurd (d.1 ml)
       ]
   | inr e ↦
-      let before : In o (holding (lane l (actions older))) = holds_in s older o l legal.0 (subst (λ b. (if b then Some m else holder o older) ≡ Some l) e.0 h) in
+      let before : In o (holding (lane l (actions older))) = holder_holds older o l (subst (λ b. (if b then Some m else holder o older) ≡ Some l) e.0 h) in
       elim (m == l) as (λ b. In o (holding (if b then Takes p.0 n ∷ lane l (actions older) else lane l (actions older)))) [ true ↦ inr before | false ↦ before ]
 ]
-holds_in s ((m, Rel p n) ∷ older) o l legal h = elim (eqb_tells p.0 o) [
+holder_holds ((m, Rel p n) ∷ older) o l h = elim (eqb_tells p.0 o) [
   | inl e ↦ let never : None ≡ Some l = subst (λ b. (if b then None else holder o older) ≡ Some l) e.0 h in absurd cc
   | inr e ↦
-      let before : In o (holding (lane l (actions older))) = holds_in s older o l legal.0 (subst (λ b. (if b then None else holder o older) ≡ Some l) e.0 h) in
+      let before : In o (holding (lane l (actions older))) = holder_holds older o l (subst (λ b. (if b then None else holder o older) ≡ Some l) e.0 h) in
       elim (m == l) as (λ b. In o (holding (if b then Frees p.0 n ∷ lane l (actions older) else lane l (actions older)))) [ true ↦ in_without o p.0 _ e.1 before | false ↦ before ]
 ]
-holds_in s ((m, WaitRel p n) ∷ older) o l legal h = elim (eqb_tells p.0 o) [
+holder_holds ((m, WaitRel p n) ∷ older) o l h = elim (eqb_tells p.0 o) [
   | inl e ↦ let never : None ≡ Some l = subst (λ b. (if b then None else holder o older) ≡ Some l) e.0 h in absurd cc
   | inr e ↦
-      let before : In o (holding (lane l (actions older))) = holds_in s older o l legal.0 (subst (λ b. (if b then None else holder o older) ≡ Some l) e.0 h) in
+      let before : In o (holding (lane l (actions older))) = holder_holds older o l (subst (λ b. (if b then None else holder o older) ≡ Some l) e.0 h) in
       elim (m == l) as (λ b. In o (holding (if b then Frees p.0 n ∷ lane l (actions older) else lane l (actions older)))) [ true ↦ in_without o p.0 _ e.1 before | false ↦ before ]
 ]
-holds_in s ((m, Put f before after) ∷ older) o l legal h =
-    let was : In o (holding (lane l (actions older))) = holds_in s older o l legal.0 h in
+holder_holds ((m, Put f before after) ∷ older) o l h =
+    let was : In o (holding (lane l (actions older))) = holder_holds older o l h in
     elim (m == l) as (λ b. In o (holding (if b then Stores ∷ lane l (actions older) else lane l (actions older)))) [ true ↦ was | false ↦ was ]
+
+pub holds_in : (s : Setting) (log : List (ℕ × Record)) (o l : ℕ) → IsLegal s log → holder o log ≡ Some l → In o (holding (lane l (actions log)))
+holds_in s log o l legal h = holder_holds log o l h
 
 -- Section a had o under number n: it freed it, or holds it still and goes on.
 abbrev pub Had : List (ℕ × Record) → ℕ → Section → ℕ → Type 0

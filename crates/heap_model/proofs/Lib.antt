@@ -11,6 +11,11 @@ pub mod NextStore
 pub mod OwnLog
 pub mod Stays
 pub mod Own
+pub mod Known
+pub mod Holding
+pub mod Earliest
+pub mod Holders
+pub mod AllKept
 pub mod Parts
 pub mod Reorder
 pub mod Rebase

@@ -106,6 +106,10 @@ not_mine : (t u : ℕ) (w : Own) (s : State) (o : ℕ) → Agrees t w s → u �
 not_mine t u w s o a ne (inl e) = a.hold o ∙ ap (λ x. hold_in x (s.count o) (s.number o) t) e
 not_mine t u w s o a ne (inr e) = a.hold o ∙ ap (λ x. hold_in x (s.count o) (s.number o) t) e ∙ hold_theirs t u (s.count o) (s.number o) ne
 
+-- A free object is none.
+pub hold_in_free : (t : ℕ) (w : Own) (s : State) (o : ℕ) → Agrees t w s → s.owner o ≡ None → w.hold o ≡ None
+hold_in_free t w s o a e = a.hold o ∙ ap (λ x. hold_in x (s.count o) (s.number o) t) e
+
 -- another's event
 pub other_step : (g : Setting) (t u : ℕ) (w : Own) (s : State) (e : Event) → u ≢ t → Agrees t w s → MayDo g s u e → Agrees t w (after_event s u e)
 other_step g t u w s (Enter p n) ne a may = record {
@@ -169,13 +173,13 @@ others_keep g s t u o e may ne mine =
     let a : Agrees t w (after_event s u e) = other_step g t u w s e ne (record { hold = λ p. refl; pause = refl }) may in
     (hold_tells _ _ _ t (record { count = s.count o; number = s.number o }) (sym (a.hold o) ∙ ap (λ x. hold_in x (s.count o) (s.number o) t) mine ∙ hold_mine t (s.count o) (s.number o))).0
 
-own_log-append : (newer older : List Event) → own_log (newer ++ older) ≡ own_log newer ++ own_log older
-own_log-append [] older = refl
-own_log-append (e ∷ newer) older = ap (with_own (logged e)) (own_log-append newer older) ∙ with_own-append (logged e) (own_log newer) (own_log older)
+own_log-append : (g : Setting) (newer older : List Event) → own_log g (newer ++ older) ≡ own_log g newer ++ own_log g older
+own_log-append g [] older = refl
+own_log-append g (e ∷ newer) older = ap (with_own (logged g e)) (own_log-append g newer older) ∙ with_own-append (logged g e) (own_log g newer) (own_log g older)
   where
     with_own-append : (r : Option Record) (xs ys : List Record) → with_own r (xs ++ ys) ≡ with_own r xs ++ ys
     with_own-append None xs ys = refl
     with_own-append (Some r) xs ys = refl
 
-pub sent_grows : (newer older : List Event) → sent_of (newer ++ older) ≡ sent_of older ++ sent_of newer
-sent_grows newer older = ap reverse (own_log-append newer older) ∙ reverse-append (own_log newer) (own_log older)
+pub sent_grows : (g : Setting) (newer older : List Event) → sent_of g (newer ++ older) ≡ sent_of g older ++ sent_of g newer
+sent_grows g newer older = ap reverse (own_log-append g newer older) ∙ reverse-append (own_log g newer) (own_log g older)

@@ -16,6 +16,10 @@ Counts cut a = a.number ≤ cut a.lane
 abbrev pub is_counted : (cut : ℕ → ℕ) → (lane : ℕ) → List (ℕ × Action) → Bool
 is_counted cut l older = nat_lt (ended (lane l older)) (cut l)
 
+-- all sections that have ended
+abbrev pub all_ended : List (ℕ × Action) → ℕ → ℕ
+all_ended log l = ended (lane l log)
+
 -- the cut has whole sections alone: each has ended
 abbrev pub IsWhole : List (ℕ × Action) → (cut : ℕ → ℕ) → Type 0
 IsWhole log cut = (l : ℕ) → cut l ≤ ended (lane l log)

@@ -6,6 +6,7 @@ use Rattle.heap_model.specs.Setting.{Setting}
 use Rattle.heap_model.specs.History.{state_after, IsLegalHistory, log_of}
 use Rattle.heap_model.specs.Own.{Agrees, own, own_log, sent_of}
 use Rattle.heap_model.specs.Log.{lane, value, IsLegal, IsLaneWisePrefix}
+use Rattle.heap_model.specs.StateOf.{IsStateOf}
 use Rattle.heap_model.specs.Sections.{Action, actions}
 use Rattle.heap_model.specs.Cuts.{IsWhole, IsClosed, IsStable, union}
 use Rattle.heap_model.specs.KeptHeap.{kept_value, put_back}
@@ -26,11 +27,15 @@ OneStableLaw = (log : List (ℕ × Action)) (c d : ℕ → ℕ) → IsStable log
 
 -- The logged events of a legal history are a legal list of records.
 abbrev pub LogLaw : Type 0
-LogLaw = (s : Setting) (history : List (ℕ × Event)) → IsLegalHistory s history → IsLegal s (log_of history)
+LogLaw = (s : Setting) (history : List (ℕ × Event)) → IsLegalHistory s history → IsLegal s (log_of s history)
+
+-- The state after a legal history is that of its log.
+abbrev pub StateLaw : Type 0
+StateLaw = (g : Setting) (history : List (ℕ × Event)) → IsLegalHistory g history → IsStateOf g (log_of g history) (state_after g history)
 
 -- A lane of the log is the log of that thread's own events.
 abbrev pub OwnLogLaw : Type 0
-OwnLogLaw = (history : List (ℕ × Event)) (t : ℕ) → lane t (log_of history) ≡ own_log (lane t history)
+OwnLogLaw = (g : Setting) (history : List (ℕ × Event)) (t : ℕ) → lane t (log_of g history) ≡ own_log g (lane t history)
 
 -- A thread's own view agrees with the state of every legal history that has its events.
 abbrev pub OwnLaw : Type 0
@@ -38,7 +43,7 @@ OwnLaw = (g : Setting) (history : List (ℕ × Event)) (t : ℕ) → IsLegalHist
 
 -- What was sent grows at its end, by the records of the new events.
 abbrev pub SentLaw : Type 0
-SentLaw = (newer older : List Event) → sent_of (newer ++ older) ≡ sent_of older ++ sent_of newer
+SentLaw = (g : Setting) (newer older : List Event) → sent_of g (newer ++ older) ≡ sent_of g older ++ sent_of g newer
 
 -- The order of the lanes' records among one another doesn't matter: a whole cut keeps the same heap, in a longer list too.
 abbrev pub OrderLaw : Type 0

@@ -4,10 +4,16 @@ pub mod State
 pub mod Events
 pub mod History
 pub mod Own
+pub mod Known
 pub mod Log
+pub mod StateOf
 pub mod Sections
+pub mod OwnSections
 pub mod Cuts
 pub mod KeptHeap
 pub mod Base
 pub mod Plain
 pub mod Laws
+pub mod OwnLaws
+pub mod Earliest
+pub mod SectionLaws

@@ -69,5 +69,5 @@ IsLegal s [] = Unit {0}
 IsLegal s (x ∷ older) = IsLegal s older × IsAllowed s older x.0 x.1 × MayFollow (awaited x.0 older) x.1 × IsRecordOf s x.1
 
 -- each lane of the log is the beginning of that lane of the other, whatever the order of the lanes among one another
-abbrev pub IsLaneWisePrefix : List (ℕ × Record) → List (ℕ × Record) → Type 0
-IsLaneWisePrefix log longer = (l : ℕ) → (more : List Record) × (lane l longer ≡ more ++ lane l log)
+abbrev pub IsLaneWisePrefix : {A : Type 0} → List (ℕ × A) → List (ℕ × A) → Type 0
+IsLaneWisePrefix {A} log longer = (l : ℕ) → (more : List A) × (lane l longer ≡ more ++ lane l log)

@@ -3,6 +3,7 @@ use Rattle.std.specs.Prelude.{ℕ, ◌≡◌, ◌+◌, ◌-◌, ◌==◌, if◌t
 use Rattle.heap_model.specs.declared.record.Record.{Record}
 use Rattle.heap_model.specs.declared.event.Event.{Event}
 use Rattle.heap_model.specs.declared.event.Event.TheVariants.{Enter, NestedEnter, NestedExit, Exit, Load, Store, Wait, Resume, Notify, NotifyAll, Look}
+use Rattle.heap_model.specs.Setting.{Setting}
 use Rattle.heap_model.specs.State.{State, Waiting, Awake, InSet, Woken, with_at}
 use Rattle.heap_model.specs.History.{logged}
 
@@ -64,13 +65,13 @@ with_own None log = log
 with_own (Some r) log = r ∷ log
 
 -- the thread's log, by its own events
-abbrev pub own_log : List Event → List Record
-own_log [] = []
-own_log (e ∷ older) = with_own (logged e) (own_log older)
+abbrev pub own_log : Setting → List Event → List Record
+own_log g [] = []
+own_log g (e ∷ older) = with_own (logged g e) (own_log g older)
 
 -- what the thread has sent to the helper: its log, the oldest record first
-abbrev pub sent_of : List Event → List Record
-sent_of events = reverse (own_log events)
+abbrev pub sent_of : Setting → List Event → List Record
+sent_of g events = reverse (own_log g events)
 
 -- the thread's hold on a monitor that has this owner, count and number
 abbrev pub hold_in : (owner : Option ℕ) → (count number thread : ℕ) → Option Hold

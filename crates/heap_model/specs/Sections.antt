@@ -49,6 +49,11 @@ ended (Takes o n ∷ older) = ended older
 ended (Frees o n ∷ older) = if length (without o (holding older)) == 0 then ended older + 1 else ended older
 ended (Stores ∷ older) = ended older
 
+-- what a lane did in the section that it is in, the newest first: nothing where it holds nothing (Atlas)
+abbrev pub open_section : List Action → List Action
+open_section [] = []
+open_section (a ∷ older) = if length (holding (a ∷ older)) == 0 then [] else a ∷ open_section older
+
 -- a run of a lane from holding nothing to holding nothing. A lane's sections are numbered from 1
 pub record Section : Type 0 where
   pub lane : ℕ

@@ -1,5 +1,5 @@
 -- What the threads' events and records are judged by.
-use Rattle.std.specs.Prelude.{ℕ}
+use Rattle.std.specs.Prelude.{ℕ, Bool}
 
 -- The plain schema of a heap, and the bound on its release numbers. Objects and fields are numbered from 0 (this project's own).
 pub record Setting : Type 0 where
@@ -9,5 +9,7 @@ pub record Setting : Type 0 where
   -- by field: the object whose monitor guards it, and the value that it has at first
   pub guard : ℕ → ℕ
   pub first : ℕ → ℕ
+  -- by field: whether logs keep its stores
+  pub is_logged : ℕ → Bool
   -- a monitor with this number or a greater one is never taken
   pub last : ℕ

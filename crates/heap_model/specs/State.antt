@@ -38,6 +38,12 @@ IsWoken o Awake = ⊥
 IsWoken o (InSet p count) = ⊥
 IsWoken o (Woken p count) = p ≡ o
 
+-- the object that a waiting thread waits on, and takes again
+abbrev pub awaited_in : Waiting → Option ℕ
+awaited_in Awake = None
+awaited_in (InSet o count) = Some o
+awaited_in (Woken o count) = Some o
+
 -- the count that a waiting thread has kept aside
 abbrev pub kept_count : Waiting → ℕ
 kept_count Awake = 0

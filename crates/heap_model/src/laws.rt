@@ -1,6 +1,6 @@
 //! The laws of histories, logs and cuts. Each is the contract of a function that does nothing, so that the gate proves it.
 
-ghost use Rattle.heap_model.specs.Laws.{UnionLaw, StableLaw, OneStableLaw, LogLaw, OwnLogLaw, OwnLaw, SentLaw, OrderLaw, UndoLaw, TrimLaw, TrimHeapLaw, SplitLaw, NextLaw, StayLaw};
+ghost use Rattle.heap_model.specs.Laws.{UnionLaw, StableLaw, OneStableLaw, LogLaw, StateLaw, OwnLogLaw, OwnLaw, SentLaw, OrderLaw, UndoLaw, TrimLaw, TrimHeapLaw, SplitLaw, NextLaw, StayLaw};
 
 /// The greater of two whole closed cuts, lane by lane, is one.
 pub fn union_law()
@@ -10,6 +10,11 @@ pub fn union_law()
 /// The logged events of a legal history are a legal list of records.
 pub fn log_law()
     ensures { LogLaw }
+{}
+
+/// The state after a legal history is that of its log.
+pub fn state_law()
+    ensures { StateLaw }
 {}
 
 /// A lane of the log is the log of that thread's own events.

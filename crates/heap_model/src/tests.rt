@@ -1,7 +1,7 @@
 //! What no clause says: that the definitions mean what docs/SCRIPTS.md's examples show, and that the calls succeed.
 
 use crate::plain::{replay, stable_cut};
-use crate::{Cut, FieldId, Lane, LaneRecord, ObjectId, Record, UndoRecord};
+use crate::{Cut, FieldId, LANES, Lane, LaneRecord, ObjectId, Record, UndoRecord, earliest_law};
 use std::alloc::Global;
 use std::process::Abort;
 use std::test::Fail;
@@ -63,6 +63,12 @@ fn check(
     replay(alloc, &mut heap, records, &cut)?;
     assert_eq!(rt; heap, kept);
     Ok(())
+}
+
+// The law holds of whatever is listed: an undo log's records are.
+#[test]
+fn the_earliest_is_found_of_any_type(_rt: HostRuntime) {
+    earliest_law::<UndoRecord>();
 }
 
 // A section that took what an unfinished one freed stays out with it, until that ends.
@@ -196,5 +202,19 @@ fn a_release_of_the_last_monitor_ends_a_section(rt: HostRuntime) {
                 "{record:?} at {held}"
             );
         }
+    }
+}
+
+// Threads are shown from 1, and only the lanes that a heap may have are found.
+#[test]
+fn threads_are_numbered_from_one(rt: HostRuntime) {
+    for lane in 0..32u8 {
+        let thread = Lane(lane).thread();
+        assert_eq!(rt; thread, u64::from(lane) + 1);
+        assert_eq!(rt; Lane::of_thread(thread), Some(Lane(lane)));
+    }
+    assert_eq!(rt; Lane(255).thread(), 256);
+    for thread in [0, LANES as u64 + 1, 256, 257, u64::MAX] {
+        assert_eq!(rt; Lane::of_thread(thread), None);
     }
 }

@@ -2,4 +2,4 @@ use Rattle.heap_model.proofs.Own.{sent_grows}
 use Rattle.heap_model.proofs.laws.sent_law.Goals as goal
 
 pub returns : goal.returns
-returns c newer older = sent_grows newer older
+returns c g newer older = sent_grows g newer older

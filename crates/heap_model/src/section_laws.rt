@@ -1,0 +1,21 @@
+//! The laws of what lanes hold, of how their sections end, and of lists in which all have. Each is the contract of a
+//! function that does nothing, so that the gate proves it.
+
+ghost use Rattle.heap_model.specs.SectionLaws.{HolderLaw, FreedLaw, EndedLaw, AllKeptLaw, EarliestLaw};
+
+/// The lane that has an object holds it, and what it frees it holds no more.
+pub fn holder_law()
+    ensures holder { HolderLaw }
+    ensures freed { FreedLaw }
+    ensures ended { EndedLaw }
+{}
+
+/// Where no lane holds anything, all sections are kept, and with them the value of each field.
+pub fn all_kept_law()
+    ensures { AllKeptLaw }
+{}
+
+/// Unless all is done, there is an earliest that isn't, and it may be next.
+pub fn earliest_law<A>()
+    ensures { EarliestLaw A }
+{}
