@@ -11,3 +11,4 @@ pub mod KeptHeap
 pub mod Base
 pub mod Plain
 pub mod Laws
+pub mod PartTrim

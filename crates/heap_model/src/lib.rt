@@ -11,6 +11,7 @@ mod event;
 mod ids;
 mod laws;
 mod numbering;
+mod part_trim;
 pub mod plain;
 mod record;
 mod step;
@@ -22,6 +23,7 @@ pub use laws::{
     log_law, next_law, order_law, own_law, own_log_law, sent_law, stable_law, stay_law, trim_law,
     undo_law, union_law,
 };
+pub use part_trim::part_trim_law;
 pub use record::{LaneRecord, Record, UndoRecord};
 
 #[cfg(test)]
