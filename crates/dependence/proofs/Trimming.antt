@@ -7,10 +7,11 @@ use Rattle.std.proofs.lemmas.List.Elements.{filter-append}
 use Rattle.heap_model.specs.declared.cut.Cut.{Cut}
 use Rattle.heap_model.specs.Log.{lane}
 use Rattle.heap_model.specs.Sections.{Action, Takes, Frees, Stores, without, holding, ended}
-use Rattle.heap_model.specs.Cuts.{Counts, counts_of, IsWhole, IsClosed, IsStable, is_counted}
+use Rattle.heap_model.specs.Cuts.{counts_of, IsWhole, IsStable, is_counted}
 use Rattle.heap_model.specs.Base.{since}
 use Rattle.heap_model.proofs.Stores.{ended_rises}
-use Rattle.heap_model.proofs.Trimmed.{ends_free, since_counts, trim_stable}
+use Rattle.heap_model.proofs.Trimmed.{ends_free, since_counts}
+use Rattle.heap_model.proofs.PartTrimmed.{part_trim_stable}
 use Rattle.heap_model.proofs.Existence.{stable_exists, stable_once}
 use Rattle.dependence.specs.declared.step.Step.{Step}
 use Rattle.dependence.specs.Trace.{Trace, base_of, beyond, IsStableOf}
@@ -127,32 +128,38 @@ module _ (base next more : ℕ → ℕ) (at : (l : ℕ) → next l ≡ base l + 
         subst (λ (b : Bool). HasSections next (cond b (s ∷ filter keeps older) (filter keeps older))) (sym kept) (number, sections_since older h.1)
   ]
 
+-- what is forgotten is at most the stable cut, so a part of a whole closed one
+pub record IsPart (log : List (ℕ × Action)) (more : ℕ → ℕ) : Type 0 where
+  pub top : ℕ → ℕ
+  pub stable : IsStable log top
+  pub part : (l : ℕ) → more l ≤ top l
+
+pub part_of : (log : List (ℕ × Action)) (more : ℕ → ℕ) → ((c : ℕ → ℕ) → IsStable log c → (l : ℕ) → more l ≤ c l) → IsPart log more
+part_of log more at_most =
+    let found : (c : ℕ → ℕ) × IsStable log c = stable_exists log in
+    record { top = found.0; stable = found.1; part = at_most found.0 found.1 }
+
+pub part_whole : (log : List (ℕ × Action)) (more : ℕ → ℕ) → IsPart log more → IsWhole log more
+part_whole log more is l = omega (arith, is.part l, is.stable.whole l)
+
 -- no answer changes
-pub stable_before : (old new : Trace) (more cut : ℕ → ℕ) → new.log ≡ since more old.log → ((l : ℕ) → base_of new l ≡ base_of old l + more l) → IsWhole old.log more → IsClosed old.log more → IsStableOf new cut → IsStableOf old cut
-stable_before old new more cut log base whole closed stable = record {
+pub stable_before : (old new : Trace) (more cut : ℕ → ℕ) → new.log ≡ since more old.log → ((l : ℕ) → base_of new l ≡ base_of old l + more l) → IsPart old.log more → IsStableOf new cut → IsStableOf old cut
+stable_before old new more cut log base is stable = record {
   since = λ l. more l + stable.since l;
-  stable = trim_stable old.log more stable.since whole closed (subst (λ (xs : List (ℕ × Action)). IsStable xs stable.since) log stable.stable);
+  stable = part_trim_stable old.log is.top more stable.since is.stable.whole is.stable.closed is.part (subst (λ (xs : List (ℕ × Action)). IsStable xs stable.since) log stable.stable);
   counts = λ l. omega (arith, stable.counts l, base l);
 }
 
-pub stable_after : (old new : Trace) (more cut : ℕ → ℕ) → new.log ≡ since more old.log → ((l : ℕ) → base_of new l ≡ base_of old l + more l) → IsWhole old.log more → IsClosed old.log more → IsStableOf old cut → IsStableOf new cut
-stable_after old new more cut log base whole closed stable =
+pub stable_after : (old new : Trace) (more cut : ℕ → ℕ) → new.log ≡ since more old.log → ((l : ℕ) → base_of new l ≡ base_of old l + more l) → IsPart old.log more → IsStableOf old cut → IsStableOf new cut
+stable_after old new more cut log base is stable =
     let found : (c : ℕ → ℕ) × IsStable new.log c = stable_exists new.log in
-    let before : IsStable old.log (λ l. more l + found.0 l) = trim_stable old.log more found.0 whole closed (subst (λ (xs : List (ℕ × Action)). IsStable xs found.0) log found.1) in
+    let before : IsStable old.log (λ l. more l + found.0 l) = part_trim_stable old.log is.top more found.0 is.stable.whole is.stable.closed is.part (subst (λ (xs : List (ℕ × Action)). IsStable xs found.0) log found.1) in
     record {
       since = found.0;
       stable = found.1;
       counts = λ l. omega (arith, stable.counts l, base l, stable_once old.log stable.since (λ m. more m + found.0 m) stable.stable before l);
     }
 
--- the stable cut may be forgotten
-beyond_is : (t : Trace) (cut : Cut) (stable : IsStableOf t (counts_of cut)) (l : ℕ) → beyond t cut l ≡ stable.since l
-beyond_is t cut stable l = omega (arith, stable.counts l)
-
-pub stable_whole : (t : Trace) (cut : Cut) → IsStableOf t (counts_of cut) → IsWhole t.log (beyond t cut)
-stable_whole t cut stable l = omega (arith, beyond_is t cut stable l, stable.stable.whole l)
-
-pub stable_closed : (t : Trace) (cut : Cut) → IsStableOf t (counts_of cut) → IsClosed t.log (beyond t cut)
-stable_closed t cut stable a b counted depends =
-    let low : Counts stable.since b = stable.stable.closed a b (omega (arith, beyond_is t cut stable a.lane)) depends in
-    omega (arith, beyond_is t cut stable b.lane)
+-- a part of the stable cut may be forgotten
+pub at_most_stable : (t : Trace) (cut part : Cut) → IsStableOf t (counts_of cut) → ((l : ℕ) → counts_of part l ≤ counts_of cut l) → (c : ℕ → ℕ) → IsStable t.log c → (l : ℕ) → beyond t part l ≤ c l
+at_most_stable t cut part stable le c is l = omega (arith, le l, stable.counts l, stable_once t.log stable.since c stable.stable is l)

@@ -2,7 +2,7 @@
 
 ghost use Rattle.std.specs.Prelude.{◌≡◌, ◌+◌, ◌^◌, ◌<◌, ◌≤◌, ◌∷◌, [], ◌↔◌, ℕ, max, length, replicate, IfOk, IfSome, IsSome};
 ghost use Rattle.heap_model.specs.Sections.{undo_action};
-ghost use Rattle.heap_model.specs.Cuts.{counts_of, IsWhole, IsClosed, IsStable};
+ghost use Rattle.heap_model.specs.Cuts.{counts_of, IsStable};
 ghost use Rattle.heap_model.specs.Base.{since};
 ghost use Rattle.dependence.specs.Trace.{base_of, sections_of, beyond, section_since, IsStableOf};
 ghost use Rattle.dependence.specs.Next.{IsNext, IsObjectBelow};
@@ -106,14 +106,14 @@ impl Graph {
         self.stable = None;
     }
 
-    /// Leaves out what the cut counts: a whole closed cut, and so at most the stable one. Sections and
-    /// cuts go on counting it, and no later answer changes by it. Where the cut counts less than was
-    /// forgotten already, that stays forgotten. The room of what is forgotten is free again.
+    /// Leaves out what the cut counts, which is at most the stable one. It may be a part of what depends
+    /// on one another: the rest stays in the stable cut. Sections and cuts go on counting it, and no later
+    /// answer changes by it. Where the cut counts less than was forgotten already, that stays forgotten.
+    /// The room of what is forgotten is free again.
     ///
     /// The time is linear in the records that were not forgotten before, and in the number of objects.
     pub fn forget_to(&mut self, cut: &Cut)
-        requires whole { IsWhole self.old.log (beyond self.old cut.now) }
-        requires closed { IsClosed self.old.log (beyond self.old cut.now) }
+        requires at_most { (c : ℕ → ℕ) → IsStable self.old.log c → (l : ℕ) → beyond self.old cut.now l ≤ c l }
         ensures log { self.new.log ≡ since (beyond self.old cut.now) self.old.log }
         ensures base { (l : ℕ) → base_of self.new l ≡ max (base_of self.old l) (counts_of cut.now l) }
         ensures room { self.new.room + length self.new.log ≡ self.old.room + length self.old.log }

@@ -2,7 +2,7 @@
 //!
 //! A `Graph` is told the lanes' records one by one. It answers the stable cut, the greatest set of whole
 //! sections that depends on nothing outside it (Atlas, OOPSLA 2014), and for a whole section outside that
-//! cut the first of its dependences that is outside too. What a whole closed cut counts may be forgotten.
+//! cut the first of its dependences that is outside too. What the stable cut counts may be forgotten.
 #![tactic(auto)]
 
 mod graph;

@@ -1,5 +1,8 @@
 //! The graph against record lists whose cuts and reasons are known, and against the plain search.
 
+ghost use Rattle.std.specs.Prelude.{ℕ, ◌<◌, ◌≤◌};
+ghost use Rattle.heap_model.specs.Cuts.{counts_of};
+
 use crate::graph::Graph;
 use crate::graph::checked::looks;
 use crate::section::Dependence;
@@ -196,6 +199,36 @@ fn what_is_forgotten_still_counts(rt: HostRuntime) -> Result<(), Fail> {
     assert_eq!(&rt; graph.stable_cut(), cut(1, 1));
     assert_eq!(&rt; graph.reason(Lane(1), 2), why(0, 2));
     push(&rt, &mut graph, 0, rel(1, 1));
+    assert_eq!(&rt; graph.stable_cut(), cut(2, 2));
+    Ok(())
+}
+
+// The cut without the lane's sections.
+fn without(cut: Cut, lane: Lane) -> Cut
+    requires { lane.0 < 32 }
+    ensures { (l : ℕ) → counts_of result l ≤ counts_of cut l }
+{
+    let mut part = cut;
+    part.counts[lane.0 as usize] = 0;
+    part
+}
+
+// A part of a circle is forgotten, which no closed cut is. The other part stays stable.
+#[test]
+fn a_part_of_a_circle_is_forgotten(rt: HostRuntime) -> Result<(), Fail> {
+    let mut graph = Graph::with_capacity(rt.alloc(), 2, 12)?;
+    push_all(&rt, &mut graph, &circle());
+    let stable = graph.stable_cut();
+    let first = without(stable, Lane(1));
+    assert_eq!(&rt; first, cut(1, 0));
+    graph.forget_to(&first);
+    assert_eq!(&rt; graph.stable_cut(), cut(1, 1));
+    assert_eq!(&rt; graph.reason(Lane(1), 1), None);
+    push(&rt, &mut graph, 0, acq(1, 2));
+    push(&rt, &mut graph, 1, acq(2, 2));
+    push(&rt, &mut graph, 0, rel(1, 2));
+    assert_eq!(&rt; graph.stable_cut(), cut(2, 1));
+    push(&rt, &mut graph, 1, rel(2, 2));
     assert_eq!(&rt; graph.stable_cut(), cut(2, 2));
     Ok(())
 }

@@ -6,6 +6,7 @@ pub mod Order
 pub mod Chain
 pub mod Undo
 pub mod Trimmed
+pub mod PartTrimmed
 pub mod Next
 pub mod NextStore
 pub mod OwnLog

@@ -85,11 +85,11 @@ past_counts b (a ∷ older) le = elim (cases_lt (ended older) b) [
 pub since_counts : (base : ℕ → ℕ) (l : ℕ) (log : List (ℕ × Action)) → base l ≤ ended (lane l log) → ended (lane l (since base log)) + base l ≡ ended (lane l log)
 since_counts base l log le = ap (λ x. ended x + base l) (lane_since base l log) ∙ (past_counts (base l) (lane l log) le).counts
 
-abbrev shifted : (ℕ → ℕ) → Section → Section
+abbrev pub shifted : (ℕ → ℕ) → Section → Section
 shifted base a = record { lane = a.lane; number = a.number + base a.lane }
 
 -- what a section did since, it did
-did_before : (base : ℕ → ℕ) (log : List (ℕ × Action)) (a : Section) (act : Action) → Did (since base log) a act → Did log (shifted base a) act
+pub did_before : (base : ℕ → ℕ) (log : List (ℕ × Action)) (a : Section) (act : Action) → Did (since base log) a act → Did log (shifted base a) act
 did_before base [] a act h = elim h [ ]
 did_before base (x ∷ older) a act h = elim (cases_lt (ended (lane x.0 older)) (base x.0)) [
   | inl lt ↦ inr (did_before base older a act (subst (λ t. Did (if t then since base older else x ∷ since base older) a act) (lt-ltb _ _ lt) h))
@@ -105,7 +105,7 @@ did_before base (x ∷ older) a act h = elim (cases_lt (ended (lane x.0 older)) 
 ]
 
 -- what a section past the base did, it did since
-did_since : (base : ℕ → ℕ) (log : List (ℕ × Action)) (a : Section) (act : Action) → Did log (shifted base a) act → 0 < a.number → Did (since base log) a act
+pub did_since : (base : ℕ → ℕ) (log : List (ℕ × Action)) (a : Section) (act : Action) → Did log (shifted base a) act → 0 < a.number → Did (since base log) a act
 did_since base [] a act h some = elim h [ ]
 did_since base (x ∷ older) a act (inl h) some =
     let lanes : a.lane ≡ x.0 = ap (λ s. s.lane) h.0 in
@@ -119,16 +119,16 @@ did_since base (x ∷ older) a act (inr h) some =
     cond_both (nat_lt (ended (lane x.0 older)) (base x.0)) (since base older) (x ∷ since base older) (λ log. Did log a act)
     (λ e. did_since base older a act h some) (λ e. inr (did_since base older a act h some))
 
-did_some : (log : List (ℕ × Action)) (a : Section) (act : Action) → Did log a act → 0 < a.number
+pub did_some : (log : List (ℕ × Action)) (a : Section) (act : Action) → Did log a act → 0 < a.number
 did_some [] a act h = elim h [ ]
 did_some (x ∷ older) a act (inl h) = let e : a.number ≡ ended (lane x.0 older) + 1 = ap (λ s. s.number) h.0 in omega arith
 did_some (x ∷ older) a act (inr h) = did_some older a act h
 
 -- the section, by its number since
-abbrev lowered : (ℕ → ℕ) → Section → Section
+abbrev pub lowered : (ℕ → ℕ) → Section → Section
 lowered base a = record { lane = a.lane; number = a.number - base a.lane }
 
-raised : (base : ℕ → ℕ) (a : Section) → base a.lane < a.number → a ≡ shifted base (lowered base a)
+pub raised : (base : ℕ → ℕ) (a : Section) → base a.lane < a.number → a ≡ shifted base (lowered base a)
 raised base a lt = let e : a.number ≡ a.number - base a.lane + base a.lane = omega arith in λ i. record { lane = a.lane; number = e i }
 
 closed_above : (base cut : ℕ → ℕ) (log : List (ℕ × Action)) → IsClosed log base → IsClosed (since base log) cut → IsClosed log (λ l. base l + cut l)
@@ -147,6 +147,15 @@ closed_above base cut log closed closed_since a b counted (Took o n took freed d
   ]
 ]
 
+-- sections with the same number before have the same number since
+pub same_shifted : (base : ℕ → ℕ) (a b : Section) → shifted base a ≡ shifted base b → a ≡ b
+same_shifted base a b e =
+    let lanes : a.lane ≡ b.lane = ap (λ s. s.lane) e in
+    let numbers : a.number + base a.lane ≡ b.number + base b.lane = ap (λ s. s.number) e in
+    let at : base a.lane ≡ base b.lane = ap base lanes in
+    let own : a.number ≡ b.number = omega arith in
+    λ i. record { lane = lanes i; number = own i }
+
 -- how far a cut goes past the base
 abbrev beyond : (ℕ → ℕ) → (ℕ → ℕ) → ℕ → ℕ
 beyond base other l = max (other l) (base l) - base l
@@ -156,16 +165,8 @@ closed_beyond base other log closed closed_too a b counted (Earlier e lt) =
     let same : beyond base other a.lane ≡ beyond base other b.lane = ap (beyond base other) e in omega (arith, same)
 closed_beyond base other log closed closed_too a b counted (Took o n took freed differ) =
     let low : Counts (union other base) (shifted base b) = union_closed log other base closed_too closed (shifted base a) (shifted base b) (omega arith)
-    (Took o n (did_before base log a _ took) (did_before base log b _ freed) (λ e. differ (same_lowered base a b e))) in
+    (Took o n (did_before base log a _ took) (did_before base log b _ freed) (λ e. differ (same_shifted base a b e))) in
     omega (arith, low)
-  where
-    same_lowered : (base : ℕ → ℕ) (a b : Section) → shifted base a ≡ shifted base b → a ≡ b
-    same_lowered base a b e =
-        let lanes : a.lane ≡ b.lane = ap (λ s. s.lane) e in
-        let numbers : a.number + base a.lane ≡ b.number + base b.lane = ap (λ s. s.number) e in
-        let at : base a.lane ≡ base b.lane = ap base lanes in
-        let own : a.number ≡ b.number = omega arith in
-        λ i. record { lane = lanes i; number = own i }
 
 pub trim_stable : (log : List (ℕ × Action)) (base cut : ℕ → ℕ) → IsWhole log base → IsClosed log base → IsStable (since base log) cut → IsStable log (λ l. base l + cut l)
 trim_stable log base cut whole closed stable = record {

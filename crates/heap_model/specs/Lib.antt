@@ -17,3 +17,4 @@ pub mod Laws
 pub mod OwnLaws
 pub mod Earliest
 pub mod SectionLaws
+pub mod PartTrim

@@ -1,5 +1,5 @@
 use Rattle.std.proofs.Common.{◌≡◌, ◌<◌, List, All, reverse, length, sym, ap, ◌∙◌, refl, subst, arith}
-use Rattle.heap_model.specs.Cuts.{IsWhole, IsClosed}
+use Rattle.heap_model.specs.Cuts.{IsWhole}
 use Rattle.heap_model.specs.Sections.{undo_action}
 use Rattle.heap_model.specs.Base.{since}
 use Rattle.dependence.specs.declared.step.Step.{Step}
@@ -9,7 +9,7 @@ use Rattle.dependence.specs.Steps.{log_of}
 use Rattle.dependence.specs.Kept.{Rises, IsLinked}
 use Rattle.dependence.specs.Inside.{trace_of}
 use Rattle.dependence.proofs.Places.{length_map}
-use Rattle.dependence.proofs.Trimming.{stable_before, stable_after}
+use Rattle.dependence.proofs.Trimming.{IsPart, part_of, part_whole, stable_before, stable_after}
 use Rattle.dependence.proofs.Forgetting.{raised_by, left_log, left_rises, left_lanes, left_named, kept_forget}
 use Rattle.dependence.proofs.graph.Graph.forget_to.Goals as goal
 
@@ -24,7 +24,8 @@ again-requires-clause-named c = subst (λ (xs : List Step). All (λ s. IsObjectB
 
 pub invariant_of-self : goal.invariant_of-self
 invariant_of-self c =
-    let whole : IsWhole (log_of (reverse c.self.inside.steps.items)) (beyond (trace_of c.self.inside) c.args.cut.now) = subst (λ (t : Trace). IsWhole t.log (beyond t c.args.cut.now)) (sym c.self.view_is) c.requires.whole in
+    let whole : IsWhole (log_of (reverse c.self.inside.steps.items)) (beyond (trace_of c.self.inside) c.args.cut.now) =
+    subst (λ (t : Trace). IsWhole t.log (beyond t c.args.cut.now)) (sym c.self.view_is) (part_whole c.args.self.now.log (beyond c.args.self.now c.args.cut.now) (part_of c.args.self.now.log (beyond c.args.self.now c.args.cut.now) c.requires.at_most)) in
     let linked : IsLinked c.retain.new.steps.items c.again.new.self = subst (λ (xs : List Step). IsLinked xs c.again.new.self) c.deref.ensures.value c.again.ensures.linked in
     let many : c.retain.new.steps.len ≡ length c.retain.new.steps.items = c.retain.new.steps.ok.0 in
     let old_many : c.self.inside.steps.len ≡ length c.self.inside.steps.items = c.self.inside.steps.ok.0 in
@@ -68,13 +69,12 @@ returns-clause-log c = left_log c.self.inside c.args.cut.now c.raise.new.base c.
 
 pub returns-clause-answers : goal.returns-clause-answers
 returns-clause-answers c = λ cut.
-    let whole : IsWhole (log_of (reverse c.self.inside.steps.items)) (beyond (trace_of c.self.inside) c.args.cut.now) = subst (λ (t : Trace). IsWhole t.log (beyond t c.args.cut.now)) (sym c.self.view_is) c.requires.whole in
-    let closed : IsClosed (log_of (reverse c.self.inside.steps.items)) (beyond (trace_of c.self.inside) c.args.cut.now) = subst (λ (t : Trace). IsClosed t.log (beyond t c.args.cut.now)) (sym c.self.view_is) c.requires.closed in (
+    let part : IsPart (log_of (reverse c.self.inside.steps.items)) (beyond (trace_of c.self.inside) c.args.cut.now) = subst (λ (t : Trace). IsPart t.log (beyond t c.args.cut.now)) (sym c.self.view_is) (part_of c.args.self.now.log (beyond c.args.self.now c.args.cut.now) c.requires.at_most) in (
       (λ now. subst (λ (t : Trace). IsStableOf t cut) c.self.view_is (stable_before (trace_of c.self.inside) _ (beyond (trace_of c.self.inside) c.args.cut.now) cut
           (left_log c.self.inside c.args.cut.now c.raise.new.base c.retain.new.steps.items c.self.invariant c.raise.ensures c.retain.ensures.kept)
-          (raised_by c.self.inside c.args.cut.now c.raise.new.base c.retain.new.steps.items c.self.invariant c.raise.ensures c.retain.ensures.kept) whole closed now)),
+          (raised_by c.self.inside c.args.cut.now c.raise.new.base c.retain.new.steps.items c.self.invariant c.raise.ensures c.retain.ensures.kept) part now)),
       (λ before. stable_after (trace_of c.self.inside) _ (beyond (trace_of c.self.inside) c.args.cut.now) cut
           (left_log c.self.inside c.args.cut.now c.raise.new.base c.retain.new.steps.items c.self.invariant c.raise.ensures c.retain.ensures.kept)
-          (raised_by c.self.inside c.args.cut.now c.raise.new.base c.retain.new.steps.items c.self.invariant c.raise.ensures c.retain.ensures.kept) whole closed
+          (raised_by c.self.inside c.args.cut.now c.raise.new.base c.retain.new.steps.items c.self.invariant c.raise.ensures c.retain.ensures.kept) part
           (subst (λ (t : Trace). IsStableOf t cut) (sym c.self.view_is) before)),
     )
