@@ -6,11 +6,6 @@ pub mod CrossingLemmas
 pub mod WalkLemmas
 pub mod SettledLemmas
 pub mod ReadingLemmas
-pub mod LaneParts
-pub mod Blank
-pub mod Unstuck
-pub mod Rests
-pub mod Accepts
 pub mod PuttingLemmas
 pub mod EndingLemmas
 pub mod StudyLemmas
@@ -23,4 +18,3 @@ pub mod PushingLemmas
 pub mod DroppingLemmas
 pub mod LiveLemmas
 pub mod StepLemmas
-pub mod WholeRuns

@@ -6,7 +6,6 @@ pub mod Settled
 pub mod Tally
 pub mod Crossings
 pub mod Reading
-pub mod Accepted
 pub mod Putting
 pub mod Ending
 pub mod Heap
@@ -14,4 +13,3 @@ pub mod Dropping
 pub mod Study
 pub mod Recovery
 pub mod Live
-pub mod WholeRun

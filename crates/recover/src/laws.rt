@@ -1,18 +1,5 @@
-//! Laws of recovery, of studies and of what a store leaves, each the contract of a function that does nothing.
-ghost use Rattle.recover.specs.Accepted.{AcceptedLaw, FoundHeapLaw, FoundLaw, LeftLaw};
+//! Laws of recovery and of studies, each the contract of a function that does nothing.
 ghost use Rattle.recover.specs.Recovery.{OneStudyLaw, SameHeapLaw};
-
-/// No image that a store leaves is refused, whatever a crash left of its device. Only the device can fail, and memory be wanting.
-pub fn accepted_law()
-    ensures left { LeftLaw }
-    ensures accepted { AcceptedLaw }
-{}
-
-/// What is found in such an image is what the store's past says, and the heap that it stands for is the kept one.
-pub fn found_law()
-    ensures found { FoundLaw }
-    ensures heap { FoundHeapLaw }
-{}
 
 /// An image has one study, but for the reasons in its report.
 pub fn one_study_law()

@@ -4,7 +4,6 @@
 //! guard rows, control, records, or logs that no threads can have left. Else it tells what the image holds, the heap that
 //! it stands for, and which sections are kept and dropped. [`recover`] puts that heap into the home cells and empties the
 //! logs; a crash at any moment of it leaves an image that stands for the same heap.
-//! No image that a store leaves is refused ([`accepted_law`]), and its heap is the one that the store keeps ([`found_law`]).
 #![tactic(auto)]
 
 mod check;
@@ -37,17 +36,10 @@ mod step;
 mod studied;
 mod studying;
 mod walk;
-mod whole_run;
 
 pub use error::RecoverError;
-pub use laws::{accepted_law, found_law, one_study_law, same_heap_law};
+pub use laws::{one_study_law, same_heap_law};
 pub use recovering::recover;
 pub use report::{Dropped, Report, Why};
 pub use studied::Study;
 pub use studying::study;
-pub use whole_run::{WholeRun, play_and_recover};
-
-#[cfg(test)]
-mod run_tests;
-#[cfg(test)]
-mod tests;

@@ -1,8 +1,8 @@
 //! Images studied and recovered.
 use super::{acq, fresh, image_with, rel, row, store};
-use crate::{Dropped, RecoverError, Why, recover, study};
 use block_disk::MemDisk;
 use heap_model::Lane;
+use recover::{Dropped, RecoverError, Why, recover, study};
 use std::test::Fail;
 
 // The one call that changes anything is the first sync.

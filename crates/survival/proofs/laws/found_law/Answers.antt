@@ -1,5 +1,5 @@
-use Rattle.recover.proofs.Accepts.{finds, finds_heap}
-use Rattle.recover.proofs.laws.found_law.Goals as goal
+use Rattle.survival.proofs.Accepts.{finds, finds_heap}
+use Rattle.survival.proofs.laws.found_law.Goals as goal
 
 pub returns-clause-found : goal.returns-clause-found
 returns-clause-found c = λ l s p image found left holds. finds l s p image left found holds

@@ -1,7 +1,7 @@
 //! Crashes while an image is recovered.
 use super::runs::{crashed, two_stores};
-use crate::recover;
 use block_disk::{Fill, MemDisk};
+use recover::recover;
 use std::alloc::Global;
 use std::process::Abort;
 use std::test::Fail;

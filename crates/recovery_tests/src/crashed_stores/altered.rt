@@ -2,10 +2,10 @@
 use super::runs::{
     Outcome, acq, crashed, cut, dropped, one, outcome_of, recovery_of, rel, stored, two,
 };
-use crate::{RecoverError, Why, study};
 use block_disk::{Fill, MemDisk};
 use durable::StoreCall;
 use heap_model::Lane;
+use recover::{RecoverError, Why, study};
 use std::alloc::Global;
 use std::process::Abort;
 use std::test::Fail;

@@ -19,15 +19,15 @@ use Rattle.durable.specs.declared.store_call.StoreCall.TheVariants.{Home as Home
 use Rattle.durable.proofs.Pasts.{past_apply, past_home, past_log}
 use Rattle.heap_model.proofs.Stays.{cut_stays}
 use Rattle.durable.proofs.Showing.{undone_beyond, of_lanes_before, past_settle, logged_heap}
-use Rattle.recover.specs.Accepted.{IsLeftBy}
+use Rattle.survival.specs.Accepted.{IsLeftBy}
 use Rattle.recover.specs.Recovery.{IsRecovery, RefusesRecovery}
 use Rattle.recover.specs.Study.{IsStudyOf, held_by}
-use Rattle.recover.specs.WholeRun.{IsAcknowledged, Survives, CannotRecover, MayBeLeft}
+use Rattle.survival.specs.WholeRun.{IsAcknowledged, Survives, CannotRecover, MayBeLeft}
 use Rattle.recover.specs.declared.error.RecoverError.{RecoverError}
 use Rattle.recover.specs.declared.error.RecoverError.TheVariants.{Fault, NotFormatted, BadHeader, TooSmall, NoControl, BadControl, Worn, BadRecord, IllegalLog, NoMemory}
 use Rattle.recover.specs.declared.report.Report.{Report}
 use Rattle.recover.specs.declared.studied.Study.{Study}
-use Rattle.recover.proofs.Accepts.{accepted, finds, finds_heap}
+use Rattle.survival.proofs.Accepts.{accepted, finds, finds_heap}
 
 -- what a crash leaves of a run shows what some of its calls made of the past
 shows_some : (x : Known) (s : Setting) (p : Past) (calls : List StoreCall) (old new : Device) (image : List ℕ) → HasPast x s p old → LeavesOnly old new (ShowsAfterSome x.layout s p calls) → MayBeLeft old new image →

@@ -3,15 +3,16 @@ mod altered;
 mod crashes;
 mod runs;
 
-use crate::run_tests::runs::{
+use crate::crashed_stores::runs::{
     Outcome, acq, after, answered, crashed, cut, dropped, new_store, one, put, recovery_of, rel,
     released, store_on, stored, two, two_stores, wait,
 };
-use crate::{RecoverError, WholeRun, Why, play_and_recover};
 use block_disk::{Fill, MemDisk};
 use durable::{StoreCall, StoreError};
+use recover::Why;
 use std::process::Abort;
 use std::test::Fail;
+use survival::{WholeRun, play_and_recover};
 
 // A section that is logged, written home and acknowledged.
 #[test]

@@ -3,11 +3,11 @@
 mod dropping;
 mod recovering;
 
-use super::*;
 use block_disk::{Disk, MemDisk};
 use guards::{Schema, SchemaBuilder};
 use heap_model::{FieldId, Lane, ObjectId, UndoRecord};
 use image::{LaneRow, Layout, write_header};
+use recover::{RecoverError, study};
 use std::alloc::Global;
 use std::process::Abort;
 use std::test::Fail;

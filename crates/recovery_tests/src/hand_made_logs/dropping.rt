@@ -1,8 +1,8 @@
 //! The dropped sections of images with hand-made logs. The reasons and numbers follow from the rules at `Dropped` and `Why`.
 use super::{acq, image_with, rel, row, store};
-use crate::{Dropped, Why, study};
 use block_disk::MemDisk;
 use heap_model::{Lane, UndoRecord};
+use recover::{Dropped, Why, study};
 use std::alloc::Global;
 use std::test::Fail;
 

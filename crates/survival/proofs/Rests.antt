@@ -21,7 +21,7 @@ use Rattle.undo_log.specs.Dropped.{undo_logs, records_in}
 use Rattle.undo_log.proofs.Back.{actions_undo}
 use Rattle.durable.proofs.Places.{records_within, past_sections, ended_undo, base_place, cut_place}
 use Rattle.recover.specs.Settled.{first_of, HasAt, TakesUnsettled}
-use Rattle.recover.proofs.LaneParts.{lane_own, lane_other}
+use Rattle.survival.proofs.LaneParts.{lane_own, lane_other}
 
 -- the first records of a list that has the newest first
 first_all : (xs : List UndoRecord) → first_of (length xs) xs ≡ xs

@@ -1,5 +1,5 @@
-use Rattle.recover.proofs.Accepts.{left_always, accepted}
-use Rattle.recover.proofs.laws.accepted_law.Goals as goal
+use Rattle.survival.proofs.Accepts.{left_always, accepted}
+use Rattle.survival.proofs.laws.accepted_law.Goals as goal
 
 pub returns-clause-left : goal.returns-clause-left
 returns-clause-left c = left_always

@@ -9,16 +9,14 @@ ghost use Rattle.durable.specs.Store.{HasPast};
 ghost use Rattle.durable.specs.declared.error.StoreError.TheVariants.{Fault as StoreFault};
 ghost use Rattle.recover.specs.Recovery.{IsOnTheWay, IsRecovery, LeavesOnTheWay, RefusesRecovery};
 ghost use Rattle.recover.specs.Study.{IsStudyOf};
-ghost use Rattle.recover.specs.WholeRun.{CannotRecover, MayBeLeft, Survives};
+ghost use Rattle.survival.specs.WholeRun.{CannotRecover, MayBeLeft, Survives};
 ghost use Rattle.recover.specs.declared.error.RecoverError.TheVariants.{Fault};
 ghost use Rattle.recover.specs.declared.studied.Study.{Study as Shape};
 
-use crate::error::RecoverError;
-use crate::recovering::recover;
-use crate::report::Report;
 use block_disk::Disk;
 use durable::{Store, StoreCall, StoreError};
 use image::Recovered;
+use recover::{RecoverError, Report, recover};
 use std::alloc::Global;
 
 /// What a run and the recovery after it answered.

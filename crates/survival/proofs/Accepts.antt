@@ -39,7 +39,7 @@ use Rattle.durable.specs.KeptHeap.{kept_heap}
 use Rattle.durable.specs.declared.committed.Committed.{Committed}
 use Rattle.durable.proofs.Places.{live_size, cut_place}
 use Rattle.durable.proofs.Stands.{empty, none_logged, stands, shows_always}
-use Rattle.recover.specs.Accepted.{IsLeftBy, FindsPast}
+use Rattle.survival.specs.Accepted.{IsLeftBy, FindsPast}
 use Rattle.recover.specs.Logs.{AreLogs, IsBadAt, lanes_of}
 use Rattle.recover.specs.Reading.{HasLayout, HasControl, RefusesRows, RefusesImage, Holds}
 use Rattle.recover.specs.Replay.{IsStuckAt}
@@ -48,10 +48,10 @@ use Rattle.recover.specs.declared.error.RecoverError.{RecoverError}
 use Rattle.recover.specs.declared.error.RecoverError.TheVariants.{Fault, NotFormatted, BadHeader, TooSmall, NoControl, BadControl, Worn, BadRecord, IllegalLog, NoMemory}
 use Rattle.recover.specs.declared.logged_image.LoggedImage.{LoggedImage}
 use Rattle.recover.proofs.FirstLemmas.{contains_reverse}
-use Rattle.recover.proofs.LaneParts.{lane_map}
-use Rattle.recover.proofs.Blank.{blanks, undone, valueless, blank_legal, holder_blank}
-use Rattle.recover.proofs.Unstuck.{IsGuarded, unstuck}
-use Rattle.recover.proofs.Rests.{first_none, at_some, rests, inside}
+use Rattle.survival.proofs.LaneParts.{lane_map}
+use Rattle.survival.proofs.Blank.{blanks, undone, valueless, blank_legal, holder_blank}
+use Rattle.survival.proofs.Unstuck.{IsGuarded, unstuck}
+use Rattle.survival.proofs.Rests.{first_none, at_some, rests, inside}
 
 -- what a legal log's lanes have since a whole closed base
 module _ (s : Setting) (log : List (ℕ × Record)) (base : ℕ → ℕ) (legal : IsLegal s log) (whole : IsWhole (actions log) base) (closed : IsClosed (actions log) base) where

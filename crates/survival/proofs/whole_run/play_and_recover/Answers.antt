@@ -1,5 +1,5 @@
-use Rattle.recover.proofs.WholeRuns.{survives}
-use Rattle.recover.proofs.whole_run.play_and_recover.Goals as goal
+use Rattle.survival.proofs.WholeRuns.{survives}
+use Rattle.survival.proofs.whole_run.play_and_recover.Goals as goal
 
 pub returns-clause-survives : goal.returns-clause-survives
 returns-clause-survives g c = λ s p has left.

@@ -1,10 +1,10 @@
 //! Stores whose calls are known, and what recovery answers of what a crash leaves of them.
-use crate::tests::schema_or_none;
-use crate::{Dropped, RecoverError, Report, Why, recover};
+use crate::hand_made_logs::schema_or_none;
 use block_disk::{Fill, MemDisk};
 use durable::{Store, StoreCall};
 use heap_model::{Cut, FieldId, Lane, ObjectId, Record};
 use image::Recovered;
+use recover::{Dropped, RecoverError, Report, Why, recover};
 use std::alloc::Global;
 use std::test::Fail;
 

@@ -17,8 +17,8 @@ use Rattle.heap_model.proofs.Next.{legal_before, number_rises}
 use Rattle.heap_model.proofs.NextStore.{awaited_in, awaited_is, next_legal}
 use Rattle.recover.specs.Replay as replay
 use Rattle.recover.specs.Replay.{BeginsAt, IsNext, GoesOn, IsGreedy, IsReplay, IsStuckAt}
-use Rattle.recover.proofs.LaneParts.{lane_own, lane_other, lane_map, Found, found, Within, within, there, contains_more, contains_older, ends_with, same_end}
-use Rattle.recover.proofs.Blank.{blank, blanks, valueless, value_blank}
+use Rattle.survival.proofs.LaneParts.{lane_own, lane_other, lane_map, Found, found, Within, within, there, contains_more, contains_older, ends_with, same_end}
+use Rattle.survival.proofs.Blank.{blank, blanks, valueless, value_blank}
 
 -- the guard of the record's field, if it is a store, is the setting's
 abbrev pub IsGuarded : Setting → (guard : ℕ → ℕ) → UndoRecord → Type 0

@@ -1,0 +1,6 @@
+pub mod LaneParts
+pub mod Blank
+pub mod Unstuck
+pub mod Rests
+pub mod Accepts
+pub mod WholeRuns

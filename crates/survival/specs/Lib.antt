@@ -1,0 +1,3 @@
+-- What public clauses state: what a store leaves, and what survives a run of it.
+pub mod Accepted
+pub mod WholeRun
