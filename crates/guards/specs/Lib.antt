@@ -1,3 +1,5 @@
+-- The promise: what public clauses state.
 pub mod Schema
+-- The scaffold: the tables that keep a schema.
 pub mod Names
 pub mod Tables

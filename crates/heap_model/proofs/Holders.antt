@@ -1,10 +1,12 @@
 -- What holders hold, and how their sections end.
-use Rattle.std.proofs.Common.{ℕ, ◌≡◌, ◌+◌, ◌==◌, if◌then◌else◌, Bool, List, [], ◌∷◌, length, Contains, Some, sym, ap, ◌∙◌, inl, inr, arith}
+use Rattle.std.proofs.Common.{ℕ, ◌≡◌, ◌+◌, ◌≤◌, ◌==◌, if◌then◌else◌, Bool, true, false, List, [], ◌∷◌, length, Contains, Some, sym, ap, ◌∙◌, inl, inr, arith}
 use Rattle.std.proofs.lemmas.Bool.{eq-eqb, ne_eqb}
 use Rattle.std.proofs.lemmas.Bool.Decides.{eqb_tells}
 use Rattle.heap_model.specs.declared.record.Record.{Record}
 use Rattle.heap_model.specs.Log.{lane, holder}
-use Rattle.heap_model.specs.Sections.{Action, Frees, actions, without, holding, ended}
+use Rattle.heap_model.specs.Sections.{Action, Frees, actions, without, holding, ended, open_section}
+use Rattle.heap_model.specs.declared.limits.TheConstants.{SECTION_RECORDS}
+use Rattle.heap_model.specs.Limits.{IsWithinLimits}
 use Rattle.heap_model.proofs.Chain.{In, holder_holds}
 use Rattle.heap_model.proofs.Holding.{in_contains, contains_in}
 
@@ -32,3 +34,11 @@ freed_ends older o n here =
           ap (λ (b : Bool). if b then ended older + 1 else ended older) (ne_eqb (length (without o (holding older))) 0 (λ z. more.1 (omega arith)))
           ∙ ap (λ (b : Bool). if b then ended older + 1 else ended older) (sym more.0)
     ]
+
+-- the open section of a lane within its limits leaves room for its releases
+pub leaves_room : (acts : List Action) → IsWithinLimits acts → length (open_section acts) + length (holding acts) ≤ SECTION_RECORDS
+leaves_room [] within = omega arith
+leaves_room (a ∷ older) within = elim (length (holding (a ∷ older)) == 0) as (λ b. length (if b then [] else a ∷ open_section older) + length (holding (a ∷ older)) ≤ SECTION_RECORDS) [
+  | true ↦ omega (arith, within.1)
+  | false ↦ omega (arith, within.1)
+]

@@ -49,7 +49,7 @@ mine_knows g s t f older (NotifyAll p ls) may was = was
 mine_knows g s t f older (Look p told) may was = was
 
 -- another's event leaves the value of a field whose guard the thread owns
-others_leave : (g : Setting) (s : State) (t u f : ℕ) (e : Event) → MayDo g s u e → u ≢ t → s.owner (g.guard f) ≡ Some t → (after_event s u e).value f ≡ s.value f
+pub others_leave : (g : Setting) (s : State) (t u f : ℕ) (e : Event) → MayDo g s u e → u ≢ t → s.owner (g.guard f) ≡ Some t → (after_event s u e).value f ≡ s.value f
 others_leave g s t u f (Enter p n) may ne mine = refl
 others_leave g s t u f (NestedEnter p) may ne mine = refl
 others_leave g s t u f (NestedExit p) may ne mine = refl

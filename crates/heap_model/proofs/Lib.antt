@@ -14,6 +14,8 @@ pub mod Stays
 pub mod Own
 pub mod Known
 pub mod Holding
+pub mod Others
+pub mod OfLanes
 pub mod Earliest
 pub mod Holders
 pub mod AllKept

@@ -1,20 +1,24 @@
+-- The promise: what public clauses state, in the order to read it.
 pub mod Setting
 pub mod Record
 pub mod State
 pub mod Events
 pub mod History
-pub mod Own
-pub mod Known
 pub mod Log
 pub mod StateOf
+pub mod Own
+pub mod Known
+pub mod Others
 pub mod Sections
 pub mod OwnSections
+pub mod Limits
 pub mod Cuts
 pub mod KeptHeap
 pub mod Base
-pub mod Plain
+pub mod Earliest
 pub mod Laws
 pub mod OwnLaws
-pub mod Earliest
 pub mod SectionLaws
 pub mod PartTrim
+-- The scaffold: a plain search, which proofs speak of. Public clauses state its `log_from` alone.
+pub mod Plain

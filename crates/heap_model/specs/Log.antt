@@ -9,6 +9,11 @@ abbrev pub lane : {A : Type 0} → ℕ → List (ℕ × A) → List A
 lane l [] = []
 lane l (x ∷ older) = if x.0 == l then x.1 ∷ lane l older else lane l older
 
+-- each element of the list is of one of so many lanes
+abbrev pub IsOfLanes : {A : Type 0} → (lanes : ℕ) → List (ℕ × A) → Type 0
+IsOfLanes lanes [] = Unit {0}
+IsOfLanes lanes (x ∷ older) = (x.0 < lanes) × IsOfLanes lanes older
+
 -- the lane that holds the object
 abbrev pub holder : (object : ℕ) → List (ℕ × Record) → Option ℕ
 holder o [] = None

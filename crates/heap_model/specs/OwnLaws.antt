@@ -1,12 +1,13 @@
 -- The laws of what a thread knows by its own events.
-use Rattle.std.specs.Prelude.{ℕ, ◌≡◌, ◌≢◌, List, Some, None}
+use Rattle.std.specs.Prelude.{ℕ, ◌≡◌, ◌≢◌, ◌≤◌, List, Some, None}
 use Rattle.heap_model.specs.declared.event.Event.{Event}
 use Rattle.heap_model.specs.Setting.{Setting}
 use Rattle.heap_model.specs.State.{State, Awake}
 use Rattle.heap_model.specs.Events.{after_event, MayDo}
 use Rattle.heap_model.specs.History.{state_after, IsLegalHistory, log_of}
-use Rattle.heap_model.specs.Log.{lane}
+use Rattle.heap_model.specs.Log.{lane, IsOfLanes}
 use Rattle.heap_model.specs.Own.{Hold, own}
+use Rattle.heap_model.specs.Others.{Keeps}
 use Rattle.heap_model.specs.Sections.{actions}
 use Rattle.heap_model.specs.OwnSections.{own_actions, held_objects, AreHeld}
 use Rattle.heap_model.specs.Known.{known_value}
@@ -34,6 +35,11 @@ HeldByViewLaw = (g : Setting) (history : List (ℕ × Event)) (t o : ℕ) (hold 
 abbrev pub AwakeByViewLaw : Type 0
 AwakeByViewLaw = (g : Setting) (history : List (ℕ × Event)) (t : ℕ) → IsLegalHistory g history → (own (lane t history)).pause ≡ None → (state_after g history).waiting t ≡ Awake
 
--- What a thread owns stays its own through an event of another.
+-- Another's event takes nothing from a thread.
 abbrev pub OthersKeepLaw : Type 0
-OthersKeepLaw = (g : Setting) (s : State) (t u o : ℕ) (e : Event) → MayDo g s u e → u ≢ t → s.owner o ≡ Some t → (after_event s u e).owner o ≡ Some t
+OthersKeepLaw = (g : Setting) (s : State) (t u : ℕ) (e : Event) → MayDo g s u e → u ≢ t → Keeps g t s (after_event s u e)
+
+-- In a history of so many lanes no other thread owns anything or waits, and its log is of these lanes.
+abbrev pub OfLanesLaw : Type 0
+OfLanesLaw = (g : Setting) (lanes : ℕ) (history : List (ℕ × Event)) → IsLegalHistory g history → IsOfLanes lanes history →
+    IsOfLanes lanes (log_of g history) × ((t : ℕ) → lanes ≤ t → ((state_after g history).waiting t ≡ Awake) × ((o : ℕ) → (state_after g history).owner o ≢ Some t))

@@ -1,9 +1,11 @@
 -- The laws of what lanes hold, of how their sections end, and of lists in which all have.
-use Rattle.std.specs.Prelude.{ℕ, ◌≡◌, ◌+◌, ◌==◌, ◌⊎◌, if◌then◌else◌, List, ◌∷◌, length, Contains, Some}
+use Rattle.std.specs.Prelude.{ℕ, ◌≡◌, ◌+◌, ◌≤◌, ◌==◌, ◌⊎◌, if◌then◌else◌, List, ◌∷◌, length, Contains, Some}
 use Rattle.heap_model.specs.declared.record.Record.{Record}
 use Rattle.heap_model.specs.Setting.{Setting}
 use Rattle.heap_model.specs.Log.{lane, holder, value, IsLegal, IsLaneWisePrefix}
-use Rattle.heap_model.specs.Sections.{Action, Frees, actions, holding, ended}
+use Rattle.heap_model.specs.Sections.{Action, Frees, actions, holding, ended, open_section}
+use Rattle.heap_model.specs.declared.limits.TheConstants.{SECTION_RECORDS}
+use Rattle.heap_model.specs.Limits.{IsWithinLimits}
 use Rattle.heap_model.specs.Cuts.{IsStable, all_ended}
 use Rattle.heap_model.specs.KeptHeap.{kept_value}
 use Rattle.heap_model.specs.Earliest.{Earliest}
@@ -19,6 +21,10 @@ FreedLaw = (older : List Action) (o n : ℕ) → Contains (holding older) o → 
 -- So its section ends where that was the only one.
 abbrev pub EndedLaw : Type 0
 EndedLaw = (older : List Action) (o n : ℕ) → Contains (holding older) o → ended (Frees o n ∷ older) ≡ (if length (holding older) == 1 then ended older + 1 else ended older)
+
+-- Where a lane is within its limits, so is the section that it is in, with the releases that it still needs.
+abbrev pub LimitsLaw : Type 0
+LimitsLaw = (actions : List Action) → IsWithinLimits actions → length (open_section actions) + length (holding actions) ≤ SECTION_RECORDS
 
 -- Where no lane holds anything, the stable cut is that of all sections, and it keeps the value of each field.
 abbrev pub AllKeptLaw : Type 0

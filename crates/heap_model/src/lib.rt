@@ -28,11 +28,12 @@ pub use laws::{
 };
 pub use limits::{LANES, LAST_NUMBER, MOST_FIELDS, MOST_OBJECTS, SECTION_RECORDS};
 pub use own_laws::{
-    awake_by_view_law, held_by_view_law, holding_law, known_law, others_keep_law, own_sections_law,
+    awake_by_view_law, held_by_view_law, holding_law, known_law, of_lanes_law, others_keep_law,
+    own_sections_law,
 };
 pub use part_trim::part_trim_law;
 pub use record::{LaneRecord, Record, UndoRecord};
-pub use section_laws::{all_kept_law, earliest_law, holder_law};
+pub use section_laws::{all_kept_law, earliest_law, holder_law, limits_law};
 
 #[cfg(test)]
 mod tests;

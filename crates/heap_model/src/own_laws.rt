@@ -1,7 +1,7 @@
 //! The laws of what a thread knows by its own events, whatever the others do. Each is the contract of a function that does
 //! nothing, so that the gate proves it.
 
-ghost use Rattle.heap_model.specs.OwnLaws.{KnownLaw, HoldingLaw, OwnSectionsLaw, HeldByViewLaw, AwakeByViewLaw, OthersKeepLaw};
+ghost use Rattle.heap_model.specs.OwnLaws.{KnownLaw, HoldingLaw, OwnSectionsLaw, HeldByViewLaw, AwakeByViewLaw, OthersKeepLaw, OfLanesLaw};
 
 /// What a thread loaded or stored since it took a field's guard is the field's value.
 pub fn known_law()
@@ -28,7 +28,12 @@ pub fn awake_by_view_law()
     ensures { AwakeByViewLaw }
 {}
 
-/// Others leave a thread what it owns.
+/// Others leave a thread what it owns, with the values that it guards, and leave it as it waits.
 pub fn others_keep_law()
     ensures { OthersKeepLaw }
+{}
+
+/// A thread that no event of a history is of owns nothing, and is awake.
+pub fn of_lanes_law()
+    ensures { OfLanesLaw }
 {}
