@@ -90,7 +90,8 @@ impl FatWord {
 
     /// The 64 bits, as the table of shared words keeps them.
     pub fn bits(self) -> u64
-        ensures { result ≡ bits_of self }
+        ensures bits { result ≡ bits_of self }
+        ensures within { HasWord self }
     {
         match self.shape {
             FatShape::Free { number } => number * NUMBER,

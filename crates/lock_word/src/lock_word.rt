@@ -131,7 +131,8 @@ impl LockWord {
 
     /// The 64 bits, as the table of shared words keeps them.
     pub fn bits(self) -> u64
-        ensures { result ≡ bits_of self }
+        ensures bits { result ≡ bits_of self }
+        ensures within { HasWord self }
     {
         match self.shape {
             Shape::Free { number } => number * NUMBER,

@@ -22,7 +22,7 @@ impl Model for WaitMask {
     ghost use Rattle.std.specs.FinSet as set;
     ghost use Rattle.std.specs.Coded.{coded_ℕ};
     ghost use Rattle.lock_word.specs.WaitMask.{lanes_of, mask_of};
-    ghost use Rattle.lock_word.specs.MaskLaws.{mask_of-lanes_of};
+    ghost use Rattle.lock_word.specs.OneMask.{mask_of-lanes_of};
 
     ghost Value = { set.FinSet nat_cmp };
 

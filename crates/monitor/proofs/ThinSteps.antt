@@ -22,11 +22,13 @@ use Rattle.monitor.specs.declared.view.Plan.{Plan}
 use Rattle.monitor.specs.declared.view.View.{View}
 use Rattle.monitor.specs.Words.{objects, LockAt, Words}
 use Rattle.monitor.specs.Views.{slot_of, told, fattened, IsClear, IsAwake, Holds, Stands}
-use Rattle.monitor.specs.Rule.{Spells, Shows, in_set, Waits, Names, Truth}
+use Rattle.lock_word.specs.Spelling.{Spells, Shows}
+use Rattle.lock_word.proofs.Spelled.{spelled_once}
+use Rattle.monitor.specs.Rule.{in_set, Waits, Names, Truth}
 use Rattle.monitor.specs.Kinds.{Sat, turns, object_at, looked, IsNews, looks, takes, nests, unnests, leaves}
 use Rattle.monitor.proofs.Spread.{with_here, with_else}
 use Rattle.monitor.proofs.Histories.{by_none}
-use Rattle.monitor.proofs.Bits.{spelled_once, one_slot}
+use Rattle.monitor.proofs.Bits.{one_slot}
 use Rattle.monitor.proofs.Facts as facts
 use Rattle.monitor.proofs.Turns.{Turned, Now, Paid, Owes}
 use Rattle.monitor.proofs.Quiet.{quiet_none, stays_quiet, IsThin, thin_names_none, one_owner, marked_calm, waits_kept}

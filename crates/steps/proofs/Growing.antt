@@ -1,12 +1,12 @@
 -- What a step of the monitor makes of the view that a session sees.
-use Rattle.std.proofs.Common.{ℕ, ◌≡◌, ◌≢◌, ◌+◌, ◌-◌, ◌<◌, ◌≤◌, ◌⊎◌, ◌==◌, if◌then◌else◌, List, [], ◌∷◌, ◌++◌, Option, Some, None, option_map, refl, sym, ap, ◌∙◌, subst, inl, inr, ⊎_elim, arith}
+use Rattle.std.proofs.Common.{ℕ, ◌≡◌, ◌≢◌, ◌+◌, ◌-◌, ◌<◌, ◌≤◌, ◌⊎◌, if◌then◌else◌, List, [], ◌∷◌, ◌++◌, Option, Some, None, option_map, refl, sym, ap, ◌∙◌, subst, inl, inr, ⊎_elim, arith}
 use Rattle.heap_model.specs.declared.ids.ObjectId.{ObjectId}
 use Rattle.heap_model.specs.declared.ids.Lane.{Lane}
 use Rattle.heap_model.specs.declared.event.Event.{Event}
-use Rattle.heap_model.specs.declared.event.Event.TheVariants.{Enter, NestedEnter, NestedExit, Exit, Load, Store, Wait, Resume, Notify, NotifyAll, Look}
-use Rattle.heap_model.specs.declared.event.Sight.TheVariants.{Found, StillInSet}
+use Rattle.heap_model.specs.declared.event.Event.TheVariants.{Enter, NestedEnter, NestedExit, Exit, Wait, Resume, Look}
+use Rattle.heap_model.specs.declared.event.Sight.TheVariants.{Found}
 use Rattle.heap_model.specs.State.{with_at}
-use Rattle.heap_model.specs.Own.{Hold, Pause, own, hold_in, more, less, pause_count}
+use Rattle.heap_model.specs.Own.{Hold, Pause, own, more, less, pause_count}
 use Rattle.heap_model.proofs.Own.{by_test}
 use Rattle.lock_word.specs.declared.lock_word.Shape.{Shape}
 use Rattle.lock_word.specs.declared.lock_word.Shape.TheVariants as thin
@@ -15,16 +15,16 @@ use Rattle.lock_word.specs.declared.fat_word.FatShape.TheVariants as fat
 use Rattle.monitor.specs.declared.view.View as raw
 use Rattle.monitor.specs.declared.view.Mark.{Mark}
 use Rattle.monitor.specs.declared.view.Mark.TheVariants.{Clear, Joined, Knows, Removed}
-use Rattle.monitor.specs.declared.view.Claim.TheVariants.{Nothing}
 use Rattle.monitor.specs.Words.{SLOTS, setting_of}
 use Rattle.monitor.specs.Views.{calm, noted, slot_of, lane_of, told, resumed, fattened, counted, joined, removed, keeping, Stands}
 use Rattle.monitor.specs.Views as raw_views
+use Rattle.lock_word.specs.Spelling.{lane_of_thread, slot_named, fat_sight, sight_of}
 use Rattle.monitor.specs.Kinds.{looked, IsNews}
 use Rattle.monitor.specs.Seats.{Home, Sitting}
 use Rattle.monitor.specs.Seats as raw_seats
-use Rattle.steps.specs.declared.words.Grip.{Grip}
-use Rattle.steps.specs.Views.{View, shown, view, plan, IsReady, IsSeatOf, IsClear, hold, slot_in, Keeps, KeepsEach, KeepsOthers, Lengthens, Fattens, IsWhole, AgreesWith, sight_of, slot_shown, fat_sight, IsAnother, lane_of_thread, Takes, Misses, miss_events}
-use Rattle.steps.specs.declared.words.Seen.TheVariants as seen
+use Rattle.steps.specs.declared.grip.Grip.{Grip}
+use Rattle.steps.specs.Views.{View, shown, plan, IsReady, IsSeatOf, hold, slot_in, Keeps, KeepsEach, KeepsOthers, Lengthens, AgreesWith, Misses}
+use Rattle.steps.specs.declared.grip.Seen.TheVariants as seen
 use Rattle.monitor.proofs.CellLaws.{sight_law, look_law}
 
 same : (n : ℕ) → n ≤ n
@@ -236,7 +236,7 @@ resume_there v o n c is = set_there (own v.events).hold o.0 (Some (record { coun
 pub agrees_told : (v w : raw.View) (o : ObjectId) (owner : Option Lane) (c n : ℕ) → w ≡ told v (Look o (Found owner c n)) → Stands w → AgreesWith (shown w) o (Found owner c n)
 agrees_told v w o owner c n is st = subst (λ (x : raw.View). AgreesWith (shown x) o (Found owner c n)) (sym is) (sight_law v o owner c n (subst Stands is st))
 
-pub agrees_looked : (v w : raw.View) (o : ObjectId) (x : Shape) → w ≡ looked v o x → Stands w → slot_shown x ≡ None → AgreesWith (shown w) o (sight_of x None)
+pub agrees_looked : (v w : raw.View) (o : ObjectId) (x : Shape) → w ≡ looked v o x → Stands w → slot_named x ≡ None → AgreesWith (shown w) o (sight_of x None)
 agrees_looked v w o (thin.Free n) is st s = agrees_told v w o None 0 n is st
 agrees_looked v w o (thin.Thin t a n) is st s = agrees_told v w o (Some (record { 0 = t - 1 })) (a + 1) n is st
 agrees_looked v w o (thin.Fat i n) is st s = absurd (some_none i s)
@@ -245,7 +245,7 @@ pub agrees_fat : (v w : raw.View) (o : ObjectId) (y : FatShape) → w ≡ told v
 agrees_fat v w o (fat.Free n) is st = agrees_told v w o None 0 n is st
 agrees_fat v w o (fat.Held t a n) is st = agrees_told v w o (Some (record { 0 = t - 1 })) (a + 1) n is st
 
-pub agrees_through : (v w : raw.View) (o : ObjectId) (x : Shape) (y : FatShape) (i : ℕ) → w ≡ told v (Look o (fat_sight y)) → Stands w → slot_shown x ≡ Some i → AgreesWith (shown w) o (sight_of x (Some y))
+pub agrees_through : (v w : raw.View) (o : ObjectId) (x : Shape) (y : FatShape) (i : ℕ) → w ≡ told v (Look o (fat_sight y)) → Stands w → slot_named x ≡ Some i → AgreesWith (shown w) o (sight_of x (Some y))
 agrees_through v w o (thin.Free n) y i is st s = absurd (some_none i (sym s))
 agrees_through v w o (thin.Thin t a n) y i is st s = absurd (some_none i (sym s))
 agrees_through v w o (thin.Fat j n) y i is st s = agrees_fat v w o y is st

@@ -1,7 +1,8 @@
 use Rattle.std.proofs.Common.{◌≡◌, sym, ap, subst, ◌∙◌}
 use Rattle.std.specs.Int.{bit_at}
 use Rattle.lock_word.specs.WaitMask.{mask_of, IsLaneSet}
-use Rattle.lock_word.specs.MaskLaws.{mask_of-lanes_of, IsLaneSet-lanes_of, bit_at-mask_of}
+use Rattle.lock_word.specs.OneMask.{mask_of-lanes_of}
+use Rattle.lock_word.proofs.MaskLaws.{IsLaneSet-lanes_of, bit_at-mask_of}
 use Rattle.lock_word.proofs.wait_mask.WaitMask.bits.Goals as goal
 
 pub returns-clause-mask : goal.returns-clause-mask

@@ -1,4 +1,4 @@
-use Rattle.lock_word.specs.MaskLaws.{lanes_of-zero}
+use Rattle.lock_word.proofs.MaskLaws.{lanes_of-zero}
 use Rattle.lock_word.proofs.wait_mask.WaitMask.empty.Goals as goal
 
 pub returns : goal.returns

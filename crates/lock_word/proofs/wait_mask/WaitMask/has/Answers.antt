@@ -2,7 +2,7 @@ use Rattle.std.proofs.Common.{◌≡◌, ◌==◌, sym, ap, ◌∙◌, rules}
 use Rattle.std.specs.FinSet as set
 use Rattle.std.specs.Int.{bit_at}
 use Rattle.std.proofs.lemmas.Nat.Bits.{shr_and_one}
-use Rattle.lock_word.specs.MaskLaws.{contains-lanes_below}
+use Rattle.lock_word.specs.OneMask.{contains-lanes_below}
 use Rattle.lock_word.proofs.wait_mask.WaitMask.has.Goals as goal
 
 pub returns : goal.returns

@@ -2,7 +2,8 @@ use Rattle.std.proofs.Common.{◌<◌, ◌==◌, w32, sym, ap, subst, ◌∙◌,
 use Rattle.std.specs.Int.{trailing_zeros}
 use Rattle.std.proofs.lemmas.Nat.Bits.{bit_at-trailing_zeros}
 use Rattle.lock_word.specs.WaitMask.{lanes_of, IsLeast}
-use Rattle.lock_word.specs.MaskLaws.{lanes_of-zero, contains-lanes_below}
+use Rattle.lock_word.specs.OneMask.{contains-lanes_below}
+use Rattle.lock_word.proofs.MaskLaws.{lanes_of-zero}
 use Rattle.lock_word.proofs.wait_mask.WaitMask.least.Goals as goal
 
 pub returns-then-self-eq0 : goal.returns-then-self-eq0

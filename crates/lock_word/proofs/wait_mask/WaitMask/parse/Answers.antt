@@ -1,6 +1,7 @@
 use Rattle.std.proofs.Common.{◌≡◌, ◌<◌, ◌^◌, Some, sym, ap, subst, ◌∙◌, rules, arith}
 use Rattle.lock_word.specs.WaitMask.{lanes_of}
-use Rattle.lock_word.specs.MaskLaws.{mask_of-lanes_of, lanes_of-mask_of, mask_below-lt}
+use Rattle.lock_word.specs.OneMask.{mask_of-lanes_of, mask_below-lt}
+use Rattle.lock_word.proofs.MaskLaws.{lanes_of-mask_of}
 use Rattle.lock_word.proofs.wait_mask.WaitMask.parse.Goals as goal
 
 pub returns-in-Ok-clause-spelled : goal.returns-in-Ok-clause-spelled

@@ -1,7 +1,7 @@
 use Rattle.std.proofs.Common.{◌≡◌, ◌<◌, ap, ◌∙◌, rules, arith}
 use Rattle.std.specs.FinSet as set
 use Rattle.lock_word.specs.WaitMask.{lanes_of}
-use Rattle.lock_word.specs.MaskLaws.{lanes_of-or}
+use Rattle.lock_word.proofs.MaskLaws.{lanes_of-or}
 use Rattle.lock_word.proofs.wait_mask.WaitMask.with.Goals as goal
 
 pub returns : goal.returns

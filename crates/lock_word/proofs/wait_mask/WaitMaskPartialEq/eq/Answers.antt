@@ -1,5 +1,5 @@
 use Rattle.std.proofs.Common.{rules}
-use Rattle.lock_word.specs.MaskLaws.{mask_of-lanes_of}
+use Rattle.lock_word.specs.OneMask.{mask_of-lanes_of}
 use Rattle.lock_word.proofs.wait_mask.WaitMaskPartialEq.eq.Goals as goal
 
 pub returns : goal.returns

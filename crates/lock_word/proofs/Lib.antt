@@ -1,0 +1,4 @@
+pub mod Spelled
+pub mod MaskLaws
+pub mod MaskSteps
+pub mod Listing

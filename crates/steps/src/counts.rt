@@ -1,0 +1,43 @@
+//! The words that only rise: the count of fat slots, and the published numbers.
+
+ghost use Rattle.std.specs.Prelude.{◌≡◌, ◌≤◌, [], false};
+ghost use Rattle.steps.specs.Views.{view, IsSeatOf, KeepsEach, Lengthens};
+
+use lock_word::FAT_SLOTS;
+use monitor::{Seat, Shared};
+
+/// Whether a fat slot is left, by a look at their count. One load.
+pub fn has_slot(shared: &Shared, seat: &mut Seat) -> bool
+    requires seat { IsSeatOf shared.now seat.old }
+    ensures seat { IsSeatOf shared.now seat.new }
+    ensures mark { (view seat.new).mark ≡ (view seat.old).mark }
+    ensures told { Lengthens (view seat.old) (view seat.new) [] }
+    ensures none { result ≡ false → FAT_SLOTS ≤ (view seat.new).slots }
+    ensures grips { KeepsEach (view seat.old) (view seat.new) }
+{
+    shared.count_slots(seat) < u64::from(FAT_SLOTS)
+}
+
+/// How many sections of the seat's lane are published as acknowledged. One load.
+pub fn read_stable(shared: &Shared, seat: &mut Seat) -> u64
+    requires seat { IsSeatOf shared.now seat.old }
+    ensures seat { IsSeatOf shared.now seat.new }
+    ensures mark { (view seat.new).mark ≡ (view seat.old).mark }
+    ensures told { Lengthens (view seat.old) (view seat.new) [] }
+    ensures read { (view seat.new).stable ≡ result }
+    ensures grips { KeepsEach (view seat.old) (view seat.new) }
+{
+    shared.read_stable(seat)
+}
+
+/// The place, counted in records, up to which the log of the seat's lane is published as trimmed. One load.
+pub fn read_trimmed(shared: &Shared, seat: &mut Seat) -> u64
+    requires seat { IsSeatOf shared.now seat.old }
+    ensures seat { IsSeatOf shared.now seat.new }
+    ensures mark { (view seat.new).mark ≡ (view seat.old).mark }
+    ensures told { Lengthens (view seat.old) (view seat.new) [] }
+    ensures read { (view seat.new).trimmed ≡ result }
+    ensures grips { KeepsEach (view seat.old) (view seat.new) }
+{
+    shared.read_trimmed(seat)
+}
