@@ -1,4 +1,3 @@
-pub mod Again
 pub mod Bytes
 pub mod Failures
 pub mod Images

@@ -1,8 +1,8 @@
-pub mod Backing
+-- The promise: what public clauses state.
 pub mod Bytes
-pub mod Calls
-pub mod Crash
 pub mod Device
 pub mod Images
 pub mod Memory
-pub mod Mirror
+pub mod Crash
+-- Scaffold: what proofs need.
+pub mod Calls

@@ -4,6 +4,7 @@ ghost use Rattle.block_disk.specs.Bytes.{spliced};
 ghost use Rattle.block_disk.specs.Calls.{AllFit, stop_of, stops_of};
 ghost use Rattle.block_disk.specs.Memory.{Fits, Synced, WriteFailed, Wrote, bytes_after};
 
+use crate::place::{lies_within, overwrite};
 use std::alloc::Global;
 
 /// A write or a sync that was asked for. One that failed stored or fixed nothing.
@@ -64,22 +65,6 @@ pub fn keep_failed_write(calls: &mut Vec<Call>, at: u64, len: usize, size: usize
             len: len as u64,
         },
     )
-}
-
-/// Whether so many bytes from `at` on lie within a disk of this size.
-pub fn lies_within(at: u64, len: usize, size: usize) -> bool
-    ensures { IsTrue result ↔ (at + len ≤ size) }
-{
-    len <= size && at <= (size - len) as u64
-}
-
-/// Puts these bytes at `at`.
-pub fn overwrite(image: &mut [u8], at: u64, bytes: &[u8])
-    requires { at + length bytes.now ≤ length image.old }
-    ensures { image.new ≡ spliced image.old at bytes.now }
-{
-    let start = at as usize;
-    image[start..start + bytes.len()].copy_from_slice(bytes);
 }
 
 // Stores what the call wrote.

@@ -1,4 +1,7 @@
 //! Why a disk refuses a call.
+ghost use Rattle.std.specs.Prelude.{◌≡◌, ◌+◌, ◌-◌, ◌^◌, min};
+ghost use Rattle.block_disk.specs.declared.error.DiskError.TheVariants.{Fault};
+
 use thiserror::Error;
 
 /// Why a disk refuses a call. `Fault` is tried first.
@@ -12,13 +15,11 @@ pub enum DiskError {
     OutOfRange,
 }
 
-/// Why there is no disk over a file.
-#[derive(Clone, Copy, Debug, PartialEq, Eq, Error)]
-pub enum FileError {
-    /// A call of the file system has failed.
-    #[error("fault")]
-    Fault,
-    /// The allocator gave no memory for the bytes.
-    #[error("no memory")]
-    NoMemory,
+/// Counts a failure of a disk, and gives what its call answers then.
+pub fn fail(failures: &mut u64) -> DiskError
+    ensures counted { failures.new ≡ min (failures.old + 1) (2 ^ 64 - 1) }
+    ensures fault { result ≡ Fault }
+{
+    *failures = failures.saturating_add(1);
+    DiskError::Fault
 }

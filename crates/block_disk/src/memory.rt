@@ -1,14 +1,16 @@
 //! A disk in memory.
-ghost use Rattle.std.specs.Prelude.{◌≡◌, ◌⊎◌, ◌+◌, ◌-◌, ◌^◌, ◌<◌, ◌≤◌, ◌↔◌, IsTrue, length, min, replicate, OnOk, OnErr, IfOk, IfSome, IsSome, IsErrOf, Some};
+ghost use Rattle.std.specs.Prelude.{◌≡◌, ◌⊎◌, ◌+◌, ◌<◌, ◌≤◌, ◌↔◌, IsTrue, length, replicate, OnOk, OnErr, IfOk, IfSome, IsSome, IsErrOf, Some};
 ghost use Rattle.block_disk.specs.Bytes.{part, spliced};
-ghost use Rattle.block_disk.specs.Calls.{AllFit, stops_of};
+ghost use Rattle.block_disk.specs.Calls.{stops_of};
 ghost use Rattle.block_disk.specs.Crash.{crash_bytes, done_at, LeftSinceStop};
 ghost use Rattle.block_disk.specs.Device.{Image, written, synced, HasFailed, SameMoments, TornWrite};
 ghost use Rattle.block_disk.specs.Memory.{Wrote, Synced, fresh, bytes_after, moment_after, device_of, IsDue, next_failure, called, failed, stopped, FailsWrite, FailsSync};
 ghost use Rattle.block_disk.specs.declared.error.DiskError.TheVariants.{Fault, OutOfRange};
 
-use crate::call::{Call, keep, keep_failed_write, keep_write, lies_within, overwrite};
+use crate::call::{Call, keep, keep_failed_write, keep_write};
 use crate::crash::{Fill, image_at};
+use crate::error::fail;
+use crate::place::{copy_out, lies_within, overwrite};
 use crate::{Disk, DiskError};
 use std::alloc::{AllocError, Global};
 use std::marker::Model;
@@ -53,7 +55,8 @@ impl MemDisk {
         MemDisk::holding(alloc, bytes.to_vec(alloc)?)
     }
 
-    pub(crate) fn holding(alloc: Global, first: Vec<u8>) -> Result<MemDisk, AllocError>
+    // A disk that holds these bytes.
+    fn holding(alloc: Global, first: Vec<u8>) -> Result<MemDisk, AllocError>
         ensures { IfOk result (λ disk. disk ≡ fresh first.items) }
     {
         let bytes = first.to_vec(alloc)?;
@@ -72,14 +75,6 @@ impl MemDisk {
         ensures { result.now ≡ bytes_after self.now.first self.now.stops }
     {
         &self.bytes
-    }
-
-    /// The writes and syncs since the disk was made, the oldest first.
-    pub(crate) fn calls(&self) -> &[Call]
-        ensures stops { stops_of result.now ≡ self.now.stops }
-        ensures fits { AllFit (length (bytes_after self.now.first self.now.stops)) result.now }
-    {
-        &self.calls
     }
 
     /// How many writes and syncs there were since the disk was made. One that failed counts, one out of range doesn't.
@@ -141,8 +136,7 @@ impl Disk for MemDisk {
         if !lies_within(at, out.len(), self.bytes.len()) {
             return Err(DiskError::OutOfRange);
         }
-        let start = at as usize;
-        out.copy_from_slice(&self.bytes[start..start + out.len()]);
+        copy_out(&self.bytes, at, out);
         Ok(())
     }
 
@@ -215,15 +209,7 @@ fn is_due(fails_in: &mut Option<u64>) -> bool
     due
 }
 
-// Counts a failure.
-pub(crate) fn fail(failures: &mut u64) -> DiskError
-    ensures counted { failures.new ≡ min (failures.old + 1) (2 ^ 64 - 1) }
-    ensures fault { result ≡ Fault }
-{
-    *failures = failures.saturating_add(1);
-    DiskError::Fault
-}
-
+// Puts these bytes at `at`.
 fn put(bytes: &mut Vec<u8>, at: u64, content: &[u8])
     requires { at + length content.now ≤ length bytes.old.items }
     ensures { bytes.new.items ≡ spliced bytes.old.items at content.now }

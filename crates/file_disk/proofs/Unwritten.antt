@@ -1,0 +1,97 @@
+-- What a buffered disk's bytes, ranges and file go on to be.
+use Rattle.std.proofs.Common.{◌≡◌, ℕ, Bool, true, ◌+◌, ◌≤◌, List, [], ◌∷◌, length, Option, Some, None, IfSome, option_map, sym, ap, subst, arith}
+use Rattle.file_disk.specs.Backing.{Held, Reads, ReadsBut, TornFile, put_at}
+use Rattle.block_disk.specs.Bytes.{spliced}
+use Rattle.block_disk.specs.Device.{Range, Device, range_of, written, Image, IsClear, IsOutside, SameOutside}
+use Rattle.block_disk.proofs.Bytes.{length_spliced}
+use Rattle.block_disk.proofs.Ranges.{outside_sym, outside_trans, outside_more, outside_rest, outside_first, spliced_same}
+use Rattle.file_disk.specs.Buffered.{AllWithin, IsBuffered, IsMirrored}
+
+-- what the file reads may be left by a crash
+pub possible : (d : Device) (bytes : List ℕ) (rs : List Range) (file : Option Held) → IsBuffered d bytes rs file → IfSome file (λ h. Image d.now h.reads)
+possible d bytes rs None kept = tt
+possible d bytes rs (Some h) kept =
+    subst (λ (xs : List ℕ). SameOutside d.now.pending xs h.reads) (sym kept.reads) (outside_more rs d.now.pending bytes h.reads kept.pending kept.near)
+
+-- what the file reads but for more ranges, once these bytes are in memory
+near_write : (bytes content : List ℕ) (rs ss : List Range) (file : Option Held) (at : ℕ) → at + length content ≤ length bytes
+    → ((i : ℕ) → IsClear i ss → IsClear i (range_of at content ∷ rs)) → ReadsBut rs bytes file → ReadsBut ss (spliced bytes at content) file
+near_write bytes content rs ss None at fits covered near = tt
+near_write bytes content rs ss (Some h) at fits covered near =
+    let r = range_of at content in
+    let put = spliced bytes at content in
+    let back = outside_sym (r ∷ rs) bytes put (outside_first r rs bytes put (spliced_same bytes content at fits)) in
+    outside_more (r ∷ rs) ss put h.reads covered (outside_trans (r ∷ rs) put bytes h.reads back (outside_rest r rs bytes h.reads near))
+
+-- a write goes into memory, and its range is kept
+pub buffered_write : (d : Device) (bytes content : List ℕ) (rs ss : List Range) (file : Option Held) (at : ℕ) → at + length content ≤ length bytes
+    → IsBuffered d bytes rs file → AllWithin (length bytes) ss
+    → ((i : ℕ) → IsClear i ss → IsClear i (range_of at content ∷ rs)) → ((i : ℕ) → IsClear i (range_of at content ∷ rs) → IsClear i ss)
+    → IsBuffered (written at content d) (spliced bytes at content) ss file
+buffered_write d bytes content rs ss file at fits kept within covered exact = record {
+  reads = ap (λ (xs : List ℕ). spliced xs at content) kept.reads;
+  within = subst (λ (n : ℕ). AllWithin n ss) (sym (length_spliced bytes content at fits)) within;
+  near = near_write bytes content rs ss file at fits covered kept.near;
+  pending = λ i clear. exact i (clear.0, kept.pending i clear.1);
+}
+
+-- What a write that goes to the file at once makes of it.
+
+-- one that fails tears no more than its range, which is kept
+pub near_torn : (bytes : List ℕ) (ss : List Range) (old new : Option Held) (at n : ℕ) → ((i : ℕ) → IsClear i ss → IsOutside i (record { start = at; len = n }))
+    → ReadsBut ss bytes old → TornFile at n old new → ReadsBut ss bytes new
+near_torn bytes ss old None at n covers near torn = tt
+near_torn bytes ss None (Some h) at n covers near torn = absurd torn
+near_torn bytes ss (Some was) (Some h) at n covers near torn =
+    outside_trans ss bytes was.reads h.reads near
+    (outside_more (record { start = at; len = n } ∷ []) ss was.reads h.reads (λ i clear. (covers i clear, tt)) torn)
+
+-- one that succeeds changes its range alone
+pub near_put : (bytes content : List ℕ) (ss : List Range) (file : Option Held) (at : ℕ) → at + length content ≤ length bytes
+    → ((i : ℕ) → IsClear i ss → IsOutside i (range_of at content)) → ReadsBut ss bytes file → ReadsBut ss bytes (option_map (put_at at content) file)
+near_put bytes content ss None at fits covers near = tt
+near_put bytes content ss (Some h) at fits covers near =
+    outside_trans ss bytes h.reads (spliced h.reads at content) near
+    (outside_more (range_of at content ∷ []) ss h.reads (spliced h.reads at content) (λ i clear. (covers i clear, tt))
+    (spliced_same h.reads content at (omega (arith, fits, near.size))))
+
+-- and where the file read the bytes before, it reads what they have become
+pub reads_put : (bytes content : List ℕ) (file : Option Held) (at : ℕ) → Reads bytes file → Reads (spliced bytes at content) (option_map (put_at at content) file)
+reads_put bytes content None at reads = tt
+reads_put bytes content (Some h) at reads = ap (λ (xs : List ℕ). spliced xs at content) reads
+
+-- the write has failed: the file is behind from now on
+pub mirrored_torn : (behind : Bool) (d : Device) (bytes content : List ℕ) (rs ss : List Range) (file new : Option Held) (at : ℕ) → at + length content ≤ length bytes
+    → IsMirrored behind d bytes rs file → AllWithin (length bytes) ss
+    → ((i : ℕ) → IsClear i ss → IsClear i (range_of at content ∷ rs)) → ((i : ℕ) → IsClear i (range_of at content ∷ rs) → IsClear i ss)
+    → TornFile at (length content) file new → IsMirrored true (written at content d) (spliced bytes at content) ss new
+mirrored_torn behind d bytes content rs ss file new at fits kept within covered exact torn =
+    let was = buffered_write d bytes content rs ss file at fits kept.buffered within covered exact in
+    record {
+      buffered = record {
+        reads = was.reads;
+        within = was.within;
+        near = near_torn (spliced bytes at content) ss file new at (length content) (λ i clear. (covered i clear).0) was.near torn;
+        pending = was.pending;
+      };
+      current = λ no. absurd cc;
+    }
+
+-- the write has succeeded: the file is behind only where it was
+pub mirrored_put : (behind : Bool) (d : Device) (bytes content : List ℕ) (rs ss : List Range) (file new : Option Held) (at : ℕ) → at + length content ≤ length bytes
+    → IsMirrored behind d bytes rs file → AllWithin (length bytes) ss
+    → ((i : ℕ) → IsClear i ss → IsClear i (range_of at content ∷ rs)) → ((i : ℕ) → IsClear i (range_of at content ∷ rs) → IsClear i ss)
+    → new ≡ option_map (put_at at content) file → IsMirrored behind (written at content d) (spliced bytes at content) ss new
+mirrored_put behind d bytes content rs ss file new at fits kept within covered exact put =
+    let was = buffered_write d bytes content rs ss file at fits kept.buffered within covered exact in
+    let long : at + length content ≤ length (spliced bytes at content) = omega (arith, length_spliced bytes content at fits, fits) in
+    record {
+      buffered = record {
+        reads = was.reads;
+        within = was.within;
+        near = subst (λ (h : Option Held). ReadsBut ss (spliced bytes at content) h) (sym put)
+            (near_put (spliced bytes at content) content ss file at long (λ i clear. (covered i clear).0) was.near);
+        pending = was.pending;
+      };
+      current = λ now. subst (λ (h : Option Held). Reads (spliced bytes at content) h) (sym put) (reads_put bytes content file at (kept.current now));
+    }

@@ -1,0 +1,11 @@
+use Rattle.std.proofs.Common.{IfSome, subst}
+use Rattle.block_disk.specs.Device.{Image}
+use Rattle.file_disk.specs.Mirror.{Mirror}
+use Rattle.file_disk.proofs.Unwritten.{possible}
+use Rattle.file_disk.proofs.buffered.BufferedDisk.possible_law.Goals as goal
+
+pub returns : goal.returns
+returns g c =
+    let d = c.self.inside in
+    subst (λ (m : Mirror). IfSome m.file (λ h. Image m.device.now h.reads)) c.self.view_is
+    (possible d.trace.device d.bytes.items d.unwritten.items (g.F.BackingFile.holds d.file) c.self.invariant)

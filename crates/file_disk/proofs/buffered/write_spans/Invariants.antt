@@ -1,0 +1,14 @@
+use Rattle.std.proofs.Common.{ℕ, length}
+use Rattle.file_disk.specs.Backing.{ReadsBut}
+use Rattle.block_disk.specs.Device.{IsClear}
+use Rattle.file_disk.specs.Buffered.{AllWithin}
+use Rattle.file_disk.proofs.buffered.write_spans.Given as goal
+
+abbrev pub decreases-loop-first : goal.decreases-loop-first
+decreases-loop-first g l = length l.rest
+
+-- what is left has still to be written, and it is among the ranges
+abbrev pub invariant-loop-first : goal.invariant-loop-first
+invariant-loop-first g l = ReadsBut l.rest l.fn.bytes (g.F.BackingFile.holds l.file)
+    × AllWithin (length l.fn.bytes) l.rest
+    × ((i : ℕ) → IsClear i l.fn.spans → IsClear i l.rest)

@@ -1,0 +1,16 @@
+use Rattle.std.proofs.Common.{◌≡◌, List, ◌∷◌, ◌++◌, [], subst, sym, rules}
+use Rattle.block_disk.specs.Device.{Range, IsClear}
+use Rattle.file_disk.proofs.Spans.{clear_pushed, clear_push}
+use Rattle.file_disk.proofs.span.add.Goals as goal
+
+pub returns-clause-covered : goal.returns-clause-covered
+returns-clause-covered c = λ done i clear.
+    let r : Range = record { start = c.args.start; len = c.args.len } in
+    let is : c.push.new.spans.items ≡ c.args.spans.now.items ++ r ∷ [] = search rules in
+    clear_pushed i c.args.spans.now.items r (subst (λ (rs : List Range). IsClear i rs) is clear)
+
+pub returns-clause-exact : goal.returns-clause-exact
+returns-clause-exact c = λ done i clear.
+    let r : Range = record { start = c.args.start; len = c.args.len } in
+    let is : c.push.new.spans.items ≡ c.args.spans.now.items ++ r ∷ [] = search rules in
+    subst (λ (rs : List Range). IsClear i rs) (sym is) (clear_push i c.args.spans.now.items r clear.0 clear.1)

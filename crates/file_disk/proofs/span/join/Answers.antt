@@ -1,0 +1,24 @@
+use Rattle.std.proofs.Common.{◌≡◌, ◌-◌, ◌<◌, length, get_or, subst, sym, rules}
+use Rattle.block_disk.specs.Device.{Range, IsOutside}
+use Rattle.file_disk.proofs.Spans.{clear_at, clear_put, clear_was, clear_set}
+use Rattle.file_disk.proofs.span.join.Goals as goal
+
+pub returns-clause-covered : goal.returns-clause-covered
+returns-clause-covered c = λ done i clear.
+    let rs = c.args.spans.now.items in
+    let k = c.len-count.result - 1 in
+    let last = c.index-last.result.now in
+    let is : last ≡ get_or rs k last = search rules in
+    let within : k < length rs = search rules in
+    let out = c.joined.ensures.both i (clear_put i k rs c.joined.result within clear) in
+    (out.1, clear_was i k rs c.joined.result last within (subst (λ (r : Range). IsOutside i r) is out.0) clear)
+
+pub returns-clause-exact : goal.returns-clause-exact
+returns-clause-exact c = λ done i clear.
+    let rs = c.args.spans.now.items in
+    let k = c.len-count.result - 1 in
+    let last = c.index-last.result.now in
+    let is : last ≡ get_or rs k last = search rules in
+    let within : k < length rs = search rules in
+    let out = subst (λ (r : Range). IsOutside i r) (sym is) (clear_at i k rs last within clear.1) in
+    clear_set i k rs c.joined.result (c.joined.ensures.exact i out clear.0) clear.1

@@ -1,0 +1,13 @@
+-- A disk whose bytes are kept in a file too (this project's own).
+use Rattle.std.specs.Prelude.{ℕ, List, [], Option}
+use Rattle.block_disk.specs.Device.{Device}
+use Rattle.file_disk.specs.Backing.{Held}
+
+-- the disk: the device that it is, and what its file holds, where that is known
+pub record Mirror : Type 0 where
+  pub device : Device
+  pub file : Option Held
+
+-- a device of these bytes that nothing was asked of yet
+abbrev pub new_device : List ℕ → Device
+new_device bytes = record { now = record { bytes = bytes; pending = [] }; past = []; failures = 0 }

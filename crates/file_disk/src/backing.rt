@@ -1,0 +1,75 @@
+//! The file behind a disk.
+ghost use Rattle.std.specs.Prelude.{◌≡◌, Option, None, length, OnOk, OnErr, IfOk, IfSome, option_map};
+ghost use Rattle.file_disk.specs.Backing.{Held, emptied, put_at, settled, TornFile, ReadsAsBefore};
+ghost use Rattle.block_disk.specs.Bytes.{part};
+
+use std::fs::File;
+use std::io;
+use std::io::{Read, Seek, SeekFrom, Write};
+
+/// A file that a disk keeps its bytes in. Places and lengths count bytes, from 0.
+///
+/// What a file of the system holds is not known: of a [`File`] the contract claims nothing. A file in memory can say
+/// what it holds, and then a [`FileDisk`](crate::FileDisk) over it says so too.
+pub trait BackingFile {
+    /// What the file holds, where that is known.
+    ghost holds: { Self → Option Held } = { λ _. None };
+
+    /// How many bytes it has.
+    fn len(&self) -> io::Result<u64>
+        ensures { IfOk result (λ n. IfSome (holds self.now) (λ h. n ≡ length h.reads)) };
+
+    /// Takes all its bytes away.
+    fn empty(&mut self) -> io::Result<()>
+        ensures { OnOk result (holds self.new ≡ option_map emptied (holds self.old)) };
+
+    /// Reads the bytes from `at` on into `out`, whole; there is an error where the file ends before.
+    fn read_from(&mut self, at: u64, out: &mut [u8]) -> io::Result<()>
+        ensures ok { OnOk result (IfSome (holds self.old) (λ h. out.new ≡ part at (length out.old) h.reads)) }
+        ensures same { holds self.new ≡ holds self.old };
+
+    /// Writes all these bytes at `at`. After an error there may be any bytes in their range.
+    fn write_to(&mut self, at: u64, bytes: &[u8]) -> io::Result<()>
+        ensures ok { OnOk result (holds self.new ≡ option_map (put_at at bytes.now) (holds self.old)) }
+        ensures err { OnErr result (TornFile at (length bytes.now) (holds self.old) (holds self.new)) };
+
+    /// Makes what was written, and the file's length, durable.
+    fn settle(&mut self) -> io::Result<()>
+        ensures ok { OnOk result (holds self.new ≡ option_map settled (holds self.old)) }
+        ensures err { OnErr result (ReadsAsBefore (holds self.old) (holds self.new)) };
+}
+
+/// A file of the system. An interrupted call is made again, and a short one goes on where it ended.
+impl BackingFile for File {
+    fn len(&self) -> io::Result<u64> {
+        Ok(self.metadata()?.len())
+    }
+
+    fn empty(&mut self) -> io::Result<()> {
+        self.set_len(0)
+    }
+
+    fn read_from(&mut self, at: u64, out: &mut [u8]) -> io::Result<()> {
+        read_there(self, at, out)
+    }
+
+    fn write_to(&mut self, at: u64, bytes: &[u8]) -> io::Result<()> {
+        write_there(self, at, bytes)
+    }
+
+    fn settle(&mut self) -> io::Result<()> {
+        self.sync_data()
+    }
+}
+
+/// Reads at a place of what can seek, all bytes of `out`.
+pub(crate) fn read_there<F: Read + Seek>(file: &mut F, at: u64, out: &mut [u8]) -> io::Result<()> {
+    file.seek(SeekFrom::Start(at))?;
+    file.read_exact(out)
+}
+
+/// Writes at a place of what can seek, all of the bytes.
+pub(crate) fn write_there<F: Write + Seek>(file: &mut F, at: u64, bytes: &[u8]) -> io::Result<()> {
+    file.seek(SeekFrom::Start(at))?;
+    file.write_all(bytes)
+}

@@ -1,0 +1,74 @@
+//! A disk in memory that forgets.
+ghost use Rattle.std.specs.Prelude.{◌≡◌, replicate, IfOk};
+ghost use Rattle.file_disk.specs.Mirror.{new_device};
+
+use crate::trace::Trace;
+use block_disk::{Disk, DiskError, copy_out, lies_within, overwrite};
+use std::alloc::{AllocError, Global};
+use std::marker::Model;
+
+/// A disk in memory, which takes its bytes and no more, however long it runs. It never fails.
+///
+/// It shows no crashes, as [`MemDisk`](crate::MemDisk) does.
+#[derive(Drop)]
+pub struct VolatileDisk {
+    bytes: Vec<u8>,
+    trace: Trace,
+}
+
+impl Model for VolatileDisk {
+    ghost use Rattle.std.specs.Prelude.{◌≡◌};
+    ghost use Rattle.block_disk.specs.Device.{Device};
+
+    ghost Value = { Device };
+
+    ghost view = { λ d. d.trace.device };
+
+    ghost invariant = { λ d. (d.trace.device.now.bytes ≡ d.bytes.items) × (d.trace.device.failures ≡ 0) };
+}
+
+impl VolatileDisk {
+    /// A disk of `size` zero bytes.
+    pub fn new(alloc: Global, size: u64) -> Result<VolatileDisk, AllocError>
+        ensures { IfOk result (λ disk. disk ≡ new_device (replicate size 0)) }
+    {
+        let bytes = vec![in alloc; 0u8; size as usize]?;
+        let trace = Trace::of(&bytes);
+        Ok(VolatileDisk { bytes, trace })
+    }
+}
+
+impl Disk for VolatileDisk {
+    ghost device = { λ d. d };
+
+    fn size(&self) -> u64 {
+        self.bytes.len() as u64
+    }
+
+    fn read_at(&mut self, at: u64, out: &mut [u8]) -> Result<(), DiskError> {
+        if !lies_within(at, out.len(), self.bytes.len()) {
+            return Err(DiskError::OutOfRange);
+        }
+        copy_out(&self.bytes, at, out);
+        Ok(())
+    }
+
+    fn write_at(&mut self, at: u64, bytes: &[u8]) -> Result<(), DiskError> {
+        if !lies_within(at, bytes.len(), self.bytes.len()) {
+            return Err(DiskError::OutOfRange);
+        }
+        overwrite(&mut self.bytes, at, bytes);
+        self.trace.write(at, bytes);
+        Ok(())
+    }
+
+    fn sync(&mut self) -> Result<(), DiskError> {
+        self.trace.sync();
+        Ok(())
+    }
+
+    fn failures(&self) -> u64 {
+        let _ = &self.trace;
+        0
+    }
+}
