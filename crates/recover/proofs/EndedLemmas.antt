@@ -22,10 +22,10 @@ use Rattle.recover.specs.Dropping.{AreDropped, AreEntriesOf, sections_after, set
 use Rattle.recover.specs.Logs.{lanes_of, records_of}
 use Rattle.recover.specs.Reading.{HasFront, Holds}
 use Rattle.recover.specs.Recovery.{IsEnded}
-use Rattle.recover.specs.Replay.{Replays}
+use Rattle.live_logs.specs.Replay.{Replays}
 use Rattle.recover.specs.Settled.{AreLegal, IsAtRest, TakesUnsettled, settled_records}
 use Rattle.recover.specs.Study.{AreUndone, IsReportOf, IsStudyOf, held_by}
-use Rattle.recover.proofs.ReplayLemmas.{zeros}
+use Rattle.live_logs.proofs.ReplayLemmas.{zeros}
 use Rattle.recover.proofs.StudyLemmas.{stands_for}
 
 -- the rows of empty logs

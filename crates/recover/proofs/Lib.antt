@@ -1,10 +1,5 @@
 pub mod LogLemmas
-pub mod ReplayLemmas
-pub mod FirstLemmas
-pub mod TallyLemmas
-pub mod CrossingLemmas
-pub mod WalkLemmas
-pub mod SettledLemmas
+pub mod LegalLemmas
 pub mod ReadingLemmas
 pub mod PuttingLemmas
 pub mod EndingLemmas

@@ -14,10 +14,10 @@ use Rattle.undo_log.specs.StandsFor.{row_of, settled_of}
 use Rattle.recover.specs.declared.live_sections.LiveSections.{LiveSections}
 use Rattle.recover.specs.Logs.{records_of, lanes_of}
 use Rattle.recover.specs.Settled.{settled_records}
-use Rattle.recover.specs.Tally.{FreesHeld, acts_of}
+use Rattle.live_logs.specs.Tally.{FreesHeld, acts_of}
 use Rattle.recover.specs.Dropping.{whole_sections, settled_sections, live_sections}
 use Rattle.recover.specs.Live.{nothing_live, IsLiveOf, IsLiveIn}
-use Rattle.recover.proofs.LogLemmas.{records_past}
+use Rattle.live_logs.proofs.LaneLemmas.{records_past}
 
 -- a section that has ended has a record, and so has a monitor that is held
 pub counted_short : (acts : List Action) → FreesHeld acts → ended acts + length (holding acts) ≤ length acts

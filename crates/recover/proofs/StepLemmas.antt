@@ -19,16 +19,17 @@ use Rattle.image.specs.declared.lane_row.LaneRow.{LaneRow}
 use Rattle.undo_log.specs.Area.{IsLoggable}
 use Rattle.undo_log.specs.StandsFor.{row_of}
 use Rattle.recover.specs.declared.live_sections.LiveSections.{LiveSections}
-use Rattle.recover.specs.declared.step.Step.{Step}
+use Rattle.live_logs.specs.declared.step.Step.{Step}
 use Rattle.recover.specs.Logs.{records_of, lanes_of, AreLoggable}
-use Rattle.recover.specs.Replay.{Replays}
-use Rattle.recover.specs.Tables.{log_of}
-use Rattle.recover.specs.Tally.{acts_of}
+use Rattle.live_logs.specs.Replay.{Replays}
+use Rattle.live_logs.specs.Tables.{log_of}
+use Rattle.live_logs.specs.Tally.{acts_of}
 use Rattle.recover.specs.Dropping.{acts_in}
 use Rattle.recover.specs.Live.{live_at, IsLiveIn, IsGraphOf, IsReady}
-use Rattle.recover.proofs.LogLemmas.{records_past, row_is}
-use Rattle.recover.proofs.FirstLemmas.{All-reverse}
-use Rattle.recover.proofs.ReplayLemmas.{is_there}
+use Rattle.recover.proofs.LogLemmas.{row_is}
+use Rattle.live_logs.proofs.LaneLemmas.{records_past}
+use Rattle.live_logs.proofs.FirstLemmas.{All-reverse}
+use Rattle.live_logs.proofs.ReplayLemmas.{is_there}
 use Rattle.recover.proofs.PushingLemmas.{lane_acts, log_parts, log_step, ended_short}
 use Rattle.recover.proofs.LiveLemmas.{acts_long, row_past}
 

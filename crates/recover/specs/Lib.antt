@@ -1,10 +1,5 @@
 pub mod Logs
-pub mod Replay
-pub mod First
-pub mod Tables
 pub mod Settled
-pub mod Tally
-pub mod Crossings
 pub mod Reading
 pub mod Putting
 pub mod Ending

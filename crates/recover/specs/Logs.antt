@@ -1,5 +1,5 @@
 -- The lanes' live records, as they were read.
-use Rattle.std.specs.Prelude.{ℕ, ◌≡◌, ◌<◌, ◌+◌, All, List, [], length, map, reverse, slice_index_or, Vec}
+use Rattle.std.specs.Prelude.{ℕ, ◌≡◌, ◌<◌, ◌+◌, All, List, length, Vec}
 use Rattle.std.specs.declared.alloc.Global.{Global}
 use Rattle.heap_model.specs.declared.ids.Lane.{Lane}
 use Rattle.heap_model.specs.declared.record.UndoRecord.{UndoRecord}
@@ -9,16 +9,9 @@ use Rattle.image.specs.declared.guard_row.GuardRow.{GuardRow}
 use Rattle.undo_log.specs.Area.{HasRecord, IsLoggable}
 use Rattle.undo_log.specs.Runs.{IsFull}
 use Rattle.undo_log.specs.StandsFor.{row_of, guard_in, HasLive}
+pub use Rattle.live_logs.specs.Logs.{records_of, lanes_of}
 use Rattle.recover.specs.declared.error.RecoverError.{RecoverError}
 use Rattle.recover.specs.declared.error.RecoverError.TheVariants.{Fault, BadRecord, NoMemory}
-
--- a lane's records, the oldest first; none where there is no such lane
-abbrev pub records_of : List (Vec UndoRecord Global) → (lane : ℕ) → List UndoRecord
-records_of logs l = slice_index_or (map (λ v. v.items) logs) l []
-
--- the lanes' records, the newest first
-abbrev pub lanes_of : List (Vec UndoRecord Global) → (lane : ℕ) → List UndoRecord
-lanes_of logs l = reverse (records_of logs l)
 
 -- these are the lanes' live records of the image
 pub record AreLogs (l : Layout) (image : List ℕ) (rows : List LaneRow) (logs : List (Vec UndoRecord Global)) : Type 0 where

@@ -1,68 +1,38 @@
--- The acknowledged sections of the lanes' live records: those before the place up to which a lane is settled (this
--- project's own). Lists have their newest element first; places count from a lane's first live record.
-use Rattle.std.specs.Prelude.{ℕ, ◌≡◌, ◌+◌, ◌<◌, ◌≤◌, ◌⊎◌, List, [], ◌∷◌, length, map, take, reverse}
-use Rattle.heap_model.specs.Sections.{Frees, undo_action, holding, ended}
-use Rattle.heap_model.specs.declared.ids.ObjectId.{ObjectId}
+-- The acknowledged sections of an image's live records, by the rows of its control (this project's own). Lists have their
+-- newest element first; a place is one of the image, and counts the lane's records since the heap was opened.
+use Rattle.std.specs.Prelude.{ℕ, ◌≡◌, ◌+◌, List}
 use Rattle.heap_model.specs.declared.record.UndoRecord.{UndoRecord}
-use Rattle.heap_model.specs.declared.record.UndoRecord.TheVariants.{Acq}
 use Rattle.image.specs.declared.lane_row.LaneRow.{LaneRow}
 use Rattle.undo_log.specs.StandsFor.{row_of, settled_of}
+use Rattle.live_logs.specs.Replay.{Replays, IsStuckAt}
+use Rattle.live_logs.specs.Settled as logs
+pub use Rattle.live_logs.specs.Settled.{first_of, HasAt, TakesUnsettled, IsLeastUnsettled}
 use Rattle.recover.specs.declared.error.RecoverError.{RecoverError}
 use Rattle.recover.specs.declared.error.RecoverError.TheVariants.{IllegalLog, NoMemory}
-use Rattle.recover.specs.Replay.{Replays, IsStuckAt}
 
--- the first n records
-abbrev pub first_of : ℕ → List UndoRecord → List UndoRecord
-first_of n records = reverse (take n (reverse records))
+-- how many sections of the lane the control keeps
+abbrev pub kept_of : List LaneRow → (lane : ℕ) → ℕ
+kept_of rows l = (row_of rows l).kept
 
 -- the lane's records before the place up to which it is settled
 abbrev pub settled_records : List LaneRow → (lanes : ℕ → List UndoRecord) → (lane : ℕ) → List UndoRecord
-settled_records rows lanes l = first_of (settled_of rows l) (lanes l)
+settled_records rows lanes l = logs.settled_records (settled_of rows) lanes l
 
 -- the lane is settled up to a place where it holds nothing, and no more sections ended before it than the control keeps
-pub record IsAtRest (rows : List LaneRow) (lanes : ℕ → List UndoRecord) (l : ℕ) : Type 0 where
-  pub free : holding (map undo_action (settled_records rows lanes l)) ≡ []
-  pub kept : ended (map undo_action (settled_records rows lanes l)) ≤ (row_of rows l).kept
-
--- the list has this record, which so many come before
-abbrev pub HasAt : List UndoRecord → (place : ℕ) → UndoRecord → Type 0
-HasAt [] i r = ⊥
-HasAt (x ∷ older) i r = ((x ≡ r) × (i ≡ length older)) ⊎ HasAt older i r
-
--- The lane's record at this place, which is settled, takes what one that isn't settled freed: an acknowledged section
--- depends on one that isn't.
-pub record TakesUnsettled (settled : ℕ → ℕ) (lanes : ℕ → List UndoRecord) (l i : ℕ) : Type 0 where
-  pub object : ObjectId
-  pub number : ℕ
-  pub took : HasAt (lanes l) i (Acq object (number + 1))
-  pub inside : i < settled l
-  pub lane : ℕ
-  pub place : ℕ
-  pub release : UndoRecord
-  pub had : HasAt (lanes lane) place release
-  pub freed : undo_action release ≡ Frees object.0 number
-  pub outside : settled lane ≤ place
-
--- that is the least lane with such a record, and its first
-pub record IsLeastUnsettled (settled : ℕ → ℕ) (lanes : ℕ → List UndoRecord) (l i : ℕ) : Type 0 where
-  pub takes : TakesUnsettled settled lanes l i
-  pub least : (m j : ℕ) → TakesUnsettled settled lanes m j → (l < m) ⊎ ((l ≡ m) × (i ≤ j))
+abbrev pub IsAtRest : List LaneRow → (lanes : ℕ → List UndoRecord) → (lane : ℕ) → Type 0
+IsAtRest rows lanes l = logs.IsAtRest (settled_of rows) (kept_of rows) lanes l
 
 -- that is the least lane that isn't at rest
-pub record IsLeastRestless (rows : List LaneRow) (lanes : ℕ → List UndoRecord) (l : ℕ) : Type 0 where
-  pub restless : IsAtRest rows lanes l → ⊥
-  pub least : (m : ℕ) → m < l → IsAtRest rows lanes m
+abbrev pub IsLeastRestless : List LaneRow → (lanes : ℕ → List UndoRecord) → (lane : ℕ) → Type 0
+IsLeastRestless rows lanes l = logs.IsLeastRestless (settled_of rows) (kept_of rows) lanes l
 
 -- the logs are those of a legal list, and each lane is at rest where it is settled
-pub record AreAtRest (guard : ℕ → ℕ) (rows : List LaneRow) (lanes : ℕ → List UndoRecord) : Type 0 where
-  pub done : List (ℕ × UndoRecord)
-  pub replays : Replays guard lanes done
-  pub rest : (l : ℕ) → IsAtRest rows lanes l
+abbrev pub AreAtRest : (guard : ℕ → ℕ) → List LaneRow → (lanes : ℕ → List UndoRecord) → Type 0
+AreAtRest guard rows lanes = logs.AreAtRest guard (settled_of rows) (kept_of rows) lanes
 
 -- what no test of the logs refuses: they are those of a legal list, with whole acknowledged sections that depend on none but such
-pub record AreLegal (guard : ℕ → ℕ) (rows : List LaneRow) (lanes : ℕ → List UndoRecord) : Type 0 where
-  pub logs : AreAtRest guard rows lanes
-  pub inside : (l i : ℕ) → TakesUnsettled (settled_of rows) lanes l i → ⊥
+abbrev pub AreLegal : (guard : ℕ → ℕ) → List LaneRow → (lanes : ℕ → List UndoRecord) → Type 0
+AreLegal guard rows lanes = logs.AreLegal guard (settled_of rows) (kept_of rows) lanes
 
 -- which place each of the three tests names, in their order: where the replay is stuck; the place up to which the least
 -- restless lane is settled; the first acquire from outside

@@ -1,38 +1,26 @@
-//! Whether lanes' live records are logs that threads can have left.
-ghost use Rattle.std.specs.Prelude.{◌≡◌, All, IfOk, MatchResult};
+//! Whether an image's live records are logs that threads can have left.
+ghost use Rattle.std.specs.Prelude.{◌≡◌, ◌-◌, ◌<◌, ◌≤◌, ℕ, All, IfErr, IfOk, MatchResult, length};
 ghost use Rattle.image.specs.Control.{AreRows};
 ghost use Rattle.image.specs.Layout.{IsLayout};
-ghost use Rattle.undo_log.specs.StandsFor.{guard_in};
+ghost use Rattle.undo_log.specs.StandsFor.{guard_in, settled_of};
+ghost use Rattle.live_logs.specs.Logs.{guard_in as guard_among, count_of};
+ghost use Rattle.live_logs.specs.Replay.{Replays};
+ghost use Rattle.live_logs.specs.Tables.{IsLow, log_of};
 ghost use Rattle.recover.specs.Logs.{AreGuards, AreLoggable, lanes_of};
-ghost use Rattle.recover.specs.Replay.{Replays};
-ghost use Rattle.recover.specs.Settled.{AreLegal, RefusesLegal};
-ghost use Rattle.recover.specs.Tables.{IsLow, log_of};
+ghost use Rattle.recover.specs.Settled.{AreLegal, RefusesLegal, kept_of};
+ghost use Rattle.recover.specs.declared.error.RecoverError.TheVariants.{NoMemory};
 
 use crate::error::RecoverError;
-use crate::replay::replay;
-use crate::settled::least_restless;
-use crate::step::Step;
-use crate::walk::least_crossing;
-use heap_model::UndoRecord;
+use heap_model::{ObjectId, UndoRecord};
 use image::{GuardRow, LaneRow, Layout};
+use live_logs::{LogsError, SettledCount, Step};
 use std::alloc::Global;
 
 /// Tests the lanes' live records, which are those of an image with these guard rows and these rows of its control, and
 /// answers them in the order in which they were replayed, the oldest first.
 ///
-/// `IllegalLog` comes from three tests, in this order:
-/// - The records are replayed from all monitors free, each object's number being the least at which a live record takes
-///   it. A lane takes a free object at its number, frees one that it holds from that number, which raises it by one, and
-///   stores to a field whose guard it holds; after a wait's release it takes the same object again. Again and again the
-///   least lane that can go on does its next record. Where none can and records are left, the refusal names the least
-///   lane with one left, and its first one's place.
-/// - A lane is settled up to a place where it holds something, or keeps fewer sections than ended between `start` and
-///   there: the least such lane, and that place.
-/// - A settled record takes what one that isn't settled freed: the least lane with such a record, and its first one's
-///   place.
-///
-/// `NoMemory` comes where there is no room for the replay. The time is linear in the records, for each of which the lanes
-/// are looked at once.
+/// `IllegalLog` comes from the three tests of [`live_logs::check_logs`], in their order, with the place of the image that
+/// each names. `NoMemory` comes where there is no room for the guards or for the replay.
 pub fn check_logs(
     alloc: Global,
     layout: &Layout,
@@ -48,18 +36,50 @@ pub fn check_logs(
     ensures replays { IfOk result (λ steps. Replays (guard_in guards.now) (lanes_of logs.now) (log_of steps.items)) }
     ensures low { IfOk result (λ steps. All IsLow steps.items) }
 {
-    let steps = replay(alloc, guards, rows, logs)?;
-    if let Some(lane) = least_restless(rows, logs) {
-        return Err(RecoverError::IllegalLog {
+    let objects = guarding_objects(alloc, guards)?;
+    match live_logs::check_logs(alloc, &objects, &settled_counts(rows), logs) {
+        Ok(steps) => Ok(steps),
+        Err(LogsError::IllegalLog { lane, place }) => Err(RecoverError::IllegalLog {
             lane,
-            place: rows[usize::from(lane.0)].settled,
-        });
+            place: rows[usize::from(lane.0)].start + place,
+        }),
+        Err(LogsError::NoMemory) => Err(RecoverError::NoMemory),
     }
-    if let Some(found) = least_crossing(rows, &steps) {
-        return Err(RecoverError::IllegalLog {
-            lane: found.lane,
-            place: rows[usize::from(found.lane.0)].start + found.place as u64,
-        });
+}
+
+// By field: the object that guards it.
+fn guarding_objects(alloc: Global, guards: &[GuardRow]) -> Result<Vec<ObjectId>, RecoverError>
+    ensures ok { IfOk result (λ objects. (f : ℕ) → guard_among objects.items f ≡ guard_in guards.now f) }
+    ensures no_other { IfErr result (λ e. e ≡ NoMemory) }
+{
+    let Ok(mut objects) = Vec::with_capacity(alloc, guards.len()) else {
+        return Err(RecoverError::NoMemory);
+    };
+    for row in guards {
+        objects.push_reserved(row.guard);
     }
-    Ok(steps)
+    Ok(objects)
+}
+
+// By lane: how many of its live records are settled, and how many sections the control keeps.
+fn settled_counts(rows: &[LaneRow; 32]) -> [SettledCount; 32]
+    ensures { (l : ℕ) → count_of result l ≡ record { records = settled_of rows.now l; sections = kept_of rows.now l } }
+{
+    let mut counts = [SettledCount {
+        records: 0,
+        sections: 0,
+    }; 32];
+    for lane in 0..32 {
+        counts[lane] = settled_count(rows[lane]);
+    }
+    counts
+}
+
+fn settled_count(row: LaneRow) -> SettledCount
+    ensures { result ≡ record { records = row.settled - row.start; sections = row.kept } }
+{
+    SettledCount {
+        records: row.settled.saturating_sub(row.start) as usize,
+        sections: row.kept,
+    }
 }

@@ -6,9 +6,9 @@ ghost use Rattle.image.specs.Control.{AreRows};
 ghost use Rattle.image.specs.Layout.{IsLayout};
 ghost use Rattle.undo_log.specs.StandsFor.{guard_in};
 ghost use Rattle.recover.specs.Logs.{AreGuards, AreLoggable, lanes_of};
-ghost use Rattle.recover.specs.Replay.{Replays};
+ghost use Rattle.live_logs.specs.Replay.{Replays};
 ghost use Rattle.recover.specs.Settled.{AreLegal};
-ghost use Rattle.recover.specs.Tables.{log_of};
+ghost use Rattle.live_logs.specs.Tables.{log_of};
 ghost use Rattle.recover.specs.Dropping.{AreDropped, IsWhy, IsEntryOf, sections_after};
 ghost use Rattle.recover.specs.Live.{IsReady, AreReported, live_at, trimmed_at};
 ghost use Rattle.recover.specs.declared.error.RecoverError.TheVariants.{NoMemory};
@@ -18,10 +18,10 @@ use crate::graph_of::graph_of;
 use crate::live_counts::live_counts;
 use crate::live_sections::LiveSections;
 use crate::report::{Dropped, Why};
-use crate::step::Step;
 use dependence::Graph;
 use heap_model::{Lane, UndoRecord};
 use image::{GuardRow, LaneRow, Layout};
+use live_logs::Step;
 use std::alloc::Global;
 
 /// The sections that recovery drops, by lane and then by number: each live one that isn't settled, with the reason.

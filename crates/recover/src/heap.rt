@@ -7,15 +7,15 @@ ghost use Rattle.undo_log.specs.OldValues.{TakesBack, IsUnsettled};
 ghost use Rattle.undo_log.specs.StandsFor.{guard_in, settled_of};
 ghost use Rattle.recover.specs.Heap.{AreFields, IsOldOrHome, IsUndone, RefusesHeap, earlier, first_old, stored};
 ghost use Rattle.recover.specs.Logs.{lanes_of};
-ghost use Rattle.recover.specs.Replay.{Replays};
-ghost use Rattle.recover.specs.Tables.{IsLow, log_of};
+ghost use Rattle.live_logs.specs.Replay.{Replays};
+ghost use Rattle.live_logs.specs.Tables.{IsLow, log_of};
 ghost use Rattle.recover.specs.declared.error.RecoverError.TheVariants.{Fault, NoMemory};
 
 use crate::error::RecoverError;
-use crate::step::Step;
 use block_disk::Disk;
 use heap_model::{FieldId, Lane, UndoRecord};
 use image::{GuardRow, LaneRow, Layout, get_cell};
+use live_logs::Step;
 use std::alloc::Global;
 
 /// What a replayed image stands for.

@@ -7,35 +7,28 @@
 #![tactic(auto)]
 
 mod check;
-mod crossings;
 mod device;
 mod dropping;
 mod ending;
 mod error;
 mod findings;
-mod first_numbers;
 mod front;
 mod graph_of;
 mod heap;
-mod lanes;
 mod laws;
 mod live_counts;
 mod live_sections;
 mod logged_image;
 mod logs;
-mod monitors;
 mod putting;
 mod reading;
 mod recovering;
-mod replay;
 mod replayed;
 mod report;
-mod rules;
-mod settled;
-mod step;
 mod studied;
 mod studying;
 mod walk;
+mod whole_run;
 
 pub use error::RecoverError;
 pub use laws::{one_study_law, same_heap_law};

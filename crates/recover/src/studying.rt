@@ -6,9 +6,9 @@ ghost use Rattle.undo_log.specs.StandsFor.{StandsFor, guard_in, row_of};
 ghost use Rattle.recover.specs.Heap.{RefusesHeap};
 ghost use Rattle.recover.specs.Logs.{lanes_of};
 ghost use Rattle.recover.specs.Reading.{HasControl, Holds, RefusesImage, RefusesLive};
-ghost use Rattle.recover.specs.Replay.{Replays};
+ghost use Rattle.live_logs.specs.Replay.{Replays};
 ghost use Rattle.recover.specs.Study.{AreUndone, IsReportOf, IsStudyOf};
-ghost use Rattle.recover.specs.Tables.{IsLow, log_of};
+ghost use Rattle.live_logs.specs.Tables.{IsLow, log_of};
 ghost use Rattle.recover.specs.declared.error.RecoverError.TheVariants.{Fault, NoMemory};
 
 use crate::dropping::dropped_sections;
@@ -20,11 +20,11 @@ use crate::logged_image::LoggedImage;
 use crate::reading::{read_front, read_live};
 use crate::replayed::Replayed;
 use crate::report::Report;
-use crate::step::Step;
 use crate::studied::Study;
 use block_disk::Disk;
 use heap_model::{Cut, FieldId};
 use image::LaneRow;
+use live_logs::Step;
 use std::alloc::Global;
 
 /// Studies the image on the device, of which nothing has to be known: what it holds, the heap that it stands for, and

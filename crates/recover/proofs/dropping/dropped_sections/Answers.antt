@@ -10,11 +10,11 @@ use Rattle.undo_log.specs.StandsFor.{row_of, guard_in}
 use Rattle.recover.specs.declared.live_sections.LiveSections.{LiveSections}
 use Rattle.recover.specs.declared.report.Dropped.{Dropped}
 use Rattle.recover.specs.Logs.{lanes_of}
-use Rattle.recover.specs.Tables.{log_of}
+use Rattle.live_logs.specs.Tables.{log_of}
 use Rattle.recover.specs.Dropping.{acts_in, AreEntriesOf, sections_after, settled_sections, trimmed_sections, unsettled_sections}
 use Rattle.recover.specs.Live.{live_at, trimmed_at, IsLiveIn, IsReady, AreReported}
 use Rattle.recover.proofs.LogLemmas.{row_is}
-use Rattle.recover.proofs.SettledLemmas.{lanes_free}
+use Rattle.live_logs.proofs.SettledLemmas.{lanes_free}
 use Rattle.recover.proofs.PushingLemmas.{pushable}
 use Rattle.recover.proofs.LiveLemmas.{row_past, settled_few, whole_few}
 use Rattle.recover.proofs.StepLemmas.{steps_low, steps_named, ready}
