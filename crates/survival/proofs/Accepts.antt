@@ -42,12 +42,12 @@ use Rattle.durable.proofs.Stands.{empty, none_logged, stands, shows_always}
 use Rattle.survival.specs.Accepted.{IsLeftBy, FindsPast}
 use Rattle.recover.specs.Logs.{AreLogs, IsBadAt, lanes_of}
 use Rattle.recover.specs.Reading.{HasLayout, HasControl, RefusesRows, RefusesImage, Holds}
-use Rattle.recover.specs.Replay.{IsStuckAt}
+use Rattle.live_logs.specs.Replay.{IsStuckAt}
 use Rattle.recover.specs.Settled.{first_of, settled_records, IsAtRest, TakesUnsettled, IsIllegalAt, Stuck, Restless, Crossing}
 use Rattle.recover.specs.declared.error.RecoverError.{RecoverError}
 use Rattle.recover.specs.declared.error.RecoverError.TheVariants.{Fault, NotFormatted, BadHeader, TooSmall, NoControl, BadControl, Worn, BadRecord, IllegalLog, NoMemory}
 use Rattle.recover.specs.declared.logged_image.LoggedImage.{LoggedImage}
-use Rattle.recover.proofs.FirstLemmas.{contains_reverse}
+use Rattle.live_logs.proofs.FirstLemmas.{contains_reverse}
 use Rattle.survival.proofs.LaneParts.{lane_map}
 use Rattle.survival.proofs.Blank.{blanks, undone, valueless, blank_legal, holder_blank}
 use Rattle.survival.proofs.Unstuck.{IsGuarded, unstuck}

@@ -15,8 +15,8 @@ use Rattle.heap_model.specs.Log.{lane, holder, number, awaited, MayFollow, IsAll
 use Rattle.heap_model.proofs.Lanes.{lane_append}
 use Rattle.heap_model.proofs.Next.{legal_before, number_rises}
 use Rattle.heap_model.proofs.NextStore.{awaited_in, awaited_is, next_legal}
-use Rattle.recover.specs.Replay as replay
-use Rattle.recover.specs.Replay.{BeginsAt, IsNext, GoesOn, IsGreedy, IsReplay, IsStuckAt}
+use Rattle.live_logs.specs.Replay as replay
+use Rattle.live_logs.specs.Replay.{BeginsAt, IsNext, GoesOn, IsGreedy, IsReplay, IsStuckAt}
 use Rattle.survival.proofs.LaneParts.{lane_own, lane_other, lane_map, Found, found, Within, within, there, contains_more, contains_older, ends_with, same_end}
 use Rattle.survival.proofs.Blank.{blank, blanks, valueless, value_blank}
 
