@@ -9,30 +9,27 @@ ghost use Rattle.heap_model.specs.Cuts.{IsStable, counts_of};
 ghost use Rattle.image.specs.Layout.{IsLayout};
 ghost use Rattle.undo_log.specs.Dropped.{undo_logs, records_in};
 ghost use Rattle.undo_log.specs.StandsFor.{row_of};
-ghost use Rattle.durable.specs.Apply.{Answers};
+ghost use Rattle.store_memory.specs.Apply.{Answers};
 ghost use Rattle.durable.specs.Begin.{HasRows, IsSettingOf};
 ghost use Rattle.durable.specs.Calls.{AnswersHome, HasOpen, IsClean, IsWritten, RefusesApply, RefusesClose, RefusesHome, RefusesLog, RefusesSettle, after_home_step};
-ghost use Rattle.durable.specs.KeptHeap.{StandsForCut, StandsForEither};
-ghost use Rattle.durable.specs.Memory.{lane_in};
-ghost use Rattle.durable.specs.Past.{Past, applied, no_past, after_apply, after_log, after_settle};
-ghost use Rattle.durable.specs.Remembers.{Remembers};
-ghost use Rattle.durable.specs.Sections.{TellsSections};
+ghost use Rattle.store_image.specs.KeptHeap.{StandsForCut, StandsForEither};
+ghost use Rattle.store_memory.specs.Memory.{lane_in};
+ghost use Rattle.store_past.specs.Past.{Past, applied, no_past, after_apply, after_log, after_settle};
+ghost use Rattle.store_memory.specs.Remembers.{Remembers};
+ghost use Rattle.store_memory.specs.Sections.{TellsSections};
 ghost use Rattle.durable.specs.Store.{HasPast, ShowsStep, StandsForStep};
-ghost use Rattle.durable.specs.declared.error.StoreError.TheVariants.{Fault, Worn};
-ghost use Rattle.durable.specs.declared.home.Home.TheVariants.{Done};
+ghost use Rattle.store_past.specs.declared.error.StoreError.TheVariants.{Fault, Worn};
+ghost use Rattle.store_image.specs.declared.home.Home.TheVariants.{Done};
 
-use crate::applied::Applied;
-use crate::committed::Committed;
-use crate::error::StoreError;
-use crate::home::{Home, write_home};
-use crate::logging::log_records;
-use crate::sections::LoggedSections;
-use crate::settling::settle;
+use crate::beginning::fields_of;
 use block_disk::Disk;
 use heap_model::{Cut, FieldId, Lane, Record};
 use image::{GuardRow, LaneRow, Layout, Recovered, RecoveredParts};
 use std::alloc::{AllocError, Global};
 use std::marker::Model;
+use store_image::{Committed, Home, log_records, settle, write_home};
+use store_memory::{Applied, LoggedSections};
+use store_past::StoreError;
 
 /// A heap whose sections survive a crash whole or not at all, on a device of its own.
 ///
@@ -55,7 +52,7 @@ pub struct Store<D: Disk> {
 
 impl<D: Disk> Model for Store<D> {
     ghost use Rattle.heap_model.specs.Setting.{Setting};
-    ghost use Rattle.durable.specs.Past.{Past};
+    ghost use Rattle.store_past.specs.Past.{Past};
     ghost use Rattle.durable.specs.Store.{HasPast, Parts};
 
     ghost Value = { Parts D };
@@ -372,7 +369,15 @@ fn memory(
     ensures logged { IfOk result (λ m. TellsSections m.1 (λ l. 0) []) }
     ensures logged_lanes { IfOk result (λ m. (m.1.lanes ≡ layout.now.lanes) × (m.1.capacity ≡ layout.now.capacity)) }
 {
-    let applied = Applied::new(alloc, layout, guards, heap, last)?;
+    let fields = fields_of(alloc, guards, heap)?;
+    let applied = Applied::new(
+        alloc,
+        layout.lanes,
+        layout.capacity,
+        layout.objects,
+        fields,
+        last,
+    )?;
     let sections = LoggedSections::with_capacity(alloc, layout.lanes, layout.capacity)?;
     Ok((applied, sections))
 }
