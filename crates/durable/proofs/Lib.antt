@@ -7,3 +7,5 @@ pub mod Loggable
 pub mod Storing
 pub mod Playing
 pub mod Ending
+pub mod AllKept
+pub mod Closing

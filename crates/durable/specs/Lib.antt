@@ -2,3 +2,4 @@
 pub mod Begin
 pub mod Store
 pub mod Calls
+pub mod Closed

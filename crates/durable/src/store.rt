@@ -6,12 +6,14 @@ ghost use Rattle.heap_model.specs.Setting.{Setting};
 ghost use Rattle.heap_model.specs.Log.{value as value_of};
 ghost use Rattle.heap_model.specs.Sections.{actions};
 ghost use Rattle.heap_model.specs.Cuts.{IsStable, counts_of};
+ghost use Rattle.image.specs.Cells.{HasCell};
 ghost use Rattle.image.specs.Layout.{IsLayout};
 ghost use Rattle.undo_log.specs.Dropped.{undo_logs, records_in};
-ghost use Rattle.undo_log.specs.StandsFor.{row_of};
+ghost use Rattle.undo_log.specs.StandsFor.{StandsFor, row_of};
 ghost use Rattle.store_memory.specs.Apply.{Answers};
 ghost use Rattle.durable.specs.Begin.{HasRows, IsSettingOf};
 ghost use Rattle.durable.specs.Calls.{AnswersHome, HasOpen, IsClean, IsWritten, RefusesApply, RefusesClose, RefusesHome, RefusesLog, RefusesSettle, after_home_step};
+ghost use Rattle.durable.specs.Closed.{applied_heap};
 ghost use Rattle.store_image.specs.KeptHeap.{StandsForCut, StandsForEither};
 ghost use Rattle.store_memory.specs.Memory.{lane_in};
 ghost use Rattle.store_past.specs.Past.{Past, applied, no_past, after_apply, after_log, after_settle};
@@ -291,9 +293,14 @@ impl<D: Disk> Store<D> {
         self.applied.start(lane)
     }
 
-    /// Its device, to look at.
+    /// Its device, to look at. Until a call has failed, what it reads and what a crash leaves of it stand for the acknowledged
+    /// sections, and for no other cut.
     pub fn disk(&self) -> &D
-        ensures { result.now ≡ self.now.disk }
+        ensures disk { result.now ≡ self.now.disk }
+        ensures at_rest { (s : Setting) (p : Past) → HasPast self.now.known s p (D.device self.now.disk)
+            → self.now.known.has_failed ≡ false → StandsForCut self.now.known.layout s p.logged p.cut (D.device result.now).now.bytes }
+        ensures crash { (s : Setting) (p : Past) → HasPast self.now.known s p (D.device self.now.disk)
+            → self.now.known.has_failed ≡ false → Always (D.device result.now) (StandsForCut self.now.known.layout s p.logged p.cut) }
     {
         &self.disk
     }
@@ -305,12 +312,17 @@ impl<D: Disk> Store<D> {
         self.layout
     }
 
-    /// The device, if nothing is left to do: its home cells are the heap, and all of that is acknowledged.
+    /// The device, if nothing is left to do: its home cells are the heap after all that was applied, all of that is
+    /// acknowledged, and whatever a crash leaves stands for it.
     ///
     /// Refusals, in this order: `Failed`; `Unfinished`: a lane holds a monitor; `Unwritten`: a record isn't logged, a field is
     /// dirty, or a logged section that has ended isn't acknowledged. After a refusal the store is given back as it was.
     pub fn close(self) -> Result<D, (Store<D>, StoreError)>
         ensures ok { (s : Setting) (p : Past) → HasPast self.known s p (D.device self.disk) → OnOk result ((self.known.has_failed ≡ false) × (¬ HasOpen p) × IsWritten s p) }
+        ensures home { (s : Setting) (p : Past) → HasPast self.known s p (D.device self.disk)
+            → IfOk result (λ disk. (f : ℕ) → f < self.known.layout.fields → HasCell self.known.layout f (D.device disk).now.bytes (value_of s.first f (applied p))) }
+        ensures stands { (s : Setting) (p : Past) → HasPast self.known s p (D.device self.disk)
+            → IfOk result (λ disk. Always (D.device disk) (λ image. StandsFor self.known.layout image (applied_heap self.known.layout s p))) }
         ensures disk { IfOk result (λ disk. disk ≡ self.disk) }
         ensures refused { (s : Setting) (p : Past) → HasPast self.known s p (D.device self.disk) → IfErr result (λ back. RefusesClose self.known s p back.1) }
         ensures back { IfErr result (λ back. back.0 ≡ self) }
@@ -347,6 +359,8 @@ impl<D: Disk> Store<D> {
         ensures disk { result ≡ self.disk }
         ensures shown { (s : Setting) (p : Past) → HasPast self.known s p (D.device self.disk) → Always (D.device result) (ShowsStep self.known.layout s p) }
         ensures crash { (s : Setting) (p : Past) → HasPast self.known s p (D.device self.disk) → Always (D.device result) (StandsForStep self.known.layout s p) }
+        ensures at_rest { (s : Setting) (p : Past) → HasPast self.known s p (D.device self.disk)
+            → self.known.has_failed ≡ false → Always (D.device result) (StandsForCut self.known.layout s p.logged p.cut) }
     {
         self.disk
     }
