@@ -1,22 +1,56 @@
 -- The past that a store begins with.
-use Rattle.std.proofs.Common.{ℕ, ◌≡◌, ◌≤◌, false, List, [], length, sym, subst, arith}
+use Rattle.std.proofs.Common.{ℕ, ◌≡◌, ◌<◌, ◌≤◌, false, List, [], length, slice_index, slice_index_or, refl, sym, ap, ◌∙◌, subst, arith}
+use Rattle.std.proofs.lemmas.List.{get_or_default}
 use Rattle.heap_model.specs.Setting.{Setting}
 use Rattle.block_disk.specs.Device.{Device}
 use Rattle.image.specs.Recovered.{IsRecovered}
 use Rattle.image.specs.declared.guard_row.GuardRow.{GuardRow}
 use Rattle.image.specs.declared.layout.Layout.{Layout}
 use Rattle.image.specs.declared.slot.Slot.{Slot}
-use Rattle.durable.specs.Past.{no_past}
+use Rattle.store_past.specs.Past.{no_past}
+use Rattle.store_memory.specs.Begin.{AreFieldsOf}
 use Rattle.durable.specs.Begin.{HasRows, IsSettingOf}
-use Rattle.durable.specs.Consistent.{IsConsistent}
-use Rattle.durable.specs.Memory.{Memory, lane_in}
-use Rattle.durable.specs.Remembers.{Remembers}
-use Rattle.durable.specs.Sections.{Logged, TellsSections}
+use Rattle.store_image.specs.Consistent.{IsConsistent}
+use Rattle.store_memory.specs.declared.states.FieldState.{FieldState}
+use Rattle.store_memory.specs.Memory.{Memory, field_in, lane_in, guard_in}
+use Rattle.store_memory.specs.Remembers.{Remembers}
+use Rattle.store_memory.specs.Sections.{Logged, TellsSections}
 use Rattle.durable.specs.Store.{HasPast, Shows}
-use Rattle.durable.specs.declared.committed.Committed.{Committed}
-use Rattle.durable.proofs.Begins.{no_row, setting_of, setting_is}
+use Rattle.store_image.specs.declared.committed.Committed.{Committed}
 use Rattle.durable.proofs.Begun.{begins, empty_committed}
-use Rattle.durable.proofs.Stands.{shows_always}
+use Rattle.store_image.proofs.Stands.{shows_always}
+
+-- a row that nobody reads
+abbrev pub no_row : GuardRow
+no_row = record { guard = record { 0 = 0 }; owner = record { 0 = 0 }; first = 0 }
+
+-- the setting that a layout, guard rows and values make
+abbrev pub setting_of : Layout → List GuardRow → List ℕ → (last : ℕ) → Setting
+setting_of l rows heap last = record { objects = l.objects; fields = l.fields; guard = λ f. (slice_index_or rows f no_row).guard.0; first = λ f. slice_index heap f; last = last }
+
+pub setting_is : (l : Layout) (rows : List GuardRow) (heap : List ℕ) (last : ℕ) → HasRows l rows → IsSettingOf l rows heap last (setting_of l rows heap last)
+setting_is l rows heap last has = record {
+  objects = refl;
+  fields = refl;
+  guards = λ f d low. ap (λ (r : GuardRow). r.guard.0) (get_or_default rows f d no_row (omega (arith, has.size)));
+  values = λ f low. refl;
+  last_is = refl;
+}
+
+-- the fields that the rows and values make
+module _ (l : Layout) (rows : List GuardRow) (heap : List ℕ) (fields : List FieldState) (has : HasRows l rows) (size : length fields ≡ length rows)
+    (guards : (f : ℕ) (d : GuardRow) → f < length rows → (field_in fields f).guard ≡ (slice_index_or rows f d).guard) where
+  pub are_fields : (last : ℕ) (s : Setting) → ((f : ℕ) → f < length rows → (field_in fields f).value ≡ slice_index heap f) → IsSettingOf l rows heap last s → AreFieldsOf l.objects fields last s
+  are_fields last s values set = record {
+    objects = set.objects;
+    size = set.fields ∙ sym has.size ∙ sym size;
+    guards = λ f low. ap (λ o. o.0) (guards f no_row (omega (arith, size))) ∙ set.guards f no_row (omega (arith, size, has.size));
+    values = λ f low. values f (omega (arith, size)) ∙ set.values f (omega (arith, size, has.size));
+    last_is = set.last_is;
+  }
+
+  pub are_named : (f : ℕ) → f < length fields → guard_in fields f < l.objects
+  are_named f low = subst (λ n. n < l.objects) (sym (ap (λ o. o.0) (guards f no_row (omega (arith, size))))) (has.named f no_row (omega (arith, size, has.size)))
 
 -- what is recovered has a row for each field
 pub rows_recovered : (l : Layout) (d : Device) (rows : List GuardRow) (slot : Slot) (sequence : ℕ) (heap : List ℕ) → IsRecovered d l rows slot sequence heap → HasRows l rows

@@ -20,9 +20,9 @@ use Rattle.image.specs.declared.layout.Layout.{Layout}
 use Rattle.image.specs.declared.slot.Slot.{Slot}
 use Rattle.image.proofs.Commits.{steady_now}
 use Rattle.undo_log.specs.StandsFor.{guard_in}
-use Rattle.durable.specs.Past.{Past, IsPast, applied, no_past, after_apply}
-use Rattle.durable.specs.Consistent.{HasParts, IsConsistent}
-use Rattle.durable.specs.declared.committed.Committed.{Committed}
+use Rattle.store_past.specs.Past.{Past, IsPast, applied, no_past, after_apply}
+use Rattle.store_image.specs.Consistent.{HasParts, IsConsistent}
+use Rattle.store_image.specs.declared.committed.Committed.{Committed}
 
 -- the control of a device as recovery leaves it: nothing in any log
 abbrev pub empty_committed : Slot → (sequence : ℕ) → Committed

@@ -12,16 +12,16 @@ use Rattle.heap_model.specs.Plain.{log_from}
 use Rattle.heap_model.specs.Sections.{actions, ended}
 use Rattle.block_disk.specs.Device.{Device}
 use Rattle.undo_log.specs.StandsFor.{row_of}
-use Rattle.durable.specs.Begin.{IsLeastDirtyOf}
+use Rattle.store_memory.specs.Begin.{IsLeastDirtyOf}
 use Rattle.durable.specs.Calls.{HasOpen, IsClean}
-use Rattle.durable.specs.declared.states.LaneState.{LaneState}
-use Rattle.durable.specs.Memory.{Memory, new_lane}
-use Rattle.durable.specs.Past.{Past}
-use Rattle.durable.specs.Remembers.{held_of, Remembers}
+use Rattle.store_memory.specs.declared.states.LaneState.{LaneState}
+use Rattle.store_memory.specs.Memory.{Memory, new_lane}
+use Rattle.store_past.specs.Past.{Past}
+use Rattle.store_memory.specs.Remembers.{held_of, Remembers}
 use Rattle.durable.specs.Store.{Known, HasPast}
-use Rattle.durable.proofs.Begins.{none_held}
-use Rattle.durable.proofs.SectionLaws.{none_past}
-use Rattle.durable.proofs.Stands.{empty}
+use Rattle.store_memory.proofs.Begins.{none_held}
+use Rattle.store_memory.proofs.SectionLaws.{none_past}
+use Rattle.store_image.proofs.Stands.{empty}
 
 -- one of the first lanes holds a monitor, or none does
 some_or_none : (p : Past) (n : ℕ) → HasOpen p ⊎ ((l : ℕ) → l < n → held_of p l ≡ 0)

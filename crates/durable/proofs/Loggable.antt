@@ -12,7 +12,7 @@ use Rattle.image.specs.Layout.{IsLayout}
 use Rattle.image.specs.declared.layout.Layout.{Layout}
 use Rattle.undo_log.specs.Area.{IsLoggable}
 use Rattle.undo_log.specs.Dropped.{undo_logs}
-use Rattle.durable.specs.Limits.{FitsWord, FitWords}
+use Rattle.store_memory.specs.Limits.{FitsWord, FitWords}
 use Rattle.durable.specs.Store.{FitsImage}
 
 -- an object that is held was taken below the last number

@@ -4,9 +4,9 @@ use Rattle.heap_model.specs.declared.record.Record.{Record}
 use Rattle.heap_model.specs.Setting.{Setting}
 use Rattle.heap_model.specs.Log.{IsLegal}
 use Rattle.heap_model.specs.Laws.{StayLaw}
-use Rattle.durable.specs.Past.{Past, IsPast, applied, after_apply, after_log, after_home, after_settle}
-use Rattle.durable.specs.Memory.{Memory}
-use Rattle.durable.specs.Remembers.{Remembers}
+use Rattle.store_past.specs.Past.{Past, IsPast, applied, after_apply, after_log, after_home, after_settle}
+use Rattle.store_memory.specs.Memory.{Memory}
+use Rattle.store_memory.specs.Remembers.{Remembers}
 
 pub past_apply : (s : Setting) (p : Past) (l : ℕ) (r : Record) → IsPast s p → IsLegal s (applied (after_apply p l r)) → IsPast s (after_apply p l r)
 past_apply s p l r was legal = record { legal = legal; within = was.within; base_whole = was.base_whole; base_closed = was.base_closed; whole = was.whole; closed = was.closed }

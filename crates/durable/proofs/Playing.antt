@@ -11,13 +11,13 @@ use Rattle.block_disk.specs.Device.{Device, HasCause, HasFailed}
 use Rattle.block_disk.specs.Images.{LeavesOnly}
 use Rattle.block_disk.proofs.Failures.{failed_since}
 use Rattle.block_disk.proofs.Images.{and_then, begin, weaker}
-use Rattle.durable.specs.declared.error.StoreError.{StoreError}
-use Rattle.durable.specs.declared.error.StoreError.TheVariants.{Fault}
+use Rattle.store_past.specs.declared.error.StoreError.{StoreError}
+use Rattle.store_past.specs.declared.error.StoreError.TheVariants.{Fault}
 use Rattle.durable.specs.declared.store_call.StoreCall.{StoreCall}
 use Rattle.durable.specs.declared.store_call.StoreCall.TheVariants.{Apply, Settle}
-use Rattle.durable.specs.Fresh.{IsOfLanes}
+use Rattle.store_memory.specs.Fresh.{IsOfLanes}
 use Rattle.durable.specs.Calls.{AreQuiet, IsClean, IsQuiet, MakeAll, Makes, RefusesApply, RefusesSettle, RefusesCall, ShowsAfterSome, StandsAfterSome, StoppedAt}
-use Rattle.durable.specs.Past.{Past, applied, after_apply, after_settle}
+use Rattle.store_past.specs.Past.{Past, applied, after_apply, after_settle}
 use Rattle.durable.specs.Store.{Known, HasPast, ShowsStep, StandsForStep}
 use Rattle.durable.proofs.Showing.{past_stands}
 

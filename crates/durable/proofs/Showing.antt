@@ -12,13 +12,13 @@ use Rattle.block_disk.specs.Device.{Device}
 use Rattle.image.specs.declared.layout.Layout.{Layout}
 use Rattle.undo_log.specs.Dropped.{undo_logs}
 use Rattle.undo_log.specs.StandsFor.{StandsFor}
-use Rattle.durable.specs.Past.{Past, IsPast, applied, after_log, after_settle}
-use Rattle.durable.specs.Fresh.{IsOfLanes}
-use Rattle.durable.specs.KeptHeap.{kept_heap, StandsForCut}
+use Rattle.store_past.specs.Past.{Past, IsPast, applied, after_log, after_settle}
+use Rattle.store_memory.specs.Fresh.{IsOfLanes}
+use Rattle.store_image.specs.KeptHeap.{kept_heap, StandsForCut}
 use Rattle.durable.specs.Store.{Known, HasPast, ShowsStep, Shows, ShowsLogged, ShowsSettled, StandsForStep, Stands, StandsSettled}
-use Rattle.durable.proofs.Growing.{kept_grown}
+use Rattle.store_image.proofs.Growing.{kept_grown}
 use Rattle.durable.proofs.Pasts.{past_log}
-use Rattle.durable.proofs.Stands.{same_heap, stands}
+use Rattle.store_image.proofs.Stands.{same_heap, stands}
 
 -- a lane beyond those of the records has none
 pub lane_beyond : (n l : ℕ) (log : List (ℕ × Record)) → IsOfLanes n log → n ≤ l → lane l log ≡ []

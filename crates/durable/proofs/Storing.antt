@@ -20,33 +20,34 @@ use Rattle.block_disk.specs.Images.{Always, LeavesOnly}
 use Rattle.block_disk.proofs.Images.{always_weaker, now_too, weaker}
 use Rattle.image.specs.declared.layout.Layout.{Layout}
 use Rattle.undo_log.specs.Area.{IsLoggable}
-use Rattle.undo_log.specs.Dropped.{undo_logs, records_in}
+use Rattle.undo_log.specs.Dropped.{undo_logs}
 use Rattle.undo_log.specs.StandsFor.{row_of}
 use Rattle.undo_log.proofs.Back.{length_undo}
-use Rattle.durable.specs.Consistent.{ShowsPast, ShowsEither, IsConsistent}
-use Rattle.durable.specs.Fresh.{IsOfLanes, undo_log_of}
-use Rattle.durable.specs.Limits.{AreWithin, FitWords}
-use Rattle.durable.specs.Memory.{Memory, KeepsLayout, lane_in}
-use Rattle.durable.specs.NewRecords.{FitsLane}
-use Rattle.durable.specs.Past.{Past, after_apply, after_log, after_home, after_settle}
-use Rattle.durable.specs.Remembers.{Remembers}
-use Rattle.durable.specs.Sections.{Logged, TellsSections, MayBeLogged}
-use Rattle.durable.specs.Apply.{Answers}
-use Rattle.durable.specs.Begin.{IsLeastDirtyOf}
+use Rattle.store_image.specs.Consistent.{ShowsPast, ShowsEither, IsConsistent}
+use Rattle.store_memory.specs.Fresh.{IsOfLanes, undo_log_of}
+use Rattle.store_memory.specs.Limits.{AreWithin, FitWords}
+use Rattle.store_memory.specs.Memory.{Memory, KeepsLayout, lane_in}
+use Rattle.store_image.specs.NewRecords.{FitsLane}
+use Rattle.store_past.specs.Past.{Past, after_apply, after_log, after_home, after_settle}
+use Rattle.store_memory.specs.Remembers.{Remembers}
+use Rattle.store_memory.specs.Sections.{Logged, place_behind, TellsSections, MayBeLogged}
+use Rattle.store_memory.specs.Apply.{Answers}
+use Rattle.store_memory.specs.Begin.{IsLeastDirtyOf}
 use Rattle.durable.specs.Calls.{HasDirty, IsClean, RefusesApply, RefusesLog, RefusesSettle}
-use Rattle.durable.specs.declared.error.StoreError.{StoreError}
-use Rattle.durable.specs.declared.error.StoreError.TheVariants.{Failed, BadLane, BadId, Worn, NotNext, TooLong, LogFull, Unwritten, Fault, Unfinished}
-use Rattle.durable.specs.Steps.{MayGoHome, MayLog, MaySettle}
+use Rattle.store_past.specs.declared.error.StoreError.{StoreError}
+use Rattle.store_past.specs.declared.error.StoreError.TheVariants.{Failed, BadLane, BadId, Worn, NotNext, TooLong, LogFull, Unwritten, Fault, Unfinished}
+use Rattle.store_image.specs.Steps.{MayGoHome, MayLog, MaySettle}
 use Rattle.durable.specs.Store.{Known, Parts, FitsLayout, HasPast, ShowsStep}
 use Rattle.durable.specs.Store.ShowsStep.{Shows, ShowsLogged, ShowsSettled}
-use Rattle.durable.specs.declared.committed.Committed.{Committed}
+use Rattle.store_image.specs.declared.committed.Committed.{Committed}
 use Rattle.durable.proofs.Begun.{applies}
-use Rattle.durable.proofs.Growing.{places_grown}
+use Rattle.durable.proofs.Behind.{behind_undo}
+use Rattle.store_image.proofs.Growing.{places_grown}
 use Rattle.durable.proofs.Loggable.{all_loggable}
 use Rattle.durable.proofs.Pasts.{past_apply, remembers_settle}
-use Rattle.durable.proofs.Places.{records_within}
-use Rattle.durable.proofs.Stands.{shows_always}
-use Rattle.durable.proofs.Verdicts.{lane_long}
+use Rattle.store_image.proofs.Places.{records_within}
+use Rattle.store_image.proofs.Stands.{shows_always}
+use Rattle.store_memory.proofs.Verdicts.{lane_long}
 
 -- what is true of a store's parts, and of what they are equal to
 pub to_parts : {D : Type 0} (device : D → Device) (y z : Parts D) (Q : Known → Device → Type 0) → y ≡ z → Q z.known (device z.disk) → Q y.known (device y.disk)
@@ -222,12 +223,12 @@ module _ (x : Known) (s : Setting) (p : Past) (d : Device) (has : HasPast x s p 
       (subst (λ (e : Logged). HasPast (record { layout = x.layout; committed = c; memory = x.memory; logged = e; has_failed = failed }) s q d2) (sym same_g) was)
 
   pub may_settle : (cut : Cut) (places : List ℕ) → x.has_failed ≡ false → IsClean s p → IsStable (actions p.logged) (counts_of cut) →
-      ((k : ℕ) → slice_index places k ≡ records_in (counts_of cut k) (undo_logs p.logged k)) → MaySettle x.layout s p x.committed d cut places
+      ((k : ℕ) → slice_index places k ≡ place_behind (counts_of cut k) (lane k p.logged)) → MaySettle x.layout s p x.committed d cut places
   may_settle cut places serves clean stable behind = record {
     consistent = has.agrees serves;
     clean = λ f below. clean f (omega (arith, below, has.setting.fields));
     stable = stable;
-    behind = λ k below. behind k;
+    behind = λ k below. behind k ∙ sym (behind_undo (counts_of cut k) (lane k p.logged));
   }
 
   -- a cut is acknowledged
@@ -314,6 +315,6 @@ module _ (x : Known) (s : Setting) (p : Past) (d : Device) (has : HasPast x s p 
       objects = omega (arith, has.setting.objects, has.layout.limits.objects.1);
       of_lanes = subst (λ n. All (λ x. x.0 < n) p.fresh) (has.layout.lanes ∙ sym has.layout.logged_lanes)
           (all_of_lanes (length x.memory.lanes) p.fresh (of_newer (length x.memory.lanes) p.fresh p.logged has.remembers.of_lanes));
-      room = λ k below. omega (arith, place_at k below, has.starts k (in_image k below), (within k (low k (in_image k below))).room, has.layout.capacity, has.layout.logged_capacity);
+      room = λ k below. omega (arith, place_at k below, has.starts k (in_image k below), behind_undo (p.base k) (lane k p.logged), (within k (low k (in_image k below))).room, has.layout.capacity, has.layout.logged_capacity);
       places = λ k below. omega (arith, place_at k below, (within k (low k (in_image k below))).low);
     }

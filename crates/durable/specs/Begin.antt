@@ -1,9 +1,8 @@
 -- With what a store begins (this project's own).
-use Rattle.std.specs.Prelude.{ℕ, ◌≡◌, ◌<◌, true, false, List, length, slice_index, slice_index_or}
+use Rattle.std.specs.Prelude.{ℕ, ◌≡◌, ◌<◌, List, length, slice_index, slice_index_or}
 use Rattle.heap_model.specs.Setting.{Setting}
 use Rattle.image.specs.declared.guard_row.GuardRow.{GuardRow}
 use Rattle.image.specs.declared.layout.Layout.{Layout}
-use Rattle.durable.specs.Past.{Past}
 
 -- there is a row for each field, and each guard is an object
 pub record HasRows (l : Layout) (rows : List GuardRow) : Type 0 where
@@ -17,9 +16,3 @@ pub record IsSettingOf (l : Layout) (rows : List GuardRow) (heap : List ℕ) (la
   pub guards : (f : ℕ) (d : GuardRow) → f < l.fields → (slice_index_or rows f d).guard.0 ≡ s.guard f
   pub values : (f : ℕ) → f < l.fields → slice_index heap f ≡ s.first f
   pub last_is : last ≡ s.last
-
--- the least dirty field
-pub record IsLeastDirtyOf (s : Setting) (p : Past) (field : ℕ) : Type 0 where
-  pub field_is : field < s.fields
-  pub among : p.is_dirty field ≡ true
-  pub lowest : (f : ℕ) → f < field → p.is_dirty f ≡ false

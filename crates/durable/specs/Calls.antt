@@ -7,17 +7,17 @@ use Rattle.heap_model.specs.Sections.{actions, ended}
 use Rattle.heap_model.specs.Cuts.{IsStable}
 use Rattle.block_disk.specs.Device.{Device}
 use Rattle.image.specs.declared.layout.Layout.{Layout}
-use Rattle.durable.specs.declared.error.StoreError.{StoreError}
-use Rattle.durable.specs.declared.error.StoreError.TheVariants.{Failed, Worn, Unwritten, Fault, Unfinished}
-use Rattle.durable.specs.declared.home.Home.{Home}
-use Rattle.durable.specs.declared.home.Home.TheVariants.{Wrote, Done}
+use Rattle.store_past.specs.declared.error.StoreError.{StoreError}
+use Rattle.store_past.specs.declared.error.StoreError.TheVariants.{Failed, Worn, Unwritten, Fault, Unfinished}
+use Rattle.store_image.specs.declared.home.Home.{Home}
+use Rattle.store_image.specs.declared.home.Home.TheVariants.{Wrote, Done}
 use Rattle.durable.specs.declared.store_call.StoreCall.{StoreCall}
 use Rattle.durable.specs.declared.store_call.StoreCall.TheVariants.{Apply, Log, Home as HomeStep, Settle}
-use Rattle.durable.specs.Apply.{Answers}
-use Rattle.durable.specs.Begin.{IsLeastDirtyOf}
-use Rattle.durable.specs.Past.{Past, IsPast, applied, after_apply, after_log, after_home, after_settle}
-use Rattle.durable.specs.Fresh.{IsOfLanes}
-use Rattle.durable.specs.Remembers.{held_of}
+use Rattle.store_memory.specs.Apply.{Answers}
+use Rattle.store_memory.specs.Begin.{IsLeastDirtyOf}
+use Rattle.store_past.specs.Past.{Past, IsPast, applied, after_apply, after_log, after_home, after_settle}
+use Rattle.store_memory.specs.Fresh.{IsOfLanes}
+use Rattle.store_memory.specs.Remembers.{held_of}
 use Rattle.durable.specs.Store.{Known, ShowsStep, StandsForStep, HasPast}
 
 -- a field has a logged store newer than its last home write, or none has

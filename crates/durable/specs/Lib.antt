@@ -1,23 +1,5 @@
-pub mod Past
-pub mod KeptHeap
-pub mod Consistent
-pub mod NewRecords
-pub mod Formatting
-pub mod Steps
-pub mod Laws
-pub mod Bits
-pub mod Dirty
-pub mod Fresh
-pub mod Memory
-pub mod Remembers
-pub mod Apply
-pub mod Verdict
-pub mod Limits
-pub mod Within
+-- The promise: what a store knows and when it has a past, and what each call makes of it.
 pub mod Begin
-pub mod Ends
-pub mod Counted
-pub mod Sections
-pub mod KeptSections
 pub mod Store
 pub mod Calls
+pub mod Closed

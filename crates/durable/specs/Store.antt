@@ -8,13 +8,13 @@ use Rattle.block_disk.specs.Images.{Always}
 use Rattle.image.specs.Layout.{IsLayout}
 use Rattle.image.specs.declared.layout.Layout.{Layout}
 use Rattle.undo_log.specs.Dropped.{undo_logs, records_in}
-use Rattle.durable.specs.Past.{Past, IsPast, after_log, after_settle}
-use Rattle.durable.specs.Consistent.{TellsCut, ShowsPast, IsConsistent}
-use Rattle.durable.specs.KeptHeap.{StandsForCut}
-use Rattle.durable.specs.Memory.{Memory, lane_in}
-use Rattle.durable.specs.Remembers.{Remembers}
-use Rattle.durable.specs.Sections.{Logged, TellsSections}
-use Rattle.durable.specs.declared.committed.Committed.{Committed}
+use Rattle.store_past.specs.Past.{Past, IsPast, after_log, after_settle}
+use Rattle.store_image.specs.Consistent.{TellsCut, ShowsPast, IsConsistent}
+use Rattle.store_image.specs.KeptHeap.{StandsForCut}
+use Rattle.store_memory.specs.Memory.{Memory, lane_in}
+use Rattle.store_memory.specs.Remembers.{Remembers}
+use Rattle.store_memory.specs.Sections.{Logged, TellsSections}
+use Rattle.store_image.specs.declared.committed.Committed.{Committed}
 
 -- what a store knows beside its device: the layout of the image, the control that counts, what was applied, what was
 -- logged, and whether the device has failed

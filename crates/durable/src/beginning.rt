@@ -1,27 +1,12 @@
-//! What is remembered before any record.
+//! The fields before any record.
 
 ghost use Rattle.std.specs.Prelude.{◌≡◌, ◌<◌, ◌≤◌, ℕ, length, slice_index, slice_index_or, IfOk};
 ghost use Rattle.image.specs.declared.guard_row.GuardRow.{GuardRow as Row};
-ghost use Rattle.durable.specs.Memory.{field_in};
+ghost use Rattle.store_memory.specs.Memory.{field_in};
 
-use crate::states::{FieldState, LaneState, MonitorState};
 use image::GuardRow;
 use std::alloc::{AllocError, Global};
-
-/// A monitor that was never taken.
-pub const FREE: MonitorState = MonitorState {
-    holder: None,
-    number: 0,
-};
-
-/// A lane with no records.
-pub const IDLE: LaneState = LaneState {
-    start: 0,
-    place: 0,
-    section: 0,
-    held: 0,
-    awaited: None,
-};
+use store_memory::FieldState;
 
 /// The fields, with their guards and with these values at home.
 pub fn fields_of(

@@ -4,14 +4,14 @@ ghost use Rattle.block_disk.specs.Device.{HasCause, HasFailed};
 ghost use Rattle.block_disk.specs.Images.{LeavesOnly};
 ghost use Rattle.heap_model.specs.Setting.{Setting};
 ghost use Rattle.durable.specs.Calls.{AreQuiet, IsQuiet, MakeAll, Makes, RefusesCall, ShowsAfterSome, StandsAfterSome, StoppedAt};
-ghost use Rattle.durable.specs.Past.{Past};
+ghost use Rattle.store_past.specs.Past.{Past};
 ghost use Rattle.durable.specs.Store.{HasPast, ShowsStep};
-ghost use Rattle.durable.specs.declared.error.StoreError.TheVariants.{Fault};
+ghost use Rattle.store_past.specs.declared.error.StoreError.TheVariants.{Fault};
 
-use crate::error::StoreError;
 use crate::store::Store;
 use crate::store_call::StoreCall;
 use block_disk::Disk;
+use store_past::StoreError;
 
 impl<D: Disk> Store<D> {
     /// Makes these calls, in order. It stops at the first refusal, and answers its place among them and the reason; what was

@@ -6,33 +6,32 @@ ghost use Rattle.heap_model.specs.Setting.{Setting};
 ghost use Rattle.heap_model.specs.Log.{value as value_of};
 ghost use Rattle.heap_model.specs.Sections.{actions};
 ghost use Rattle.heap_model.specs.Cuts.{IsStable, counts_of};
+ghost use Rattle.image.specs.Cells.{HasCell};
 ghost use Rattle.image.specs.Layout.{IsLayout};
 ghost use Rattle.undo_log.specs.Dropped.{undo_logs, records_in};
-ghost use Rattle.undo_log.specs.StandsFor.{row_of};
-ghost use Rattle.durable.specs.Apply.{Answers};
+ghost use Rattle.undo_log.specs.StandsFor.{StandsFor, row_of};
+ghost use Rattle.store_memory.specs.Apply.{Answers};
 ghost use Rattle.durable.specs.Begin.{HasRows, IsSettingOf};
 ghost use Rattle.durable.specs.Calls.{AnswersHome, HasOpen, IsClean, IsWritten, RefusesApply, RefusesClose, RefusesHome, RefusesLog, RefusesSettle, after_home_step};
-ghost use Rattle.durable.specs.KeptHeap.{StandsForCut, StandsForEither};
-ghost use Rattle.durable.specs.Memory.{lane_in};
-ghost use Rattle.durable.specs.Past.{Past, applied, no_past, after_apply, after_log, after_settle};
-ghost use Rattle.durable.specs.Remembers.{Remembers};
-ghost use Rattle.durable.specs.Sections.{TellsSections};
+ghost use Rattle.durable.specs.Closed.{applied_heap};
+ghost use Rattle.store_image.specs.KeptHeap.{StandsForCut, StandsForEither};
+ghost use Rattle.store_memory.specs.Memory.{lane_in};
+ghost use Rattle.store_past.specs.Past.{Past, applied, no_past, after_apply, after_log, after_settle};
+ghost use Rattle.store_memory.specs.Remembers.{Remembers};
+ghost use Rattle.store_memory.specs.Sections.{TellsSections};
 ghost use Rattle.durable.specs.Store.{HasPast, ShowsStep, StandsForStep};
-ghost use Rattle.durable.specs.declared.error.StoreError.TheVariants.{Fault, Worn};
-ghost use Rattle.durable.specs.declared.home.Home.TheVariants.{Done};
+ghost use Rattle.store_past.specs.declared.error.StoreError.TheVariants.{Fault, Worn};
+ghost use Rattle.store_image.specs.declared.home.Home.TheVariants.{Done};
 
-use crate::applied::Applied;
-use crate::committed::Committed;
-use crate::error::StoreError;
-use crate::home::{Home, write_home};
-use crate::logging::log_records;
-use crate::sections::LoggedSections;
-use crate::settling::settle;
+use crate::beginning::fields_of;
 use block_disk::Disk;
 use heap_model::{Cut, FieldId, Lane, Record};
 use image::{GuardRow, LaneRow, Layout, Recovered, RecoveredParts};
 use std::alloc::{AllocError, Global};
 use std::marker::Model;
+use store_image::{Committed, Home, log_records, settle, write_home};
+use store_memory::{Applied, LoggedSections};
+use store_past::StoreError;
 
 /// A heap whose sections survive a crash whole or not at all, on a device of its own.
 ///
@@ -55,7 +54,7 @@ pub struct Store<D: Disk> {
 
 impl<D: Disk> Model for Store<D> {
     ghost use Rattle.heap_model.specs.Setting.{Setting};
-    ghost use Rattle.durable.specs.Past.{Past};
+    ghost use Rattle.store_past.specs.Past.{Past};
     ghost use Rattle.durable.specs.Store.{HasPast, Parts};
 
     ghost Value = { Parts D };
@@ -294,9 +293,14 @@ impl<D: Disk> Store<D> {
         self.applied.start(lane)
     }
 
-    /// Its device, to look at.
+    /// Its device, to look at. Until a call has failed, what it reads and what a crash leaves of it stand for the acknowledged
+    /// sections, and for no other cut.
     pub fn disk(&self) -> &D
-        ensures { result.now ≡ self.now.disk }
+        ensures disk { result.now ≡ self.now.disk }
+        ensures at_rest { (s : Setting) (p : Past) → HasPast self.now.known s p (D.device self.now.disk)
+            → self.now.known.has_failed ≡ false → StandsForCut self.now.known.layout s p.logged p.cut (D.device result.now).now.bytes }
+        ensures crash { (s : Setting) (p : Past) → HasPast self.now.known s p (D.device self.now.disk)
+            → self.now.known.has_failed ≡ false → Always (D.device result.now) (StandsForCut self.now.known.layout s p.logged p.cut) }
     {
         &self.disk
     }
@@ -308,12 +312,17 @@ impl<D: Disk> Store<D> {
         self.layout
     }
 
-    /// The device, if nothing is left to do: its home cells are the heap, and all of that is acknowledged.
+    /// The device, if nothing is left to do: its home cells are the heap after all that was applied, all of that is
+    /// acknowledged, and whatever a crash leaves stands for it.
     ///
     /// Refusals, in this order: `Failed`; `Unfinished`: a lane holds a monitor; `Unwritten`: a record isn't logged, a field is
     /// dirty, or a logged section that has ended isn't acknowledged. After a refusal the store is given back as it was.
     pub fn close(self) -> Result<D, (Store<D>, StoreError)>
         ensures ok { (s : Setting) (p : Past) → HasPast self.known s p (D.device self.disk) → OnOk result ((self.known.has_failed ≡ false) × (¬ HasOpen p) × IsWritten s p) }
+        ensures home { (s : Setting) (p : Past) → HasPast self.known s p (D.device self.disk)
+            → IfOk result (λ disk. (f : ℕ) → f < self.known.layout.fields → HasCell self.known.layout f (D.device disk).now.bytes (value_of s.first f (applied p))) }
+        ensures stands { (s : Setting) (p : Past) → HasPast self.known s p (D.device self.disk)
+            → IfOk result (λ disk. Always (D.device disk) (λ image. StandsFor self.known.layout image (applied_heap self.known.layout s p))) }
         ensures disk { IfOk result (λ disk. disk ≡ self.disk) }
         ensures refused { (s : Setting) (p : Past) → HasPast self.known s p (D.device self.disk) → IfErr result (λ back. RefusesClose self.known s p back.1) }
         ensures back { IfErr result (λ back. back.0 ≡ self) }
@@ -350,6 +359,8 @@ impl<D: Disk> Store<D> {
         ensures disk { result ≡ self.disk }
         ensures shown { (s : Setting) (p : Past) → HasPast self.known s p (D.device self.disk) → Always (D.device result) (ShowsStep self.known.layout s p) }
         ensures crash { (s : Setting) (p : Past) → HasPast self.known s p (D.device self.disk) → Always (D.device result) (StandsForStep self.known.layout s p) }
+        ensures at_rest { (s : Setting) (p : Past) → HasPast self.known s p (D.device self.disk)
+            → self.known.has_failed ≡ false → Always (D.device result) (StandsForCut self.known.layout s p.logged p.cut) }
     {
         self.disk
     }
@@ -372,7 +383,15 @@ fn memory(
     ensures logged { IfOk result (λ m. TellsSections m.1 (λ l. 0) []) }
     ensures logged_lanes { IfOk result (λ m. (m.1.lanes ≡ layout.now.lanes) × (m.1.capacity ≡ layout.now.capacity)) }
 {
-    let applied = Applied::new(alloc, layout, guards, heap, last)?;
+    let fields = fields_of(alloc, guards, heap)?;
+    let applied = Applied::new(
+        alloc,
+        layout.lanes,
+        layout.capacity,
+        layout.objects,
+        fields,
+        last,
+    )?;
     let sections = LoggedSections::with_capacity(alloc, layout.lanes, layout.capacity)?;
     Ok((applied, sections))
 }

@@ -1,6 +1,6 @@
 use Rattle.std.proofs.Common.{◌≡◌, ◌<◌, ◌≤◌, ℕ, length, slice_index, slice_index_or, vec_len, vec_capacity}
 use Rattle.image.specs.declared.guard_row.GuardRow.{GuardRow}
-use Rattle.durable.specs.Memory.{field_in}
+use Rattle.store_memory.specs.Memory.{field_in}
 use Rattle.durable.proofs.beginning.fields_of.Given as goal
 
 -- the fields so far have their guards and values

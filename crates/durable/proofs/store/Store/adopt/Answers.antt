@@ -1,5 +1,5 @@
 use Rattle.std.proofs.Common.{refl, sym}
-use Rattle.durable.specs.Past.{no_past}
+use Rattle.store_past.specs.Past.{no_past}
 use Rattle.durable.proofs.Adopting.{same_setting, adopts, adopts_one}
 use Rattle.durable.proofs.store.Store.adopt.Goals as goal
 

@@ -1,6 +1,6 @@
 use Rattle.std.proofs.Common.{Ok, MatchResult}
 use Rattle.durable.specs.Store.{HasPast}
-use Rattle.durable.specs.Apply.{Answers}
+use Rattle.store_memory.specs.Apply.{Answers}
 use Rattle.durable.specs.Calls.{RefusesApply}
 use Rattle.durable.proofs.Storing.{to_parts, from_parts, apply_has, apply_ok, apply_answers, never_fault}
 use Rattle.durable.proofs.store.Store.apply.Goals as goal

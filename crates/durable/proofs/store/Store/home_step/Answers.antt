@@ -2,9 +2,9 @@ use Rattle.std.proofs.Common.{◌≡◌, true, false, refl, sym, ◌∙◌, arit
 use Rattle.block_disk.specs.Images.{LeavesOnly}
 use Rattle.block_disk.proofs.Images.{begin}
 use Rattle.durable.specs.Store.{HasPast, ShowsStep}
-use Rattle.durable.specs.KeptHeap.{StandsForCut}
-use Rattle.durable.specs.Past.{after_home}
-use Rattle.durable.specs.Begin.{IsLeastDirtyOf}
+use Rattle.store_image.specs.KeptHeap.{StandsForCut}
+use Rattle.store_past.specs.Past.{after_home}
+use Rattle.store_memory.specs.Begin.{IsLeastDirtyOf}
 use Rattle.durable.specs.Calls.{IsClean}
 use Rattle.durable.proofs.Storing.{to_parts, from_parts, home_has, failed_has, may_go_home, shows_now, shows_then}
 use Rattle.durable.proofs.store.Store.home_step.Goals as goal

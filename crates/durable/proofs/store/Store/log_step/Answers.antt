@@ -2,14 +2,14 @@ use Rattle.std.proofs.Common.{◌≡◌, inr, ⊎_elim, ℕ, false, List, Err, r
 use Rattle.heap_model.specs.Setting.{Setting}
 use Rattle.block_disk.specs.Images.{LeavesOnly}
 use Rattle.durable.specs.Store.{HasPast, ShowsStep}
-use Rattle.durable.specs.KeptHeap.{StandsForCut}
-use Rattle.durable.specs.Past.{Past, after_log}
+use Rattle.store_image.specs.KeptHeap.{StandsForCut}
+use Rattle.store_past.specs.Past.{Past, after_log}
 use Rattle.std.proofs.Common.{◌++◌, length}
 use Rattle.heap_model.specs.declared.record.Record.{Record}
 use Rattle.block_disk.specs.Device.{HasCause}
-use Rattle.durable.specs.declared.error.StoreError.TheVariants.{Worn, Fault}
+use Rattle.store_past.specs.declared.error.StoreError.TheVariants.{Worn, Fault}
 use Rattle.durable.specs.Calls.{RefusesLog}
-use Rattle.durable.specs.Sections.{TellsSections, MayBeLogged}
+use Rattle.store_memory.specs.Sections.{TellsSections, MayBeLogged}
 use Rattle.durable.proofs.Storing.{to_parts, from_parts, logged_has, failed_has, kept_has, logs_now, logs_then, log_refused, may_log, may_be_logged}
 use Rattle.durable.proofs.store.Store.log_step.Goals as goal
 

@@ -4,7 +4,7 @@ use Rattle.heap_model.proofs.Existence.{stable_exists}
 use Rattle.heap_model.specs.Sections.{actions}
 use Rattle.durable.specs.declared.store_call.StoreCall.{StoreCall}
 use Rattle.durable.specs.Calls.{IsQuiet, Makes, RefusesCall, after_home_step}
-use Rattle.durable.specs.Past.{after_log}
+use Rattle.store_past.specs.Past.{after_log}
 use Rattle.durable.proofs.Playing.{apply_made, apply_refused, settle_made, settle_refused, no_cause}
 use Rattle.durable.proofs.store.Store.make.Goals as goal
 

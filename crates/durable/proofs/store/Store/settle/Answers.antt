@@ -2,13 +2,13 @@ use Rattle.std.proofs.Common.{◌≡◌, inr, ⊎_elim, ℕ, true, false, Err, s
 use Rattle.block_disk.specs.Images.{LeavesOnly}
 use Rattle.block_disk.proofs.Images.{begin}
 use Rattle.durable.specs.Store.{HasPast, ShowsStep}
-use Rattle.durable.specs.Past.{after_settle}
+use Rattle.store_past.specs.Past.{after_settle}
 use Rattle.heap_model.specs.Sections.{actions}
 use Rattle.heap_model.specs.Cuts.{counts_of}
 use Rattle.block_disk.specs.Device.{HasCause}
-use Rattle.durable.specs.declared.error.StoreError.TheVariants.{Worn, Fault}
+use Rattle.store_past.specs.declared.error.StoreError.TheVariants.{Worn, Fault}
 use Rattle.durable.specs.Calls.{HasDirty, IsClean, RefusesSettle}
-use Rattle.durable.specs.KeptHeap.{StandsForEither}
+use Rattle.store_image.specs.KeptHeap.{StandsForEither}
 use Rattle.durable.proofs.Storing.{one_stable, to_parts, from_parts, settled_has, failed_has, kept_has, logs_now, settles_then, settle_refused, may_settle, none_dirty, some_dirty}
 use Rattle.durable.proofs.store.Store.settle.Goals as goal
 

@@ -1,5 +1,0 @@
-use Rattle.durable.proofs.BitLaws.{set_is}
-use Rattle.durable.proofs.bits.set_bit.Goals as goal
-
-pub returns-clause-bits : goal.returns-clause-bits
-returns-clause-bits c = set_is c.args.words.now c.args.at c.requires

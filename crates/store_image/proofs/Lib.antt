@@ -1,0 +1,12 @@
+pub mod Places
+pub mod Stands
+pub mod Parts
+pub mod GoingHome
+pub mod Answered
+pub mod Rows
+pub mod Appending
+pub mod Growing
+pub mod Counting
+pub mod Recording
+pub mod Committing
+pub mod Acknowledging

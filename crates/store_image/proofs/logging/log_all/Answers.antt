@@ -1,0 +1,76 @@
+use Rattle.std.proofs.Common.{sym, subst}
+use Rattle.store_past.specs.Past.{after_log}
+use Rattle.store_image.specs.Consistent.{IsConsistent}
+use Rattle.store_image.specs.declared.committed.Committed.{Committed}
+use Rattle.store_image.proofs.Recording.{each_row, append_leaves, sync_leaves, rows_fit, steady_two, log_leaves, log_done, append_shows, sync_shows, log_shows}
+use Rattle.store_image.proofs.Answered.{on_ok_two}
+use Rattle.store_image.proofs.logging.log_all.Goals as goal
+
+pub append_lanes-requires-clause-rows : goal.append_lanes-requires-clause-rows
+append_lanes-requires-clause-rows g c =
+    let r = c.requires.logs in
+    each_row c.args.layout.now r.0 r.1 c.args.committed.now (g.D.Disk.device c.args.disk.now) (g.F.NewRecords.fresh c.args.fresh.now) r.2
+
+pub returns-in_err-append_lanes-clause-any_moment : goal.returns-in_err-append_lanes-clause-any_moment
+returns-in_err-append_lanes-clause-any_moment g c = λ s p may.
+    append_leaves c.args.layout.now s p c.args.committed.now (g.D.Disk.device c.args.disk.now) (g.F.NewRecords.fresh c.args.fresh.now) may
+    (g.D.Disk.device c.append_lanes.new.disk) c.append_lanes.ensures.any_moment
+
+pub returns-in_err-sync-clause-any_moment : goal.returns-in_err-sync-clause-any_moment
+returns-in_err-sync-clause-any_moment g c = λ s p may.
+    sync_leaves c.args.layout.now s p c.args.committed.now (g.D.Disk.device c.args.disk.now) (g.F.NewRecords.fresh c.args.fresh.now) may
+    (g.D.Disk.device c.append_lanes.new.disk) c.append_lanes.ensures.any_moment (g.D.Disk.device c.sync.new.disk) c.sync.ensures.any_moment
+
+pub logged_rows-rows-requires-clause-limit : goal.logged_rows-rows-requires-clause-limit
+logged_rows-rows-requires-clause-limit g c = λ lane below. (c.requires.logs.2.fits lane below).limit
+
+pub commit-requires-clause-rows : goal.commit-requires-clause-rows
+commit-requires-clause-rows g c =
+    let r = c.requires.logs in
+    rows_fit c.args.layout.now r.0 r.1 c.args.committed.now (g.D.Disk.device c.args.disk.now) (g.F.NewRecords.fresh c.args.fresh.now) r.2
+    (g.D.Disk.device c.append_lanes.new.disk) c.append_lanes.ensures.any_moment c.logged_rows-rows.result
+    (record { size = c.logged_rows-rows.ensures.size; lanes = c.logged_rows-rows.ensures.lanes; rest = c.logged_rows-rows.ensures.rest })
+
+pub commit-requires-clause-steady : goal.commit-requires-clause-steady
+commit-requires-clause-steady g c =
+    let r = c.requires.logs in
+    steady_two c.args.layout.now r.0 r.1 c.args.committed.now (g.D.Disk.device c.args.disk.now) (g.F.NewRecords.fresh c.args.fresh.now) r.2
+    (g.D.Disk.device c.append_lanes.new.disk) c.append_lanes.ensures.any_moment c.logged_rows-rows.result
+    (record { size = c.logged_rows-rows.ensures.size; lanes = c.logged_rows-rows.ensures.lanes; rest = c.logged_rows-rows.ensures.rest })
+    c.in_ok-append_lanes.ensures.ok (g.D.Disk.device c.sync.new.disk) c.in_ok-sync.ensures.ok
+
+pub returns-clause-ok : goal.returns-clause-ok
+returns-clause-ok g c = λ s p may.
+    let l = c.args.layout.now in
+    let d3 = g.D.Disk.device c.commit.new.disk in
+    on_ok_two c.commit.result
+    (λ is steady. subst (λ (committed : Committed). IsConsistent l s (after_log p) committed d3) (sym is)
+    (log_done l s p c.args.committed.now (g.D.Disk.device c.args.disk.now) (g.F.NewRecords.fresh c.args.fresh.now) may
+    (g.D.Disk.device c.append_lanes.new.disk) c.append_lanes.ensures.any_moment c.logged_rows-rows.result
+    (record { size = c.logged_rows-rows.ensures.size; lanes = c.logged_rows-rows.ensures.lanes; rest = c.logged_rows-rows.ensures.rest })
+    c.in_ok-append_lanes.ensures.ok (g.D.Disk.device c.sync.new.disk) c.in_ok-sync.ensures.ok d3 c.commit.ensures.any_moment steady))
+    c.commit.ensures.ok c.commit.ensures.steady
+
+pub returns-clause-any_moment : goal.returns-clause-any_moment
+returns-clause-any_moment g c = λ s p may.
+    log_leaves c.args.layout.now s p c.args.committed.now (g.D.Disk.device c.args.disk.now) (g.F.NewRecords.fresh c.args.fresh.now) may
+    (g.D.Disk.device c.append_lanes.new.disk) c.append_lanes.ensures.any_moment c.logged_rows-rows.result
+    (record { size = c.logged_rows-rows.ensures.size; lanes = c.logged_rows-rows.ensures.lanes; rest = c.logged_rows-rows.ensures.rest })
+    c.in_ok-append_lanes.ensures.ok (g.D.Disk.device c.sync.new.disk) c.in_ok-sync.ensures.ok (g.D.Disk.device c.commit.new.disk) c.commit.ensures.any_moment
+
+pub returns-in_err-append_lanes-clause-shown : goal.returns-in_err-append_lanes-clause-shown
+returns-in_err-append_lanes-clause-shown g c = λ s p may.
+    append_shows c.args.layout.now s p c.args.committed.now (g.D.Disk.device c.args.disk.now) (g.F.NewRecords.fresh c.args.fresh.now) may
+    (g.D.Disk.device c.append_lanes.new.disk) c.append_lanes.ensures.any_moment
+
+pub returns-in_err-sync-clause-shown : goal.returns-in_err-sync-clause-shown
+returns-in_err-sync-clause-shown g c = λ s p may.
+    sync_shows c.args.layout.now s p c.args.committed.now (g.D.Disk.device c.args.disk.now) (g.F.NewRecords.fresh c.args.fresh.now) may
+    (g.D.Disk.device c.append_lanes.new.disk) c.append_lanes.ensures.any_moment (g.D.Disk.device c.sync.new.disk) c.sync.ensures.any_moment
+
+pub returns-clause-shown : goal.returns-clause-shown
+returns-clause-shown g c = λ s p may.
+    log_shows c.args.layout.now s p c.args.committed.now (g.D.Disk.device c.args.disk.now) (g.F.NewRecords.fresh c.args.fresh.now) may
+    (g.D.Disk.device c.append_lanes.new.disk) c.append_lanes.ensures.any_moment c.logged_rows-rows.result
+    (record { size = c.logged_rows-rows.ensures.size; lanes = c.logged_rows-rows.ensures.lanes; rest = c.logged_rows-rows.ensures.rest })
+    c.in_ok-append_lanes.ensures.ok (g.D.Disk.device c.sync.new.disk) c.in_ok-sync.ensures.ok (g.D.Disk.device c.commit.new.disk) c.commit.ensures.any_moment

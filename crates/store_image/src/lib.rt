@@ -1,0 +1,27 @@
+//! The image of a store: the steps by which what a store was told reaches its device.
+//!
+//! [`format`] makes an image. [`log_records`] makes new records durable, [`write_home`] brings a logged value to its home
+//! cell, and [`settle`] acknowledges the stable cut. Each says which past the device agrees with afterwards, and what every
+//! image that a crash may leave stands for at every moment until then. [`standing_law`] says what such an image is worth.
+#![tactic(auto)]
+
+mod formatting;
+
+// The control that counts, and how it is exchanged.
+mod commit;
+mod committed;
+mod sync;
+
+// The steps.
+mod home;
+mod logging;
+mod settling;
+
+mod laws;
+
+pub use committed::Committed;
+pub use formatting::format;
+pub use home::{Home, write_home};
+pub use laws::standing_law;
+pub use logging::log_records;
+pub use settling::settle;

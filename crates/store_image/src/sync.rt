@@ -1,0 +1,21 @@
+//! A sync with this crate's refusal.
+ghost use Rattle.std.specs.Prelude.{◌≡◌, [], IfErr, OnOk};
+ghost use Rattle.block_disk.specs.Device.{HasCause, synced};
+ghost use Rattle.block_disk.specs.Images.{ImageBut, LeavesOnly};
+ghost use Rattle.store_past.specs.declared.error.StoreError.TheVariants.{Fault};
+
+use block_disk::{Disk, make_durable};
+use store_past::StoreError;
+
+/// Makes what was written durable. `Fault` fixes nothing.
+pub fn sync<D: Disk>(disk: &mut D) -> Result<(), StoreError>
+    ensures ok { OnOk result (D.device disk.new ≡ synced (D.device disk.old)) }
+    ensures only_fault { IfErr result (λ e. e ≡ Fault) }
+    ensures any_moment { LeavesOnly (D.device disk.old) (D.device disk.new) (ImageBut (D.device disk.old) []) }
+    ensures cause { HasCause (D.device disk.old).failures (D.device disk.new).failures Fault result }
+{
+    match make_durable(disk) {
+        Ok(()) => Ok(()),
+        Err(_) => Err(StoreError::Fault),
+    }
+}

@@ -1,0 +1,11 @@
+pub mod BitLaws
+pub mod DirtyLaws
+pub mod FreshLaws
+pub mod Held
+pub mod Remembering
+pub mod Verdicts
+pub mod LogLaws
+pub mod Begins
+pub mod SectionCounts
+pub mod SectionRoom
+pub mod SectionLaws

@@ -1,0 +1,345 @@
+-- What is known of the logged sections stays true as the log grows.
+use Rattle.std.proofs.Common.{ℕ, zero, suc, ◌≡◌, ◌≢◌, ◌+◌, ◌*◌, ◌^◌, ◌<◌, ◌≤◌, ◌==◌, if◌then◌else◌, Bool, true, false, List, [], ◌∷◌, ◌++◌, map, length, reverse, take, drop, slice_index, slice_index_or, slice_set, replicate, All, refl, sym, ap, ◌∙◌, subst, inl, inr, arith, nat_lt, get_or-set_same, get_or-set_other, length-append}
+use Rattle.std.proofs.lemmas.Bool.{cases_lt, lt-ltb, le-ltb}
+use Rattle.std.proofs.lemmas.List.{reverse-append, take-append-drop, take_more}
+use Rattle.std.proofs.lemmas.List.Elements.{All-nil, All-cons, All-head, All-tail}
+use mathlib.Core.Logic.{dite}
+use native.Mathlib.Decide.{ℕ_discrete}
+use Rattle.heap_model.specs.declared.record.Record.{Record}
+use Rattle.heap_model.specs.declared.record.Record.TheVariants.{Acq, Rel, WaitRel, Put}
+use Rattle.heap_model.specs.declared.record.LaneRecord.{LaneRecord}
+use Rattle.heap_model.specs.Record.{undo_of}
+use Rattle.heap_model.specs.Setting.{Setting}
+use Rattle.heap_model.specs.Log.{lane, IsLegal, IsRecordOf}
+use Rattle.heap_model.specs.Sections.{Action, action, actions, undo_action, holding, ended, Section, DependsOn, Earlier, Took}
+use Rattle.heap_model.specs.Cuts.{Counts, IsWhole, IsClosed, IsStable}
+use Rattle.heap_model.specs.Base.{since}
+use Rattle.heap_model.specs.Plain.{log_from}
+use Rattle.heap_model.proofs.Lanes.{lane_append, ended_in_lane}
+use Rattle.heap_model.proofs.Stays.{cut_stays}
+use Rattle.heap_model.proofs.Stores.{ended_rises}
+use Rattle.heap_model.proofs.Next.{legal_before}
+use Rattle.heap_model.proofs.Trimmed.{since_counts, trim_stable}
+use Rattle.dependence.specs.Counts.{IsHeldBy}
+use Rattle.dependence.specs.Trace.{Trace, base_of, sections_of, IsStableOf}
+use Rattle.dependence.specs.Next.{IsNext, IsObjectBelow}
+use Rattle.dependence.proofs.Trimming.{holding_since}
+use Rattle.dependence.proofs.Legal.{allowed_next}
+use Rattle.store_memory.specs.declared.logged_lane.LoggedLane.{LoggedLane}
+use Rattle.store_memory.specs.Ends.{slot_of}
+use Rattle.store_memory.specs.Counted.{new_lane, lane_in, lane_after, ends_after}
+use Rattle.store_memory.specs.Sections.{Logged, place_behind, start_in, TellsLane, TellsSections, MayBeLogged}
+use Rattle.store_memory.proofs.SectionCounts.{action_undo, lane_own, lane_else, MayFree, next_free, held_by, held_is, ended_is, ends_once, ended_short, holding_short, ended_records, in_older, in_newest, sections_past, start_grown, since_short}
+use Rattle.store_memory.proofs.SectionRoom.{total_less, lane_past, since_lanes, sections_apart, lanes_apart, slot_within}
+
+named_in : (s : Setting) (r : Record) → s.objects ≤ 4096 → IsRecordOf s r → IsObjectBelow 4096 (undo_of r)
+named_in s (Acq o n) few of = omega arith
+named_in s (Rel o n) few of = omega arith
+named_in s (WaitRel o n) few of = omega arith
+named_in s (Put f before after) few of = tt
+
+-- what is known after the lane's record, with the graph as it is then
+abbrev pub logged_after : Logged → Trace → (lane : ℕ) → Record → Logged
+logged_after m g l r = record m { graph = g; counts = slice_set m.counts l (lane_after r (lane_in m.counts l)); ends = ends_after m.capacity l (lane_in m.counts l) (lane_after r (lane_in m.counts l)) m.ends }
+
+module _ (s : Setting) (m : Logged) (base : ℕ → ℕ) (log : List (ℕ × Record)) (l : ℕ) (r : Record) (may : MayBeLogged s m base log ((l, r) ∷ [])) where
+  was : TellsSections m base log
+  was = may.tells
+
+  pub low : l < m.lanes
+  low = All-head (λ (x : ℕ × Record). x.0 < m.lanes) (l, r) [] may.of_lanes
+
+  mine : TellsLane m base log l
+  mine = was.lane_is l low
+
+  own : lane l ((l, r) ∷ log) ≡ r ∷ lane l log
+  own = lane_own l r log
+
+  longer : length (lane l ((l, r) ∷ log)) ≡ length (lane l log) + 1
+  longer = ap (λ (xs : List Record). length xs) own ∙ (omega arith)
+
+  room : length (lane l ((l, r) ∷ log)) ≤ start_in base log l + m.capacity
+  room = may.room l low
+
+  upto : length (lane l ((l, r) ∷ log)) < 2 ^ 64
+  upto = may.places l low
+
+  next_since : IsNext (since base (actions log)) l (action r)
+  next_since = allowed_next s log base l r may.legal.0 was.whole may.legal.1
+
+  free : MayFree (action r) (holding (lane l (actions log)))
+  free = subst (λ (xs : List ℕ). MayFree (action r) xs) (holding_since base l (actions log) (was.whole l)) (next_free (since base (actions log)) l (action r) next_since)
+
+  -- what `Graph::push` asks for
+  pub next : IsNext m.graph.log l (undo_action (undo_of r))
+  next = subst (λ (a : Action). IsNext m.graph.log l a) (sym (action_undo r)) (subst (λ (xs : List (ℕ × Action)). IsNext xs l (action r)) (sym was.since_is) next_since)
+
+  pub named : IsObjectBelow 4096 (undo_of r)
+  named = named_in s r may.objects may.legal.3
+
+  lane_short : (k : ℕ) → k < m.lanes → length (lane k (since base (actions log))) ≤ m.capacity
+  lane_short k lt = omega (arith, since_short base k log (was.whole k), (was.lane_is k lt).room)
+
+  pub spare : length m.graph.log < m.lanes * m.capacity
+  spare =
+      let same : length m.graph.log ≡ length (since base (actions log)) = ap (λ (xs : List (ℕ × Action)). length xs) was.since_is in
+      omega (
+        arith,
+        same,
+        total_less m.lanes m.capacity (since base (actions log)) l (since_lanes m.lanes base log was.of_lanes) low
+            (omega (arith, since_short base l log (was.whole l), longer, room)) lane_short,
+      )
+
+  acts_long : length (lane l (actions log)) ≡ length (lane l log)
+  acts_long = acts_in_lane l log
+    where
+      acts_in_lane : (k : ℕ) (xs : List (ℕ × Record)) → length (lane k (actions xs)) ≡ length (lane k xs)
+      acts_in_lane k [] = refl
+      acts_in_lane k ((j, x) ∷ xs) = elim (j == k) as (λ b. length (if b then action x ∷ lane k (actions xs) else lane k (actions xs)) ≡ length (if b then x ∷ lane k xs else lane k xs)) [ true ↦ omega (arith, acts_in_lane k xs) | false ↦ acts_in_lane k xs ]
+
+  few : ended (lane l (actions log)) + 1 < 2 ^ 64
+  few = omega (arith, ended_short (lane l (actions log)), acts_long, longer, upto)
+
+  pub fits : sections_of m.graph l + 1 < 2 ^ 64
+  fits =
+      let all : ended (lane l m.graph.log) + base_of m.graph l ≡ ended (lane l (actions log)) =
+      ap (λ (xs : List (ℕ × Action)). ended (lane l xs) + base_of m.graph l) was.since_is ∙ ap (λ (n : ℕ). ended (lane l (since base (actions log))) + n) (was.base_is l) ∙ since_counts base l (actions log) (was.whole l) in
+      omega (arith, all, few)
+
+  -- what counting asks for
+  pub holds : IsHeldBy (action r) (lane_in m.counts l).held
+  holds = held_by (action r) (lane l (actions log)) (lane_in m.counts l).held free mine.held
+
+  pub place_fits : (lane_in m.counts l).place + 1 < 2 ^ 64
+  place_fits = omega (arith, mine.place, longer, upto)
+
+  pub held_fits : (lane_in m.counts l).held + 1 < 2 ^ 64
+  held_fits = omega (arith, mine.held, holding_short (lane l (actions log)), acts_long, longer, upto)
+
+  pub sections_fit : (lane_in m.counts l).sections + 1 < 2 ^ 64
+  sections_fit = omega (arith, mine.sections, few)
+
+  acts_own : lane l (actions ((l, r) ∷ log)) ≡ action r ∷ lane l (actions log)
+  acts_own = lane_own l (action r) (actions log)
+
+  held_now : (lane_after r (lane_in m.counts l)).held ≡ length (holding (lane l (actions ((l, r) ∷ log))))
+  held_now = held_is (action r) (lane l (actions log)) (lane_in m.counts l).held free mine.held ∙ ap (λ (xs : List Action). length (holding xs)) (sym acts_own)
+
+  sections_now : (lane_after r (lane_in m.counts l)).sections ≡ ended (lane l (actions ((l, r) ∷ log)))
+  sections_now = ended_is (action r) (lane l (actions log)) (lane_in m.counts l).held (lane_in m.counts l).sections free mine.held mine.sections ∙ ap (λ (xs : List Action). ended xs) (sym acts_own)
+
+  grown : ended (lane l (actions ((l, r) ∷ log))) ≤ ended (lane l (actions log)) + 1
+  grown = omega (arith, ap (λ (xs : List Action). ended xs) acts_own, ends_once (action r) (lane l (actions log)))
+
+  -- the place behind a section of before, and behind one that ends with the record
+  behind_older : (n : ℕ) → n ≤ ended (lane l (actions log)) → place_behind n (lane l ((l, r) ∷ log)) ≡ place_behind n (lane l log)
+  behind_older n le = ap (λ (xs : List Record). place_behind n xs) own ∙ in_older n r (lane l log) (omega (arith, le, ended_records l log))
+
+  behind_newest : (n : ℕ) → ended (lane l (actions log)) < n → place_behind n (lane l ((l, r) ∷ log)) ≡ length (lane l log) + 1
+  behind_newest n lt = ap (λ (xs : List Record). place_behind n xs) own ∙ in_newest n r (lane l log) (omega (arith, lt, ended_records l log))
+
+  -- sections since what was trimmed are no more than records
+  near : ended (lane l (actions ((l, r) ∷ log))) ≤ base l + m.capacity
+  near = omega (arith, sections_past (base l) (lane l ((l, r) ∷ log)), ended_records l ((l, r) ∷ log), start_grown base l l r log (was.whole l), room)
+
+  module _ (g : Trace) (long : l < length m.counts) (slots : length m.ends ≡ m.lanes * (m.capacity + 1)) where
+    counted : lane_in (slice_set m.counts l (lane_after r (lane_in m.counts l))) l ≡ lane_after r (lane_in m.counts l)
+    counted = get_or-set_same m.counts l (lane_after r (lane_in m.counts l)) new_lane long
+
+    -- the lane's places with the new one
+    ends_new : (n : ℕ) → base l ≤ n → n ≤ ended (lane l (actions ((l, r) ∷ log))) → (lane_in m.counts l).sections < (lane_after r (lane_in m.counts l)).sections →
+        slice_index (slice_set m.ends (slot_of m.capacity l (lane_after r (lane_in m.counts l)).sections) (lane_after r (lane_in m.counts l)).place) (slot_of m.capacity l n) ≡ place_behind n (lane l ((l, r) ∷ log))
+    ends_new n from le more = elim (cases_lt n (lane_after r (lane_in m.counts l)).sections) [
+      | inl lt ↦
+          let old : n ≤ ended (lane l (actions log)) = omega (arith, lt, sections_now, grown, mine.sections) in
+          get_or-set_other m.ends (slot_of m.capacity l (lane_after r (lane_in m.counts l)).sections) (slot_of m.capacity l n) (lane_after r (lane_in m.counts l)).place 0
+          (sections_apart m.capacity l n (lane_after r (lane_in m.counts l)).sections lt (omega (arith, sections_now, near, from)))
+          ∙ mine.ends n from old ∙ sym (behind_older n old)
+      | inr ge ↦
+          let same : n ≡ (lane_after r (lane_in m.counts l)).sections = omega (arith, ge, le, sections_now) in
+          let new : ended (lane l (actions log)) < n = omega (arith, same, more, mine.sections) in
+          ap (λ (k : ℕ). slice_index (slice_set m.ends (slot_of m.capacity l (lane_after r (lane_in m.counts l)).sections) (lane_after r (lane_in m.counts l)).place) (slot_of m.capacity l k)) same
+          ∙ get_or-set_same m.ends (slot_of m.capacity l (lane_after r (lane_in m.counts l)).sections) (lane_after r (lane_in m.counts l)).place 0 (omega (arith, slots, slot_within m.capacity m.lanes l (lane_after r (lane_in m.counts l)).sections low))
+          ∙ ap (λ (k : ℕ). k + 1) mine.place ∙ sym (behind_newest n new)
+    ]
+
+    ends_now : (n : ℕ) → base l ≤ n → n ≤ ended (lane l (actions ((l, r) ∷ log))) →
+        slice_index (ends_after m.capacity l (lane_in m.counts l) (lane_after r (lane_in m.counts l)) m.ends) (slot_of m.capacity l n) ≡ place_behind n (lane l ((l, r) ∷ log))
+    ends_now n from le = elim (cases_lt (lane_in m.counts l).sections (lane_after r (lane_in m.counts l)).sections) [
+      | inl more ↦
+          ap (λ (b : Bool). slice_index (if b then slice_set m.ends (slot_of m.capacity l (lane_after r (lane_in m.counts l)).sections) (lane_after r (lane_in m.counts l)).place else m.ends) (slot_of m.capacity l n))
+          (lt-ltb (lane_in m.counts l).sections (lane_after r (lane_in m.counts l)).sections more)
+          ∙ ends_new n from le more
+      | inr none ↦
+          let old : n ≤ ended (lane l (actions log)) = omega (arith, le, none, sections_now, mine.sections) in
+          ap (λ (b : Bool). slice_index (if b then slice_set m.ends (slot_of m.capacity l (lane_after r (lane_in m.counts l)).sections) (lane_after r (lane_in m.counts l)).place else m.ends) (slot_of m.capacity l n))
+          (le-ltb (lane_in m.counts l).sections (lane_after r (lane_in m.counts l)).sections none)
+          ∙ mine.ends n from old ∙ sym (behind_older n old)
+    ]
+
+    lane_now : TellsLane (logged_after m g l r) base ((l, r) ∷ log) l
+    lane_now = record {
+      place = ap (λ (k : LoggedLane). k.place) counted ∙ ap (λ (k : ℕ). k + 1) mine.place ∙ sym longer;
+      held = ap (λ (k : LoggedLane). k.held) counted ∙ held_now;
+      sections = ap (λ (k : LoggedLane). k.sections) counted ∙ sections_now;
+      room = omega (arith, room, start_grown base l l r log (was.whole l));
+      ends = ends_now;
+    }
+
+    -- another lane's places stay
+    ends_other : (k n : ℕ) → k ≢ l → slice_index (ends_after m.capacity l (lane_in m.counts l) (lane_after r (lane_in m.counts l)) m.ends) (slot_of m.capacity k n) ≡ slice_index m.ends (slot_of m.capacity k n)
+    ends_other k n ne = elim (nat_lt (lane_in m.counts l).sections (lane_after r (lane_in m.counts l)).sections) as
+        (λ b. slice_index (if b then slice_set m.ends (slot_of m.capacity l (lane_after r (lane_in m.counts l)).sections) (lane_after r (lane_in m.counts l)).place else m.ends) (slot_of m.capacity k n) ≡ slice_index m.ends (slot_of m.capacity k n)) [
+          | true ↦ get_or-set_other m.ends (slot_of m.capacity l (lane_after r (lane_in m.counts l)).sections) (slot_of m.capacity k n) (lane_after r (lane_in m.counts l)).place 0 (lanes_apart m.capacity k l n (lane_after r (lane_in m.counts l)).sections ne)
+          | false ↦ refl
+        ]
+
+    lane_other : (k : ℕ) → k < m.lanes → k ≢ l → TellsLane (logged_after m g l r) base ((l, r) ∷ log) k
+    lane_other k lt ne =
+        let there : TellsLane m base log k = was.lane_is k lt in
+        let records : lane k ((l, r) ∷ log) ≡ lane k log = lane_else k l r log (λ e. ne (sym e)) in
+        let acts : lane k (actions ((l, r) ∷ log)) ≡ lane k (actions log) = lane_else k l (action r) (actions log) (λ e. ne (sym e)) in
+        let count : lane_in (slice_set m.counts l (lane_after r (lane_in m.counts l))) k ≡ lane_in m.counts k = get_or-set_other m.counts l k (lane_after r (lane_in m.counts l)) new_lane ne in
+        record {
+          place = ap (λ (c : LoggedLane). c.place) count ∙ there.place ∙ ap (λ (xs : List Record). length xs) (sym records);
+          held = ap (λ (c : LoggedLane). c.held) count ∙ there.held ∙ ap (λ (xs : List Action). length (holding xs)) (sym acts);
+          sections = ap (λ (c : LoggedLane). c.sections) count ∙ there.sections ∙ ap (λ (xs : List Action). ended xs) (sym acts);
+          room = omega (arith, there.room, ap (λ (xs : List Record). length xs) records, start_grown base k l r log (was.whole k));
+          ends = λ n from le. ends_other k n ne ∙ there.ends n from (omega (arith, le, ap (λ (xs : List Action). ended xs) acts)) ∙ ap (λ (xs : List Record). place_behind n xs) (sym records);
+        }
+
+    since_now : since base (actions ((l, r) ∷ log)) ≡ (l, action r) ∷ since base (actions log)
+    since_now = ap (λ (b : Bool). if b then since base (actions log) else (l, action r) ∷ since base (actions log)) (le-ltb (ended (lane l (actions log))) (base l) (was.whole l))
+
+    pub tells_next : g.log ≡ (l, undo_action (undo_of r)) ∷ m.graph.log → g.base ≡ m.graph.base → TellsSections (logged_after m g l r) base ((l, r) ∷ log)
+    tells_next told same_base =
+        let stays : IsWhole (actions ((l, r) ∷ log)) base × IsClosed (actions ((l, r) ∷ log)) base = cut_stays s ((l, r) ∷ []) log base may.legal was.whole was.closed in
+        record {
+          whole = stays.0;
+          closed = stays.1;
+          of_lanes = All-cons (λ (x : ℕ × Record). x.0 < m.lanes) (l, r) log low was.of_lanes;
+          base_is = λ k. ap (λ (xs : List ℕ). slice_index xs k) same_base ∙ was.base_is k;
+          since_is = told ∙ (λ i. (l, action_undo r i) ∷ was.since_is i) ∙ sym since_now;
+          lane_is = λ k lt. dite (ℕ_discrete k l)
+              (λ same. subst (λ (j : ℕ). TellsLane (logged_after m g l r) base ((l, r) ∷ log) j) (sym same) lane_now)
+              (λ other. lane_other k lt other);
+        }
+
+-- nothing is known of no records
+pub tells_nothing : (m : Logged) → ((k : ℕ) → base_of m.graph k ≡ 0) → m.graph.log ≡ [] → ((k : ℕ) → lane_in m.counts k ≡ new_lane) → ((k : ℕ) → slice_index m.ends k ≡ 0) → TellsSections m (λ l. 0) []
+tells_nothing m based empty none zeros = record {
+  whole = λ l. omega arith;
+  closed = λ a b counts on. nothing_closed a b counts on;
+  of_lanes = All-nil (λ (x : ℕ × Record). x.0 < m.lanes);
+  base_is = based;
+  since_is = empty;
+  lane_is = λ l lt. record {
+    place = ap (λ (c : LoggedLane). c.place) (none l);
+    held = ap (λ (c : LoggedLane). c.held) (none l);
+    sections = ap (λ (c : LoggedLane). c.sections) (none l);
+    room = omega arith;
+    ends = λ n from le. zeros (slot_of m.capacity l n);
+  };
+}
+  where
+    nothing_closed : (a b : Section) → Counts (λ l. 0) a → DependsOn [] a b → Counts (λ l. 0) b
+    nothing_closed a b counts (Earlier e lt) = omega arith
+    nothing_closed a b counts (Took o n took freed differ) = elim took [ ]
+
+-- the records before others of a list may be logged first
+abbrev pairs : List LaneRecord → List (ℕ × Record)
+pairs xs = map (λ e. (e.lane.0, e.record)) xs
+
+pairs_append : (us vs : List LaneRecord) → pairs (us ++ vs) ≡ pairs us ++ pairs vs
+pairs_append [] vs = refl
+pairs_append (u ∷ us) vs = ap (λ (zs : List (ℕ × Record)). (u.lane.0, u.record) ∷ zs) (pairs_append us vs)
+
+log_append : (xs ys : List LaneRecord) → log_from (xs ++ ys) ≡ log_from ys ++ log_from xs
+log_append xs ys = ap (λ (zs : List LaneRecord). pairs zs) (reverse-append xs ys) ∙ pairs_append (reverse ys) (reverse xs)
+
+pub log_more : (xs : List LaneRecord) (i : ℕ) (e : LaneRecord) → i < length xs → log_from (take (i + 1) xs) ≡ ((slice_index_or xs i e).lane.0, (slice_index_or xs i e).record) ∷ log_from (take i xs)
+log_more xs i e lt = ap (λ (zs : List LaneRecord). log_from zs) (take_more xs i e lt) ∙ log_append (take i xs) (slice_index_or xs i e ∷ [])
+
+append_assoc : (xs ys zs : List (ℕ × Record)) → (xs ++ ys) ++ zs ≡ xs ++ (ys ++ zs)
+append_assoc [] ys zs = refl
+append_assoc (x ∷ xs) ys zs = ap (λ (us : List (ℕ × Record)). x ∷ us) (append_assoc xs ys zs)
+
+part_of : (s : Setting) (m : Logged) (base : ℕ → ℕ) (log xs ys : List (ℕ × Record)) → MayBeLogged s m base log (xs ++ ys) → MayBeLogged s m base log ys
+part_of s m base log xs ys may =
+    let shorter : (l : ℕ) → length (lane l (ys ++ log)) ≤ length (lane l ((xs ++ ys) ++ log)) = λ l.
+    (let split : length (lane l ((xs ++ ys) ++ log)) ≡ length (lane l xs) + length (lane l (ys ++ log)) =
+    ap (λ (us : List (ℕ × Record)). length (lane l us)) (append_assoc xs ys log) ∙ ap (λ (us : List Record). length us) (lane_append l xs (ys ++ log)) ∙ length-append (lane l xs) (lane l (ys ++ log)) in
+    omega arith) in
+    record {
+      tells = may.tells;
+      legal = legal_before s xs (ys ++ log) (subst (λ (us : List (ℕ × Record)). IsLegal s us) (append_assoc xs ys log) may.legal);
+      objects = may.objects;
+      of_lanes = after_all xs may.of_lanes;
+      room = λ l lt. omega (arith, shorter l, may.room l lt);
+      places = λ l lt. omega (arith, shorter l, may.places l lt);
+    }
+  where
+    after_all : (us : List (ℕ × Record)) → All (λ x. x.0 < m.lanes) (us ++ ys) → All (λ x. x.0 < m.lanes) ys
+    after_all [] of = of
+    after_all (u ∷ us) of = after_all us (All-tail (λ (x : ℕ × Record). x.0 < m.lanes) u (us ++ ys) of)
+
+first_of_all : (s : Setting) (m : Logged) (base : ℕ → ℕ) (log : List (ℕ × Record)) (records : List LaneRecord) (i : ℕ) → MayBeLogged s m base log (log_from records) → MayBeLogged s m base log (log_from (take i records))
+first_of_all s m base log records i may =
+    let split : log_from records ≡ log_from (drop i records) ++ log_from (take i records) = ap (λ (xs : List LaneRecord). log_from xs) (sym (take-append-drop i records)) ∙ log_append (take i records) (drop i records) in
+    part_of s m base log (log_from (drop i records)) (log_from (take i records)) (subst (λ (xs : List (ℕ × Record)). MayBeLogged s m base log xs) split may)
+
+-- the place behind the base stays as it is
+start_all : (base : ℕ → ℕ) (l : ℕ) (newer log : List (ℕ × Record)) → base l ≤ ended (lane l (actions log)) → ((x : ℕ × Record) (xs : List (ℕ × Record)) → ended (lane l (actions xs)) ≤ ended (lane l (actions (x ∷ xs)))) → (start_in base (newer ++ log) l ≡ start_in base log l) × (base l ≤ ended (lane l (actions (newer ++ log))))
+start_all base l [] log le rises = (refl, le)
+start_all base l ((m, r) ∷ newer) log le rises =
+    let rest : (start_in base (newer ++ log) l ≡ start_in base log l) × (base l ≤ ended (lane l (actions (newer ++ log)))) = start_all base l newer log le rises in
+    (start_grown base l m r (newer ++ log) rest.1 ∙ rest.0, omega (arith, rest.1, rises (m, r) (newer ++ log)))
+
+-- and then the next one
+next_of_all : (s : Setting) (m n : Logged) (base : ℕ → ℕ) (log newer : List (ℕ × Record)) (x : ℕ × Record) → MayBeLogged s m base log (x ∷ newer) → TellsSections n base (newer ++ log) → n.lanes ≡ m.lanes → n.capacity ≡ m.capacity →
+    MayBeLogged s n base (newer ++ log) (x ∷ [])
+next_of_all s m n base log newer x may tells lanes capacity = record {
+  tells = tells;
+  legal = may.legal;
+  objects = may.objects;
+  of_lanes = subst (λ (k : ℕ). All (λ (y : ℕ × Record). y.0 < k) (x ∷ [])) (sym lanes) (All-cons (λ (y : ℕ × Record). y.0 < m.lanes) x [] (All-head (λ (y : ℕ × Record). y.0 < m.lanes) x newer may.of_lanes) (All-nil (λ (y : ℕ × Record). y.0 < m.lanes)));
+  room = λ l lt. omega (arith, may.room l (omega (arith, lt, lanes)), (start_all base l newer log (may.tells.whole l) (rises l)).0, capacity);
+  places = λ l lt. may.places l (omega (arith, lt, lanes));
+}
+  where
+    rises : (l : ℕ) (y : ℕ × Record) (xs : List (ℕ × Record)) → ended (lane l (actions xs)) ≤ ended (lane l (actions (y ∷ xs)))
+    rises l (k, r) xs = elim (k == l) as (λ b. ended (lane l (actions xs)) ≤ ended (if b then action r ∷ lane l (actions xs) else lane l (actions xs))) [ true ↦ ended_rises (action r) (lane l (actions xs)) | false ↦ omega arith ]
+
+pub next_may : (s : Setting) (m n : Logged) (base : ℕ → ℕ) (log : List (ℕ × Record)) (records : List LaneRecord) (i : ℕ) (e : LaneRecord) → i < length records → MayBeLogged s m base log (log_from records) →
+    TellsSections n base (log_from (take i records) ++ log) → n.lanes ≡ m.lanes → n.capacity ≡ m.capacity → MayBeLogged s n base (log_from (take i records) ++ log) (((slice_index_or records i e).lane.0, (slice_index_or records i e).record) ∷ [])
+next_may s m n base log records i e lt may tells lanes capacity =
+    next_of_all s m n base log (log_from (take i records)) ((slice_index_or records i e).lane.0, (slice_index_or records i e).record)
+    (subst (λ (ys : List (ℕ × Record)). MayBeLogged s m base log ys) (log_more records i e lt) (first_of_all s m base log records (i + 1) may)) tells lanes capacity
+
+-- a lane from the number of lanes on has no sections
+pub none_past : (m : Logged) (base : ℕ → ℕ) (log : List (ℕ × Record)) → TellsSections m base log → (l : ℕ) → m.lanes ≤ l → ended (lane l (actions log)) ≡ 0
+none_past m base log tells l ge = ended_in_lane l log ∙ ap (λ (xs : List Record). ended (map action xs)) (lane_past m.lanes l log tells.of_lanes ge)
+
+-- the stable cut of what is known is that of the log (a trim keeps the stable cut)
+pub stable_told : (m : Logged) (base : ℕ → ℕ) (log : List (ℕ × Record)) → TellsSections m base log → (cut : ℕ → ℕ) → IsStableOf m.graph cut → IsStable (actions log) cut
+stable_told m base log tells cut of =
+    let all : IsStable (actions log) (λ l. base l + of.since l) = trim_stable (actions log) base of.since tells.whole tells.closed (subst (λ (xs : List (ℕ × Action)). IsStable xs of.since) tells.since_is of.stable) in
+    let same : (l : ℕ) → base l + of.since l ≡ cut l = λ l. ap (λ (n : ℕ). n + of.since l) (sym (tells.base_is l)) ∙ sym (of.counts l) in
+    subst (λ (c : ℕ → ℕ). IsStable (actions log) c) (λ i l. same l i) all
+
+-- the places in the table's slots are those behind the cut's sections
+pub behind_told : (m : Logged) (base : ℕ → ℕ) (log : List (ℕ × Record)) → TellsSections m base log → (cut : ℕ → ℕ) → IsStableOf m.graph cut → (places : List ℕ) →
+    ((l : ℕ) → l < m.lanes → slice_index places l ≡ slice_index m.ends (slot_of m.capacity l (cut l))) → ((l : ℕ) → m.lanes ≤ l → slice_index places l ≡ 0) →
+    (l : ℕ) → slice_index places l ≡ place_behind (cut l) (lane l log)
+behind_told m base log tells cut of places there none l = elim (cases_lt l m.lanes) [
+  | inl lt ↦
+      let from : base l ≤ cut l = omega (arith, of.counts l, tells.base_is l) in
+      there l lt ∙ (tells.lane_is l lt).ends (cut l) from ((stable_told m base log tells cut of).whole l)
+  | inr ge ↦ none l ge ∙ sym (ap (λ (xs : List Record). place_behind (cut l) xs) (lane_past m.lanes l log tells.of_lanes ge))
+]
+
+-- a list of one value
+pub one_value : {A : Type 0} → (n k : ℕ) (x : A) → slice_index_or (replicate n x) k x ≡ x
+one_value zero k x = refl
+one_value (suc n) zero x = refl
+one_value (suc n) (suc k) x = one_value n k x

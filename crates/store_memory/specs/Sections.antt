@@ -1,0 +1,58 @@
+-- What a store knows of its logged sections, as plain data, and when that is true of a log (this project's own).
+use Rattle.std.specs.Prelude.{ℕ, ◌≡◌, ◌+◌, ◌<◌, ◌≤◌, ◌^◌, nat_lt, if◌then◌else◌, List, [], ◌∷◌, ◌++◌, All, map, length, slice_index}
+use Rattle.heap_model.specs.declared.record.Record.{Record}
+use Rattle.heap_model.specs.Setting.{Setting}
+use Rattle.heap_model.specs.Log.{lane, IsLegal}
+use Rattle.heap_model.specs.Sections.{action, actions, holding, ended}
+use Rattle.heap_model.specs.Cuts.{IsWhole, IsClosed}
+use Rattle.heap_model.specs.Base.{since}
+use Rattle.dependence.specs.Trace.{Trace, base_of}
+use Rattle.store_memory.specs.declared.logged_lane.LoggedLane.{LoggedLane}
+use Rattle.store_memory.specs.Ends.{slot_of}
+use Rattle.store_memory.specs.Counted.{lane_in}
+
+-- The lanes, how many records each may have since what was trimmed, the graph of the records since, what is counted of each
+-- lane, and the places behind the sections, by slot.
+pub record Logged : Type 0 where
+  pub lanes : ℕ
+  pub capacity : ℕ
+  pub graph : Trace
+  pub counts : List LoggedLane
+  pub ends : List ℕ
+
+-- the place behind a lane's first n sections: how many records they have
+abbrev pub place_behind : (n : ℕ) → List Record → ℕ
+place_behind n [] = 0
+place_behind n (r ∷ older) = if nat_lt (ended (map action older)) n then length older + 1 else place_behind n older
+
+-- the place behind what was trimmed of the lane
+abbrev pub start_in : (base : ℕ → ℕ) → List (ℕ × Record) → (lane : ℕ) → ℕ
+start_in base log l = place_behind (base l) (lane l log)
+
+-- what is known of the lane is true of the log, of which the base was trimmed
+pub record TellsLane (m : Logged) (base : ℕ → ℕ) (log : List (ℕ × Record)) (l : ℕ) : Type 0 where
+  pub place : (lane_in m.counts l).place ≡ length (lane l log)
+  pub held : (lane_in m.counts l).held ≡ length (holding (lane l (actions log)))
+  pub sections : (lane_in m.counts l).sections ≡ ended (lane l (actions log))
+  pub room : length (lane l log) ≤ start_in base log l + m.capacity
+  -- the place behind each section since, and behind what was trimmed
+  pub ends : (n : ℕ) → base l ≤ n → n ≤ ended (lane l (actions log)) → slice_index m.ends (slot_of m.capacity l n) ≡ place_behind n (lane l log)
+
+-- what is known of the logged sections is true of this log, of which the base was trimmed
+pub record TellsSections (m : Logged) (base : ℕ → ℕ) (log : List (ℕ × Record)) : Type 0 where
+  pub whole : IsWhole (actions log) base
+  pub closed : IsClosed (actions log) base
+  pub of_lanes : All (λ x. x.0 < m.lanes) log
+  pub base_is : (l : ℕ) → base_of m.graph l ≡ base l
+  pub since_is : m.graph.log ≡ since base (actions log)
+  pub lane_is : (l : ℕ) → l < m.lanes → TellsLane m base log l
+
+-- these records, the newest first, may be logged next
+pub record MayBeLogged (s : Setting) (m : Logged) (base : ℕ → ℕ) (log newer : List (ℕ × Record)) : Type 0 where
+  pub tells : TellsSections m base log
+  pub legal : IsLegal s (newer ++ log)
+  pub objects : s.objects ≤ 4096
+  pub of_lanes : All (λ x. x.0 < m.lanes) newer
+  -- each lane has room for them, and places don't come to their end
+  pub room : (l : ℕ) → l < m.lanes → length (lane l (newer ++ log)) ≤ start_in base log l + m.capacity
+  pub places : (l : ℕ) → l < m.lanes → length (lane l (newer ++ log)) < 2 ^ 64

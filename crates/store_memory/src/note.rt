@@ -1,0 +1,75 @@
+//! What a record changes of the memory.
+
+ghost use Rattle.std.specs.Prelude.{◌≡◌, ◌+◌, ◌<◌, ◌^◌, ◌==◌, ℕ, if◌then◌else◌, length, slice_set};
+ghost use Rattle.store_memory.specs.Memory.{lane_in, awaited_after as awaited_after_record, lane_after as lane_after_record, monitors_after, fields_after};
+ghost use Rattle.store_memory.specs.Verdict.{IsNamed, NumberFits};
+
+use crate::check::{held_after, lane_at};
+use crate::states::{FieldState, LaneState, MonitorState};
+use heap_model::{Lane, ObjectId, Record};
+
+// The object on which the lane waits after the record.
+fn awaited_after(record: Record) -> Option<ObjectId>
+    ensures { result ≡ awaited_after_record «record» }
+{
+    match record {
+        Record::WaitRel { object, .. } => Some(object),
+        _ => None,
+    }
+}
+
+// The lane after the record.
+fn lane_after(record: Record, state: LaneState) -> LaneState
+    requires place { state.place + 1 < 2 ^ 64 }
+    requires held { state.held + 1 < 2 ^ 32 }
+    requires section { state.section + 1 < 2 ^ 32 }
+    ensures { result ≡ lane_after_record «record» state }
+{
+    let held = held_after(record, state.held);
+    LaneState {
+        start: state.start,
+        place: state.place + 1,
+        section: if held == 0 { 0 } else { state.section + 1 },
+        held,
+        awaited: awaited_after(record),
+    }
+}
+
+/// Notes the record of its lane.
+pub fn note_lane(lanes: &mut [LaneState], lane: Lane, record: Record)
+    requires lane { lane.0 < length lanes.old }
+    requires place { (lane_in lanes.old lane.0).place + 1 < 2 ^ 64 }
+    requires held { (lane_in lanes.old lane.0).held + 1 < 2 ^ 32 }
+    requires section { (lane_in lanes.old lane.0).section + 1 < 2 ^ 32 }
+    ensures { lanes.new ≡ slice_set lanes.old lane.0 (lane_after_record «record» (lane_in lanes.old lane.0)) }
+{
+    lanes[lane.0 as usize] = lane_after(record, lane_at(lanes, lane));
+}
+
+/// Notes who holds the record's monitor.
+pub fn note_monitor(monitors: &mut [MonitorState], fields: usize, lane: Lane, record: Record)
+    requires named { IsNamed (length monitors.old) fields «record» }
+    requires fits { NumberFits «record» }
+    ensures { monitors.new ≡ monitors_after lane «record» monitors.old }
+{
+    match record {
+        Record::Acq { object, .. } => monitors[object.0 as usize].holder = Some(lane),
+        Record::Rel { object, number } | Record::WaitRel { object, number } => {
+            monitors[object.0 as usize] = MonitorState {
+                holder: None,
+                number: number + 1,
+            };
+        }
+        Record::Put { .. } => {}
+    }
+}
+
+/// Notes the value that the record stores.
+pub fn note_store(fields: &mut [FieldState], objects: usize, record: Record)
+    requires named { IsNamed objects (length fields.old) «record» }
+    ensures { fields.new ≡ fields_after «record» fields.old }
+{
+    if let Record::Put { field, after, .. } = record {
+        fields[field.0 as usize].value = after;
+    }
+}

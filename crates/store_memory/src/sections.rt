@@ -1,0 +1,122 @@
+//! What the store knows of the logged records: which sections may be acknowledged, and where they end.
+
+ghost use Rattle.std.specs.Prelude.{◌≡◌, ◌≤◌, ◌∷◌, [], ◌++◌, ◌↔◌, ℕ, List, IsTrue, IfOk, slice_index};
+ghost use Rattle.heap_model.specs.declared.record.Record.{Record as AnyRecord};
+ghost use Rattle.heap_model.specs.Setting.{Setting};
+ghost use Rattle.heap_model.specs.Log.{lane as lane_of};
+ghost use Rattle.heap_model.specs.Sections.{actions, ended};
+ghost use Rattle.heap_model.specs.Cuts.{counts_of, IsStable};
+ghost use Rattle.heap_model.specs.Plain.{log_from};
+ghost use Rattle.store_memory.specs.Sections.{place_behind, TellsSections, MayBeLogged};
+
+use crate::ends::{are_within, count, places_behind, slots};
+use crate::logged_lane::LoggedLane;
+use crate::stable_sections::StableSections;
+use dependence::Graph;
+use heap_model::{Cut, Lane, LaneRecord, Record};
+use std::alloc::{AllocError, Global};
+use std::marker::Model;
+
+/// The sections of the logged records: how they depend on one another, and the place behind each.
+///
+/// Contracts see them as plain data, and say of which log they tell. Of that a base may have been trimmed:
+/// the sections since are numbered on, and places count the records from the first on.
+#[derive(Drop)]
+pub struct LoggedSections {
+    lanes: u8,
+    // How many records each lane may have since what was trimmed.
+    capacity: u32,
+    graph: Graph,
+    counts: [LoggedLane; 32],
+    // An area of slots for each lane: of the sections since what was trimmed, and of what was.
+    ends: Vec<u64>,
+}
+
+impl Model for LoggedSections {
+    ghost use Rattle.store_memory.specs.Sections.{Logged};
+
+    ghost Value = { Logged };
+
+    ghost use Rattle.store_memory.specs.KeptSections.{logged_of, HasSlots};
+
+    ghost view = { logged_of };
+
+    ghost invariant = { HasSlots };
+}
+
+// A lane with no records.
+const IDLE: LoggedLane = LoggedLane {
+    place: 0,
+    held: 0,
+    sections: 0,
+};
+
+impl LoggedSections {
+    /// The sections of no records, with room for so many records of each of so many lanes, at most 32.
+    ///
+    /// It takes all the memory that they will need: for each record what the graph takes and a word of
+    /// eight bytes. No other call takes memory.
+    pub fn with_capacity(
+        alloc: Global,
+        lanes: u8,
+        capacity: u32,
+    ) -> Result<LoggedSections, AllocError>
+        requires { lanes ≤ 32 }
+        ensures empty { IfOk result (λ m. TellsSections m (λ l. 0) []) }
+        ensures lanes { IfOk result (λ m. m.lanes ≡ lanes) }
+        ensures capacity { IfOk result (λ m. m.capacity ≡ capacity) }
+    {
+        Ok(LoggedSections {
+            lanes,
+            capacity,
+            graph: Graph::with_capacity(alloc, lanes, lanes as usize * capacity as usize)?,
+            counts: [IDLE; 32],
+            ends: vec![in alloc; 0; slots(lanes, capacity)]?,
+        })
+    }
+
+    /// Adds a lane's next logged record. The time is constant.
+    pub fn push(&mut self, lane: Lane, next: Record)
+        requires may { (s : Setting) × (base : ℕ → ℕ) × (log : List (ℕ × AnyRecord)) × MayBeLogged s self.old base log ((lane.0, next) ∷ []) }
+        ensures tells { (s : Setting) (base : ℕ → ℕ) (log : List (ℕ × AnyRecord)) → MayBeLogged s self.old base log ((lane.0, next) ∷ []) → TellsSections self.new base ((lane.0, next) ∷ log) }
+        ensures lanes { self.new.lanes ≡ self.old.lanes }
+        ensures capacity { self.new.capacity ≡ self.old.capacity }
+    {
+        self.graph.push(lane, &next.undo());
+        count(&mut self.counts, &mut self.ends, self.capacity, lane, next);
+    }
+
+    /// Adds the next logged records, the oldest first. The time is linear in them.
+    pub fn push_all(&mut self, records: &[LaneRecord])
+        requires may { (s : Setting) × (base : ℕ → ℕ) × (log : List (ℕ × AnyRecord)) × MayBeLogged s self.old base log (log_from records.now) }
+        ensures tells { (s : Setting) (base : ℕ → ℕ) (log : List (ℕ × AnyRecord)) → MayBeLogged s self.old base log (log_from records.now) → TellsSections self.new base (log_from records.now ++ log) }
+        ensures lanes { self.new.lanes ≡ self.old.lanes }
+        ensures capacity { self.new.capacity ≡ self.old.capacity }
+    {
+        for entry in records {
+            self.push(entry.lane, entry.record);
+        }
+    }
+
+    /// The stable cut of what is logged, and by lane the place behind its sections.
+    ///
+    /// The time is that of [`Graph::stable_cut`] and of a look for each lane.
+    pub fn stable(&mut self) -> StableSections
+        ensures stable { (base : ℕ → ℕ) (log : List (ℕ × AnyRecord)) → TellsSections self.old base log → IsStable (actions log) (counts_of result.cut) }
+        ensures behind { (base : ℕ → ℕ) (log : List (ℕ × AnyRecord)) → TellsSections self.old base log → (l : ℕ) → slice_index result.places l ≡ place_behind (counts_of result.cut l) (lane_of l log) }
+        ensures same { self.new ≡ self.old }
+    {
+        let cut = self.graph.stable_cut();
+        StableSections {
+            cut,
+            places: places_behind(self.lanes, self.capacity, &self.ends, &cut.counts),
+        }
+    }
+
+    /// Whether the cut has each logged section that has ended. One look for each lane.
+    pub fn is_all_within(&self, cut: &Cut) -> bool
+        ensures { (base : ℕ → ℕ) (log : List (ℕ × AnyRecord)) → TellsSections self.now base log → (IsTrue result ↔ ((l : ℕ) → ended (lane_of l (actions log)) ≤ counts_of cut.now l)) }
+    {
+        are_within(self.lanes, &self.counts, &cut.counts)
+    }
+}

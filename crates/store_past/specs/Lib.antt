@@ -1,0 +1,2 @@
+-- The promise: what the clauses of a store's parts are said of.
+pub mod Past
