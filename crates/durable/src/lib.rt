@@ -1,6 +1,6 @@
 //! The store (Atlas, OOPSLA 2014): what it remembers of the records applied, and the steps that make them durable.
 //!
-//! [`Store::adopt`] takes over an image. [`Store::apply`] is told the records of each lane,
+//! [`Store::format`] makes an image, [`Store::adopt`] takes it over. [`Store::apply`] is told the records of each lane,
 //! [`Store::log_step`] makes them durable, [`Store::home_step`] brings a logged value to its home cell, and
 //! [`Store::settle`] acknowledges the stable cut. Whatever a call answers, and at every moment until then, each image that
 //! a crash may leave stands for the heap of the acknowledged cut, in `settle` for that of the old one or of the new one.
@@ -8,6 +8,7 @@
 #![tactic(auto)]
 
 mod beginning;
+mod format;
 mod play;
 mod store;
 mod store_call;

@@ -1,6 +1,6 @@
 -- The size of an image.
 use Rattle.std.proofs.Common.{◌≡◌, ◌+◌, ◌*◌, ap, sym, ◌∙◌}
-use Rattle.durable.specs.Formatting.{layout_with}
+use Rattle.store_image.specs.Formatting.{layout_with}
 use Rattle.guards.specs.Schema.{Declarations}
 use Rattle.image.specs.Layout.{IsLayoutOf, size_of}
 use Rattle.image.specs.declared.layout.Layout.{Layout}

@@ -10,7 +10,7 @@ use Rattle.image.specs.Calls.{after}
 use Rattle.image.specs.Format.{format_calls}
 use Rattle.image.specs.Layout.{size_of}
 use Rattle.image.specs.declared.layout.Layout.{Layout}
-use Rattle.durable.specs.Formatting.{AreLimits, layout_with}
+use Rattle.store_image.specs.Formatting.{AreLimits, layout_with}
 use Rattle.scripts.specs.declared.answer.Answer.TheVariants.{Formatted}
 use Rattle.scripts.specs.declared.schema_fault.SchemaFault.{SchemaFault}
 use Rattle.scripts.specs.declared.schema_fault.SchemaFaultKind.{SchemaFaultKind}

@@ -16,9 +16,9 @@ use Rattle.image.specs.Header.{HasHeader}
 use Rattle.image.specs.declared.layout.Layout.{Layout}
 use Rattle.image.proofs.Reading.{one_layout}
 use Rattle.durable.specs.Calls.{MakeAll, ShowsAfterSome}
-use Rattle.durable.specs.Fresh.{IsOfLanes}
-use Rattle.durable.specs.Past.{Past, applied, after_settle}
-use Rattle.durable.specs.KeptHeap.{kept_heap}
+use Rattle.store_memory.specs.Fresh.{IsOfLanes}
+use Rattle.store_past.specs.Past.{Past, applied, after_settle}
+use Rattle.store_image.specs.KeptHeap.{kept_heap}
 use Rattle.durable.specs.Store.{Parts, ShowsStep}
 use Rattle.durable.specs.Store.ShowsStep.{Shows, ShowsLogged, ShowsSettled}
 use Rattle.durable.specs.declared.store_call.StoreCall.{StoreCall}

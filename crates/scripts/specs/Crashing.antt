@@ -7,8 +7,8 @@ use Rattle.heap_model.specs.declared.record.Record.{Record}
 use Rattle.heap_model.specs.Setting.{Setting}
 use Rattle.heap_model.specs.Sections.{actions}
 use Rattle.heap_model.specs.Cuts.{IsStable, counts_of}
-use Rattle.durable.specs.KeptHeap.{kept_heap}
-use Rattle.durable.specs.Past.{Past}
+use Rattle.store_image.specs.KeptHeap.{kept_heap}
+use Rattle.store_past.specs.Past.{Past}
 use Rattle.recover.specs.Recovery.{IsWorn}
 use Rattle.recover.specs.WholeRun.{IsAcknowledged}
 use Rattle.scripts.specs.declared.answer.Answer.{Answer}

@@ -5,8 +5,8 @@ use Rattle.guards.specs.declared.error.SchemaError.{SchemaError}
 use Rattle.guards.specs.declared.error.SchemaError.TheVariants as schema
 use Rattle.scripts.specs.declared.monitors.MonitorRefusal.{MonitorRefusal}
 use Rattle.scripts.specs.declared.monitors.MonitorRefusal.TheVariants as monitor
-use Rattle.durable.specs.declared.error.StoreError.{StoreError}
-use Rattle.durable.specs.declared.error.StoreError.TheVariants as store
+use Rattle.store_past.specs.declared.error.StoreError.{StoreError}
+use Rattle.store_past.specs.declared.error.StoreError.TheVariants as store
 use Rattle.recover.specs.declared.error.RecoverError.{RecoverError}
 use Rattle.recover.specs.declared.error.RecoverError.TheVariants as image
 use Rattle.scripts.specs.declared.answer.Refusal.{Refusal}

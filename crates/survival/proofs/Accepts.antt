@@ -33,12 +33,12 @@ use Rattle.undo_log.specs.Area.{IsOfImage, HasRecord, HasRecords}
 use Rattle.undo_log.specs.Dropped.{undo_logs, records_in}
 use Rattle.undo_log.specs.StandsFor.{row_of, settled_of, guard_in, HasLive, StandsFor}
 use Rattle.undo_log.proofs.OneHeap.{one_span, one_heap}
-use Rattle.durable.specs.Past.{Past}
-use Rattle.durable.specs.Consistent.{TellsCut, IsConsistent}
-use Rattle.durable.specs.KeptHeap.{kept_heap}
-use Rattle.durable.specs.declared.committed.Committed.{Committed}
-use Rattle.durable.proofs.Places.{live_size, cut_place}
-use Rattle.durable.proofs.Stands.{empty, none_logged, stands, shows_always}
+use Rattle.store_past.specs.Past.{Past}
+use Rattle.store_image.specs.Consistent.{TellsCut, IsConsistent}
+use Rattle.store_image.specs.KeptHeap.{kept_heap}
+use Rattle.store_image.specs.declared.committed.Committed.{Committed}
+use Rattle.store_image.proofs.Places.{live_size, cut_place}
+use Rattle.store_image.proofs.Stands.{empty, none_logged, stands, shows_always}
 use Rattle.survival.specs.Accepted.{IsLeftBy, FindsPast}
 use Rattle.recover.specs.Logs.{AreLogs, IsBadAt, lanes_of}
 use Rattle.recover.specs.Reading.{HasLayout, HasControl, RefusesRows, RefusesImage, Holds}

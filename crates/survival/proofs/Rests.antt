@@ -19,7 +19,7 @@ use Rattle.heap_model.proofs.Reorder.{split_lane}
 use Rattle.heap_model.proofs.Rebase.{ended_add, until_ends}
 use Rattle.undo_log.specs.Dropped.{undo_logs, records_in}
 use Rattle.undo_log.proofs.Back.{actions_undo}
-use Rattle.durable.proofs.Places.{records_within, past_sections, ended_undo, base_place, cut_place}
+use Rattle.store_image.proofs.Places.{records_within, past_sections, ended_undo, base_place, cut_place}
 use Rattle.recover.specs.Settled.{first_of, HasAt, TakesUnsettled}
 use Rattle.survival.proofs.LaneParts.{lane_own, lane_other}
 

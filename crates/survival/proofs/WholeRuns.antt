@@ -7,12 +7,12 @@ use Rattle.block_disk.proofs.Images.{left_now}
 use Rattle.image.specs.Recovered.{Parts}
 use Rattle.image.specs.declared.layout.Layout.{Layout}
 use Rattle.durable.specs.Calls.{MakeAll, Makes, ShowsAfterSome}
-use Rattle.durable.specs.Fresh.{IsOfLanes}
-use Rattle.durable.specs.KeptHeap.{kept_heap}
-use Rattle.durable.specs.Past.{Past, IsPast, applied, after_log, after_settle}
+use Rattle.store_memory.specs.Fresh.{IsOfLanes}
+use Rattle.store_image.specs.KeptHeap.{kept_heap}
+use Rattle.store_past.specs.Past.{Past, IsPast, applied, after_log, after_settle}
 use Rattle.durable.specs.Store.{Known, HasPast, ShowsStep}
 use Rattle.durable.specs.Store.ShowsStep.{Shows, ShowsLogged, ShowsSettled}
-use Rattle.durable.specs.declared.home.Home.TheVariants.{Wrote, Done}
+use Rattle.store_image.specs.declared.home.Home.TheVariants.{Wrote, Done}
 use Rattle.durable.specs.declared.store_call.StoreCall.{StoreCall}
 use Rattle.durable.specs.declared.store_call.StoreCall.TheVariants.{Apply, Log, Settle}
 use Rattle.durable.specs.declared.store_call.StoreCall.TheVariants.{Home as HomeStep}

@@ -8,10 +8,10 @@ use Rattle.block_disk.specs.Images.{Always}
 use Rattle.image.specs.declared.layout.Layout.{Layout}
 use Rattle.undo_log.specs.Dropped.{undo_logs}
 use Rattle.undo_log.specs.StandsFor.{guard_in, StandsFor}
-use Rattle.durable.specs.Past.{Past, IsPast}
-use Rattle.durable.specs.Consistent.{TellsCut, ShowsPast, IsConsistent}
-use Rattle.durable.specs.KeptHeap.{kept_heap}
-use Rattle.durable.specs.declared.committed.Committed.{Committed}
+use Rattle.store_past.specs.Past.{Past, IsPast}
+use Rattle.store_image.specs.Consistent.{TellsCut, ShowsPast, IsConsistent}
+use Rattle.store_image.specs.KeptHeap.{kept_heap}
+use Rattle.store_image.specs.declared.committed.Committed.{Committed}
 use Rattle.recover.specs.Logs.{lanes_of}
 use Rattle.recover.specs.Reading.{Holds, RefusesImage}
 use Rattle.recover.specs.declared.error.RecoverError.{RecoverError}

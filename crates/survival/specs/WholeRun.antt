@@ -8,8 +8,8 @@ use Rattle.block_disk.specs.Device.{Device, LeftSince}
 use Rattle.image.specs.declared.layout.Layout.{Layout}
 use Rattle.durable.specs.declared.store_call.StoreCall.{StoreCall}
 use Rattle.durable.specs.Calls.{MakeAll}
-use Rattle.durable.specs.KeptHeap.{kept_heap}
-use Rattle.durable.specs.Past.{Past}
+use Rattle.store_image.specs.KeptHeap.{kept_heap}
+use Rattle.store_past.specs.Past.{Past}
 use Rattle.recover.specs.declared.error.RecoverError.{RecoverError}
 use Rattle.recover.specs.declared.error.RecoverError.TheVariants.{Fault, NoMemory, Worn}
 use Rattle.recover.specs.Recovery.{IsWorn}
