@@ -1,8 +1,10 @@
--- How the images that a crash may leave follow the calls.
+-- How the images that a crash may leave follow the calls. What stands here as a law of specs/Laws.antt is for crates
+-- above too: one that speaks of any P is of a size that no clause may have, so it is cited from here.
 use Rattle.std.proofs.Common.{◌≡◌, ◌⊎◌, inl, inr, ⊎_elim, ℕ, ◌+◌, ◌<◌, ◌≤◌, List, [], ◌∷◌, ◌++◌, length, Result, Ok, Err, OnOk, IsErrOf, refl, sym, ◌∙◌, ap, subst, arith}
 use Rattle.block_disk.specs.Bytes.{spliced}
 use Rattle.block_disk.specs.Device.{Range, Moment, Device, range_of, SameOutside, Image, LeftIn, LeftSince, written, synced, SameMoments, TornWrite}
-use Rattle.block_disk.specs.Images.{LeavesOnly, Always, ImageBut, Survives}
+use Rattle.block_disk.specs.Images.{LeavesOnly, Always, ImageBut}
+use Rattle.block_disk.specs.Laws.{AgainLaw, AlwaysLaw, BeginLaw, ButLaw, FollowsLaw, KeptLaw, NoChangeLaw, NoneLaw, NowLaw, NowTooLaw, OnlyLaw, ReadsLaw, StaysLaw, SurvivesLaw, SyncLaw, ThenLaw, WeakerLaw, WiderLaw}
 use Rattle.block_disk.specs.declared.error.DiskError.{DiskError}
 use Rattle.block_disk.specs.declared.error.DiskError.TheVariants.{Fault, OutOfRange}
 use Rattle.block_disk.proofs.Ranges.{outside_refl, outside_trans, outside_none, outside_both, spliced_same, torn_back, torn_forth}
@@ -10,7 +12,7 @@ use Rattle.block_disk.proofs.Ranges.{outside_refl, outside_trans, outside_none, 
 -- Images now.
 
 -- what reads is one of the images
-pub image_now : (d : Device) → Image d.now d.now.bytes
+pub image_now : ReadsLaw
 image_now d = outside_refl d.now.pending d.now.bytes
 
 -- what each image has, what reads has
@@ -22,10 +24,10 @@ pub only_now : (d : Device) (image : List ℕ) → d.now.pending ≡ [] → Imag
 only_now d image is left = outside_none d.now.bytes image (subst (λ (rs : List Range). SameOutside rs d.now.bytes image) is left)
 
 -- and so each image has what it has
-pub always_only : (d : Device) (P : List ℕ → Type 0) → d.now.pending ≡ [] → P d.now.bytes → Always d P
+pub always_only : OnlyLaw
 always_only d P is here image left = subst P (sym (only_now d image is left)) here
 
-pub always_weaker : (d : Device) (P Q : List ℕ → Type 0) → ((image : List ℕ) → P image → Q image) → Always d P → Always d Q
+pub always_weaker : AlwaysLaw
 always_weaker d P Q to always image left = to image (always image left)
 
 pub always_same : (old new : Device) (P : List ℕ → Type 0) → SameMoments old new → Always old P → Always new P
@@ -34,11 +36,11 @@ always_same old new P same always image left = always image (subst (λ (m : Mome
 -- Images but for some ranges.
 
 -- each image is one of them
-pub besides_none : (d : Device) (rs : List Range) → Always d (ImageBut d rs)
+pub besides_none : NoneLaw
 besides_none d rs image left = (image, left, outside_refl rs image)
 
 -- more bytes in the same ranges
-pub besides_then : (old mid : Device) (rs : List Range) (image : List ℕ) → Always mid (ImageBut old rs) → ImageBut mid rs image → ImageBut old rs image
+pub besides_then : AgainLaw
 besides_then old mid rs image always (before, left, same) =
     let earlier = always before left in (earlier.0, earlier.1, outside_trans rs earlier.0 before image earlier.2 same)
 
@@ -48,33 +50,32 @@ besides_union old mid rs ss image always (before, left, same) =
     let earlier = always before left in (earlier.0, earlier.1, outside_both rs ss earlier.0 before image earlier.2 same)
 
 -- in ranges that cover more
-pub besides_wider : (d : Device) (rs ss : List Range) (image : List ℕ) → ((old new : List ℕ) → SameOutside rs old new → SameOutside ss old new)
-    → ImageBut d rs image → ImageBut d ss image
+pub besides_wider : WiderLaw
 besides_wider d rs ss image to (before, left, same) = (before, left, to before image same)
 
 pub besides_same : (old mid : Device) (rs : List Range) (image : List ℕ) → SameMoments old mid → ImageBut mid rs image → ImageBut old rs image
 besides_same old mid rs image same (before, left, change) = (before, subst (λ (m : Moment). Image m before) same.now left, change)
 
 -- over a device with nothing pending: what reads, but for the ranges
-pub besides_only : (d : Device) (rs : List Range) (image : List ℕ) → d.now.pending ≡ [] → ImageBut d rs image → SameOutside rs d.now.bytes image
+pub besides_only : ButLaw
 besides_only d rs image is (before, left, same) = subst (λ (l : List ℕ). SameOutside rs l image) (only_now d before is left) same
 
 -- what holds of each image and survives bytes in the ranges holds of each such image
-pub besides_survives : (d : Device) (rs : List Range) (P : List ℕ → Type 0) → Always d P → Survives rs P → (image : List ℕ) → ImageBut d rs image → P image
+pub besides_survives : KeptLaw
 besides_survives d rs P always survives image (before, left, same) = survives before image (always before left) same
 
 -- everything survives no change
-pub survives_none : (P : List ℕ → Type 0) → Survives [] P
+pub survives_none : NoChangeLaw
 survives_none P xs ys p same = subst P (sym (outside_none xs ys same)) p
 
 -- How a run of calls goes on.
 
 -- no call
-pub begin : (d : Device) (P : List ℕ → Type 0) → LeavesOnly d d P
+pub begin : BeginLaw
 begin d P = record { later = omega arith; each = λ t image le left. inl left; keeps = λ t image le left. left }
 
 -- calls, and then others
-pub and_then : (old mid new : Device) (P : List ℕ → Type 0) → LeavesOnly old mid P → LeavesOnly mid new P → LeavesOnly old new P
+pub and_then : ThenLaw
 and_then old mid new P a b = record {
   later = omega (arith, a.later, b.later);
   each = λ t image le left. ⊎_elim (λ was. a.each t image le was) (λ p. inr p) (b.each t image (omega (arith, le, a.later)) left);
@@ -82,7 +83,7 @@ and_then old mid new P a b = record {
 }
 
 -- what P implies
-pub weaker : (old new : Device) (P Q : List ℕ → Type 0) → ((image : List ℕ) → P image → Q image) → LeavesOnly old new P → LeavesOnly old new Q
+pub weaker : WeakerLaw
 weaker old new P Q to a = record {
   later = a.later;
   each = λ t image le left. ⊎_elim (λ was. inl was) (λ p. inr (to image p)) (a.each t image le left);
@@ -90,8 +91,7 @@ weaker old new P Q to a = record {
 }
 
 -- one more call, of which it is known that it leaves images from before it but for some bytes
-pub follows : (old mid new : Device) (P : List ℕ → Type 0) (rs : List Range) → LeavesOnly old mid P → LeavesOnly mid new (ImageBut mid rs)
-    → ((image : List ℕ) → ImageBut mid rs image → P image) → LeavesOnly old new P
+pub follows : FollowsLaw
 follows old mid new P rs a b to = and_then old mid new P a (weaker mid new (ImageBut mid rs) P to b)
 
 -- one moment more, each of whose images has P
@@ -103,7 +103,7 @@ passes old new P is always = record {
 }
 
 -- the same moments
-pub stays : (old new : Device) (P : List ℕ → Type 0) → SameMoments old new → LeavesOnly old new P
+pub stays : StaysLaw
 stays old new P same = record {
   later = omega (arith, ap length same.past);
   each = λ t image le left. inl (subst (λ (ms : List Moment). LeftIn t ms image) (λ i. same.now i ∷ same.past i) left);
@@ -122,7 +122,7 @@ none_before (m ∷ ms) t image le (inl now) = absurd (omega (arith, now.0))
 none_before (m ∷ ms) t image le (inr was) = none_before ms t image (omega arith) was
 
 -- an image that a crash since this very moment might have left is one that a crash now may leave
-pub left_now : (d : Device) (image : List ℕ) → LeftSince (length d.past) d image → Image d.now image
+pub left_now : NowLaw
 left_now d image left = ⊎_elim (λ now. now.1) (λ was. absurd (none_before d.past (length d.past) image (omega arith) was)) left
 
 -- an image that a crash now may leave is one that a crash since an earlier moment might have left
@@ -130,13 +130,13 @@ pub left_since : (t : ℕ) (d : Device) (image : List ℕ) → t ≤ length d.pa
 left_since t d image le left = inl (le, left)
 
 -- what held of each image before the calls and holds of those that they leave, holds of each image after them
-pub now_too : (old new : Device) (P : List ℕ → Type 0) → Always old P → LeavesOnly old new P → Always new P
+pub now_too : NowTooLaw
 now_too old new P always leaves image left =
     ⊎_elim (λ was. always image (left_now old image was)) (λ p. p)
     (leaves.each (length old.past) image (omega arith) (left_since (length old.past) new image leaves.later left))
 
 -- what holds of each image and survives bytes in the ranges goes on to hold at each moment
-pub survives : (old new : Device) (rs : List Range) (P : List ℕ → Type 0) → Always old P → Survives rs P → LeavesOnly old new (ImageBut old rs) → LeavesOnly old new P × Always new P
+pub survives : SurvivesLaw
 survives old new rs P always keeps leaves =
     let all = weaker old new (ImageBut old rs) P (besides_survives old rs P always keeps) leaves in (all, now_too old new P always all)
 
@@ -183,7 +183,7 @@ written_possible at bytes old image fits (before, was, torn) =
 -- What a sync leaves, whatever it answers.
 
 -- images from before it, and no others
-pub leaves_synced : (old new : Device) → new ≡ synced old → LeavesOnly old new (ImageBut old [])
+pub leaves_synced : SyncLaw
 leaves_synced old new is =
     let always : Always (synced old) (ImageBut old []) = always_only (synced old) (ImageBut old []) refl (besides_none old [] old.now.bytes (image_now old)) in
     passes old new (ImageBut old []) (λ i. (is i).past) (subst (λ (d : Device). Always d (ImageBut old [])) (sym is) always)

@@ -4,5 +4,6 @@ pub mod Device
 pub mod Images
 pub mod Memory
 pub mod Crash
+pub mod Laws
 -- Scaffold: what proofs need.
 pub mod Calls

@@ -1,6 +1,5 @@
 //! Why a disk refuses a call.
 ghost use Rattle.std.specs.Prelude.{◌≡◌, ◌+◌, ◌-◌, ◌^◌, min};
-ghost use Rattle.block_disk.specs.declared.error.DiskError.TheVariants.{Fault};
 
 use thiserror::Error;
 
@@ -15,10 +14,16 @@ pub enum DiskError {
     OutOfRange,
 }
 
+/// The device has failed: the one thing that can go wrong with a call that lies within a disk. Each crate above has it
+/// as a case of its own error, into which `?` turns it.
+#[derive(Clone, Copy, Debug, PartialEq, Eq, Error)]
+#[error("fault")]
+pub struct Fault;
+
 /// Counts a failure of a disk, and gives what its call answers then.
 pub fn fail(failures: &mut u64) -> DiskError
     ensures counted { failures.new ≡ min (failures.old + 1) (2 ^ 64 - 1) }
-    ensures fault { result ≡ Fault }
+    ensures fault { result ≡ DiskError.Fault }
 {
     *failures = failures.saturating_add(1);
     DiskError::Fault

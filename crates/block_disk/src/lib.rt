@@ -10,13 +10,15 @@ mod call;
 mod crash;
 mod disk;
 mod error;
+mod laws;
 mod memory;
 mod place;
 
 pub use access::{make_durable, read_within, write_through, write_within};
 pub use crash::Fill;
 pub use disk::Disk;
-pub use error::{DiskError, fail};
+pub use error::{DiskError, Fault, fail};
+pub use laws::{image_but_law, image_law, sync_law};
 pub use memory::MemDisk;
 pub use place::{copy_out, lies_within, overwrite};
 

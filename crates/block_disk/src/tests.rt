@@ -167,7 +167,7 @@ fn rewrites<D: Disk>(disk: &mut D) -> Result<[u8; 2], DiskError> {
 }
 
 // Two bytes, each written by one of the calls within a disk, and read.
-fn written_within(disk: &mut MemDisk) -> Result<[u8; 2], DiskError>
+fn written_within(disk: &mut MemDisk) -> Result<[u8; 2], Fault>
     requires { 2 ≤ length (device_of disk.old).now.bytes }
 {
     let mut out = [0; 2];
@@ -193,6 +193,8 @@ fn calls_within_a_disk_write_sync_and_read(rt: HostRuntime) -> Result<(), Fail> 
 fn errors_have_texts(rt: HostRuntime) -> Result<(), Fail> {
     let fault = format!(in rt.alloc(); "{}", DiskError::Fault)?;
     assert_eq!(rt; fault.as_str(), "fault");
+    let lone = format!(in rt.alloc(); "{}", Fault)?;
+    assert_eq!(rt; lone.as_str(), "fault");
     let out_of_range = format!(in rt.alloc(); "{}", DiskError::OutOfRange)?;
     assert_eq!(rt; out_of_range.as_str(), "out of range");
     Ok(())
