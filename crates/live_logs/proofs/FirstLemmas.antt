@@ -7,7 +7,7 @@ use Rattle.std.proofs.lemmas.List.Elements.{All-contains, Contains-append_cases,
 use Rattle.heap_model.specs.declared.ids.ObjectId.{ObjectId}
 use Rattle.heap_model.specs.declared.record.UndoRecord.{UndoRecord}
 use Rattle.heap_model.specs.declared.record.UndoRecord.TheVariants.{Acq, Rel, WaitRel, Put}
-use Rattle.live_logs.specs.Limits.{IsInRange}
+use Rattle.log_state.specs.Limits.{IsInRange}
 use Rattle.live_logs.specs.Logs.{records_of, lanes_of}
 use Rattle.live_logs.specs.Replay.{BeginsAt}
 use Rattle.live_logs.specs.First.{lowered, IsLowered, IsLowestOf}

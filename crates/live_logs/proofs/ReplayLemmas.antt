@@ -1,33 +1,21 @@
 -- The greedy replay, step by step.
-use Rattle.std.proofs.Common.{ℕ, zero, suc, ◌≡◌, ◌≢◌, ◌+◌, ◌-◌, ◌<◌, ◌≤◌, ◌==◌, if◌then◌else◌, ◌++◌, Bool, List, [], ◌∷◌, length, map, get_or, take, drop, refl, sym, ap, ◌∙◌, subst, inl, inr, arith, Option, Some, None, Contains, replicate, slice_index, slice_set, get_or-set_same, get_or-set_other, length-append, length-drop}
-use Rattle.std.specs.Prelude.{slice_get, slice_index_or, All}
+use Rattle.std.proofs.Common.{ℕ, zero, suc, ◌≡◌, ◌≢◌, ◌+◌, ◌-◌, ◌<◌, ◌≤◌, if◌then◌else◌, ◌++◌, Bool, List, [], ◌∷◌, length, map, get_or, take, drop, refl, sym, ap, ◌∙◌, subst, inl, inr, arith, Option, Some, Contains, replicate, slice_index, length-append, length-drop}
+use Rattle.std.specs.Prelude.{slice_get, All}
 use Rattle.std.proofs.lemmas.Bool.{cases_eq, cases_lt}
 use Rattle.std.proofs.lemmas.Bool.Decides.{eqb_tells}
 use Rattle.std.proofs.lemmas.List.{take-append-drop, reverse-append}
 use Rattle.std.proofs.lemmas.List.Elements.{All-contains}
 use Rattle.std.proofs.lemmas.Option.{slice_get_within, get_or_from_slice_get, slice_get-get_or}
 use Rattle.heap_model.specs.Log.{lane}
-use Rattle.live_logs.specs.Limits.{IsInRange}
-use Rattle.heap_model.specs.declared.ids.Lane.{Lane}
+use Rattle.log_state.specs.Limits.{IsOfObjects}
+use Rattle.log_state.specs.Monitors.{AreMonitors}
+use Rattle.log_state.specs.declared.monitors.Monitors.{Monitors}
+use Rattle.log_state.proofs.MonitorLemmas.{allowed_by, by_allowed}
 use Rattle.heap_model.specs.declared.record.UndoRecord.{UndoRecord}
-use Rattle.heap_model.specs.declared.record.UndoRecord.TheVariants.{Acq, Rel, WaitRel, Put}
+use Rattle.heap_model.specs.declared.record.UndoRecord.TheVariants.{Put}
 use Rattle.live_logs.specs.declared.step.Step.{Step}
-use Rattle.live_logs.specs.declared.monitors.Monitors.{Monitors}
-use Rattle.live_logs.specs.Replay.{holder, number, BeginsAt, MayFollow, IsAllowed, IsNext, GoesOn, IsReplay, IsDone}
-use Rattle.live_logs.specs.Tables.{IsAllowedBy, holders_after, numbers_after, IsOfObjects, GoesOnBy, IsLeastBy, AreMonitors, AreLeft, IsMidway, log_of}
-
--- what is known by the tables is known of the records
-allowed_by : (guard first : ℕ → ℕ) (done : List (ℕ × UndoRecord)) (t : Monitors) (l : ℕ) (r : UndoRecord) → IsOfObjects guard 4096 r → AreMonitors first done t → IsAllowedBy guard t l r → IsAllowed guard first done l r
-allowed_by guard first done t l (Acq o n) low are h = (sym (are.holders o.0 low) ∙ h.0, sym (are.numbers o.0 low) ∙ h.1)
-allowed_by guard first done t l (Rel o n) low are h = (sym (are.holders o.0 low) ∙ h.0, sym (are.numbers o.0 low) ∙ h.1)
-allowed_by guard first done t l (WaitRel o n) low are h = (sym (are.holders o.0 low) ∙ h.0, sym (are.numbers o.0 low) ∙ h.1)
-allowed_by guard first done t l (Put f before) low are h = sym (are.holders (guard f.0) low) ∙ h
-
-by_allowed : (guard first : ℕ → ℕ) (done : List (ℕ × UndoRecord)) (t : Monitors) (l : ℕ) (r : UndoRecord) → IsOfObjects guard 4096 r → AreMonitors first done t → IsAllowed guard first done l r → IsAllowedBy guard t l r
-by_allowed guard first done t l (Acq o n) low are h = (are.holders o.0 low ∙ h.0, are.numbers o.0 low ∙ h.1)
-by_allowed guard first done t l (Rel o n) low are h = (are.holders o.0 low ∙ h.0, are.numbers o.0 low ∙ h.1)
-by_allowed guard first done t l (WaitRel o n) low are h = (are.holders o.0 low ∙ h.0, are.numbers o.0 low ∙ h.1)
-by_allowed guard first done t l (Put f before) low are h = are.holders (guard f.0) low ∙ h
+use Rattle.live_logs.specs.Replay.{BeginsAt, MayFollow, IsNext, GoesOn, IsReplay, IsDone}
+use Rattle.live_logs.specs.Tables.{GoesOnBy, IsLeastBy, AreLeft, IsMidway, log_of}
 
 -- a list from a place on
 get_drop : {A : Type 0} (xs : List A) (n : ℕ) → slice_get (drop n xs) 0 ≡ slice_get xs n
@@ -84,42 +72,6 @@ by_goes_on guard first lanes done t left l r midway named h =
       allowed = by_allowed guard first done t l r (All-contains (IsOfObjects guard 4096) xs r named (subst (λ (ys : List UndoRecord). Contains ys r) (sym h.next.1) (contains_behind h.next.0 r (lane l done)))) midway.monitors h.allowed;
     }
 
--- the tables after one more record
-holders_set : (holders : List (Option Lane)) (p o : ℕ) (now : Option Lane) (was : Option Lane) → length holders ≡ 4096 → p < 4096 → slice_index_or holders o None ≡ was → slice_index_or (slice_set holders p now) o None ≡ (if p == o then now else was)
-holders_set holders p o now was long low is = elim (eqb_tells p o) [
-  | inl e ↦ subst (λ (b : Bool). slice_index_or (slice_set holders p now) o None ≡ (if b then now else was)) (sym e.0)
-      (ap (λ (k : ℕ). slice_index_or (slice_set holders p now) k None) (sym e.1) ∙ get_or-set_same holders p now None (omega arith))
-  | inr e ↦ subst (λ (b : Bool). slice_index_or (slice_set holders p now) o None ≡ (if b then now else was)) (sym e.0)
-      (get_or-set_other holders p o now None (λ same. e.1 (sym same)) ∙ is)
-]
-
-numbers_set : (numbers : List ℕ) (p o now was : ℕ) → length numbers ≡ 4096 → p < 4096 → slice_index numbers o ≡ was → slice_index (slice_set numbers p now) o ≡ (if p == o then now else was)
-numbers_set numbers p o now was long low is = elim (eqb_tells p o) [
-  | inl e ↦ subst (λ (b : Bool). slice_index (slice_set numbers p now) o ≡ (if b then now else was)) (sym e.0)
-      (ap (slice_index (slice_set numbers p now)) (sym e.1) ∙ get_or-set_same numbers p now 0 (omega arith))
-  | inr e ↦ subst (λ (b : Bool). slice_index (slice_set numbers p now) o ≡ (if b then now else was)) (sym e.0)
-      (get_or-set_other numbers p o now 0 (λ same. e.1 (sym same)) ∙ is)
-]
-
-tables_after : (first : ℕ → ℕ) (done : List (ℕ × UndoRecord)) (t : Monitors) (l : ℕ) (r : UndoRecord) → length t.holders ≡ 4096 → length t.numbers ≡ 4096 → IsInRange r → AreMonitors first done t → (u : Monitors) →
-    u.holders ≡ holders_after t.holders l r → u.numbers ≡ numbers_after t.numbers r → AreMonitors first ((l, r) ∷ done) u
-tables_after first done t l (Acq p n) hs ns range are u h k = record {
-  holders = λ o lt. ap (λ (xs : List (Option Lane)). slice_index_or xs o None) h ∙ holders_set t.holders p.0 o (Some (record { 0 = l })) (holder o done) hs range.0 (are.holders o lt);
-  numbers = λ o lt. ap (λ (xs : List ℕ). slice_index xs o) k ∙ are.numbers o lt;
-}
-tables_after first done t l (Rel p n) hs ns range are u h k = record {
-  holders = λ o lt. ap (λ (xs : List (Option Lane)). slice_index_or xs o None) h ∙ holders_set t.holders p.0 o None (holder o done) hs range.0 (are.holders o lt);
-  numbers = λ o lt. ap (λ (xs : List ℕ). slice_index xs o) k ∙ numbers_set t.numbers p.0 o (n + 1) (number first o done) ns range.0 (are.numbers o lt);
-}
-tables_after first done t l (WaitRel p n) hs ns range are u h k = record {
-  holders = λ o lt. ap (λ (xs : List (Option Lane)). slice_index_or xs o None) h ∙ holders_set t.holders p.0 o None (holder o done) hs range.0 (are.holders o lt);
-  numbers = λ o lt. ap (λ (xs : List ℕ). slice_index xs o) k ∙ numbers_set t.numbers p.0 o (n + 1) (number first o done) ns range.0 (are.numbers o lt);
-}
-tables_after first done t l (Put f before) hs ns range are u h k = record {
-  holders = λ o lt. ap (λ (xs : List (Option Lane)). slice_index_or xs o None) h ∙ are.holders o lt;
-  numbers = λ o lt. ap (λ (xs : List ℕ). slice_index xs o) k ∙ are.numbers o lt;
-}
-
 -- how many records are left after one more
 left_after : (lanes : ℕ → List UndoRecord) (done : List (ℕ × UndoRecord)) (left now : ℕ → ℕ) (l : ℕ) (r : UndoRecord) → AreLeft lanes done left → 0 < left l → slice_get (lanes l) (left l - 1) ≡ Some r →
     now l ≡ left l - 1 → ((m : ℕ) → m ≢ l → now m ≡ left m) → AreLeft lanes ((l, r) ∷ done) now
@@ -139,12 +91,12 @@ left_after lanes done left now l r are some next here others = record {
 }
 
 -- the replay goes on by one step
-pub midway_after : (guard first : ℕ → ℕ) (lanes : ℕ → List UndoRecord) (done : List (ℕ × UndoRecord)) (t u : Monitors) (left now : ℕ → ℕ) (limit l : ℕ) (r : UndoRecord) → length t.holders ≡ 4096 → length t.numbers ≡ 4096 →
-    ((m : ℕ) → All (IsOfObjects guard 4096) (lanes m)) → IsInRange r → IsMidway guard first lanes done t left → IsLeastBy guard t lanes left limit l r →
-    u.holders ≡ holders_after t.holders l r → u.numbers ≡ numbers_after t.numbers r → now l ≡ left l - 1 → ((m : ℕ) → m ≢ l → now m ≡ left m) → IsMidway guard first lanes ((l, r) ∷ done) u now
-midway_after guard first lanes done t u left now limit l r hs ns named range midway least h k here others = record {
+pub midway_after : (guard first : ℕ → ℕ) (lanes : ℕ → List UndoRecord) (done : List (ℕ × UndoRecord)) (t u : Monitors) (left now : ℕ → ℕ) (limit l : ℕ) (r : UndoRecord) →
+    ((m : ℕ) → All (IsOfObjects guard 4096) (lanes m)) → IsMidway guard first lanes done t left → IsLeastBy guard t lanes left limit l r →
+    AreMonitors first ((l, r) ∷ done) u → now l ≡ left l - 1 → ((m : ℕ) → m ≢ l → now m ≡ left m) → IsMidway guard first lanes ((l, r) ∷ done) u now
+midway_after guard first lanes done t u left now limit l r named midway least noted here others = record {
   greedy = (midway.greedy, goes_on guard first lanes done t left l r midway (named l) least.goes, λ m next lt goes. least.least m next lt (by_goes_on guard first lanes done t left m next midway (named m) goes));
-  monitors = tables_after first done t l r hs ns range midway.monitors u h k;
+  monitors = noted;
   rest = left_after lanes done left now l r midway.rest least.goes.some least.goes.next here others;
 }
 

@@ -8,7 +8,7 @@ use Rattle.heap_model.specs.Log.{lane}
 use Rattle.heap_model.specs.declared.ids.Lane.{Lane}
 use Rattle.heap_model.specs.declared.record.UndoRecord.{UndoRecord}
 use Rattle.heap_model.specs.declared.record.UndoRecord.TheVariants.{Acq, Rel, WaitRel, Put}
-use Rattle.live_logs.specs.Limits.{IsInRange}
+use Rattle.log_state.specs.Limits.{IsInRange}
 use Rattle.live_logs.specs.declared.crossings.LanePlace.{LanePlace}
 use Rattle.live_logs.specs.declared.crossings.Crossings.{Crossings}
 use Rattle.live_logs.specs.declared.step.Step.{Step}

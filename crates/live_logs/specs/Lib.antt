@@ -1,6 +1,5 @@
 -- What public clauses state, in the order to read them.
 pub mod Logs
-pub mod Limits
 pub mod Replay
 pub mod Settled
 pub mod Tables

@@ -1,29 +1,13 @@
 -- The greedy replay of the lanes' live records (this project's own). What a record needs is as in a legal record list, but
 -- for the values, which undo records don't have. Lists have their newest element first.
-use Rattle.std.specs.Prelude.{ℕ, ◌≡◌, ◌+◌, ◌<◌, ◌≤◌, ◌==◌, if◌then◌else◌, List, [], ◌∷◌, ◌++◌, length, slice_get, Contains, Option, Some, None}
+use Rattle.std.specs.Prelude.{ℕ, ◌≡◌, ◌<◌, ◌≤◌, List, [], ◌∷◌, ◌++◌, length, slice_get, Contains, Option, Some, None}
 use Rattle.heap_model.specs.Log.{lane}
 use Rattle.heap_model.specs.declared.ids.ObjectId.{ObjectId}
-use Rattle.heap_model.specs.declared.ids.Lane.{Lane}
 use Rattle.heap_model.specs.declared.record.UndoRecord.{UndoRecord}
 use Rattle.heap_model.specs.declared.record.UndoRecord.TheVariants.{Acq, Rel, WaitRel, Put}
+pub use Rattle.log_state.specs.Monitors.{holder, number, IsAllowed}
 use Rattle.live_logs.specs.declared.error.LogsError.{LogsError}
 use Rattle.live_logs.specs.declared.error.LogsError.TheVariants.{IllegalLog, NoMemory}
-
--- the lane that holds the object after these records
-abbrev pub holder : (object : ℕ) → List (ℕ × UndoRecord) → Option Lane
-holder o [] = None
-holder o ((l, Acq p n) ∷ older) = if p.0 == o then Some (record { 0 = l }) else holder o older
-holder o ((l, Rel p n) ∷ older) = if p.0 == o then None else holder o older
-holder o ((l, WaitRel p n) ∷ older) = if p.0 == o then None else holder o older
-holder o ((l, Put f before) ∷ older) = holder o older
-
--- the object's release number after these records, from its number at first
-abbrev pub number : (first : ℕ → ℕ) → (object : ℕ) → List (ℕ × UndoRecord) → ℕ
-number first o [] = first o
-number first o ((l, Acq p n) ∷ older) = number first o older
-number first o ((l, Rel p n) ∷ older) = if p.0 == o then n + 1 else number first o older
-number first o ((l, WaitRel p n) ∷ older) = if p.0 == o then n + 1 else number first o older
-number first o ((l, Put f before) ∷ older) = number first o older
 
 -- an object's number at first is the least at which a lane takes it
 pub record BeginsAt (lanes : ℕ → List UndoRecord) (first : ℕ → ℕ) : Type 0 where
@@ -40,13 +24,6 @@ MayFollow (Some (Acq o n)) r = Unit {0}
 MayFollow (Some (Rel o n)) r = Unit {0}
 MayFollow (Some (Put f before)) r = Unit {0}
 MayFollow None r = Unit {0}
-
--- the lane takes a free object at its number, frees one that it holds from that number, or stores to a field whose guard it holds
-abbrev pub IsAllowed : (guard first : ℕ → ℕ) → List (ℕ × UndoRecord) → (lane : ℕ) → UndoRecord → Type 0
-IsAllowed guard first older l (Acq o n) = (holder o.0 older ≡ None) × (number first o.0 older ≡ n)
-IsAllowed guard first older l (Rel o n) = (holder o.0 older ≡ Some (record { 0 = l })) × (number first o.0 older ≡ n)
-IsAllowed guard first older l (WaitRel o n) = (holder o.0 older ≡ Some (record { 0 = l })) × (number first o.0 older ≡ n)
-IsAllowed guard first older l (Put f before) = holder (guard f.0) older ≡ Some (record { 0 = l })
 
 -- the lane's next record, where these were done
 abbrev pub IsNext : (lanes : ℕ → List UndoRecord) → List (ℕ × UndoRecord) → (lane : ℕ) → UndoRecord → Type 0

@@ -1,14 +1,8 @@
 -- How a lane's records are counted.
-use Rattle.std.specs.Prelude.{ℕ, ◌≡◌, ◌≤◌, length, take, List, [], ◌∷◌, map, reverse, Contains}
-use Rattle.heap_model.specs.Sections.{Action, Takes, Frees, Stores, undo_action, holding, ended}
+use Rattle.std.specs.Prelude.{ℕ, ◌≡◌, ◌≤◌, length, take, List, map, reverse}
+use Rattle.heap_model.specs.Sections.{Action, undo_action, holding, ended}
 use Rattle.heap_model.specs.declared.record.UndoRecord.{UndoRecord}
-
--- each release is of an object that the lane holds
-abbrev pub FreesHeld : List Action → Type 0
-FreesHeld [] = Unit {0}
-FreesHeld (Takes o n ∷ older) = FreesHeld older
-FreesHeld (Frees o n ∷ older) = FreesHeld older × Contains (holding older) o
-FreesHeld (Stores ∷ older) = FreesHeld older
+pub use Rattle.log_state.specs.Lanes.{FreesHeld}
 
 -- what records, which have the oldest first, did; the newest is first
 abbrev pub acts_of : List UndoRecord → List Action

@@ -1,10 +1,10 @@
 //! Whether lanes' live records are logs that threads can have left.
 ghost use Rattle.std.specs.Prelude.{◌≡◌, ◌<◌, ◌≤◌, ℕ, All, IfErr, IfOk, MatchResult, length};
-ghost use Rattle.live_logs.specs.Limits.{IsInRange};
+ghost use Rattle.log_state.specs.Limits.{IsInRange, IsOfObjects};
 ghost use Rattle.live_logs.specs.Logs.{guard_in, kept_of, lanes_of, records_of, settled_of};
 ghost use Rattle.live_logs.specs.Replay.{Replays};
 ghost use Rattle.live_logs.specs.Settled.{AreLegal, IsPlaceIn, RefusesLegal};
-ghost use Rattle.live_logs.specs.Tables.{IsLow, IsOfObjects, log_of};
+ghost use Rattle.live_logs.specs.Tables.{IsLow, log_of};
 
 use crate::error::LogsError;
 use crate::replay::replay;

@@ -1,13 +1,13 @@
 //! The objects' numbers at the beginning of a replay.
 ghost use Rattle.std.specs.Prelude.{◌≡◌, ◌<◌, ◌≤◌, [], ◌∷◌, ℕ, All, length, slice_index};
-ghost use Rattle.live_logs.specs.Limits.{IsInRange};
+ghost use Rattle.log_state.specs.Limits.{IsInRange};
 ghost use Rattle.live_logs.specs.Logs.{records_of, lanes_of};
 ghost use Rattle.live_logs.specs.Replay.{BeginsAt};
 ghost use Rattle.live_logs.specs.First.{IsLowered, lowered};
 
 use crate::lanes::records_in;
-use crate::monitors::OBJECTS;
 use heap_model::{Lane, UndoRecord};
+use log_state::OBJECTS;
 
 /// The last release number, 2^40 - 1. No record has it.
 const LAST_NUMBER: u64 = 1_099_511_627_775;

@@ -2,13 +2,14 @@
 ghost use Rattle.std.specs.Prelude.{◌≡◌, ◌↔◌, ◌-◌, ◌<◌, ◌≤◌, ℕ, All, IsTrue, None, Some, MatchOption, length, reverse, slice_get, slice_index};
 ghost use Rattle.live_logs.specs.Logs.{guard_in, lanes_of, records_of};
 ghost use Rattle.live_logs.specs.Replay.{MayFollow};
-ghost use Rattle.live_logs.specs.Tables.{IsOfObjects, GoesOnBy, IsLeastBy};
+ghost use Rattle.live_logs.specs.Tables.{GoesOnBy, IsLeastBy};
+ghost use Rattle.log_state.specs.Limits.{IsOfObjects};
 ghost use Rattle.heap_model.specs.declared.record.UndoRecord.{UndoRecord as AnyRecord};
 
-use crate::monitors::Monitors;
 use crate::rules::is_allowed;
 use crate::step::Step;
 use heap_model::{Lane, ObjectId, UndoRecord};
+use log_state::Monitors;
 
 /// The least lane that can go on, with its next record.
 pub fn least_to_go_on(

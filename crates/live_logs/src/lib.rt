@@ -10,7 +10,6 @@ mod crossings;
 mod error;
 mod first_numbers;
 mod lanes;
-mod monitors;
 mod replay;
 mod rules;
 mod settled;

@@ -1,17 +1,17 @@
 //! The greedy replay of the lanes' live records.
 ghost use Rattle.std.specs.Prelude.{◌≡◌, ◌↔◌, ◌+◌, ◌-◌, ◌<◌, ◌≤◌, ℕ, All, IfErr, IfOk, MatchOption, MatchResult, length, slice_index};
-ghost use Rattle.live_logs.specs.Limits.{IsInRange};
+ghost use Rattle.log_state.specs.Limits.{IsInRange, IsOfObjects};
 ghost use Rattle.live_logs.specs.Logs.{guard_in, lanes_of, records_of};
 ghost use Rattle.live_logs.specs.Replay.{Replays, RefusesReplay};
 ghost use Rattle.live_logs.specs.Settled.{IsPlaceIn};
-ghost use Rattle.live_logs.specs.Tables.{IsOfObjects, IsLow, log_of};
+ghost use Rattle.live_logs.specs.Tables.{IsLow, log_of};
 
 use crate::error::LogsError;
 use crate::first_numbers::first_numbers;
 use crate::lanes::{least_to_go_on, records_in};
-use crate::rules::{all_free, note};
 use crate::step::Step;
 use heap_model::{Lane, ObjectId, UndoRecord};
+use log_state::Monitors;
 use std::alloc::Global;
 
 /// The lanes' records in the order of the greedy replay, the oldest first: again and again the least lane that can go on
@@ -31,14 +31,14 @@ pub fn replay(
     ensures there { IfErr result (IsPlaceIn logs.now) }
     ensures low { IfOk result (λ steps. All IsLow steps.items) }
 {
-    let mut monitors = all_free(first_numbers(logs));
+    let mut monitors = Monitors::free_at(first_numbers(logs));
     let mut left = lengths(logs);
     let mut steps = Vec::new(alloc);
     while let Some(next) = least_to_go_on(guards, logs, &monitors, &left) {
         let Ok(()) = steps.push(next) else {
             return Err(LogsError::NoMemory);
         };
-        note(&mut monitors, next);
+        monitors.note(next.lane, next.entry);
         left[usize::from(next.lane.0)] -= 1;
     }
     match least_left(&left) {

@@ -1,7 +1,6 @@
 //! The places up to which lanes are settled.
 ghost use Rattle.std.specs.Prelude.{◌≡◌, ◌↔◌, ◌+◌, ◌-◌, ◌<◌, ◌≤◌, ◌^◌, ℕ, IsTrue, MatchOption, length, map};
-ghost use Rattle.dependence.specs.Counts.{held_after, ended_after, IsHeldBy};
-ghost use Rattle.heap_model.specs.Sections.{undo_action, holding, ended};
+ghost use Rattle.heap_model.specs.Sections.{holding, ended};
 ghost use Rattle.live_logs.specs.Logs.{count_of, kept_of, lanes_of, records_of, settled_of};
 ghost use Rattle.live_logs.specs.Settled.{IsAtRest, IsLeastRestless};
 ghost use Rattle.live_logs.specs.Tally.{FreesHeld, acts_of, IsRestAfter};
@@ -9,6 +8,7 @@ ghost use Rattle.live_logs.specs.Tally.{FreesHeld, acts_of, IsRestAfter};
 use crate::lanes::records_in;
 use crate::settled_count::SettledCount;
 use heap_model::{Lane, UndoRecord};
+use log_state::count_all;
 
 /// The least lane that isn't settled up to a place where it holds nothing, or of which more sections ended before that
 /// place than are kept. Each record is looked at once.
@@ -62,31 +62,6 @@ pub fn tally(records: &[UndoRecord]) -> (usize, u64)
     ensures held { result.0 ≡ length (holding (acts_of records.now)) }
     ensures ended { result.1 ≡ ended (acts_of records.now) }
 {
-    let mut held = 0;
-    let mut whole = 0;
-    for entry in records {
-        (held, whole) = counted(*entry, held, whole);
-    }
-    (held, whole)
-}
-
-// The counts with one more record.
-fn counted(entry: UndoRecord, held: usize, whole: u64) -> (usize, u64)
-    requires holds { IsHeldBy (undo_action entry) held }
-    requires fits { held + 1 < 2 ^ 64 }
-    requires whole_fits { whole + 1 < 2 ^ 64 }
-    ensures held { result.0 ≡ held_after (undo_action entry) held }
-    ensures whole { result.1 ≡ ended_after (undo_action entry) held whole }
-{
-    match entry {
-        UndoRecord::Acq { .. } => (held + 1, whole),
-        UndoRecord::Rel { .. } | UndoRecord::WaitRel { .. } => {
-            if held == 1 {
-                (0, whole + 1)
-            } else {
-                (held - 1, whole)
-            }
-        }
-        UndoRecord::Put { .. } => (held, whole),
-    }
+    let count = count_all(records);
+    (count.held as usize, count.ended)
 }

@@ -1,15 +1,15 @@
 //! The walk through a replay that finds settled records which take what records that aren't settled freed.
 ghost use Rattle.std.specs.Prelude.{◌≡◌, ◌↔◌, ◌+◌, ◌-◌, ◌<◌, ◌≤◌, ◌^◌, ℕ, All, Bool, if◌then◌else◌, nat_lt, IsTrue, MatchOption, None, Some, false, slice_index_or, length, slice_index, slice_set};
-ghost use Rattle.live_logs.specs.Limits.{IsInRange};
+ghost use Rattle.log_state.specs.Limits.{IsInRange};
 ghost use Rattle.live_logs.specs.Logs.{settled_of};
 ghost use Rattle.live_logs.specs.Crossings.{IsLeastCrossing, Crosses, IsCrossingBy, late_after, lesser};
 ghost use Rattle.live_logs.specs.Tables.{IsLow, log_of};
 
 use crate::crossings::{Crossings, LanePlace};
-use crate::monitors::OBJECTS;
 use crate::settled_count::SettledCount;
 use crate::step::Step;
 use heap_model::UndoRecord;
+use log_state::OBJECTS;
 
 /// The least lane with a settled record that takes an object which a record that isn't settled freed last, and its first
 /// such record. Each step is looked at once.

@@ -4,12 +4,13 @@ use Rattle.std.proofs.lemmas.List.{length-reverse, length-set}
 use Rattle.std.proofs.lemmas.List.Elements.{All-contains, All-push}
 use Rattle.heap_model.specs.declared.record.UndoRecord.{UndoRecord}
 use Rattle.std.specs.Prelude.{All}
-use Rattle.live_logs.specs.Limits.{IsInRange}
-use Rattle.live_logs.specs.declared.monitors.Monitors.{Monitors}
+use Rattle.log_state.specs.Limits.{IsInRange, IsOfObjects}
+use Rattle.log_state.specs.Monitors.{number_at}
+use Rattle.log_state.specs.declared.monitors.Monitors.{Monitors}
 use Rattle.live_logs.specs.declared.step.Step.{Step}
 use Rattle.live_logs.specs.Logs.{guard_in, lanes_of, records_of}
 use Rattle.live_logs.specs.Replay.{BeginsAt}
-use Rattle.live_logs.specs.Tables.{IsLow, IsOfObjects, IsMidway, IsLeastBy, log_of}
+use Rattle.live_logs.specs.Tables.{IsLow, IsMidway, IsLeastBy, log_of}
 use Rattle.live_logs.proofs.LaneLemmas.{records_past}
 use Rattle.live_logs.proofs.FirstLemmas.{All-reverse}
 use Rattle.live_logs.proofs.ReplayLemmas.{log_more, midway_after, is_there, replay_ends, is_done, has_next}
@@ -19,7 +20,7 @@ pub loop-next-preserved : goal.loop-next-preserved
 loop-next-preserved c =
     let guard : ℕ → ℕ = guard_in c.args.guards.now in
     let lanes : ℕ → List UndoRecord = lanes_of c.args.logs.now in
-    let first : ℕ → ℕ = slice_index c.all_free-monitors.result.numbers in
+    let first : ℕ → ℕ = number_at c.free_at-monitors.result in
     let left : List ℕ = c.loop-next.left in
     let next : Step = c.in-Some.next in
     let l = next.lane.0 in
@@ -34,12 +35,10 @@ loop-next-preserved c =
       all = length-set left c.from.result (slice_index left c.from.result - 1) ∙ c.loop-next.invariant.all;
       low = subst (All IsLow) (sym c.in-Ok.ensures.items) (All-push IsLow c.loop-next.steps.items next c.loop-next.invariant.low
           (record { low = omega (arith, least.low, c.requires.lanes); range = in_range }));
-      midway = subst (λ (done : List (ℕ × UndoRecord)). IsMidway guard first lanes done c.note.new.monitors now) (sym log)
-          (midway_after guard first lanes (log_of c.loop-next.steps.items) c.loop-next.monitors c.note.new.monitors (slice_index left) now (length c.args.logs.now) l next.entry
-          c.loop-next.monitors.all_holders c.loop-next.monitors.all_numbers
+      midway = subst (λ (done : List (ℕ × UndoRecord)). IsMidway guard first lanes done c.note.new.self now) (sym log)
+          (midway_after guard first lanes (log_of c.loop-next.steps.items) c.loop-next.monitors c.note.new.self (slice_index left) now (length c.args.logs.now) l next.entry
           (λ m. All-reverse (IsOfObjects guard 4096) (records_of c.args.logs.now m) (c.requires.objects m))
-          in_range
-          c.loop-next.invariant.midway least c.note.ensures.holders c.note.ensures.numbers here other);
+          c.loop-next.invariant.midway least (c.note.ensures.noted first (log_of c.loop-next.steps.items) c.loop-next.invariant.midway.monitors) here other);
     }
 
 -- a lane that isn't there has no records
@@ -54,7 +53,7 @@ left_there guard first logs done t left l midway some = elim (cases_lt l (length
 ]
 
 pub records_in-requires : goal.records_in-requires
-records_in-requires c = left_there (guard_in c.args.guards.now) (slice_index c.all_free-monitors.result.numbers) c.args.logs.now (log_of c.loop-next.steps.items) c.loop-next.monitors (slice_index c.loop-next.left) c.in-Some-least_left.lane.0
+records_in-requires c = left_there (guard_in c.args.guards.now) (number_at c.free_at-monitors.result) c.args.logs.now (log_of c.loop-next.steps.items) c.loop-next.monitors (slice_index c.loop-next.left) c.in-Some-least_left.lane.0
     c.loop-next.invariant.midway c.in-Some-least_left.ensures.0
 
 pub returns-in-Some-least_left : goal.returns-in-Some-least_left
@@ -62,7 +61,7 @@ returns-in-Some-least_left c =
     let guard : ℕ → ℕ = guard_in c.args.guards.now in
     let logs = c.args.logs.now in
     let lanes : ℕ → List UndoRecord = lanes_of logs in
-    let first : ℕ → ℕ = slice_index c.all_free-monitors.result.numbers in
+    let first : ℕ → ℕ = number_at c.free_at-monitors.result in
     let left : ℕ → ℕ = slice_index c.loop-next.left in
     let done : List (ℕ × UndoRecord) = log_of c.loop-next.steps.items in
     let l = c.in-Some-least_left.lane.0 in
@@ -74,7 +73,7 @@ returns-in-Some-least_left c =
     record {
       exact = record {
         done = done;
-        replay = replay_ends guard first lanes done c.loop-next.monitors left (length logs) (subst (λ (ns : List ℕ). BeginsAt lanes (slice_index ns)) (sym c.all_free-monitors.ensures.numbers) c.first_numbers.ensures) named (lanes_past logs) midway c.in_default.ensures;
+        replay = replay_ends guard first lanes done c.loop-next.monitors left (length logs) (subst (λ (ns : ℕ → ℕ). BeginsAt lanes ns) (sym c.free_at-monitors.ensures.numbers) c.first_numbers.ensures) named (lanes_past logs) midway c.in_default.ensures;
         left = next.0;
         place = (let read : length c.records_in.result.now ≡ length (records_of logs l) = ap length c.records_in.ensures in
             let rest : left c.from-in-Some-least_left.result ≡ left l = ap left c.from-in-Some-least_left.ensures in

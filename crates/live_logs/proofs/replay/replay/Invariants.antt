@@ -1,5 +1,6 @@
 use Rattle.std.proofs.Common.{◌≡◌, length, slice_index, sum}
 use Rattle.std.specs.Prelude.{All}
+use Rattle.log_state.specs.Monitors.{number_at}
 use Rattle.live_logs.specs.Logs.{guard_in}
 use Rattle.live_logs.specs.Logs.{lanes_of}
 use Rattle.live_logs.specs.Tables.{IsLow, log_of, IsMidway}
@@ -9,7 +10,7 @@ abbrev pub invariant-loop-next : goal.invariant-loop-next
 invariant-loop-next l = record {
   all : length l.left ≡ 32;
   low : All IsLow l.steps.items;
-  midway : IsMidway (guard_in l.fn.guards) (slice_index l.initial.monitors.numbers) (lanes_of l.fn.logs) (log_of l.steps.items) l.monitors (slice_index l.left);
+  midway : IsMidway (guard_in l.fn.guards) (number_at l.initial.monitors) (lanes_of l.fn.logs) (log_of l.steps.items) l.monitors (slice_index l.left);
 }
 
 abbrev pub decreases-loop-next : goal.decreases-loop-next

@@ -1,0 +1,3 @@
+pub mod MonitorLemmas
+pub mod LaneLemmas
+pub mod HeldLemmas
