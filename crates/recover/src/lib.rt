@@ -38,7 +38,7 @@ mod studying;
 mod walk;
 
 pub use error::RecoverError;
-pub use laws::{one_study_law, same_heap_law};
+pub use laws::{one_study_law, same_heap_law, studied_law, study_law};
 pub use recovering::recover;
 pub use report::{Dropped, Report, Why};
 pub use studied::Study;
