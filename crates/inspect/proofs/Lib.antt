@@ -2,4 +2,3 @@ pub mod PartLemmas
 pub mod ToldLemmas
 pub mod LaneLemmas
 pub mod ReleaseLemmas
-pub mod StudyLemmas

@@ -3,7 +3,6 @@ pub mod Pieces
 pub mod ReportText
 pub mod Sections
 pub mod Links
-pub mod Fits
 pub mod SectionText
 pub mod GraphText
 pub mod StudyText

@@ -2,7 +2,7 @@
 ghost use Rattle.std.specs.Prelude.{◌≡◌, ◌<◌, [], OnOk, OnErr, IfErr, length};
 ghost use Rattle.std.specs.Io.KnownBytes.{Appends};
 ghost use Rattle.inspect.specs.Written.{AppendsPart};
-ghost use Rattle.inspect.specs.Fits.{FitsNumbers};
+ghost use Rattle.recover.specs.Fits.{FitsNumbers};
 ghost use Rattle.inspect.specs.Links.{Tells, releases_of};
 ghost use Rattle.inspect.specs.WholeGraph.{graph_text, columns_text, column_text, column_head, column_edge};
 ghost use Rattle.inspect.specs.declared.error.ShowError.TheVariants as kinds;

@@ -2,7 +2,7 @@
 ghost use Rattle.std.specs.Prelude.{◌≡◌, [], OnOk, IfErr};
 ghost use Rattle.block_disk.specs.Device.{HasCause, SameMoments};
 ghost use Rattle.inspect.specs.Inspection.{Inspects, IsNotShown, Refuses, text_in};
-ghost use Rattle.inspect.specs.Fits.{FitsNumbers};
+ghost use Rattle.recover.specs.Fits.{FitsNumbers};
 ghost use Rattle.inspect.specs.StudyText.{study_text};
 ghost use Rattle.inspect.specs.WholeGraph.{graph_text};
 ghost use Rattle.inspect.specs.Written.{AppendsPart};
@@ -17,7 +17,7 @@ use crate::form::Form;
 use crate::graph::write_graph;
 use crate::study_lines::write_study;
 use block_disk::Disk;
-use recover::{RecoverError, Study, study};
+use recover::{RecoverError, Study, study, study_law};
 use std::alloc::Global;
 use std::io::Write;
 
@@ -70,7 +70,11 @@ fn show_image<D: Disk, W: Write>(
     ensures cause { HasCause (D.device disk.old).failures (D.device disk.new).failures (kinds.Study Fault) result }
 {
     match study(alloc, disk) {
-        Ok(study) => show(alloc, form, &study, writer),
+        Ok(study) => {
+            // The study of an image is within the limits that its texts need.
+            study_law();
+            show(alloc, form, &study, writer)
+        }
         Err(error) => Err(InspectError::Study(error)),
     }
 }

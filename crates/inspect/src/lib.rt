@@ -28,6 +28,3 @@ pub use graph::write_graph;
 pub use inspecting::{draw, inspect};
 pub use report_lines::write_report;
 pub use study_lines::write_study;
-
-#[cfg(test)]
-mod tests;

@@ -4,7 +4,7 @@ ghost use Rattle.undo_log.specs.StandsFor.{row_of};
 ghost use Rattle.recover.specs.Logs.{records_of};
 ghost use Rattle.inspect.specs.Sections.{told};
 ghost use Rattle.inspect.specs.Links.{Release, Tells, finds, releases_of, released_by};
-ghost use Rattle.inspect.specs.Fits.{FitsNumbers};
+ghost use Rattle.recover.specs.Fits.{FitsNumbers};
 
 use live_logs::records_in;
 use crate::numbering::{Numbering, lane_numbering};

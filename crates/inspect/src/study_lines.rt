@@ -3,7 +3,7 @@ ghost use Rattle.std.specs.Prelude.{◌≡◌, ◌+◌, ◌<◌, ◌^◌, OnOk, 
 ghost use Rattle.std.specs.Io.KnownBytes.{Appends};
 ghost use Rattle.image.specs.Layout.{IsLayout};
 ghost use Rattle.inspect.specs.Written.{AppendsPart};
-ghost use Rattle.inspect.specs.Fits.{FitsNumbers};
+ghost use Rattle.recover.specs.Fits.{FitsNumbers};
 ghost use Rattle.inspect.specs.StudyText.{study_text, head_text, image_line, control_line, slot_text, lane_lines, lane_line, sections_text, lane_sections, links_text, end_text};
 ghost use Rattle.inspect.specs.Links.{finds, releases_of, Tells};
 ghost use Rattle.inspect.specs.declared.error.ShowError.TheVariants as kinds;

@@ -4,8 +4,12 @@ pub mod ReadingLemmas
 pub mod PuttingLemmas
 pub mod EndingLemmas
 pub mod StudyLemmas
+pub mod StudyLimits
+pub mod OneReplay
+pub mod OneReport
 pub mod SurvivalLemmas
 pub mod RecoveryLemmas
+pub mod Unrefused
 pub mod EndedLemmas
 pub mod FinishLemmas
 pub mod HeapLemmas

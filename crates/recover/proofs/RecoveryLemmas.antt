@@ -28,8 +28,9 @@ use Rattle.recover.specs.Ending.{end_calls}
 use Rattle.recover.specs.Logs.{lanes_of, records_of}
 use Rattle.recover.specs.Putting.{put_calls}
 use Rattle.recover.specs.Reading.{HasControl, HasFront, RefusesLive}
-use Rattle.recover.specs.Recovery.{AreAlike, IsEnded, IsMadeBy, IsOnTheWay, IsWorn, OneStudyLaw, RefusesRecovery, SameHeapLaw, put_back_on}
-use Rattle.recover.specs.Study.{AreUndone, IsStudyOf}
+use Rattle.recover.specs.Recovery.{AreAlike, IsEnded, IsMadeBy, IsOnTheWay, IsWorn, OneStudyLaw, RefusesRecovery, SameHeapLaw, SameStudyLaw, put_back_on}
+use Rattle.recover.specs.Study.{AreUndone, IsReportOf, IsStudyOf}
+use Rattle.recover.proofs.OneReport.{one_report}
 use Rattle.recover.proofs.SurvivalLemmas.{one_shown, one_logs}
 
 pub same_layout : (image : List ℕ) (l k : Layout) → HasHeader image l → HasHeader image k → l ≡ k
@@ -43,21 +44,46 @@ one_study image a b p q =
     let controls : a.control ≡ b.control = ap (λ (x : Slot × Control). x.1) both in
     let live : HasLive b.layout image b.control.rows (lanes_of a.records.items) = subst (λ (rs : List LaneRow). HasLive b.layout image rs (lanes_of a.records.items)) (ap (λ (c : Control). c.rows) controls)
     (subst (λ (l : Layout). HasLive l image a.control.rows (lanes_of a.records.items)) layouts p.holds.logs.live) in
+    let guards : a.guards.items ≡ b.guards.items =
+    guards_are_read b.layout image a.guards.items b.guards.items (subst (λ (l : Layout). HasGuards l image a.guards.items) layouts p.holds.control.front.guards_are) q.holds.control.front.guards_are in
     let lanes : lanes_of a.records.items ≡ lanes_of b.records.items = one_logs b.layout image b.control.rows (lanes_of a.records.items) (lanes_of b.records.items) live q.holds.logs.live in
     record {
       layouts = layouts;
       slots = ap (λ (x : Slot × Control). x.0) both;
       controls = controls;
-      guards_same = guards_are_read b.layout image a.guards.items b.guards.items (subst (λ (l : Layout). HasGuards l image a.guards.items) layouts p.holds.control.front.guards_are) q.holds.control.front.guards_are;
+      guards_same = guards;
       logs_same = λ lane.
           let back : reverse (records_of a.records.items lane) ≡ reverse (records_of b.records.items lane) = ap (λ (ls : ℕ → List UndoRecord). ls lane) lanes in
           sym (reverse-reverse (records_of a.records.items lane)) ∙ ap (λ (rs : List UndoRecord). reverse rs) back ∙ reverse-reverse (records_of b.records.items lane);
       heaps = one_heap b.layout image a.heap.items b.heap.items (subst (λ (l : Layout). StandsFor l image a.heap.items) layouts p.stands) q.stands;
+      reports_same = one_report b.layout b.guards.items b.control.rows (lanes_of b.records.items) a.report b.report
+          (subst (λ (ls : ℕ → List UndoRecord). IsReportOf b.layout b.guards.items b.control.rows ls a.report) lanes
+          (subst (λ (c : Control). IsReportOf b.layout b.guards.items c.rows (lanes_of a.records.items) a.report) controls
+          (subst (λ (gs : List GuardRow). IsReportOf b.layout gs a.control.rows (lanes_of a.records.items) a.report) guards
+          (subst (λ (l : Layout). IsReportOf l a.guards.items a.control.rows (lanes_of a.records.items) a.report) layouts p.reports)))) q.reports;
     }
 
 pub same_heap : SameHeapLaw
 same_heap image s again (inl is) of = (one_study image again s of is).heaps
 same_heap image s again (inr (e, ended, is)) of = (one_study image again e of is).heaps ∙ ended.heap_is
+
+-- a study that is like the recovered image's is of one
+ended_too : (s e again : Study) → IsEnded s e → AreAlike again e → IsEnded s again
+ended_too s e again ended same = record {
+  layout_is = same.layouts ∙ ended.layout_is;
+  slot_is = same.slots ∙ ended.slot_is;
+  control_is = same.controls ∙ ended.control_is;
+  guards_are = same.guards_same ∙ ended.guards_are;
+  logs_are = λ lane. same.logs_same lane ∙ ended.logs_are lane;
+  heap_is = same.heaps ∙ ended.heap_is;
+  kept_none = λ lane. same.reports_same.kept_same lane ∙ ended.kept_none lane;
+  dropped_none = same.reports_same.dropped_same ∙ ended.dropped_none;
+  undone_none = same.reports_same.undone_same ∙ ended.undone_none;
+}
+
+pub same_study : SameStudyLaw
+same_study image s again (inl is) of = inl (one_study image again s of is)
+same_study image s again (inr (e, ended, is)) of = inr (ended_too s e again ended (one_study image again e of is))
 
 -- Studies that are alike.
 

@@ -6,5 +6,6 @@ pub mod Ending
 pub mod Heap
 pub mod Dropping
 pub mod Study
+pub mod Fits
 pub mod Recovery
 pub mod Live

@@ -38,7 +38,13 @@ pub record IsEnded (s e : Study) : Type 0 where
 abbrev pub IsOnTheWay : Study → (image : List ℕ) → Type 0
 IsOnTheWay s image = IsStudyOf image s ⊎ ((e : Study) × IsEnded s e × IsStudyOf image e)
 
--- what an image tells of a study of it: all but the reasons in its report
+-- two reports say the same: which sections are kept, which are dropped and why, and how many fields take an old value back
+pub record SameReports (a b : Report) : Type 0 where
+  pub kept_same : (lane : ℕ) → counts_of a.kept lane ≡ counts_of b.kept lane
+  pub dropped_same : a.dropped.items ≡ b.dropped.items
+  pub undone_same : a.undone ≡ b.undone
+
+-- what an image tells of a study of it
 pub record AreAlike (a b : Study) : Type 0 where
   pub layouts : a.layout ≡ b.layout
   pub slots : a.slot ≡ b.slot
@@ -46,6 +52,11 @@ pub record AreAlike (a b : Study) : Type 0 where
   pub guards_same : a.guards.items ≡ b.guards.items
   pub logs_same : (lane : ℕ) → records_of a.records.items lane ≡ records_of b.records.items lane
   pub heaps : a.heap.items ≡ b.heap.items
+  pub reports_same : SameReports a.report b.report
+
+-- An image that has a study isn't refused: only the device can fail, and memory be wanting.
+abbrev pub StudiedLaw : Type 0
+StudiedLaw = (image : List ℕ) (s : Study) (e : RecoverError) → IsStudyOf image s → RefusesImage image e → (e ≡ Fault) ⊎ (e ≡ NoMemory)
 
 -- An image has one study.
 abbrev pub OneStudyLaw : Type 0
@@ -54,6 +65,10 @@ OneStudyLaw = (image : List ℕ) (a b : Study) → IsStudyOf image a → IsStudy
 -- Whatever of its images a recovery leaves, another one finds the same heap.
 abbrev pub SameHeapLaw : Type 0
 SameHeapLaw = (image : List ℕ) (s again : Study) → IsOnTheWay s image → IsStudyOf image again → again.heap.items ≡ s.heap.items
+
+-- Until the new control shows, another one finds all that the first one found, and reports the same; then that nothing is logged.
+abbrev pub SameStudyLaw : Type 0
+SameStudyLaw = (image : List ℕ) (s again : Study) → IsOnTheWay s image → IsStudyOf image again → AreAlike again s ⊎ IsEnded s again
 
 -- nothing but the count of its sequence is wrong with the image's control: no other can be committed
 pub record IsWorn (image : List ℕ) : Type 0 where
@@ -103,3 +118,8 @@ pub record IsRecovery {D : Type 0} (old new : Device) (r : Parts D) (report : Re
 -- the images that a recovery leaves: until its first sync those from before, and from then on only such as are on the way
 abbrev pub LeavesOnTheWay : Study → (old new : Device) → Type 0
 LeavesOnTheWay s old new = SameMoments old new ⊎ LeavesOnly (synced old) new (IsOnTheWay s)
+
+-- what a recovery that ends in an error has done: nothing, the first sync alone, or it had a study of the image and since its
+-- first sync left only images that are on the way
+abbrev pub IsCutOff : (old new : Device) → Type 0
+IsCutOff old new = SameMoments old new ⊎ SameMoments (synced old) new ⊎ ((s : Study) × IsStudyOf old.now.bytes s × LeavesOnly (synced old) new (IsOnTheWay s))

@@ -1,12 +1,26 @@
 //! Laws of recovery and of studies, each the contract of a function that does nothing.
-ghost use Rattle.recover.specs.Recovery.{OneStudyLaw, SameHeapLaw};
+ghost use Rattle.recover.specs.Fits.{StudyLimitsLaw, StudyNumbersLaw};
+ghost use Rattle.recover.specs.Recovery.{OneStudyLaw, SameHeapLaw, SameStudyLaw, StudiedLaw};
 
-/// An image has one study, but for the reasons in its report.
+/// The numbers of an image's study are within the image's limits, so that a text of it can be written.
+pub fn study_law()
+    ensures limits { StudyLimitsLaw }
+    ensures numbers { StudyNumbersLaw }
+{}
+
+/// An image that has a study isn't refused. Only the device can fail, and memory be wanting.
+pub fn studied_law()
+    ensures { StudiedLaw }
+{}
+
+/// An image has one study, and so one report.
 pub fn one_study_law()
     ensures { OneStudyLaw }
 {}
 
-/// Whatever recovery leaves of an image, recovery of that finds the same heap.
+/// Whatever recovery leaves of an image, recovery of that finds the same heap; and it finds and reports all the same until the
+/// new control shows, which has nothing logged.
 pub fn same_heap_law()
-    ensures { SameHeapLaw }
+    ensures heap { SameHeapLaw }
+    ensures study { SameStudyLaw }
 {}

@@ -31,7 +31,7 @@ mod walk;
 mod whole_run;
 
 pub use error::RecoverError;
-pub use laws::{one_study_law, same_heap_law};
+pub use laws::{one_study_law, same_heap_law, studied_law, study_law};
 pub use recovering::recover;
 pub use report::{Dropped, Report, Why};
 pub use studied::Study;

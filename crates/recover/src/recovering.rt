@@ -7,7 +7,7 @@ ghost use Rattle.image.specs.Recovered.{IsRecovered};
 ghost use Rattle.image.specs.Slots.{other};
 ghost use Rattle.recover.specs.Ending.{end_calls};
 ghost use Rattle.recover.specs.Logs.{lanes_of};
-ghost use Rattle.recover.specs.Recovery.{IsMadeBy, IsOnTheWay, IsRecovery, LeavesOnTheWay, RefusesRecovery, put_back_on};
+ghost use Rattle.recover.specs.Recovery.{IsCutOff, IsMadeBy, IsOnTheWay, IsRecovery, LeavesOnTheWay, RefusesRecovery, put_back_on};
 ghost use Rattle.recover.specs.Study.{AreUndone, IsStudyOf};
 ghost use Rattle.recover.specs.declared.error.RecoverError.TheVariants.{Fault};
 ghost use Rattle.recover.specs.declared.studied.Study.{Study as Shape};
@@ -45,6 +45,7 @@ pub fn recover<D: Disk>(alloc: Global, disk: D) -> Result<(Recovered<D>, Report)
     ensures refused { IfErr result (λ back. RefusesRecovery (D.device disk).now.bytes back.1) }
     ensures untouched { IfErr result (λ back. (back.1 ≡ Fault) ⊎ SameMoments (synced (D.device disk)) (D.device back.0)) }
     ensures interrupted { IfErr result (λ back. (s : Shape) → IsStudyOf (D.device disk).now.bytes s → LeavesOnTheWay s (D.device disk) (D.device back.0)) }
+    ensures cut_off { IfErr result (λ back. IsCutOff (D.device disk) (D.device back.0)) }
     ensures cause { IfErr result (λ back. back.1 ≡ Fault → HasFailed (D.device disk).failures (D.device back.0).failures) }
 {
     let mut disk = disk;
@@ -75,6 +76,7 @@ fn recover_in_place<D: Disk>(alloc: Global, disk: &mut D) -> Result<Study, Recov
     ensures refused { IfErr result (RefusesRecovery (D.device disk.old).now.bytes) }
     ensures untouched { IfErr result (λ e. (e ≡ Fault) ⊎ SameMoments (synced (D.device disk.old)) (D.device disk.new)) }
     ensures interrupted { OnErr result ((s : Shape) → IsStudyOf (D.device disk.old).now.bytes s → LeavesOnTheWay s (D.device disk.old) (D.device disk.new)) }
+    ensures cut_off { OnErr result (IsCutOff (D.device disk.old) (D.device disk.new)) }
     ensures cause { HasCause (D.device disk.old).failures (D.device disk.new).failures Fault result }
 {
     // What is read has to be what another crash would leave.

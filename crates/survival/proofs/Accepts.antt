@@ -47,8 +47,7 @@ use Rattle.recover.specs.Settled.{first_of, settled_records, IsAtRest, TakesUnse
 use Rattle.recover.specs.declared.error.RecoverError.{RecoverError}
 use Rattle.recover.specs.declared.error.RecoverError.TheVariants.{Fault, NotFormatted, BadHeader, TooSmall, NoControl, BadControl, Worn, BadRecord, IllegalLog, NoMemory}
 use Rattle.recover.specs.declared.logged_image.LoggedImage.{LoggedImage}
-use Rattle.live_logs.proofs.FirstLemmas.{contains_reverse}
-use Rattle.survival.proofs.LaneParts.{lane_map}
+use Rattle.survival.proofs.LaneParts.{contains_reverse, lane_map}
 use Rattle.survival.proofs.Blank.{blanks, undone, valueless, blank_legal, holder_blank}
 use Rattle.survival.proofs.Unstuck.{IsGuarded, unstuck}
 use Rattle.survival.proofs.Rests.{first_none, at_some, rests, inside}

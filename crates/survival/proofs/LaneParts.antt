@@ -1,6 +1,7 @@
 -- Lanes of a list, and the parts of a lane.
-use Rattle.std.proofs.Common.{ℕ, suc, ◌≡◌, ◌≤◌, ◌==◌, if◌then◌else◌, Bool, true, false, List, [], ◌∷◌, ◌++◌, length, map, refl, sym, ap, ◌∙◌, subst, inl, inr, arith, Contains, length-append}
+use Rattle.std.proofs.Common.{ℕ, suc, ◌≡◌, ◌-◌, ◌<◌, ◌≤◌, ◌==◌, if◌then◌else◌, Bool, true, false, List, [], ◌∷◌, ◌++◌, length, map, get_or, reverse, refl, sym, ap, ◌∙◌, subst, inl, inr, arith, Contains, length-append}
 use Rattle.std.proofs.lemmas.Bool.Decides.{eqb_tells}
+use Rattle.std.proofs.lemmas.List.{get_or-reverse, length-reverse}
 use Rattle.std.proofs.lemmas.List.Elements.{Contains-append_right}
 use Rattle.std.proofs.Math.Seq.{split_at}
 use Rattle.std.specs.Prelude.{take, drop}
@@ -70,6 +71,13 @@ contains_more {A} l newer older r h = subst (λ (xs : List A). Contains xs r) (s
 
 pub contains_older : {A : Type 0} → (l m : ℕ) (x : A) (older : List (ℕ × A)) (r : A) → Contains (lane l older) r → Contains (lane l ((m, x) ∷ older)) r
 contains_older {A} l m x older r h = contains_more l ((m, x) ∷ []) older r h
+
+pub contains_reverse : {A : Type 0} (xs : List A) (x : A) → Contains xs x → Contains (reverse xs) x
+contains_reverse {A} xs x h =
+    let k : ℕ = h.0 in
+    let lt : k < length xs = h.1 in
+    let back : length xs - 1 - (length xs - 1 - k) ≡ k = omega arith in
+    (length xs - 1 - k, omega (arith, length-reverse xs), get_or-reverse xs (length xs - 1 - k) x (omega arith) ∙ ap (λ (i : ℕ). get_or xs i x) back ∙ h.2)
 
 -- of two ends of one list, the longer ends with the other
 pub ends_with : {A : Type 0} → (a x b y : List A) → a ++ x ≡ b ++ y → length x ≤ length y → (more : List A) × (y ≡ more ++ x)

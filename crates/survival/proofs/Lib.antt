@@ -4,3 +4,4 @@ pub mod Unstuck
 pub mod Rests
 pub mod Accepts
 pub mod WholeRuns
+pub mod RunAgain

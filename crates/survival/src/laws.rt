@@ -1,5 +1,8 @@
 //! Laws of what a store leaves, each the contract of a function that does nothing.
 ghost use Rattle.survival.specs.Accepted.{AcceptedLaw, FoundHeapLaw, FoundLaw, LeftLaw};
+ghost use Rattle.survival.specs.Again.{KeptAcceptedLaw, KeptAgainLaw, KeptHeapLaw};
+
+use recover::{one_study_law, studied_law};
 
 /// No image that a store leaves is refused, whatever a crash left of its device. Only the device can fail, and memory be wanting.
 pub fn accepted_law()
@@ -12,3 +15,14 @@ pub fn found_law()
     ensures found { FoundLaw }
     ensures heap { FoundHeapLaw }
 {}
+
+/// Recovery that a crash cuts off, or that answers a fault, may be run again, any number of times: each time it takes the
+/// image, finds the kept heap, and leaves only images of which the same may be said.
+pub fn again_law()
+    ensures heap { KeptHeapLaw }
+    ensures accepted { KeptAcceptedLaw }
+    ensures again { KeptAgainLaw }
+{
+    one_study_law();
+    studied_law();
+}

@@ -7,7 +7,6 @@ use Rattle.recover.specs.declared.error.RecoverError.TheVariants.{Fault, NotForm
 use Rattle.inspect.specs.declared.error.InspectError.{InspectError}
 use Rattle.inspect.specs.declared.error.InspectError.TheVariants.{Study, Write}
 use Rattle.inspect.specs.Inspection.{IsNotShown, Refuses, text_in}
-use Rattle.inspect.proofs.StudyLemmas.{limits_of, fits_of}
 use Rattle.inspect.proofs.inspecting.show_image.Goals as goal
 
 refuses : (text : Studied → List ℕ) (image : List ℕ) (old new : Option (List ℕ)) (s : Studied) → IsStudyOf image s → (e : InspectError) → IsNotShown old new (text s) e → Refuses text image old new e
@@ -30,7 +29,7 @@ refuses_all text image old new s is (Err e) h = refuses text image old new s is 
 pub show-requires : goal.show-requires
 show-requires g c =
     let image = (g.D.Disk.device c.args.disk.now).now.bytes in
-    record { limits = limits_of image c.in-Ok.study c.in-Ok.ensures.exact; numbers = fits_of image c.in-Ok.study c.in-Ok.ensures.exact }
+    record { limits = c.study_law.ensures.limits image c.in-Ok.study c.in-Ok.ensures.exact; numbers = c.study_law.ensures.numbers image c.in-Ok.study c.in-Ok.ensures.exact }
 
 pub returns-in-Ok-clause-ok : goal.returns-in-Ok-clause-ok
 returns-in-Ok-clause-ok g c =

@@ -1,5 +1,7 @@
-use Rattle.std.proofs.Common.{inr}
+use Rattle.std.proofs.Common.{inr, subst}
 use Rattle.std.proofs.lemmas.Result.{err_from_is_err_and}
+use Rattle.block_disk.specs.Device.{Device}
+use Rattle.recover.specs.Study.{IsStudyOf}
 use Rattle.recover.proofs.RecoveryLemmas.{made_by, since_synced}
 use Rattle.recover.proofs.recovering.recover_in_place.Goals as goal
 
@@ -12,6 +14,17 @@ returns-in_err-finish-clause-interrupted g c =
     let d2 = g.D.Disk.device c.find_recoverable.new.disk in
     let d3 = g.D.Disk.device c.finish.new.disk in
     rw p.1 (λ t of. inr (since_synced s d0 d1 d2 d3 c.in_ok-sync.ensures.ok c.find_recoverable.ensures.same c.in_ok-found.ensures.exact c.finish.ensures.any_moment t of))
+
+pub returns-in_err-finish-clause-cut_off : goal.returns-in_err-finish-clause-cut_off
+returns-in_err-finish-clause-cut_off g c =
+    let p = err_from_is_err_and c.from_residual-in_err-finish.result c.from_residual-in_err-finish.ensures.1 in
+    let s = c.in_ok-found.found.study in
+    let d0 = g.D.Disk.device c.args.disk.now in
+    let d1 = g.D.Disk.device c.sync.new.disk in
+    let d2 = g.D.Disk.device c.find_recoverable.new.disk in
+    let d3 = g.D.Disk.device c.finish.new.disk in
+    let of : IsStudyOf d0.now.bytes s = subst (λ (d : Device). IsStudyOf d.now.bytes s) c.in_ok-sync.ensures.ok c.in_ok-found.ensures.exact in
+    rw p.1 (inr (inr (s, of, since_synced s d0 d1 d2 d3 c.in_ok-sync.ensures.ok c.find_recoverable.ensures.same c.in_ok-found.ensures.exact c.finish.ensures.any_moment s of)))
 
 pub returns-clause-made : goal.returns-clause-made
 returns-clause-made g c =

@@ -1,4 +1,4 @@
--- The numbers of an image's study fit its lines.
+-- The numbers of an image's study are within its limits.
 use Rattle.std.proofs.Common.{ℕ, ◌≡◌, ◌+◌, ◌-◌, ◌<◌, ◌≤◌, ◌^◌, List, length, reverse, subst, arith, length-take}
 use Rattle.std.proofs.lemmas.List.{get_or-take, length-reverse}
 use Rattle.heap_model.specs.declared.record.UndoRecord.{UndoRecord}
@@ -7,18 +7,16 @@ use Rattle.image.specs.Layout.{IsLayout}
 use Rattle.image.specs.Rows.{IsRow, empty_row}
 use Rattle.undo_log.specs.StandsFor.{row_of}
 use Rattle.recover.specs.Logs.{records_of}
-use Rattle.recover.specs.Study.{IsStudyOf}
-use Rattle.recover.specs.declared.studied.Study.{Study}
-use Rattle.inspect.specs.Fits.{FitsNumbers}
+use Rattle.recover.specs.Fits.{StudyLimitsLaw, StudyNumbersLaw}
 
-pub limits_of : (image : List ℕ) (s : Study) → IsStudyOf image s → IsLayout s.layout
+pub limits_of : StudyLimitsLaw
 limits_of image s is = is.holds.control.front.layout.header.limits
 
 section_fits : (kept settled start logged records capacity : ℕ) → start ≤ settled → settled ≤ logged → logged ≤ 2 ^ 63 → kept ≤ settled → logged - start ≤ capacity → capacity ≤ 1048576 →
     start + records ≡ logged → kept + records + 1 < 2 ^ 64
 section_fits kept settled start logged records capacity a b c d e f g = omega arith
 
-pub fits_of : (image : List ℕ) (s : Study) → IsStudyOf image s → FitsNumbers s
+pub fits_of : StudyNumbersLaw
 fits_of image s is =
     let limits : IsLayout s.layout = limits_of image s is in
     let rows : AreRows s.layout s.control.rows = is.holds.control.shows.spells.valid.rows in

@@ -2,16 +2,16 @@
 ghost use Rattle.std.specs.Prelude.{◌≡◌, ◌<◌, IfOk, length};
 ghost use Rattle.image.specs.Layout.{IsLayout};
 ghost use Rattle.recover.specs.Logs.{records_of};
-ghost use Rattle.inspect.specs.Fits.{FitsNumbers};
+ghost use Rattle.recover.specs.Fits.{FitsNumbers};
 
 mod images;
 
-use super::*;
 use block_disk::MemDisk;
 use durable::Store;
 use guards::{Schema, SchemaBuilder};
 use heap_model::{Cut, FieldId, Lane, ObjectId, UndoRecord};
 use image::{Control, LaneRow, Layout, Recovered, Slot};
+use inspect::{WriteError, write_graph, write_report, write_study};
 use recover::{Dropped, Report, Study, Why};
 use std::alloc::{AllocError, Global};
 use std::io;

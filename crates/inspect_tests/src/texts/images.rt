@@ -1,9 +1,9 @@
 //! Images that a store left, whole or altered, as the inspector shows them. Each byte's place follows from docs/FORMAT.md.
 use super::{Sink, formatted, writer_failing};
-use crate::{InspectError, draw, inspect};
 use block_disk::{Fill, MemDisk};
 use durable::{Store, StoreCall};
 use heap_model::{FieldId, Lane, ObjectId, Record};
+use inspect::{InspectError, draw, inspect};
 use recover::RecoverError;
 use std::alloc::Global;
 use std::process::Abort;
