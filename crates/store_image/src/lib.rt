@@ -17,6 +17,7 @@ mod home;
 mod logging;
 mod settling;
 
+// What an image of a store is worth.
 mod laws;
 
 pub use committed::Committed;

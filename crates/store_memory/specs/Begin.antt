@@ -3,7 +3,7 @@ use Rattle.std.specs.Prelude.{ℕ, ◌≡◌, ◌<◌, true, false, List, length
 use Rattle.heap_model.specs.Setting.{Setting}
 use Rattle.store_past.specs.Past.{Past}
 use Rattle.store_memory.specs.declared.states.FieldState.{FieldState}
-use Rattle.store_memory.specs.Memory.{field_in, value_in, guard_in}
+use Rattle.store_memory.specs.Memory.{value_in, guard_in}
 
 -- these are the fields of a setting with so many objects, before any record: each has its guard and its first value
 pub record AreFieldsOf (count : ℕ) (fields : List FieldState) (last : ℕ) (s : Setting) : Type 0 where
