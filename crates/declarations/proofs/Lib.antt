@@ -1,0 +1,4 @@
+mod FrontLemmas
+mod SchemaLemmas
+mod DeclarationLemmas
+mod FieldLemmas

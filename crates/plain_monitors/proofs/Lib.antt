@@ -1,0 +1,3 @@
+mod StateLemmas
+mod EventLemmas
+mod WaitLemmas

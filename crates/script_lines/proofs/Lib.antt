@@ -1,0 +1,6 @@
+mod TermLemmas
+mod WordLemmas
+mod AskLemmas
+mod LineLemmas
+mod CutLemmas
+mod FaultLemmas

@@ -1,0 +1,5 @@
+mod PlanLemmas
+mod StoreLemmas
+mod ListLemmas
+mod HomeLemmas
+mod AgreementLemmas

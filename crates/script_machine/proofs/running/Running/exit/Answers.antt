@@ -1,0 +1,23 @@
+use Rattle.std.proofs.Common.{ℕ, Result, MatchResult, sym, subst}
+use Rattle.heap_model.specs.declared.ids.ObjectId.{ObjectId}
+use Rattle.heap_model.specs.declared.event.Event.{Event}
+use Rattle.script_machine.specs.declared.answer.Answer.TheVariants.{Done}
+use Rattle.script_machine.specs.declared.answer.Refusal.{Refusal}
+use Rattle.plain_monitors.specs.declared.monitors.MonitorRefusal.{MonitorRefusal}
+use Rattle.script_machine.specs.Lookups.{object_of}
+use Rattle.script_machine.specs.States.{Live}
+use Rattle.script_machine.specs.Machine as machine
+use Rattle.script_machine.proofs.PlanLemmas.{IfOk-map, PlansExit, looked_up, Follows, exited}
+use Rattle.script_machine.proofs.running.Running.exit.Goals as goal
+
+pub returns-in-Ok-may_exit : goal.returns-in-Ok-may_exit
+returns-in-Ok-may_exit c =
+    let m : Live = c.args.self.now in
+    let t : ℕ = c.args.thread.0 in
+    let old : machine.MachineState = machine.Running m in
+    let new : machine.MachineState = machine.Running c.perform.new.self in
+    let plans : PlansExit m.monitors t c.in-Ok.object c.may_exit.result = subst (λ (x : Live). PlansExit x.monitors t c.in-Ok.object c.may_exit.result) c.self.view_is
+    (record { last = c.may_exit.ensures.last; nested = c.may_exit.ensures.nested; not_held = c.may_exit.ensures.not_held }) in
+    IfOk-map c.perform.result (λ answer does. looked_up old answer new object_of m m.monitors.schema.objects c.args.name.now t c.object.result (machine.Exits old answer new m t) c.object.ensures.named
+    (subst (λ (r : Result ObjectId Refusal). MatchResult r (machine.Exits old answer new m t) (machine.Refuses old answer new)) (sym c.in-Ok.is)
+    (exited old answer new m t c.in-Ok.object c.may_exit.result plans (subst (λ (p : Result Event MonitorRefusal). Follows old answer new m t Done p) (sym c.in-Ok-may_exit.is) does)))) c.perform.ensures

@@ -1,0 +1,49 @@
+use Rattle.std.proofs.Common.{rules, ◌≡◌, ◌<◌, ℕ, List, Some, Result, MatchResult, sym, ap, refl, subst}
+use Rattle.heap_model.specs.declared.ids.ObjectId.{ObjectId}
+use Rattle.heap_model.specs.State.{Awake}
+use Rattle.heap_model.specs.declared.ids.Lane.{Lane}
+use Rattle.heap_model.specs.declared.event.Event.TheVariants.{NotifyAll}
+use Rattle.plain_monitors.specs.Table.{IsAfter}
+use Rattle.script_machine.specs.declared.answer.Answer.{Answer}
+use Rattle.script_machine.specs.declared.answer.Answer.TheVariants.{Woke}
+use Rattle.script_machine.specs.declared.answer.Refusal.{Refusal}
+use Rattle.script_machine.specs.Lookups.{object_of}
+use Rattle.script_machine.specs.States.{Live}
+use Rattle.plain_monitors.specs.Table.{Table, lanes_of, state_of}
+use Rattle.script_machine.specs.Machine as machine
+use Rattle.script_machine.proofs.PlanLemmas.{looked_up, notified_all}
+use Rattle.script_machine.proofs.StoreLemmas.{live}
+use Rattle.script_machine.proofs.AgreementLemmas.{goes-on}
+use Rattle.plain_monitors.specs.WaitSets.{wait_set}
+use Rattle.guards.specs.Schema.{object_count}
+use Rattle.script_machine.proofs.running.Running.notify_all.Goals as goal
+
+pub returns : goal.returns
+returns c =
+    let m : Live = c.args.self.now in
+    let m0 : Live = live c.self.inside.monitors c.self.inside.store in
+    let t : ℕ = c.args.thread.0 in
+    let o : ObjectId = c.in-Ok.object in
+    let table = c.notify_all.new.self in
+    let old : machine.MachineState = machine.Running m in
+    let new : machine.MachineState = machine.Running (live table c.self.inside.store) in
+    let said : Answer = Woke c.in_ok-woken.woken in
+    let w = c.in_ok-woken.ensures in
+    let awake : (state_of m0.monitors).waiting t ≡ Awake = subst (λ (z : Live). (state_of z.monitors).waiting t ≡ Awake) (sym c.self.view_is) c.in-Ok.ensures.awake in
+    let mine : (state_of m0.monitors).owner o.0 ≡ Some t = c.owns.ensures.0 (search rules) in
+    let woke : machine.NotifiesAll old said new m t o = subst (λ (z : Live). machine.NotifiesAll (machine.Running z) said new z t o) c.self.view_is
+    (notified_all (machine.Running m0) said new m0 t o table mine refl (w.allowed awake mine) (ap Some w.woken) (subst (λ (us : List Lane). IsAfter m0.monitors t (NotifyAll o us) table) w.woken w.after)) in
+    looked_up old said new object_of m m.monitors.schema.objects c.args.name.now t c.object.result (machine.NotifiesAll old said new m t) c.object.ensures.named
+    (subst (λ (r : Result ObjectId Refusal). MatchResult r (machine.NotifiesAll old said new m t) (machine.Refuses old said new)) (sym c.in-Ok.is) woke)
+
+pub invariant_of-self-2 : goal.invariant_of-self-2
+invariant_of-self-2 c =
+    let a : Table = c.self.inside.monitors in
+    let t : ℕ = c.args.thread.0 in
+    let o : ObjectId = c.in-Ok.object in
+    let awake : (state_of a).waiting t ≡ Awake = subst (λ (z : Live). (state_of z.monitors).waiting t ≡ Awake) (sym c.self.view_is) c.in-Ok.ensures.awake in
+    let mine : (state_of a).owner o.0 ≡ Some t = c.owns.ensures.0 (search rules) in
+    let within : o.0 < object_count a.schema = subst (λ (z : Live). o.0 < object_count z.monitors.schema) (sym c.self.view_is) c.in-Ok.ensures.within in
+    goes-on a c.notify_all.new.self c.self.inside.store c.self.inside.store t (NotifyAll o (wait_set (lanes_of a) (state_of a) o.0)) c.self.invariant
+    (c.in_ok-woken.ensures.allowed awake mine) within refl c.self.invariant.running
+    (subst (λ (us : List Lane). IsAfter a t (NotifyAll o us) c.notify_all.new.self) c.in_ok-woken.ensures.woken c.in_ok-woken.ensures.after)

@@ -1,0 +1,23 @@
+use Rattle.std.proofs.Common.{ℕ, Result, MatchResult, sym, subst}
+use Rattle.heap_model.specs.declared.ids.ObjectId.{ObjectId}
+use Rattle.heap_model.specs.declared.event.Event.{Event}
+use Rattle.script_machine.specs.declared.answer.Answer.TheVariants.{Waiting}
+use Rattle.script_machine.specs.declared.answer.Refusal.{Refusal}
+use Rattle.plain_monitors.specs.declared.monitors.MonitorRefusal.{MonitorRefusal}
+use Rattle.script_machine.specs.Lookups.{object_of}
+use Rattle.script_machine.specs.States.{Live}
+use Rattle.script_machine.specs.Machine as machine
+use Rattle.script_machine.proofs.PlanLemmas.{IfOk-map, PlansWait, looked_up, Follows, waited}
+use Rattle.script_machine.proofs.running.Running.wait.Goals as goal
+
+pub returns-in-Ok-may_wait : goal.returns-in-Ok-may_wait
+returns-in-Ok-may_wait c =
+    let m : Live = c.args.self.now in
+    let t : ℕ = c.args.thread.0 in
+    let old : machine.MachineState = machine.Running m in
+    let new : machine.MachineState = machine.Running c.perform.new.self in
+    let plans : PlansWait m.monitors t c.in-Ok.object c.may_wait.result = subst (λ (x : Live). PlansWait x.monitors t c.in-Ok.object c.may_wait.result) c.self.view_is
+    (record { ok = c.may_wait.ensures.ok; not_held = c.may_wait.ensures.not_held }) in
+    IfOk-map c.perform.result (λ answer does. looked_up old answer new object_of m m.monitors.schema.objects c.args.name.now t c.object.result (machine.Waits old answer new m t) c.object.ensures.named
+    (subst (λ (r : Result ObjectId Refusal). MatchResult r (machine.Waits old answer new m t) (machine.Refuses old answer new)) (sym c.in-Ok.is)
+    (waited old answer new m t c.in-Ok.object c.may_wait.result plans (subst (λ (p : Result Event MonitorRefusal). Follows old answer new m t Waiting p) (sym c.in-Ok-may_wait.is) does)))) c.perform.ensures

@@ -1,0 +1,59 @@
+-- The monitors and the store of a machine that runs agree (this project's own).
+use Rattle.std.specs.Prelude.{ℕ, ◌≡◌, ◌<◌, false, List, slice_index, slice_index_or}
+use Rattle.guards.specs.Schema.{Declarations, object_count, field_count, guard_of}
+use Rattle.image.specs.declared.guard_row.GuardRow.{GuardRow}
+use Rattle.image.specs.declared.layout.Layout.{Layout}
+use Rattle.lock_word.specs.declared.number.TheConstants.{LAST_NUMBER}
+use Rattle.heap_model.specs.declared.event.Event.{Event}
+use Rattle.heap_model.specs.Setting.{Setting}
+use Rattle.heap_model.specs.History.{state_after, IsLegalHistory, log_of}
+use Rattle.block_disk.specs.Memory.{Memory}
+use Rattle.durable.specs.Past.{Past, applied, no_past}
+use Rattle.durable.specs.Store.{Parts}
+use Rattle.durable.specs.declared.error.StoreError.{StoreError}
+use Rattle.durable.specs.declared.error.StoreError.TheVariants as store
+use Rattle.script_machine.specs.States.{Tells}
+use Rattle.plain_monitors.specs.Table.{Table, lanes_of, setting_in, setting_of, state_of}
+
+-- what events and records are judged by, where the fields begin with these values
+abbrev pub setting_from : Table → (first : ℕ → ℕ) → Setting
+setting_from table first = record (setting_of table) { first = first }
+
+-- Both stand where one legal history of the threads' events leads: the monitors are in the state after it, and the store
+-- was told its logged events. The store has the threads' lanes, and its device hasn't failed.
+pub record Agrees (table : Table) (store : Parts Memory) : Type 0 where
+  pub first : ℕ → ℕ
+  pub history : List (ℕ × Event)
+  pub past : Past
+  pub legal : IsLegalHistory (setting_from table first) history
+  pub state : state_of table ≡ state_after (setting_from table first) history
+  pub told : applied past ≡ log_of history
+  pub tells : Tells store (setting_from table first) past
+  pub lanes : store.known.layout.lanes ≡ lanes_of table
+  pub running : store.known.has_failed ≡ false
+
+-- the image has the schema's objects and fields, and each field the schema's guard
+pub record FitsSchema (schema : Declarations) (layout : Layout) (guards : List GuardRow) : Type 0 where
+  pub objects : layout.objects ≡ object_count schema
+  pub fields : layout.fields ≡ field_count schema
+  pub guarded : (f : ℕ) (d : GuardRow) → f < field_count schema → (slice_index_or guards f d).guard.0 ≡ guard_of schema f
+
+-- the store was told nothing, in a heap of this schema whose fields begin with the values of this heap
+pub record BeginsWith (schema : Declarations) (heap : List ℕ) (store : Parts Memory) : Type 0 where
+  pub tells : (first : ℕ → ℕ) → ((f : ℕ) → f < field_count schema → first f ≡ slice_index heap f)
+      → Tells store (record (setting_in schema LAST_NUMBER) { first = first }) no_past
+  pub running : store.known.has_failed ≡ false
+
+-- why the store may refuse the record of an event that the monitors allow
+abbrev pub IsForRecord : StoreError → Type 0
+IsForRecord store.Worn = Unit {0}
+IsForRecord store.TooLong = Unit {0}
+IsForRecord store.LogFull = Unit {0}
+IsForRecord _ = ⊥
+
+-- why it may refuse to log or to settle
+abbrev pub IsForCall : StoreError → Type 0
+IsForCall store.Worn = Unit {0}
+IsForCall store.Unwritten = Unit {0}
+IsForCall store.Fault = Unit {0}
+IsForCall _ = ⊥

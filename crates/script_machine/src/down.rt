@@ -1,0 +1,53 @@
+//! The machine between a crash and a recovery.
+ghost use Rattle.std.specs.Prelude.{◌≡◌, IfOk};
+ghost use Rattle.script_machine.specs.Machine as machine;
+
+use crate::answer::Answer;
+use crate::image_study::ImageStudy;
+use crate::refusals::refused_recovery;
+use block_disk::MemDisk;
+use guards::Schema;
+use recover::study;
+use std::alloc::{AllocError, Global};
+use std::marker::Model;
+
+/// The schema, and what the crash left of the device.
+#[derive(Drop)]
+pub(crate) struct Down {
+    schema: Schema,
+    disk: MemDisk,
+}
+
+impl Model for Down {
+    ghost use Rattle.script_machine.specs.States.{Wreck};
+
+    ghost Value = { Wreck };
+
+    ghost view = { λ d. record { schema = d.schema; disk = d.disk } };
+}
+
+impl Down {
+    /// The machine after a crash that left this device.
+    pub(crate) fn new(schema: Schema, disk: MemDisk) -> Down
+        ensures { result ≡ record { schema = schema; disk = disk } }
+    {
+        Down { schema, disk }
+    }
+
+    /// Shows what the image on the device holds, or why it is refused. The device reads as before.
+    pub(crate) fn show(&mut self, alloc: Global) -> Result<Answer, AllocError>
+        ensures { IfOk result (λ answer. machine.ShowsImage (machine.Down self.old) answer (machine.Down self.new) self.old) }
+    {
+        match study(alloc, &mut self.disk) {
+            Ok(study) => Ok(Answer::Shown(ImageStudy::of(study))),
+            Err(why) => Ok(Answer::Refused(refused_recovery(why)?)),
+        }
+    }
+
+    /// The schema and the device.
+    pub(crate) fn into_parts(self) -> (Schema, MemDisk)
+        ensures { result ≡ (self.schema, self.disk) }
+    {
+        (self.schema, self.disk)
+    }
+}

@@ -1,0 +1,291 @@
+//! The states of the machine, and the lines that each takes.
+ghost use Rattle.std.specs.Prelude.{◌≡◌, ◌≤◌, ◌↔◌, IfOk, IfSome, IsSome};
+ghost use Rattle.guards.specs.Schema.{nothing};
+ghost use Rattle.script_lines.specs.Orders.{order_of, step_of};
+ghost use Rattle.script_lines.specs.Orders as order;
+ghost use Rattle.script_machine.specs.Limits.{IsFormattable};
+ghost use Rattle.script_machine.specs.Machine as machine;
+ghost use Rattle.script_machine.specs.Phases.{shown};
+ghost use Rattle.script_machine.specs.declared.answer.Refusal.TheVariants as why;
+
+use crate::answer::{Answer, Refusal};
+use crate::down::Down;
+use crate::opening::{format_store, restore};
+use crate::refusals::answered;
+use crate::running::Running;
+use block_disk::Fill;
+use declarations::Declaring;
+use heap_model::Lane;
+use image::Layout;
+use lock_word::LAST_NUMBER;
+use plain_monitors::Monitors;
+use script_lines::{Command, Step};
+use std::alloc::{AllocError, Global};
+
+/// The state of the machine.
+#[derive(Drop)]
+pub(crate) enum Phase {
+    /// Objects and fields are declared.
+    Declaring(Declaring),
+    /// Threads step.
+    Running(Running),
+    /// The device has crashed.
+    Down(Down),
+    /// Memory was wanting.
+    Spent,
+}
+
+impl Phase {
+    /// Nothing is declared.
+    pub(crate) fn new(alloc: Global) -> Phase
+        ensures { shown result ≡ machine.Declaring nothing }
+    {
+        Phase::Declaring(Declaring::new(alloc))
+    }
+
+    /// Plays a line: the state after it, and the answer.
+    pub(crate) fn step(
+        self,
+        alloc: Global,
+        command: &Command<'_>,
+    ) -> Result<(Phase, Answer), AllocError>
+        ensures { IfOk result (λ r. machine.Steps (shown self) (order_of command.now) r.1 (shown r.0)) }
+    {
+        match command {
+            Command::Object { name } => self.object(name),
+            Command::Field {
+                name,
+                owner,
+                guard,
+                first,
+            } => self.field(name, owner, guard, *first),
+            Command::Format { lanes, capacity } => self.format(alloc, *lanes, *capacity),
+            Command::Step { thread, step } => self.thread_step(alloc, *thread, step),
+            Command::Log => self.log(),
+            Command::Home => self.home(),
+            Command::Settle => self.settle(alloc),
+            Command::Heap => self.heap(alloc),
+            Command::Crash { fill, back } => self.crash(*fill, *back),
+            Command::Show => self.show(alloc),
+            Command::Recover => self.recover(alloc),
+            // Scripts have no such line yet: it ends a run before it comes here.
+            Command::Trim => Ok(self.refuse()),
+        }
+    }
+
+    // The line doesn't belong to this state.
+    fn refuse(self) -> (Phase, Answer)
+        ensures { machine.Refuses (shown self) result.1 (shown result.0) why.State }
+    {
+        (self, Answer::Refused(Refusal::State))
+    }
+
+    fn object(self, name: &str) -> Result<(Phase, Answer), AllocError>
+        ensures { IfOk result (λ r. machine.Steps (shown self) (order.Object name.now) r.1 (shown r.0)) }
+    {
+        match self {
+            Phase::Declaring(mut declaring) => {
+                let said = declaring.object(name)?;
+                Ok((Phase::Declaring(declaring), answered(said)))
+            }
+            other => Ok(other.refuse()),
+        }
+    }
+
+    fn field(
+        self,
+        name: &str,
+        owner: &str,
+        guard: &str,
+        first: u64,
+    ) -> Result<(Phase, Answer), AllocError>
+        ensures { IfOk result (λ r. machine.Steps (shown self) (order.Field name.now owner.now guard.now first) r.1 (shown r.0)) }
+    {
+        match self {
+            Phase::Declaring(mut declaring) => {
+                let said = declaring.field(name, owner, guard, first)?;
+                Ok((Phase::Declaring(declaring), answered(said)))
+            }
+            other => Ok(other.refuse()),
+        }
+    }
+
+    fn format(self, alloc: Global, lanes: u64, capacity: u64) -> Result<(Phase, Answer), AllocError>
+        ensures { IfOk result (λ r. machine.Steps (shown self) (order.Format lanes capacity) r.1 (shown r.0)) }
+    {
+        match self {
+            Phase::Declaring(declaring) => format_declared(alloc, declaring, lanes, capacity),
+            other => Ok(other.refuse()),
+        }
+    }
+
+    fn thread_step(
+        self,
+        alloc: Global,
+        thread: Lane,
+        step: &Step<'_>,
+    ) -> Result<(Phase, Answer), AllocError>
+        ensures { IfOk result (λ r. machine.Steps (shown self) (order.Act thread (step_of step.now)) r.1 (shown r.0)) }
+    {
+        match self {
+            Phase::Running(mut running) => {
+                let answer = running.step(alloc, thread, step)?;
+                Ok((Phase::Running(running), answer))
+            }
+            other => Ok(other.refuse()),
+        }
+    }
+
+    fn log(self) -> Result<(Phase, Answer), AllocError>
+        ensures { IfOk result (λ r. machine.Steps (shown self) order.Log r.1 (shown r.0)) }
+    {
+        match self {
+            Phase::Running(running) => {
+                let (running, answer) = running.log()?;
+                Ok((Phase::Running(running), answer))
+            }
+            other => Ok(other.refuse()),
+        }
+    }
+
+    fn home(self) -> Result<(Phase, Answer), AllocError>
+        ensures { IfOk result (λ r. machine.Steps (shown self) order.Home r.1 (shown r.0)) }
+    {
+        match self {
+            Phase::Running(running) => {
+                let (running, answer) = running.home()?;
+                Ok((Phase::Running(running), answer))
+            }
+            other => Ok(other.refuse()),
+        }
+    }
+
+    fn settle(self, alloc: Global) -> Result<(Phase, Answer), AllocError>
+        ensures { IfOk result (λ r. machine.Steps (shown self) order.Settle r.1 (shown r.0)) }
+    {
+        match self {
+            Phase::Running(running) => {
+                let (running, answer) = running.settle(alloc)?;
+                Ok((Phase::Running(running), answer))
+            }
+            other => Ok(other.refuse()),
+        }
+    }
+
+    fn heap(self, alloc: Global) -> Result<(Phase, Answer), AllocError>
+        ensures { IfOk result (λ r. machine.Steps (shown self) order.Heap r.1 (shown r.0)) }
+    {
+        match self {
+            Phase::Running(running) => {
+                let answer = running.heap(alloc)?;
+                Ok((Phase::Running(running), answer))
+            }
+            other => Ok(other.refuse()),
+        }
+    }
+
+    fn crash(self, fill: Fill, back: u64) -> Result<(Phase, Answer), AllocError>
+        ensures { IfOk result (λ r. machine.Steps (shown self) (order.Crash fill back) r.1 (shown r.0)) }
+    {
+        match self {
+            Phase::Running(running) => crash_running(running, fill, back),
+            other => Ok(other.refuse()),
+        }
+    }
+
+    fn show(self, alloc: Global) -> Result<(Phase, Answer), AllocError>
+        ensures { IfOk result (λ r. machine.Steps (shown self) order.Show r.1 (shown r.0)) }
+    {
+        match self {
+            Phase::Down(mut down) => {
+                let answer = down.show(alloc)?;
+                Ok((Phase::Down(down), answer))
+            }
+            other => Ok(other.refuse()),
+        }
+    }
+
+    fn recover(self, alloc: Global) -> Result<(Phase, Answer), AllocError>
+        ensures { IfOk result (λ r. machine.Steps (shown self) order.Recover r.1 (shown r.0)) }
+    {
+        match self {
+            Phase::Down(down) => recover_down(alloc, down),
+            other => Ok(other.refuse()),
+        }
+    }
+}
+
+// Formats an image for what was declared. The limits are tested before the schema is closed, which can't be undone.
+fn format_declared(
+    alloc: Global,
+    declaring: Declaring,
+    lanes: u64,
+    capacity: u64,
+) -> Result<(Phase, Answer), AllocError>
+    ensures { IfOk result (λ r. machine.FormatsImage (machine.Declaring declaring) r.1 (shown r.0) declaring lanes capacity) }
+{
+    if declaring.is_empty() {
+        return Ok((Phase::Declaring(declaring), Answer::Refused(Refusal::Empty)));
+    }
+    let Some((lanes, capacity)) = format_numbers(lanes, capacity) else {
+        return Ok((
+            Phase::Declaring(declaring),
+            Answer::Refused(Refusal::BadHeader),
+        ));
+    };
+    let schema = declaring.build();
+    let (store, size) = format_store(alloc, &schema, lanes, capacity)?;
+    let monitors = Monitors::new(alloc, schema, LAST_NUMBER, lanes)?;
+    let running = Running::new(monitors, store);
+    Ok((Phase::Running(running), Answer::Formatted(size)))
+}
+
+// Crashes the device with all but the last `back` writes and syncs ended and the next begun.
+fn crash_running(running: Running, fill: Fill, back: u64) -> Result<(Phase, Answer), AllocError>
+    ensures { IfOk result (λ r. machine.Crashes (machine.Running running) r.1 (shown r.0) running fill back) }
+{
+    let Some(disk) = running.crash_image(fill, back)? else {
+        return Ok((Phase::Running(running), Answer::Refused(Refusal::Back)));
+    };
+    let down = Down::new(running.into_schema(), disk);
+    Ok((Phase::Down(down), Answer::Crashed))
+}
+
+// Recovers the device that a crash left.
+fn recover_down(alloc: Global, down: Down) -> Result<(Phase, Answer), AllocError>
+    ensures { IfOk result (λ r. machine.RecoversDevice (machine.Down down) r.1 (shown r.0) down) }
+{
+    let (schema, disk) = down.into_parts();
+    match restore(alloc, &schema, disk)? {
+        Ok((store, report)) => {
+            let lanes = store.layout().lanes;
+            let monitors = Monitors::with_values(alloc, schema, LAST_NUMBER, lanes, &report.heap)?;
+            let running = Running::new(monitors, store);
+            Ok((Phase::Running(running), Answer::Recovered(report)))
+        }
+        Err((disk, why)) => {
+            let down = Down::new(schema, disk);
+            Ok((Phase::Down(down), Answer::Refused(why)))
+        }
+    }
+}
+
+// The numbers of an image that may have so many lanes, and room for so many records in each.
+fn format_numbers(lanes: u64, capacity: u64) -> Option<(u8, u32)>
+    ensures limits { IsSome result ↔ IsFormattable lanes capacity }
+    ensures same { IfSome result (λ numbers. (numbers.0 ≡ lanes) × (numbers.1 ≡ capacity) × (numbers.0 ≤ 32)) }
+{
+    let (Ok(lanes), Ok(capacity)) = (u8::try_from(lanes), u32::try_from(capacity)) else {
+        return None;
+    };
+    let smallest = Layout {
+        objects: 1,
+        fields: 1,
+        lanes,
+        capacity,
+    };
+    if !smallest.is_within_limits() {
+        return None;
+    }
+    Some((lanes, capacity))
+}
