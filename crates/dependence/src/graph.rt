@@ -82,7 +82,8 @@ impl Graph {
     ///
     /// An object's numbers may begin anywhere and rise with each take; a release is by the lane that holds
     /// the object. A record that a legal list allows next is such ([`allowed_law`](crate::allowed_law)). A
-    /// take whose release isn't in the graph depends on none. The time is constant.
+    /// take whose release isn't in the graph depends on none. [`room`](Self::room) and
+    /// [`lanes`](Self::lanes) tell what is asked of the numbers. The time is constant.
     pub fn push(&mut self, lane: Lane, entry: &UndoRecord)
         requires room { 0 < self.old.room }
         requires lane { lane.0 < self.old.lanes }
@@ -143,6 +144,20 @@ impl Graph {
         let cut = greatest_cut(self.lanes, &self.steps, &self.links, &self.ended).cut;
         self.stable = Some(cut);
         cut
+    }
+
+    /// For how many more records there is room.
+    pub fn room(&self) -> usize
+        ensures { result ≡ self.now.room }
+    {
+        self.room
+    }
+
+    /// How many lanes there are, numbered from 0.
+    pub fn lanes(&self) -> u8
+        ensures { result ≡ self.now.lanes }
+    {
+        self.lanes
     }
 
     /// Why a whole section is not in the stable cut: the first of its dependences that is not in it
