@@ -1,15 +1,17 @@
+-- The promise: what public clauses state.
 pub mod Layout
 pub mod Header
+pub mod Guards
+pub mod Cells
 pub mod Rows
 pub mod Control
-pub mod Guards
-pub mod Blocks
-pub mod Cells
 pub mod Slots
-pub mod Choice
-pub mod Calls
-pub mod Commit
-pub mod Format
 pub mod Image
+pub mod Calls
+pub mod Format
+pub mod Commit
 pub mod Recovered
 pub mod Laws
+-- Scaffold: what proofs need.
+pub mod Blocks
+pub mod Choice

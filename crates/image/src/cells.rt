@@ -8,10 +8,9 @@ ghost use Rattle.image.specs.Layout.{cell_at, size_of};
 ghost use Rattle.image.specs.declared.error.ImageError.TheVariants.{Fault};
 
 use crate::bytes::u64_at;
-use crate::device::{read, write};
 use crate::error::ImageError;
 use crate::layout::Layout;
-use block_disk::Disk;
+use block_disk::{Disk, read_within, write_within};
 use heap_model::FieldId;
 
 /// Writes the field's home cell. Until the next sync that succeeds, a crash may leave any bytes there; no other byte of
@@ -31,7 +30,8 @@ pub fn put_cell<D: Disk>(
     ensures any_moment { LeavesOnly (D.device disk.old) (D.device disk.new) (ImageBut (D.device disk.old) (cell_range layout.now field.0 ∷ [])) }
     ensures cause { HasCause (D.device disk.old).failures (D.device disk.new).failures Fault result }
 {
-    write(disk, layout.home_cell(field), &value.to_be_bytes())
+    write_within(disk, layout.home_cell(field), &value.to_be_bytes())?;
+    Ok(())
 }
 
 /// The value in the field's home cell, in one read. `Fault` is the one refusal.
@@ -44,6 +44,6 @@ pub fn get_cell<D: Disk>(disk: &mut D, layout: &Layout, field: FieldId) -> Resul
     ensures cause { HasCause (D.device disk.old).failures (D.device disk.new).failures Fault result }
 {
     let mut bytes = [0; 8];
-    read(disk, layout.home_cell(field), &mut bytes)?;
+    read_within(disk, layout.home_cell(field), &mut bytes)?;
     Ok(u64_at(&bytes, 0))
 }

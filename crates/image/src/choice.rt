@@ -8,12 +8,11 @@ ghost use Rattle.image.specs.declared.error.ImageError.TheVariants.{Fault};
 
 use crate::bytes::u64_at;
 use crate::control::{BODY_BYTES, Control, decode_control};
-use crate::device::read;
 use crate::error::ImageError;
 use crate::header::OPEN;
 use crate::layout::Layout;
 use crate::slot::Slot;
-use block_disk::Disk;
+use block_disk::{Disk, read_within};
 
 /// The control that counts, and its slot: of those with an open gate, the one with the greater sequence. Three reads.
 ///
@@ -32,7 +31,7 @@ pub fn choose_control<D: Disk>(disk: &mut D, layout: &Layout) -> Result<(Slot, C
 {
     let slot = pick(disk)?;
     let mut body = [0; BODY_BYTES];
-    read(disk, slot.body(), &mut body)?;
+    read_within(disk, slot.body(), &mut body)?;
     let Some(control) = decode_control(layout, &body) else {
         return Err(ImageError::BadControl);
     };
@@ -83,7 +82,7 @@ fn read_head<D: Disk>(disk: &mut D, slot: Slot) -> Result<Head, ImageError>
     ensures cause { HasCause (D.device disk.old).failures (D.device disk.new).failures Fault result }
 {
     let mut bytes = [0; 16];
-    read(disk, slot.start(), &mut bytes)?;
+    read_within(disk, slot.start(), &mut bytes)?;
     Ok(Head {
         is_open: bytes[0] == OPEN,
         sequence: u64_at(&bytes, 8),

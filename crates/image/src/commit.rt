@@ -12,13 +12,12 @@ ghost use Rattle.image.specs.declared.error.ImageError.TheVariants.{Fault, Worn}
 ghost use Rattle.image.specs.declared.layout.Layout.{Layout as Shape};
 
 use crate::control::{BODY_BYTES, Control, ROWS, VERSION, encode_control};
-use crate::device::{read, write_and_sync};
 use crate::error::ImageError;
 use crate::header::{CLOSED, OPEN};
 use crate::lane_row::LaneRow;
 use crate::layout::Layout;
 use crate::slot::Slot;
-use block_disk::Disk;
+use block_disk::{Disk, read_within, write_through};
 
 /// Commits a control with these rows and the next sequence into the slot that isn't chosen, and answers that slot.
 ///
@@ -90,9 +89,9 @@ fn replace<D: Disk>(
     // A body that is torn behind an open gate would count.
     close(disk, gate)?;
     // The body has to be durable before the gate opens over it.
-    write_and_sync(disk, slot.body(), content)?;
+    write_through(disk, slot.body(), content)?;
     // Once this write may have reached the device, the new control may count; once it is durable, it does.
-    write_and_sync(disk, gate, &[OPEN])?;
+    write_through(disk, gate, &[OPEN])?;
     Ok(slot)
 }
 
@@ -109,9 +108,9 @@ fn close<D: Disk>(disk: &mut D, at: u64) -> Result<(), ImageError>
     ensures cause { HasCause (D.device disk.old).failures (D.device disk.new).failures Fault result }
 {
     let mut gate = [CLOSED];
-    read(disk, at, &mut gate)?;
+    read_within(disk, at, &mut gate)?;
     if gate[0] == OPEN {
-        write_and_sync(disk, at, &[CLOSED])?;
+        write_through(disk, at, &[CLOSED])?;
     }
     Ok(())
 }

@@ -1,4 +1,8 @@
 //! Why an image is refused.
+ghost use Rattle.std.specs.Prelude.{◌≡◌};
+ghost use Rattle.image.specs.declared.error.ImageError.TheVariants.{Fault};
+
+use block_disk::Fault;
 use thiserror::Error;
 
 /// Why an image is refused, or a call on it has to stop.
@@ -28,4 +32,12 @@ pub enum ImageError {
     /// There was no memory.
     #[error("no memory")]
     NoMemory,
+}
+
+impl From<Fault> for ImageError {
+    ghost from_gives = { λ _ e. e ≡ Fault };
+
+    fn from(_fault: Fault) -> ImageError {
+        ImageError::Fault
+    }
 }

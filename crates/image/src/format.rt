@@ -8,14 +8,13 @@ ghost use Rattle.image.specs.Layout.{IsLayout, IsLayoutOf, size_of};
 ghost use Rattle.image.specs.declared.error.ImageError.TheVariants.{Fault};
 
 use crate::control::{Control, ROWS, VERSION, encode_control};
-use crate::device::{sync, write, write_and_sync};
 use crate::error::ImageError;
 use crate::guard_row::{GuardRow, encode_guard};
 use crate::header::{CLOSED, GATE_AT, OPEN, encode_header};
 use crate::lane_row::LaneRow;
 use crate::layout::Layout;
 use crate::slot::{SLOT_BYTES, Slot};
-use block_disk::Disk;
+use block_disk::{Disk, make_durable, write_through, write_within};
 use guards::Schema;
 use heap_model::FieldId;
 
@@ -42,8 +41,8 @@ pub fn write_header<D: Disk>(
     put_slots(disk)?;
     put_fields(disk, layout, schema)?;
     // All of the image has to be durable before the open gate says that it is one.
-    sync(disk)?;
-    write_and_sync(disk, GATE_AT, &[OPEN])?;
+    make_durable(disk)?;
+    write_through(disk, GATE_AT, &[OPEN])?;
     Ok(())
 }
 
@@ -57,9 +56,9 @@ fn put_name<D: Disk>(disk: &mut D, layout: &Layout) -> Result<(), ImageError>
     ensures cause { HasCause (D.device disk.old).failures (D.device disk.new).failures Fault result }
 {
     let header = encode_header(layout);
-    write_and_sync(disk, GATE_AT, &[CLOSED])?;
-    write(disk, 0, &header[..8])?;
-    write(disk, GATE_AT + 1, &header[9..])?;
+    write_through(disk, GATE_AT, &[CLOSED])?;
+    write_within(disk, 0, &header[..8])?;
+    write_within(disk, GATE_AT + 1, &header[9..])?;
     Ok(())
 }
 
@@ -73,9 +72,9 @@ fn put_slots<D: Disk>(disk: &mut D) -> Result<(), ImageError>
 {
     let mut content = [CLOSED; SLOT_BYTES];
     fill_slot(&mut content);
-    write(disk, Slot::A.start(), &content)?;
+    write_within(disk, Slot::A.start(), &content)?;
     clear_slot(&mut content);
-    write(disk, Slot::B.start(), &content)?;
+    write_within(disk, Slot::B.start(), &content)?;
     Ok(())
 }
 
@@ -133,7 +132,7 @@ fn put_field<D: Disk>(
     ensures cause { HasCause (D.device disk.old).failures (D.device disk.new).failures Fault result }
 {
     let row = GuardRow::of(schema, field);
-    write(disk, layout.guard_row(field), &encode_guard(&row))?;
-    write(disk, layout.home_cell(field), &row.first.to_be_bytes())?;
+    write_within(disk, layout.guard_row(field), &encode_guard(&row))?;
+    write_within(disk, layout.home_cell(field), &row.first.to_be_bytes())?;
     Ok(())
 }

@@ -6,11 +6,10 @@ ghost use Rattle.image.specs.Guards.{HasGuards, NamesObjects, RefusesGuards};
 ghost use Rattle.image.specs.Layout.{IsLayout, size_of};
 ghost use Rattle.image.specs.declared.error.ImageError.TheVariants.{Fault};
 
-use crate::device::read;
 use crate::error::ImageError;
 use crate::guard_row::{GUARD_ROW_BYTES, GuardRow, decode_guard};
 use crate::layout::Layout;
-use block_disk::Disk;
+use block_disk::{Disk, read_within};
 use heap_model::{FieldId, ObjectId};
 use std::alloc::Global;
 
@@ -105,7 +104,7 @@ fn read_block<D: Disk>(
     let rows = &mut block[..count as usize];
     let mut bytes = [0; BLOCK_BYTES];
     let bytes = &mut bytes[..GUARD_ROW_BYTES * rows.len()];
-    read(disk, layout.guard_row(FieldId(first)), bytes)?;
+    read_within(disk, layout.guard_row(FieldId(first)), bytes)?;
     decode_guards(bytes, rows);
     if !name_objects(layout.objects, rows) {
         return Err(ImageError::BadHeader);

@@ -7,10 +7,9 @@ ghost use Rattle.image.specs.declared.error.ImageError.TheVariants.{Fault};
 ghost use Rattle.image.specs.declared.layout.Layout.{Layout as Shape};
 
 use crate::bytes::u32_at;
-use crate::device::read;
 use crate::error::ImageError;
 use crate::layout::Layout;
-use block_disk::Disk;
+use block_disk::{Disk, read_within};
 
 /// The bytes of a header.
 pub const HEADER_BYTES: usize = 64;
@@ -87,7 +86,7 @@ pub fn read_header<D: Disk>(disk: &mut D) -> Result<Layout, ImageError>
         return Err(ImageError::NotFormatted);
     }
     let mut bytes = [0; HEADER_BYTES];
-    read(disk, 0, &mut bytes)?;
+    read_within(disk, 0, &mut bytes)?;
     if bytes[..9] != FORMATTED[..] {
         return Err(ImageError::NotFormatted);
     }

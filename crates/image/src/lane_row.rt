@@ -1,5 +1,5 @@
 //! The row of a lane in a control (`docs/FORMAT.md`, "Control").
-ghost use Rattle.std.specs.Prelude.{◌≡◌, ◌↔◌, ◌*◌, length, All, IsTrue};
+ghost use Rattle.std.specs.Prelude.{◌≡◌, ◌↔◌, ◌-◌, ◌*◌, ◌≤◌, length, All, IsTrue};
 ghost use Rattle.image.specs.Rows.{FitsRow, IsRow, row_bytes, rows_bytes};
 
 use crate::bytes::u64_at;
@@ -29,8 +29,8 @@ impl LaneRow {
         kept: 0,
     };
 
-    /// Whether a lane of so many records may have this row.
-    pub(crate) fn is_within(&self, capacity: u32) -> bool
+    /// Whether a lane whose area holds `capacity` records may have this row.
+    pub fn is_within(&self, capacity: u32) -> bool
         ensures { IsTrue result ↔ IsRow capacity self.now }
     {
         self.start <= self.settled
@@ -38,6 +38,14 @@ impl LaneRow {
             && self.logged <= 1 << 63
             && self.kept <= self.settled
             && self.logged - self.start <= u64::from(capacity)
+    }
+
+    /// How many of the live records are those of acknowledged sections.
+    pub fn settled_records(&self) -> u64
+        requires { self.now.start ≤ self.now.settled }
+        ensures { result ≡ self.now.settled - self.now.start }
+    {
+        self.settled - self.start
     }
 }
 

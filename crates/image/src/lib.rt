@@ -11,7 +11,6 @@ mod cells;
 mod choice;
 mod commit;
 mod control;
-mod device;
 mod error;
 mod format;
 mod guard_row;

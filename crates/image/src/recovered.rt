@@ -70,6 +70,22 @@ impl<D: Disk> Recovered<D> {
         }
     }
 
+    /// The layout of its image.
+    pub fn layout(&self) -> Layout
+        ensures layout { result ≡ self.now.layout }
+        ensures recovered { IsRecovered (D.device self.now.disk) result self.now.guards self.now.slot self.now.sequence self.now.heap }
+    {
+        self.layout
+    }
+
+    /// The guard rows, by field.
+    pub fn guards(&self) -> &[GuardRow]
+        ensures guards { result.now ≡ self.now.guards }
+        ensures recovered { IsRecovered (D.device self.now.disk) self.now.layout result.now self.now.slot self.now.sequence self.now.heap }
+    {
+        &self.guards
+    }
+
     /// The values in the home cells, by field.
     pub fn heap(&self) -> &[u64]
         ensures heap { result.now ≡ self.now.heap }

@@ -1,8 +1,10 @@
+-- The promise: what public clauses state.
 pub mod RecordBytes
+pub mod Area
+pub mod Frames
 pub mod OldValues
 pub mod Dropped
-pub mod Laws
-pub mod Area
-pub mod Runs
 pub mod StandsFor
-pub mod Frames
+pub mod Laws
+-- Scaffold: what proofs need.
+pub mod Runs

@@ -92,8 +92,6 @@ fn write_record<D: Disk>(
     ensures any_moment { LeavesOnly (D.device disk.old) (D.device disk.new) (ImageBut (D.device disk.old) (record_range layout.now lane.0 place ∷ [])) }
     ensures cause { HasCause (D.device disk.old).failures (D.device disk.new).failures Fault result }
 {
-    match write_within(disk, layout.record(lane, place), &encode_record(entry)) {
-        Ok(()) => Ok(()),
-        Err(_) => Err(LogError::Fault),
-    }
+    write_within(disk, layout.record(lane, place), &encode_record(entry))?;
+    Ok(())
 }

@@ -1,4 +1,8 @@
 //! Why a call on a lane's log has to stop.
+ghost use Rattle.std.specs.Prelude.{◌≡◌};
+ghost use Rattle.undo_log.specs.declared.error.LogError.TheVariants.{Fault};
+
+use block_disk::Fault;
 use heap_model::Lane;
 use thiserror::Error;
 
@@ -17,4 +21,12 @@ pub enum LogError {
     /// There was no memory.
     #[error("no memory")]
     NoMemory,
+}
+
+impl From<Fault> for LogError {
+    ghost from_gives = { λ _ e. e ≡ Fault };
+
+    fn from(_fault: Fault) -> LogError {
+        LogError::Fault
+    }
 }

@@ -17,8 +17,8 @@ pub use laws::{
     back_since_law, first_dropped_law, image_stands_law, one_heap_law, one_span_law, one_value_law,
     place_law, spare_law, stands_law, survival_law,
 };
-pub use reading::read;
-pub use record_bytes::{decode_record, encode_record};
+pub use reading::{is_of_image, read};
+pub use record_bytes::{decode_record, encode_record, is_in_range};
 
 #[cfg(test)]
 mod tests;

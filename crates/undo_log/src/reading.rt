@@ -1,6 +1,5 @@
 //! A lane's records, read back in runs.
 ghost use Rattle.std.specs.Prelude.{◌≡◌, ◌↔◌, ◌+◌, ◌++◌, ◌*◌, ◌%◌, ◌<◌, ◌≤◌, IfErr, IfOk, IsTrue, MatchResult, OnOk, Some, length, take, vec_capacity, vec_len, min, ◌-◌};
-ghost use Rattle.block_disk.specs.Bytes.{part};
 ghost use Rattle.block_disk.specs.Device.{HasCause, SameMoments};
 ghost use Rattle.heap_model.specs.declared.record.UndoRecord.{UndoRecord as AnyRecord};
 ghost use Rattle.image.specs.Layout.{IsLayout, size_of};
@@ -125,27 +124,13 @@ fn read_run<D: Disk>(
     let records = &mut run[..count];
     let mut bytes = [0; RUN_BYTES];
     let bytes = &mut bytes[..RECORD_BYTES * records.len()];
-    read_bytes(disk, layout.record(lane, place), bytes)?;
+    read_within(disk, layout.record(lane, place), bytes)?;
     match decode_run(layout, bytes, records) {
         Ok(()) => Ok(count),
         Err(bad) => Err(LogError::BadRecord {
             lane,
             place: place + bad as u64,
         }),
-    }
-}
-
-// Reads the bytes from `at` on into `out`, whole.
-fn read_bytes<D: Disk>(disk: &mut D, at: u64, out: &mut [u8]) -> Result<(), LogError>
-    requires { at + length out.old ≤ length (D.device disk.old).now.bytes }
-    ensures ok { OnOk result (out.new ≡ part at (length out.old) (D.device disk.old).now.bytes) }
-    ensures only_fault { IfErr result (λ e. e ≡ Fault) }
-    ensures same { SameMoments (D.device disk.old) (D.device disk.new) }
-    ensures cause { HasCause (D.device disk.old).failures (D.device disk.new).failures Fault result }
-{
-    match read_within(disk, at, out) {
-        Ok(()) => Ok(()),
-        Err(_) => Err(LogError::Fault),
     }
 }
 
@@ -195,8 +180,8 @@ fn decode_in(layout: &Layout, bytes: &[u8]) -> Option<UndoRecord>
     }
 }
 
-// Whether the image has the record's object or field.
-fn is_of_image(layout: &Layout, entry: UndoRecord) -> bool
+/// Whether the image has the record's object or field.
+pub fn is_of_image(layout: &Layout, entry: UndoRecord) -> bool
     ensures { IsTrue result ↔ IsOfImage layout.now entry }
 {
     match entry {

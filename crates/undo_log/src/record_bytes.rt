@@ -107,8 +107,8 @@ fn word(entry: UndoRecord) -> u64
     }
 }
 
-// Whether its object, field and number are within the limits of every image.
-fn is_in_range(entry: UndoRecord) -> bool
+/// Whether the record's object, field and number are within the limits of every image.
+pub fn is_in_range(entry: UndoRecord) -> bool
     ensures { IsTrue result ↔ IsInRange entry }
 {
     match entry {

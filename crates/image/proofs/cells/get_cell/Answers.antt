@@ -11,6 +11,6 @@ returns-clause-ok g c =
     let is : cell_at c.args.layout.now c.args.field.0 ≡ at + 0 = omega (arith, c.home_cell.ensures) in
     record {
       spelled = ap (λ (k : ℕ). part k 8 image) is ∙ sym (part_part 0 8 at 8 image (omega arith))
-          ∙ ap (λ (bytes : List ℕ). part 0 8 bytes) (sym c.in_ok-read.ensures.ok) ∙ sym c.u64_at.ensures.spelled;
+          ∙ ap (λ (bytes : List ℕ). part 0 8 bytes) (sym c.in_ok-read_within.ensures.ok) ∙ sym c.u64_at.ensures.spelled;
       fits = omega arith;
     }

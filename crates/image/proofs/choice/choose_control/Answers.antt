@@ -18,8 +18,8 @@ returns-in_default-clause-exact g c =
     let l = c.args.layout.now in
     let image = (g.D.Disk.device c.args.disk.now).now.bytes in
     let s = c.in_ok-slot.slot in
-    let out = c.read.new.out in
-    let is : out ≡ body s image = body_read image out s c.body.result c.body.ensures (c.in_ok-read.ensures.ok ∙ ap (λ (m : Moment). part c.body.result 1040 m.bytes) c.pick.ensures.same.now) in (
+    let out = c.read_within.new.out in
+    let is : out ≡ body s image = body_read image out s c.body.result c.body.ensures (c.in_ok-read_within.ensures.ok ∙ ap (λ (m : Moment). part c.body.result 1040 m.bytes) c.pick.ensures.same.now) in (
       (s, c.in_ok-slot.ensures.exact.0),
       none_spelled l image s c.in_ok-slot.ensures.exact (λ d spells. c.in_default.ensures.none d (subst (λ (b : List ℕ). Spells l b d) (sym is) spells)),
     )
@@ -29,6 +29,6 @@ returns-clause-exact g c =
     let l = c.args.layout.now in
     let image = (g.D.Disk.device c.args.disk.now).now.bytes in
     let s = c.in_ok-slot.slot in
-    let out = c.read.new.out in
-    let is : out ≡ body s image = body_read image out s c.body.result c.body.ensures (c.in_ok-read.ensures.ok ∙ ap (λ (m : Moment). part c.body.result 1040 m.bytes) c.pick.ensures.same.now) in
+    let out = c.read_within.new.out in
+    let is : out ≡ body s image = body_read image out s c.body.result c.body.ensures (c.in_ok-read_within.ensures.ok ∙ ap (λ (m : Moment). part c.body.result 1040 m.bytes) c.pick.ensures.same.now) in
     picked_shows l image s c.in-Some.control c.requires.fits c.in_ok-slot.ensures.exact (subst (λ (b : List ℕ). Spells l b c.in-Some.control) is c.in-Some.ensures.some)

@@ -15,25 +15,25 @@ back xs out at is was =
     let zero : at ≡ at + 0 = omega arith in
     ap (λ (l : List ℕ). get_or l 0 0) is ∙ get_or_part at 1 xs 0 (omega arith) ∙ ap (λ (k : ℕ). get_or xs k 0) (sym zero) ∙ was
 
-pub returns-in_err-write_and_sync-clause-any_moment : goal.returns-in_err-write_and_sync-clause-any_moment
-returns-in_err-write_and_sync-clause-any_moment g c =
+pub returns-in_err-write_through-clause-any_moment : goal.returns-in_err-write_through-clause-any_moment
+returns-in_err-write_through-clause-any_moment g c =
     let old = g.D.Disk.device c.args.disk.now in
-    closes old (g.D.Disk.device c.read.new.disk) (g.D.Disk.device c.write_and_sync.new.disk) c.args.at c.read.ensures.same
-    (read old.now.bytes c.read.new.out c.args.at c.in_ok-read.ensures.ok c.if-gate.true) c.write_and_sync.ensures.any_moment
+    closes old (g.D.Disk.device c.read_within.new.disk) (g.D.Disk.device c.write_through.new.disk) c.args.at c.read_within.ensures.same
+    (read old.now.bytes c.read_within.new.out c.args.at c.in_ok-read_within.ensures.ok c.if-gate.true) c.write_through.ensures.any_moment
 
-pub returns-in_ok-write_and_sync-clause-any_moment : goal.returns-in_ok-write_and_sync-clause-any_moment
-returns-in_ok-write_and_sync-clause-any_moment g c =
+pub returns-in_ok-write_through-clause-any_moment : goal.returns-in_ok-write_through-clause-any_moment
+returns-in_ok-write_through-clause-any_moment g c =
     let old = g.D.Disk.device c.args.disk.now in
-    closes old (g.D.Disk.device c.read.new.disk) (g.D.Disk.device c.write_and_sync.new.disk) c.args.at c.read.ensures.same
-    (read old.now.bytes c.read.new.out c.args.at c.in_ok-read.ensures.ok c.if-gate.true) c.write_and_sync.ensures.any_moment
+    closes old (g.D.Disk.device c.read_within.new.disk) (g.D.Disk.device c.write_through.new.disk) c.args.at c.read_within.ensures.same
+    (read old.now.bytes c.read_within.new.out c.args.at c.in_ok-read_within.ensures.ok c.if-gate.true) c.write_through.ensures.any_moment
 
-pub returns-in_ok-write_and_sync-clause-calls : goal.returns-in_ok-write_and_sync-clause-calls
-returns-in_ok-write_and_sync-clause-calls g c =
+pub returns-in_ok-write_through-clause-calls : goal.returns-in_ok-write_through-clause-calls
+returns-in_ok-write_through-clause-calls g c =
     let old = g.D.Disk.device c.args.disk.now in
-    c.in_ok-write_and_sync.ensures.ok ∙ ap (λ (d : Device). synced (written c.args.at (0 ∷ []) d)) c.in_ok-read.ensures.unchanged
-    ∙ sym (closing_open c.args.at old (read old.now.bytes c.read.new.out c.args.at c.in_ok-read.ensures.ok c.if-gate.true))
+    c.in_ok-write_through.ensures.ok ∙ ap (λ (d : Device). synced (written c.args.at (0 ∷ []) d)) c.in_ok-read_within.ensures.untouched
+    ∙ sym (closing_open c.args.at old (read old.now.bytes c.read_within.new.out c.args.at c.in_ok-read_within.ensures.ok c.if-gate.true))
 
 pub returns-else-gate-clause-calls : goal.returns-else-gate-clause-calls
 returns-else-gate-clause-calls g c =
     let old = g.D.Disk.device c.args.disk.now in
-    c.in_ok-read.ensures.unchanged ∙ sym (closing_shut c.args.at old (λ is. c.if-gate.false (back old.now.bytes c.read.new.out c.args.at c.in_ok-read.ensures.ok is)))
+    c.in_ok-read_within.ensures.untouched ∙ sym (closing_shut c.args.at old (λ is. c.if-gate.false (back old.now.bytes c.read_within.new.out c.args.at c.in_ok-read_within.ensures.ok is)))

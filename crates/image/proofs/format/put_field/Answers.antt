@@ -13,5 +13,5 @@ returns-clause-calls g c =
     let guard : c.encode_guard.result ≡ guard_bytes (guard_row_of c.args.schema.now c.args.field.0) = c.encode_guard.ensures ∙ ap guard_bytes row in
     let first : c.to_be_bytes.result ≡ to_be_bytes w64 (first_of c.args.schema.now c.args.field.0) =
     c.to_be_bytes.ensures ∙ ap (λ (r : GuardRow). to_be_bytes w64 r.first) row in
-    c.in_ok-write-2.ensures.ok
-    ∙ (λ i. written (c.home_cell.ensures i) (first i) ((c.in_ok-write.ensures.ok ∙ (λ j. written (c.guard_row.ensures j) (guard j) d0)) i))
+    c.in_ok-write_within-2.ensures.ok
+    ∙ (λ i. written (c.home_cell.ensures i) (first i) ((c.in_ok-write_within.ensures.ok ∙ (λ j. written (c.guard_row.ensures j) (guard j) d0)) i))

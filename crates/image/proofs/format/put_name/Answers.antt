@@ -11,5 +11,5 @@ returns-clause-calls g c =
     let is : h ≡ header_bytes l = c.encode_header-header.ensures in
     let front : take 8 h ≡ take 8 (header_bytes l) = ap (take 8) is in
     let rest : take 55 (drop 9 h) ≡ drop 9 (header_bytes l) = take_all 55 (drop 9 h) (omega (arith, length-drop 9 h, ap length is)) ∙ ap (drop 9) is in
-    c.in_ok-write-2.ensures.ok
-    ∙ (λ i. written 9 (rest i) ((c.in_ok-write.ensures.ok ∙ (λ j. written 0 (front j) (c.in_ok-write_and_sync.ensures.ok j))) i))
+    c.in_ok-write_within-2.ensures.ok
+    ∙ (λ i. written 9 (rest i) ((c.in_ok-write_within.ensures.ok ∙ (λ j. written 0 (front j) (c.in_ok-write_through.ensures.ok j))) i))

@@ -7,10 +7,10 @@ use Rattle.image.proofs.format.write_header.Goals as goal
 pub returns-clause-calls : goal.returns-clause-calls
 returns-clause-calls g c =
     format_made c.args.layout.now c.args.schema.now (g.D.Disk.device c.args.disk.now) (g.D.Disk.device c.put_name.new.disk) (g.D.Disk.device c.put_slots.new.disk) (g.D.Disk.device c.put_fields.new.disk)
-    (g.D.Disk.device c.sync.new.disk) (g.D.Disk.device c.write_and_sync.new.disk) c.in_ok-put_name.ensures.calls c.in_ok-put_slots.ensures.calls c.in_ok-put_fields.ensures.calls c.in_ok-sync.ensures.ok c.in_ok-write_and_sync.ensures.ok
+    (g.D.Disk.device c.make_durable.new.disk) (g.D.Disk.device c.write_through.new.disk) c.in_ok-put_name.ensures.calls c.in_ok-put_slots.ensures.calls c.in_ok-put_fields.ensures.calls c.in_ok-make_durable.ensures.ok c.in_ok-write_through.ensures.ok
 
 pub returns-clause-ok : goal.returns-clause-ok
 returns-clause-ok g c =
     let made = format_made c.args.layout.now c.args.schema.now (g.D.Disk.device c.args.disk.now) (g.D.Disk.device c.put_name.new.disk) (g.D.Disk.device c.put_slots.new.disk) (g.D.Disk.device c.put_fields.new.disk)
-    (g.D.Disk.device c.sync.new.disk) (g.D.Disk.device c.write_and_sync.new.disk) c.in_ok-put_name.ensures.calls c.in_ok-put_slots.ensures.calls c.in_ok-put_fields.ensures.calls c.in_ok-sync.ensures.ok c.in_ok-write_and_sync.ensures.ok in
+    (g.D.Disk.device c.make_durable.new.disk) (g.D.Disk.device c.write_through.new.disk) c.in_ok-put_name.ensures.calls c.in_ok-put_slots.ensures.calls c.in_ok-put_fields.ensures.calls c.in_ok-make_durable.ensures.ok c.in_ok-write_through.ensures.ok in
     subst (λ (d : Device). IsFresh c.args.schema.now c.args.layout.now d.now.bytes) (sym made) (fresh_made c.args.layout.now c.args.schema.now (g.D.Disk.device c.args.disk.now) c.requires.schema c.requires.fits)

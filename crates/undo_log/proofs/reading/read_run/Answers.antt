@@ -13,10 +13,10 @@ returns-in-Ok-clause-ok g c =
     let image = (g.D.Disk.device c.args.disk.now).now.bytes in
     let n = c.run_length-count.result in
     let records = c.decode_run.new.records in
-    let bytes = c.read_bytes.new.out in
+    let bytes = c.read_within.new.out in
     let long : length records ≡ n = omega arith in
     let all : length bytes ≡ 16 * n = search rules in
-    let read : bytes ≡ part c.record.result (16 * n) image = c.in_ok-read_bytes.ensures.ok ∙ ap (λ (k : ℕ). part c.record.result k image) (sym c.read_bytes.auto.out ∙ all) in
+    let read : bytes ≡ part c.record.result (16 * n) image = c.in_ok-read_within.ensures.ok ∙ ap (λ (k : ℕ). part c.record.result k image) (sym c.read_within.auto.out ∙ all) in
     let holds : HoldsFirst l bytes n records = subst (λ (k : ℕ). HoldsFirst l bytes k records) long c.in-Ok.ensures.ok in
     subst (HasRecords l c.args.lane.0 c.args.place image) (sym (take-append-le n records _ (omega (arith, long))))
     (first_there l c.args.lane.0 c.args.place n image bytes records c.record.result c.record.ensures read c.run_length-count.ensures.in_area long n (omega arith) holds)
@@ -27,9 +27,9 @@ returns-in-Err-clause-refused g c =
     let image = (g.D.Disk.device c.args.disk.now).now.bytes in
     let n = c.run_length-count.result in
     let records = c.decode_run.new.records in
-    let bytes = c.read_bytes.new.out in
+    let bytes = c.read_within.new.out in
     let long : length records ≡ n = omega arith in
     let all : length bytes ≡ 16 * n = grind (arith, common_steps) in
-    let read : bytes ≡ part c.record.result (16 * n) image = c.in_ok-read_bytes.ensures.ok ∙ ap (λ (k : ℕ). part c.record.result k image) (sym c.read_bytes.auto.out ∙ all) in
+    let read : bytes ≡ part c.record.result (16 * n) image = c.in_ok-read_within.ensures.ok ∙ ap (λ (k : ℕ). part c.record.result k image) (sym c.read_within.auto.out ∙ all) in
     broken l c.args.lane.0 c.args.place n image bytes records c.record.result c.record.ensures read c.run_length-count.ensures.in_area long
     c.in-Err.bad c.in-Err.ensures.bad c.args.lane refl c.args.to c.run_length-count.ensures.within
