@@ -1,7 +1,7 @@
 -- What a declaration makes of what was declared, and which are refused, and why (docs/SCRIPTS.md, "Lines" and "Refusals").
 use Rattle.std.specs.Prelude.{ℕ, ◌≡◌, ◌≢◌, List, [], Some, Contains, slice_get}
 use Rattle.guards.specs.Schema.{Declarations, object_count, field_count, names_of, with_object, with_field}
-use Rattle.guards.specs.declared.builder.TheConstants.{MOST_OBJECTS, MOST_FIELDS}
+use Rattle.heap_model.specs.declared.limits.TheConstants.{MOST_OBJECTS, MOST_FIELDS}
 use Rattle.script_lines.specs.Orders.{Order}
 use Rattle.script_lines.specs.Orders as order
 use Rattle.declarations.specs.declared.declared.Declared.{Declared}

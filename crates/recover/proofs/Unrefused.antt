@@ -20,7 +20,7 @@ use Rattle.undo_log.specs.StandsFor.{row_of, guard_in, HasLive}
 use Rattle.recover.specs.Logs.{AreLogs, IsBadAt, lanes_of}
 use Rattle.recover.specs.Reading.{HasLayout, HasControl, RefusesRows, RefusesImage}
 use Rattle.recover.specs.Recovery.{StudiedLaw}
-use Rattle.recover.specs.Replay.{IsStuckAt, Replays}
+use Rattle.live_logs.specs.Replay.{IsStuckAt, Replays}
 use Rattle.recover.specs.Settled.{AreLegal, IsIllegalAt, Stuck, Restless, Crossing}
 use Rattle.recover.specs.Study.{IsStudyOf}
 use Rattle.recover.specs.declared.error.RecoverError.{RecoverError}

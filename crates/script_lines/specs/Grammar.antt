@@ -6,7 +6,7 @@ use Rattle.std.specs.Str.Parse.{IsNumeral, digits_value}
 use Rattle.block_disk.specs.declared.crash.Fill.{Fill}
 use Rattle.block_disk.specs.declared.crash.Fill.TheVariants.{Lost, Kept, Byte}
 use Rattle.heap_model.specs.declared.ids.Lane.{Lane}
-use Rattle.heap_model.specs.declared.ids.TheConstants.{LANES}
+use Rattle.heap_model.specs.declared.limits.TheConstants.{LANES}
 use Rattle.script_lines.specs.declared.terms.TheConstants.{LONGEST_NAME}
 use Rattle.script_lines.specs.Orders as order
 use Rattle.script_lines.specs.Orders.{Action, Order}

@@ -15,11 +15,11 @@ use Rattle.heap_model.specs.History.{state_after, IsLegalHistory, logged, with_r
 use Rattle.heap_model.specs.Laws.{LogLaw}
 use Rattle.heap_model.specs.Log.{IsLegal}
 use Rattle.block_disk.specs.Memory.{Memory}
-use Rattle.durable.specs.Past.{Past, applied, no_past, after_apply, after_home}
+use Rattle.store_past.specs.Past.{Past, applied, no_past, after_apply, after_home}
 use Rattle.durable.specs.Calls.{RefusesLog, RefusesSettle}
 use Rattle.durable.specs.Store.{Known, Parts}
-use Rattle.durable.specs.declared.error.StoreError.{StoreError}
-use Rattle.durable.specs.declared.error.StoreError.TheVariants.{Failed, BadLane, BadId, Worn, NotNext, TooLong, LogFull, Unwritten, Fault, Unfinished}
+use Rattle.store_past.specs.declared.error.StoreError.{StoreError}
+use Rattle.store_past.specs.declared.error.StoreError.TheVariants.{Failed, BadLane, BadId, Worn, NotNext, TooLong, LogFull, Unwritten, Fault, Unfinished}
 use Rattle.script_machine.specs.Agreement.{Agrees, BeginsWith, FitsSchema, IsForCall, IsForRecord, setting_from}
 use Rattle.script_machine.specs.Homes.{WriteHomes}
 use Rattle.script_machine.specs.Machine.{Keeps, RefusesRecord}

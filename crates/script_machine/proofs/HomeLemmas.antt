@@ -3,8 +3,8 @@ use Rattle.std.proofs.Common.{◌≡◌, ◌<◌, ◌+◌, ℕ, true, false, if�
 use Rattle.std.proofs.lemmas.Bool.{cases_lt}
 use Rattle.std.proofs.lemmas.Bool.Decides.{eqb_tells}
 use Rattle.heap_model.specs.Setting.{Setting}
-use Rattle.durable.specs.Begin.{IsLeastDirtyOf}
-use Rattle.durable.specs.Past.{Past, after_home}
+use Rattle.store_memory.specs.Begin.{IsLeastDirtyOf}
+use Rattle.store_past.specs.Past.{Past, after_home}
 
 -- where no field below k is dirty, none below the next is once the least dirty one is at home
 pub clean-on : (s : Setting) (p : Past) (f k : ℕ) → IsLeastDirtyOf s p f → ((g : ℕ) → g < k → p.is_dirty g ≡ false)

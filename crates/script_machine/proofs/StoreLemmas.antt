@@ -3,12 +3,12 @@ use Rattle.std.proofs.Common.{◌≡◌, ◌⊎◌, ℕ, inl, inr, Result, Ok, E
 use Rattle.heap_model.specs.Setting.{Setting}
 use Rattle.block_disk.specs.Memory.{Memory}
 use Rattle.heap_model.specs.declared.record.Record.{Record}
-use Rattle.durable.specs.Apply.{Answers}
+use Rattle.store_memory.specs.Apply.{Answers}
 use Rattle.durable.specs.Calls.{RefusesApply}
-use Rattle.durable.specs.Past.{Past, after_apply}
+use Rattle.store_past.specs.Past.{Past, after_apply}
 use Rattle.durable.specs.Store.{Parts}
-use Rattle.durable.specs.declared.error.StoreError.{StoreError}
-use Rattle.durable.specs.declared.error.StoreError.TheVariants.{Fault}
+use Rattle.store_past.specs.declared.error.StoreError.{StoreError}
+use Rattle.store_past.specs.declared.error.StoreError.TheVariants.{Fault}
 use Rattle.script_machine.specs.declared.answer.Answer.TheVariants.{Refused}
 use Rattle.script_machine.specs.declared.answer.Refusal.{Refusal}
 use Rattle.script_machine.specs.Refusals.{told_of_store}

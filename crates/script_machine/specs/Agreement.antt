@@ -8,10 +8,10 @@ use Rattle.heap_model.specs.declared.event.Event.{Event}
 use Rattle.heap_model.specs.Setting.{Setting}
 use Rattle.heap_model.specs.History.{state_after, IsLegalHistory, log_of}
 use Rattle.block_disk.specs.Memory.{Memory}
-use Rattle.durable.specs.Past.{Past, applied, no_past}
+use Rattle.store_past.specs.Past.{Past, applied, no_past}
 use Rattle.durable.specs.Store.{Parts}
-use Rattle.durable.specs.declared.error.StoreError.{StoreError}
-use Rattle.durable.specs.declared.error.StoreError.TheVariants as store
+use Rattle.store_past.specs.declared.error.StoreError.{StoreError}
+use Rattle.store_past.specs.declared.error.StoreError.TheVariants as store
 use Rattle.script_machine.specs.States.{Tells}
 use Rattle.plain_monitors.specs.Table.{Table, lanes_of, setting_in, setting_of, state_of}
 

@@ -3,9 +3,9 @@ use Rattle.std.specs.Prelude.{ℕ, suc, ◌≡◌}
 use Prim.Native.Nat.{zero}
 use Rattle.heap_model.specs.Setting.{Setting}
 use Rattle.block_disk.specs.Memory.{Memory}
-use Rattle.durable.specs.Begin.{IsLeastDirtyOf}
+use Rattle.store_memory.specs.Begin.{IsLeastDirtyOf}
 use Rattle.durable.specs.Calls.{IsClean}
-use Rattle.durable.specs.Past.{Past, after_home}
+use Rattle.store_past.specs.Past.{Past, after_home}
 use Rattle.durable.specs.Store.{Parts}
 use Rattle.script_machine.specs.States.{Tells}
 

@@ -23,12 +23,12 @@ use Rattle.block_disk.specs.Images.{LeavesOnly}
 use Rattle.block_disk.specs.Memory.{Memory, fresh, device_of, moment_after}
 use Rattle.block_disk.specs.declared.crash.Fill.{Fill}
 use Rattle.image.specs.Layout.{size_of}
-use Rattle.durable.specs.Apply.{Answers}
+use Rattle.store_memory.specs.Apply.{Answers}
 use Rattle.durable.specs.Calls.{IsClean, RefusesApply, RefusesLog, RefusesSettle}
-use Rattle.durable.specs.Formatting.{layout_with}
-use Rattle.durable.specs.Past.{Past, applied, no_past, after_apply, after_log, after_settle}
+use Rattle.store_image.specs.Formatting.{layout_with}
+use Rattle.store_past.specs.Past.{Past, applied, no_past, after_apply, after_log, after_settle}
 use Rattle.durable.specs.Store.{Parts, ShowsStep}
-use Rattle.durable.specs.declared.error.StoreError.{StoreError}
+use Rattle.store_past.specs.declared.error.StoreError.{StoreError}
 use Rattle.recover.specs.Reading as reading
 use Rattle.recover.specs.Study.{IsStudyOf}
 use Rattle.recover.specs.declared.error.RecoverError.{RecoverError}

@@ -3,8 +3,8 @@ use Rattle.std.specs.Prelude.{Result, Ok, Err, alloc_error}
 use Rattle.std.specs.declared.alloc.AllocError.{AllocError}
 use Rattle.plain_monitors.specs.declared.monitors.MonitorRefusal.{MonitorRefusal}
 use Rattle.plain_monitors.specs.declared.monitors.MonitorRefusal.TheVariants as monitor
-use Rattle.durable.specs.declared.error.StoreError.{StoreError}
-use Rattle.durable.specs.declared.error.StoreError.TheVariants as store
+use Rattle.store_past.specs.declared.error.StoreError.{StoreError}
+use Rattle.store_past.specs.declared.error.StoreError.TheVariants as store
 use Rattle.recover.specs.declared.error.RecoverError.{RecoverError}
 use Rattle.recover.specs.declared.error.RecoverError.TheVariants as image
 use Rattle.declarations.specs.declared.declared.Declared.{Declared}

@@ -5,7 +5,7 @@ use Rattle.heap_model.specs.Setting.{Setting}
 use Rattle.block_disk.specs.Crash.{crash_bytes, done_at}
 use Rattle.block_disk.specs.Memory.{Memory, device_of}
 use Rattle.block_disk.specs.declared.crash.Fill.{Fill}
-use Rattle.durable.specs.Past.{Past}
+use Rattle.store_past.specs.Past.{Past}
 use Rattle.durable.specs.Store.{Parts, HasPast}
 use Rattle.plain_monitors.specs.Table.{Table}
 

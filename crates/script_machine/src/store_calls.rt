@@ -3,7 +3,7 @@ ghost use Rattle.std.specs.Prelude.{◌≡◌, ◌<◌, ℕ, false, length, slic
 ghost use Rattle.heap_model.specs.Setting.{Setting};
 ghost use Rattle.heap_model.specs.Log.{value};
 ghost use Rattle.heap_model.specs.History.{logged};
-ghost use Rattle.durable.specs.Past.{Past, applied};
+ghost use Rattle.store_past.specs.Past.{Past, applied};
 ghost use Rattle.script_machine.specs.States.{Tells};
 ghost use Rattle.script_machine.specs.Homes.{BringsHome};
 ghost use Rattle.script_machine.specs.Machine.{Keeps, RefusesRecord};

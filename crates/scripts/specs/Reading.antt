@@ -8,7 +8,7 @@ use Rattle.std.specs.Str.Parse.{digits_value}
 use Rattle.block_disk.specs.declared.crash.Fill.{Fill}
 use Rattle.block_disk.specs.declared.crash.Fill.TheVariants.{Lost, Kept, Byte}
 use Rattle.heap_model.specs.declared.ids.Lane.{Lane}
-use Rattle.heap_model.specs.declared.ids.TheConstants.{LANES}
+use Rattle.heap_model.specs.declared.limits.TheConstants.{LANES}
 use Rattle.scripts.specs.Grammar.{is_name}
 use Rattle.scripts.specs.Orders as order
 use Rattle.scripts.specs.Orders.{Action, Order}

@@ -24,7 +24,7 @@ pub(crate) struct Declaring {
 impl Model for Declaring {
     ghost use Rattle.std.specs.Prelude.{◌≡◌, ◌≤◌, ◌<◌, ◌↔◌, IsTrue};
     ghost use Rattle.guards.specs.Schema.{Declarations, object_count, field_count};
-    ghost use Rattle.guards.specs.declared.builder.TheConstants.{MOST_OBJECTS};
+    ghost use Rattle.heap_model.specs.declared.limits.TheConstants.{MOST_OBJECTS};
 
     ghost Value = { Declarations };
 

@@ -1,7 +1,7 @@
 //! Reads the schema that a file declares (docs/SCRIPTS.md, "The program's fault texts").
 ghost use Rattle.std.specs.Prelude.{◌≡◌, ◌⊎◌, ◌≤◌, ℕ, Some, Contains, length, IfOk, IfErr, OnOk, slice_get};
 ghost use Rattle.guards.specs.Schema.{field_count, object_count};
-ghost use Rattle.guards.specs.declared.builder.TheConstants.{MOST_OBJECTS};
+ghost use Rattle.heap_model.specs.declared.limits.TheConstants.{MOST_OBJECTS};
 ghost use Rattle.scripts.specs.Lines.{lines_of};
 ghost use Rattle.scripts.specs.Orders as order;
 ghost use Rattle.scripts.specs.Orders.{order_of};

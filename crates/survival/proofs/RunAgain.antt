@@ -5,7 +5,7 @@ use Rattle.block_disk.specs.Device.{Device, synced}
 use Rattle.block_disk.specs.Images.{Always, LeavesOnly}
 use Rattle.block_disk.proofs.Images.{after_sync, always_now, and_then, leaves_synced, left_now, now_too, stays, weaker}
 use Rattle.image.specs.declared.layout.Layout.{Layout}
-use Rattle.durable.specs.Past.{Past}
+use Rattle.store_past.specs.Past.{Past}
 use Rattle.recover.specs.Recovery.{IsCutOff, IsOnTheWay, OneStudyLaw, StudiedLaw}
 use Rattle.recover.specs.Study.{IsStudyOf, held_by}
 use Rattle.recover.specs.declared.studied.Study.{Study}

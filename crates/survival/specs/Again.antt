@@ -4,8 +4,8 @@ use Rattle.heap_model.specs.Setting.{Setting}
 use Rattle.block_disk.specs.Device.{Device}
 use Rattle.block_disk.specs.Images.{Always}
 use Rattle.image.specs.declared.layout.Layout.{Layout}
-use Rattle.durable.specs.KeptHeap.{kept_heap}
-use Rattle.durable.specs.Past.{Past}
+use Rattle.store_image.specs.KeptHeap.{kept_heap}
+use Rattle.store_past.specs.Past.{Past}
 use Rattle.recover.specs.Reading.{RefusesImage}
 use Rattle.recover.specs.Recovery.{IsCutOff}
 use Rattle.recover.specs.Study.{IsStudyOf}

@@ -1,6 +1,6 @@
 use Rattle.std.proofs.Common.{◌≡◌, Bool, true, false, IsTrue, IsSome, refl, sym, ◌∙◌, ap, subst}
-use Rattle.durable.specs.Formatting.{layout_with}
-use Rattle.durable.specs.Past.{no_past}
+use Rattle.store_image.specs.Formatting.{layout_with}
+use Rattle.store_past.specs.Past.{no_past}
 use Rattle.guards.specs.Schema.{Declarations, first_of}
 use Rattle.heap_model.specs.State.{initial_state}
 use Rattle.heap_model.specs.Setting.{Setting}

@@ -2,9 +2,9 @@ use Rattle.std.proofs.Common.{◌≡◌, ℕ, suc, ◌+◌, ◌∙◌, refl, sym
 use Rattle.std.proofs.Math.Numerals.{add-one}
 use Rattle.image.specs.declared.layout.Layout.{Layout}
 use Rattle.heap_model.specs.Setting.{Setting}
-use Rattle.durable.specs.Past.{Past, after_home}
+use Rattle.store_past.specs.Past.{Past, after_home}
 use Rattle.durable.specs.Calls.{AnswersHome, after_home_step}
-use Rattle.durable.specs.declared.home.Home.{Home}
+use Rattle.store_image.specs.declared.home.Home.{Home}
 use Rattle.script_machine.specs.Homes.{WriteHomes}
 use Rattle.script_machine.specs.States.{Tells}
 use Rattle.script_machine.proofs.HomeLemmas.{clean-on}

@@ -1,6 +1,6 @@
 use Rattle.std.proofs.Common.{◌≡◌, ◌<◌, ◌+◌, ℕ, false}
 use Rattle.heap_model.specs.Setting.{Setting}
-use Rattle.durable.specs.Past.{Past}
+use Rattle.store_past.specs.Past.{Past}
 use Rattle.script_machine.specs.Homes.{WriteHomes}
 use Rattle.script_machine.specs.States.{Tells}
 use Rattle.script_machine.proofs.store_calls.write_homes.Given as goal

@@ -1,6 +1,6 @@
 use Rattle.std.proofs.Common.{length, ◌≤◌}
 use Rattle.guards.specs.Schema.{object_count}
-use Rattle.guards.specs.declared.builder.TheConstants.{MOST_OBJECTS}
+use Rattle.heap_model.specs.declared.limits.TheConstants.{MOST_OBJECTS}
 use Rattle.scripts.proofs.SchemaLemmas.{IsDeclared}
 use Rattle.scripts.proofs.schema_file.declare_lines.Given as goal
 

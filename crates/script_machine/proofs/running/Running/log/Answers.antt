@@ -1,7 +1,7 @@
 use Rattle.std.proofs.Common.{◌≡◌, ◌∙◌, sym, inl, inr, refl, subst}
 use Rattle.block_disk.specs.Memory.{Memory}
 use Rattle.durable.specs.Calls.{RefusesLog}
-use Rattle.durable.specs.Past.{after_log}
+use Rattle.store_past.specs.Past.{after_log}
 use Rattle.durable.specs.Store.{Parts}
 use Rattle.script_machine.specs.Agreement.{Agrees, setting_from}
 use Rattle.script_machine.specs.States.{Live}
