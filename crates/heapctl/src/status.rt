@@ -1,9 +1,10 @@
 //! The program's exit statuses.
 ghost use Rattle.std.specs.Prelude.{◌≡◌};
-ghost use Rattle.heapctl.specs.Status.{status_for, status_for_format};
+ghost use Rattle.heapctl.specs.Status.{status_for, status_for_fault, status_for_format};
 
+use crate::fault::WorkFault;
 use image_file::FormatError;
-use scripts::ScriptErrorKind;
+use script_lines::ScriptErrorKind;
 
 /// Wrong words, a refused schema file, or a script that can't be played to its end.
 pub const WRONG_INPUT: u8 = 2;
@@ -30,5 +31,16 @@ pub fn status_of_format(error: &FormatError) -> u8
     match error {
         FormatError::Schema(_) => WRONG_INPUT,
         FormatError::BadHeader | FormatError::Fault | FormatError::NoMemory => FAULT,
+    }
+}
+
+/// The status where what the words ask for wasn't done.
+pub fn status_of_fault(fault: &WorkFault) -> u8
+    ensures { result ≡ status_for_fault fault.now }
+{
+    match fault {
+        WorkFault::Script(error) => status_of(error.kind),
+        WorkFault::Format(error) => status_of_format(error),
+        WorkFault::Image(_) => FAULT,
     }
 }

@@ -1,22 +1,21 @@
 -- What making an image for the schema of a file gives and refuses (docs/SCRIPTS.md, "The program's fault texts").
-use Rattle.std.specs.Prelude.{◌≡◌, ℕ, List, Option, replicate}
+use Rattle.std.specs.Prelude.{◌≡◌, ℕ, List, ◌++◌, Option, codes, replicate}
+use Rattle.std.specs.Fmt.{decimal}
 use Rattle.std.specs.Io.KnownBytes.{Appends}
 use Rattle.block_disk.specs.Device.{Device}
-use Rattle.block_disk.specs.Mirror.{new_device}
-use Rattle.block_disk.specs.declared.error.FileError.{FileError}
-use Rattle.block_disk.specs.declared.error.FileError.TheVariants as files
+use Rattle.file_disk.specs.Mirror.{new_device}
+use Rattle.file_disk.specs.declared.error.FileError.{FileError}
+use Rattle.file_disk.specs.declared.error.FileError.TheVariants as files
 use Rattle.guards.specs.Schema.{Declarations}
 use Rattle.image.specs.Calls.{after}
 use Rattle.image.specs.Format.{format_calls}
 use Rattle.image.specs.Layout.{size_of}
 use Rattle.image.specs.declared.layout.Layout.{Layout}
 use Rattle.store_image.specs.Formatting.{AreLimits, layout_with}
-use Rattle.scripts.specs.declared.answer.Answer.TheVariants.{Formatted}
-use Rattle.scripts.specs.declared.schema_fault.SchemaFault.{SchemaFault}
-use Rattle.scripts.specs.declared.schema_fault.SchemaFaultKind.{SchemaFaultKind}
-use Rattle.scripts.specs.declared.schema_fault.SchemaFaultKind.TheVariants as kinds
-use Rattle.scripts.specs.SchemaFiles.{DeclaresSchema, RefusesSchema}
-use Rattle.scripts.specs.Texts.{text_of}
+use Rattle.declarations.specs.declared.schema_fault.SchemaFault.{SchemaFault}
+use Rattle.declarations.specs.declared.schema_fault.SchemaFaultKind.{SchemaFaultKind}
+use Rattle.declarations.specs.declared.schema_fault.SchemaFaultKind.TheVariants as kinds
+use Rattle.declarations.specs.SchemaFiles.{DeclaresSchema, RefusesSchema}
 use Rattle.image_file.specs.declared.error.FormatError.{FormatError}
 use Rattle.image_file.specs.declared.error.FormatError.TheVariants as errors
 
@@ -44,9 +43,13 @@ pub record MakesImage (old new : Option (List ℕ)) (lanes capacity : ℕ) (layo
   pub layout_is : layout ≡ layout_with schema lanes capacity
   pub made : d ≡ after (format_calls layout schema) (new_device (replicate (size_of layout) 0))
 
+-- the line that tells an image's size, in bytes
+abbrev pub formatted_line : ℕ → List ℕ
+formatted_line size = codes "formatted " ++ decimal size ++ codes "\n"
+
 -- the size was written, on a line of its own
 abbrev pub PrintsSize : ℕ → (old new : Option (List ℕ)) → Type 0
-PrintsSize size old new = Appends old new (text_of (Formatted size))
+PrintsSize size old new = Appends old new (formatted_line size)
 
 -- the size of an image with so many lanes of so many records was written
 pub record PrintsImage (lanes capacity : ℕ) (old new : Option (List ℕ)) : Type 0 where

@@ -1,8 +1,8 @@
 -- What showing an image writes, and drawing it (docs/SCRIPTS.md, "The inspector's lines").
 use Rattle.std.specs.Prelude.{ℕ, ◌≡◌, ◌⊎◌, Option, List, []}
 use Rattle.std.specs.Io.KnownBytes.{Appends, Consumes, IsAtEnd}
-use Rattle.block_disk.specs.declared.error.FileError.{FileError}
-use Rattle.block_disk.specs.declared.error.FileError.TheVariants as files
+use Rattle.file_disk.specs.declared.error.FileError.{FileError}
+use Rattle.file_disk.specs.declared.error.FileError.TheVariants as files
 use Rattle.inspect.specs.Inspection.{Inspects, Refuses}
 use Rattle.inspect.specs.declared.error.InspectError.{InspectError}
 use Rattle.inspect.specs.declared.error.InspectError.TheVariants as inspections

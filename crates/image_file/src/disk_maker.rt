@@ -1,8 +1,9 @@
 //! What makes the device of a new image.
 ghost use Rattle.std.specs.Prelude.{◌≡◌, Bool, true, replicate, IfOk};
-ghost use Rattle.block_disk.specs.Mirror.{new_device};
+ghost use Rattle.file_disk.specs.Mirror.{new_device};
 
-use block_disk::{Disk, FileError};
+use block_disk::Disk;
+use file_disk::FileError;
 use std::alloc::Global;
 
 /// What makes the device of a new image, and knows whether it was asked to.

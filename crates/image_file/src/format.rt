@@ -7,10 +7,11 @@ ghost use Rattle.image_file.specs.Formatting.{IsBeforeFile, MakesImage, PrintsIm
 use crate::disk_maker::DiskMaker;
 use crate::error::FormatError;
 use crate::new_file::NewFile;
-use block_disk::{BackingFile, Disk};
+use block_disk::Disk;
+use file_disk::BackingFile;
+use declarations::read_schema;
 use durable::Store;
 use image::{ImageError, Layout, Recovered};
-use scripts::{Answer, read_schema, text};
 use std::alloc::Global;
 use std::fs;
 use std::io::{Read, Write};
@@ -61,10 +62,10 @@ fn print_size<W: Write>(alloc: Global, size: u64, writer: &mut W) -> Result<(), 
     ensures ok { OnOk result (PrintsSize size (W.contents writer.old) (W.contents writer.new)) }
     ensures err { IfErr result (λ error. IsBeforeFile error → ⊥) }
 {
-    let Ok(line) = text(alloc, &Answer::Formatted(size)) else {
+    let Ok(line) = format!(in alloc; "formatted {size}\n") else {
         return Err(FormatError::NoMemory);
     };
-    match writer.write_all(&line) {
+    match writer.write_all(line.as_bytes()) {
         Ok(()) => Ok(()),
         Err(_) => Err(FormatError::Fault),
     }

@@ -2,7 +2,7 @@
 ghost use Rattle.std.specs.Prelude.{◌≡◌, false};
 
 use crate::disk_maker::DiskMaker;
-use block_disk::{BackingFile, FileDisk, FileError};
+use file_disk::{BackingFile, BufferedDisk, FileError};
 use std::alloc::Global;
 use std::rt::Files;
 
@@ -27,11 +27,11 @@ impl<'a, R> NewFile<'a, R> {
     }
 }
 
-impl<F: BackingFile + Drop, R: Files<File = F>> DiskMaker<FileDisk<F>> for NewFile<'_, R> {
+impl<F: BackingFile + Drop, R: Files<File = F>> DiskMaker<BufferedDisk<F>> for NewFile<'_, R> {
     ghost is_used = { λ f. f.is_used };
 
-    fn make_disk(&mut self, alloc: Global, size: u64) -> Result<FileDisk<F>, FileError> {
+    fn make_disk(&mut self, alloc: Global, size: u64) -> Result<BufferedDisk<F>, FileError> {
         self.is_used = true;
-        FileDisk::create(self.rt, alloc, self.path, size)
+        BufferedDisk::create(self.rt, alloc, self.path, size)
     }
 }

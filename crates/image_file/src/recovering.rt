@@ -11,7 +11,8 @@ ghost use Rattle.image_file.specs.Recovering.{Recovers, RefusesReport};
 ghost use Rattle.image_file.specs.Telling.{Tells, TellsLess, report_of};
 
 use crate::refusal::refusal_of_file;
-use block_disk::{BackingFile, Disk, FileDisk};
+use block_disk::Disk;
+use file_disk::{BackingFile, BufferedDisk};
 use image::Recovered;
 use inspect::{WriteError, write_report};
 use recover::{RecoverError, recover};
@@ -69,7 +70,7 @@ pub fn recover_file<F: BackingFile + Drop, R: Files<File = F>, W: Write>(
     ensures silent { IfErr result (λ error. error ≢ Fault → Appends (W.contents writer.old) (W.contents writer.new) []) }
     ensures part { OnErr result (TellsLess report_of (W.contents writer.old) (W.contents writer.new)) }
 {
-    let disk = match FileDisk::attach(rt, alloc, image_path) {
+    let disk = match BufferedDisk::attach(rt, alloc, image_path) {
         Ok(disk) => disk,
         Err(error) => return Err(refusal_of_file(error)),
     };

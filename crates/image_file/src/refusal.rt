@@ -4,7 +4,7 @@ ghost use Rattle.std.specs.IoError.{error_kind};
 ghost use Rattle.recover.specs.declared.error.RecoverError.TheVariants.{Fault, NoMemory};
 ghost use Rattle.image_file.specs.Showing.{IsUnread, told_of_attaching, told_of_inspection};
 
-use block_disk::FileError;
+use file_disk::FileError;
 use inspect::InspectError;
 use recover::RecoverError;
 use std::io::{Error, ErrorKind};

@@ -2,7 +2,7 @@
 mod files;
 
 use super::*;
-use scripts::{SchemaFault, SchemaFaultKind};
+use declarations::{SchemaFault, SchemaFaultKind};
 use std::fs;
 use std::test::Fail;
 

@@ -25,25 +25,25 @@ use Rattle.durable.specs.declared.store_call.StoreCall.{StoreCall}
 use Rattle.recover.specs.Reading.{Holds}
 use Rattle.recover.specs.Recovery.{IsRecovery, IsWorn, RefusesRecovery}
 use Rattle.recover.specs.Study.{held_by}
-use Rattle.recover.specs.WholeRun.{CannotRecover, IsAcknowledged, MayBeLeft}
-use Rattle.recover.specs.WholeRun.{Survives as RunSurvives}
+use Rattle.survival.specs.WholeRun.{CannotRecover, IsAcknowledged, MayBeLeft}
+use Rattle.survival.specs.WholeRun.{Survives as RunSurvives}
 use Rattle.recover.specs.declared.error.RecoverError.{RecoverError}
 use Rattle.recover.specs.declared.logged_image.LoggedImage.{LoggedImage}
-use Rattle.recover.proofs.Accepts.{finds, finds_heap, left_always}
-use Rattle.recover.proofs.WholeRuns as whole
-use Rattle.scripts.specs.declared.answer.Answer.{Answer}
-use Rattle.scripts.specs.declared.answer.Answer.TheVariants.{Crashed, Refused}
-use Rattle.scripts.specs.declared.answer.Refusal.{Refusal}
-use Rattle.scripts.specs.declared.answer.Refusal.TheVariants.{Worn}
-use Rattle.scripts.specs.Answers.{acknowledged_in}
-use Rattle.scripts.specs.Agreement.{setting_from}
+use Rattle.survival.proofs.Accepts.{finds, finds_heap, left_always}
+use Rattle.survival.proofs.WholeRuns as whole
+use Rattle.script_machine.specs.declared.answer.Answer.{Answer}
+use Rattle.script_machine.specs.declared.answer.Answer.TheVariants.{Crashed, Refused}
+use Rattle.script_machine.specs.declared.answer.Refusal.{Refusal}
+use Rattle.script_machine.specs.declared.answer.Refusal.TheVariants.{Worn}
+use Rattle.script_machine.specs.Answers.{acknowledged_in}
+use Rattle.script_machine.specs.Agreement.{setting_from}
 use Rattle.scripts.specs.Crashing.{HistoryLaw, Survives, IsAtItsEnd, RestLaw, IsSince, CallLaw, KeepsTold, ToldLaw}
-use Rattle.scripts.specs.Machine.{MachineState, Running, Down, Steps, IsRestored, Recovers, RefusesImage, GoesDown, Crashes, LogsRecords, Settles, Acknowledges}
-use Rattle.scripts.specs.Orders.{Order}
-use Rattle.scripts.specs.Orders as order
-use Rattle.scripts.specs.Refusals.{told_of_recovery}
-use Rattle.scripts.specs.Reports.{Recovered, Found}
-use Rattle.scripts.specs.States.{Live, Wreck, Tells, begun_at, crash_back}
+use Rattle.script_machine.specs.Machine.{MachineState, Running, Down, Steps, IsRestored, Recovers, RefusesImage, GoesDown, Crashes, LogsRecords, Settles, Acknowledges}
+use Rattle.script_lines.specs.Orders.{Order}
+use Rattle.script_lines.specs.Orders as order
+use Rattle.script_machine.specs.Refusals.{told_of_recovery}
+use Rattle.script_machine.specs.Reports.{Recovered, Found}
+use Rattle.script_machine.specs.States.{Live, Wreck, Tells, begun_at, crash_back}
 
 -- an image that can't be recovered is refused for one reason that is told
 only_worn : (image : List ℕ) (e : RecoverError) (w : Refusal) → told_of_recovery e ≡ Ok w → CannotRecover image e → (w ≡ Worn) × IsWorn image

@@ -10,17 +10,17 @@ use Rattle.heap_model.specs.Cuts.{IsStable, counts_of}
 use Rattle.store_image.specs.KeptHeap.{kept_heap}
 use Rattle.store_past.specs.Past.{Past}
 use Rattle.recover.specs.Recovery.{IsWorn}
-use Rattle.recover.specs.WholeRun.{IsAcknowledged}
-use Rattle.scripts.specs.declared.answer.Answer.{Answer}
-use Rattle.scripts.specs.declared.answer.Answer.TheVariants.{Crashed, Recovered, Refused}
-use Rattle.scripts.specs.declared.answer.Refusal.TheVariants.{Worn}
-use Rattle.scripts.specs.declared.answer.Report.{Report}
-use Rattle.scripts.specs.Agreement.{Agrees, setting_from}
-use Rattle.scripts.specs.Answers.{acknowledged_in}
-use Rattle.scripts.specs.Machine.{MachineState, Running, Steps, IsRestored, WhileDown}
-use Rattle.scripts.specs.Orders.{Order}
-use Rattle.scripts.specs.Orders as order
-use Rattle.scripts.specs.States.{Live, Tells, begun_at}
+use Rattle.survival.specs.WholeRun.{IsAcknowledged}
+use Rattle.script_machine.specs.declared.answer.Answer.{Answer}
+use Rattle.script_machine.specs.declared.answer.Answer.TheVariants.{Crashed, Recovered, Refused}
+use Rattle.script_machine.specs.declared.answer.Refusal.TheVariants.{Worn}
+use Rattle.script_machine.specs.declared.answer.Report.{Report}
+use Rattle.script_machine.specs.Agreement.{Agrees, setting_from}
+use Rattle.script_machine.specs.Answers.{acknowledged_in}
+use Rattle.script_machine.specs.Machine.{MachineState, Running, Steps, IsRestored, WhileDown}
+use Rattle.script_lines.specs.Orders.{Order}
+use Rattle.script_lines.specs.Orders as order
+use Rattle.script_machine.specs.States.{Live, Tells, begun_at}
 
 -- The machine runs again, over an image of the same layout and for the same schema: each field has the value that the
 -- sections of this cut of the log left, and what is told names just these sections as kept.

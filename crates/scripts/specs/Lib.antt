@@ -1,24 +1,4 @@
-pub mod Orders
-pub mod Words
-pub mod Grammar
-pub mod Cutting
-pub mod Reading
-pub mod Lines
-pub mod Texts
-pub mod Monitor
-pub mod WaitSets
-pub mod Table
-pub mod Answers
-pub mod States
-pub mod Homes
-pub mod Agreement
-pub mod Reports
-pub mod Studies
-pub mod Refusals
-pub mod Lookups
-pub mod Limits
-pub mod Machine
-pub mod Phases
-pub mod Crashing
+-- The promise: what a run reads, does and prints, and what a crash and a recovery leave. Public clauses state it.
 pub mod Runs
-pub mod SchemaFiles
+pub mod Texts
+pub mod Crashing

@@ -1,45 +1,18 @@
 -- What the run of a script reads, does and prints (docs/SCRIPTS.md).
-use Rattle.std.specs.Prelude.{◌≡◌, ◌⊎◌, ℕ, ◌+◌, ◌-◌, ◌<◌, ◌≤◌, Option, Some, List, [], ◌∷◌, ◌++◌, length, take, slice_get}
-use Rattle.std.specs.Io.KnownBytes.{Appends, Consumes, IsAtEnd}
+use Rattle.std.specs.Prelude.{◌≡◌, ◌≢◌, ◌⊎◌, Result, Ok, Err, ℕ, ◌+◌, ◌-◌, ◌<◌, ◌≤◌, Option, Some, List, [], ◌∷◌, ◌++◌, length, take, slice_get}
+use Rattle.std.specs.Io.KnownBytes.{Appends}
 use Rattle.std.specs.List.{AllByRecursion, concat}
-use Rattle.scripts.specs.declared.answer.Answer.{Answer}
-use Rattle.scripts.specs.declared.error.ScriptError.{ScriptError}
-use Rattle.scripts.specs.declared.error.ScriptErrorKind.{ScriptErrorKind}
-use Rattle.scripts.specs.declared.error.ScriptErrorKind.TheVariants as kinds
-use Rattle.scripts.specs.declared.reader.Ending.{Ending}
-use Rattle.scripts.specs.declared.reader.Ending.TheVariants as endings
-use Rattle.scripts.specs.declared.reader.TheConstants.{LONGEST_TEXT}
-use Rattle.scripts.specs.Lines.{lines_of, EndedLines, IsText, IsSkipped, Asks, IsFit, HasFault}
-use Rattle.scripts.specs.Machine.{MachineState, IsStart, Steps}
-use Rattle.scripts.specs.Orders.{Order}
+use Rattle.script_machine.specs.declared.answer.Answer.{Answer}
+use Rattle.script_lines.specs.Endings.{IsWhole}
+use Rattle.script_lines.specs.declared.error.ScriptError.{ScriptError}
+use Rattle.script_lines.specs.declared.error.ScriptErrorKind.{ScriptErrorKind}
+use Rattle.script_lines.specs.declared.error.ScriptErrorKind.TheVariants as kinds
+use Rattle.script_lines.specs.declared.reader.Ending.{Ending}
+use Rattle.script_lines.specs.declared.reader.Ending.TheVariants as endings
+use Rattle.script_lines.specs.Lines.{IsText, IsSkipped, Asks, IsFit, HasFault}
+use Rattle.script_machine.specs.Machine.{MachineState, IsStart, Steps}
+use Rattle.script_lines.specs.Orders.{Order}
 use Rattle.scripts.specs.Texts.{text_of}
-
--- what was read
-
--- the bytes that the reader gave were taken, and reading ended so
-abbrev pub Took : Option (List ℕ) → Option (List ℕ) → List ℕ → Ending → Type 0
-Took old new text endings.Whole = Consumes old new text × IsAtEnd new × (length text ≤ LONGEST_TEXT)
-Took old new text endings.TooLong = Consumes old new text × (LONGEST_TEXT < length text)
-Took old new text endings.Fault = Consumes old new text × (length text ≤ LONGEST_TEXT)
-Took old new text endings.NoMemory = (lost : List ℕ) × Consumes old new (text ++ lost) × (length text ≤ LONGEST_TEXT)
-
--- those lines of a text that are ended
-abbrev pub AreEnded : List ℕ → List ℕ → Type 0
-AreEnded text lines = (count : ℕ) × EndedLines text count × (lines ≡ take count text)
-
--- the lines to be played: all, or those that are ended
-abbrev pub AreToPlay : List ℕ → List ℕ → Ending → Type 0
-AreToPlay text lines endings.Whole = lines ≡ text
-AreToPlay text lines endings.TooLong = AreEnded (take LONGEST_TEXT text) lines
-AreToPlay text lines endings.Fault = AreEnded text lines
-AreToPlay text lines endings.NoMemory = AreEnded text lines
-
-abbrev pub Reads : Option (List ℕ) → Option (List ℕ) → List ℕ → Ending → Type 0
-Reads old new lines ending = (text : List ℕ) × Took old new text ending × AreToPlay text lines ending
-
--- it holds of the lines that were read, and of how the text ended
-abbrev pub OfScript : Option (List ℕ) → Option (List ℕ) → (List (List ℕ) → Ending → Type 0) → Type 0
-OfScript old new P = (lines : List ℕ) × (ending : Ending) × Reads old new lines ending × P (lines_of lines) ending
 
 -- what a line does
 
@@ -126,8 +99,13 @@ pub record StopsBehind (lines : List (List ℕ)) (ending : Ending) (error : Scri
 abbrev pub Stops : List (List ℕ) → Ending → ScriptError → Type 0
 Stops lines ending error = StopsAt lines error ⊎ StopsBehind lines ending error
 
-abbrev pub IsWhole : Ending → Type 0
-IsWhole ending = ending ≡ endings.Whole
+-- The run of these lines, which were read and ended so, ends with this result: all of them are fit and printed, or it stops
+-- at a line, and what the lines before that one print was written; where it is the writer that failed, a part of that line's too
+abbrev pub Ends : List (List ℕ) → Ending → Result (Unit {0}) ScriptError → (old new : Option (List ℕ)) → Type 0
+Ends lines ending (Ok done) old new = IsWhole ending × AreFit lines × Prints lines old new
+Ends lines ending (Err e) old new = Stops lines ending e
+    × (e.kind ≢ kinds.Write → Prints (take (e.line - 1) lines) old new)
+    × (e.kind ≡ kinds.Write → PrintsPart e.line lines old new)
 
 -- of one line
 

@@ -5,10 +5,10 @@ use Rattle.std.specs.List.{flat_map}
 use Rattle.heap_model.specs.declared.ids.Lane.{Lane}
 use Rattle.inspect.specs.ReportText.{report_text}
 use Rattle.inspect.specs.StudyText.{study_text}
-use Rattle.scripts.specs.declared.answer.Answer.{Answer}
-use Rattle.scripts.specs.declared.answer.Answer.TheVariants as answers
-use Rattle.scripts.specs.declared.answer.Refusal.{Refusal}
-use Rattle.scripts.specs.declared.answer.Refusal.TheVariants as refusals
+use Rattle.script_machine.specs.declared.answer.Answer.{Answer}
+use Rattle.script_machine.specs.declared.answer.Answer.TheVariants as answers
+use Rattle.script_machine.specs.declared.answer.Refusal.{Refusal}
+use Rattle.script_machine.specs.declared.answer.Refusal.TheVariants as refusals
 
 -- a word and numbers, each behind a space
 abbrev pub list_line : List ℕ → List ℕ → List ℕ

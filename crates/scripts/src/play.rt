@@ -1,16 +1,14 @@
 //! Plays a script from a reader to a writer.
 ghost use Rattle.std.specs.Prelude.{◌≡◌, ◌≢◌, ◌-◌, ◌≤◌, take, length, OnOk, IfOk, IfErr};
-ghost use Rattle.scripts.specs.Lines.{lines_of};
-ghost use Rattle.scripts.specs.Runs.{OfScript, Prints, PrintsPart, AreFit, StopsAt, Stops, PlaysAndPrints, PrintsNothing, PlaysInPart, MayStop, IsWhole};
-ghost use Rattle.scripts.specs.declared.error.ScriptErrorKind.TheVariants as kinds;
+ghost use Rattle.script_lines.specs.Lines.{lines_of};
+ghost use Rattle.script_lines.specs.Endings.{OfScript};
+ghost use Rattle.scripts.specs.Runs.{Ends, Prints, PrintsPart, StopsAt, PlaysAndPrints, PrintsNothing, PlaysInPart, MayStop};
+ghost use Rattle.script_lines.specs.declared.error.ScriptErrorKind.TheVariants as kinds;
 
-use crate::error::{ScriptError, ScriptErrorKind};
-use crate::line::read_line;
-use crate::lines::cut_line;
-use crate::machine::Machine;
-use crate::reader::{Ending, read_lines};
 use crate::texts::text;
 use crate::writer::put;
+use script_lines::{Ending, ScriptError, ScriptErrorKind, cut_line, read_line, read_lines};
+use script_machine::Machine;
 use std::alloc::Global;
 use std::io::{Read, Write};
 
@@ -23,16 +21,8 @@ pub fn run_script<R: Read, W: Write>(
     reader: &mut R,
     writer: &mut W,
 ) -> Result<(), ScriptError>
-    ensures written { OnOk result (OfScript (R.remaining reader.old) (R.remaining reader.new)
-        (λ lines ending. Prints lines (W.contents writer.old) (W.contents writer.new))) }
-    ensures no_fault { OnOk result (OfScript (R.remaining reader.old) (R.remaining reader.new)
-        (λ lines ending. IsWhole ending × AreFit lines)) }
-    ensures fault { IfErr result (λ e. OfScript (R.remaining reader.old) (R.remaining reader.new)
-        (λ lines ending. Stops lines ending e)) }
-    ensures before { IfErr result (λ e. e.kind ≢ kinds.Write → OfScript (R.remaining reader.old) (R.remaining reader.new)
-        (λ lines ending. Prints (take (e.line - 1) lines) (W.contents writer.old) (W.contents writer.new))) }
-    ensures part { IfErr result (λ e. e.kind ≡ kinds.Write → OfScript (R.remaining reader.old) (R.remaining reader.new)
-        (λ lines ending. PrintsPart e.line lines (W.contents writer.old) (W.contents writer.new))) }
+    ensures { OfScript (R.remaining reader.old) (R.remaining reader.new)
+        (λ lines ending. Ends lines ending result (W.contents writer.old) (W.contents writer.new)) }
 {
     let (lines, ending) = read_lines(alloc, reader);
     let played = play(alloc, &lines, writer)?;

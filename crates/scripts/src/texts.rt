@@ -1,11 +1,12 @@
 //! The text of an answer.
 ghost use Rattle.std.specs.Prelude.{◌≡◌, ◌+◌, ◌++◌, IfOk, OnOk, string_bytes};
 ghost use Rattle.inspect.specs.ReportText.{report_text};
+ghost use Rattle.inspect.specs.StudyText.{study_text};
 ghost use Rattle.scripts.specs.Texts.{text_of, list_line, refused_line, why_refused, place_of, place_text, woke_line, woken_threads};
 
-use crate::answer::{Answer, Refusal, Report};
 use heap_model::Lane;
-use inspect::write_report;
+use inspect::{write_report, write_study};
+use script_machine::{Answer, ImageStudy, Refusal, Report};
 use std::alloc::{AllocError, Global};
 use std::fmt::Write;
 
@@ -25,7 +26,7 @@ pub fn text(alloc: Global, answer: &Answer) -> Result<Vec<u8>, AllocError>
         Answer::Acknowledged(counts) => list(alloc, "acknowledged", counts),
         Answer::Heap(values) => list(alloc, "heap", values),
         Answer::Crashed => line(alloc, "crashed\n"),
-        Answer::Shown(study) => study.lines(alloc),
+        Answer::Shown(study) => shown(alloc, study),
         Answer::Recovered(report) => recovered(alloc, report),
         Answer::Refused(refusal) => refused(alloc, refusal),
     }
@@ -78,6 +79,16 @@ fn push_threads(text: &mut String, lanes: &[Lane]) -> Result<(), AllocError>
         write!(text, " t{thread}")?;
     }
     Ok(())
+}
+
+fn shown(alloc: Global, study: &ImageStudy) -> Result<Vec<u8>, AllocError>
+    ensures { IfOk result (λ text. text.items ≡ study_text study.now) }
+{
+    let mut text = Vec::new(alloc);
+    match write_study(alloc, study.study(), &mut text) {
+        Ok(()) => Ok(text),
+        Err(_) => Err(AllocError),
+    }
 }
 
 fn recovered(alloc: Global, report: &Report) -> Result<Vec<u8>, AllocError>

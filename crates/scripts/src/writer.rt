@@ -2,9 +2,9 @@
 ghost use Rattle.std.specs.Prelude.{◌≡◌, OnOk, OnErr, IfErr};
 ghost use Rattle.std.specs.Io.KnownBytes.{Appends};
 ghost use Rattle.scripts.specs.Runs.{AppendsPart};
-ghost use Rattle.scripts.specs.declared.error.ScriptErrorKind.TheVariants as kinds;
+ghost use Rattle.script_lines.specs.declared.error.ScriptErrorKind.TheVariants as kinds;
 
-use crate::error::ScriptErrorKind;
+use script_lines::ScriptErrorKind;
 use std::io::Write;
 
 /// Writes all of the text. An interruption and a write of no bytes are faults; a part of the text is written then.

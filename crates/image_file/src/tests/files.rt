@@ -2,10 +2,10 @@
 use super::{SCHEMA, format_there};
 use crate::{draw_file, recover_file, show_file};
 use block_disk::{Fill, MemDisk};
+use declarations::read_schema;
 use durable::{Store, StoreCall};
 use heap_model::{FieldId, Lane, ObjectId, Record};
 use recover::RecoverError;
-use scripts::read_schema;
 use std::io::Write;
 use std::test::Fail;
 use std::{fs, io};

@@ -1,11 +1,12 @@
 use Rattle.std.proofs.Common.{refl, sym, ◌∙◌}
-use Rattle.scripts.proofs.PlayLemmas.{some_left, stops_at, printed_before, printed_part, played-more, printed_all, played_all}
+use Rattle.scripts.proofs.FrontLemmas.{some_left}
+use Rattle.scripts.proofs.PlayLemmas.{stops_at, printed_before, printed_part, played-more, printed_all, played_all}
 use Rattle.scripts.proofs.play.play.Goals as goal
 
 pub returns-in-Err-clause-fault : goal.returns-in-Err-clause-fault
 returns-in-Err-clause-fault g c =
     let some = some_left c.loop-rest.rest.now (sym c.is_empty.ensures ∙ c.loop-rest-test.true) in
-    stops_at c.new-machine.result c.args.lines.now c.loop-rest.machine c.loop-rest.rest.now c.loop-rest.played _ _ c.cut_line.result.0.now _ c.loop-rest.invariant some c.cut_line.ensures.first refl c.in-Err.ensures.fault
+    stops_at c.new-machine.result c.args.lines.now c.loop-rest.machine c.loop-rest.rest.now c.loop-rest.played _ _ c.cut_line.result.0.now c.cut_line.result.1.now _ c.loop-rest.invariant (c.cut_line.ensures.lines some) refl c.in-Err.ensures.fault
 
 pub returns-in-Err-clause-before : goal.returns-in-Err-clause-before
 returns-in-Err-clause-before g c = λ e.
@@ -14,12 +15,12 @@ returns-in-Err-clause-before g c = λ e.
 pub returns-in-Err-clause-part : goal.returns-in-Err-clause-part
 returns-in-Err-clause-part g c = λ e.
     let some = some_left c.loop-rest.rest.now (sym c.is_empty.ensures ∙ c.loop-rest-test.true) in
-    printed_part c.new-machine.result c.args.lines.now c.loop-rest.machine c.loop-rest.rest.now c.loop-rest.played _ _ c.cut_line.result.0.now c.play_line.new.machine _ c.new-machine.ensures c.loop-rest.invariant some c.cut_line.ensures.first (c.in-Err.ensures.part e)
+    printed_part c.new-machine.result c.args.lines.now c.loop-rest.machine c.loop-rest.rest.now c.loop-rest.played _ _ c.cut_line.result.0.now c.cut_line.result.1.now c.play_line.new.machine _ c.new-machine.ensures c.loop-rest.invariant (c.cut_line.ensures.lines some) (c.in-Err.ensures.part e)
 
 pub loop-rest-preserved : goal.loop-rest-preserved
 loop-rest-preserved g c =
     let some = some_left c.loop-rest.rest.now (sym c.is_empty.ensures ∙ c.loop-rest-test.true) in
-    played-more c.new-machine.result c.args.lines.now c.loop-rest.machine c.loop-rest.rest.now c.loop-rest.played _ _ c.cut_line.result.0.now c.cut_line.result.1.now c.play_line.new.machine _ c.loop-rest.invariant some c.cut_line.ensures.first c.cut_line.ensures.others (c.cut_line.ensures.shorter some) c.in_default.ensures.ok
+    played-more c.new-machine.result c.args.lines.now c.loop-rest.machine c.loop-rest.rest.now c.loop-rest.played _ _ c.cut_line.result.0.now c.cut_line.result.1.now c.play_line.new.machine _ c.loop-rest.invariant (c.cut_line.ensures.lines some) (c.cut_line.ensures.shorter some) c.in_default.ensures.ok
 
 pub returns-clause-written : goal.returns-clause-written
 returns-clause-written g c =

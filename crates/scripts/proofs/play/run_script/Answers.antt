@@ -1,17 +1,25 @@
 use Rattle.std.proofs.Common.{◌≡◌, ◌+◌, length, sym, ap, subst, ◌∙◌, inr}
 use Rattle.scripts.proofs.PlayLemmas.{prints-fit, prints-front}
-use Rattle.scripts.specs.Lines.{lines_of}
-use Rattle.scripts.specs.Runs.{AreFit, IsMissing}
+use Rattle.script_lines.specs.Lines.{lines_of}
+use Rattle.scripts.specs.Runs.{AreFit, IsMissing, Prints}
 use Rattle.scripts.proofs.play.run_script.Goals as goal
 use Rattle.scripts.proofs.play.run_script.Goals.{in-TooLong, in-Fault, in-NoMemory}
 
-pub returns-in-Whole-clause-no_fault : goal.returns-in-Whole-clause-no_fault
-returns-in-Whole-clause-no_fault g c =
-    let fit = prints-fit _ _ _ c.in_ok-played.ensures.written in
-    (c.read_lines-lines.result.0.items, c.read_lines-lines.result.1, c.read_lines-lines.ensures, (c.in-Whole.is, subst (λ l. AreFit (lines_of l)) c.deref.ensures.value fit))
+pub returns-in-Whole : goal.returns-in-Whole
+returns-in-Whole g c =
+    let fit = prints-fit _ _ _ c.in_ok-played.ensures.written in (
+      c.read_lines-lines.result.0.items,
+      c.read_lines-lines.result.1,
+      c.read_lines-lines.ensures,
+      (
+        c.in-Whole.is,
+        subst (λ l. AreFit (lines_of l)) c.deref.ensures.value fit,
+        subst (λ l. Prints (lines_of l) (g.W.Write.contents c.args.writer.now) (g.W.Write.contents c.play.new.writer)) c.deref.ensures.value c.in_ok-played.ensures.written,
+      ),
+    )
 
-pub returns-clause-fault : goal.returns-clause-fault
-returns-clause-fault g c =
+pub returns : goal.returns
+returns g c =
     let lines = c.read_lines-lines.result.0.items in
     let ending = c.read_lines-lines.result.1 in
     let fit = prints-fit _ _ _ c.in_ok-played.ensures.written in
@@ -24,17 +32,17 @@ returns-clause-fault g c =
       lines,
       ending,
       c.read_lines-lines.ensures,
-      inr (record {
-        counted = ap (λ n. n + 1) count;
-        why = missing;
-        before = subst (λ l. AreFit (lines_of l)) c.deref.ensures.value fit;
-      }),
+      (
+        inr (record {
+          counted = ap (λ n. n + 1) count;
+          why = missing;
+          before = subst (λ l. AreFit (lines_of l)) c.deref.ensures.value fit;
+        }),
+        (λ _. prints-front _ _ c.in_ok-played.played _ _ c.deref.ensures.value c.in_ok-played.ensures.count c.in_ok-played.ensures.written),
+        (λ e. elim c.match-ending.branch [
+          | in-TooLong w ↦ absurd (let no = sym w.kind-is ∙ e in cc)
+          | in-Fault w ↦ absurd (let no = sym w.kind-is ∙ e in cc)
+          | in-NoMemory w ↦ absurd (let no = sym w.kind-is ∙ e in cc)
+        ]),
+      ),
     )
-
-pub returns-clause-before : goal.returns-clause-before
-returns-clause-before g c = λ _. (
-  c.read_lines-lines.result.0.items,
-  c.read_lines-lines.result.1,
-  c.read_lines-lines.ensures,
-  prints-front _ _ c.in_ok-played.played _ _ c.deref.ensures.value c.in_ok-played.ensures.count c.in_ok-played.ensures.written,
-)

@@ -1,0 +1,46 @@
+-- What each of the program's words does (docs/SCRIPTS.md).
+use Rattle.std.specs.Prelude.{◌≡◌, ℕ, List, [], Option, Result, Ok, Err}
+use Rattle.std.specs.Io.KnownBytes.{Appends}
+use Rattle.script_lines.specs.Endings.{OfScript}
+use Rattle.scripts.specs.Runs.{Ends}
+use Rattle.inspect.specs.StudyText.{study_text}
+use Rattle.inspect.specs.WholeGraph.{graph_text}
+use Rattle.recover.specs.declared.error.RecoverError.{RecoverError}
+use Rattle.recover.specs.declared.studied.Study.{Study}
+use Rattle.image_file.specs.Formatting.{PrintsImage, IsBeforeFile}
+use Rattle.image_file.specs.Telling.{Tells, TellsLess, report_of}
+use Rattle.heapctl.specs.declared.fault.WorkFault.{WorkFault}
+use Rattle.heapctl.specs.declared.fault.WorkFault.TheVariants as fault
+use Rattle.heapctl.specs.declared.words.Words.{Words}
+use Rattle.heapctl.specs.declared.words.Words.TheVariants as words
+
+-- how work on an image file ended, as the program tells it
+abbrev pub told_of_image : Result (Unit {0}) RecoverError → Result (Unit {0}) WorkFault
+told_of_image (Ok done) = Ok done
+told_of_image (Err error) = Err (fault.Image error)
+
+-- the script that was read is played, and stops where it says so
+abbrev pub PlaysScript : Result (Unit {0}) WorkFault → (read unread written now : Option (List ℕ)) → Type 0
+PlaysScript (Ok done) read unread written now = OfScript read unread (λ lines ending. Ends lines ending (Ok done) written now)
+PlaysScript (Err (fault.Script error)) read unread written now = OfScript read unread (λ lines ending. Ends lines ending (Err error) written now)
+PlaysScript (Err _) read unread written now = ⊥
+
+-- an image with so many lanes of so many records is made, and its size is told
+abbrev pub Formats : (lanes capacity : ℕ) → Result (Unit {0}) WorkFault → (written now : Option (List ℕ)) → Type 0
+Formats lanes capacity (Ok done) written now = PrintsImage lanes capacity written now
+Formats lanes capacity (Err (fault.Format error)) written now = IsBeforeFile error → Appends written now []
+Formats lanes capacity (Err _) written now = ⊥
+
+-- this text of a study of an image is written
+abbrev pub TellsOf : (text : Study → List ℕ) → Result (Unit {0}) WorkFault → (written now : Option (List ℕ)) → Type 0
+TellsOf text (Ok done) written now = Tells text written now
+TellsOf text (Err (fault.Image error)) written now = TellsLess text written now
+TellsOf text (Err _) written now = ⊥
+
+-- what the words ask for is done, with this result: by what the reader had before and has now, and what was written before and is now
+abbrev pub Obeys : Words → Result (Unit {0}) WorkFault → (read unread written now : Option (List ℕ)) → Type 0
+Obeys words.Run result read unread written now = PlaysScript result read unread written now
+Obeys (words.Format image schema lanes capacity) result read unread written now = Formats lanes capacity result written now
+Obeys (words.Show image) result read unread written now = TellsOf study_text result written now
+Obeys (words.Draw image) result read unread written now = TellsOf graph_text result written now
+Obeys (words.Recover image) result read unread written now = TellsOf report_of result written now

@@ -1,0 +1,56 @@
+//! What the program's words do.
+ghost use Rattle.heapctl.specs.Obeying.{Obeys};
+
+use crate::fault::WorkFault;
+use crate::words::Words;
+use file_disk::BackingFile;
+use image_file::{draw_file, format_file, recover_file, show_file};
+use recover::RecoverError;
+use scripts::run_script;
+use std::io::{Read, Write};
+use std::rt::Files;
+
+/// Does what the words ask for: plays the script that `reader` has, or works on an image file, and writes what that prints.
+pub fn obey<F, R, S, W>(
+    rt: &R,
+    words: Words<'_>,
+    reader: &mut S,
+    writer: &mut W,
+) -> Result<(), WorkFault>
+where
+    F: BackingFile + Read + Drop,
+    R: Files<File = F> + AllocGlobal,
+    S: Read,
+    W: Write,
+    ensures { Obeys words result (S.remaining reader.old) (S.remaining reader.new) (W.contents writer.old) (W.contents writer.new) }
+{
+    let alloc = rt.alloc();
+    match words {
+        Words::Run => match run_script(alloc, reader, writer) {
+            Ok(()) => Ok(()),
+            Err(error) => Err(WorkFault::Script(error)),
+        },
+        Words::Format {
+            image,
+            schema,
+            lanes,
+            capacity,
+        } => match format_file(rt, alloc, image, schema, lanes, capacity, writer) {
+            Ok(()) => Ok(()),
+            Err(error) => Err(WorkFault::Format(error)),
+        },
+        Words::Show { image } => on_image(show_file(rt, alloc, image, writer)),
+        Words::Draw { image } => on_image(draw_file(rt, alloc, image, writer)),
+        Words::Recover { image } => on_image(recover_file(rt, alloc, image, writer)),
+    }
+}
+
+// How work on an image file ended.
+fn on_image(answer: Result<(), RecoverError>) -> Result<(), WorkFault>
+    ensures { result ≡ told_of_image answer }
+{
+    match answer {
+        Ok(()) => Ok(()),
+        Err(error) => Err(WorkFault::Image(error)),
+    }
+}

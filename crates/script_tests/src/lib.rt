@@ -1,0 +1,8 @@
+//! What scripts and schema files print and refuse, by public calls alone: whole runs, forms of lines, texts of answers,
+//! and readers and writers that fail.
+#![tactic(auto)]
+
+#[cfg(test)]
+mod schema_file_tests;
+#[cfg(test)]
+mod tests;

@@ -1,9 +1,0 @@
-use Rattle.std.proofs.Common.{ℕ, length, ◌≢◌, ◌≤◌, ◌<◌, get_or}
-use Rattle.scripts.specs.declared.lines.TheConstants.{LINE_FEED}
-use Rattle.scripts.proofs.lines.ended_len.Given as goal
-
-abbrev pub invariant-loop-len : goal.invariant-loop-len
-invariant-loop-len l = (l.len ≤ length l.text) × ((at : ℕ) → l.len ≤ at → at < length l.text → get_or l.text at 0 ≢ LINE_FEED)
-
-abbrev pub decreases-loop-len : goal.decreases-loop-len
-decreases-loop-len l = l.len
