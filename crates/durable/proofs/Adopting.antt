@@ -26,7 +26,7 @@ no_row = record { guard = record { 0 = 0 }; owner = record { 0 = 0 }; first = 0 
 
 -- the setting that a layout, guard rows and values make
 abbrev pub setting_of : Layout → List GuardRow → List ℕ → (last : ℕ) → Setting
-setting_of l rows heap last = record { objects = l.objects; fields = l.fields; guard = λ f. (slice_index_or rows f no_row).guard.0; first = λ f. slice_index heap f; last = last }
+setting_of l rows heap last = record { objects = l.objects; fields = l.fields; guard = λ f. (slice_index_or rows f no_row).guard.0; first = λ f. slice_index heap f; is_logged = λ f. true; last = last }
 
 pub setting_is : (l : Layout) (rows : List GuardRow) (heap : List ℕ) (last : ℕ) → HasRows l rows → IsSettingOf l rows heap last (setting_of l rows heap last)
 setting_is l rows heap last has = record {

@@ -1,6 +1,7 @@
 -- All monitors and values of a schema, as `heap_model`'s plain state.
 use Rattle.std.specs.Prelude.{ℕ, ◌≡◌, ◌<◌, ◌≤◌, ◌^◌, List, length, All, slice_index, slice_index_or}
-use Rattle.guards.specs.Schema.{Declarations, object_count, field_count, guard_of, first_of}
+use Rattle.guards.specs.Schema as schemas
+use Rattle.guards.specs.Schema.{Declarations, object_count, field_count, firsts_of}
 use Rattle.heap_model.specs.declared.event.Event.{Event}
 use Rattle.heap_model.specs.declared.event.Event.TheVariants.{Enter, NestedEnter, NestedExit, Exit, Load, Store, Wait, Resume, Notify, NotifyAll, Look}
 use Rattle.heap_model.specs.Setting.{Setting}
@@ -43,9 +44,9 @@ lanes_of table = length table.pauses
 abbrev pub pause_at : Table → (thread : ℕ) → Pause
 pause_at table thread = slice_index_or table.pauses thread Awake
 
--- what events and records are judged by, by a schema and a bound on release numbers
+-- what events and records are judged by where the fields begin with the schema's values
 abbrev pub setting_in : Declarations → (last : ℕ) → Setting
-setting_in schema last = record { objects = object_count schema; fields = field_count schema; guard = guard_of schema; first = first_of schema; last = last }
+setting_in schema last = schemas.setting_of schema (firsts_of schema.fields) last
 
 abbrev pub setting_of : Table → Setting
 setting_of table = setting_in table.schema table.last

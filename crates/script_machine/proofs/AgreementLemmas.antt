@@ -1,7 +1,7 @@
 -- The monitors and the store agree, from the start and after each step.
 use Rattle.std.proofs.Common.{◌≡◌, ◌<◌, ℕ, zero, suc, false, true, List, [], ◌∷◌, Option, Some, None, slice_index, refl, sym, ap, ◌∙◌, subst, arith}
 use Rattle.guards.specs.Schema.{Declarations, field_count, first_of}
-use Rattle.lock_word.specs.declared.number.TheConstants.{LAST_NUMBER}
+use Rattle.heap_model.specs.declared.limits.TheConstants.{LAST_NUMBER}
 use Rattle.image.specs.declared.guard_row.GuardRow.{GuardRow}
 use Rattle.image.specs.declared.layout.Layout.{Layout}
 use Rattle.durable.specs.Begin.{IsSettingOf}
@@ -11,7 +11,9 @@ use Rattle.heap_model.specs.declared.event.Event.TheVariants.{Enter, NestedEnter
 use Rattle.heap_model.specs.Setting.{Setting}
 use Rattle.heap_model.specs.State.{State, initial_state}
 use Rattle.heap_model.specs.Events.{MayDo, IsEventOf, after_event}
-use Rattle.heap_model.specs.History.{state_after, IsLegalHistory, logged, with_record}
+use Rattle.heap_model.specs.History as history
+use Rattle.heap_model.specs.History.{state_after, IsLegalHistory, with_record, log_of}
+use Rattle.plain_monitors.specs.Logged.{logged}
 use Rattle.heap_model.specs.Laws.{LogLaw}
 use Rattle.heap_model.specs.Log.{IsLegal}
 use Rattle.block_disk.specs.Memory.{Memory}
@@ -72,6 +74,20 @@ step-event a (Look o sight) is = elim is [ ]
 same-from : (a b : Table) (first : ℕ → ℕ) → SameSetting a b → setting_from b first ≡ setting_from a first
 same-from a b first same = λ i. record (setting_in (same.schema i) (same.last i)) { first = first }
 
+-- what the store keeps of an event is what logs do, whatever the values at first
+logged-from : (a : Table) (first : ℕ → ℕ) (e : Event) → history.logged (setting_from a first) e ≡ logged e
+logged-from a first (Enter o n) = refl
+logged-from a first (NestedEnter o) = refl
+logged-from a first (NestedExit o) = refl
+logged-from a first (Exit o n) = refl
+logged-from a first (Load f v) = refl
+logged-from a first (Store f before after) = refl
+logged-from a first (Wait o n) = refl
+logged-from a first (Resume o n) = refl
+logged-from a first (Notify o woken) = refl
+logged-from a first (NotifyAll o woken) = refl
+logged-from a first (Look o sight) = refl
+
 -- the history with one more event is legal
 module _ (a : Table) (x : Parts Memory) (t : ℕ) (e : Event) (g : Agrees a x) (may : MayDo (setting_of a) (state_of a) t e) (is : IsEventOf (setting_of a) e) where
   pub legal-on : IsLegalHistory (setting_from a g.first) ((t, e) ∷ g.history)
@@ -100,7 +116,9 @@ goes-on a b x y t e g may is keeps running after =
       past = k.then;
       legal = subst (λ s. IsLegalHistory s ((t, e) ∷ g.history)) same (legal-on a x t e g may is);
       state = after.state ∙ ap (λ s. after_event s t e) g.state ∙ ap (λ s. state_after s ((t, e) ∷ g.history)) same;
-      told = k.told ∙ ap (with_record t (logged e)) g.told;
+      told = k.told ∙ ap (with_record t (logged e)) g.told
+          ∙ ap (λ (r : Option Record). with_record t r (log_of (setting_from a g.first) g.history)) (sym (logged-from a g.first e))
+          ∙ ap (λ (s : Setting). log_of s ((t, e) ∷ g.history)) same;
       tells = subst (λ s. Tells y s k.then) same k.tells;
       lanes = ap (λ l. l.lanes) k.layout ∙ g.lanes ∙ sym after.setting.lanes;
       running = running;
@@ -164,7 +182,8 @@ pub refused-event : LogLaw → (a : Table) (x : Parts Memory) (t : ℕ) (e : Eve
 refused-event law a x t e why g lane may is refused =
     let s : Setting = setting_from a g.first in
     let legal : IsLegal s (with_record t (logged e) (applied g.past)) =
-    subst (λ log. IsLegal s (with_record t (logged e) log)) (sym g.told) (law s ((t, e) ∷ g.history) (legal-on a x t e g may is)) in
+    subst (λ log. IsLegal s (with_record t (logged e) log)) (sym g.told)
+    (subst (λ (r : Option Record). IsLegal s (with_record t r (log_of s g.history))) (logged-from a g.first e) (law s ((t, e) ∷ g.history) (legal-on a x t e g may is))) in
     refused-next x s g.past t (logged e) why g.tells g.running (subst (λ n. t < n) (sym g.lanes) lane) legal (refused s g.past g.tells)
 
 -- why a store that hasn't failed may refuse to log

@@ -3,7 +3,7 @@ use Rattle.std.specs.Prelude.{ℕ, ◌≡◌, ◌<◌, false, List, slice_index,
 use Rattle.guards.specs.Schema.{Declarations, object_count, field_count, guard_of}
 use Rattle.image.specs.declared.guard_row.GuardRow.{GuardRow}
 use Rattle.image.specs.declared.layout.Layout.{Layout}
-use Rattle.lock_word.specs.declared.number.TheConstants.{LAST_NUMBER}
+use Rattle.heap_model.specs.declared.limits.TheConstants.{LAST_NUMBER}
 use Rattle.heap_model.specs.declared.event.Event.{Event}
 use Rattle.heap_model.specs.Setting.{Setting}
 use Rattle.heap_model.specs.History.{state_after, IsLegalHistory, log_of}
@@ -27,7 +27,7 @@ pub record Agrees (table : Table) (store : Parts Memory) : Type 0 where
   pub past : Past
   pub legal : IsLegalHistory (setting_from table first) history
   pub state : state_of table ≡ state_after (setting_from table first) history
-  pub told : applied past ≡ log_of history
+  pub told : applied past ≡ log_of (setting_from table first) history
   pub tells : Tells store (setting_from table first) past
   pub lanes : store.known.layout.lanes ≡ lanes_of table
   pub running : store.known.has_failed ≡ false

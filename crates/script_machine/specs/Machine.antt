@@ -3,7 +3,7 @@ use Rattle.std.specs.Prelude.{ℕ, false, ◌≡◌, ◌≢◌, ◌<◌, ◌≤�
 use Rattle.guards.specs.Schema.{Declarations, object_count, field_count, names_of, guard_of, first_of, nothing}
 use Rattle.declarations.specs.Declares.{Declares, Tests, Named}
 use Rattle.declarations.specs.declared.declared.Declared.{Declared}
-use Rattle.lock_word.specs.declared.number.TheConstants.{LAST_NUMBER}
+use Rattle.heap_model.specs.declared.limits.TheConstants.{LAST_NUMBER}
 use Rattle.heap_model.specs.declared.ids.ObjectId.{ObjectId}
 use Rattle.heap_model.specs.declared.ids.FieldId.{FieldId}
 use Rattle.heap_model.specs.declared.ids.Lane.{Lane}
@@ -13,7 +13,7 @@ use Rattle.heap_model.specs.declared.event.Event.TheVariants.{Enter, NestedEnter
 use Rattle.heap_model.specs.Setting.{Setting}
 use Rattle.heap_model.specs.State.{initial_state, Awake, InSet, Woken}
 use Rattle.heap_model.specs.Events.{MayDo}
-use Rattle.heap_model.specs.History.{logged}
+use Rattle.plain_monitors.specs.Logged.{logged}
 use Rattle.heap_model.specs.Log.{value}
 use Rattle.heap_model.specs.Sections.{actions}
 use Rattle.heap_model.specs.Cuts.{IsStable}

@@ -4,7 +4,7 @@ use Rattle.heap_model.specs.Setting.{Setting}
 use Rattle.block_disk.specs.Device.{SameMoments, synced}
 use Rattle.block_disk.specs.Images.{LeavesOnly}
 use Rattle.block_disk.specs.Memory.{Memory, device_of}
-use Rattle.lock_word.specs.declared.number.TheConstants.{LAST_NUMBER}
+use Rattle.heap_model.specs.declared.limits.TheConstants.{LAST_NUMBER}
 use Rattle.image.specs.Layout.{IsLayout}
 use Rattle.durable.specs.Begin.{IsSettingOf}
 use Rattle.store_past.specs.Past.{no_past}

@@ -1,6 +1,6 @@
 //! What a thread's log keeps of an event.
 ghost use Rattle.std.specs.Prelude.{◌≡◌};
-ghost use Rattle.heap_model.specs.History.{logged};
+ghost use Rattle.plain_monitors.specs.Logged.{logged};
 
 use heap_model::{Event, Record};
 

@@ -21,7 +21,7 @@ use durable::Store;
 use guards::Schema;
 use heap_model::FieldId;
 use image::{GuardRow, Layout, Recovered, RecoveredParts};
-use lock_word::LAST_NUMBER;
+use heap_model::LAST_NUMBER;
 use recover::recover;
 use std::alloc::{AllocError, Global};
 

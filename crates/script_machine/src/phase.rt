@@ -17,7 +17,7 @@ use block_disk::Fill;
 use declarations::Declaring;
 use heap_model::Lane;
 use image::Layout;
-use lock_word::LAST_NUMBER;
+use heap_model::LAST_NUMBER;
 use plain_monitors::Monitors;
 use script_lines::{Command, Step};
 use std::alloc::{AllocError, Global};

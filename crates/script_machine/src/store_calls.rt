@@ -2,7 +2,7 @@
 ghost use Rattle.std.specs.Prelude.{◌≡◌, ◌<◌, ℕ, false, length, slice_index, IfOk, IfErr, OnOk, OnErr};
 ghost use Rattle.heap_model.specs.Setting.{Setting};
 ghost use Rattle.heap_model.specs.Log.{value};
-ghost use Rattle.heap_model.specs.History.{logged};
+ghost use Rattle.plain_monitors.specs.Logged.{logged};
 ghost use Rattle.store_past.specs.Past.{Past, applied};
 ghost use Rattle.script_machine.specs.States.{Tells};
 ghost use Rattle.script_machine.specs.Homes.{BringsHome};

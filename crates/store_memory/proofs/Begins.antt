@@ -1,5 +1,5 @@
 -- What is remembered before any record, and where nothing was done.
-use Rattle.std.proofs.Common.{ℕ, ◌≡◌, ◌<◌, ◌≤◌, if◌then◌else◌, false, List, [], ◌∷◌, length, replicate, refl, sym, ap, ◌∙◌, subst, inl, inr, arith}
+use Rattle.std.proofs.Common.{ℕ, ◌≡◌, ◌<◌, ◌≤◌, if◌then◌else◌, true, false, List, [], ◌∷◌, length, replicate, refl, sym, ap, ◌∙◌, subst, inl, inr, arith}
 use Rattle.std.proofs.lemmas.Bool.{cases_lt, ne_eqb}
 use Rattle.std.proofs.lemmas.List.{get_or-replicate, get_or_past}
 use Rattle.heap_model.specs.declared.record.Record.{Record}
@@ -33,7 +33,7 @@ none_held s m p was none l = elim (cases_lt l (length m.lanes)) [
 
 -- the setting that fields and a number of objects make
 abbrev pub setting_of : (objects : ℕ) → List FieldState → (last : ℕ) → Setting
-setting_of objects fields last = record { objects = objects; fields = length fields; guard = λ f. guard_in fields f; first = λ f. value_in fields f; last = last }
+setting_of objects fields last = record { objects = objects; fields = length fields; guard = λ f. guard_in fields f; first = λ f. value_in fields f; is_logged = λ f. true; last = last }
 
 pub setting_is : (objects : ℕ) (fields : List FieldState) (last : ℕ) → AreFieldsOf objects fields last (setting_of objects fields last)
 setting_is objects fields last = record { objects = refl; size = refl; guards = λ f low. refl; values = λ f low. refl; last_is = refl }

@@ -1,7 +1,7 @@
 use Rattle.std.proofs.Common.{◌<◌, refl, sym, ap, subst}
 use Rattle.image.specs.declared.layout.Layout.{Layout}
 use Rattle.image.specs.declared.guard_row.GuardRow.{GuardRow}
-use Rattle.lock_word.specs.declared.number.TheConstants.{LAST_NUMBER}
+use Rattle.heap_model.specs.declared.limits.TheConstants.{LAST_NUMBER}
 use Rattle.plain_monitors.specs.Table.{setting_in}
 use Rattle.script_machine.proofs.opening.format_store.Goals as goal
 
