@@ -4,7 +4,7 @@ ghost use Rattle.undo_log.specs.StandsFor.{row_of};
 ghost use Rattle.recover.specs.Logs.{records_of};
 ghost use Rattle.inspect.specs.Sections.{first_number, numbering_of, section_id};
 
-use live_logs::records_in;
+use crate::lanes::records_in;
 use crate::progress::progress_of;
 use crate::section::SectionId;
 use heap_model::{Lane, UndoRecord};

@@ -6,7 +6,7 @@ ghost use Rattle.inspect.specs.Sections.{told};
 ghost use Rattle.inspect.specs.Links.{Release, Tells, finds, releases_of, released_by};
 ghost use Rattle.recover.specs.Fits.{FitsNumbers};
 
-use live_logs::records_in;
+use crate::lanes::records_in;
 use crate::numbering::{Numbering, lane_numbering};
 use crate::progress::Progress;
 use crate::section::SectionId;

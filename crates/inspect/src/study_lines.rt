@@ -11,7 +11,7 @@ ghost use Rattle.inspect.specs.declared.form.Form.TheVariants.{Lines};
 
 use crate::error::{ShowError, WriteError};
 use crate::form::Form;
-use live_logs::records_in;
+use crate::lanes::records_in;
 use crate::links::put_links;
 use crate::numbering::lane_numbering;
 use crate::pieces::{Piece, put_line, put_list};

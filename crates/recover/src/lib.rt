@@ -27,8 +27,6 @@ mod replayed;
 mod report;
 mod studied;
 mod studying;
-mod walk;
-mod whole_run;
 
 pub use error::RecoverError;
 pub use laws::{one_study_law, same_heap_law, studied_law, study_law};
