@@ -1,0 +1,2 @@
+-- What the contracts of the tests' helpers state.
+pub mod Idle
