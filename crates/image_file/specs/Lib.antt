@@ -1,3 +1,4 @@
+-- The promise: what public clauses state.
 pub mod Formatting
 pub mod Telling
 pub mod Recovering

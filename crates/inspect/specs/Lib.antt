@@ -1,3 +1,4 @@
+-- The promise: what public clauses state.
 pub mod Written
 pub mod Pieces
 pub mod ReportText
