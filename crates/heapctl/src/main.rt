@@ -11,9 +11,9 @@ mod status;
 mod tests;
 mod words;
 
-use file_disk::BackingFile;
 use clap::Error;
 use clap::error::ErrorKind;
+use file_disk::BackingFile;
 use obeying::obey;
 use status::{FAULT, WRONG_INPUT, status_of_fault};
 use std::io::Read;

@@ -2,8 +2,8 @@
 ghost use Rattle.std.specs.Prelude.{◌≡◌};
 ghost use Rattle.image_file.specs.Formatting.{told_of_schema, told_of_file};
 
-use file_disk::FileError;
 use declarations::{SchemaFault, SchemaFaultKind};
+use file_disk::FileError;
 use thiserror::Error;
 
 /// Why no image was made. The first two are found before the image file is touched.

@@ -9,6 +9,5 @@ pub mod Fits
 pub mod Putting
 pub mod Ending
 pub mod Recovery
-
 -- The scaffold: what only proofs need.
 pub mod Live

@@ -19,9 +19,8 @@ use crate::refusals::refused_recovery;
 use block_disk::MemDisk;
 use durable::Store;
 use guards::Schema;
-use heap_model::FieldId;
+use heap_model::{FieldId, LAST_NUMBER};
 use image::{GuardRow, Layout, Recovered, RecoveredParts};
-use heap_model::LAST_NUMBER;
 use recover::recover;
 use std::alloc::{AllocError, Global};
 
