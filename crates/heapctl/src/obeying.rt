@@ -1,5 +1,6 @@
 //! What the program's words do.
-ghost use Rattle.heapctl.specs.Obeying.{Obeys};
+ghost use Rattle.std.specs.Prelude.{◌≡◌};
+ghost use Rattle.heapctl.specs.Obeying.{Obeys, told_of_image};
 
 use crate::fault::WorkFault;
 use crate::words::Words;
@@ -22,7 +23,7 @@ where
     R: Files<File = F> + AllocGlobal,
     S: Read,
     W: Write,
-    ensures { Obeys words result (S.remaining reader.old) (S.remaining reader.new) (W.contents writer.old) (W.contents writer.new) }
+    ensures { Obeys words.entry result (S.remaining reader.old) (S.remaining reader.new) (W.contents writer.old) (W.contents writer.new) }
 {
     let alloc = rt.alloc();
     match words {
