@@ -8,7 +8,7 @@ use Rattle.heap_model.specs.declared.ids.ObjectId.{ObjectId}
 use Rattle.recover.specs.Logs.{records_of}
 use Rattle.recover.specs.declared.studied.Study.{Study}
 use Rattle.inspect.specs.declared.numbering.Numbering.{Numbering}
-use Rattle.inspect.specs.declared.progress.Progress.{Progress}
+use Rattle.log_state.specs.declared.lane_count.LaneCount.{LaneCount}
 use Rattle.inspect.specs.declared.section.Link.{Link}
 use Rattle.inspect.specs.declared.section.SectionId.{SectionId}
 use Rattle.inspect.specs.Sections.{section_id, told, by_lane, numbering_of}
@@ -20,7 +20,7 @@ pub record Release : Type 0 where
   pub section : SectionId
 
 -- the release that the record is, if it is one
-abbrev pub released_by : Numbering → Progress → UndoRecord → List Release
+abbrev pub released_by : Numbering → LaneCount → UndoRecord → List Release
 released_by n p (Acq o k) = []
 released_by n p (Rel o k) = record { object = o.0; number = k; section = section_id n p.ended } ∷ []
 released_by n p (WaitRel o k) = record { object = o.0; number = k; section = section_id n p.ended } ∷ []
@@ -60,7 +60,7 @@ link_from find taker (Rel o n) = []
 link_from find taker (WaitRel o n) = []
 link_from find taker (Put f before) = []
 
-abbrev pub linked_by : (ℕ → ℕ → Option SectionId) → Numbering → Progress → UndoRecord → List Link
+abbrev pub linked_by : (ℕ → ℕ → Option SectionId) → Numbering → LaneCount → UndoRecord → List Link
 linked_by find n p r = link_from find (section_id n p.ended) r
 
 -- what the sections of the study's lane take from those of others, by place

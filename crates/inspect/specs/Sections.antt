@@ -1,47 +1,25 @@
 -- The live sections of a lane (Atlas), told record by record. Lists of records have their newest record first.
-use Rattle.std.specs.Prelude.{ℕ, zero, suc, ◌+◌, ◌-◌, ◌==◌, if◌then◌else◌, Bool, true, false, List, [], ◌∷◌, ◌++◌, reverse, take}
-use Rattle.heap_model.specs.Sections.{undo_action}
+use Rattle.std.specs.Prelude.{ℕ, zero, suc, ◌+◌, ◌-◌, ◌==◌, if◌then◌else◌, true, false, List, [], ◌∷◌, ◌++◌, reverse, take}
 use Rattle.heap_model.specs.declared.record.UndoRecord.{UndoRecord}
-use Rattle.heap_model.specs.declared.record.UndoRecord.TheVariants.{Acq, Rel, WaitRel, Put}
-use Rattle.dependence.specs.Counts.{held_after}
 use Rattle.image.specs.declared.lane_row.LaneRow.{LaneRow}
+use Rattle.log_state.specs.Lanes.{count_of, ends_at}
+use Rattle.log_state.specs.declared.lane_count.LaneCount.{LaneCount}
 use Rattle.undo_log.specs.StandsFor.{row_of}
 use Rattle.recover.specs.Logs.{records_of}
 use Rattle.recover.specs.declared.studied.Study.{Study}
 use Rattle.inspect.specs.declared.numbering.Numbering.{Numbering}
-use Rattle.inspect.specs.declared.progress.Progress.{Progress}
 use Rattle.inspect.specs.declared.section.Section.{Section}
 use Rattle.inspect.specs.declared.section.SectionId.{SectionId}
 
--- the record frees the last of so many objects that its lane holds: it ends a section
-abbrev pub ends_at : UndoRecord → (held : ℕ) → Bool
-ends_at (Acq o n) held = false
-ends_at (Rel o n) held = held == 1
-ends_at (WaitRel o n) held = held == 1
-ends_at (Put f before) held = false
-
--- how far the lane's sections have come with one more record
-abbrev pub after_record : Progress → UndoRecord → Progress
-after_record p r = record {
-  held = held_after (undo_action r) p.held;
-  ended = if ends_at r p.held then p.ended + 1 else p.ended;
-  since = if ends_at r p.held then 0 else p.since + 1;
-}
-
--- how far they have come after these records
-abbrev pub progress : List UndoRecord → Progress
-progress [] = record { held = 0; ended = 0; since = 0 }
-progress (r ∷ older) = after_record (progress older) r
-
 -- what each record tells, by how far the sections have come before it; the oldest record's first
-abbrev pub told : {X : Type 0} → (Progress → UndoRecord → List X) → List UndoRecord → List X
+abbrev pub told : {X : Type 0} → (LaneCount → UndoRecord → List X) → List UndoRecord → List X
 told tell [] = []
-told tell (r ∷ older) = told tell older ++ tell (progress older) r
+told tell (r ∷ older) = told tell older ++ tell (count_of older) r
 
 -- the number of a lane's first live section, by the lane's row and its live records, which have the oldest first: the row
 -- keeps all that ended before the place up to which the lane is settled
 abbrev pub first_number : LaneRow → List UndoRecord → ℕ
-first_number row records = row.kept - (progress (reverse (take (row.settled - row.start) records))).ended + 1
+first_number row records = row.kept - (count_of (reverse (take (row.settled - row.start) records))).ended + 1
 
 -- how the live sections of a study's lane are numbered
 abbrev pub numbering_of : Study → (lane : ℕ) → Numbering
@@ -56,7 +34,7 @@ abbrev pub section_id : Numbering → (ended : ℕ) → SectionId
 section_id n ended = record { lane = n.lane; number = n.first + ended }
 
 -- the section that the record ends, if it ends one
-abbrev pub ended_by : Numbering → Progress → UndoRecord → List Section
+abbrev pub ended_by : Numbering → LaneCount → UndoRecord → List Section
 ended_by n p r = if ends_at r p.held then record { id = section_id n p.ended; is_whole = true; records = p.since + 1 } ∷ [] else []
 
 -- the lane's live sections that have ended, by number
@@ -64,12 +42,12 @@ abbrev pub whole_sections : Numbering → List UndoRecord → List Section
 whole_sections n records = told (ended_by n) records
 
 -- the section that the lane is in, if it is in one
-abbrev pub unfinished_section : Numbering → Progress → List Section
+abbrev pub unfinished_section : Numbering → LaneCount → List Section
 unfinished_section n p = if p.since == 0 then [] else record { id = section_id n p.ended; is_whole = false; records = p.since } ∷ []
 
 -- the lane's live sections, by number
 abbrev pub live_sections : Numbering → List UndoRecord → List Section
-live_sections n records = whole_sections n records ++ unfinished_section n (progress records)
+live_sections n records = whole_sections n records ++ unfinished_section n (count_of records)
 
 -- what each of the first lanes tells, by lane
 abbrev pub by_lane : {X : Type 0} → (ℕ → List X) → (lanes : ℕ) → List X

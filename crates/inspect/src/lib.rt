@@ -14,7 +14,6 @@ mod lanes;
 mod links;
 mod numbering;
 mod pieces;
-mod progress;
 mod releases;
 mod report_lines;
 mod section;

@@ -11,11 +11,11 @@ use crate::error::WriteError;
 use crate::form::Form;
 use crate::graph_lines::put_edge;
 use crate::numbering::Numbering;
-use crate::progress::Progress;
 use crate::releases::{Releases, releaser};
 use crate::section::{Link, SectionId};
 use crate::section_lines::put_link_line;
 use heap_model::{ObjectId, UndoRecord};
+use log_state::LaneCount;
 use std::io::Write;
 
 /// Writes a dependence for each acquire of the lane of what a section of another lane released, by place. The lane's live
@@ -31,7 +31,7 @@ pub(crate) fn put_links<W: Write>(
     ensures ok { OnOk result (Appends (W.contents writer.old) (W.contents writer.new) (flat_map (link_text form) (told (linked_by (finds releases.now) numbering) (reverse records.now)))) }
     ensures part { OnErr result (AppendsPart (W.contents writer.old) (W.contents writer.new) (flat_map (link_text form) (told (linked_by (finds releases.now) numbering) (reverse records.now)))) }
 {
-    let mut gone = Progress::begin();
+    let mut gone = LaneCount::new();
     for entry in records {
         put_taken(
             writer,

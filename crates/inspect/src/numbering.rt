@@ -5,10 +5,10 @@ ghost use Rattle.recover.specs.Logs.{records_of};
 ghost use Rattle.inspect.specs.Sections.{first_number, numbering_of, section_id};
 
 use crate::lanes::records_in;
-use crate::progress::progress_of;
 use crate::section::SectionId;
 use heap_model::{Lane, UndoRecord};
 use image::LaneRow;
+use log_state::count_all;
 use recover::Study;
 
 /// How a lane's live sections are numbered.
@@ -55,6 +55,6 @@ fn first_section(row: &LaneRow, records: &[UndoRecord]) -> u64
     ensures { result ≡ first_number row.now records.now }
 {
     let settled = row.settled.saturating_sub(row.start) as usize;
-    let ended = progress_of(&records[..records.len().min(settled)]).ended;
+    let ended = count_all(&records[..records.len().min(settled)]).ended;
     row.kept.saturating_sub(ended) + 1
 }

@@ -8,9 +8,9 @@ ghost use Rattle.recover.specs.Fits.{FitsNumbers};
 
 use crate::lanes::records_in;
 use crate::numbering::{Numbering, lane_numbering};
-use crate::progress::Progress;
 use crate::section::SectionId;
 use heap_model::{Lane, ObjectId, UndoRecord};
+use log_state::LaneCount;
 use recover::Study;
 use std::alloc::{AllocError, Global};
 use std::collections::BTreeMap;
@@ -52,7 +52,7 @@ fn note_lane(
     ensures ok { OnOk result ((older : List Release) → Tells releases.old older → Tells releases.new (older ++ told (released_by numbering) (reverse records.now))) }
     ensures no_memory { OnErr result (0 < length (told (released_by numbering) (reverse records.now))) }
 {
-    let mut gone = Progress::begin();
+    let mut gone = LaneCount::new();
     for entry in records {
         note_release(releases, numbering, gone, *entry)?;
         gone = gone.after(*entry);
@@ -64,7 +64,7 @@ fn note_lane(
 fn note_release(
     releases: &mut Releases,
     numbering: Numbering,
-    gone: Progress,
+    gone: LaneCount,
     entry: UndoRecord,
 ) -> Result<(), AllocError>
     requires { numbering.first + gone.ended < 2 ^ 64 }

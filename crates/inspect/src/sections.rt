@@ -3,17 +3,18 @@ ghost use Rattle.std.specs.Prelude.{◌≡◌, ◌+◌, ◌<◌, ◌^◌, IfOk, 
 ghost use Rattle.std.specs.Io.KnownBytes.{Appends};
 ghost use Rattle.std.specs.List.{flat_map};
 ghost use Rattle.inspect.specs.Written.{AppendsPart};
-ghost use Rattle.inspect.specs.Sections.{progress, ended_by, whole_sections, unfinished_section, live_sections};
+ghost use Rattle.log_state.specs.Lanes.{count_of};
+ghost use Rattle.inspect.specs.Sections.{ended_by, whole_sections, unfinished_section, live_sections};
 ghost use Rattle.inspect.specs.SectionText.{section_text};
 
 use crate::error::WriteError;
 use crate::form::Form;
 use crate::graph_lines::put_node;
 use crate::numbering::Numbering;
-use crate::progress::Progress;
 use crate::section::Section;
 use crate::section_lines::put_section_line;
 use heap_model::UndoRecord;
+use log_state::LaneCount;
 use std::io::Write;
 
 /// Writes each live section of the lane, by number. The lane's live records have the oldest first.
@@ -36,13 +37,13 @@ fn put_whole_sections<W: Write>(
     form: Form,
     numbering: Numbering,
     records: &[UndoRecord],
-) -> Result<Progress, WriteError>
+) -> Result<LaneCount, WriteError>
     requires { numbering.first + length records.now < 2 ^ 64 }
     ensures ok { OnOk result (Appends (W.contents writer.old) (W.contents writer.new) (flat_map (section_text form numbering) (whole_sections numbering (reverse records.now)))) }
-    ensures progress { IfOk result (λ gone. gone ≡ progress (reverse records.now)) }
+    ensures count { IfOk result (λ gone. gone ≡ count_of (reverse records.now)) }
     ensures part { OnErr result (AppendsPart (W.contents writer.old) (W.contents writer.new) (flat_map (section_text form numbering) (whole_sections numbering (reverse records.now)))) }
 {
-    let mut gone = Progress::begin();
+    let mut gone = LaneCount::new();
     for entry in records {
         put_ended(writer, form, numbering, gone, *entry)?;
         gone = gone.after(*entry);
@@ -55,7 +56,7 @@ fn put_ended<W: Write>(
     writer: &mut W,
     form: Form,
     numbering: Numbering,
-    gone: Progress,
+    gone: LaneCount,
     entry: UndoRecord,
 ) -> Result<(), WriteError>
     requires number { numbering.first + gone.ended < 2 ^ 64 }
@@ -79,7 +80,7 @@ fn put_unfinished<W: Write>(
     writer: &mut W,
     form: Form,
     numbering: Numbering,
-    gone: Progress,
+    gone: LaneCount,
 ) -> Result<(), WriteError>
     requires number { numbering.first + gone.ended < 2 ^ 64 }
     ensures ok { OnOk result (Appends (W.contents writer.old) (W.contents writer.new) (flat_map (section_text form numbering) (unfinished_section numbering gone))) }

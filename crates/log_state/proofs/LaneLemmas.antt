@@ -5,7 +5,7 @@ use Rattle.std.proofs.lemmas.Bool.Decides.{eqb_tells}
 use Rattle.std.proofs.lemmas.List.{take-append-drop, take_more, reverse-append}
 use Rattle.heap_model.specs.Sections.{Action, Takes, Frees, Stores, undo_action, without, holding, ended}
 use Rattle.heap_model.specs.declared.record.UndoRecord.{UndoRecord}
-use Rattle.log_state.specs.Lanes.{Counts, FreesHeld, held_after, ended_after, count_after}
+use Rattle.log_state.specs.Lanes.{Counts, FreesHeld, held_after, ended_after, count_after, count_of, new_count}
 use Rattle.log_state.specs.declared.lane_count.LaneCount.{LaneCount}
 
 abbrev acts_of : List UndoRecord → List Action
@@ -76,6 +76,11 @@ counts_more first c records r frees counts =
       since_is = ap (λ (k : ℕ). if k == 0 then 0 else c.since + 1) held ∙ ap (λ (k : ℕ). if length (holding (a ∷ older)) == 0 then 0 else k + 1) counts.since_is;
       awaited_is = refl;
     }
+
+-- the count of a lane that frees only what it holds
+pub counts_of : (records : List UndoRecord) → FreesHeld (map undo_action records) → Counts new_count records (count_of records)
+counts_of [] frees = record { place_is = refl; held_is = refl; ended_is = refl; since_is = refl; awaited_is = refl }
+counts_of (r ∷ older) frees = counts_more new_count (count_of older) older r frees (counts_of older (frees_behind (undo_action r ∷ []) (map undo_action older) frees))
 
 pub held_few : (a : Action) (h i : ℕ) → h ≤ i → held_after a h ≤ i + 1
 held_few (Takes o n) h i le = omega arith

@@ -1,6 +1,6 @@
 -- How far a lane has come after its records: what it holds, its sections (Atlas), and what it waits for. A lane's records
 -- have the newest first.
-use Rattle.std.specs.Prelude.{ℕ, ◌≡◌, ◌+◌, ◌-◌, ◌<◌, ◌^◌, ◌==◌, if◌then◌else◌, List, [], ◌∷◌, length, map, Contains, Option, Some, None}
+use Rattle.std.specs.Prelude.{ℕ, ◌≡◌, ◌+◌, ◌-◌, ◌<◌, ◌^◌, ◌==◌, if◌then◌else◌, Bool, true, false, List, [], ◌∷◌, length, map, Contains, Option, Some, None}
 use Rattle.heap_model.specs.Sections.{Action, Takes, Frees, Stores, undo_action, holding, ended}
 use Rattle.heap_model.specs.declared.ids.ObjectId.{ObjectId}
 use Rattle.heap_model.specs.declared.record.UndoRecord.{UndoRecord}
@@ -59,6 +59,13 @@ ended_after (Takes o n) held ended = ended
 ended_after (Frees o n) held ended = if held == 1 then ended + 1 else ended
 ended_after Stores held ended = ended
 
+-- the record frees the last of so many objects that its lane holds: it ends a section
+abbrev pub ends_at : UndoRecord → (held : ℕ) → Bool
+ends_at (Acq o n) held = false
+ends_at (Rel o n) held = held == 1
+ends_at (WaitRel o n) held = held == 1
+ends_at (Put f before) held = false
+
 -- the count after one more record
 abbrev pub count_after : LaneCount → UndoRecord → LaneCount
 count_after c r = record {
@@ -79,3 +86,8 @@ pub record HasRoom (c : LaneCount) : Type 0 where
 -- the count of a lane with no records
 abbrev pub new_count : LaneCount
 new_count = record { place = 0; held = 0; ended = 0; since = 0; awaited = None }
+
+-- the count of a lane that has these records alone
+abbrev pub count_of : List UndoRecord → LaneCount
+count_of [] = new_count
+count_of (r ∷ older) = count_after (count_of older) r

@@ -2,7 +2,7 @@
 ghost use Rattle.std.specs.Prelude.{◌≡◌, ◌↔◌, ◌+◌, ◌<◌, ◌≤◌, ◌^◌, ◌∷◌, [], IsTrue, List, length, map, reverse};
 ghost use Rattle.heap_model.specs.Sections.{undo_action};
 ghost use Rattle.heap_model.specs.declared.record.UndoRecord.{UndoRecord as AnyRecord};
-ghost use Rattle.log_state.specs.Lanes.{Counts, FreesHeld, awaited_after, new_count};
+ghost use Rattle.log_state.specs.Lanes.{Counts, FreesHeld, awaited_after, count_of, new_count};
 
 use heap_model::{ObjectId, UndoRecord};
 
@@ -25,7 +25,7 @@ impl LaneCount {
     ghost use Rattle.std.specs.Prelude.{◌≡◌, ◌↔◌, ◌+◌, ◌<◌, ◌^◌, ◌∷◌, [], IsTrue, List, length, map};
     ghost use Rattle.heap_model.specs.Sections.{undo_action};
     ghost use Rattle.heap_model.specs.declared.record.UndoRecord.{UndoRecord as AnyRecord};
-    ghost use Rattle.log_state.specs.Lanes.{Counts, FreesHeld, HasRoom, MayFollow, awaited_after, count_after, held_after, ended_after, new_count};
+    ghost use Rattle.log_state.specs.Lanes.{Counts, FreesHeld, HasRoom, MayFollow, awaited_after, count_after, ended_after, ends_at, held_after, new_count};
     ghost use Rattle.log_state.specs.declared.lane_count.LaneCount.{LaneCount as AnyCount};
 
     /// The count of a lane with no records.
@@ -89,14 +89,25 @@ impl LaneCount {
         }
     }
 
-    // How many of its sections have ended after the record. One ends with the release that leaves nothing held.
+    /// Whether the record ends the lane's section: it frees the last object that the lane holds.
+    pub fn ends(self, next: UndoRecord) -> bool
+        ensures { result ≡ ends_at next self.held }
+    {
+        match next {
+            UndoRecord::Rel { .. } | UndoRecord::WaitRel { .. } => self.held == 1,
+            UndoRecord::Acq { .. } | UndoRecord::Put { .. } => false,
+        }
+    }
+
+    // How many of its sections have ended after the record.
     fn ended_after(self, next: UndoRecord) -> u64
         requires { self.ended + 1 < 2 ^ 64 }
         ensures { result ≡ ended_after (undo_action next) self.held self.ended }
     {
-        match next {
-            UndoRecord::Rel { .. } | UndoRecord::WaitRel { .. } if self.held == 1 => self.ended + 1,
-            _ => self.ended,
+        if self.ends(next) {
+            self.ended + 1
+        } else {
+            self.ended
         }
     }
 }
@@ -112,8 +123,8 @@ fn awaited_after_record(next: UndoRecord) -> Option<ObjectId>
 
 /// The count of a lane after these records, which have the oldest first.
 pub fn count_all(records: &[UndoRecord]) -> LaneCount
-    requires { FreesHeld (map undo_action (reverse records.now)) }
-    ensures { Counts new_count (reverse records.now) result }
+    ensures exact { result ≡ count_of (reverse records.now) }
+    ensures counts { FreesHeld (map undo_action (reverse records.now)) → Counts new_count (reverse records.now) result }
 {
     let mut count = LaneCount::new();
     for entry in records {

@@ -2,14 +2,14 @@ use Rattle.std.proofs.Common.{◌<◌, length, arith, take, reverse, sym, ap, su
 use Rattle.std.specs.List.{flat_map}
 use Rattle.std.specs.Io.KnownBytes.{Appends}
 use Rattle.heap_model.specs.declared.record.UndoRecord.{UndoRecord}
-use Rattle.inspect.specs.declared.progress.Progress.{Progress}
+use Rattle.log_state.specs.declared.lane_count.LaneCount.{LaneCount}
 use Rattle.inspect.specs.Written.{AppendsPart}
-use Rattle.inspect.specs.Sections.{after_record, progress}
+use Rattle.log_state.specs.Lanes.{count_after, count_of}
 use Rattle.inspect.specs.Links.{finds, linked_by, link_from}
 use Rattle.inspect.specs.declared.section.SectionId.{SectionId}
 use Rattle.inspect.specs.SectionText.{link_text}
 use Rattle.inspect.proofs.PartLemmas.{always}
-use Rattle.inspect.proofs.ToldLemmas.{Few, few, progress_more, none, next_told, part_told}
+use Rattle.inspect.proofs.ToldLemmas.{Few, few, count_more, none, next_told, part_told}
 use Rattle.inspect.proofs.links.put_links.Goals as goal
 
 pub section-requires : goal.section-requires
@@ -17,7 +17,7 @@ section-requires g c =
     let i = c.loop-entry.entry-index in
     let xs : List UndoRecord = c.args.records.now in
     let lt : i < length xs = c.loop-entry-test.true in
-    let counted : Few c.loop-entry.gone i = subst (λ (p : Progress). Few p i) (sym c.loop-entry.invariant.gone) (few xs i (omega arith)) in
+    let counted : Few c.loop-entry.gone i = subst (λ (p : LaneCount). Few p i) (sym c.loop-entry.invariant.gone) (few xs i (omega arith)) in
     omega (arith, counted.ended)
 
 pub after-gone-requires : goal.after-gone-requires
@@ -25,8 +25,8 @@ after-gone-requires g c =
     let i = c.loop-entry.entry-index in
     let xs : List UndoRecord = c.args.records.now in
     let lt : i < length xs = c.loop-entry-test.true in
-    let counted : Few c.loop-entry.gone i = subst (λ (p : Progress). Few p i) (sym c.loop-entry.invariant.gone) (few xs i (omega arith)) in
-    record { held = omega (arith, counted.held); ended = omega (arith, counted.ended); since = omega (arith, counted.since) }
+    let counted : Few c.loop-entry.gone i = subst (λ (p : LaneCount). Few p i) (sym c.loop-entry.invariant.gone) (few xs i (omega arith)) in
+    record { place = omega (arith, counted.place); held = omega (arith, counted.held); ended = omega (arith, counted.ended); since = omega (arith, counted.since) }
 
 pub loop-entry-preserved : goal.loop-entry-preserved
 loop-entry-preserved g c =
@@ -38,10 +38,10 @@ loop-entry-preserved g c =
     let new = g.W.Write.contents c.put_taken.new.writer in
     let named : Appends w new (flat_map text (linked_by (finds c.args.releases.now) c.args.numbering c.loop-entry.gone (get_or xs i none))) =
     subst (λ (taker : SectionId). Appends w new (flat_map text (link_from (finds c.args.releases.now) taker (get_or xs i none)))) c.section.ensures c.in_ok-put_taken.ensures.ok in
-    let next : Appends w new (flat_map text (linked_by (finds c.args.releases.now) c.args.numbering (progress (reverse (take i xs))) (get_or xs i none))) =
-    subst (λ (p : Progress). Appends w new (flat_map text (linked_by (finds c.args.releases.now) c.args.numbering p (get_or xs i none)))) c.loop-entry.invariant.gone named in
+    let next : Appends w new (flat_map text (linked_by (finds c.args.releases.now) c.args.numbering (count_of (reverse (take i xs))) (get_or xs i none))) =
+    subst (λ (p : LaneCount). Appends w new (flat_map text (linked_by (finds c.args.releases.now) c.args.numbering p (get_or xs i none)))) c.loop-entry.invariant.gone named in
     record {
-      gone = c.after-gone.ensures ∙ ap (λ (p : Progress). after_record p (get_or xs i none)) c.loop-entry.invariant.gone ∙ sym (progress_more xs i lt);
+      gone = c.after-gone.ensures.exact ∙ ap (λ (p : LaneCount). count_after p (get_or xs i none)) c.loop-entry.invariant.gone ∙ sym (count_more xs i lt);
       written = next_told (linked_by (finds c.args.releases.now) c.args.numbering) text xs i lt (g.W.Write.contents c.args.writer.now) w new c.loop-entry.invariant.written next;
     }
 
@@ -55,6 +55,6 @@ returns-in_err-put_taken-clause-part g c =
     let new = g.W.Write.contents c.put_taken.new.writer in
     let named : AppendsPart w new (flat_map text (linked_by (finds c.args.releases.now) c.args.numbering c.loop-entry.gone (get_or xs i none))) =
     subst (λ (taker : SectionId). AppendsPart w new (flat_map text (link_from (finds c.args.releases.now) taker (get_or xs i none)))) c.section.ensures c.in_err-put_taken.ensures.part in
-    let next : AppendsPart w new (flat_map text (linked_by (finds c.args.releases.now) c.args.numbering (progress (reverse (take i xs))) (get_or xs i none))) =
-    subst (λ (p : Progress). AppendsPart w new (flat_map text (linked_by (finds c.args.releases.now) c.args.numbering p (get_or xs i none)))) c.loop-entry.invariant.gone named in
+    let next : AppendsPart w new (flat_map text (linked_by (finds c.args.releases.now) c.args.numbering (count_of (reverse (take i xs))) (get_or xs i none))) =
+    subst (λ (p : LaneCount). AppendsPart w new (flat_map text (linked_by (finds c.args.releases.now) c.args.numbering p (get_or xs i none)))) c.loop-entry.invariant.gone named in
     always c.from_residual.result (part_told (linked_by (finds c.args.releases.now) c.args.numbering) text xs i lt (g.W.Write.contents c.args.writer.now) w new c.loop-entry.invariant.written next)

@@ -6,10 +6,11 @@ use Rattle.std.proofs.lemmas.List.{take_all}
 use Rattle.std.proofs.lemmas.List.Concat.{flat_map-append}
 use Rattle.std.proofs.lemmas.Result.{on_ok_weaker, on_err_weaker}
 use Rattle.heap_model.specs.declared.record.UndoRecord.{UndoRecord}
-use Rattle.inspect.specs.declared.progress.Progress.{Progress}
+use Rattle.log_state.specs.declared.lane_count.LaneCount.{LaneCount}
 use Rattle.inspect.specs.declared.section.Section.{Section}
 use Rattle.inspect.specs.Written.{AppendsPart}
-use Rattle.inspect.specs.Sections.{progress, whole_sections, unfinished_section}
+use Rattle.log_state.specs.Lanes.{count_of}
+use Rattle.inspect.specs.Sections.{whole_sections, unfinished_section}
 use Rattle.inspect.specs.SectionText.{section_text}
 use Rattle.inspect.proofs.PartLemmas.{always, part_first, part_second}
 use Rattle.inspect.proofs.ToldLemmas.{Few, few}
@@ -18,8 +19,8 @@ use Rattle.inspect.proofs.sections.put_sections.Goals as goal
 pub put_unfinished-requires : goal.put_unfinished-requires
 put_unfinished-requires g c =
     let xs : List UndoRecord = c.args.records.now in
-    let all : Few (progress (reverse xs)) (length xs) = subst (λ (ys : List UndoRecord). Few (progress (reverse ys)) (length xs)) (take_all (length xs) xs (omega arith)) (few xs (length xs) (omega arith)) in
-    let counted : Few c.in_ok-gone.gone (length xs) = subst (λ (p : Progress). Few p (length xs)) (sym c.in_ok-gone.ensures.progress) all in
+    let all : Few (count_of (reverse xs)) (length xs) = subst (λ (ys : List UndoRecord). Few (count_of (reverse ys)) (length xs)) (take_all (length xs) xs (omega arith)) (few xs (length xs) (omega arith)) in
+    let counted : Few c.in_ok-gone.gone (length xs) = subst (λ (p : LaneCount). Few p (length xs)) (sym c.in_ok-gone.ensures.count) all in
     record { number = omega (arith, counted.ended) }
 
 pub returns-clause-ok : goal.returns-clause-ok
@@ -27,33 +28,33 @@ returns-clause-ok g c =
     let text = section_text c.args.form c.args.numbering in
     let xs : List UndoRecord = reverse c.args.records.now in
     let whole : List Section = whole_sections c.args.numbering xs in
-    let last : List Section = unfinished_section c.args.numbering (progress xs) in
+    let last : List Section = unfinished_section c.args.numbering (count_of xs) in
     let old = g.W.Write.contents c.args.writer.now in
     let mid = g.W.Write.contents c.put_whole_sections.new.writer in
     let new = g.W.Write.contents c.put_unfinished.new.writer in
     on_ok_weaker c.put_unfinished.result (λ (more : Appends mid new (flat_map text (unfinished_section c.args.numbering c.in_ok-gone.gone))).
     subst (Appends old new) (sym (flat_map-append text whole last)) (Appends-trans old mid new (flat_map text whole) (flat_map text last) c.in_ok-gone.ensures.ok
-    (subst (λ (p : Progress). Appends mid new (flat_map text (unfinished_section c.args.numbering p))) c.in_ok-gone.ensures.progress more))) c.put_unfinished.ensures.ok
+    (subst (λ (p : LaneCount). Appends mid new (flat_map text (unfinished_section c.args.numbering p))) c.in_ok-gone.ensures.count more))) c.put_unfinished.ensures.ok
 
 pub returns-clause-part : goal.returns-clause-part
 returns-clause-part g c =
     let text = section_text c.args.form c.args.numbering in
     let xs : List UndoRecord = reverse c.args.records.now in
     let whole : List Section = whole_sections c.args.numbering xs in
-    let last : List Section = unfinished_section c.args.numbering (progress xs) in
+    let last : List Section = unfinished_section c.args.numbering (count_of xs) in
     let old = g.W.Write.contents c.args.writer.now in
     let mid = g.W.Write.contents c.put_whole_sections.new.writer in
     let new = g.W.Write.contents c.put_unfinished.new.writer in
     on_err_weaker c.put_unfinished.result (λ (more : AppendsPart mid new (flat_map text (unfinished_section c.args.numbering c.in_ok-gone.gone))).
     subst (AppendsPart old new) (sym (flat_map-append text whole last)) (part_second old mid new (flat_map text whole) (flat_map text last) c.in_ok-gone.ensures.ok
-    (subst (λ (p : Progress). AppendsPart mid new (flat_map text (unfinished_section c.args.numbering p))) c.in_ok-gone.ensures.progress more))) c.put_unfinished.ensures.part
+    (subst (λ (p : LaneCount). AppendsPart mid new (flat_map text (unfinished_section c.args.numbering p))) c.in_ok-gone.ensures.count more))) c.put_unfinished.ensures.part
 
 pub returns-in_err-gone-clause-part : goal.returns-in_err-gone-clause-part
 returns-in_err-gone-clause-part g c =
     let text = section_text c.args.form c.args.numbering in
     let xs : List UndoRecord = reverse c.args.records.now in
     let whole : List Section = whole_sections c.args.numbering xs in
-    let last : List Section = unfinished_section c.args.numbering (progress xs) in
+    let last : List Section = unfinished_section c.args.numbering (count_of xs) in
     let old = g.W.Write.contents c.args.writer.now in
     let mid = g.W.Write.contents c.put_whole_sections.new.writer in
     always c.from_residual.result (subst (AppendsPart old mid) (sym (flat_map-append text whole last)) (part_first old mid (flat_map text whole) (flat_map text last) c.in_err-gone.ensures.part))

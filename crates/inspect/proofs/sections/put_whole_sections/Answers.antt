@@ -2,12 +2,13 @@ use Rattle.std.proofs.Common.{◌<◌, length, arith, take, reverse, sym, ap, su
 use Rattle.std.specs.List.{flat_map}
 use Rattle.std.specs.Io.KnownBytes.{Appends}
 use Rattle.heap_model.specs.declared.record.UndoRecord.{UndoRecord}
-use Rattle.inspect.specs.declared.progress.Progress.{Progress}
+use Rattle.log_state.specs.declared.lane_count.LaneCount.{LaneCount}
 use Rattle.inspect.specs.Written.{AppendsPart}
-use Rattle.inspect.specs.Sections.{after_record, progress, ended_by}
+use Rattle.log_state.specs.Lanes.{count_after, count_of}
+use Rattle.inspect.specs.Sections.{ended_by}
 use Rattle.inspect.specs.SectionText.{section_text}
 use Rattle.inspect.proofs.PartLemmas.{always}
-use Rattle.inspect.proofs.ToldLemmas.{Few, few, progress_more, none, next_told, part_told}
+use Rattle.inspect.proofs.ToldLemmas.{Few, few, count_more, none, next_told, part_told}
 use Rattle.inspect.proofs.sections.put_whole_sections.Goals as goal
 
 pub put_ended-requires : goal.put_ended-requires
@@ -15,7 +16,7 @@ put_ended-requires g c =
     let i = c.loop-entry.entry-index in
     let xs : List UndoRecord = c.args.records.now in
     let lt : i < length xs = c.loop-entry-test.true in
-    let counted : Few c.loop-entry.gone i = subst (λ (p : Progress). Few p i) (sym c.loop-entry.invariant.gone) (few xs i (omega arith)) in
+    let counted : Few c.loop-entry.gone i = subst (λ (p : LaneCount). Few p i) (sym c.loop-entry.invariant.gone) (few xs i (omega arith)) in
     record { number = omega (arith, counted.ended); records = omega (arith, counted.since) }
 
 pub after-gone-requires : goal.after-gone-requires
@@ -23,8 +24,8 @@ after-gone-requires g c =
     let i = c.loop-entry.entry-index in
     let xs : List UndoRecord = c.args.records.now in
     let lt : i < length xs = c.loop-entry-test.true in
-    let counted : Few c.loop-entry.gone i = subst (λ (p : Progress). Few p i) (sym c.loop-entry.invariant.gone) (few xs i (omega arith)) in
-    record { held = omega (arith, counted.held); ended = omega (arith, counted.ended); since = omega (arith, counted.since) }
+    let counted : Few c.loop-entry.gone i = subst (λ (p : LaneCount). Few p i) (sym c.loop-entry.invariant.gone) (few xs i (omega arith)) in
+    record { place = omega (arith, counted.place); held = omega (arith, counted.held); ended = omega (arith, counted.ended); since = omega (arith, counted.since) }
 
 pub loop-entry-preserved : goal.loop-entry-preserved
 loop-entry-preserved g c =
@@ -34,10 +35,10 @@ loop-entry-preserved g c =
     let text = section_text c.args.form c.args.numbering in
     let w = g.W.Write.contents c.loop-entry.writer in
     let new = g.W.Write.contents c.put_ended.new.writer in
-    let next : Appends w new (flat_map text (ended_by c.args.numbering (progress (reverse (take i xs))) (get_or xs i none))) =
-    subst (λ (p : Progress). Appends w new (flat_map text (ended_by c.args.numbering p (get_or xs i none)))) c.loop-entry.invariant.gone c.in_ok-put_ended.ensures.ok in
+    let next : Appends w new (flat_map text (ended_by c.args.numbering (count_of (reverse (take i xs))) (get_or xs i none))) =
+    subst (λ (p : LaneCount). Appends w new (flat_map text (ended_by c.args.numbering p (get_or xs i none)))) c.loop-entry.invariant.gone c.in_ok-put_ended.ensures.ok in
     record {
-      gone = c.after-gone.ensures ∙ ap (λ (p : Progress). after_record p (get_or xs i none)) c.loop-entry.invariant.gone ∙ sym (progress_more xs i lt);
+      gone = c.after-gone.ensures.exact ∙ ap (λ (p : LaneCount). count_after p (get_or xs i none)) c.loop-entry.invariant.gone ∙ sym (count_more xs i lt);
       written = next_told (ended_by c.args.numbering) text xs i lt (g.W.Write.contents c.args.writer.now) w new c.loop-entry.invariant.written next;
     }
 
@@ -49,6 +50,6 @@ returns-in_err-put_ended-clause-part g c =
     let text = section_text c.args.form c.args.numbering in
     let w = g.W.Write.contents c.loop-entry.writer in
     let new = g.W.Write.contents c.put_ended.new.writer in
-    let next : AppendsPart w new (flat_map text (ended_by c.args.numbering (progress (reverse (take i xs))) (get_or xs i none))) =
-    subst (λ (p : Progress). AppendsPart w new (flat_map text (ended_by c.args.numbering p (get_or xs i none)))) c.loop-entry.invariant.gone c.in_err-put_ended.ensures.part in
+    let next : AppendsPart w new (flat_map text (ended_by c.args.numbering (count_of (reverse (take i xs))) (get_or xs i none))) =
+    subst (λ (p : LaneCount). AppendsPart w new (flat_map text (ended_by c.args.numbering p (get_or xs i none)))) c.loop-entry.invariant.gone c.in_err-put_ended.ensures.part in
     always c.from_residual.result (part_told (ended_by c.args.numbering) text xs i lt (g.W.Write.contents c.args.writer.now) w new c.loop-entry.invariant.written next)

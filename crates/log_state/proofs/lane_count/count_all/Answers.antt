@@ -1,10 +1,11 @@
-use Rattle.std.proofs.Common.{ℕ, ◌≡◌, ◌+◌, ◌<◌, ◌≤◌, ◌∷◌, List, length, map, get_or, reverse, take, sym, ap, subst}
+use Rattle.std.proofs.Common.{ℕ, ◌≡◌, ◌+◌, ◌<◌, ◌≤◌, ◌∷◌, ◌∙◌, List, length, get_or, reverse, take, sym, ap, subst, arith}
+use Rattle.std.proofs.lemmas.List.{take_all}
 use Rattle.heap_model.specs.Sections.{Action, undo_action}
 use Rattle.heap_model.specs.declared.record.UndoRecord.{UndoRecord}
 use Rattle.heap_model.specs.declared.record.UndoRecord.TheVariants.{Acq}
-use Rattle.log_state.specs.Lanes.{Counts, FreesHeld, new_count}
+use Rattle.log_state.specs.Lanes.{Counts, count_after, count_of, new_count}
 use Rattle.log_state.specs.declared.lane_count.LaneCount.{LaneCount}
-use Rattle.log_state.proofs.LaneLemmas.{frees_first, records_more, held_few, ended_few, since_few}
+use Rattle.log_state.proofs.LaneLemmas.{counts_of, records_more, held_few, ended_few, since_few}
 use Rattle.log_state.proofs.lane_count.count_all.Goals as goal
 
 abbrev none : UndoRecord
@@ -19,11 +20,18 @@ loop-entry-preserved c =
     let a : Action = undo_action r in
     let old : LaneCount = c.loop-entry.count in
     let before = c.loop-entry.invariant in
-    let more : reverse (take (i + 1) xs) ≡ r ∷ reverse (take i xs) = records_more xs i none lt in
-    let frees : FreesHeld (a ∷ map undo_action (reverse (take i xs))) = subst (λ (rs : List UndoRecord). FreesHeld (map undo_action rs)) more (frees_first xs (i + 1) c.requires) in
+    let exact : c.after-count.result ≡ count_after old r = c.after-count.ensures.exact in
     record {
-      counts = subst (λ (rs : List UndoRecord). Counts new_count rs c.after-count.result) (sym more) (c.after-count.ensures.counts new_count (reverse (take i xs)) frees before.counts);
-      held = subst (λ (k : ℕ). k ≤ i + 1) (sym (ap (λ (n : LaneCount). n.held) c.after-count.ensures.exact)) (held_few a old.held i before.held);
-      ended = subst (λ (k : ℕ). k ≤ i + 1) (sym (ap (λ (n : LaneCount). n.ended) c.after-count.ensures.exact)) (ended_few a old.held old.ended i before.ended);
-      since = subst (λ (k : ℕ). k ≤ i + 1) (sym (ap (λ (n : LaneCount). n.since) c.after-count.ensures.exact)) (since_few a old.held old.since i before.since);
+      counted = exact ∙ ap (λ (n : LaneCount). count_after n r) before.counted ∙ sym (ap count_of (records_more xs i none lt));
+      place = subst (λ (k : ℕ). k ≤ i + 1) (sym (ap (λ (n : LaneCount). n.place) exact)) (omega (arith, before.place));
+      held = subst (λ (k : ℕ). k ≤ i + 1) (sym (ap (λ (n : LaneCount). n.held) exact)) (held_few a old.held i before.held);
+      ended = subst (λ (k : ℕ). k ≤ i + 1) (sym (ap (λ (n : LaneCount). n.ended) exact)) (ended_few a old.held old.ended i before.ended);
+      since = subst (λ (k : ℕ). k ≤ i + 1) (sym (ap (λ (n : LaneCount). n.since) exact)) (since_few a old.held old.since i before.since);
     }
+
+pub returns-clause-counts : goal.returns-clause-counts
+returns-clause-counts c = λ frees.
+    let xs : List UndoRecord = c.args.records.now in
+    let all : take c.loop-entry.entry-index xs ≡ xs = take_all _ xs (omega (arith, c.loop-entry-test.false)) in
+    let exact : c.loop-entry.count ≡ count_of (reverse xs) = c.loop-entry.invariant.counted ∙ ap (λ (ys : List UndoRecord). count_of (reverse ys)) all in
+    subst (Counts new_count (reverse xs)) (sym exact) (counts_of (reverse xs) frees)

@@ -1,11 +1,12 @@
-use Rattle.std.proofs.Common.{◌≤◌, reverse, take}
-use Rattle.log_state.specs.Lanes.{Counts, new_count}
+use Rattle.std.proofs.Common.{◌≡◌, ◌≤◌, reverse, take}
+use Rattle.log_state.specs.Lanes.{count_of}
 use Rattle.log_state.proofs.lane_count.count_all.Given as goal
 
 -- the count of the records so far, of which it is no more than there are
 abbrev pub invariant-loop-entry : goal.invariant-loop-entry
 invariant-loop-entry l = record {
-  counts : Counts new_count (reverse (take l.entry-index l.records)) l.count;
+  counted : l.count ≡ count_of (reverse (take l.entry-index l.records));
+  place : l.count.place ≤ l.entry-index;
   held : l.count.held ≤ l.entry-index;
   ended : l.count.ended ≤ l.entry-index;
   since : l.count.since ≤ l.entry-index;
