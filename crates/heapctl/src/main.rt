@@ -4,23 +4,18 @@
 //! standard error, and all else to standard output.
 #![tactic(auto)]
 
-mod fault;
-mod obeying;
-mod status;
 #[cfg(test)]
 mod tests;
-mod words;
 
 use clap::Error;
 use clap::error::ErrorKind;
+use command_words::{Words, read_words};
+use commands::{FAULT, WRONG_INPUT, obey, status_of_fault};
 use file_disk::BackingFile;
-use obeying::obey;
-use status::{FAULT, WRONG_INPUT, status_of_fault};
 use std::io::Read;
 use std::process::ExitCode;
 use std::rt::{Env, Files};
 use std::{env, io};
-use words::{Words, read_words};
 
 // Does what the words ask for, with the script on standard input, and tells how it went.
 fn work<F, R>(rt: &R, words: Words<'_>) -> ExitCode

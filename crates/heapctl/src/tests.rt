@@ -1,5 +1,5 @@
 //! What words are taken, and what is answered to the others.
-use crate::words::{Words, read_words};
+use command_words::{Words, read_words};
 use clap::error::ErrorKind;
 use std::alloc::{AllocError, Global};
 use std::process::Abort;

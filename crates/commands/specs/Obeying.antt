@@ -9,10 +9,10 @@ use Rattle.recover.specs.declared.error.RecoverError.{RecoverError}
 use Rattle.recover.specs.declared.studied.Study.{Study}
 use Rattle.image_file.specs.Formatting.{PrintsImage, IsBeforeFile}
 use Rattle.image_file.specs.Telling.{Tells, TellsLess, report_of}
-use Rattle.heapctl.specs.declared.fault.WorkFault.{WorkFault}
-use Rattle.heapctl.specs.declared.fault.WorkFault.TheVariants as fault
-use Rattle.heapctl.specs.declared.words.Words.{Words}
-use Rattle.heapctl.specs.declared.words.Words.TheVariants as words
+use Rattle.commands.specs.declared.fault.WorkFault.{WorkFault}
+use Rattle.commands.specs.declared.fault.WorkFault.TheVariants as fault
+use Rattle.command_words.specs.declared.words.Words.{Words}
+use Rattle.command_words.specs.declared.words.Words.TheVariants as words
 
 -- how work on an image file ended, as the program tells it
 abbrev pub told_of_image : Result (Unit {0}) RecoverError → Result (Unit {0}) WorkFault

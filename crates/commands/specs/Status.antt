@@ -2,8 +2,8 @@
 use Rattle.std.specs.Prelude.{ℕ}
 use Rattle.image_file.specs.declared.error.FormatError.{FormatError}
 use Rattle.image_file.specs.declared.error.FormatError.TheVariants.{Schema, BadHeader, Fault, NoMemory}
-use Rattle.heapctl.specs.declared.fault.WorkFault.{WorkFault}
-use Rattle.heapctl.specs.declared.fault.WorkFault.TheVariants as fault
+use Rattle.commands.specs.declared.fault.WorkFault.{WorkFault}
+use Rattle.commands.specs.declared.fault.WorkFault.TheVariants as fault
 use Rattle.script_lines.specs.declared.error.ScriptErrorKind.{ScriptErrorKind}
 use Rattle.script_lines.specs.declared.error.ScriptErrorKind.TheVariants.{Syntax, NotText, TooLong, Read, Write, Memory}
 

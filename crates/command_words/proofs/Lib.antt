@@ -1,2 +1,1 @@
 mod OptionLemmas
-mod ObeyLemmas

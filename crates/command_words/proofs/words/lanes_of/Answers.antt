@@ -2,9 +2,9 @@ use Rattle.std.proofs.Common.{sym, subst, codes}
 use Rattle.std.specs.Str.Parse.{ParsesUnsigned, ExplainsUnsignedError, HasUnsignedDigitsIfOk}
 use Rattle.clap.specs.Matches.{found_of, one_text}
 use Rattle.clap.proofs.WalkLemmas.{one_text-rows}
-use Rattle.heapctl.specs.Words.{Reads}
-use Rattle.heapctl.proofs.OptionLemmas.{reads_number}
-use Rattle.heapctl.proofs.words.lanes_of.Goals as goal
+use Rattle.command_words.specs.Words.{Reads}
+use Rattle.command_words.proofs.OptionLemmas.{reads_number}
+use Rattle.command_words.proofs.words.lanes_of.Goals as goal
 
 pub returns : goal.returns
 returns c =

@@ -7,7 +7,7 @@ ghost use Rattle.clap.specs.Values.{kind_of};
 ghost use Rattle.clap.specs.Walk.{first_of, one_of, rows_of, rule_of};
 ghost use Rattle.clap.specs.Matches.{found_of};
 ghost use Rattle.clap.specs.declared.error.kind.ErrorKind.TheVariants.{OutOfMemory};
-ghost use Rattle.heapctl.specs.Words.{AsksFor, IsSet, Reads, capacity_option, dot_flag, format_words, lanes_option, path_option, play_words, program, recover_words, show_words};
+ghost use Rattle.command_words.specs.Words.{AsksFor, IsSet, Reads, capacity_option, dot_flag, format_words, lanes_option, path_option, play_words, program, recover_words, show_words};
 
 use clap::{Arg, ArgAction, ArgMatches, Command, Error, value_parser};
 use std::alloc::{AllocError, Global};

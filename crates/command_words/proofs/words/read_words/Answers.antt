@@ -3,8 +3,8 @@ use Rattle.clap.proofs.OnLiterals.{clap_on_literals}
 use Rattle.clap.specs.Faults.{fault_of, is_simple_and_free}
 use Rattle.clap.specs.Simple.{App, is_simple, subcommand_of}
 use Rattle.clap.specs.Takes.{takes}
-use Rattle.heapctl.specs.Words.{AsksFor, program}
-use Rattle.heapctl.proofs.words.read_words.Goals as goal
+use Rattle.command_words.specs.Words.{AsksFor, program}
+use Rattle.command_words.proofs.words.read_words.Goals as goal
 
 is_plain : is_simple_and_free program ≡ true
 unfolding clap_on_literals

@@ -2,8 +2,8 @@ use Rattle.std.proofs.Common.{◌∙◌}
 use Rattle.clap.specs.Matches.{found_of}
 use Rattle.clap.specs.Walk.{first_of, rows_of}
 use Rattle.clap.proofs.WalkLemmas.{first_value-rows}
-use Rattle.heapctl.proofs.OptionLemmas.{text_there, text_missing}
-use Rattle.heapctl.proofs.words.text_of.Goals as goal
+use Rattle.command_words.proofs.OptionLemmas.{text_there, text_missing}
+use Rattle.command_words.proofs.words.text_of.Goals as goal
 
 pub returns-in-Some : goal.returns-in-Some
 returns-in-Some c =

@@ -3,8 +3,8 @@ use Rattle.std.proofs.lemmas.Result.{IfOk-weaker}
 use Rattle.clap.specs.Built.{AddsSubcommand}
 use Rattle.clap.specs.Simple.{App, app_of, with_subcommand}
 use Rattle.clap.specs.declared.builder.command.Command.{Command}
-use Rattle.heapctl.proofs.OptionLemmas.{third_is_off}
-use Rattle.heapctl.proofs.words.command.Goals as goal
+use Rattle.command_words.proofs.OptionLemmas.{third_is_off}
+use Rattle.command_words.proofs.words.command.Goals as goal
 
 -- a plain word more
 word_added : (old word new : Command) (before added : App) → app_of old ≡ before → app_of word ≡ added → added.top.is_plain ≡ true

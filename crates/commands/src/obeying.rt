@@ -1,9 +1,9 @@
 //! What the program's words do.
 ghost use Rattle.std.specs.Prelude.{◌≡◌};
-ghost use Rattle.heapctl.specs.Obeying.{Obeys, told_of_image};
+ghost use Rattle.commands.specs.Obeying.{Obeys, told_of_image};
 
 use crate::fault::WorkFault;
-use crate::words::Words;
+use command_words::Words;
 use file_disk::BackingFile;
 use image_file::{draw_file, format_file, recover_file, show_file};
 use recover::RecoverError;

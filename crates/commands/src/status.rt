@@ -1,6 +1,6 @@
 //! The program's exit statuses.
 ghost use Rattle.std.specs.Prelude.{◌≡◌};
-ghost use Rattle.heapctl.specs.Status.{status_for, status_for_fault, status_for_format};
+ghost use Rattle.commands.specs.Status.{status_for, status_for_fault, status_for_format};
 
 use crate::fault::WorkFault;
 use image_file::FormatError;

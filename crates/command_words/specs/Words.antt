@@ -5,8 +5,8 @@ use Rattle.clap.specs.Simple.{App, Shape, new_app, new_shape, new_rule, with_rul
 use Rattle.clap.specs.Walk.{Row, Rule, Text, first_of, one_of}
 use Rattle.clap.specs.declared.builder.action.ArgAction.TheVariants.{SetTrue}
 use Rattle.clap.specs.declared.builder.value_parser.ValueParser.TheVariants.{Signed}
-use Rattle.heapctl.specs.declared.words.Words.{Words}
-use Rattle.heapctl.specs.declared.words.Words.TheVariants as words
+use Rattle.command_words.specs.declared.words.Words.{Words}
+use Rattle.command_words.specs.declared.words.Words.TheVariants as words
 
 -- an option that has to be there, with a path
 abbrev pub path_option : Text → Rule

@@ -2,8 +2,8 @@ use Rattle.std.proofs.Common.{◌≡◌, ◌↔◌, sym, subst, codes, Some}
 use Rattle.std.specs.Prelude.{IsTrue}
 use Rattle.clap.specs.Matches.{found_of, one_text}
 use Rattle.clap.proofs.WalkLemmas.{one_text-rows}
-use Rattle.heapctl.proofs.OptionLemmas.{reads_flag}
-use Rattle.heapctl.proofs.words.is_set.Goals as goal
+use Rattle.command_words.proofs.OptionLemmas.{reads_flag}
+use Rattle.command_words.proofs.words.is_set.Goals as goal
 
 pub returns : goal.returns
 returns c =

@@ -4,7 +4,7 @@ use Rattle.std.specs.Prelude.{IsTrue, not, unwrap_or}
 use Rattle.std.specs.Borrow.{Bor}
 use Rattle.std.specs.Str.Parse.{ParsesBool, ParsesUnsigned, parse_bool_error}
 use Rattle.clap.specs.Matches.{ReadsOne}
-use Rattle.heapctl.specs.Words.{Reads}
+use Rattle.command_words.specs.Words.{Reads}
 
 -- a number
 pub reads_number : {E : Type 0} (gives : List ℕ → Result ℕ E → Type 0) (bits : ℕ) (o : Option (List ℕ)) (r : Option ℕ)

@@ -1,0 +1,3 @@
+-- The promise: what is done, and the status. Public clauses state it.
+pub mod Obeying
+pub mod Status
