@@ -1,5 +1,5 @@
 -- A disk in memory: the device that its writes and syncs make of its first bytes (this project's own).
-use Rattle.std.specs.Prelude.{◌≡◌, ◌⊎◌, ℕ, ◌+◌, ◌-◌, ◌^◌, ◌≤◌, List, [], ◌∷◌, length, min, Option, Some, None, nat_le, if◌then◌else◌}
+use Rattle.std.specs.Prelude.{◌≡◌, ◌⊎◌, ℕ, ◌+◌, ◌-◌, ◌^◌, ◌<◌, ◌≤◌, List, [], ◌∷◌, length, min, Option, Some, None, nat_le, if◌then◌else◌}
 use Rattle.block_disk.specs.Bytes.{spliced}
 use Rattle.block_disk.specs.Device.{Range, Moment, Device, range_of}
 
@@ -82,14 +82,24 @@ failed m = record m { failures = min (m.failures + 1) (2 ^ 64 - 1); fails_in = n
 abbrev pub stopped : Stop → Memory → Memory
 stopped stop m = record m { stops = stop ∷ m.stops }
 
--- a write of n bytes fails: it is a stop only where it was chosen to fail and lies within the disk
-abbrev pub FailsWrite : ℕ → ℕ → Memory → Memory → Type 0
-FailsWrite at n old new =
-    (new ≡ failed old) ⊎ (IsDue old × (at + n ≤ length (bytes_after old.first old.stops)) × (new ≡ stopped (WriteFailed at n) (failed old)))
+-- the disk once a call that was chosen to fail couldn't be kept: it has failed, and the next call is the one to fail
+abbrev pub put_off : Memory → Memory
+put_off m = record m { failures = min (m.failures + 1) (2 ^ 64 - 1) }
 
--- a sync fails: it is a stop only where it was chosen to fail
-abbrev pub FailsSync : Memory → Memory → Type 0
-FailsSync old new = (new ≡ failed old) ⊎ (IsDue old × (new ≡ stopped SyncFailed (failed old)))
+-- a call that was chosen to fail has failed: it is this stop; where that can't be kept, the next call is chosen
+abbrev pub FailsAsChosen : Stop → Memory → Memory → Type 0
+FailsAsChosen stop old new = (new ≡ stopped stop (failed old)) ⊎ (new ≡ put_off old)
+
+-- a write of n bytes fails: as it was chosen to, or because it can't be kept; beyond the disk it is no stop
+pub record FailsWrite (at n : ℕ) (old new : Memory) : Type 0 where
+  pub wanting : (IsDue old → ⊥) → new ≡ failed old
+  pub beyond : IsDue old → length (bytes_after old.first old.stops) < at + n → new ≡ failed old
+  pub chosen : IsDue old → at + n ≤ length (bytes_after old.first old.stops) → FailsAsChosen (WriteFailed at n) old new
+
+-- a sync fails: as it was chosen to, or because it can't be kept
+pub record FailsSync (old new : Memory) : Type 0 where
+  pub wanting : (IsDue old → ⊥) → new ≡ failed old
+  pub chosen : IsDue old → FailsAsChosen SyncFailed old new
 
 -- the stop lies within a disk of this size
 abbrev pub Fits : ℕ → Stop → Type 0

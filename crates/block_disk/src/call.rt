@@ -4,7 +4,7 @@ ghost use Rattle.block_disk.specs.Bytes.{spliced};
 ghost use Rattle.block_disk.specs.Calls.{AllFit, stop_of, stops_of};
 ghost use Rattle.block_disk.specs.Memory.{Fits, Synced, WriteFailed, Wrote, bytes_after};
 
-use crate::place::{lies_within, overwrite};
+use crate::place::overwrite;
 use std::alloc::Global;
 
 /// A write or a sync that was asked for. One that failed stored or fixed nothing.
@@ -47,24 +47,6 @@ pub fn keep_write(alloc: Global, calls: &mut Vec<Call>, at: u64, bytes: &[u8]) -
         Ok(bytes) => keep(calls, Call::Write { at, bytes }),
         Err(_) => false,
     }
-}
-
-/// Keeps a write that failed, if it lies within a disk of this size and there is memory for it.
-pub fn keep_failed_write(calls: &mut Vec<Call>, at: u64, len: usize, size: usize) -> bool
-    ensures kept { stops_of calls.new.items ≡ (if result then WriteFailed at len ∷ stops_of calls.old.items else stops_of calls.old.items) }
-    ensures within { IsTrue result → at + len ≤ size }
-    ensures fits { AllFit size calls.old.items → AllFit size calls.new.items }
-{
-    if !lies_within(at, len, size) {
-        return false;
-    }
-    keep(
-        calls,
-        Call::FailedWrite {
-            at,
-            len: len as u64,
-        },
-    )
 }
 
 // Stores what the call wrote.

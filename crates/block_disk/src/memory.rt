@@ -1,5 +1,5 @@
 //! A disk in memory.
-ghost use Rattle.std.specs.Prelude.{◌≡◌, ◌⊎◌, ◌+◌, ◌<◌, ◌≤◌, ◌↔◌, IsTrue, length, replicate, OnOk, OnErr, IfOk, IfSome, IsSome, IsErrOf, Some};
+ghost use Rattle.std.specs.Prelude.{◌≡◌, ◌⊎◌, ◌+◌, ◌<◌, ◌≤◌, ◌↔◌, IsTrue, length, replicate, OnOk, OnErr, IfOk, IfSome, IsSome, IsErrOf, Some, if◌then◌else◌};
 ghost use Rattle.block_disk.specs.Bytes.{part, spliced};
 ghost use Rattle.block_disk.specs.Calls.{stops_of};
 ghost use Rattle.block_disk.specs.Crash.{crash_bytes, done_at, LeftSinceStop};
@@ -7,7 +7,7 @@ ghost use Rattle.block_disk.specs.Device.{Image, written, synced, HasFailed, Sam
 ghost use Rattle.block_disk.specs.Memory.{Wrote, Synced, fresh, bytes_after, moment_after, device_of, IsDue, next_failure, called, failed, stopped, FailsWrite, FailsSync};
 ghost use Rattle.block_disk.specs.declared.error.DiskError.TheVariants.{Fault, OutOfRange};
 
-use crate::call::{Call, keep, keep_failed_write, keep_write};
+use crate::call::{Call, keep, keep_write};
 use crate::crash::{Fill, image_at};
 use crate::error::fail;
 use crate::place::{copy_out, lies_within, overwrite};
@@ -18,7 +18,8 @@ use std::marker::Model;
 /// A disk in memory, which shows each crash that might have come since it was made.
 ///
 /// It keeps its first bytes and each write and sync, so its memory grows with the bytes that are written. Where there is
-/// no memory for one more call, that call answers `Fault`, has done nothing, and is no stop.
+/// no memory for one more call, that call answers `Fault`, has done nothing, and is no stop; if it was chosen to fail, the
+/// call after it is chosen.
 #[derive(Drop)]
 pub struct MemDisk {
     alloc: Global,
@@ -100,7 +101,8 @@ impl MemDisk {
     }
 
     /// Makes the `k`-th call from now on answer `Fault`, once, in place of any call chosen before. Reads, writes and
-    /// syncs count, and so does one out of range.
+    /// syncs count, and so does one out of range. A write within the disk and a sync that fail so are stops, always: one
+    /// for which there is no memory fails too, and leaves the choice to the call after it.
     pub fn fail_call(&mut self, k: u64)
         requires { 1 ≤ k }
         ensures { self.new ≡ record self.old { fails_in = Some k } }
@@ -141,7 +143,8 @@ impl Disk for MemDisk {
     }
 
     /// Answers `Fault` where this call was chosen to fail, and where it lies within the disk and can't be kept. Nothing
-    /// is stored then; if the call was chosen to fail, lies within the disk and could be kept, it is a stop.
+    /// is stored then; if the call was chosen to fail and lies within the disk, it is a stop, or the call after it is
+    /// chosen.
     fn write_at(&mut self, at: u64, bytes: &[u8]) -> Result<(), DiskError>
         ensures in_range { OnOk result (at + length bytes.now ≤ length (device_of self.old).now.bytes) }
         ensures ok { OnOk result (device_of self.new ≡ written at bytes.now (device_of self.old)) }
@@ -156,12 +159,18 @@ impl Disk for MemDisk {
         ensures stopped { OnOk result (self.new ≡ stopped (Wrote at bytes.now) (called self.old)) }
         ensures failed { IsErrOf result Fault → FailsWrite at (length bytes.now) self.old self.new }
     {
-        if is_due(&mut self.fails_in) {
-            keep_failed_write(&mut self.calls, at, bytes.len(), self.bytes.len());
-            return Err(fail(&mut self.failures));
-        }
+        let due = is_due(&mut self.fails_in);
         if !lies_within(at, bytes.len(), self.bytes.len()) {
+            if due {
+                return Err(fail(&mut self.failures));
+            }
             return Err(DiskError::OutOfRange);
+        }
+        if due {
+            let len = bytes.len() as u64;
+            let kept = keep(&mut self.calls, Call::FailedWrite { at, len });
+            put_off_unless(kept, &mut self.fails_in);
+            return Err(fail(&mut self.failures));
         }
         if !keep_write(self.alloc, &mut self.calls, at, bytes) {
             return Err(fail(&mut self.failures));
@@ -170,8 +179,8 @@ impl Disk for MemDisk {
         Ok(())
     }
 
-    /// Answers `Fault` where this call was chosen to fail, and where it can't be kept; in the first case, if it could be
-    /// kept, it is a stop.
+    /// Answers `Fault` where this call was chosen to fail, and where it can't be kept; in the first case it is a stop, or
+    /// the call after it is chosen.
     fn sync(&mut self) -> Result<(), DiskError>
         ensures ok { OnOk result (device_of self.new ≡ synced (device_of self.old)) }
         ensures in_range { ¬ IsErrOf result OutOfRange }
@@ -182,7 +191,8 @@ impl Disk for MemDisk {
         ensures failed { IsErrOf result Fault → FailsSync self.old self.new }
     {
         if is_due(&mut self.fails_in) {
-            keep(&mut self.calls, Call::FailedSync);
+            let kept = keep(&mut self.calls, Call::FailedSync);
+            put_off_unless(kept, &mut self.fails_in);
             return Err(fail(&mut self.failures));
         }
         if !keep(&mut self.calls, Call::Sync) {
@@ -207,6 +217,15 @@ fn is_due(fails_in: &mut Option<u64>) -> bool
         _ => None,
     };
     due
+}
+
+// The next call is the one to fail, unless the one that was chosen was kept.
+fn put_off_unless(kept: bool, fails_in: &mut Option<u64>)
+    ensures { fails_in.new ≡ (if kept then fails_in.old else Some 1) }
+{
+    if !kept {
+        *fails_in = Some(1);
+    }
 }
 
 // Puts these bytes at `at`.
