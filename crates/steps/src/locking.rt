@@ -1,6 +1,6 @@
 //! Looking at monitors, taking and leaving them, thin or fat (JLS 17.1).
 
-ghost use Rattle.std.specs.Prelude.{◌≡◌, ◌+◌, ◌-◌, ◌<◌, ◌≤◌, [], ◌∷◌, Some, None, MatchResult, MatchOption};
+ghost use Rattle.std.specs.Prelude.{◌≡◌, ◌+◌, ◌-◌, ◌<◌, ◌≤◌, [], ◌∷◌, Some, None, MatchResult, MatchOption, IfOk};
 ghost use Rattle.heap_model.specs.declared.event.Event.TheVariants as event;
 ghost use Rattle.lock_word.specs.declared.lock_word.Shape.TheVariants.{Thin};
 ghost use Rattle.lock_word.specs.declared.fat_word.FatShape.TheVariants.{Held};
@@ -65,6 +65,7 @@ pub fn try_take(
     ensures seat { IsSeatOf shared.now seat.new }
     ensures clear { IsClear (view seat.new) }
     ensures told { MatchResult result (Takes (view seat.old) (view seat.new) (event.Enter object number) object 1 number) (Misses (view seat.old) (view seat.new) object number) }
+    ensures slot { IfOk result (λ g. g.slot ≡ slot) }
     ensures grips { KeepsOthers (view seat.old) (view seat.new) object.0 }
 {
     match slot {
@@ -104,6 +105,7 @@ pub fn nest(shared: &Shared, seat: &mut Seat, grip: Grip) -> Grip
     ensures seat { IsSeatOf shared.now seat.new }
     ensures clear { IsClear (view seat.new) }
     ensures told { Takes (view seat.old) (view seat.new) (event.NestedEnter grip.object) grip.object (grip.count + 1) grip.number result }
+    ensures slot { result.slot ≡ grip.slot }
     ensures grips { KeepsOthers (view seat.old) (view seat.new) grip.object.0 }
 {
     match grip.slot {
@@ -139,6 +141,7 @@ pub fn unnest(shared: &Shared, seat: &mut Seat, grip: Grip) -> Grip
     ensures seat { IsSeatOf shared.now seat.new }
     ensures clear { IsClear (view seat.new) }
     ensures told { Takes (view seat.old) (view seat.new) (event.NestedExit grip.object) grip.object (grip.count - 1) grip.number result }
+    ensures slot { result.slot ≡ grip.slot }
     ensures grips { KeepsOthers (view seat.old) (view seat.new) grip.object.0 }
 {
     match grip.slot {

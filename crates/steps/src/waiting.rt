@@ -1,6 +1,6 @@
 //! The steps of a wait (JLS 17.2.1).
 
-ghost use Rattle.std.specs.Prelude.{◌≡◌, ◌<◌, ◌≤◌, [], ◌∷◌, Some, None, MatchResult, MatchBool, ℕ};
+ghost use Rattle.std.specs.Prelude.{◌≡◌, ◌<◌, ◌≤◌, [], ◌∷◌, Some, None, MatchResult, MatchBool, IfOk, ℕ};
 ghost use Rattle.heap_model.specs.declared.event.Event.TheVariants as event;
 ghost use Rattle.heap_model.specs.declared.event.Sight.TheVariants.{StillInSet};
 ghost use Rattle.steps.specs.Views.{view, plan, IsSeatOf, Keeps, KeepsEach, KeepsOthers, Lengthens, IsClear, IsAwake, IsPaused, IsRemoved, Takes, Misses, IsSlot, hold};
@@ -65,6 +65,7 @@ pub fn try_retake(
     ensures seat { IsSeatOf shared.now seat.new }
     ensures mark { MatchResult result (λ _. IsClear (view seat.new)) (λ _. IsRemoved (view seat.new) object) }
     ensures told { MatchResult result (Takes (view seat.old) (view seat.new) (event.Resume object number) object count number) (Misses (view seat.old) (view seat.new) object number) }
+    ensures slot { IfOk result (λ g. g.slot ≡ Some slot) }
     ensures grips { KeepsOthers (view seat.old) (view seat.new) object.0 }
 {
     match shared.try_resume(seat, object, slot, (count - 1) as u16, number) {
