@@ -29,6 +29,7 @@ use Rattle.monitor.specs.Kinds.{Sat, turns, object_at, looked, IsNews, looks, ta
 use Rattle.monitor.proofs.Spread.{with_here, with_else}
 use Rattle.monitor.proofs.Histories.{by_none}
 use Rattle.monitor.proofs.Bits.{one_slot}
+use Rattle.monitor.proofs.Facts.{Reads, reads_none}
 use Rattle.monitor.proofs.Facts as facts
 use Rattle.monitor.proofs.Turns.{Turned, Now, Paid, Owes}
 use Rattle.monitor.proofs.Quiet.{quiet_none, stays_quiet, IsThin, thin_names_none, one_owner, marked_calm, waits_kept}
@@ -72,8 +73,8 @@ truth_fattened k l v w s o i m lt names = record {
 }
 
 -- a load with no event, after which the view knows more
-pub learning : (k : Plan) (m : Sat) (l : Lane) (w : Words) (s : State) (views : List View) (u : View) (shown : Sat → Type 0) → Now k l m.0 w s views → Turned m.0 [] u → Truth k w s u l → m.0.claim ≡ u.claim → m.0.seen ≤ u.seen → (Stands u → shown (u, m.1)) → Paid k m l w w s shown
-learning k m l w s views u shown f turn truth claim seen says = record {
+pub learning : (k : Plan) (m : Sat) (l : Lane) (w : Words) (s : State) (views : List View) (u : View) (shown : Sat → Type 0) → Now k l m.0 w s views → Turned m.0 [] u → Truth k w s u l → Reads w m.0 u → m.0.claim ≡ u.claim → m.0.seen ≤ u.seen → (Stands u → shown (u, m.1)) → Paid k m l w w s shown
+learning k m l w s views u shown f turn truth reads claim seen says = record {
   events = [];
   view = u;
   turned = turn;
@@ -88,6 +89,7 @@ learning k m l w s views u shown f turn truth claim seen says = record {
     claim = λ i c. inl (ap Rattle.monitor.specs.Views.slot_claimed claim ∙ c);
     counts = facts.same refl seen;
     posts = λ p. refl;
+    reads = reads;
   };
   told = says;
 }
@@ -99,7 +101,7 @@ looking k m l w s views o (Free n) shown f clear lt is shows says = let e : Even
 looking k m l w s views o (Thin t a n) shown f clear lt is shows says = let e : Event = Look (object_at o) (Found (Some (record { 0 = t - 1 })) (a + 1) n) in
     telling k m l w s views e shown f clear shows lt refl (λ st. says (told m.0 e, m.1) (news k l m.0 w s o (Thin t a n) f.truth tt is) (refl, st, refl))
 looking k m l w s views o (Fat i n) shown f clear lt is shows says = let u : View = fattened m.0 (object_at o) i in
-    learning k m l w s views u shown f (record { plan = refl; role = refl; gathered = refl; events = refl }) (truth_fattened k l m.0 w s (object_at o) i f.truth lt (n, is)) refl (let z : m.0.seen ≤ m.0.seen = omega arith in z) (λ st. says (u, m.1) (
+    learning k m l w s views u shown f (record { plan = refl; role = refl; gathered = refl; events = refl }) (truth_fattened k l m.0 w s (object_at o) i f.truth lt (n, is)) (reads_none w m.0 u refl) refl (let z : m.0.seen ≤ m.0.seen = omega arith in z) (λ st. says (u, m.1) (
       (λ none. ⊎_elim (λ (e : (own m.0.events).hold o ≡ None). e) (λ (h : (x : Hold) × ((own m.0.events).hold o ≡ Some x)). absurd (f.truth.thin o i lt (f.held o h.0 h.1).0 none (n, is))) (hold_cases ((own m.0.events).hold o))),
       (λ j e. one_slot w.lock o i j (n, is) (f.truth.fat o j e).1),
     )
