@@ -2,7 +2,7 @@
 
 ghost use Rattle.std.specs.Prelude.{◌≡◌, ◌<◌, [], ◌∷◌};
 ghost use Rattle.heap_model.specs.declared.event.Event.TheVariants as event;
-ghost use Rattle.steps.specs.Views.{view, plan, IsSeatOf, KeepsEach, Lengthens, IsClear, IsAwake, IsHeld};
+ghost use Rattle.steps.specs.Views.{view, plan, IsSeatOf, KeepsEach, KeepsWords, Lengthens, IsClear, IsAwake, IsHeld};
 
 use heap_model::{FieldId, ObjectId};
 use monitor::{Seat, Shared};
@@ -17,6 +17,7 @@ pub fn read_field(shared: &Shared, seat: &mut Seat, field: FieldId) -> u64
     ensures clear { IsClear (view seat.new) }
     ensures told { Lengthens (view seat.old) (view seat.new) (event.Load field result ∷ []) }
     ensures grips { KeepsEach (view seat.old) (view seat.new) }
+    ensures words { KeepsWords (view seat.old) (view seat.new) }
 {
     shared.read_field(seat, field)
 }
@@ -31,6 +32,7 @@ pub fn write_field(shared: &Shared, seat: &mut Seat, field: FieldId, value: u64)
     ensures clear { IsClear (view seat.new) }
     ensures told { Lengthens (view seat.old) (view seat.new) (event.Store field result value ∷ []) }
     ensures grips { KeepsEach (view seat.old) (view seat.new) }
+    ensures words { KeepsWords (view seat.old) (view seat.new) }
 {
     shared.write_field(seat, field, value)
 }
