@@ -1,6 +1,6 @@
 //! The words that only rise: the count of fat slots, and the published numbers.
 
-ghost use Rattle.std.specs.Prelude.{◌≡◌, ◌≤◌, [], false};
+ghost use Rattle.std.specs.Prelude.{◌≡◌, ◌<◌, ◌≤◌, [], true, false};
 ghost use Rattle.steps.specs.Views.{view, IsSeatOf, KeepsEach, KeepsWords, Lengthens};
 
 use lock_word::FAT_SLOTS;
@@ -12,6 +12,7 @@ pub fn has_slot(shared: &Shared, seat: &mut Seat) -> bool
     ensures seat { IsSeatOf shared.now seat.new }
     ensures mark { (view seat.new).mark ≡ (view seat.old).mark }
     ensures told { Lengthens (view seat.old) (view seat.new) [] }
+    ensures some { result ≡ true → (view seat.new).slots < FAT_SLOTS }
     ensures none { result ≡ false → FAT_SLOTS ≤ (view seat.new).slots }
     ensures grips { KeepsEach (view seat.old) (view seat.new) }
     ensures words { KeepsWords (view seat.old) (view seat.new) }
