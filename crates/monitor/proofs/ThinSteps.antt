@@ -21,7 +21,7 @@ use Rattle.heap_model.proofs.Own.{by_test}
 use Rattle.monitor.specs.declared.view.Plan.{Plan}
 use Rattle.monitor.specs.declared.view.View.{View}
 use Rattle.monitor.specs.Words.{objects, LockAt, Words}
-use Rattle.monitor.specs.Views.{slot_of, told, fattened, IsClear, IsAwake, Holds, Stands}
+use Rattle.monitor.specs.Views.{slot_of, word_of, told, fattened, IsClear, IsAwake, Holds, Stands}
 use Rattle.lock_word.specs.Spelling.{Spells, Shows}
 use Rattle.lock_word.proofs.Spelled.{spelled_once}
 use Rattle.monitor.specs.Rule.{in_set, Waits, Names, Truth}
@@ -29,6 +29,7 @@ use Rattle.monitor.specs.Kinds.{Sat, turns, object_at, looked, IsNews, looks, ta
 use Rattle.monitor.proofs.Spread.{with_here, with_else}
 use Rattle.monitor.proofs.Histories.{by_none}
 use Rattle.monitor.proofs.Bits.{one_slot}
+use Rattle.monitor.proofs.Facts.{Reads, reads_none}
 use Rattle.monitor.proofs.Facts as facts
 use Rattle.monitor.proofs.Turns.{Turned, Now, Paid, Owes}
 use Rattle.monitor.proofs.Quiet.{quiet_none, stays_quiet, IsThin, thin_names_none, one_owner, marked_calm, waits_kept}
@@ -54,12 +55,17 @@ not_none i e = absurd cc
 pub same_slot : (i j : ℕ) → ◌≡◌ {A = Option ℕ} (Some i) (Some j) → i ≡ j
 same_slot i j e = let slot : Option ℕ → ℕ = λ x. elim x [ None ↦ i | Some y ↦ y ] in ap slot e
 
-pub truth_fattened : (k : Plan) (l : Lane) (v : View) (w : Words) (s : State) (o : ObjectId) (i : ℕ) → Truth k w s v l → o.0 < objects k → Names w.lock o.0 i → Truth k w s (fattened v o i) l
-truth_fattened k l v w s o i m lt names = record {
+pub same_word : (x y : Shape) → ◌≡◌ {A = Option Shape} (Some x) (Some y) → x ≡ y
+same_word x y e = let word : Option Shape → Shape = λ z. elim z [ None ↦ x | Some a ↦ a ] in ap word e
+
+pub truth_fattened : (k : Plan) (l : Lane) (v : View) (w : Words) (s : State) (o : ObjectId) (i n : ℕ) → Truth k w s v l → o.0 < objects k → Spells (w.lock o.0) (Fat i n) → Truth k w s (fattened v o i n) l
+truth_fattened k l v w s o i n m lt is = record {
   planned = m.planned;
   lane = m.lane;
   fat = λ p j. by_test o.0 p (λ b. ◌≡◌ {A = Option ℕ} (if b then Some i else slot_of p v.fats) (Some j) → (p < objects k) × Names w.lock p j)
-      (λ is e. subst (λ (z : ℕ). (z < objects k) × Names w.lock z j) is (lt, subst (Names w.lock o.0) (same_slot i j e) names)) (λ ne e. m.fat p j e);
+      (λ at e. subst (λ (z : ℕ). (z < objects k) × Names w.lock z j) at (lt, (n, subst (λ (z : ℕ). Spells (w.lock o.0) (Fat z n)) (same_slot i j e) is))) (λ ne e. m.fat p j e);
+  word = λ p j c. by_test o.0 p (λ b. ◌≡◌ {A = Option Shape} (if b then Some (Fat i n) else word_of p v.fats) (Some (Fat j c)) → (p < objects k) × Spells (w.lock p) (Fat j c))
+      (λ at e. subst (λ (z : ℕ). (z < objects k) × Spells (w.lock z) (Fat j c)) at (lt, subst (Spells (w.lock o.0)) (same_word (Fat i n) (Fat j c) e) is)) (λ ne e. m.word p j c e);
   thin = λ p j lp own none h. by_test o.0 p (λ b. ◌≡◌ {A = Option ℕ} (if b then Some i else slot_of p v.fats) None → ⊥) (λ is e. not_none i e) (λ ne e. m.thin p j lp own e h) none;
   clear = m.clear;
   joined = m.joined;
@@ -72,8 +78,8 @@ truth_fattened k l v w s o i m lt names = record {
 }
 
 -- a load with no event, after which the view knows more
-pub learning : (k : Plan) (m : Sat) (l : Lane) (w : Words) (s : State) (views : List View) (u : View) (shown : Sat → Type 0) → Now k l m.0 w s views → Turned m.0 [] u → Truth k w s u l → m.0.claim ≡ u.claim → m.0.seen ≤ u.seen → (Stands u → shown (u, m.1)) → Paid k m l w w s shown
-learning k m l w s views u shown f turn truth claim seen says = record {
+pub learning : (k : Plan) (m : Sat) (l : Lane) (w : Words) (s : State) (views : List View) (u : View) (shown : Sat → Type 0) → Now k l m.0 w s views → Turned m.0 [] u → Truth k w s u l → Reads w m.0 u → m.0.claim ≡ u.claim → m.0.seen ≤ u.seen → (Stands u → shown (u, m.1)) → Paid k m l w w s shown
+learning k m l w s views u shown f turn truth reads claim seen says = record {
   events = [];
   view = u;
   turned = turn;
@@ -88,6 +94,7 @@ learning k m l w s views u shown f turn truth claim seen says = record {
     claim = λ i c. inl (ap Rattle.monitor.specs.Views.slot_claimed claim ∙ c);
     counts = facts.same refl seen;
     posts = λ p. refl;
+    reads = reads;
   };
   told = says;
 }
@@ -98,10 +105,11 @@ looking k m l w s views o (Free n) shown f clear lt is shows says = let e : Even
     telling k m l w s views e shown f clear shows lt refl (λ st. says (told m.0 e, m.1) (news k l m.0 w s o (Free n) f.truth tt is) (refl, st, refl))
 looking k m l w s views o (Thin t a n) shown f clear lt is shows says = let e : Event = Look (object_at o) (Found (Some (record { 0 = t - 1 })) (a + 1) n) in
     telling k m l w s views e shown f clear shows lt refl (λ st. says (told m.0 e, m.1) (news k l m.0 w s o (Thin t a n) f.truth tt is) (refl, st, refl))
-looking k m l w s views o (Fat i n) shown f clear lt is shows says = let u : View = fattened m.0 (object_at o) i in
-    learning k m l w s views u shown f (record { plan = refl; role = refl; gathered = refl; events = refl }) (truth_fattened k l m.0 w s (object_at o) i f.truth lt (n, is)) refl (let z : m.0.seen ≤ m.0.seen = omega arith in z) (λ st. says (u, m.1) (
+looking k m l w s views o (Fat i n) shown f clear lt is shows says = let u : View = fattened m.0 (object_at o) i n in
+    learning k m l w s views u shown f (record { plan = refl; role = refl; gathered = refl; events = refl }) (truth_fattened k l m.0 w s (object_at o) i n f.truth lt is) (reads_none w m.0 u refl) refl (let z : m.0.seen ≤ m.0.seen = omega arith in z) (λ st. says (u, m.1) (
       (λ none. ⊎_elim (λ (e : (own m.0.events).hold o ≡ None). e) (λ (h : (x : Hold) × ((own m.0.events).hold o ≡ Some x)). absurd (f.truth.thin o i lt (f.held o h.0 h.1).0 none (n, is))) (hold_cases ((own m.0.events).hold o))),
       (λ j e. one_slot w.lock o i j (n, is) (f.truth.fat o j e).1),
+      (λ j c e. spelled_once (w.lock o) (Fat i n) (Fat j c) is (f.truth.word o j c e).1),
     )
     (refl, st, refl))
 

@@ -3,7 +3,7 @@
 ghost use Rattle.std.specs.Prelude.{◌≡◌, ◌<◌, ℕ, Some};
 ghost use Rattle.monitor.specs.Words.{fields, setting_of};
 ghost use Rattle.monitor.specs.Views.{told, IsAwake, IsClear};
-ghost use Rattle.monitor.specs.Cells.{known_value};
+ghost use Rattle.heap_model.specs.Known.{known_value};
 ghost use Rattle.monitor.specs.Seats.{IsSeatOf, IsHeld};
 
 use crate::seat::Seat;
@@ -39,7 +39,7 @@ impl Shared {
         requires held { IsHeld seat.old.view ((setting_of self.now.plan).guard field.0) }
         ensures seat { IsSeatOf self.now seat.new }
         ensures told { seat.new.view ≡ told seat.old.view (Event.Load field result) }
-        ensures known { (value : ℕ) → known_value (setting_of self.now.plan).guard field.0 seat.old.view.events ≡ Some value → result ≡ value }
+        ensures known { (value : ℕ) → known_value (setting_of self.now.plan) seat.old.view.events field.0 ≡ Some value → result ≡ value }
     {
         let place = self.field_place(field);
         self.table.shared.load::<Reads>(&mut seat.seat, place)

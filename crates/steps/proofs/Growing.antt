@@ -13,17 +13,18 @@ use Rattle.lock_word.specs.declared.lock_word.Shape.TheVariants as thin
 use Rattle.lock_word.specs.declared.fat_word.FatShape.{FatShape}
 use Rattle.lock_word.specs.declared.fat_word.FatShape.TheVariants as fat
 use Rattle.monitor.specs.declared.view.View as raw
+use Rattle.monitor.specs.declared.view.Named.{Named}
 use Rattle.monitor.specs.declared.view.Mark.{Mark}
 use Rattle.monitor.specs.declared.view.Mark.TheVariants.{Clear, Joined, Knows, Removed}
 use Rattle.monitor.specs.Words.{SLOTS, setting_of}
-use Rattle.monitor.specs.Views.{calm, noted, slot_of, lane_of, told, resumed, fattened, counted, joined, removed, keeping, Stands}
+use Rattle.monitor.specs.Views.{calm, noted, slot_of, word_of, lane_of, told, resumed, fattened, counted, joined, removed, keeping, Stands}
 use Rattle.monitor.specs.Views as raw_views
 use Rattle.lock_word.specs.Spelling.{lane_of_thread, slot_named, fat_sight, sight_of}
 use Rattle.monitor.specs.Kinds.{looked, IsNews}
 use Rattle.monitor.specs.Seats.{Home, Sitting}
 use Rattle.monitor.specs.Seats as raw_seats
 use Rattle.steps.specs.declared.grip.Grip.{Grip}
-use Rattle.steps.specs.Views.{View, shown, plan, IsReady, IsSeatOf, hold, slot_in, Keeps, KeepsEach, KeepsOthers, Lengthens, AgreesWith, Misses}
+use Rattle.steps.specs.Views.{View, shown, plan, IsReady, IsSeatOf, hold, slot_in, Keeps, KeepsEach, KeepsOthers, Lengthens, KeepsWords, IsLasting, AgreesWith, Misses}
 use Rattle.steps.specs.declared.grip.Seen.TheVariants as seen
 use Rattle.monitor.proofs.CellLaws.{sight_law, look_law}
 
@@ -77,8 +78,8 @@ ready_kept v w p n is ready = subst IsReady (sym is) (record { mark = ready.mark
 pub ready_removed : (v w : raw.View) (o : ObjectId) → w ≡ removed v o → IsReady v → IsReady w
 ready_removed v w o is ready = subst IsReady (sym is) (record { mark = refl; claim = ready.claim; slots = ready.slots })
 
-pub ready_fattened : (v w : raw.View) (o : ObjectId) (i : ℕ) → w ≡ fattened v o i → i < SLOTS → IsReady v → IsReady w
-ready_fattened v w o i is low ready = subst IsReady (sym is) (record {
+pub ready_fattened : (v w : raw.View) (o : ObjectId) (i n : ℕ) → w ≡ fattened v o i n → i < SLOTS → IsReady v → IsReady w
+ready_fattened v w o i n is low ready = subst IsReady (sym is) (record {
   mark = ready.mark;
   claim = ready.claim;
   slots = λ p j. by_test o.0 p (λ b. ◌≡◌ {A = Option ℕ} (if b then Some i else slot_of p v.fats) (Some j) → j < SLOTS)
@@ -103,8 +104,8 @@ after_counted v w n is low = subst (λ (x : raw.View). Lengthens (shown v) (show
 IsOnly : raw.View → ObjectId → ℕ → Type 0
 IsOnly v o i = (j : ℕ) → slot_of o.0 v.fats ≡ Some j → i ≡ j
 
-pub after_fattened : (v w : raw.View) (o : ObjectId) (i : ℕ) → w ≡ fattened v o i → ((j : ℕ) → slot_of o.0 v.fats ≡ Some j → i ≡ j) → Lengthens (shown v) (shown w) []
-after_fattened v w o i is only = subst (λ (x : raw.View). Lengthens (shown v) (shown x) []) (sym is) (record {
+pub after_fattened : (v w : raw.View) (o : ObjectId) (i n : ℕ) → w ≡ fattened v o i n → ((j : ℕ) → slot_of o.0 v.fats ≡ Some j → i ≡ j) → Lengthens (shown v) (shown w) []
+after_fattened v w o i n is only = subst (λ (x : raw.View). Lengthens (shown v) (shown x) []) (sym is) (record {
   events = refl;
   plan = refl;
   lane = refl;
@@ -172,21 +173,21 @@ each_removed v w o is = subst (λ (x : raw.View). KeepsEach (shown v) (shown x))
 pub each_kept : (v w : raw.View) (p n : ℕ) → w ≡ keeping v p n → KeepsEach (shown v) (shown w)
 each_kept v w p n is = subst (λ (x : raw.View). KeepsEach (shown v) (shown x)) (sym is) (λ g m. kept (shown v) (shown (keeping v p n)) g refl refl refl m)
 
-slot_fattened : (v : raw.View) (o : ObjectId) (i p : ℕ) → o.0 ≢ p → slot_of p (fattened v o i).fats ≡ slot_of p v.fats
-slot_fattened v o i p ne = by_test o.0 p (λ b. (if b then Some i else slot_of p v.fats) ≡ slot_of p v.fats) (λ e. absurd (ne e)) (λ _. refl)
+slot_fattened : (v : raw.View) (o : ObjectId) (i n p : ℕ) → o.0 ≢ p → slot_of p (fattened v o i n).fats ≡ slot_of p v.fats
+slot_fattened v o i n p ne = by_test o.0 p (λ b. (if b then Some i else slot_of p v.fats) ≡ slot_of p v.fats) (λ e. absurd (ne e)) (λ _. refl)
 
-pub slot_here : (v : raw.View) (o : ObjectId) (i : ℕ) → slot_of o.0 (fattened v o i).fats ≡ Some i
-slot_here v o i = by_test o.0 o.0 (λ b. (if b then Some i else slot_of o.0 v.fats) ≡ Some i) (λ _. refl) (λ ne. absurd (ne refl))
+pub slot_here : (v : raw.View) (o : ObjectId) (i n : ℕ) → slot_of o.0 (fattened v o i n).fats ≡ Some i
+slot_here v o i n = by_test o.0 o.0 (λ b. (if b then Some i else slot_of o.0 v.fats) ≡ Some i) (λ _. refl) (λ ne. absurd (ne refl))
 
-pub others_fattened : (v w : raw.View) (o : ObjectId) (i : ℕ) → w ≡ fattened v o i → KeepsOthers (shown v) (shown w) o.0
-others_fattened v w o i is = subst (λ (x : raw.View). KeepsOthers (shown v) (shown x) o.0) (sym is) (λ g ne m. kept (shown v) (shown (fattened v o i)) g refl refl (slot_fattened v o i g.object.0 (λ e. ne (sym e))) m)
+pub others_fattened : (v w : raw.View) (o : ObjectId) (i n : ℕ) → w ≡ fattened v o i n → KeepsOthers (shown v) (shown w) o.0
+others_fattened v w o i n is = subst (λ (x : raw.View). KeepsOthers (shown v) (shown x) o.0) (sym is) (λ g ne m. kept (shown v) (shown (fattened v o i n)) g refl refl (slot_fattened v o i n g.object.0 (λ e. ne (sym e))) m)
 
 option_cases : (x : Option ℕ) → (x ≡ None) ⊎ ((j : ℕ) × (x ≡ Some j))
 option_cases None = inl refl
 option_cases (Some j) = inr (j, refl)
 
-pub each_fattened : (v w : raw.View) (o : ObjectId) (i n : ℕ) → w ≡ fattened v o i → IsNews v o (thin.Fat i n) → KeepsEach (shown v) (shown w)
-each_fattened v w o i n is news = subst (λ (x : raw.View). KeepsEach (shown v) (shown x)) (sym is) (λ g m. kept (shown v) (shown (fattened v o i)) g refl refl
+pub each_fattened : (v w : raw.View) (o : ObjectId) (i n : ℕ) → w ≡ fattened v o i n → IsNews v o (thin.Fat i n) → KeepsEach (shown v) (shown w)
+each_fattened v w o i n is news = subst (λ (x : raw.View). KeepsEach (shown v) (shown x)) (sym is) (λ g m. kept (shown v) (shown (fattened v o i n)) g refl refl
     (by_test o.0 g.object.0 (λ b. (if b then Some i else slot_of g.object.0 v.fats) ≡ slot_of g.object.0 v.fats)
     (λ at. subst (λ (p : ℕ). Some i ≡ slot_of p v.fats) at (⊎_elim
     (λ (none : slot_of o.0 v.fats ≡ None). absurd (some_none (record { count = g.count; number = g.number }) (sym m.hold ∙ ap (own v.events).hold (sym at) ∙ news.0 none)))
@@ -258,7 +259,7 @@ not_own v o t a m st free me = some_none (record { count = a + 1; number = m }) 
 thin_missed : (v : raw.View) (o : ObjectId) (n : ℕ) (x : Shape) → IsNews v o x → Stands (looked v o x) → x ≢ thin.Free n → (own v.events).hold o.0 ≡ None → Misses (shown v) (shown (looked v o x)) o n (seen.Lock x)
 thin_missed v o n (thin.Free m) news st ne free = record { told = after_told v (looked v o (thin.Free m)) (Look o (Found None 0 m)) refl; another = λ e. ne (ap thin.Free e) }
 thin_missed v o n (thin.Thin t a m) news st ne free = record { told = after_told v (looked v o (thin.Thin t a m)) (Look o (Found (Some (record { 0 = t - 1 })) (a + 1) m)) refl; another = not_own v o t a m st free }
-thin_missed v o n (thin.Fat i m) news st ne free = record { told = after_fattened v (fattened v o i) o i refl news.1; another = slot_here v o i }
+thin_missed v o n (thin.Fat i m) news st ne free = record { told = after_fattened v (fattened v o i m) o i m refl news.1; another = slot_here v o i m }
 
 pub misses_thin : (v w : raw.View) (o : ObjectId) (n : ℕ) (x : Shape) → w ≡ looked v o x → IsNews v o x → Stands w → x ≢ thin.Free n → (own v.events).hold o.0 ≡ None → Misses (shown v) (shown w) o n (seen.Lock x)
 misses_thin v w o n x is news st ne free = subst (λ (z : raw.View). Misses (shown v) (shown z) o n (seen.Lock x)) (sym is) (thin_missed v o n x news (subst Stands is st) ne free)
@@ -269,3 +270,67 @@ fat_missed v o n (fat.Held t a m) st ne free = record { told = after_told v (tol
 
 pub misses_fat : (v w : raw.View) (o : ObjectId) (n : ℕ) (y : FatShape) → w ≡ told v (Look o (fat_sight y)) → Stands w → y ≢ fat.Free n → (own v.events).hold o.0 ≡ None → Misses (shown v) (shown w) o n (seen.Fat y)
 misses_fat v w o n y is st ne free = subst (λ (z : raw.View). Misses (shown v) (shown z) o n (seen.Fat y)) (sym is) (fat_missed v o n y (subst Stands is st) ne free)
+
+-- the lock words of fat monitors
+
+abbrev WordsOf : raw.View → raw.View → Type 0
+WordsOf v w = KeepsWords (shown v) (shown w)
+
+pub words_told : (v w : raw.View) (e : Event) → w ≡ told v e → WordsOf v w
+words_told v w e is = subst (WordsOf v) (sym is) (λ o x h. h)
+
+pub words_resumed : (v w : raw.View) (e : Event) → w ≡ resumed v e → WordsOf v w
+words_resumed v w e is = subst (WordsOf v) (sym is) (λ o x h. h)
+
+pub words_counted : (v w : raw.View) (n : ℕ) → w ≡ counted v n → WordsOf v w
+words_counted v w n is = subst (WordsOf v) (sym is) (λ o x h. h)
+
+pub words_removed : (v w : raw.View) (o : ObjectId) → w ≡ removed v o → WordsOf v w
+words_removed v w o is = subst (WordsOf v) (sym is) (λ p x h. h)
+
+pub words_joined : (v w : raw.View) (o : ObjectId) → w ≡ joined v o → WordsOf v w
+words_joined v w o is = subst (WordsOf v) (sym is) (λ p x h. h)
+
+pub words_kept : (v w : raw.View) (p n : ℕ) → w ≡ keeping v p n → WordsOf v w
+words_kept v w p n is = subst (WordsOf v) (sym is) (λ o x h. h)
+
+pub words_both : (v w x : View) → KeepsWords v w → KeepsWords w x → KeepsWords v x
+words_both v w x a b o y h = b o y (a o y h)
+
+some_shape : (a b : Shape) → ◌≡◌ {A = Option Shape} (Some a) (Some b) → a ≡ b
+some_shape a b e = let out : Option Shape → Shape = λ z. elim z [ None ↦ a | Some y ↦ y ] in ap out e
+
+-- the known word of an object is fat, and where one is known its slot is
+fat_known : (o : ℕ) (fats : List Named) (x : Shape) → word_of o fats ≡ Some x → (i : ℕ) × (n : ℕ) × (x ≡ thin.Fat i n) × (slot_of o fats ≡ Some i)
+fat_known o [] x e = absurd cc
+fat_known o (f ∷ fs) x e = by_test f.object.0 o (λ b. ◌≡◌ {A = Option Shape} (if b then Some (thin.Fat f.slot f.number) else word_of o fs) (Some x) → (i : ℕ) × (n : ℕ) × (x ≡ thin.Fat i n) × ((if b then Some f.slot else slot_of o fs) ≡ Some i))
+    (λ _ d. (f.slot, f.number, sym (some_shape (thin.Fat f.slot f.number) x d), refl)) (λ _ d. fat_known o fs x d) e
+
+word_here : (v : raw.View) (o : ObjectId) (i n : ℕ) → word_of o.0 (fattened v o i n).fats ≡ Some (thin.Fat i n)
+word_here v o i n = by_test o.0 o.0 (λ b. (if b then Some (thin.Fat i n) else word_of o.0 v.fats) ≡ Some (thin.Fat i n)) (λ _. refl) (λ ne. absurd (ne refl))
+
+-- the word that is found is the one that is known, if any
+words_fattened : (v : raw.View) (o : ObjectId) (i n : ℕ) → ((x : Shape) → word_of o.0 v.fats ≡ Some x → thin.Fat i n ≡ x) → WordsOf v (fattened v o i n)
+words_fattened v o i n only p x h = by_test o.0 p (λ b. ◌≡◌ {A = Option Shape} (if b then Some (thin.Fat i n) else word_of p v.fats) (Some x))
+    (λ at. ap Some (only x (ap (λ z. word_of z v.fats) at ∙ h))) (λ _. h)
+
+pub words_looked : (v w : raw.View) (o : ObjectId) (x : Shape) → w ≡ looked v o x → IsNews v o x → WordsOf v w
+words_looked v w o (thin.Free n) is news = words_told v w (Look o (Found None 0 n)) is
+words_looked v w o (thin.Thin t a n) is news = words_told v w (Look o (Found (Some (record { 0 = t - 1 })) (a + 1) n)) is
+words_looked v w o (thin.Fat i n) is news = subst (WordsOf v) (sym is) (words_fattened v o i n (λ x h. let k = fat_known o.0 v.fats x h in news.2 k.0 k.1 (h ∙ ap Some k.2) ∙ sym k.2))
+
+pub words_inflated : (v w : raw.View) (o : ObjectId) (c i n : ℕ) → slot_of o.0 v.fats ≡ None → w ≡ fattened (counted v c) o i n → WordsOf v w
+words_inflated v w o c i n none is = subst (WordsOf v) (sym is) (words_fattened (counted v c) o i n (λ x h. let k = fat_known o.0 v.fats x h in absurd (some_none k.0 (sym k.3 ∙ none))))
+
+lasts_at : (v : raw.View) (o : ObjectId) (x : Shape) → IsLasting (shown (looked v o x)) o x
+lasts_at v o (thin.Free n) = tt
+lasts_at v o (thin.Thin t a n) = tt
+lasts_at v o (thin.Fat i n) = word_here v o i n
+
+pub lasts_looked : (v w : raw.View) (o : ObjectId) (x : Shape) → w ≡ looked v o x → IsLasting (shown w) o x
+lasts_looked v w o x is = subst (λ (z : raw.View). IsLasting (shown z) o x) (sym is) (lasts_at v o x)
+
+pub lasts_still : (v w : View) (o : ObjectId) (x : Shape) → KeepsWords v w → IsLasting v o x → IsLasting w o x
+lasts_still v w o (thin.Free n) k h = tt
+lasts_still v w o (thin.Thin t a n) k h = tt
+lasts_still v w o (thin.Fat i n) k h = k o.0 (thin.Fat i n) h

@@ -1,13 +1,13 @@
 //! Looking at monitors, taking and leaving them, thin or fat (JLS 17.1).
 
-ghost use Rattle.std.specs.Prelude.{◌≡◌, ◌+◌, ◌-◌, ◌<◌, ◌≤◌, [], ◌∷◌, Some, None, MatchResult, MatchOption};
+ghost use Rattle.std.specs.Prelude.{◌≡◌, ◌+◌, ◌-◌, ◌<◌, ◌≤◌, [], ◌∷◌, Some, None, MatchResult, MatchOption, IfOk, IfErr};
 ghost use Rattle.heap_model.specs.declared.event.Event.TheVariants as event;
 ghost use Rattle.lock_word.specs.declared.lock_word.Shape.TheVariants.{Thin};
 ghost use Rattle.lock_word.specs.declared.fat_word.FatShape.TheVariants.{Held};
 ghost use Rattle.lock_word.specs.Spelling.{sight_of};
 ghost use Rattle.monitor.specs.Views.{lane_of};
 ghost use Rattle.monitor.specs.Seats.{HoldsThin, HoldsFat};
-ghost use Rattle.steps.specs.Views.{view, plan, IsSeatOf, Keeps, KeepsEach, KeepsOthers, Lengthens, IsClear, IsAwake, Takes, Misses, Fattens, IsWhole, AgreesWith, IsSlot, room_of, hold};
+ghost use Rattle.steps.specs.Views.{view, plan, IsSeatOf, Keeps, KeepsEach, KeepsOthers, KeepsWords, Lengthens, IsLasting, IsLastingSeen, IsClear, IsAwake, Takes, Misses, Fattens, IsWhole, AgreesWith, IsSlot, room_of, hold};
 
 use crate::grip::{Grip, Seen, Sighted};
 use heap_model::ObjectId;
@@ -23,7 +23,9 @@ pub fn look(shared: &Shared, seat: &mut Seat, object: ObjectId) -> Sighted
     ensures told { Lengthens (view seat.old) (view seat.new) (event.Look object (sight_of result.lock result.fat) ∷ []) }
     ensures whole { IsWhole (view seat.new) object result.lock result.fat }
     ensures agrees { AgreesWith (view seat.new) object (sight_of result.lock result.fat) }
+    ensures lasting { IsLasting (view seat.new) object result.lock }
     ensures grips { KeepsEach (view seat.old) (view seat.new) }
+    ensures words { KeepsWords (view seat.old) (view seat.new) }
 {
     monitor::sight_law();
     let lock = shared.look(seat, object);
@@ -65,7 +67,10 @@ pub fn try_take(
     ensures seat { IsSeatOf shared.now seat.new }
     ensures clear { IsClear (view seat.new) }
     ensures told { MatchResult result (Takes (view seat.old) (view seat.new) (event.Enter object number) object 1 number) (Misses (view seat.old) (view seat.new) object number) }
+    ensures slot { IfOk result (λ g. g.slot ≡ slot) }
+    ensures lasting { IfErr result (λ x. IsLastingSeen (view seat.new) object x) }
     ensures grips { KeepsOthers (view seat.old) (view seat.new) object.0 }
+    ensures words { KeepsWords (view seat.old) (view seat.new) }
 {
     match slot {
         None => match shared.try_take(seat, object, number) {
@@ -104,7 +109,9 @@ pub fn nest(shared: &Shared, seat: &mut Seat, grip: Grip) -> Grip
     ensures seat { IsSeatOf shared.now seat.new }
     ensures clear { IsClear (view seat.new) }
     ensures told { Takes (view seat.old) (view seat.new) (event.NestedEnter grip.object) grip.object (grip.count + 1) grip.number result }
+    ensures slot { result.slot ≡ grip.slot }
     ensures grips { KeepsOthers (view seat.old) (view seat.new) grip.object.0 }
+    ensures words { KeepsWords (view seat.old) (view seat.new) }
 {
     match grip.slot {
         None => {
@@ -139,7 +146,9 @@ pub fn unnest(shared: &Shared, seat: &mut Seat, grip: Grip) -> Grip
     ensures seat { IsSeatOf shared.now seat.new }
     ensures clear { IsClear (view seat.new) }
     ensures told { Takes (view seat.old) (view seat.new) (event.NestedExit grip.object) grip.object (grip.count - 1) grip.number result }
+    ensures slot { result.slot ≡ grip.slot }
     ensures grips { KeepsOthers (view seat.old) (view seat.new) grip.object.0 }
+    ensures words { KeepsWords (view seat.old) (view seat.new) }
 {
     match grip.slot {
         None => {
@@ -175,6 +184,7 @@ pub fn release(shared: &Shared, seat: &mut Seat, grip: Grip)
     ensures clear { IsClear (view seat.new) }
     ensures told { Lengthens (view seat.old) (view seat.new) (event.Exit grip.object grip.number ∷ []) }
     ensures grips { KeepsOthers (view seat.old) (view seat.new) grip.object.0 }
+    ensures words { KeepsWords (view seat.old) (view seat.new) }
 {
     match grip.slot {
         None => {
@@ -199,6 +209,7 @@ pub fn inflate(shared: &Shared, seat: &mut Seat, grip: Grip) -> Option<Grip>
     ensures told { Lengthens (view seat.old) (view seat.new) [] }
     ensures made { MatchOption result ((FAT_SLOTS ≤ (view seat.new).slots) × KeepsEach (view seat.old) (view seat.new)) (Fattens (view seat.new) grip) }
     ensures grips { KeepsOthers (view seat.old) (view seat.new) grip.object.0 }
+    ensures words { KeepsWords (view seat.old) (view seat.new) }
 {
     let word = thin_word(shared, seat, grip);
     match shared.inflate(seat, grip.object, word) {
