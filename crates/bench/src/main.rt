@@ -2,7 +2,8 @@
 //!
 //! Four lanes in one thread do sections of six records; each group of sections is logged, written home and acknowledged.
 //! It prints sections a second, the time of each step for a section, and the memory before and after. Told to, it tells
-//! after each group how many sections are acknowledged, so that whoever kills it can look for them in its file.
+//! after each group how many sections are acknowledged, so that whoever kills it can look for them in its file, and
+//! what `recover` makes of that.
 #![tactic(auto)]
 
 mod acknowledged;
@@ -12,6 +13,7 @@ mod life;
 mod load;
 mod measuring;
 mod memory;
+mod recovering;
 mod stopped;
 #[cfg(test)]
 mod tests;
@@ -21,6 +23,7 @@ use figures::{Figures, print_figures};
 use file_disk::{BackingFile, BufferedDisk, FileError, VolatileDisk};
 use measuring::{image_size, measure};
 use memory::print_memory;
+use recovering::{print_heap, recovered_heap};
 use std::alloc::Global;
 use std::env;
 use std::process::ExitCode;
@@ -33,6 +36,7 @@ const HELP: &str = "\
 bench memory SECTIONS GROUP      measures the store over bytes in memory
 bench file SECTIONS GROUP PATH   the same over a new file; one that is there is emptied
 bench tell SECTIONS GROUP PATH   on a new file, tells after each group how many sections are acknowledged
+bench recover PATH               recovers that file, and prints the sections that each lane counted, and all of them
 SECTIONS are acknowledged at least, GROUP of them at a time, 1 or more; a section is six records of one of 4 lanes
 ";
 
@@ -56,6 +60,14 @@ fn over_memory<R: Print + Clock + CpuClock>(
     Ok(figures)
 }
 
+// There is no disk over the file.
+fn no_disk(error: FileError) -> Stopped {
+    match error {
+        FileError::Fault => Stopped::File,
+        FileError::NoMemory => Stopped::Memory,
+    }
+}
+
 // Measures over a new file, and tells what is acknowledged if it is to.
 fn over_file<F, R>(
     rt: &R,
@@ -69,11 +81,7 @@ where
     R: Files<File = F> + Print + Clock + CpuClock,
 {
     let size = image_size(alloc)?;
-    let disk = match BufferedDisk::create(rt, alloc, path, size) {
-        Ok(disk) => disk,
-        Err(FileError::Fault) => return Err(Stopped::File),
-        Err(FileError::NoMemory) => return Err(Stopped::Memory),
-    };
+    let disk = BufferedDisk::create(rt, alloc, path, size).map_err(no_disk)?;
     let (_disk, figures) = measure(rt, alloc, disk, plan, is_telling)?;
     Ok(figures)
 }
@@ -102,6 +110,10 @@ where
         Words::Tell { plan, path } => {
             over_file(rt, alloc, &plan, path, true)?;
             Ok(())
+        }
+        Words::Recover { path } => {
+            let disk = BufferedDisk::attach(rt, alloc, path).map_err(no_disk)?;
+            print_heap(rt, &recovered_heap(alloc, disk)?)
         }
     }
 }

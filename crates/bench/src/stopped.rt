@@ -7,8 +7,8 @@ pub enum Stopped {
     /// The allocator gave no memory.
     #[error("no memory")]
     Memory,
-    /// The file could not be made.
-    #[error("the file could not be made")]
+    /// A call of the file system failed, or there is no such file.
+    #[error("the file failed")]
     File,
     /// No image could be made on the disk.
     #[error("no image could be made")]
@@ -16,7 +16,7 @@ pub enum Stopped {
     /// The store refused a call.
     #[error("the store refused a call")]
     Store,
-    /// The image could not be recovered for the next round.
+    /// The image could not be recovered.
     #[error("the image could not be recovered")]
     Recovery,
     /// Standard output failed.

@@ -21,6 +21,8 @@ pub enum Words<'a> {
     File { plan: Plan, path: &'a str },
     /// To tell, after each group on a new file, how many sections are acknowledged.
     Tell { plan: Plan, path: &'a str },
+    /// To recover the image in a file, and to print its heap.
+    Recover { path: &'a str },
 }
 
 /// Reads the words; the program's name comes first. `None` where they are others than `HELP` has.
@@ -28,6 +30,11 @@ pub fn read_words(texts: &[String]) -> Option<Words<'_>> {
     let Some(word) = texts.get(1) else {
         return Some(Words::Help);
     };
+    if texts.len() == 3 && word.as_str() == "recover" {
+        return Some(Words::Recover {
+            path: texts.get(2)?.as_str(),
+        });
+    }
     let plan = read_plan(texts.get(2)?.as_str(), texts.get(3)?.as_str())?;
     let word = word.as_str();
     if texts.len() == 4 && word == "memory" {
