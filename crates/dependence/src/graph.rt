@@ -1,6 +1,6 @@
 //! The graph of the sections.
 
-ghost use Rattle.std.specs.Prelude.{◌≡◌, ◌+◌, ◌^◌, ◌<◌, ◌≤◌, ◌∷◌, [], ◌↔◌, ℕ, max, length, replicate, IfOk, IfSome, IsSome};
+ghost use Rattle.std.specs.Prelude.{◌≡◌, ◌+◌, ◌^◌, ◌<◌, ◌≤◌, ◌∷◌, [], ◌↔◌, ℕ, None, max, length, replicate, IfOk, IfSome, IsSome};
 ghost use Rattle.heap_model.specs.Sections.{undo_action};
 ghost use Rattle.heap_model.specs.Cuts.{counts_of, IsStable};
 ghost use Rattle.heap_model.specs.Base.{since};
@@ -104,7 +104,7 @@ impl Graph {
         self.links.add(&self.steps, next);
         self.steps.push_reserved(next);
         self.room -= 1;
-        self.stable = None;
+        forget(&mut self.stable);
     }
 
     /// Leaves out what the cut counts, which is at most the stable one. It may be a part of what depends
@@ -180,5 +180,14 @@ impl Graph {
             &cut,
             Dependence { lane, section },
         )
+    }
+}
+
+// Leaves no cut at hand. The test saves a write of the whole cut for each record.
+fn forget(stable: &mut Option<Cut>)
+    ensures { stable.new ≡ None }
+{
+    if stable.is_some() {
+        *stable = None;
     }
 }

@@ -1,10 +1,10 @@
 -- Lists of ranges, one of which is replaced, or that get one more.
-use Rattle.std.proofs.Common.{◌≡◌, ℕ, zero, suc, ◌<◌, List, [], ◌∷◌, ◌++◌, length, get_or, arith, Option}
+use Rattle.std.proofs.Common.{◌≡◌, ℕ, zero, suc, ◌+◌, ◌<◌, ◌≤◌, List, [], ◌∷◌, ◌++◌, length, get_or, arith, Option}
 use Rattle.std.proofs.Math.ListN.{set}
 use Rattle.file_disk.specs.Backing.{Held, Reads, ReadsBut}
 use Rattle.block_disk.specs.Device.{Range, IsOutside, IsClear}
 use Rattle.file_disk.proofs.Again.{reads_all}
-use Rattle.file_disk.specs.Buffered.{AllWithin}
+use Rattle.file_disk.specs.Buffered.{AllWithin, LastCovers}
 
 -- clear of all is clear of each
 pub clear_at : (i k : ℕ) (rs : List Range) (d : Range) → k < length rs → IsClear i rs → IsOutside i (get_or rs k d)
@@ -47,3 +47,33 @@ reads_empty (r ∷ rs) bytes file empty reads = absurd (omega (arith, empty))
 -- all but the first lie within
 pub within_rest : (size : ℕ) (r : Range) (rs : List Range) → AllWithin size (r ∷ rs) → AllWithin size rs
 within_rest size r rs all = λ k d within. all (suc k) d (omega arith)
+
+-- the last range is a new one
+pub last_push : (rs : List Range) (r s : Range) → s.start ≤ r.start → r.start + r.len ≤ s.start + s.len → LastCovers r (rs ++ s ∷ [])
+last_push [] r s low high = (low, high)
+last_push (t ∷ []) r s low high = (low, high)
+last_push (t ∷ u ∷ rs) r s low high = last_push (u ∷ rs) r s low high
+
+-- the last range is put there anew
+pub last_set : (rs : List Range) (k : ℕ) (r s : Range) → k + 1 ≡ length rs → s.start ≤ r.start → r.start + r.len ≤ s.start + s.len → LastCovers r (set rs k s)
+last_set [] k r s end low high = absurd (omega (arith, end))
+last_set (t ∷ []) zero r s end low high = (low, high)
+last_set (t ∷ []) (suc k) r s end low high = absurd (omega (arith, end))
+last_set (t ∷ u ∷ rs) zero r s end low high = absurd (omega (arith, end))
+last_set (t ∷ u ∷ []) (suc zero) r s end low high = (low, high)
+last_set (t ∷ u ∷ []) (suc (suc k)) r s end low high = absurd (omega (arith, end))
+last_set (t ∷ u ∷ v ∷ rs) (suc zero) r s end low high = absurd (omega (arith, end))
+last_set (t ∷ u ∷ v ∷ rs) (suc (suc k)) r s end low high = last_set (u ∷ v ∷ rs) (suc k) r s (omega (arith, end)) low high
+
+-- what the last range covers
+pub last_at : (rs : List Range) (k : ℕ) (r d : Range) → k + 1 ≡ length rs → LastCovers r rs → ((get_or rs k d).start ≤ r.start) × (r.start + r.len ≤ (get_or rs k d).start + (get_or rs k d).len)
+last_at [] k r d end covers = absurd covers
+last_at (t ∷ []) zero r d end covers = covers
+last_at (t ∷ []) (suc k) r d end covers = absurd (omega (arith, end))
+last_at (t ∷ u ∷ rs) zero r d end covers = absurd (omega (arith, end))
+last_at (t ∷ u ∷ rs) (suc k) r d end covers = last_at (u ∷ rs) k r d (omega (arith, end)) covers
+
+-- then there is one
+pub last_some : (rs : List Range) (r : Range) → LastCovers r rs → 0 < length rs
+last_some [] r covers = absurd covers
+last_some (s ∷ rs) r covers = omega arith

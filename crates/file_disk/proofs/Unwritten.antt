@@ -5,7 +5,7 @@ use Rattle.block_disk.specs.Bytes.{spliced}
 use Rattle.block_disk.specs.Device.{Range, Device, range_of, written, Image, IsClear, IsOutside, SameOutside}
 use Rattle.block_disk.proofs.Bytes.{length_spliced}
 use Rattle.block_disk.proofs.Ranges.{outside_sym, outside_trans, outside_more, outside_rest, outside_first, spliced_same}
-use Rattle.file_disk.specs.Buffered.{AllWithin, IsBuffered, IsMirrored}
+use Rattle.file_disk.specs.Buffered.{AllWithin, GoesOn, HasNewest, IsBuffered, IsDeferred, IsMirrored, LastCovers}
 
 -- what the file reads may be left by a crash
 pub possible : (d : Device) (bytes : List ℕ) (rs : List Range) (file : Option Held) → IsBuffered d bytes rs file → IfSome file (λ h. Image d.now h.reads)
@@ -34,6 +34,22 @@ buffered_write d bytes content rs ss file at fits kept within covered exact = re
   near = near_write bytes content rs ss file at fits covered kept.near;
   pending = λ i clear. exact i (clear.0, kept.pending i clear.1);
 }
+
+-- and the file gets it later
+pub deferred_write : (d : Device) (bytes content : List ℕ) (rs ss : List Range) (file : Option Held) (at : ℕ) → at + length content ≤ length bytes
+    → IsDeferred d bytes rs file → AllWithin (length bytes) ss
+    → ((i : ℕ) → IsClear i ss → IsClear i (range_of at content ∷ rs)) → ((i : ℕ) → IsClear i (range_of at content ∷ rs) → IsClear i ss)
+    → LastCovers (range_of at content) ss → IsDeferred (written at content d) (spliced bytes at content) ss file
+deferred_write d bytes content rs ss file at fits kept within covered exact newest = record {
+  buffered = buffered_write d bytes content rs ss file at fits kept.buffered within covered exact;
+  newest = newest;
+}
+
+-- the last range covers the pending one that a write goes on with
+pub goes_on_last : (at : ℕ) (pending rs : List Range) → GoesOn at pending → HasNewest pending rs
+    → (r : Range) × LastCovers r rs × (r.start ≤ at) × (at ≤ r.start + r.len)
+goes_on_last at [] rs goes newest = absurd goes
+goes_on_last at (r ∷ older) rs goes newest = (r, newest, goes.0, goes.1)
 
 -- What a write that goes to the file at once makes of it.
 

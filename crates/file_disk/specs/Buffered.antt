@@ -1,5 +1,5 @@
 -- Disks whose bytes reach a file at each sync, or at each write (this project's own).
-use Rattle.std.specs.Prelude.{◌≡◌, ℕ, Bool, false, ◌+◌, ◌≤◌, List, All, length, Option}
+use Rattle.std.specs.Prelude.{◌≡◌, ℕ, Bool, false, ◌+◌, ◌≤◌, List, [], ◌∷◌, All, length, Option}
 use Rattle.block_disk.specs.Device.{Range, Device, IsClear}
 use Rattle.file_disk.specs.Backing.{Held, Reads, ReadsBut}
 
@@ -10,6 +10,22 @@ IsWithin size r = r.start + r.len ≤ size
 -- each of the ranges does
 abbrev pub AllWithin : ℕ → List Range → Type 0
 AllWithin size rs = All (IsWithin size) rs
+
+-- a write there goes on with the newest of the pending ranges: it begins within that or right behind it
+abbrev pub GoesOn : (at : ℕ) → (pending : List Range) → Type 0
+GoesOn at [] = ⊥
+GoesOn at (r ∷ older) = (r.start ≤ at) × (at ≤ r.start + r.len)
+
+-- the last of the ranges covers this one
+abbrev pub LastCovers : Range → List Range → Type 0
+LastCovers r [] = ⊥
+LastCovers r (s ∷ []) = (s.start ≤ r.start) × (r.start + r.len ≤ s.start + s.len)
+LastCovers r (s ∷ t ∷ rs) = LastCovers r (t ∷ rs)
+
+-- the last of the ranges covers the newest of the pending ones
+abbrev pub HasNewest : (pending unwritten : List Range) → Type 0
+HasNewest [] unwritten = Unit {0}
+HasNewest (r ∷ older) unwritten = LastCovers r unwritten
 
 -- The bytes are those that the device reads. Those that may not be in the file are pending, and the file reads the others.
 pub record IsBuffered (d : Device) (bytes : List ℕ) (unwritten : List Range) (file : Option Held) : Type 0 where
@@ -22,3 +38,8 @@ pub record IsBuffered (d : Device) (bytes : List ℕ) (unwritten : List Range) (
 pub record IsMirrored (behind : Bool) (d : Device) (bytes : List ℕ) (written : List Range) (file : Option Held) : Type 0 where
   pub buffered : IsBuffered d bytes written file
   pub current : behind ≡ false → Reads bytes file
+
+-- The file is brought up to the bytes at the next sync; the range written last can be lengthened.
+pub record IsDeferred (d : Device) (bytes : List ℕ) (unwritten : List Range) (file : Option Held) : Type 0 where
+  pub buffered : IsBuffered d bytes unwritten file
+  pub newest : HasNewest d.now.pending unwritten

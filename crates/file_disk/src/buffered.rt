@@ -5,7 +5,7 @@ ghost use Rattle.file_disk.specs.Backing.{Reads, ReadsBut, ReadsForGood};
 ghost use Rattle.block_disk.specs.Device.{Image, Range, HasFailed, SameMoments, TornWrite, synced, written};
 ghost use Rattle.file_disk.specs.Mirror.{new_device};
 ghost use Rattle.block_disk.specs.declared.error.DiskError.TheVariants.{Fault, OutOfRange};
-ghost use Rattle.file_disk.specs.Buffered.{AllWithin, IsWithin};
+ghost use Rattle.file_disk.specs.Buffered.{AllWithin, GoesOn, IsWithin};
 
 use crate::backing::BackingFile;
 use crate::error::FileError;
@@ -38,14 +38,14 @@ pub struct BufferedDisk<F: BackingFile + Drop> {
 
 impl<F: BackingFile + Drop> Model for BufferedDisk<F> {
     ghost use Rattle.file_disk.specs.Mirror.{Mirror};
-    ghost use Rattle.file_disk.specs.Buffered.{IsBuffered};
+    ghost use Rattle.file_disk.specs.Buffered.{IsDeferred};
     ghost use Rattle.file_disk.specs.Trace.{failing};
 
     ghost Value = { Mirror };
 
     ghost view = { λ d. record { device = failing d.failures d.trace.device; file = F.holds d.file } };
 
-    ghost invariant = { λ d. IsBuffered d.trace.device d.bytes.items d.unwritten.items (F.holds d.file) };
+    ghost invariant = { λ d. IsDeferred d.trace.device d.bytes.items d.unwritten.items (F.holds d.file) };
 }
 
 impl<F: BackingFile + Drop> BufferedDisk<F> {
@@ -153,7 +153,7 @@ impl<F: BackingFile + Drop> Disk for BufferedDisk<F> {
     }
 
     /// Writes the memory, and leaves the file as it is. `Fault` is want of memory for one more range; nothing is written
-    /// then.
+    /// then. A write that goes on with the last one since a sync takes no memory.
     fn write_at(&mut self, at: u64, bytes: &[u8]) -> Result<(), DiskError>
         ensures in_range { OnOk result (at + length bytes.now ≤ length self.old.device.now.bytes) }
         ensures ok { OnOk result (self.new.device ≡ written at bytes.now self.old.device) }
@@ -164,6 +164,7 @@ impl<F: BackingFile + Drop> Disk for BufferedDisk<F> {
         ensures cause { IsErrOf result Fault → HasFailed self.old.device.failures self.new.device.failures }
         ensures untorn { IsErrOf result Fault → SameMoments self.old.device self.new.device }
         ensures beyond { length self.old.device.now.bytes < at + length bytes.now → IsErrOf result OutOfRange }
+        ensures goes_on { GoesOn at self.old.device.now.pending → ¬ IsErrOf result Fault }
         ensures file { self.new.file ≡ self.old.file }
     {
         let size = self.bytes.len();

@@ -1,7 +1,7 @@
 //! Bytes that were written and aren't yet in a file.
 ghost use Rattle.std.specs.Prelude.{◌≡◌, ◌↔◌, ◌+◌, ◌≤◌, ◌∷◌, ◌++◌, [], ℕ, IsTrue, IsFalse, if◌then◌else◌};
-ghost use Rattle.block_disk.specs.Device.{IsClear, IsOutside};
-ghost use Rattle.file_disk.specs.Buffered.{AllWithin, IsWithin};
+ghost use Rattle.block_disk.specs.Device.{IsClear, IsOutside, Range};
+ghost use Rattle.file_disk.specs.Buffered.{AllWithin, IsWithin, LastCovers};
 
 use std::marker::Model;
 
@@ -50,6 +50,8 @@ pub(crate) fn add(spans: &mut Vec<Span>, start: u64, len: u64, size: u64) -> boo
     ensures within { AllWithin size spans.new.items }
     ensures covered { IsTrue result → (i : ℕ) → IsClear i spans.new.items → IsClear i (record { start = start; len = len } ∷ spans.old.items) }
     ensures exact { IsTrue result → (i : ℕ) → IsClear i (record { start = start; len = len } ∷ spans.old.items) → IsClear i spans.new.items }
+    ensures newest { IsTrue result → LastCovers (record { start = start; len = len }) spans.new.items }
+    ensures goes_on { (r : Range) → LastCovers r spans.old.items → r.start ≤ start → start ≤ r.start + r.len → IsTrue result }
     ensures same { IsFalse result → spans.new.items ≡ spans.old.items }
 {
     if join(spans, start, len, size) {
@@ -75,6 +77,8 @@ fn join(spans: &mut Vec<Span>, start: u64, len: u64, size: u64) -> bool
     ensures within { AllWithin size spans.new.items }
     ensures covered { IsTrue result → (i : ℕ) → IsClear i spans.new.items → IsClear i (record { start = start; len = len } ∷ spans.old.items) }
     ensures exact { IsTrue result → (i : ℕ) → IsClear i (record { start = start; len = len } ∷ spans.old.items) → IsClear i spans.new.items }
+    ensures newest { IsTrue result → LastCovers (record { start = start; len = len }) spans.new.items }
+    ensures goes_on { (r : Range) → LastCovers r spans.old.items → r.start ≤ start → start ≤ r.start + r.len → IsTrue result }
     ensures same { IsFalse result → spans.new.items ≡ spans.old.items }
 {
     let count = spans.len();
@@ -106,6 +110,7 @@ fn joined(last: Span, start: u64, len: u64, size: u64) -> Span
     requires high { start ≤ last.start + last.len }
     ensures within { IsWithin size result }
     ensures both { (i : ℕ) → IsOutside i result → IsOutside i last × IsOutside i (record { start = start; len = len }) }
+    ensures covers { (result.start ≤ start) × (start + len ≤ result.start + result.len) }
     ensures exact { (i : ℕ) → IsOutside i last → IsOutside i (record { start = start; len = len }) → IsOutside i result }
 {
     let _size = size;

@@ -1,0 +1,67 @@
+//! The figures of a measurement.
+ghost use Rattle.std.specs.Prelude.{◌≡◌, ◌≤◌};
+
+use crate::clock::{NOTHING, Spent};
+use crate::stopped::Stopped;
+
+/// What was done, and what each step took of it.
+#[derive(Clone, Copy, Debug)]
+pub struct Figures {
+    /// Acknowledged sections.
+    pub sections: u64,
+    /// Applying records.
+    pub apply: Spent,
+    /// Making them durable.
+    pub log: Spent,
+    /// Writing values home.
+    pub home: Spent,
+    /// Acknowledging.
+    pub settle: Spent,
+    /// Recovering the image and opening it again, where a lane's log was full.
+    pub reopen: Spent,
+}
+
+/// The figures of nothing.
+pub const START: Figures = Figures {
+    sections: 0,
+    apply: NOTHING,
+    log: NOTHING,
+    home: NOTHING,
+    settle: NOTHING,
+    reopen: NOTHING,
+};
+
+// Prints what a step took for a section, in nanoseconds.
+fn print_step<R: Print>(rt: &R, step: &str, spent: Spent, sections: u64) -> Result<(), Stopped> {
+    let wall = spent.wall / sections.max(1);
+    let cpu = spent.cpu / sections.max(1);
+    println!(rt; "{step} {wall} ns a section, of them {cpu} of processor time").map_err(
+        |_| Stopped::Telling,
+    )
+}
+
+// How many a second these are, in so many nanoseconds.
+fn rate(sections: u64, wall: u64) -> u64 {
+    sections.saturating_mul(1_000_000) / (wall / 1000).max(1)
+}
+
+/// Prints sections a second without and with the reopening, and what each step took.
+pub fn print_figures<R: Print>(rt: &R, figures: &Figures) -> Result<(), Stopped> {
+    let sections = figures.sections;
+    print_step(rt, "apply", figures.apply, sections)?;
+    print_step(rt, "log", figures.log, sections)?;
+    print_step(rt, "home", figures.home, sections)?;
+    print_step(rt, "settle", figures.settle, sections)?;
+    print_step(rt, "reopen", figures.reopen, sections)?;
+    let steady = figures
+        .apply
+        .wall
+        .saturating_add(figures.log.wall)
+        .saturating_add(figures.home.wall)
+        .saturating_add(figures.settle.wall);
+    let steady_rate = rate(sections, steady);
+    let whole_rate = rate(sections, steady.saturating_add(figures.reopen.wall));
+    println!(rt;
+        "{sections} sections, {steady_rate} a second, {whole_rate} with the reopening"
+    ).map_err(|_| Stopped::Telling)
+}

@@ -1,0 +1,137 @@
+//! Rounds of one open store.
+ghost use Rattle.std.specs.Prelude.{◌≡◌, ◌≤◌, IfOk};
+ghost use Rattle.bench.specs.declared.life.Room.TheVariants.{More};
+
+use crate::acknowledged::acknowledged;
+use crate::clock::read_clocks;
+use crate::figures::Figures;
+use crate::load::{LANES, Load};
+use crate::stopped::Stopped;
+use crate::words::Plan;
+use block_disk::Disk;
+use durable::{Home, Store, StoreError};
+use heap_model::{Lane, Record};
+use std::time::{Clock, CpuClock};
+
+/// Whether there is room for more.
+#[derive(Clone, Copy, Debug, PartialEq, Eq)]
+pub enum Room {
+    /// There is.
+    More,
+    /// A lane's log is full.
+    Full,
+}
+
+// Applies a lane's section. Its first record is refused where the lane's log is full.
+fn apply_section<D: Disk>(
+    store: &mut Store<D>,
+    lane: u8,
+    records: &[Record; 6],
+) -> Result<Room, Stopped>
+    ensures layout { store.new.known.layout ≡ store.old.known.layout }
+{
+    for record in records {
+        match store.apply(Lane(lane), *record) {
+            Ok(()) => {}
+            Err(StoreError::LogFull) => return Ok(Room::Full),
+            Err(_) => return Err(Stopped::Store),
+        }
+    }
+    Ok(Room::More)
+}
+
+// Applies a group of sections, the lanes in turn.
+fn apply_group<D: Disk>(store: &mut Store<D>, load: &mut Load, group: u64) -> Result<Room, Stopped>
+    ensures layout { store.new.known.layout ≡ store.old.known.layout }
+{
+    for turn in 0..group {
+        let lane = (turn % u64::from(LANES)) as u8;
+        let records = load.section(lane);
+        if apply_section(store, lane, &records)? == Room::Full {
+            return Ok(Room::Full);
+        }
+        load.done(lane);
+    }
+    Ok(Room::More)
+}
+
+// Writes home what is dirty.
+fn write_home<D: Disk>(store: &mut Store<D>) -> Result<(), Stopped>
+    ensures layout { store.new.known.layout ≡ store.old.known.layout }
+{
+    for _ in 0..u64::MAX {
+        match store.home_step() {
+            Ok(Home::Done) => return Ok(()),
+            Ok(Home::Wrote(_)) => {}
+            Err(_) => return Err(Stopped::Store),
+        }
+    }
+    Ok(())
+}
+
+// Applies a group, makes it durable, writes it home and acknowledges it.
+fn round<R: Clock + CpuClock, D: Disk>(
+    rt: &R,
+    store: &mut Store<D>,
+    load: &mut Load,
+    group: u64,
+    figures: &mut Figures,
+) -> Result<Room, Stopped>
+    ensures layout { store.new.known.layout ≡ store.old.known.layout }
+    ensures sections { figures.new.sections ≡ figures.old.sections }
+{
+    let begun = read_clocks(rt);
+    let room = apply_group(store, load, group)?;
+    let applied = read_clocks(rt);
+    if store.log_step().is_err() {
+        return Err(Stopped::Store);
+    }
+    let logged = read_clocks(rt);
+    write_home(store)?;
+    let home = read_clocks(rt);
+    if store.settle().is_err() {
+        return Err(Stopped::Store);
+    }
+    let settled = read_clocks(rt);
+    figures.apply = figures.apply.with(begun, applied);
+    figures.log = figures.log.with(applied, logged);
+    figures.home = figures.home.with(logged, home);
+    figures.settle = figures.settle.with(home, settled);
+    Ok(room)
+}
+
+/// Does rounds until the plan's sections are acknowledged or a lane's log is full. If it is to, it tells after each
+/// how many are acknowledged.
+pub fn live<R: Clock + CpuClock + Print, D: Disk>(
+    rt: &R,
+    store: &mut Store<D>,
+    load: &mut Load,
+    plan: &Plan,
+    is_telling: bool,
+    figures: &mut Figures,
+) -> Result<Room, Stopped>
+    requires { 4 ≤ store.old.known.layout.lanes }
+    ensures layout { store.new.known.layout ≡ store.old.known.layout }
+    ensures more { IfOk result (λ room. room ≡ More → plan.now.sections ≤ figures.new.sections) }
+{
+    let before = figures.sections;
+    for _ in 0..u64::MAX {
+        if plan.sections <= figures.sections {
+            return Ok(Room::More);
+        }
+        let room = round(rt, store, load, plan.group, figures)?;
+        figures.sections = before.saturating_add(acknowledged(store));
+        if is_telling {
+            tell(rt, figures.sections)?;
+        }
+        if room == Room::Full {
+            return Ok(Room::Full);
+        }
+    }
+    Err(Stopped::Store)
+}
+
+// Tells how many sections are acknowledged.
+fn tell<R: Print>(rt: &R, sections: u64) -> Result<(), Stopped> {
+    println!(rt; "acknowledged {sections}").map_err(|_| Stopped::Telling)
+}

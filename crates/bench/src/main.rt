@@ -1,0 +1,148 @@
+//! `bench`: measures the store, over bytes in memory and over a file.
+//!
+//! Four lanes in one thread do sections of six records; each group of sections is logged, written home and acknowledged.
+//! It prints sections a second, the time of each step for a section, and the memory before and after. Told to, it tells
+//! after each group how many sections are acknowledged, so that whoever kills it can look for them in its file, and
+//! what `recover` makes of that.
+#![tactic(auto)]
+
+mod acknowledged;
+mod clock;
+mod figures;
+mod life;
+mod load;
+mod measuring;
+mod memory;
+mod recovering;
+mod stopped;
+#[cfg(test)]
+mod tests;
+mod words;
+
+use figures::{Figures, print_figures};
+use file_disk::{BackingFile, BufferedDisk, FileError, VolatileDisk};
+use measuring::{image_size, measure};
+use memory::print_memory;
+use recovering::{print_heap, recovered_heap};
+use std::alloc::Global;
+use std::env;
+use std::process::ExitCode;
+use std::rt::{Env, Files};
+use std::time::{Clock, CpuClock};
+use stopped::Stopped;
+use words::{Plan, Words, read_words};
+
+const HELP: &str = "\
+bench memory SECTIONS GROUP      measures the store over bytes in memory
+bench file SECTIONS GROUP PATH   the same over a new file; one that is there is emptied
+bench tell SECTIONS GROUP PATH   on a new file, tells after each group how many sections are acknowledged
+bench recover PATH               recovers that file, and prints the sections that each lane counted, and all of them
+SECTIONS are acknowledged at least, GROUP of them at a time, 1 or more; a section is six records of one of 4 lanes
+";
+
+/// Wrong words.
+const WRONG_WORDS: u8 = 2;
+
+/// The measuring stopped.
+const FAULT: u8 = 1;
+
+// Measures over a disk in memory.
+fn over_memory<R: Print + Clock + CpuClock>(
+    rt: &R,
+    alloc: Global,
+    plan: &Plan,
+) -> Result<Figures, Stopped> {
+    let size = image_size(alloc)?;
+    let Ok(disk) = VolatileDisk::new(alloc, size) else {
+        return Err(Stopped::Memory);
+    };
+    let (_disk, figures) = measure(rt, alloc, disk, plan, false)?;
+    Ok(figures)
+}
+
+// There is no disk over the file.
+fn no_disk(error: FileError) -> Stopped {
+    match error {
+        FileError::Fault => Stopped::File,
+        FileError::NoMemory => Stopped::Memory,
+    }
+}
+
+// Measures over a new file, and tells what is acknowledged if it is to.
+fn over_file<F, R>(
+    rt: &R,
+    alloc: Global,
+    plan: &Plan,
+    path: &str,
+    is_telling: bool,
+) -> Result<Figures, Stopped>
+where
+    F: BackingFile + Drop,
+    R: Files<File = F> + Print + Clock + CpuClock,
+{
+    let size = image_size(alloc)?;
+    let disk = BufferedDisk::create(rt, alloc, path, size).map_err(no_disk)?;
+    let (_disk, figures) = measure(rt, alloc, disk, plan, is_telling)?;
+    Ok(figures)
+}
+
+// Does what the words ask for.
+fn obey<F, R>(rt: &R, words: Words<'_>) -> Result<(), Stopped>
+where
+    F: BackingFile + Drop,
+    R: Files<File = F> + Print + AllocGlobal + Clock + CpuClock,
+{
+    let alloc = rt.alloc();
+    match words {
+        Words::Help => print!(rt; "{HELP}").map_err(|_| Stopped::Telling),
+        Words::Memory { plan } => {
+            print_memory(rt, "before");
+            let figures = over_memory(rt, alloc, &plan)?;
+            print_memory(rt, "after");
+            print_figures(rt, &figures)
+        }
+        Words::File { plan, path } => {
+            print_memory(rt, "before");
+            let figures = over_file(rt, alloc, &plan, path, false)?;
+            print_memory(rt, "after");
+            print_figures(rt, &figures)
+        }
+        Words::Tell { plan, path } => {
+            over_file(rt, alloc, &plan, path, true)?;
+            Ok(())
+        }
+        Words::Recover { path } => {
+            let disk = BufferedDisk::attach(rt, alloc, path).map_err(no_disk)?;
+            print_heap(rt, &recovered_heap(alloc, disk)?)
+        }
+    }
+}
+
+fn run<F, R>(rt: &R) -> ExitCode
+where
+    F: BackingFile + Drop,
+    R: Env + Files<File = F> + Print + Eprint + AllocGlobal + Clock + CpuClock,
+{
+    let alloc = rt.alloc();
+    let Ok(arguments) = env::args(rt) else {
+        return ExitCode::from(WRONG_WORDS);
+    };
+    let Ok(texts) = arguments.collect::<Vec<String>>(alloc) else {
+        return ExitCode::from(FAULT);
+    };
+    let Some(words) = read_words(texts.as_slice()) else {
+        let _ = eprint!(rt; "{HELP}");
+        return ExitCode::from(WRONG_WORDS);
+    };
+    match obey(rt, words) {
+        Ok(()) => ExitCode::SUCCESS,
+        Err(stopped) => {
+            let _ = eprintln!(rt; "bench: {stopped}");
+            ExitCode::from(FAULT)
+        }
+    }
+}
+
+fn main(rt: HostRuntime) -> ExitCode {
+    run(&rt)
+}

@@ -1,0 +1,15 @@
+//! The memory that the program has.
+use std::fs;
+use std::rt::Files;
+
+/// Prints how much memory of the machine the program has, where the system tells it in `/proc`.
+pub fn print_memory<R: Files + Print + AllocGlobal>(rt: &R, when: &str) {
+    let Ok(text) = fs::read_to_string(rt, "/proc/self/status") else {
+        return;
+    };
+    for line in text.as_str().lines() {
+        if line.starts_with("VmRSS:") {
+            let _ = println!(rt; "{when} {line}");
+        }
+    }
+}

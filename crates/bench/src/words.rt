@@ -1,0 +1,63 @@
+//! The program's words.
+ghost use Rattle.std.specs.Prelude.{◌≡◌, ◌<◌, IfSome};
+
+/// How much is done.
+#[derive(Clone, Copy, Debug, PartialEq, Eq)]
+pub struct Plan {
+    /// So many sections are acknowledged at least.
+    pub sections: u64,
+    /// So many sections are logged, written home and acknowledged together: 1 or more.
+    pub group: u64,
+}
+
+/// What the words ask for.
+#[derive(Clone, Copy, Debug, PartialEq, Eq)]
+pub enum Words<'a> {
+    /// To print which words there are. No words ask for it.
+    Help,
+    /// To measure the store over bytes in memory.
+    Memory { plan: Plan },
+    /// To measure the store over a new file.
+    File { plan: Plan, path: &'a str },
+    /// To tell, after each group on a new file, how many sections are acknowledged.
+    Tell { plan: Plan, path: &'a str },
+    /// To recover the image in a file, and to print its heap.
+    Recover { path: &'a str },
+}
+
+/// Reads the words; the program's name comes first. `None` where they are others than `HELP` has.
+pub fn read_words(texts: &[String]) -> Option<Words<'_>> {
+    let Some(word) = texts.get(1) else {
+        return Some(Words::Help);
+    };
+    if texts.len() == 3 && word.as_str() == "recover" {
+        return Some(Words::Recover {
+            path: texts.get(2)?.as_str(),
+        });
+    }
+    let plan = read_plan(texts.get(2)?.as_str(), texts.get(3)?.as_str())?;
+    let word = word.as_str();
+    if texts.len() == 4 && word == "memory" {
+        return Some(Words::Memory { plan });
+    }
+    let path = texts.get(4)?.as_str();
+    if texts.len() == 5 && word == "file" {
+        return Some(Words::File { plan, path });
+    }
+    if texts.len() == 5 && word == "tell" {
+        return Some(Words::Tell { plan, path });
+    }
+    None
+}
+
+// The plan of these two numerals.
+fn read_plan(sections: &str, group: &str) -> Option<Plan>
+    ensures { IfSome result (λ plan. 0 < plan.group) }
+{
+    let sections = sections.parse::<u64>().ok()?;
+    let group = group.parse::<u64>().ok()?;
+    if group == 0 {
+        return None;
+    }
+    Some(Plan { sections, group })
+}
