@@ -1,5 +1,5 @@
 -- What one call of a store makes of its past, and what a list of them does.
-use Rattle.std.proofs.Common.{ℕ, zero, suc, ◌≡◌, ◌≢◌, ◌<◌, ◌≤◌, ◌+◌, ◌⊎◌, ◌∷◌, ◌++◌, [], List, None, Some, Result, Ok, Err, IfErr, OnOk, MatchResult, false, length, take, slice_get, refl, sym, ap, inl, inr, ⊎_elim, ◌∙◌, subst, arith}
+use Rattle.std.proofs.Common.{ℕ, zero, suc, ◌≡◌, ◌≢◌, ◌<◌, ◌≤◌, ◌+◌, ◌⊎◌, ◌∷◌, ◌++◌, [], List, Option, None, Some, Result, Ok, Err, IfErr, IsErrOf, OnOk, MatchResult, false, length, take, slice_get, refl, sym, ap, inl, inr, ⊎_elim, ◌∙◌, subst, arith}
 use Rattle.std.proofs.lemmas.List.{take_more, take_all}
 use Rattle.std.proofs.lemmas.Option.{get_or_from_slice_get}
 use Rattle.heap_model.specs.declared.ids.Lane.{Lane}
@@ -18,7 +18,8 @@ use Rattle.durable.specs.declared.store_call.StoreCall.TheVariants.{Apply, Settl
 use Rattle.store_memory.specs.Fresh.{IsOfLanes}
 use Rattle.durable.specs.Calls.{AreQuiet, IsClean, IsQuiet, MakeAll, Makes, RefusesApply, RefusesSettle, RefusesCall, ShowsAfterSome, StandsAfterSome, StoppedAt}
 use Rattle.store_past.specs.Past.{Past, applied, after_apply, after_settle}
-use Rattle.durable.specs.Store.{Known, HasPast, ShowsStep, StandsForStep}
+use Rattle.durable.specs.Store.{Known, HasPast, ShowsStep, StandsForStep, doubt_in}
+use Rattle.durable.specs.declared.doubt.Doubt.{Doubt}
 use Rattle.durable.proofs.Showing.{past_stands}
 
 module _ {T : Type 0} (s : Setting) (p : Past) (call : StoreCall) (result : Result T StoreError) where
@@ -92,12 +93,15 @@ quiet_at s p q [] n call are made is = absurd (let no : None ≡ Some call = is 
 quiet_at s p q (first ∷ calls) zero call are made is = subst (λ (m : Past). IsQuiet s m call) (sym made) (subst (λ (c : StoreCall). IsQuiet s p c) (let same : Some first ≡ Some call = is in cc) are.0)
 quiet_at s p q (first ∷ calls) (suc n) call are (mid, one, made) is = quiet_at s mid q calls n call (are.1 mid one) made is
 
-module _ (old mid : Known) (d0 d1 d2 : Device) (calls : List StoreCall) (n : ℕ) (was : Played old mid d0 d1 calls n) (lt : n < length calls)
-    (shows : (s : Setting) (p : Past) → HasPast mid s p d1 → LeavesOnly d1 d2 (ShowsStep mid.layout s p)) where
+module _ (old mid : Known) (d0 d1 d2 : Device) (calls : List StoreCall) (n : ℕ) (was : Played old mid d0 d1 calls n) (lt : n < length calls) (call : StoreCall) (is : slice_get calls n ≡ Some call)
+    (makes_shown : (s : Setting) (p : Past) → HasPast mid s p d1 → LeavesOnly d1 d2 (ShowsStep mid.layout s p (doubt_in (Some call)))) where
+  shows : (s : Setting) (p : Past) → HasPast mid s p d1 → LeavesOnly d1 d2 (ShowsStep mid.layout s p (doubt_in (slice_get calls n)))
+  shows s p has = subst (λ (o : Option StoreCall). LeavesOnly d1 d2 (ShowsStep mid.layout s p (doubt_in o))) (sym is) (makes_shown s p has)
+
   -- quiet calls leave the device
-  pub quiet_on : (call : StoreCall) → slice_get calls n ≡ Some call → ((s : Setting) (p : Past) → HasPast mid s p d1 → IsQuiet s p call → d2 ≡ d1) →
+  pub quiet_on : ((s : Setting) (p : Past) → HasPast mid s p d1 → IsQuiet s p call → d2 ≡ d1) →
       (s : Setting) (p : Past) → HasPast old s p d0 → AreQuiet s p calls → d2 ≡ d0
-  quiet_on call is quiet s p has are =
+  quiet_on quiet s p has are =
       let made = was.made s p has in
       quiet s made.0 made.2 (quiet_at s p made.0 calls n call are made.1 is) ∙ was.quiet s p has are
 
@@ -106,32 +110,32 @@ module _ (old mid : Known) (d0 d1 d2 : Device) (calls : List StoreCall) (n : ℕ
   shown_on s p has =
       let made = was.made s p has in
       and_then d0 d1 d2 (ShowsAfterSome old.layout s p calls) (was.shown s p has)
-      (weaker d1 d2 (ShowsStep mid.layout s made.0) (ShowsAfterSome old.layout s p calls) (λ image shown. record {
+      (weaker d1 d2 (ShowsStep mid.layout s made.0 (doubt_in (slice_get calls n))) (ShowsAfterSome old.layout s p calls) (λ image shown. record {
         n = n;
         within = was.within;
         then = made.0;
         made = made.1;
         is = made.2.past;
         of_lanes = subst (λ l. IsOfLanes l.lanes (applied made.0)) was.layout (subst (λ n. IsOfLanes n (applied made.0)) made.2.layout.lanes made.2.remembers.of_lanes);
-        shows = subst (λ l. ShowsStep l s made.0 image) was.layout shown;
+        shows = subst (λ l. ShowsStep l s made.0 (doubt_in (slice_get calls n)) image) was.layout shown;
       }) (shows s made.0 made.2))
 
   pub stands_on : (s : Setting) (p : Past) → HasPast old s p d0 → LeavesOnly d0 d2 (StandsAfterSome old.layout s p calls)
   stands_on s p has =
       let made = was.made s p has in
       and_then d0 d1 d2 (StandsAfterSome old.layout s p calls) (was.stands s p has)
-      (weaker d1 d2 (ShowsStep mid.layout s made.0) (StandsAfterSome old.layout s p calls) (λ image shown. record {
+      (weaker d1 d2 (ShowsStep mid.layout s made.0 (doubt_in (slice_get calls n))) (StandsAfterSome old.layout s p calls) (λ image shown. record {
         n = n;
         within = was.within;
         then = made.0;
         made = made.1;
-        stands = subst (λ l. StandsForStep l s made.0 image) was.layout (past_stands mid s made.0 d1 made.2 image shown);
+        stands = subst (λ l. StandsForStep l s made.0 (doubt_in (slice_get calls n)) image) was.layout (past_stands mid s made.0 (doubt_in (slice_get calls n)) d1 made.2 image shown);
       }) (shows s made.0 made.2))
 
-  pub played_more : (new : Known) (call : StoreCall) → new.layout ≡ mid.layout → (mid.has_failed ≡ false) × (new.has_failed ≡ false) → d1.failures ≤ d2.failures → slice_get calls n ≡ Some call →
+  pub played_more : (new : Known) → new.layout ≡ mid.layout → (mid.has_failed ≡ false) × (new.has_failed ≡ false) → d1.failures ≤ d2.failures →
       ((s : Setting) (p : Past) → HasPast mid s p d1 → (q : Past) × Makes s p call q × HasPast new s q d2) →
       ((s : Setting) (p : Past) → HasPast mid s p d1 → IsQuiet s p call → d2 ≡ d1) → Played old new d0 d2 calls (n + 1)
-  played_more new call layout running later is makes quiet = record {
+  played_more new layout running later makes quiet = record {
     within = omega arith;
     layout = layout ∙ was.layout;
     running = running.1 ∙ sym running.0 ∙ was.running;
@@ -143,12 +147,12 @@ module _ (old mid : Known) (d0 d1 d2 : Device) (calls : List StoreCall) (n : ℕ
         (next.0, subst (λ cs. MakeAll s p cs next.0) (sym longer) (made_more s p made.0 next.0 (take n calls) call made.1 next.1), next.2);
     shown = shown_on;
     stands = stands_on;
-    quiet = quiet_on call is quiet;
+    quiet = quiet_on quiet;
   }
 
-  pub stopped : (new : Known) (call : StoreCall) (reason : StoreError) → slice_get calls n ≡ Some call → ((s : Setting) (p : Past) → HasPast mid s p d1 → RefusesCall mid s p call reason) →
+  pub stopped : (new : Known) (reason : StoreError) → ((s : Setting) (p : Past) → HasPast mid s p d1 → RefusesCall mid s p call reason) →
       ((s : Setting) (p : Past) → HasPast mid s p d1 → HasPast new s p d2) → (reason ≡ Fault) ⊎ (new ≡ mid) → (reason ≡ Fault) ⊎ (d2 ≡ d1) → (s : Setting) (p : Past) → HasPast old s p d0 → StoppedAt s p calls old new d2 n reason
-  stopped new call reason is refuses kept unchanged untouched s p has =
+  stopped new reason refuses kept unchanged untouched s p has =
       let made = was.made s p has in
       record { call = call; is = is; then = made.0; made = made.1; has = kept s made.0 made.2; known = mid; device = d1; had = made.2; running = was.running; refused = refuses s made.0 made.2; unchanged = ⊎_elim (λ fault. inl fault) (λ same. inr (sym same)) unchanged; untouched = ⊎_elim (λ fault. inl fault) (λ same. inr (sym same)) untouched }
 
@@ -160,3 +164,8 @@ played_all old new d0 d1 calls n was le s p has = subst (λ cs. (q : Past) × Ma
 -- a fault has its cause, whatever was called before
 pub fault_since : {T : Type 0} (a b c : ℕ) (result : Result T StoreError) (reason : StoreError) → a ≤ b → HasCause b c Fault result → result ≡ Err reason → reason ≡ Fault → HasFailed a c
 fault_since {T} a b c result reason le cause is fault = failed_since a b c le (cause.failed (is ∙ ap (λ e. Err e) fault))
+
+-- what is in doubt after a fault
+pub fault_leaves : {T : Type 0} (calls : List StoreCall) (n : ℕ) (call : StoreCall) (result : Result T StoreError) (reason : StoreError) (w : Doubt) → slice_get calls n ≡ Some call →
+    (IsErrOf result Fault → w ≡ doubt_in (Some call)) → result ≡ Err reason → reason ≡ Fault → w ≡ doubt_in (slice_get calls n)
+fault_leaves {T} calls n call result reason w at leaves is fault = leaves (is ∙ ap (λ e. Err e) fault) ∙ sym (ap (λ (o : Option StoreCall). doubt_in o) at)

@@ -18,14 +18,12 @@ use Rattle.store_memory.specs.Begin.{IsLeastDirtyOf}
 use Rattle.store_past.specs.Past.{Past, IsPast, applied, after_apply, after_log, after_home, after_settle}
 use Rattle.store_memory.specs.Fresh.{IsOfLanes}
 use Rattle.store_memory.specs.Remembers.{held_of}
-use Rattle.durable.specs.Store.{Known, ShowsStep, StandsForStep, HasPast}
+pub use Rattle.durable.specs.Store.{IsClean}
+use Rattle.durable.specs.Store.{Known, ShowsStep, StandsForStep, HasPast, doubt_in}
 
--- a field has a logged store newer than its last home write, or none has
+-- a field has a logged store newer than its last home write
 abbrev pub HasDirty : Setting → Past → Type 0
 HasDirty s p = (f : ℕ) × (f < s.fields) × (p.is_dirty f ≡ true)
-
-abbrev pub IsClean : Setting → Past → Type 0
-IsClean s p = (f : ℕ) → f < s.fields → p.is_dirty f ≡ false
 
 -- a lane holds a monitor
 abbrev pub HasOpen : Past → Type 0
@@ -111,7 +109,7 @@ abbrev pub MakeAll : Setting → Past → List StoreCall → Past → Type 0
 MakeAll s p [] q = q ≡ p
 MakeAll s p (call ∷ calls) q = (mid : Past) × Makes s p call mid × MakeAll s mid calls q
 
--- the image shows what the first n calls make of the past, or what the next step makes of that
+-- the image shows what the first n calls make of the past, or what the next of them makes of that
 pub record ShowsAfterSome (l : Layout) (s : Setting) (p : Past) (calls : List StoreCall) (image : List ℕ) : Type 0 where
   pub n : ℕ
   pub within : n ≤ length calls
@@ -120,15 +118,15 @@ pub record ShowsAfterSome (l : Layout) (s : Setting) (p : Past) (calls : List St
   -- a store may have that past, and its records are of the image's lanes
   pub is : IsPast s then
   pub of_lanes : IsOfLanes l.lanes (applied then)
-  pub shows : ShowsStep l s then image
+  pub shows : ShowsStep l s then (doubt_in (slice_get calls n)) image
 
--- the image stands for the heap acknowledged then, or for that of the stable cut
+-- the image stands for the heap acknowledged then, or for that of the stable cut where the next call acknowledges that
 pub record StandsAfterSome (l : Layout) (s : Setting) (p : Past) (calls : List StoreCall) (image : List ℕ) : Type 0 where
   pub n : ℕ
   pub within : n ≤ length calls
   pub then : Past
   pub made : MakeAll s p (take n calls) then
-  pub stands : StandsForStep l s then image
+  pub stands : StandsForStep l s then (doubt_in (slice_get calls n)) image
 
 -- So many calls were made, none with a fault, and the next was refused for this reason: but for a fault it left the store and its
 -- device as they were.

@@ -32,7 +32,8 @@ pub struct WholeRun<E: Disk> {
 ///
 /// **What survives.** Whatever bytes a crash leaves at any moment of the run, recovery takes them, and gives the heap that was
 /// acknowledged after some of the calls: that of the acknowledged sections and of nothing else, each whole, with all that it
-/// depends on. In a settling that the crash cuts off it may be the heap that this settling acknowledges.
+/// depends on. Only in a settling that the crash cuts off may it be the heap that this settling acknowledges: calls with no
+/// settling never give what wasn't acknowledged before them.
 ///
 /// The device `left` stands for the machine after the crash: it may be any that holds such bytes. It is refused only where
 /// a call of it fails, memory is wanting, or the control's sequence is at its last value. What a refusal of either leaves is
@@ -45,7 +46,7 @@ pub fn play_and_recover<D: Disk, E: Disk>(
 ) -> WholeRun<E>
     ensures survives { (s : Setting) (p : Past) → HasPast store.old.known s p (D.device store.old.disk)
         → MayBeLeft (D.device store.old.disk) (D.device store.new.disk) (E.device left).now.bytes
-        → MatchResult result.recovered (λ r. Survives store.old.known.layout s p calls.now r.0.heap r.1.kept) (λ back. CannotRecover (E.device left).now.bytes back.1) }
+        → MatchResult result.recovered (λ r. Survives store.old.known s p calls.now r.0.heap r.1.kept) (λ back. CannotRecover (E.device left).now.bytes back.1) }
     ensures played { (s : Setting) (p : Past) → HasPast store.old.known s p (D.device store.old.disk)
         → OnOk result.played ((q : Past) × MakeAll s p calls.now q × HasPast store.new.known s q (D.device store.new.disk)) }
     ensures stopped { (s : Setting) (p : Past) → HasPast store.old.known s p (D.device store.old.disk)
