@@ -1,7 +1,9 @@
 -- What one call of a store makes of its past, and what a list of them does.
-use Rattle.std.proofs.Common.{ℕ, zero, suc, ◌≡◌, ◌≢◌, ◌<◌, ◌≤◌, ◌+◌, ◌⊎◌, ◌∷◌, ◌++◌, [], List, Option, None, Some, Result, Ok, Err, IfErr, IsErrOf, OnOk, MatchResult, false, length, take, slice_get, refl, sym, ap, inl, inr, ⊎_elim, ◌∙◌, subst, arith}
-use Rattle.std.proofs.lemmas.List.{take_more, take_all}
-use Rattle.std.proofs.lemmas.Option.{get_or_from_slice_get}
+use Rattle.std.proofs.Common.{ℕ, zero, suc, ◌≡◌, ◌≢◌, ◌<◌, ◌≤◌, ◌+◌, ◌-◌, ◌⊎◌, ◌∷◌, ◌++◌, [], List, Option, None, Some, Result, Ok, Err, IfErr, IsErrOf, OnOk, MatchResult, false, get_or, length, take, slice_get, refl, sym, ap, inl, inr, ⊎_elim, ◌∙◌, subst, arith}
+use Rattle.std.specs.Prelude.{drop}
+use Rattle.std.proofs.lemmas.Bool.{cases_lt}
+use Rattle.std.proofs.lemmas.List.{take_more, take_all, get_or-drop, length-drop}
+use Rattle.std.proofs.lemmas.Option.{get_or_from_slice_get, slice_get-get_or}
 use Rattle.heap_model.specs.declared.ids.Lane.{Lane}
 use Rattle.heap_model.specs.declared.record.Record.{Record}
 use Rattle.heap_model.specs.Setting.{Setting}
@@ -16,7 +18,7 @@ use Rattle.store_past.specs.declared.error.StoreError.TheVariants.{Fault}
 use Rattle.durable.specs.declared.store_call.StoreCall.{StoreCall}
 use Rattle.durable.specs.declared.store_call.StoreCall.TheVariants.{Apply, Settle}
 use Rattle.store_memory.specs.Fresh.{IsOfLanes}
-use Rattle.durable.specs.Calls.{AreQuiet, IsClean, IsQuiet, MakeAll, Makes, RefusesApply, RefusesSettle, RefusesCall, ShowsAfterSome, StandsAfterSome, StoppedAt}
+use Rattle.durable.specs.Calls.{AreQuiet, IsClean, IsQuiet, MakeAll, Makes, Reached, RefusesApply, RefusesSettle, RefusesCall, ShowsAfterSome, StandsAfterSome, StoppedAt}
 use Rattle.store_past.specs.Past.{Past, applied, after_apply, after_settle}
 use Rattle.durable.specs.Store.{Known, HasPast, ShowsStep, StandsForStep, doubt_in}
 use Rattle.durable.specs.declared.doubt.Doubt.{Doubt}
@@ -169,3 +171,101 @@ fault_since {T} a b c result reason le cause is fault = failed_since a b c le (c
 pub fault_leaves : {T : Type 0} (calls : List StoreCall) (n : ℕ) (call : StoreCall) (result : Result T StoreError) (reason : StoreError) (w : Doubt) → slice_get calls n ≡ Some call →
     (IsErrOf result Fault → w ≡ doubt_in (Some call)) → result ≡ Err reason → reason ≡ Fault → w ≡ doubt_in (slice_get calls n)
 fault_leaves {T} calls n call result reason w at leaves is fault = leaves (is ∙ ap (λ e. Err e) fault) ∙ sym (ap (λ (o : Option StoreCall). doubt_in o) at)
+
+-- the run as it stood after the first k calls, and as it went on
+pub record Split (old new : Known) (d0 d1 : Device) (calls : List StoreCall) (n k : ℕ) : Type 0 where
+  known : Known
+  device : Device
+  before : Played old known d0 device calls k
+  after : Played known new device d1 (drop k calls) (n - k)
+
+-- so many calls were made, and after each of them the others went on from there
+pub record PlayedOn (old new : Known) (d0 d1 : Device) (calls : List StoreCall) (n : ℕ) : Type 0 where
+  pub played : Played old new d0 d1 calls n
+  pub splits : (k : ℕ) → k ≤ n → Split old new d0 d1 calls n k
+
+pub begins_on : (old : Known) (d : Device) (calls : List StoreCall) → PlayedOn old old d d calls 0
+begins_on old d calls = record {
+  played = played_none old d calls;
+  splits = λ k le. subst (λ (j : ℕ). Split old old d d calls 0 j) (let none : 0 ≡ k = omega (arith, le) in none)
+      (record { known = old; device = d; before = played_none old d calls; after = played_none old d (drop 0 calls) });
+}
+
+-- a call behind the first k
+call_behind : (calls : List StoreCall) (n k : ℕ) (call : StoreCall) → k ≤ n → n < length calls → slice_get calls n ≡ Some call → slice_get (drop k calls) (n - k) ≡ Some call
+call_behind calls n k call le lt is =
+    let place : k + (n - k) ≡ n = omega (arith, le) in
+    slice_get-get_or (drop k calls) (n - k) call (omega (arith, length-drop k calls, le, lt))
+    ∙ ap (λ c. Some c) (get_or-drop k calls (n - k) call ∙ ap (λ i. get_or calls i call) place ∙ get_or_from_slice_get calls n call call is)
+
+module _ (old mid : Known) (d0 d1 d2 : Device) (calls : List StoreCall) (n : ℕ) (was : PlayedOn old mid d0 d1 calls n) (lt : n < length calls) (call : StoreCall) (is : slice_get calls n ≡ Some call)
+    (makes_shown : (s : Setting) (p : Past) → HasPast mid s p d1 → LeavesOnly d1 d2 (ShowsStep mid.layout s p (doubt_in (Some call)))) where
+  behind_lt : (k : ℕ) → k ≤ n → n - k < length (drop k calls)
+  behind_lt k le = omega (arith, length-drop k calls, le, lt)
+
+  -- one call more
+  pub played_on : (new : Known) → new.layout ≡ mid.layout → (mid.has_failed ≡ false) × (new.has_failed ≡ false) → d1.failures ≤ d2.failures →
+      ((s : Setting) (p : Past) → HasPast mid s p d1 → (q : Past) × Makes s p call q × HasPast new s q d2) →
+      ((s : Setting) (p : Past) → HasPast mid s p d1 → IsQuiet s p call → d2 ≡ d1) → PlayedOn old new d0 d2 calls (n + 1)
+  played_on new layout running later makes quiet =
+      let more : Played old new d0 d2 calls (n + 1) = played_more old mid d0 d1 d2 calls n was.played lt call is makes_shown new layout running later makes quiet in
+      record {
+        played = more;
+        splits = λ k le. elim (cases_lt n k) [
+          | inl all ↦
+              let same : n + 1 ≡ k = omega (arith, all, le) in
+              let none : 0 ≡ n + 1 - k = omega (arith, same) in
+              record {
+                known = new;
+                device = d2;
+                before = subst (Played old new d0 d2 calls) same more;
+                after = subst (Played new new d2 d2 (drop k calls)) none (played_none new d2 (drop k calls));
+              }
+          | inr some ↦
+              let split = was.splits k some in
+              let place : n - k + 1 ≡ n + 1 - k = omega (arith, some) in
+              record {
+                known = split.known;
+                device = split.device;
+                before = split.before;
+                after = subst (Played split.known new split.device d2 (drop k calls)) place
+                    (played_more split.known mid split.device d1 d2 (drop k calls) (n - k) split.after (behind_lt k some) call (call_behind calls n k call some lt is) makes_shown new layout running later makes quiet);
+              }
+        ];
+      }
+
+  -- whatever the next call answered
+  pub reached_on : (s : Setting) (p : Past) → HasPast old s p d0 → (k : ℕ) → k ≤ n → Reached s p calls old d0 d2 k
+  reached_on s p has k le =
+      let split = was.splits k le in
+      let made = split.before.made s p has in
+      record {
+        then = made.0;
+        made = made.1;
+        known = split.known;
+        device = split.device;
+        has = made.2;
+        layout = split.before.layout;
+        running = split.before.running;
+        since = (split.before.shown s p has).later;
+        rest = subst (λ l. LeavesOnly split.device d2 (ShowsAfterSome l s made.0 (drop k calls))) split.before.layout
+            (shown_on split.known mid split.device d1 d2 (drop k calls) (n - k) split.after (behind_lt k le) call (call_behind calls n k call le lt is) makes_shown s made.0 made.2);
+      }
+
+-- and when all were made
+pub reached_all : (old new : Known) (d0 d1 : Device) (calls : List StoreCall) (n : ℕ) → PlayedOn old new d0 d1 calls n → length calls ≤ n →
+    (s : Setting) (p : Past) → HasPast old s p d0 → (k : ℕ) → k ≤ length calls → Reached s p calls old d0 d1 k
+reached_all old new d0 d1 calls n was le s p has k low =
+    let split = was.splits k (omega (arith, low, le)) in
+    let made = split.before.made s p has in
+    record {
+      then = made.0;
+      made = made.1;
+      known = split.known;
+      device = split.device;
+      has = made.2;
+      layout = split.before.layout;
+      running = split.before.running;
+      since = (split.before.shown s p has).later;
+      rest = subst (λ l. LeavesOnly split.device d1 (ShowsAfterSome l s made.0 (drop k calls))) split.before.layout (split.after.shown s made.0 made.2);
+    }

@@ -74,7 +74,7 @@ module _ (m : Live) (s : Setting) (p : Past) (has : Tells m.store s p) (w : Doub
   Answered = Result (Recovered Memory × Found) (Memory × RecoverError)
 
   run : (answer : Answered) → IfOk answer (λ r. IsRecovery (device_of (fresh image)) (device_of r.0.disk) r.0 r.1) → IfErr answer (λ back. RefusesRecovery image back.1)
-      → MatchResult answer (λ r. Keeps m.store.known.layout s p shows.0 r.0.heap r.1.kept) (λ back. CannotRecover image back.1)
+      → MatchResult answer (λ r. Keeps m.store.known.layout s p shows.0 r.0.heap (counts_of r.1.kept)) (λ back. CannotRecover image back.1)
   run = keeps m.store.known.layout s p shows.0 device_of (device_of (fresh image)) has.past (subst (λ (n : ℕ). IsOfLanes n (applied p)) has.layout.lanes has.remembers.of_lanes) shows.1
 
   layout_of : (found : LoggedImage) → Holds image found → found.layout ≡ m.store.known.layout

@@ -1,21 +1,21 @@
 -- What survives a whole run.
-use Rattle.std.proofs.Common.{◌≡◌, ◌⊎◌, inl, inr, ⊎_elim, ℕ, ◌<◌, ◌≤◌, ◌++◌, Bool, true, false, List, [], ◌∷◌, Option, Some, None, Result, Ok, Err, MatchResult, IfOk, IfErr, length, take, slice_get, refl, sym, ◌∙◌, ap, subst, arith}
+use Rattle.std.proofs.Common.{◌≡◌, ◌⊎◌, inl, inr, ⊎_elim, ℕ, ◌<◌, ◌≤◌, ◌++◌, Bool, true, false, List, [], ◌∷◌, Option, Some, None, Result, Ok, Err, MatchResult, IfOk, IfErr, length, take, slice_get, refl, sym, ◌∙◌, subst, arith}
 use Rattle.heap_model.specs.Setting.{Setting}
 use Rattle.heap_model.specs.Sections.{actions}
 use Rattle.heap_model.specs.Cuts.{IsWhole, IsClosed, IsStable, counts_of}
-use Rattle.heap_model.specs.declared.cut.Cut.{Cut}
 use Rattle.block_disk.specs.Device.{Device}
 use Rattle.block_disk.specs.Images.{LeavesOnly}
 use Rattle.block_disk.proofs.Images.{left_now}
 use Rattle.image.specs.Recovered.{Parts}
 use Rattle.image.specs.declared.layout.Layout.{Layout}
-use Rattle.durable.specs.Calls.{IsClean, MakeAll, Makes, ShowsAfterSome}
+use Rattle.std.specs.Prelude.{drop}
+use Rattle.durable.specs.Calls.{IsClean, MakeAll, Makes, Reached, ShowsAfterSome}
 use Rattle.store_memory.specs.Fresh.{IsOfLanes}
 use Rattle.store_image.specs.KeptHeap.{kept_heap}
 use Rattle.store_past.specs.Past.{Past, IsPast, applied, after_log, after_settle}
 use Rattle.durable.specs.Store.{Known, HasPast, ShowsStep, doubt_in}
 use Rattle.durable.specs.declared.doubt.Doubt.{Doubt}
-use Rattle.durable.specs.declared.doubt.Doubt.TheVariants.{Nothing, Logging, Settling}
+use Rattle.durable.specs.declared.doubt.Doubt.TheVariants.{Nothing, Settling}
 use Rattle.store_image.proofs.Stands.{shows_always}
 use Rattle.durable.specs.Store.ShowsStep.{Shows, ShowsLogged, ShowsSettled}
 use Rattle.store_image.specs.declared.home.Home.TheVariants.{Wrote, Done}
@@ -26,9 +26,11 @@ use Rattle.durable.proofs.Pasts.{past_apply, past_home, past_log}
 use Rattle.heap_model.proofs.Stays.{cut_stays}
 use Rattle.durable.proofs.Showing.{undone_beyond, of_lanes_before, past_settle, logged_heap}
 use Rattle.survival.specs.Accepted.{IsLeftBy}
+use Rattle.survival.specs.Again.{AreCutOff, Attempt, IsKept, ByStore, KeptAcceptedLaw, KeptHeapLaw, KeptOnLaw, KeptReportLaw, SurvivesAgain}
 use Rattle.recover.specs.Recovery.{IsRecovery, RefusesRecovery}
+use Rattle.recover.specs.Reading.{RefusesImage}
 use Rattle.recover.specs.Study.{IsStudyOf, held_by}
-use Rattle.survival.specs.WholeRun.{IsSettling, Next, Before, KeepsCut, Survives, CannotRecover, MayBeLeft}
+use Rattle.survival.specs.WholeRun.{IsSettling, Next, Before, Survives, CannotRecover, MayBeLeft}
 use Rattle.recover.specs.declared.error.RecoverError.{RecoverError}
 use Rattle.recover.specs.declared.error.RecoverError.TheVariants.{Fault, NotFormatted, BadHeader, TooSmall, NoControl, BadControl, Worn, BadRecord, IllegalLog, NoMemory}
 use Rattle.recover.specs.declared.report.Report.{Report}
@@ -123,17 +125,17 @@ left_by l s p w image is of (ShowsSettled doubt clean cut stable shown) = record
 }
 
 -- why it isn't recovered
-cannot : (l : Layout) (s : Setting) (p : Past) (image : List ℕ) → IsLeftBy l s p image → (e : RecoverError) → RefusesRecovery image e → CannotRecover image e
-cannot l s p image left Fault refuses = inl refl
-cannot l s p image left NotFormatted refuses = ⊎_elim (λ is. inl is) (λ is. inr (inl is)) (accepted l s p image left NotFormatted refuses)
-cannot l s p image left BadHeader refuses = ⊎_elim (λ is. inl is) (λ is. inr (inl is)) (accepted l s p image left BadHeader refuses)
-cannot l s p image left TooSmall refuses = ⊎_elim (λ is. inl is) (λ is. inr (inl is)) (accepted l s p image left TooSmall refuses)
-cannot l s p image left NoControl refuses = ⊎_elim (λ is. inl is) (λ is. inr (inl is)) (accepted l s p image left NoControl refuses)
-cannot l s p image left BadControl refuses = ⊎_elim (λ is. inl is) (λ is. inr (inl is)) (accepted l s p image left BadControl refuses)
-cannot l s p image left Worn refuses = inr (inr (refl, refuses))
-cannot l s p image left (BadRecord lane place) refuses = ⊎_elim (λ is. inl is) (λ is. inr (inl is)) (accepted l s p image left (BadRecord lane place) refuses.1)
-cannot l s p image left (IllegalLog lane place) refuses = ⊎_elim (λ is. inl is) (λ is. inr (inl is)) (accepted l s p image left (IllegalLog lane place) refuses.1)
-cannot l s p image left NoMemory refuses = inr (inl refl)
+cannot : (image : List ℕ) → ((e : RecoverError) → RefusesImage image e → (e ≡ Fault) ⊎ (e ≡ NoMemory)) → (e : RecoverError) → RefusesRecovery image e → CannotRecover image e
+cannot image takes Fault refuses = inl refl
+cannot image takes NotFormatted refuses = ⊎_elim (λ is. inl is) (λ is. inr (inl is)) (takes NotFormatted refuses)
+cannot image takes BadHeader refuses = ⊎_elim (λ is. inl is) (λ is. inr (inl is)) (takes BadHeader refuses)
+cannot image takes TooSmall refuses = ⊎_elim (λ is. inl is) (λ is. inr (inl is)) (takes TooSmall refuses)
+cannot image takes NoControl refuses = ⊎_elim (λ is. inl is) (λ is. inr (inl is)) (takes NoControl refuses)
+cannot image takes BadControl refuses = ⊎_elim (λ is. inl is) (λ is. inr (inl is)) (takes BadControl refuses)
+cannot image takes Worn refuses = inr (inr (refl, refuses))
+cannot image takes (BadRecord lane place) refuses = ⊎_elim (λ is. inl is) (λ is. inr (inl is)) (takes (BadRecord lane place) refuses.1)
+cannot image takes (IllegalLog lane place) refuses = ⊎_elim (λ is. inl is) (λ is. inr (inl is)) (takes (IllegalLog lane place) refuses.1)
+cannot image takes NoMemory refuses = inr (inl refl)
 
 -- no call takes back what is acknowledged
 grows_by : (s : Setting) (p q : Past) (call : StoreCall) → IsPast s p → Makes s p call q → IsPast s q × ((l : ℕ) → p.cut l ≤ q.cut l)
@@ -165,15 +167,15 @@ whole_closed s then w cut is (inl same) = subst (λ (c : ℕ → ℕ). IsWhole (
 whole_closed s then w cut is (inr settled) = (settled.2.whole, settled.2.closed)
 
 -- the heap is that of such a cut, and the sections that were kept are its
-pub record Keeps (l : Layout) (s : Setting) (p : Past) (w : Doubt) (heap : List ℕ) (kept : Cut) : Type 0 where
+pub record Keeps (l : Layout) (s : Setting) (p : Past) (w : Doubt) (heap : List ℕ) (kept : ℕ → ℕ) : Type 0 where
   pub cut : ℕ → ℕ
   pub acknowledged : KeepsEither s p w cut
   pub heap_is : heap ≡ kept_heap l s p.logged cut
-  pub kept_are : (lane : ℕ) → lane < l.lanes → counts_of kept lane ≡ cut lane
+  pub kept_are : (lane : ℕ) → lane < l.lanes → kept lane ≡ cut lane
 
 -- what a study of an image finds
 found : (l : Layout) (s : Setting) (p : Past) (w : Doubt) (image : List ℕ) → IsPast s p → IsOfLanes l.lanes (applied p) → ShowsStep l s p w image → (study : Study) → IsStudyOf image study →
-    Keeps l s p w study.heap.items study.report.kept
+    Keeps l s p w study.heap.items (counts_of study.report.kept)
 found l s p w image is of_lanes shows study of =
     let left = left_by l s p w image is of_lanes shows in
     let tells = (finds l s left.past image left.is (held_by study) of.holds).tells in
@@ -187,16 +189,16 @@ found l s p w image is of_lanes shows study of =
 -- what recovery of it answers
 pub keeps : {E : Type 0} (l : Layout) (s : Setting) (p : Past) (w : Doubt) (device : E → Device) (image : Device) → IsPast s p → IsOfLanes l.lanes (applied p) → ShowsStep l s p w image.now.bytes →
     (answer : Result (Parts E × Report) (E × RecoverError)) → IfOk answer (λ r. IsRecovery image (device r.0.disk) r.0 r.1) → IfErr answer (λ back. RefusesRecovery image.now.bytes back.1) →
-    MatchResult answer (λ r. Keeps l s p w r.0.heap r.1.kept) (λ back. CannotRecover image.now.bytes back.1)
+    MatchResult answer (λ r. Keeps l s p w r.0.heap (counts_of r.1.kept)) (λ back. CannotRecover image.now.bytes back.1)
 keeps l s p w device image is of_lanes shows (Ok r) done refused =
-    subst (λ (heap : List ℕ). Keeps l s p w heap r.1.kept) (sym done.heap_is)
-    (subst (λ (report : Report). Keeps l s p w done.study.heap.items report.kept) (sym done.report_is) (found l s p w image.now.bytes is of_lanes shows done.study done.of))
+    subst (λ (heap : List ℕ). Keeps l s p w heap (counts_of r.1.kept)) (sym done.heap_is)
+    (subst (λ (report : Report). Keeps l s p w done.study.heap.items (counts_of report.kept)) (sym done.report_is) (found l s p w image.now.bytes is of_lanes shows done.study done.of))
 keeps l s p w device image is of_lanes shows (Err back) done refused =
     let by = left_by l s p w image.now.bytes is of_lanes shows in
-    cannot l s by.past image.now.bytes by.is back.1 refused
+    cannot image.now.bytes (λ e refuses. accepted l s by.past image.now.bytes by.is e refuses) back.1 refused
 
 -- after a run
-of_run : (x : Known) (s : Setting) (p : Past) (calls : List StoreCall) (image heap : List ℕ) (kept : Cut) → IsPast s p → (some : ShowsSome x s p calls image) → Keeps x.layout s some.then some.doubt heap kept →
+of_run : (x : Known) (s : Setting) (p : Past) (calls : List StoreCall) (image heap : List ℕ) (kept : ℕ → ℕ) → IsPast s p → (some : ShowsSome x s p calls image) → Keeps x.layout s some.then some.doubt heap kept →
     Survives x s p calls heap kept
 of_run x s p calls image heap kept was some keeps =
     let cut = whole_closed s some.then some.doubt keeps.cut some.is keeps.acknowledged in
@@ -218,11 +220,51 @@ of_run x s p calls image heap kept was some keeps =
 pub survives : {E : Type 0} (x : Known) (s : Setting) (p : Past) (calls : List StoreCall) (old new : Device) (device : E → Device) (image : Device) → HasPast x s p old →
     LeavesOnly old new (ShowsAfterSome x.layout s p calls) → MayBeLeft old new image.now.bytes → (answer : Result (Parts E × Report) (E × RecoverError)) →
     IfOk answer (λ r. IsRecovery image (device r.0.disk) r.0 r.1) → IfErr answer (λ back. RefusesRecovery image.now.bytes back.1) →
-    MatchResult answer (λ r. Survives x s p calls r.0.heap r.1.kept) (λ back. CannotRecover image.now.bytes back.1)
+    MatchResult answer (λ r. Survives x s p calls r.0.heap (counts_of r.1.kept)) (λ back. CannotRecover image.now.bytes back.1)
 survives x s p calls old new device image has leaves left answer done refused =
     let some = shows_some x s p calls old new image.now.bytes has leaves left in
-    elim answer as (λ a. MatchResult a (λ r. Keeps x.layout s some.then some.doubt r.0.heap r.1.kept) (λ back. CannotRecover image.now.bytes back.1) →
-    MatchResult a (λ r. Survives x s p calls r.0.heap r.1.kept) (λ back. CannotRecover image.now.bytes back.1)) [
-      | Ok r ↦ λ keeps. of_run x s p calls image.now.bytes r.0.heap r.1.kept has.past some keeps
+    elim answer as (λ a. MatchResult a (λ r. Keeps x.layout s some.then some.doubt r.0.heap (counts_of r.1.kept)) (λ back. CannotRecover image.now.bytes back.1) →
+    MatchResult a (λ r. Survives x s p calls r.0.heap (counts_of r.1.kept)) (λ back. CannotRecover image.now.bytes back.1)) [
+      | Ok r ↦ λ keeps. of_run x s p calls image.now.bytes r.0.heap (counts_of r.1.kept) has.past some keeps
       | Err back ↦ λ cannot. cannot
     ] (keeps x.layout s some.then some.doubt device image some.is some.of_lanes some.shows answer done refused)
+
+-- and of what a crash left since the first n calls
+pub survives_since : {E : Type 0} (x : Known) (s : Setting) (p : Past) (calls : List StoreCall) (old new : Device) (device : E → Device) (image : Device) (n : ℕ) →
+    (was : Reached s p calls x old new n) → (answer : Result (Parts E × Report) (E × RecoverError)) →
+    IfOk answer (λ r. IsRecovery image (device r.0.disk) r.0 r.1) → IfErr answer (λ back. RefusesRecovery image.now.bytes back.1) → MayBeLeft was.device new image.now.bytes →
+    MatchResult answer (λ r. Survives was.known s was.then (drop n calls) r.0.heap (counts_of r.1.kept)) (λ back. CannotRecover image.now.bytes back.1)
+survives_since x s p calls old new device image n was answer done refused left =
+    survives was.known s was.then (drop n calls) was.device new device image was.has
+    (subst (λ l. LeavesOnly was.device new (ShowsAfterSome l s was.then (drop n calls))) (sym was.layout) was.rest) left answer done refused
+
+-- and where recovery was tried before
+survived_again : (x : Known) (s : Setting) (p : Past) (calls : List StoreCall) (image last : List ℕ) (study : Study) → IsPast s p → (some : ShowsSome x s p calls image) → (by : Left x.layout s some.then some.doubt image) →
+    KeptHeapLaw → KeptReportLaw → IsKept x.layout s by.past last → IsStudyOf last study → SurvivesAgain x s p calls study.heap.items study.report
+survived_again x s p calls image last study was some by heaps reports kept of = record {
+  kept = by.past.cut;
+  survives = of_run x s p calls image study.heap.items by.past.cut was some (record {
+    cut = by.past.cut;
+    acknowledged = by.acknowledged;
+    heap_is = heaps x.layout s by.past last study kept of ∙ by.heap;
+    kept_are = λ lane below. refl;
+  });
+  reported = reports x.layout s by.past last study kept of;
+}
+
+pub survives_again : {E : Type 0} (x : Known) (s : Setting) (p : Past) (calls : List StoreCall) (old new : Device) (device : E → Device) (there : Device) (image : List ℕ) (attempts : List Attempt) → HasPast x s p old →
+    KeptHeapLaw → KeptReportLaw → KeptAcceptedLaw → KeptOnLaw → LeavesOnly old new (ShowsAfterSome x.layout s p calls) → MayBeLeft old new image → AreCutOff attempts image there.now.bytes →
+    (answer : Result (Parts E × Report) (E × RecoverError)) → IfOk answer (λ r. IsRecovery there (device r.0.disk) r.0 r.1) → IfErr answer (λ back. RefusesRecovery there.now.bytes back.1) →
+    MatchResult answer (λ r. SurvivesAgain x s p calls r.0.heap r.1) (λ back. CannotRecover there.now.bytes back.1)
+survives_again x s p calls old new device there image attempts has heaps reports takes on leaves left tries (Ok r) done refused =
+    let some = shows_some x s p calls old new image has leaves left in
+    let by = left_by x.layout s some.then some.doubt image some.is some.of_lanes some.shows in
+    let kept = on x.layout s by.past attempts image there.now.bytes (ByStore by.is) tries in
+    subst (λ (heap : List ℕ). SurvivesAgain x s p calls heap r.1) (sym done.heap_is)
+    (subst (λ (report : Report). SurvivesAgain x s p calls done.study.heap.items report) (sym done.report_is)
+    (survived_again x s p calls image there.now.bytes done.study has.past some by heaps reports kept done.of))
+survives_again x s p calls old new device there image attempts has heaps reports takes on leaves left tries (Err back) done refused =
+    let some = shows_some x s p calls old new image has leaves left in
+    let by = left_by x.layout s some.then some.doubt image some.is some.of_lanes some.shows in
+    let kept = on x.layout s by.past attempts image there.now.bytes (ByStore by.is) tries in
+    cannot there.now.bytes (λ e refuses. takes x.layout s by.past there.now.bytes e kept refuses) back.1 refused

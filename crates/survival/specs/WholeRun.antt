@@ -1,9 +1,8 @@
 -- A whole run: calls of a store, a crash at some moment, and recovery of what that left (this project's own).
 use Rattle.std.specs.Prelude.{ℕ, ◌≡◌, ◌⊎◌, ◌<◌, ◌≤◌, true, Some, List, length, take, slice_get}
-use Rattle.heap_model.specs.declared.cut.Cut.{Cut}
 use Rattle.heap_model.specs.Setting.{Setting}
 use Rattle.heap_model.specs.Sections.{actions}
-use Rattle.heap_model.specs.Cuts.{IsWhole, IsClosed, IsStable, counts_of}
+use Rattle.heap_model.specs.Cuts.{IsWhole, IsClosed, IsStable}
 use Rattle.block_disk.specs.Device.{Device, LeftSince}
 use Rattle.durable.specs.declared.doubt.Doubt.TheVariants.{Settling}
 use Rattle.durable.specs.declared.store_call.StoreCall.{StoreCall}
@@ -35,7 +34,7 @@ KeepsCut x s calls n p cut = (cut ≡ p.cut) ⊎ (IsSettling x calls n × IsClea
 
 -- The heap is the one acknowledged after the first n of the calls, and the sections that were kept are those: whole sections of
 -- what was logged then, each with all that it depends on. Each section that was acknowledged before is one of them.
-pub record Survives (x : Known) (s : Setting) (p : Past) (calls : List StoreCall) (heap : List ℕ) (kept : Cut) : Type 0 where
+pub record Survives (x : Known) (s : Setting) (p : Past) (calls : List StoreCall) (heap : List ℕ) (kept : ℕ → ℕ) : Type 0 where
   pub n : ℕ
   pub within : n ≤ length calls
   pub then : Past
@@ -48,7 +47,7 @@ pub record Survives (x : Known) (s : Setting) (p : Past) (calls : List StoreCall
   pub closed : IsClosed (actions then.logged) cut
   pub stays : (lane : ℕ) → p.cut lane ≤ cut lane
   pub heap_is : heap ≡ kept_heap x.layout s then.logged cut
-  pub kept_are : (lane : ℕ) → lane < x.layout.lanes → counts_of kept lane ≡ cut lane
+  pub kept_are : (lane : ℕ) → lane < x.layout.lanes → kept lane ≡ cut lane
 
 -- why there is nothing to survive: only the device can fail, memory be wanting, and the sequence of controls be at its end
 abbrev pub CannotRecover : (image : List ℕ) → RecoverError → Type 0
