@@ -17,6 +17,7 @@ use Rattle.store_memory.specs.Remembers.{Remembers}
 use Rattle.store_memory.specs.Sections.{Logged, TellsSections}
 use Rattle.durable.specs.Store.{HasPast, Shows}
 use Rattle.store_image.specs.declared.committed.Committed.{Committed}
+use Rattle.durable.specs.declared.doubt.Doubt.TheVariants.{Nothing}
 use Rattle.durable.proofs.Begun.{begins, empty_committed}
 use Rattle.store_image.proofs.Stands.{shows_always}
 
@@ -66,7 +67,7 @@ module _ (l : Layout) (d : Device) (rows : List GuardRow) (slot : Slot) (sequenc
     (c : Committed) (m : Memory) (g : Logged) (empty : c ≡ empty_committed slot sequence) (lanes : length m.lanes ≡ l.lanes) (capacity : m.capacity ≡ l.capacity) (starts : (k : ℕ) → (lane_in m.lanes k).start ≡ 0)
     (tells : TellsSections g (λ k. 0) []) (logged_lanes : g.lanes ≡ l.lanes) (logged_capacity : g.capacity ≡ l.capacity)
     (remembers : (s : Setting) → IsSettingOf l rows heap last s → Remembers s m no_past) where
-  pub adopts : (s : Setting) → IsSettingOf l rows heap last s → HasPast (record { layout = l; committed = c; memory = m; logged = g; has_failed = false }) s no_past d
+  pub adopts : (s : Setting) → IsSettingOf l rows heap last s → HasPast (record { layout = l; committed = c; memory = m; logged = g; has_failed = false; doubt = Nothing }) s no_past d
   adopts s set =
       let consistent : IsConsistent l s no_past c d = subst (λ (x : Committed). IsConsistent l s no_past x d) (sym empty)
       (begins l s d rows slot sequence heap is (record { guard = λ f low. set.guards f no_row low; first = set.values })) in
@@ -83,7 +84,7 @@ module _ (l : Layout) (d : Device) (rows : List GuardRow) (slot : Slot) (sequenc
       }
 
   -- there is a setting that it has
-  pub adopts_one : (s : Setting) × HasPast (record { layout = l; committed = c; memory = m; logged = g; has_failed = false }) s no_past d
+  pub adopts_one : (s : Setting) × HasPast (record { layout = l; committed = c; memory = m; logged = g; has_failed = false; doubt = Nothing }) s no_past d
   adopts_one =
       let s = setting_of l rows heap last in
       (s, adopts s (setting_is l rows heap last (rows_recovered l d rows slot sequence heap is)))

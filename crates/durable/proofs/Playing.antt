@@ -1,7 +1,9 @@
 -- What one call of a store makes of its past, and what a list of them does.
-use Rattle.std.proofs.Common.{ℕ, zero, suc, ◌≡◌, ◌≢◌, ◌<◌, ◌≤◌, ◌+◌, ◌⊎◌, ◌∷◌, ◌++◌, [], List, None, Some, Result, Ok, Err, IfErr, OnOk, MatchResult, false, length, take, slice_get, refl, sym, ap, inl, inr, ⊎_elim, ◌∙◌, subst, arith}
-use Rattle.std.proofs.lemmas.List.{take_more, take_all}
-use Rattle.std.proofs.lemmas.Option.{get_or_from_slice_get}
+use Rattle.std.proofs.Common.{ℕ, zero, suc, ◌≡◌, ◌≢◌, ◌<◌, ◌≤◌, ◌+◌, ◌-◌, ◌⊎◌, ◌∷◌, ◌++◌, [], List, Option, None, Some, Result, Ok, Err, IfErr, IsErrOf, OnOk, MatchResult, false, get_or, length, take, slice_get, refl, sym, ap, inl, inr, ⊎_elim, ◌∙◌, subst, arith}
+use Rattle.std.specs.Prelude.{drop}
+use Rattle.std.proofs.lemmas.Bool.{cases_lt}
+use Rattle.std.proofs.lemmas.List.{take_more, take_all, get_or-drop, length-drop}
+use Rattle.std.proofs.lemmas.Option.{get_or_from_slice_get, slice_get-get_or}
 use Rattle.heap_model.specs.declared.ids.Lane.{Lane}
 use Rattle.heap_model.specs.declared.record.Record.{Record}
 use Rattle.heap_model.specs.Setting.{Setting}
@@ -16,9 +18,10 @@ use Rattle.store_past.specs.declared.error.StoreError.TheVariants.{Fault}
 use Rattle.durable.specs.declared.store_call.StoreCall.{StoreCall}
 use Rattle.durable.specs.declared.store_call.StoreCall.TheVariants.{Apply, Settle}
 use Rattle.store_memory.specs.Fresh.{IsOfLanes}
-use Rattle.durable.specs.Calls.{AreQuiet, IsClean, IsQuiet, MakeAll, Makes, RefusesApply, RefusesSettle, RefusesCall, ShowsAfterSome, StandsAfterSome, StoppedAt}
+use Rattle.durable.specs.Calls.{AreQuiet, IsClean, IsQuiet, MakeAll, Makes, Reached, RefusesApply, RefusesSettle, RefusesCall, ShowsAfterSome, StandsAfterSome, StoppedAt}
 use Rattle.store_past.specs.Past.{Past, applied, after_apply, after_settle}
-use Rattle.durable.specs.Store.{Known, HasPast, ShowsStep, StandsForStep}
+use Rattle.durable.specs.Store.{Known, HasPast, ShowsStep, StandsForStep, doubt_in}
+use Rattle.durable.specs.declared.doubt.Doubt.{Doubt}
 use Rattle.durable.proofs.Showing.{past_stands}
 
 module _ {T : Type 0} (s : Setting) (p : Past) (call : StoreCall) (result : Result T StoreError) where
@@ -92,12 +95,15 @@ quiet_at s p q [] n call are made is = absurd (let no : None ≡ Some call = is 
 quiet_at s p q (first ∷ calls) zero call are made is = subst (λ (m : Past). IsQuiet s m call) (sym made) (subst (λ (c : StoreCall). IsQuiet s p c) (let same : Some first ≡ Some call = is in cc) are.0)
 quiet_at s p q (first ∷ calls) (suc n) call are (mid, one, made) is = quiet_at s mid q calls n call (are.1 mid one) made is
 
-module _ (old mid : Known) (d0 d1 d2 : Device) (calls : List StoreCall) (n : ℕ) (was : Played old mid d0 d1 calls n) (lt : n < length calls)
-    (shows : (s : Setting) (p : Past) → HasPast mid s p d1 → LeavesOnly d1 d2 (ShowsStep mid.layout s p)) where
+module _ (old mid : Known) (d0 d1 d2 : Device) (calls : List StoreCall) (n : ℕ) (was : Played old mid d0 d1 calls n) (lt : n < length calls) (call : StoreCall) (is : slice_get calls n ≡ Some call)
+    (makes_shown : (s : Setting) (p : Past) → HasPast mid s p d1 → LeavesOnly d1 d2 (ShowsStep mid.layout s p (doubt_in (Some call)))) where
+  shows : (s : Setting) (p : Past) → HasPast mid s p d1 → LeavesOnly d1 d2 (ShowsStep mid.layout s p (doubt_in (slice_get calls n)))
+  shows s p has = subst (λ (o : Option StoreCall). LeavesOnly d1 d2 (ShowsStep mid.layout s p (doubt_in o))) (sym is) (makes_shown s p has)
+
   -- quiet calls leave the device
-  pub quiet_on : (call : StoreCall) → slice_get calls n ≡ Some call → ((s : Setting) (p : Past) → HasPast mid s p d1 → IsQuiet s p call → d2 ≡ d1) →
+  pub quiet_on : ((s : Setting) (p : Past) → HasPast mid s p d1 → IsQuiet s p call → d2 ≡ d1) →
       (s : Setting) (p : Past) → HasPast old s p d0 → AreQuiet s p calls → d2 ≡ d0
-  quiet_on call is quiet s p has are =
+  quiet_on quiet s p has are =
       let made = was.made s p has in
       quiet s made.0 made.2 (quiet_at s p made.0 calls n call are made.1 is) ∙ was.quiet s p has are
 
@@ -106,32 +112,32 @@ module _ (old mid : Known) (d0 d1 d2 : Device) (calls : List StoreCall) (n : ℕ
   shown_on s p has =
       let made = was.made s p has in
       and_then d0 d1 d2 (ShowsAfterSome old.layout s p calls) (was.shown s p has)
-      (weaker d1 d2 (ShowsStep mid.layout s made.0) (ShowsAfterSome old.layout s p calls) (λ image shown. record {
+      (weaker d1 d2 (ShowsStep mid.layout s made.0 (doubt_in (slice_get calls n))) (ShowsAfterSome old.layout s p calls) (λ image shown. record {
         n = n;
         within = was.within;
         then = made.0;
         made = made.1;
         is = made.2.past;
         of_lanes = subst (λ l. IsOfLanes l.lanes (applied made.0)) was.layout (subst (λ n. IsOfLanes n (applied made.0)) made.2.layout.lanes made.2.remembers.of_lanes);
-        shows = subst (λ l. ShowsStep l s made.0 image) was.layout shown;
+        shows = subst (λ l. ShowsStep l s made.0 (doubt_in (slice_get calls n)) image) was.layout shown;
       }) (shows s made.0 made.2))
 
   pub stands_on : (s : Setting) (p : Past) → HasPast old s p d0 → LeavesOnly d0 d2 (StandsAfterSome old.layout s p calls)
   stands_on s p has =
       let made = was.made s p has in
       and_then d0 d1 d2 (StandsAfterSome old.layout s p calls) (was.stands s p has)
-      (weaker d1 d2 (ShowsStep mid.layout s made.0) (StandsAfterSome old.layout s p calls) (λ image shown. record {
+      (weaker d1 d2 (ShowsStep mid.layout s made.0 (doubt_in (slice_get calls n))) (StandsAfterSome old.layout s p calls) (λ image shown. record {
         n = n;
         within = was.within;
         then = made.0;
         made = made.1;
-        stands = subst (λ l. StandsForStep l s made.0 image) was.layout (past_stands mid s made.0 d1 made.2 image shown);
+        stands = subst (λ l. StandsForStep l s made.0 (doubt_in (slice_get calls n)) image) was.layout (past_stands mid s made.0 (doubt_in (slice_get calls n)) d1 made.2 image shown);
       }) (shows s made.0 made.2))
 
-  pub played_more : (new : Known) (call : StoreCall) → new.layout ≡ mid.layout → (mid.has_failed ≡ false) × (new.has_failed ≡ false) → d1.failures ≤ d2.failures → slice_get calls n ≡ Some call →
+  pub played_more : (new : Known) → new.layout ≡ mid.layout → (mid.has_failed ≡ false) × (new.has_failed ≡ false) → d1.failures ≤ d2.failures →
       ((s : Setting) (p : Past) → HasPast mid s p d1 → (q : Past) × Makes s p call q × HasPast new s q d2) →
       ((s : Setting) (p : Past) → HasPast mid s p d1 → IsQuiet s p call → d2 ≡ d1) → Played old new d0 d2 calls (n + 1)
-  played_more new call layout running later is makes quiet = record {
+  played_more new layout running later makes quiet = record {
     within = omega arith;
     layout = layout ∙ was.layout;
     running = running.1 ∙ sym running.0 ∙ was.running;
@@ -143,12 +149,12 @@ module _ (old mid : Known) (d0 d1 d2 : Device) (calls : List StoreCall) (n : ℕ
         (next.0, subst (λ cs. MakeAll s p cs next.0) (sym longer) (made_more s p made.0 next.0 (take n calls) call made.1 next.1), next.2);
     shown = shown_on;
     stands = stands_on;
-    quiet = quiet_on call is quiet;
+    quiet = quiet_on quiet;
   }
 
-  pub stopped : (new : Known) (call : StoreCall) (reason : StoreError) → slice_get calls n ≡ Some call → ((s : Setting) (p : Past) → HasPast mid s p d1 → RefusesCall mid s p call reason) →
+  pub stopped : (new : Known) (reason : StoreError) → ((s : Setting) (p : Past) → HasPast mid s p d1 → RefusesCall mid s p call reason) →
       ((s : Setting) (p : Past) → HasPast mid s p d1 → HasPast new s p d2) → (reason ≡ Fault) ⊎ (new ≡ mid) → (reason ≡ Fault) ⊎ (d2 ≡ d1) → (s : Setting) (p : Past) → HasPast old s p d0 → StoppedAt s p calls old new d2 n reason
-  stopped new call reason is refuses kept unchanged untouched s p has =
+  stopped new reason refuses kept unchanged untouched s p has =
       let made = was.made s p has in
       record { call = call; is = is; then = made.0; made = made.1; has = kept s made.0 made.2; known = mid; device = d1; had = made.2; running = was.running; refused = refuses s made.0 made.2; unchanged = ⊎_elim (λ fault. inl fault) (λ same. inr (sym same)) unchanged; untouched = ⊎_elim (λ fault. inl fault) (λ same. inr (sym same)) untouched }
 
@@ -160,3 +166,106 @@ played_all old new d0 d1 calls n was le s p has = subst (λ cs. (q : Past) × Ma
 -- a fault has its cause, whatever was called before
 pub fault_since : {T : Type 0} (a b c : ℕ) (result : Result T StoreError) (reason : StoreError) → a ≤ b → HasCause b c Fault result → result ≡ Err reason → reason ≡ Fault → HasFailed a c
 fault_since {T} a b c result reason le cause is fault = failed_since a b c le (cause.failed (is ∙ ap (λ e. Err e) fault))
+
+-- what is in doubt after a fault
+pub fault_leaves : {T : Type 0} (calls : List StoreCall) (n : ℕ) (call : StoreCall) (result : Result T StoreError) (reason : StoreError) (w : Doubt) → slice_get calls n ≡ Some call →
+    (IsErrOf result Fault → w ≡ doubt_in (Some call)) → result ≡ Err reason → reason ≡ Fault → w ≡ doubt_in (slice_get calls n)
+fault_leaves {T} calls n call result reason w at leaves is fault = leaves (is ∙ ap (λ e. Err e) fault) ∙ sym (ap (λ (o : Option StoreCall). doubt_in o) at)
+
+-- the run as it stood after the first k calls, and as it went on
+pub record Split (old new : Known) (d0 d1 : Device) (calls : List StoreCall) (n k : ℕ) : Type 0 where
+  known : Known
+  device : Device
+  before : Played old known d0 device calls k
+  after : Played known new device d1 (drop k calls) (n - k)
+
+-- so many calls were made, and after each of them the others went on from there
+pub record PlayedOn (old new : Known) (d0 d1 : Device) (calls : List StoreCall) (n : ℕ) : Type 0 where
+  pub played : Played old new d0 d1 calls n
+  pub splits : (k : ℕ) → k ≤ n → Split old new d0 d1 calls n k
+
+pub begins_on : (old : Known) (d : Device) (calls : List StoreCall) → PlayedOn old old d d calls 0
+begins_on old d calls = record {
+  played = played_none old d calls;
+  splits = λ k le. subst (λ (j : ℕ). Split old old d d calls 0 j) (let none : 0 ≡ k = omega (arith, le) in none)
+      (record { known = old; device = d; before = played_none old d calls; after = played_none old d (drop 0 calls) });
+}
+
+-- a call behind the first k
+call_behind : (calls : List StoreCall) (n k : ℕ) (call : StoreCall) → k ≤ n → n < length calls → slice_get calls n ≡ Some call → slice_get (drop k calls) (n - k) ≡ Some call
+call_behind calls n k call le lt is =
+    let place : k + (n - k) ≡ n = omega (arith, le) in
+    slice_get-get_or (drop k calls) (n - k) call (omega (arith, length-drop k calls, le, lt))
+    ∙ ap (λ c. Some c) (get_or-drop k calls (n - k) call ∙ ap (λ i. get_or calls i call) place ∙ get_or_from_slice_get calls n call call is)
+
+module _ (old mid : Known) (d0 d1 d2 : Device) (calls : List StoreCall) (n : ℕ) (was : PlayedOn old mid d0 d1 calls n) (lt : n < length calls) (call : StoreCall) (is : slice_get calls n ≡ Some call)
+    (makes_shown : (s : Setting) (p : Past) → HasPast mid s p d1 → LeavesOnly d1 d2 (ShowsStep mid.layout s p (doubt_in (Some call)))) where
+  behind_lt : (k : ℕ) → k ≤ n → n - k < length (drop k calls)
+  behind_lt k le = omega (arith, length-drop k calls, le, lt)
+
+  -- one call more
+  pub played_on : (new : Known) → new.layout ≡ mid.layout → (mid.has_failed ≡ false) × (new.has_failed ≡ false) → d1.failures ≤ d2.failures →
+      ((s : Setting) (p : Past) → HasPast mid s p d1 → (q : Past) × Makes s p call q × HasPast new s q d2) →
+      ((s : Setting) (p : Past) → HasPast mid s p d1 → IsQuiet s p call → d2 ≡ d1) → PlayedOn old new d0 d2 calls (n + 1)
+  played_on new layout running later makes quiet =
+      let more : Played old new d0 d2 calls (n + 1) = played_more old mid d0 d1 d2 calls n was.played lt call is makes_shown new layout running later makes quiet in
+      record {
+        played = more;
+        splits = λ k le. elim (cases_lt n k) [
+          | inl all ↦
+              let same : n + 1 ≡ k = omega (arith, all, le) in
+              let none : 0 ≡ n + 1 - k = omega (arith, same) in
+              record {
+                known = new;
+                device = d2;
+                before = subst (Played old new d0 d2 calls) same more;
+                after = subst (Played new new d2 d2 (drop k calls)) none (played_none new d2 (drop k calls));
+              }
+          | inr some ↦
+              let split = was.splits k some in
+              let place : n - k + 1 ≡ n + 1 - k = omega (arith, some) in
+              record {
+                known = split.known;
+                device = split.device;
+                before = split.before;
+                after = subst (Played split.known new split.device d2 (drop k calls)) place
+                    (played_more split.known mid split.device d1 d2 (drop k calls) (n - k) split.after (behind_lt k some) call (call_behind calls n k call some lt is) makes_shown new layout running later makes quiet);
+              }
+        ];
+      }
+
+  -- whatever the next call answered
+  pub reached_on : (s : Setting) (p : Past) → HasPast old s p d0 → (k : ℕ) → k ≤ n → Reached s p calls old d0 d2 k
+  reached_on s p has k le =
+      let split = was.splits k le in
+      let made = split.before.made s p has in
+      record {
+        then = made.0;
+        made = made.1;
+        known = split.known;
+        device = split.device;
+        has = made.2;
+        layout = split.before.layout;
+        running = split.before.running;
+        since = (split.before.shown s p has).later;
+        rest = subst (λ l. LeavesOnly split.device d2 (ShowsAfterSome l s made.0 (drop k calls))) split.before.layout
+            (shown_on split.known mid split.device d1 d2 (drop k calls) (n - k) split.after (behind_lt k le) call (call_behind calls n k call le lt is) makes_shown s made.0 made.2);
+      }
+
+-- and when all were made
+pub reached_all : (old new : Known) (d0 d1 : Device) (calls : List StoreCall) (n : ℕ) → PlayedOn old new d0 d1 calls n → length calls ≤ n →
+    (s : Setting) (p : Past) → HasPast old s p d0 → (k : ℕ) → k ≤ length calls → Reached s p calls old d0 d1 k
+reached_all old new d0 d1 calls n was le s p has k low =
+    let split = was.splits k (omega (arith, low, le)) in
+    let made = split.before.made s p has in
+    record {
+      then = made.0;
+      made = made.1;
+      known = split.known;
+      device = split.device;
+      has = made.2;
+      layout = split.before.layout;
+      running = split.before.running;
+      since = (split.before.shown s p has).later;
+      rest = subst (λ l. LeavesOnly split.device d1 (ShowsAfterSome l s made.0 (drop k calls))) split.before.layout (split.after.shown s made.0 made.2);
+    }

@@ -16,6 +16,7 @@ use Rattle.store_past.specs.Past.{Past, IsPast, applied, after_log, after_settle
 use Rattle.store_memory.specs.Fresh.{IsOfLanes}
 use Rattle.store_image.specs.KeptHeap.{kept_heap, StandsForCut}
 use Rattle.durable.specs.Store.{Known, HasPast, ShowsStep, Shows, ShowsLogged, ShowsSettled, StandsForStep, Stands, StandsSettled}
+use Rattle.durable.specs.declared.doubt.Doubt.{Doubt}
 use Rattle.store_image.proofs.Growing.{kept_grown}
 use Rattle.durable.proofs.Pasts.{past_log}
 use Rattle.store_image.proofs.Stands.{same_heap, stands}
@@ -50,15 +51,15 @@ pub logged_heap : (l : Layout) (s : Setting) (p : Past) → IsPast s p → kept_
 logged_heap l s p is = sym (same_heap l s p.logged (p.fresh ++ p.logged) p.cut (λ f. kept_grown s p.fresh p.logged p.cut f is.legal is.whole))
 
 -- each such image stands for the heap of the acknowledged cut, or of the stable one
-pub shown_stands : (l : Layout) (s : Setting) (p : Past) → IsPast s p → IsOfLanes l.lanes (applied p) → (image : List ℕ) → ShowsStep l s p image → StandsForStep l s p image
-shown_stands l s p is of image (Shows shown) = Stands (stands l s p is (λ k from. undone_beyond l.lanes k p.logged (of_lanes_before l.lanes p.fresh p.logged of) from) image shown)
-shown_stands l s p is of image (ShowsLogged shown) =
+pub shown_stands : (l : Layout) (s : Setting) (p : Past) (w : Doubt) → IsPast s p → IsOfLanes l.lanes (applied p) → (image : List ℕ) → ShowsStep l s p w image → StandsForStep l s p w image
+shown_stands l s p w is of image (Shows shown) = Stands (stands l s p is (λ k from. undone_beyond l.lanes k p.logged (of_lanes_before l.lanes p.fresh p.logged of) from) image shown)
+shown_stands l s p w is of image (ShowsLogged doubt shown) =
     let after : StandsForCut l s (p.fresh ++ p.logged) p.cut image = stands l s (after_log p) (past_log cut_stays s p is) (λ k from. undone_beyond l.lanes k (p.fresh ++ p.logged) of from) image shown in
     Stands (record { heap = subst (StandsFor l image) (logged_heap l s p is) after.heap; sections = after.sections })
-shown_stands l s p is of image (ShowsSettled cut stable shown) =
-    StandsSettled cut stable (stands l s (after_settle p cut) (past_settle s p cut is stable) (λ k from. undone_beyond l.lanes k p.logged (of_lanes_before l.lanes p.fresh p.logged of) from) image shown)
+shown_stands l s p w is of image (ShowsSettled doubt clean cut stable shown) =
+    StandsSettled doubt clean cut stable (stands l s (after_settle p cut) (past_settle s p cut is stable) (λ k from. undone_beyond l.lanes k p.logged (of_lanes_before l.lanes p.fresh p.logged of) from) image shown)
 
 -- and so does each image of a store that has the past
-pub past_stands : (x : Known) (s : Setting) (p : Past) (d : Device) → HasPast x s p d → (image : List ℕ) → ShowsStep x.layout s p image → StandsForStep x.layout s p image
-past_stands x s p d has image shown =
-    shown_stands x.layout s p has.past (subst (λ n. IsOfLanes n (applied p)) has.layout.lanes has.remembers.of_lanes) image shown
+pub past_stands : (x : Known) (s : Setting) (p : Past) (w : Doubt) (d : Device) → HasPast x s p d → (image : List ℕ) → ShowsStep x.layout s p w image → StandsForStep x.layout s p w image
+past_stands x s p w d has image shown =
+    shown_stands x.layout s p w has.past (subst (λ n. IsOfLanes n (applied p)) has.layout.lanes has.remembers.of_lanes) image shown

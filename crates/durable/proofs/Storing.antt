@@ -38,6 +38,8 @@ use Rattle.store_past.specs.declared.error.StoreError.{StoreError}
 use Rattle.store_past.specs.declared.error.StoreError.TheVariants.{Failed, BadLane, BadId, Worn, NotNext, TooLong, LogFull, Unwritten, Fault, Unfinished}
 use Rattle.store_image.specs.Steps.{MayGoHome, MayLog, MaySettle}
 use Rattle.durable.specs.Store.{Known, Parts, FitsLayout, HasPast, ShowsStep}
+use Rattle.durable.specs.declared.doubt.Doubt.{Doubt}
+use Rattle.durable.specs.declared.doubt.Doubt.TheVariants.{Logging, Settling}
 use Rattle.durable.specs.Store.ShowsStep.{Shows, ShowsLogged, ShowsSettled}
 use Rattle.store_image.specs.declared.committed.Committed.{Committed}
 use Rattle.durable.proofs.Begun.{applies}
@@ -68,9 +70,9 @@ all_reversed : {A : Type 0} (P : A → Type 0) (xs : List A) → All P xs → Al
 all_reversed P xs all k d lt = subst P (sym (get_or-reverse xs k d (omega (arith, length-reverse xs)))) (all (length xs - 1 - k) d (omega (arith, length-reverse xs)))
 
 -- the lanes are those of the image still
-still_fits : (x : Known) (c : Committed) (m : Memory) (g : Logged) (failed : Bool) → FitsLayout x → KeepsLayout x.memory m → g.lanes ≡ x.logged.lanes → g.capacity ≡ x.logged.capacity →
-    FitsLayout (record { layout = x.layout; committed = c; memory = m; logged = g; has_failed = failed })
-still_fits x c m g failed was keeps lanes capacity = record {
+still_fits : (x : Known) (c : Committed) (m : Memory) (g : Logged) (failed : Bool) (w : Doubt) → FitsLayout x → KeepsLayout x.memory m → g.lanes ≡ x.logged.lanes → g.capacity ≡ x.logged.capacity →
+    FitsLayout (record { layout = x.layout; committed = c; memory = m; logged = g; has_failed = failed; doubt = w })
+still_fits x c m g failed w was keeps lanes capacity = record {
   limits = was.limits;
   lanes = keeps.lanes ∙ was.lanes;
   capacity = keeps.capacity ∙ was.capacity;
@@ -109,14 +111,15 @@ never_fault x s p k r (Ok done) answers = tt
 never_fault x s p k r (Err e) answers = λ is. subst (λ f. Answers s x.memory p k r (Err f)) is answers
 
 -- the images of a step that leaves the past
-pub shows_then : (l : Layout) (s : Setting) (p : Past) (d d2 : Device) → LeavesOnly d d2 (ShowsPast l s p) → LeavesOnly d d2 (ShowsStep l s p)
-shows_then l s p d d2 = weaker d d2 (ShowsPast l s p) (ShowsStep l s p) (λ image. Shows)
+pub shows_then : (l : Layout) (s : Setting) (p : Past) (w : Doubt) (d d2 : Device) → LeavesOnly d d2 (ShowsPast l s p) → LeavesOnly d d2 (ShowsStep l s p w)
+shows_then l s p w d d2 = weaker d d2 (ShowsPast l s p) (ShowsStep l s p w) (λ image. Shows)
 
-pub logs_then : (l : Layout) (s : Setting) (p : Past) (d d2 : Device) → LeavesOnly d d2 (ShowsEither l s p (after_log p)) → LeavesOnly d d2 (ShowsStep l s p)
-logs_then l s p d d2 = weaker d d2 (ShowsEither l s p (after_log p)) (ShowsStep l s p) (λ image. ⊎_elim Shows ShowsLogged)
+pub logs_then : (l : Layout) (s : Setting) (p : Past) (d d2 : Device) → LeavesOnly d d2 (ShowsEither l s p (after_log p)) → LeavesOnly d d2 (ShowsStep l s p Logging)
+logs_then l s p d d2 = weaker d d2 (ShowsEither l s p (after_log p)) (ShowsStep l s p Logging) (λ image. ⊎_elim Shows (ShowsLogged refl))
 
-pub settles_then : (l : Layout) (s : Setting) (p : Past) (cut : ℕ → ℕ) (d d2 : Device) → IsStable (actions p.logged) cut → LeavesOnly d d2 (ShowsEither l s p (after_settle p cut)) → LeavesOnly d d2 (ShowsStep l s p)
-settles_then l s p cut d d2 stable = weaker d d2 (ShowsEither l s p (after_settle p cut)) (ShowsStep l s p) (λ image. ⊎_elim Shows (ShowsSettled cut stable))
+pub settles_then : (l : Layout) (s : Setting) (p : Past) (cut : ℕ → ℕ) (d d2 : Device) → IsClean s p → IsStable (actions p.logged) cut → LeavesOnly d d2 (ShowsEither l s p (after_settle p cut)) →
+    LeavesOnly d d2 (ShowsStep l s p Settling)
+settles_then l s p cut d d2 clean stable = weaker d d2 (ShowsEither l s p (after_settle p cut)) (ShowsStep l s p Settling) (λ image. ⊎_elim Shows (ShowsSettled refl clean cut stable))
 
 -- stable cuts of one list are the same
 pub one_stable : (log : List (ℕ × Action)) (c d : ℕ → ℕ) → IsStable log c → IsStable log d → (l : ℕ) → c l ≡ d l
@@ -140,16 +143,16 @@ settle_refused x s p e serves is clean last = subst (RefusesSettle x s p) (sym i
 
 module _ (x : Known) (s : Setting) (p : Past) (d : Device) (has : HasPast x s p d) where
   -- a device that agrees shows the past
-  shows_past : (l : Layout) (q : Past) (c : Committed) (d2 : Device) → IsConsistent l s q c d2 → Always d2 (ShowsStep l s q)
-  shows_past l q c d2 is = always_weaker d2 (ShowsPast l s q) (ShowsStep l s q) (λ image. Shows) (shows_always l s q c d2 is)
+  shows_past : (l : Layout) (q : Past) (c : Committed) (w : Doubt) (d2 : Device) → IsConsistent l s q c d2 → Always d2 (ShowsStep l s q w)
+  shows_past l q c w d2 is = always_weaker d2 (ShowsPast l s q) (ShowsStep l s q w) (λ image. Shows) (shows_always l s q c d2 is)
 
   -- a record is applied
   pub applied_has : (k : ℕ) (r : Record) (m : Memory) → x.has_failed ≡ false → k < x.layout.lanes → Remembers s m (after_apply p k r) → KeepsLayout x.memory m →
-      HasPast (record { layout = x.layout; committed = x.committed; memory = m; logged = x.logged; has_failed = x.has_failed }) s (after_apply p k r) d
+      HasPast (record { layout = x.layout; committed = x.committed; memory = m; logged = x.logged; has_failed = x.has_failed; doubt = x.doubt }) s (after_apply p k r) d
   applied_has k r m serves low remembers keeps =
       let agrees : IsConsistent x.layout s (after_apply p k r) x.committed d = applies x.layout s p x.committed d k r (has.agrees serves) low remembers.legal in
       record {
-        layout = still_fits x x.committed m x.logged x.has_failed has.layout keeps refl refl;
+        layout = still_fits x x.committed m x.logged x.has_failed x.doubt has.layout keeps refl refl;
         setting = has.setting;
         past = past_apply s p k r has.past remembers.legal;
         remembers = remembers;
@@ -157,23 +160,23 @@ module _ (x : Known) (s : Setting) (p : Past) (d : Device) (has : HasPast x s p 
         starts = λ j below. keeps.starts j ∙ has.starts j below;
         tells = has.tells;
         agrees = λ ok. agrees;
-        images = shows_past x.layout (after_apply p k r) x.committed d agrees;
+        images = shows_past x.layout (after_apply p k r) x.committed x.doubt d agrees;
       }
 
   pub apply_has : (k : ℕ) (r : Record) (m : Memory) (answer : Result (Unit {0}) StoreError) → x.has_failed ≡ false → Answers s x.memory p k r answer → OnOk answer (Remembers s m (after_apply p k r)) →
-      OnErr answer (m ≡ x.memory) → KeepsLayout x.memory m → (q : Past) × HasPast (record { layout = x.layout; committed = x.committed; memory = m; logged = x.logged; has_failed = x.has_failed }) s q d
+      OnErr answer (m ≡ x.memory) → KeepsLayout x.memory m → (q : Past) × HasPast (record { layout = x.layout; committed = x.committed; memory = m; logged = x.logged; has_failed = x.has_failed; doubt = x.doubt }) s q d
   apply_has k r m (Ok done) serves answers remembers same keeps = (after_apply p k r, applied_has k r m serves (omega (arith, answers.0, has.layout.lanes)) remembers keeps)
   apply_has k r m (Err e) serves answers remembers same keeps =
-      (p, subst (λ (n : Memory). HasPast (record { layout = x.layout; committed = x.committed; memory = n; logged = x.logged; has_failed = x.has_failed }) s p d) (sym same) has)
+      (p, subst (λ (n : Memory). HasPast (record { layout = x.layout; committed = x.committed; memory = n; logged = x.logged; has_failed = x.has_failed; doubt = x.doubt }) s p d) (sym same) has)
 
   pub apply_ok : (k : ℕ) (r : Record) (m : Memory) (answer : Result (Unit {0}) StoreError) → x.has_failed ≡ false → Answers s x.memory p k r answer → OnOk answer (Remembers s m (after_apply p k r)) →
-      KeepsLayout x.memory m → OnOk answer (HasPast (record { layout = x.layout; committed = x.committed; memory = m; logged = x.logged; has_failed = x.has_failed }) s (after_apply p k r) d)
+      KeepsLayout x.memory m → OnOk answer (HasPast (record { layout = x.layout; committed = x.committed; memory = m; logged = x.logged; has_failed = x.has_failed; doubt = x.doubt }) s (after_apply p k r) d)
   apply_ok k r m (Ok done) serves answers remembers keeps = applied_has k r m serves (omega (arith, answers.0, has.layout.lanes)) remembers keeps
   apply_ok k r m (Err e) serves answers remembers keeps = tt
 
   -- what a step that went wrong leaves
-  pub shows_now : (d2 : Device) → x.has_failed ≡ false → LeavesOnly d d2 (ShowsPast x.layout s p) → Always d2 (ShowsStep x.layout s p)
-  shows_now d2 serves leaves = always_weaker d2 (ShowsPast x.layout s p) (ShowsStep x.layout s p) (λ image. Shows)
+  pub shows_now : (w : Doubt) (d2 : Device) → x.has_failed ≡ false → LeavesOnly d d2 (ShowsPast x.layout s p) → Always d2 (ShowsStep x.layout s p w)
+  shows_now w d2 serves leaves = always_weaker d2 (ShowsPast x.layout s p) (ShowsStep x.layout s p w) (λ image. Shows)
       (now_too d d2 (ShowsPast x.layout s p) (shows_always x.layout s p x.committed d (has.agrees serves)) leaves)
 
   pub may_go_home : (f v : ℕ) → x.has_failed ≡ false → IsLeastDirtyOf s p f → v ≡ value s.first f p.logged → MayGoHome x.layout s p x.committed d f v
@@ -187,9 +190,9 @@ module _ (x : Known) (s : Setting) (p : Past) (d : Device) (has : HasPast x s p 
   -- the new records are logged
   pub logged_has : (c : Committed) (m : Memory) (g : Logged) (d2 : Device) → IsConsistent x.layout s (after_log p) c d2 → Remembers s m (after_log p) → KeepsLayout x.memory m →
       TellsSections g p.base (p.fresh ++ p.logged) → g.lanes ≡ x.logged.lanes → g.capacity ≡ x.logged.capacity →
-      HasPast (record { layout = x.layout; committed = c; memory = m; logged = g; has_failed = x.has_failed }) s (after_log p) d2
+      HasPast (record { layout = x.layout; committed = c; memory = m; logged = g; has_failed = x.has_failed; doubt = x.doubt }) s (after_log p) d2
   logged_has c m g d2 agrees remembers keeps tells lanes capacity = record {
-    layout = still_fits x c m g x.has_failed has.layout keeps lanes capacity;
+    layout = still_fits x c m g x.has_failed x.doubt has.layout keeps lanes capacity;
     setting = has.setting;
     past = agrees.past;
     remembers = remembers;
@@ -197,14 +200,14 @@ module _ (x : Known) (s : Setting) (p : Past) (d : Device) (has : HasPast x s p 
     starts = λ j below. keeps.starts j ∙ has.starts j below ∙ sym (places_grown (p.base j) p.fresh p.logged j (has.past.base_whole j));
     tells = agrees.tells;
     agrees = λ ok. agrees;
-    images = shows_past x.layout (after_log p) c d2 agrees;
+    images = shows_past x.layout (after_log p) c x.doubt d2 agrees;
   }
 
   -- a field is written home
   pub home_has : (f : ℕ) (m : Memory) (d2 : Device) → IsConsistent x.layout s (after_home p f) x.committed d2 → Remembers s m (after_home p f) → KeepsLayout x.memory m →
-      HasPast (record { layout = x.layout; committed = x.committed; memory = m; logged = x.logged; has_failed = x.has_failed }) s (after_home p f) d2
+      HasPast (record { layout = x.layout; committed = x.committed; memory = m; logged = x.logged; has_failed = x.has_failed; doubt = x.doubt }) s (after_home p f) d2
   home_has f m d2 agrees remembers keeps = record {
-    layout = still_fits x x.committed m x.logged x.has_failed has.layout keeps refl refl;
+    layout = still_fits x x.committed m x.logged x.has_failed x.doubt has.layout keeps refl refl;
     setting = has.setting;
     past = agrees.past;
     remembers = remembers;
@@ -212,15 +215,16 @@ module _ (x : Known) (s : Setting) (p : Past) (d : Device) (has : HasPast x s p 
     starts = λ j below. keeps.starts j ∙ has.starts j below;
     tells = agrees.tells;
     agrees = λ ok. agrees;
-    images = shows_past x.layout (after_home p f) x.committed d2 agrees;
+    images = shows_past x.layout (after_home p f) x.committed x.doubt d2 agrees;
   }
 
   -- with the same rows and sections
-  moved : (c c2 : Committed) (g g2 : Logged) (failed : Bool) (q : Past) (d2 : Device) → c2 ≡ c → g2 ≡ g →
-      HasPast (record { layout = x.layout; committed = c; memory = x.memory; logged = g; has_failed = failed }) s q d2 → HasPast (record { layout = x.layout; committed = c2; memory = x.memory; logged = g2; has_failed = failed }) s q d2
-  moved c c2 g g2 failed q d2 same_c same_g was =
-      subst (λ (e : Committed). HasPast (record { layout = x.layout; committed = e; memory = x.memory; logged = g2; has_failed = failed }) s q d2) (sym same_c)
-      (subst (λ (e : Logged). HasPast (record { layout = x.layout; committed = c; memory = x.memory; logged = e; has_failed = failed }) s q d2) (sym same_g) was)
+  moved : (c c2 : Committed) (g g2 : Logged) (failed : Bool) (w : Doubt) (q : Past) (d2 : Device) → c2 ≡ c → g2 ≡ g →
+      HasPast (record { layout = x.layout; committed = c; memory = x.memory; logged = g; has_failed = failed; doubt = w }) s q d2 →
+      HasPast (record { layout = x.layout; committed = c2; memory = x.memory; logged = g2; has_failed = failed; doubt = w }) s q d2
+  moved c c2 g g2 failed w q d2 same_c same_g was =
+      subst (λ (e : Committed). HasPast (record { layout = x.layout; committed = e; memory = x.memory; logged = g2; has_failed = failed; doubt = w }) s q d2) (sym same_c)
+      (subst (λ (e : Logged). HasPast (record { layout = x.layout; committed = c; memory = x.memory; logged = e; has_failed = failed; doubt = w }) s q d2) (sym same_g) was)
 
   pub may_settle : (cut : Cut) (places : List ℕ) → x.has_failed ≡ false → IsClean s p → IsStable (actions p.logged) (counts_of cut) →
       ((k : ℕ) → slice_index places k ≡ place_behind (counts_of cut k) (lane k p.logged)) → MaySettle x.layout s p x.committed d cut places
@@ -233,9 +237,9 @@ module _ (x : Known) (s : Setting) (p : Past) (d : Device) (has : HasPast x s p 
 
   -- a cut is acknowledged
   pub settled_has : (cut : ℕ → ℕ) (c : Committed) (g : Logged) (d2 : Device) → g ≡ x.logged → IsConsistent x.layout s (after_settle p cut) c d2 →
-      HasPast (record { layout = x.layout; committed = c; memory = x.memory; logged = g; has_failed = x.has_failed }) s (after_settle p cut) d2
-  settled_has cut c g d2 same agrees = moved c c x.logged g x.has_failed (after_settle p cut) d2 refl same (record {
-    layout = still_fits x c x.memory x.logged x.has_failed has.layout (keeps_all x.memory) refl refl;
+      HasPast (record { layout = x.layout; committed = c; memory = x.memory; logged = g; has_failed = x.has_failed; doubt = x.doubt }) s (after_settle p cut) d2
+  settled_has cut c g d2 same agrees = moved c c x.logged g x.has_failed x.doubt (after_settle p cut) d2 refl same (record {
+    layout = still_fits x c x.memory x.logged x.has_failed x.doubt has.layout (keeps_all x.memory) refl refl;
     setting = has.setting;
     past = agrees.past;
     remembers = remembers_settle s x.memory p cut has.remembers;
@@ -243,14 +247,14 @@ module _ (x : Known) (s : Setting) (p : Past) (d : Device) (has : HasPast x s p 
     starts = has.starts;
     tells = agrees.tells;
     agrees = λ ok. agrees;
-    images = shows_past x.layout (after_settle p cut) c d2 agrees;
+    images = shows_past x.layout (after_settle p cut) c x.doubt d2 agrees;
   })
 
   -- the device has failed
-  pub failed_has : (c : Committed) (g : Logged) (d2 : Device) → c ≡ x.committed → g ≡ x.logged → Always d2 (ShowsStep x.layout s p) →
-      HasPast (record { layout = x.layout; committed = c; memory = x.memory; logged = g; has_failed = true }) s p d2
-  failed_has c g d2 same_c same_g shows = moved x.committed c x.logged g true p d2 same_c same_g (record {
-    layout = still_fits x x.committed x.memory x.logged true has.layout (keeps_all x.memory) refl refl;
+  pub failed_has : (c : Committed) (g : Logged) (w : Doubt) (d2 : Device) → c ≡ x.committed → g ≡ x.logged → Always d2 (ShowsStep x.layout s p w) →
+      HasPast (record { layout = x.layout; committed = c; memory = x.memory; logged = g; has_failed = true; doubt = w }) s p d2
+  failed_has c g w d2 same_c same_g shows = moved x.committed c x.logged g true w p d2 same_c same_g (record {
+    layout = still_fits x x.committed x.memory x.logged true w has.layout (keeps_all x.memory) refl refl;
     setting = has.setting;
     past = has.past;
     remembers = has.remembers;
@@ -263,12 +267,12 @@ module _ (x : Known) (s : Setting) (p : Past) (d : Device) (has : HasPast x s p 
 
   -- nothing has changed
   pub kept_has : (c : Committed) (g : Logged) (d2 : Device) → c ≡ x.committed → g ≡ x.logged → d2 ≡ d →
-      HasPast (record { layout = x.layout; committed = c; memory = x.memory; logged = g; has_failed = x.has_failed }) s p d2
-  kept_has c g d2 same_c same_g same = moved x.committed c x.logged g x.has_failed p d2 same_c same_g (subst (λ (e : Device). HasPast x s p e) (sym same) has)
+      HasPast (record { layout = x.layout; committed = c; memory = x.memory; logged = g; has_failed = x.has_failed; doubt = x.doubt }) s p d2
+  kept_has c g d2 same_c same_g same = moved x.committed c x.logged g x.has_failed x.doubt p d2 same_c same_g (subst (λ (e : Device). HasPast x s p e) (sym same) has)
 
   -- what a log step or a settling leaves, however it ends
-  pub logs_now : (d2 : Device) → LeavesOnly d d2 (ShowsStep x.layout s p) → Always d2 (ShowsStep x.layout s p)
-  logs_now d2 leaves = now_too d d2 (ShowsStep x.layout s p) has.images leaves
+  pub logs_now : (w : Doubt) (d2 : Device) → x.has_failed ≡ false → LeavesOnly d d2 (ShowsStep x.layout s p w) → Always d2 (ShowsStep x.layout s p w)
+  logs_now w d2 serves leaves = now_too d d2 (ShowsStep x.layout s p w) (shows_past x.layout p x.committed w d (has.agrees serves)) leaves
 
   -- the new records may be logged
   module _ (within : AreWithin x.memory) (words : FitWords (log_from x.memory.fresh)) where

@@ -1,11 +1,12 @@
 -- What each call of a store makes of its past, and why it is refused (this project's own).
-use Rattle.std.specs.Prelude.{ℕ, ◌≡◌, ◌≢◌, ◌-◌, ◌<◌, ◌≤◌, ◌^◌, ◌⊎◌, true, false, Some, Err, List, [], ◌∷◌, length, take, slice_get}
+use Rattle.std.specs.Prelude.{ℕ, ◌≡◌, ◌≢◌, ◌-◌, ◌<◌, ◌≤◌, ◌^◌, ◌⊎◌, true, false, Some, Ok, Err, List, [], ◌∷◌, length, take, drop, slice_get, Result}
 use Rattle.heap_model.specs.declared.record.Record.{Record}
 use Rattle.heap_model.specs.Setting.{Setting}
 use Rattle.heap_model.specs.Log.{lane, IsLegal}
 use Rattle.heap_model.specs.Sections.{actions, ended}
 use Rattle.heap_model.specs.Cuts.{IsStable}
 use Rattle.block_disk.specs.Device.{Device}
+use Rattle.block_disk.specs.Images.{LeavesOnly}
 use Rattle.image.specs.declared.layout.Layout.{Layout}
 use Rattle.store_past.specs.declared.error.StoreError.{StoreError}
 use Rattle.store_past.specs.declared.error.StoreError.TheVariants.{Failed, Worn, Unwritten, Fault, Unfinished}
@@ -18,14 +19,12 @@ use Rattle.store_memory.specs.Begin.{IsLeastDirtyOf}
 use Rattle.store_past.specs.Past.{Past, IsPast, applied, after_apply, after_log, after_home, after_settle}
 use Rattle.store_memory.specs.Fresh.{IsOfLanes}
 use Rattle.store_memory.specs.Remembers.{held_of}
-use Rattle.durable.specs.Store.{Known, ShowsStep, StandsForStep, HasPast}
+pub use Rattle.durable.specs.Store.{IsClean}
+use Rattle.durable.specs.Store.{Known, ShowsStep, StandsForStep, HasPast, doubt_in}
 
--- a field has a logged store newer than its last home write, or none has
+-- a field has a logged store newer than its last home write
 abbrev pub HasDirty : Setting → Past → Type 0
 HasDirty s p = (f : ℕ) × (f < s.fields) × (p.is_dirty f ≡ true)
-
-abbrev pub IsClean : Setting → Past → Type 0
-IsClean s p = (f : ℕ) → f < s.fields → p.is_dirty f ≡ false
 
 -- a lane holds a monitor
 abbrev pub HasOpen : Past → Type 0
@@ -111,7 +110,7 @@ abbrev pub MakeAll : Setting → Past → List StoreCall → Past → Type 0
 MakeAll s p [] q = q ≡ p
 MakeAll s p (call ∷ calls) q = (mid : Past) × Makes s p call mid × MakeAll s mid calls q
 
--- the image shows what the first n calls make of the past, or what the next step makes of that
+-- the image shows what the first n calls make of the past, or what the next of them makes of that
 pub record ShowsAfterSome (l : Layout) (s : Setting) (p : Past) (calls : List StoreCall) (image : List ℕ) : Type 0 where
   pub n : ℕ
   pub within : n ≤ length calls
@@ -120,15 +119,33 @@ pub record ShowsAfterSome (l : Layout) (s : Setting) (p : Past) (calls : List St
   -- a store may have that past, and its records are of the image's lanes
   pub is : IsPast s then
   pub of_lanes : IsOfLanes l.lanes (applied then)
-  pub shows : ShowsStep l s then image
+  pub shows : ShowsStep l s then (doubt_in (slice_get calls n)) image
 
--- the image stands for the heap acknowledged then, or for that of the stable cut
+-- the image stands for the heap acknowledged then, or for that of the stable cut where the next call acknowledges that
 pub record StandsAfterSome (l : Layout) (s : Setting) (p : Past) (calls : List StoreCall) (image : List ℕ) : Type 0 where
   pub n : ℕ
   pub within : n ≤ length calls
   pub then : Past
   pub made : MakeAll s p (take n calls) then
-  pub stands : StandsForStep l s then image
+  pub stands : StandsForStep l s then (doubt_in (slice_get calls n)) image
+
+-- how many of the calls were made
+abbrev pub made_of : List StoreCall → Result (Unit {0}) (ℕ × StoreError) → ℕ
+made_of calls (Ok done) = length calls
+made_of calls (Err e) = e.0
+
+-- Right after the first n calls the store and its device were these, and what a crash left at any moment since shows what
+-- some of the other calls make of the past that was reached.
+pub record Reached (s : Setting) (p : Past) (calls : List StoreCall) (old : Known) (first last : Device) (n : ℕ) : Type 0 where
+  pub then : Past
+  pub made : MakeAll s p (take n calls) then
+  pub known : Known
+  pub device : Device
+  pub has : HasPast known s then device
+  pub layout : known.layout ≡ old.layout
+  pub running : known.has_failed ≡ old.has_failed
+  pub since : length first.past ≤ length device.past
+  pub rest : LeavesOnly device last (ShowsAfterSome old.layout s then (drop n calls))
 
 -- So many calls were made, none with a fault, and the next was refused for this reason: but for a fault it left the store and its
 -- device as they were.

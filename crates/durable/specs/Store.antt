@@ -1,5 +1,5 @@
 -- A store: what it knows beside its device, and when it has a past (this project's own).
-use Rattle.std.specs.Prelude.{ℕ, ◌≡◌, ◌-◌, ◌<◌, ◌≤◌, ◌^◌, Bool, false, List, length}
+use Rattle.std.specs.Prelude.{ℕ, ◌≡◌, ◌-◌, ◌<◌, ◌≤◌, ◌^◌, Bool, false, None, Some, Option, List, length}
 use Rattle.heap_model.specs.Setting.{Setting}
 use Rattle.heap_model.specs.Sections.{actions}
 use Rattle.heap_model.specs.Cuts.{IsStable}
@@ -15,15 +15,20 @@ use Rattle.store_memory.specs.Memory.{Memory, lane_in}
 use Rattle.store_memory.specs.Remembers.{Remembers}
 use Rattle.store_memory.specs.Sections.{Logged, TellsSections}
 use Rattle.store_image.specs.declared.committed.Committed.{Committed}
+use Rattle.durable.specs.declared.doubt.Doubt.{Doubt}
+use Rattle.durable.specs.declared.doubt.Doubt.TheVariants.{Nothing, Logging, Settling}
+use Rattle.durable.specs.declared.store_call.StoreCall.{StoreCall}
+use Rattle.durable.specs.declared.store_call.StoreCall.TheVariants.{Apply, Log, Home as HomeStep, Settle}
 
 -- what a store knows beside its device: the layout of the image, the control that counts, what was applied, what was
--- logged, and whether the device has failed
+-- logged, and whether the device has failed, and what is in doubt since
 pub record Known : Type 0 where
   pub layout : Layout
   pub committed : Committed
   pub memory : Memory
   pub logged : Logged
   pub has_failed : Bool
+  pub doubt : Doubt
 
 -- a store over whatever device
 pub record Parts (D : Type 0) : Type 0 where
@@ -44,19 +49,31 @@ pub record FitsImage (l : Layout) (s : Setting) : Type 0 where
   pub fields : s.fields ≡ l.fields
   pub last : s.last ≤ 2 ^ 40 - 1
 
--- The image shows the past, or what logging makes of it, or what settling does: a call that a crash cuts off leaves one or the other.
-pub data ShowsStep (l : Layout) (s : Setting) (p : Past) (image : List ℕ) : Type 0 where
-  Shows : ShowsPast l s p image → ShowsStep l s p image
-  ShowsLogged : ShowsPast l s (after_log p) image → ShowsStep l s p image
-  ShowsSettled : (cut : ℕ → ℕ) → IsStable (actions p.logged) cut → ShowsPast l s (after_settle p cut) image → ShowsStep l s p image
+-- no field has a logged store newer than its last home write
+abbrev pub IsClean : Setting → Past → Type 0
+IsClean s p = (f : ℕ) → f < s.fields → p.is_dirty f ≡ false
 
--- the image stands for the heap of the acknowledged cut, or of the stable one
-pub data StandsForStep (l : Layout) (s : Setting) (p : Past) (image : List ℕ) : Type 0 where
-  Stands : StandsForCut l s p.logged p.cut image → StandsForStep l s p image
-  StandsSettled : (cut : ℕ → ℕ) → IsStable (actions p.logged) cut → StandsForCut l s p.logged cut image → StandsForStep l s p image
+-- what is in doubt while this call runs
+abbrev pub doubt_in : Option StoreCall → Doubt
+doubt_in None = Nothing
+doubt_in (Some (Apply l r)) = Nothing
+doubt_in (Some Log) = Logging
+doubt_in (Some HomeStep) = Nothing
+doubt_in (Some Settle) = Settling
+
+-- The image shows the past; or, where the logging is in doubt, what that makes of it; or, where a settling is, what that does.
+pub data ShowsStep (l : Layout) (s : Setting) (p : Past) (w : Doubt) (image : List ℕ) : Type 0 where
+  Shows : ShowsPast l s p image → ShowsStep l s p w image
+  ShowsLogged : w ≡ Logging → ShowsPast l s (after_log p) image → ShowsStep l s p w image
+  ShowsSettled : w ≡ Settling → IsClean s p → (cut : ℕ → ℕ) → IsStable (actions p.logged) cut → ShowsPast l s (after_settle p cut) image → ShowsStep l s p w image
+
+-- The image stands for the heap of the acknowledged cut; or, where a settling is in doubt, of the stable one.
+pub data StandsForStep (l : Layout) (s : Setting) (p : Past) (w : Doubt) (image : List ℕ) : Type 0 where
+  Stands : StandsForCut l s p.logged p.cut image → StandsForStep l s p w image
+  StandsSettled : w ≡ Settling → IsClean s p → (cut : ℕ → ℕ) → IsStable (actions p.logged) cut → StandsForCut l s p.logged cut image → StandsForStep l s p w image
 
 -- The store has this past: what it knows tells of it, and its device agrees. After a fault the device is only known to show
--- the past or what a step makes of it.
+-- the past, or what the call that met the fault makes of it.
 pub record HasPast (x : Known) (s : Setting) (p : Past) (d : Device) : Type 0 where
   pub layout : FitsLayout x
   pub setting : FitsImage x.layout s
@@ -66,4 +83,4 @@ pub record HasPast (x : Known) (s : Setting) (p : Past) (d : Device) : Type 0 wh
   pub starts : (l : ℕ) → l < x.layout.lanes → (lane_in x.memory.lanes l).start ≡ records_in (p.base l) (undo_logs p.logged l)
   pub tells : TellsCut x.layout p.logged p.base p.cut x.committed.rows
   pub agrees : x.has_failed ≡ false → IsConsistent x.layout s p x.committed d
-  pub images : Always d (ShowsStep x.layout s p)
+  pub images : Always d (ShowsStep x.layout s p x.doubt)

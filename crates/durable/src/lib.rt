@@ -8,11 +8,13 @@
 #![tactic(auto)]
 
 mod beginning;
+mod doubt;
 mod format;
 mod play;
 mod store;
 mod store_call;
 
+pub use doubt::Doubt;
 pub use store::Store;
 pub use store_call::StoreCall;
 pub use store_image::{Home, standing_law};

@@ -1,11 +1,11 @@
 //! A list of calls, and what each image stands for while they run.
-ghost use Rattle.std.specs.Prelude.{◌≡◌, ◌⊎◌, ℕ, true, false, IfErr, IsErrOf, OnErr, OnOk, MatchResult};
+ghost use Rattle.std.specs.Prelude.{◌≡◌, ◌⊎◌, ◌≤◌, ℕ, true, false, Some, slice_get, IfErr, IsErrOf, OnErr, OnOk, MatchResult};
 ghost use Rattle.block_disk.specs.Device.{HasCause, HasFailed};
 ghost use Rattle.block_disk.specs.Images.{LeavesOnly};
 ghost use Rattle.heap_model.specs.Setting.{Setting};
-ghost use Rattle.durable.specs.Calls.{AreQuiet, IsQuiet, MakeAll, Makes, RefusesCall, ShowsAfterSome, StandsAfterSome, StoppedAt};
+ghost use Rattle.durable.specs.Calls.{AreQuiet, IsQuiet, MakeAll, Makes, Reached, RefusesCall, ShowsAfterSome, StandsAfterSome, StoppedAt, made_of};
 ghost use Rattle.store_past.specs.Past.{Past};
-ghost use Rattle.durable.specs.Store.{HasPast, ShowsStep};
+ghost use Rattle.durable.specs.Store.{HasPast, ShowsStep, doubt_in};
 ghost use Rattle.store_past.specs.declared.error.StoreError.TheVariants.{Fault};
 
 use crate::store::Store;
@@ -18,13 +18,15 @@ impl<D: Disk> Store<D> {
     /// done before it stands. Where no call has anything to write the device isn't called.
     ///
     /// Whatever a crash leaves at any moment stands for the heap that was acknowledged after some of the calls, or that the
-    /// next settling acknowledges.
+    /// next settling acknowledges; after each call that was made, of that call and later ones alone.
     pub fn play(&mut self, calls: &[StoreCall]) -> Result<(), (usize, StoreError)>
         ensures ok { (s : Setting) (p : Past) → HasPast self.old.known s p (D.device self.old.disk)
             → OnOk result ((q : Past) × MakeAll s p calls.now q × HasPast self.new.known s q (D.device self.new.disk)) }
         ensures stopped { (s : Setting) (p : Past) → HasPast self.old.known s p (D.device self.old.disk)
             → IfErr result (λ e. StoppedAt s p calls.now self.old.known self.new.known (D.device self.new.disk) e.0 e.1) }
         ensures running { OnOk result (self.new.known.has_failed ≡ self.old.known.has_failed) }
+        ensures moments { (s : Setting) (p : Past) → HasPast self.old.known s p (D.device self.old.disk)
+            → (n : ℕ) → n ≤ made_of calls.now result → Reached s p calls.now self.old.known (D.device self.old.disk) (D.device self.new.disk) n }
         ensures quiet { (s : Setting) (p : Past) → HasPast self.old.known s p (D.device self.old.disk)
             → AreQuiet s p calls.now → D.device self.new.disk ≡ D.device self.old.disk }
         ensures shown { (s : Setting) (p : Past) → HasPast self.old.known s p (D.device self.old.disk)
@@ -32,6 +34,7 @@ impl<D: Disk> Store<D> {
         ensures any_moment { (s : Setting) (p : Past) → HasPast self.old.known s p (D.device self.old.disk)
             → LeavesOnly (D.device self.old.disk) (D.device self.new.disk) (StandsAfterSome self.old.known.layout s p calls.now) }
         ensures failed { IfErr result (λ e. e.1 ≡ Fault → self.new.known.has_failed ≡ true) }
+        ensures in_doubt { IfErr result (λ e. e.1 ≡ Fault → self.new.known.doubt ≡ doubt_in (slice_get calls.now e.0)) }
         ensures cause { IfErr result (λ e. e.1 ≡ Fault → HasFailed (D.device self.old.disk).failures (D.device self.new.disk).failures) }
         ensures layout { self.new.known.layout ≡ self.old.known.layout }
     {
@@ -56,8 +59,9 @@ impl<D: Disk> Store<D> {
             → IsQuiet s p call → D.device self.new.disk ≡ D.device self.old.disk }
         ensures unchanged { IfErr result (λ e. (e ≡ Fault) ⊎ (self.new ≡ self.old)) }
         ensures failed { IsErrOf result Fault → self.new.known.has_failed ≡ true }
+        ensures in_doubt { IsErrOf result Fault → self.new.known.doubt ≡ doubt_in (Some call) }
         ensures shown { (s : Setting) (p : Past) → HasPast self.old.known s p (D.device self.old.disk)
-            → LeavesOnly (D.device self.old.disk) (D.device self.new.disk) (ShowsStep self.old.known.layout s p) }
+            → LeavesOnly (D.device self.old.disk) (D.device self.new.disk) (ShowsStep self.old.known.layout s p (doubt_in (Some call))) }
         ensures cause { HasCause (D.device self.old.disk).failures (D.device self.new.disk).failures Fault result }
         ensures layout { self.new.known.layout ≡ self.old.known.layout }
     {

@@ -14,6 +14,7 @@ ghost use Rattle.store_memory.specs.Apply.{Answers};
 ghost use Rattle.durable.specs.Begin.{HasRows, IsSettingOf};
 ghost use Rattle.durable.specs.Calls.{AnswersHome, HasOpen, IsClean, IsWritten, RefusesApply, RefusesClose, RefusesHome, RefusesLog, RefusesSettle, after_home_step};
 ghost use Rattle.durable.specs.Closed.{applied_heap};
+ghost use Rattle.store_image.specs.Consistent.{ShowsPast};
 ghost use Rattle.store_image.specs.KeptHeap.{StandsForCut, StandsForEither};
 ghost use Rattle.store_memory.specs.Memory.{lane_in};
 ghost use Rattle.store_past.specs.Past.{Past, applied, no_past, after_apply, after_log, after_settle};
@@ -22,8 +23,10 @@ ghost use Rattle.store_memory.specs.Sections.{TellsSections};
 ghost use Rattle.durable.specs.Store.{HasPast, ShowsStep, StandsForStep};
 ghost use Rattle.store_past.specs.declared.error.StoreError.TheVariants.{Fault, Worn};
 ghost use Rattle.store_image.specs.declared.home.Home.TheVariants.{Done};
+ghost use Rattle.durable.specs.declared.doubt.Doubt.TheVariants.{Nothing, Logging, Settling};
 
 use crate::beginning::fields_of;
+use crate::doubt::Doubt;
 use block_disk::Disk;
 use heap_model::{Cut, FieldId, Lane, Record};
 use image::{GuardRow, LaneRow, Layout, Recovered, RecoveredParts};
@@ -50,6 +53,7 @@ pub struct Store<D: Disk> {
     applied: Applied,
     sections: LoggedSections,
     has_failed: bool,
+    doubt: Doubt,
 }
 
 impl<D: Disk> Model for Store<D> {
@@ -59,9 +63,9 @@ impl<D: Disk> Model for Store<D> {
 
     ghost Value = { Parts D };
 
-    ghost view = { λ x. record { disk = x.disk; known = record { layout = x.layout; committed = x.committed; memory = x.applied; logged = x.sections; has_failed = x.has_failed } } };
+    ghost view = { λ x. record { disk = x.disk; known = record { layout = x.layout; committed = x.committed; memory = x.applied; logged = x.sections; has_failed = x.has_failed; doubt = x.doubt } } };
 
-    ghost invariant = { λ x. (s : Setting) × (p : Past) × HasPast (record { layout = x.layout; committed = x.committed; memory = x.applied; logged = x.sections; has_failed = x.has_failed }) s p (D.device x.disk) };
+    ghost invariant = { λ x. (s : Setting) × (p : Past) × HasPast (record { layout = x.layout; committed = x.committed; memory = x.applied; logged = x.sections; has_failed = x.has_failed; doubt = x.doubt }) s p (D.device x.disk) };
 }
 
 impl<D: Disk> Store<D> {
@@ -97,6 +101,7 @@ impl<D: Disk> Store<D> {
                 applied,
                 sections,
                 has_failed: false,
+                doubt: Doubt::Nothing,
             }),
             Err(error) => Err((
                 Recovered::of(disk, layout, guards, slot, sequence, heap),
@@ -145,10 +150,11 @@ impl<D: Disk> Store<D> {
             → OnErr result (HasPast self.new.known s p (D.device self.new.disk)) }
         ensures refused { IfErr result (λ e. (e ≡ Fault) ⊎ (self.new ≡ self.old)) }
         ensures failed { IsErrOf result Fault → self.new.known.has_failed ≡ true }
+        ensures in_doubt { IsErrOf result Fault → self.new.known.doubt ≡ Logging }
         ensures any_moment { (s : Setting) (p : Past) → HasPast self.old.known s p (D.device self.old.disk)
             → LeavesOnly (D.device self.old.disk) (D.device self.new.disk) (StandsForCut self.old.known.layout s p.logged p.cut) }
         ensures shown { (s : Setting) (p : Past) → HasPast self.old.known s p (D.device self.old.disk)
-            → LeavesOnly (D.device self.old.disk) (D.device self.new.disk) (ShowsStep self.old.known.layout s p) }
+            → LeavesOnly (D.device self.old.disk) (D.device self.new.disk) (ShowsStep self.old.known.layout s p Logging) }
         ensures cause { HasCause (D.device self.old.disk).failures (D.device self.new.disk).failures Fault result }
         ensures layout { self.new.known.layout ≡ self.old.known.layout }
     {
@@ -170,6 +176,7 @@ impl<D: Disk> Store<D> {
             Err(reason) => match reason {
                 StoreError::Fault => {
                     self.has_failed = true;
+                    self.doubt = Doubt::Logging;
                     Err(reason)
                 }
                 _ => Err(reason),
@@ -194,10 +201,11 @@ impl<D: Disk> Store<D> {
             → OnErr result (HasPast self.new.known s p (D.device self.new.disk)) }
         ensures refused { IfErr result (λ e. (e ≡ Fault) ⊎ (self.new ≡ self.old)) }
         ensures failed { IsErrOf result Fault → self.new.known.has_failed ≡ true }
+        ensures in_doubt { IsErrOf result Fault → self.new.known.doubt ≡ Nothing }
         ensures any_moment { (s : Setting) (p : Past) → HasPast self.old.known s p (D.device self.old.disk)
             → LeavesOnly (D.device self.old.disk) (D.device self.new.disk) (StandsForCut self.old.known.layout s p.logged p.cut) }
         ensures shown { (s : Setting) (p : Past) → HasPast self.old.known s p (D.device self.old.disk)
-            → LeavesOnly (D.device self.old.disk) (D.device self.new.disk) (ShowsStep self.old.known.layout s p) }
+            → LeavesOnly (D.device self.old.disk) (D.device self.new.disk) (ShowsPast self.old.known.layout s p) }
         ensures cause { HasCause (D.device self.old.disk).failures (D.device self.new.disk).failures Fault result }
         ensures layout { self.new.known.layout ≡ self.old.known.layout }
     {
@@ -215,6 +223,7 @@ impl<D: Disk> Store<D> {
             }
             Err(reason) => {
                 self.has_failed = true;
+                self.doubt = Doubt::Nothing;
                 Err(reason)
             }
         }
@@ -237,10 +246,11 @@ impl<D: Disk> Store<D> {
             → OnErr result (HasPast self.new.known s p (D.device self.new.disk)) }
         ensures refused { IfErr result (λ e. (e ≡ Fault) ⊎ (self.new ≡ self.old)) }
         ensures failed { IsErrOf result Fault → self.new.known.has_failed ≡ true }
+        ensures in_doubt { IsErrOf result Fault → self.new.known.doubt ≡ Settling }
         ensures any_moment { (s : Setting) (p : Past) (cut : ℕ → ℕ) → HasPast self.old.known s p (D.device self.old.disk) → IsStable (actions p.logged) cut
             → LeavesOnly (D.device self.old.disk) (D.device self.new.disk) (StandsForEither self.old.known.layout s p.logged p.cut cut) }
         ensures shown { (s : Setting) (p : Past) → HasPast self.old.known s p (D.device self.old.disk)
-            → LeavesOnly (D.device self.old.disk) (D.device self.new.disk) (ShowsStep self.old.known.layout s p) }
+            → LeavesOnly (D.device self.old.disk) (D.device self.new.disk) (ShowsStep self.old.known.layout s p Settling) }
         ensures cause { HasCause (D.device self.old.disk).failures (D.device self.new.disk).failures Fault result }
         ensures layout { self.new.known.layout ≡ self.old.known.layout }
     {
@@ -262,6 +272,7 @@ impl<D: Disk> Store<D> {
             Err(reason) => match reason {
                 StoreError::Fault => {
                     self.has_failed = true;
+                    self.doubt = Doubt::Settling;
                     Err(reason)
                 }
                 _ => Err(reason),
@@ -357,8 +368,8 @@ impl<D: Disk> Store<D> {
     /// The device, as it is: as a stop leaves it.
     pub fn into_disk(self) -> D
         ensures disk { result ≡ self.disk }
-        ensures shown { (s : Setting) (p : Past) → HasPast self.known s p (D.device self.disk) → Always (D.device result) (ShowsStep self.known.layout s p) }
-        ensures crash { (s : Setting) (p : Past) → HasPast self.known s p (D.device self.disk) → Always (D.device result) (StandsForStep self.known.layout s p) }
+        ensures shown { (s : Setting) (p : Past) → HasPast self.known s p (D.device self.disk) → Always (D.device result) (ShowsStep self.known.layout s p self.known.doubt) }
+        ensures crash { (s : Setting) (p : Past) → HasPast self.known s p (D.device self.disk) → Always (D.device result) (StandsForStep self.known.layout s p self.known.doubt) }
         ensures at_rest { (s : Setting) (p : Past) → HasPast self.known s p (D.device self.disk)
             → self.known.has_failed ≡ false → Always (D.device result) (StandsForCut self.known.layout s p.logged p.cut) }
     {

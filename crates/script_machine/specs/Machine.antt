@@ -28,6 +28,8 @@ use Rattle.durable.specs.Calls.{IsClean, RefusesApply, RefusesLog, RefusesSettle
 use Rattle.store_image.specs.Formatting.{layout_with}
 use Rattle.store_past.specs.Past.{Past, applied, no_past, after_apply, after_log, after_settle}
 use Rattle.durable.specs.Store.{Parts, ShowsStep}
+use Rattle.durable.specs.declared.doubt.Doubt.{Doubt}
+use Rattle.durable.specs.declared.doubt.Doubt.TheVariants.{Logging, Settling}
 use Rattle.store_past.specs.declared.error.StoreError.{StoreError}
 use Rattle.recover.specs.Reading as reading
 use Rattle.recover.specs.Study.{IsStudyOf}
@@ -223,17 +225,17 @@ module _ (old : MachineState) (answer : Answer) (new : MachineState) where
   StepsAs m t (order.NotifyAll name) = WhileAwake m t m.monitors.schema.objects name (λ o. NotifiesAll m t (object_of o))
 
   -- a call of the store after which the monitors are as they were. A crash inside it leaves the image before or after it
-  pub record Calls (m : Live) (said : Answer) (store : Parts Memory) : Type 0 where
+  pub record Calls (m : Live) (said : Answer) (store : Parts Memory) (w : Doubt) : Type 0 where
     pub answers : answer ≡ said
     pub runs : new ≡ Running (record m { store = store })
     pub shown : (s : Setting) (p : Past) → Tells m.store s p
-        → LeavesOnly (device_of m.store.disk) (device_of store.disk) (ShowsStep m.store.known.layout s p)
+        → LeavesOnly (device_of m.store.disk) (device_of store.disk) (ShowsStep m.store.known.layout s p w)
 
   -- the records that no log has yet are logged
   pub record Logs (m : Live) : Type 0 where
     pub store : Parts Memory
     pub records : ℕ
-    pub call : Calls m (Logged records) store
+    pub call : Calls m (Logged records) store Logging
     pub count : (s : Setting) (p : Past) → Tells m.store s p → records ≡ length p.fresh
     pub after : (s : Setting) (p : Past) → Tells m.store s p → Tells store s (after_log p)
 
@@ -258,7 +260,7 @@ module _ (old : MachineState) (answer : Answer) (new : MachineState) where
     pub layout : store.known.layout ≡ m.store.known.layout
     pub running : store.known.has_failed ≡ false
     pub shown : (s : Setting) (p : Past) → Tells m.store s p
-        → LeavesOnly (device_of m.store.disk) (device_of store.disk) (ShowsStep m.store.known.layout s p)
+        → LeavesOnly (device_of m.store.disk) (device_of store.disk) (ShowsStep m.store.known.layout s p Settling)
     pub clean : (s : Setting) (p : Past) → Tells m.store s p → IsClean s p
     pub lanes : length sections ≡ m.store.known.layout.lanes
     pub after : (s : Setting) (p : Past) (cut : ℕ → ℕ) → Tells m.store s p → IsStable (actions p.logged) cut → Tells store s (after_settle p cut)

@@ -15,22 +15,21 @@ use Rattle.block_disk.proofs.Images.{begin, left_now, weaker}
 use Rattle.image.specs.Header.{HasHeader}
 use Rattle.image.specs.declared.layout.Layout.{Layout}
 use Rattle.image.proofs.Reading.{one_layout}
-use Rattle.durable.specs.Calls.{MakeAll, ShowsAfterSome}
 use Rattle.store_memory.specs.Fresh.{IsOfLanes}
 use Rattle.store_past.specs.Past.{Past, applied, after_settle}
 use Rattle.store_image.specs.KeptHeap.{kept_heap}
 use Rattle.durable.specs.Store.{Parts, ShowsStep}
 use Rattle.durable.specs.Store.ShowsStep.{Shows, ShowsLogged, ShowsSettled}
-use Rattle.durable.specs.declared.store_call.StoreCall.{StoreCall}
+use Rattle.durable.specs.declared.doubt.Doubt.{Doubt}
+use Rattle.durable.specs.declared.doubt.Doubt.TheVariants.{Nothing, Logging, Settling}
 use Rattle.recover.specs.Reading.{Holds}
 use Rattle.recover.specs.Recovery.{IsRecovery, IsWorn, RefusesRecovery}
 use Rattle.recover.specs.Study.{held_by}
 use Rattle.survival.specs.WholeRun.{CannotRecover, IsAcknowledged, MayBeLeft}
-use Rattle.survival.specs.WholeRun.{Survives as RunSurvives}
 use Rattle.recover.specs.declared.error.RecoverError.{RecoverError}
 use Rattle.recover.specs.declared.logged_image.LoggedImage.{LoggedImage}
 use Rattle.survival.proofs.Accepts.{finds, finds_heap, left_always}
-use Rattle.survival.proofs.WholeRuns as whole
+use Rattle.survival.proofs.WholeRuns.{Keeps, keeps}
 use Rattle.script_machine.specs.declared.answer.Answer.{Answer}
 use Rattle.script_machine.specs.declared.answer.Answer.TheVariants.{Crashed, Refused}
 use Rattle.script_machine.specs.declared.answer.Refusal.{Refusal}
@@ -56,50 +55,31 @@ abbrev wreck_of : Live → (image : List ℕ) → Wreck
 wreck_of m image = record { schema = m.monitors.schema; disk = fresh image }
 
 -- an image that shows a past has the header of its layout
-header_of : (l : Layout) (s : Setting) (p : Past) (image : List ℕ) → ShowsStep l s p image → HasHeader image l
-header_of l s p image (Shows shown) = shown.parts.header
-header_of l s p image (ShowsLogged shown) = shown.parts.header
-header_of l s p image (ShowsSettled cut stable shown) = shown.parts.header
-
--- no call makes nothing of the past
-none_made : (s : Setting) (p : Past) (n : ℕ) (then : Past) → n ≤ 0 → (let calls : List StoreCall = [] in MakeAll s p (take n calls) then) → then ≡ p
-none_made s p n then le made =
-    let none : n ≡ 0 = omega (arith, le) in
-    subst (λ (k : ℕ). (let calls : List StoreCall = [] in MakeAll s p (take k calls) then)) none made
+header_of : (l : Layout) (s : Setting) (p : Past) (w : Doubt) (image : List ℕ) → ShowsStep l s p w image → HasHeader image l
+header_of l s p w image (Shows shown) = shown.parts.header
+header_of l s p w image (ShowsLogged doubt shown) = shown.parts.header
+header_of l s p w image (ShowsSettled doubt clean cut stable shown) = shown.parts.header
 
 -- Recovery of what a crash since left of the device of a store, which by then leaves only what shows its past or what a step makes of it.
-module _ (m : Live) (s : Setting) (p : Past) (has : Tells m.store s p) (d : Device) (leaves : LeavesOnly (device_of m.store.disk) d (ShowsStep m.store.known.layout s p)) (image : List ℕ)
+module _ (m : Live) (s : Setting) (p : Past) (has : Tells m.store s p) (w : Doubt) (d : Device) (leaves : LeavesOnly (device_of m.store.disk) d (ShowsStep m.store.known.layout s p w)) (image : List ℕ)
     (left : MayBeLeft (device_of m.store.disk) d image) (told : Answer) (new : MachineState) where
   abbrev wreck : Wreck
   wreck = wreck_of m image
 
-  shows : ShowsStep m.store.known.layout s p image
-  shows = ⊎_elim (λ was. has.images image (left_now (device_of m.store.disk) image was)) (λ shown. shown) (leaves.each (length (device_of m.store.disk).past) image (omega arith) left)
-
-  some : (image : List ℕ) → ShowsStep m.store.known.layout s p image → ShowsAfterSome m.store.known.layout s p [] image
-  some image shown = record {
-    n = 0;
-    within = omega arith;
-    then = p;
-    made = refl;
-    is = has.past;
-    of_lanes = subst (λ (n : ℕ). IsOfLanes n (applied p)) has.layout.lanes has.remembers.of_lanes;
-    shows = shown;
-  }
+  shows : (v : Doubt) × ShowsStep m.store.known.layout s p v image
+  shows = ⊎_elim (λ was. (m.store.known.doubt, has.images image (left_now (device_of m.store.disk) image was))) (λ shown. (w, shown))
+      (leaves.each (length (device_of m.store.disk).past) image (omega arith) left)
 
   abbrev Answered : Type 0
   Answered = Result (Recovered Memory × Found) (Memory × RecoverError)
 
-  -- as of a whole run of no call
   run : (answer : Answered) → IfOk answer (λ r. IsRecovery (device_of (fresh image)) (device_of r.0.disk) r.0 r.1) → IfErr answer (λ back. RefusesRecovery image back.1)
-      → MatchResult answer (λ r. RunSurvives m.store.known.layout s p [] r.0.heap r.1.kept) (λ back. CannotRecover image back.1)
-  run answer done refused =
-      whole.survives m.store.known s p [] (device_of m.store.disk) d device_of (device_of (fresh image)) has
-      (weaker (device_of m.store.disk) d (ShowsStep m.store.known.layout s p) (ShowsAfterSome m.store.known.layout s p []) some leaves) left answer done refused
+      → MatchResult answer (λ r. Keeps m.store.known.layout s p shows.0 r.0.heap (counts_of r.1.kept)) (λ back. CannotRecover image back.1)
+  run = keeps m.store.known.layout s p shows.0 device_of (device_of (fresh image)) has.past (subst (λ (n : ℕ). IsOfLanes n (applied p)) has.layout.lanes has.remembers.of_lanes) shows.1
 
   layout_of : (found : LoggedImage) → Holds image found → found.layout ≡ m.store.known.layout
   layout_of found holds =
-      let here = header_of m.store.known.layout s p image shows in
+      let here = header_of m.store.known.layout s p shows.0 image shows.1 in
       let there = holds.control.front.layout.header in
       one_layout found.layout m.store.known.layout there.limits here.limits (sym there.spelled ∙ here.spelled)
 
@@ -135,11 +115,7 @@ module _ (m : Live) (s : Setting) (p : Past) (has : Tells m.store s p) (d : Devi
   survived : Recovers (Down wreck) told new wreck → (cut : ℕ → ℕ) × IsAcknowledged p cut × Survives m s p.logged cut told new
   survived r =
       let found = run (Ok (r.restores.recovered, r.restores.found)) r.restores.recovery tt in
-      let is : found.then ≡ p = none_made s p found.n found.then found.within found.made in (
-        found.cut,
-        subst (λ (q : Past). IsAcknowledged q found.cut) is found.acknowledged,
-        told_of p.logged found.cut r (found.heap_is ∙ ap (λ (q : Past). kept_heap m.store.known.layout s q.logged found.cut) is) found.kept_are,
-      )
+      (found.cut, ⊎_elim (λ same. inl same) (λ settled. inr settled.2) found.acknowledged, told_of p.logged found.cut r found.heap_is found.kept_are)
 
   recovers : Steps (Down wreck) order.Recover told new → Outcome (Down wreck)
   recovers (inl done) = inl (survived done)
@@ -168,16 +144,16 @@ rest m s p fill down new told has crash recover =
     let l = m.store.known.layout in
     let d = device_of m.store.disk in
     let left = at_rest m image goes.any_moment in
-    let leaves = begin d (ShowsStep l s p) in
+    let leaves = begin d (ShowsStep l s p Nothing) in
     let by = left_always l s p m.store.known.committed d (has.agrees goes.agrees.running) image (left_now d image left) in
     let outcome = elim (subst (λ (x : MachineState). Steps x order.Recover told new) goes.down recover) as (λ _. Survives m s p.logged p.cut told new ⊎ IsAtItsEnd (Down (wreck_of m image)) told) [
       | inl r ↦
           let recovery = r.restores.recovery in
           let of = recovery.of in
           let found = held_by recovery.study in
-          inl (told_of m s p has d leaves image left told new p.logged p.cut r (recovery.heap_is ∙ finds_heap l s p image by recovery.study.heap.items found of.holds of.stands)
+          inl (told_of m s p has Nothing d leaves image left told new p.logged p.cut r (recovery.heap_is ∙ finds_heap l s p image by recovery.study.heap.items found of.holds of.stands)
           (λ lane below. ap (λ (report : Found). counts_of report.kept lane) recovery.report_is ∙ of.reports.kept_are lane ∙ (finds l s p image by found of.holds).tells.kept lane below))
-      | inr r ↦ inr (at_its_end m s p has d leaves image left told new r)
+      | inr r ↦ inr (at_its_end m s p has Nothing d leaves image left told new r)
     ] in
     subst (λ (x : MachineState). Survives m s p.logged p.cut told new ⊎ IsAtItsEnd x told) (sym goes.down) outcome
 
@@ -204,33 +180,33 @@ module _ (m : Live) (s : Setting) (p : Past) (has : Tells m.store s p) (fill : F
   abbrev Ends : Type 0
   Ends = ((cut : ℕ → ℕ) × IsAcknowledged p cut × Survives m s p.logged cut told new) ⊎ IsAtItsEnd down told
 
-  after_call : (x : Parts Memory) → LeavesOnly (device_of m.store.disk) (device_of x.disk) (ShowsStep m.store.known.layout s p) → IsSince m.store.disk x.disk back
+  after_call : (w : Doubt) (x : Parts Memory) → LeavesOnly (device_of m.store.disk) (device_of x.disk) (ShowsStep m.store.known.layout s p w) → IsSince m.store.disk x.disk back
       → Crashes (Running (over x)) Crashed down (over x) fill back → Steps down order.Recover told new → Ends
-  after_call x leaves ended crash recover =
+  after_call w x leaves ended crash recover =
       let goes = went_down (over x) fill back down crash in
       let image = crash_back fill back x.disk in
       let d = device_of x.disk in
       let left : MayBeLeft (device_of m.store.disk) d image =
       since (length (moments_before x.disk.first (first_stops (begun_at back x.disk - 1) x.disk.stops))) (length (device_of m.store.disk).past) (d.now ∷ d.past) image ended goes.any_moment in
       subst (λ (y : MachineState). ((cut : ℕ → ℕ) × IsAcknowledged p cut × Survives m s p.logged cut told new) ⊎ IsAtItsEnd y told) (sym goes.down)
-      (recovers m s p has d leaves image left told new (subst (λ (y : MachineState). Steps y order.Recover told new) goes.down recover))
+      (recovers m s p has w d leaves image left told new (subst (λ (y : MachineState). Steps y order.Recover told new) goes.down recover))
 
-  of_call : (now : Live) (x : Parts Memory) → Running now ≡ Running (over x) → LeavesOnly (device_of m.store.disk) (device_of x.disk) (ShowsStep m.store.known.layout s p)
+  of_call : (w : Doubt) (now : Live) (x : Parts Memory) → Running now ≡ Running (over x) → LeavesOnly (device_of m.store.disk) (device_of x.disk) (ShowsStep m.store.known.layout s p w)
       → IsSince m.store.disk now.store.disk back → Steps (Running now) (order.Crash fill back) Crashed down → Steps down order.Recover told new → Ends
-  of_call now x runs leaves ended crash recover =
+  of_call w now x runs leaves ended crash recover =
       let is = one_live now (over x) runs in
-      after_call x leaves (subst (λ (a : Live). IsSince m.store.disk a.store.disk back) is ended)
+      after_call w x leaves (subst (λ (a : Live). IsSince m.store.disk a.store.disk back) is ended)
       (subst (λ (a : Live). Crashes (Running a) Crashed down a fill back) is crash) recover
 
   logging : (now : Live) (said : Answer) → LogsRecords (Running m) said (Running now) m → IsSince m.store.disk now.store.disk back → Steps (Running now) (order.Crash fill back) Crashed down
       → Steps down order.Recover told new → Ends
-  logging now said (inl logs) = of_call now logs.store logs.call.runs (logs.call.shown s p has)
-  logging now said (inr refused) = of_call now m.store refused.refuses.1 (begin (device_of m.store.disk) (ShowsStep m.store.known.layout s p))
+  logging now said (inl logs) = of_call Logging now logs.store logs.call.runs (logs.call.shown s p has)
+  logging now said (inr refused) = of_call Logging now m.store refused.refuses.1 (begin (device_of m.store.disk) (ShowsStep m.store.known.layout s p Logging))
 
   settling : (now : Live) (said : Answer) → Settles (Running m) said (Running now) m → IsSince m.store.disk now.store.disk back → Steps (Running now) (order.Crash fill back) Crashed down
       → Steps down order.Recover told new → Ends
-  settling now said (inl settles) = of_call now settles.store settles.runs (settles.shown s p has)
-  settling now said (inr refused) = of_call now m.store refused.refuses.1 (begin (device_of m.store.disk) (ShowsStep m.store.known.layout s p))
+  settling now said (inl settles) = of_call Settling now settles.store settles.runs (settles.shown s p has)
+  settling now said (inr refused) = of_call Settling now m.store refused.refuses.1 (begin (device_of m.store.disk) (ShowsStep m.store.known.layout s p Settling))
 
 pub call : CallLaw
 call m now s p asked said fill back down new told has (inl log) steps =

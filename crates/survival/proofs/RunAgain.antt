@@ -1,29 +1,46 @@
 -- What a recovery leaves of an image that stands for the kept heap, wherever it ends.
-use Rattle.std.proofs.Common.{ℕ, ◌∙◌, ⊎_elim, List, length, refl, inl, inr, arith}
+use Rattle.std.proofs.Common.{ℕ, ◌≡◌, ◌∙◌, ⊎_elim, List, [], ◌∷◌, length, refl, sym, ap, subst, inl, inr, arith}
 use Rattle.heap_model.specs.Setting.{Setting}
-use Rattle.block_disk.specs.Device.{Device, synced}
+use Rattle.block_disk.specs.Device.{Device, Moment, synced}
 use Rattle.block_disk.specs.Images.{Always, LeavesOnly}
-use Rattle.block_disk.proofs.Images.{after_sync, always_now, and_then, leaves_synced, left_now, now_too, stays, weaker}
+use Rattle.block_disk.proofs.Images.{after_sync, always_now, always_only, and_then, leaves_synced, left_now, now_too, stays, weaker}
 use Rattle.image.specs.declared.layout.Layout.{Layout}
 use Rattle.store_past.specs.Past.{Past}
-use Rattle.recover.specs.Recovery.{IsCutOff, IsOnTheWay, OneStudyLaw, StudiedLaw}
+use Rattle.recover.specs.Recovery.{IsCutOff, IsOnTheWay, OneStudyLaw, SameReports, StudiedLaw}
+use Rattle.recover.specs.declared.report.Report.{Report}
 use Rattle.recover.specs.Study.{IsStudyOf, held_by}
 use Rattle.recover.specs.declared.studied.Study.{Study}
-use Rattle.survival.specs.Again.{IsKept, ByStore, ByRecovery, KeptAcceptedLaw, KeptAgainLaw, KeptHeapLaw, StaysKept}
-use Rattle.survival.proofs.Accepts.{accepted, finds_heap}
+use Rattle.survival.specs.Again.{IsKept, ByStore, ByRecovery, KeptAcceptedLaw, KeptAgainLaw, KeptHeapLaw, KeptOnLaw, KeptReportLaw, ReportsKept, StaysKept}
+use Rattle.survival.proofs.Accepts.{accepted, finds, finds_heap}
 
 pub kept_is_found : OneStudyLaw → KeptHeapLaw
 kept_is_found one l s p image study (ByStore left) of = finds_heap l s p image left study.heap.items (held_by study) of.holds of.stands
-kept_is_found one l s p image study (ByRecovery other is heap) of = (one image study other of is).heaps ∙ heap
+kept_is_found one l s p image study (ByRecovery other is heap reports) of = (one image study other of is).heaps ∙ heap
+
+-- two reports that say the same
+same_reported : (l : Layout) (p : Past) (a b : Report) → SameReports a b → ReportsKept l p b → ReportsKept l p a
+same_reported l p a b same (inl kept) = inl (λ lane below. same.kept_same lane ∙ kept lane below)
+same_reported l p a b same (inr ended) = inr (record {
+  kept_none = λ lane. same.kept_same lane ∙ ended.kept_none lane;
+  dropped_none = same.dropped_same ∙ ended.dropped_none;
+  undone_none = same.undone_same ∙ ended.undone_none;
+})
+
+pub kept_report : OneStudyLaw → KeptReportLaw
+kept_report one l s p image study (ByStore left) of = inl (λ lane below. of.reports.kept_are lane ∙ (finds l s p image left (held_by study) of.holds).tells.kept lane below)
+kept_report one l s p image study (ByRecovery other is heap reports) of = same_reported l p study.report other.report (one image study other of is).reports_same reports
 
 pub kept_accepted : StudiedLaw → KeptAcceptedLaw
 kept_accepted law l s p image e (ByStore left) refuses = accepted l s p image left e refuses
-kept_accepted law l s p image e (ByRecovery study is heap) refuses = law image study e is refuses
+kept_accepted law l s p image e (ByRecovery study is heap reports) refuses = law image study e is refuses
 
 module _ (one : OneStudyLaw) (l : Layout) (s : Setting) (p : Past) (old new : Device) (all : Always old (IsKept l s p)) where
   kept_way : (study : Study) → IsStudyOf old.now.bytes study → (image : List ℕ) → IsOnTheWay study image → IsKept l s p image
-  kept_way study of image (inl is) = ByRecovery study is (kept_is_found one l s p old.now.bytes study (always_now old (IsKept l s p) all) of)
+  kept_way study of image (inl is) =
+      let kept : IsKept l s p old.now.bytes = always_now old (IsKept l s p) all in
+      ByRecovery study is (kept_is_found one l s p old.now.bytes study kept of) (kept_report one l s p old.now.bytes study kept of)
   kept_way study of image (inr (e, ended, is)) = ByRecovery e is (ended.heap_is ∙ kept_is_found one l s p old.now.bytes study (always_now old (IsKept l s p) all) of)
+      (inr (record { kept_none = ended.kept_none; dropped_none = ended.dropped_none; undone_none = ended.undone_none }))
 
   past_sync : LeavesOnly old (synced old) (IsKept l s p) × Always (synced old) (IsKept l s p)
   past_sync = after_sync old (synced old) (IsKept l s p) all (leaves_synced old (synced old) refl)
@@ -44,3 +61,13 @@ module _ (one : OneStudyLaw) (l : Layout) (s : Setting) (p : Past) (old new : De
 
 pub kept_again : OneStudyLaw → KeptAgainLaw
 kept_again one l s p old new all cut_off = stays_kept one l s p old new all cut_off
+
+-- a device with nothing pending leaves what it reads
+kept_alone : (l : Layout) (s : Setting) (p : Past) (image : List ℕ) (old : Device) → old.now ≡ record { bytes = image; pending = [] } → IsKept l s p image → Always old (IsKept l s p)
+kept_alone l s p image old now kept =
+    always_only old (IsKept l s p) (ap (λ (m : Moment). m.pending) now) (subst (IsKept l s p) (sym (ap (λ (m : Moment). m.bytes) now)) kept)
+
+pub kept_on : OneStudyLaw → KeptOnLaw
+kept_on one l s p [] image last kept same = subst (IsKept l s p) (sym same) kept
+kept_on one l s p (a ∷ later) image last kept (now, cut_off, (next, left, rest)) =
+    kept_on one l s p later next last ((kept_again one l s p a.old a.new (kept_alone l s p image a.old now kept) cut_off).any_moment next left) rest

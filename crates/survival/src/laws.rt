@@ -1,6 +1,6 @@
 //! Laws of what a store leaves, each the contract of a function that does nothing.
 ghost use Rattle.survival.specs.Accepted.{AcceptedLaw, FoundHeapLaw, FoundLaw, LeftLaw};
-ghost use Rattle.survival.specs.Again.{KeptAcceptedLaw, KeptAgainLaw, KeptHeapLaw};
+ghost use Rattle.survival.specs.Again.{KeptAcceptedLaw, KeptAgainLaw, KeptHeapLaw, KeptOnLaw, KeptReportLaw};
 
 use recover::{one_study_law, studied_law};
 
@@ -17,11 +17,14 @@ pub fn found_law()
 {}
 
 /// Recovery that a crash cuts off, or that answers a fault, may be run again, any number of times: each time it takes the
-/// image, finds the kept heap, and leaves only images of which the same may be said.
+/// image, finds the kept heap, reports the acknowledged sections until a try has ended, and leaves only images of which the
+/// same may be said.
 pub fn again_law()
     ensures heap { KeptHeapLaw }
+    ensures report { KeptReportLaw }
     ensures accepted { KeptAcceptedLaw }
     ensures again { KeptAgainLaw }
+    ensures on { KeptOnLaw }
 {
     one_study_law();
     studied_law();

@@ -1,18 +1,21 @@
 //! A whole run: calls, a crash, recovery.
-ghost use Rattle.std.specs.Prelude.{◌≡◌, ◌⊎◌, true, IfErr, IfOk, MatchResult, OnOk};
+ghost use Rattle.std.specs.Prelude.{◌≡◌, ◌⊎◌, ◌≤◌, ℕ, List, true, drop, IfErr, IfOk, MatchResult, OnOk};
 ghost use Rattle.block_disk.specs.Device.{HasFailed, SameMoments, synced};
 ghost use Rattle.block_disk.specs.Images.{LeavesOnly};
+ghost use Rattle.heap_model.specs.Cuts.{counts_of};
 ghost use Rattle.heap_model.specs.Setting.{Setting};
-ghost use Rattle.durable.specs.Calls.{MakeAll, StoppedAt};
+ghost use Rattle.durable.specs.Calls.{MakeAll, Reached, StoppedAt, made_of};
 ghost use Rattle.store_past.specs.Past.{Past};
 ghost use Rattle.durable.specs.Store.{HasPast};
 ghost use Rattle.store_past.specs.declared.error.StoreError.TheVariants.{Fault as StoreFault};
 ghost use Rattle.recover.specs.Recovery.{IsOnTheWay, IsRecovery, LeavesOnTheWay, RefusesRecovery};
 ghost use Rattle.recover.specs.Study.{IsStudyOf};
+ghost use Rattle.survival.specs.Again.{AreCutOff, Attempt, SurvivesAgain};
 ghost use Rattle.survival.specs.WholeRun.{CannotRecover, MayBeLeft, Survives};
 ghost use Rattle.recover.specs.declared.error.RecoverError.TheVariants.{Fault};
 ghost use Rattle.recover.specs.declared.studied.Study.{Study as Shape};
 
+use crate::laws::again_law;
 use block_disk::Disk;
 use durable::{Store, StoreCall, StoreError};
 use image::Recovered;
@@ -32,7 +35,15 @@ pub struct WholeRun<E: Disk> {
 ///
 /// **What survives.** Whatever bytes a crash leaves at any moment of the run, recovery takes them, and gives the heap that was
 /// acknowledged after some of the calls: that of the acknowledged sections and of nothing else, each whole, with all that it
-/// depends on. In a settling that the crash cuts off it may be the heap that this settling acknowledges.
+/// depends on. Only in a settling that the crash cuts off may it be the heap that this settling acknowledges: calls with no
+/// settling never give what wasn't acknowledged before them.
+///
+/// **The moment.** After each of the calls that were made there is a moment since which the same holds of the calls that
+/// came behind it: a crash from then on keeps each section that was acknowledged by then.
+///
+/// **Again and again.** The same holds where recovery was tried before, any number of times, and each time a crash cut it off or
+/// the device failed: the heap is that of the first try. So is the report, until the last commit of a try shows: then
+/// nothing is left to keep or to drop.
 ///
 /// The device `left` stands for the machine after the crash: it may be any that holds such bytes. It is refused only where
 /// a call of it fails, memory is wanting, or the control's sequence is at its last value. What a refusal of either leaves is
@@ -45,7 +56,14 @@ pub fn play_and_recover<D: Disk, E: Disk>(
 ) -> WholeRun<E>
     ensures survives { (s : Setting) (p : Past) → HasPast store.old.known s p (D.device store.old.disk)
         → MayBeLeft (D.device store.old.disk) (D.device store.new.disk) (E.device left).now.bytes
-        → MatchResult result.recovered (λ r. Survives store.old.known.layout s p calls.now r.0.heap r.1.kept) (λ back. CannotRecover (E.device left).now.bytes back.1) }
+        → MatchResult result.recovered (λ r. Survives store.old.known s p calls.now r.0.heap (counts_of r.1.kept)) (λ back. CannotRecover (E.device left).now.bytes back.1) }
+    ensures moments { (s : Setting) (p : Past) → HasPast store.old.known s p (D.device store.old.disk) → (n : ℕ) → n ≤ made_of calls.now result.played
+        → (was : Reached s p calls.now store.old.known (D.device store.old.disk) (D.device store.new.disk) n)
+        × (MayBeLeft was.device (D.device store.new.disk) (E.device left).now.bytes
+        → MatchResult result.recovered (λ r. Survives was.known s was.then (drop n calls.now) r.0.heap (counts_of r.1.kept)) (λ back. CannotRecover (E.device left).now.bytes back.1)) }
+    ensures again { (s : Setting) (p : Past) → HasPast store.old.known s p (D.device store.old.disk)
+        → (image : List ℕ) (attempts : List Attempt) → MayBeLeft (D.device store.old.disk) (D.device store.new.disk) image → AreCutOff attempts image (E.device left).now.bytes
+        → MatchResult result.recovered (λ r. SurvivesAgain store.old.known s p calls.now r.0.heap r.1) (λ back. CannotRecover (E.device left).now.bytes back.1) }
     ensures played { (s : Setting) (p : Past) → HasPast store.old.known s p (D.device store.old.disk)
         → OnOk result.played ((q : Past) × MakeAll s p calls.now q × HasPast store.new.known s q (D.device store.new.disk)) }
     ensures stopped { (s : Setting) (p : Past) → HasPast store.old.known s p (D.device store.old.disk)
@@ -59,6 +77,7 @@ pub fn play_and_recover<D: Disk, E: Disk>(
     ensures interrupted { IfErr result.recovered (λ back. (s : Shape) → IsStudyOf (E.device left).now.bytes s → LeavesOnTheWay s (E.device left) (E.device back.0)) }
     ensures cause { IfErr result.recovered (λ back. back.1 ≡ Fault → HasFailed (E.device left).failures (E.device back.0).failures) }
 {
+    again_law();
     WholeRun {
         played: store.play(calls),
         recovered: recover(alloc, left),

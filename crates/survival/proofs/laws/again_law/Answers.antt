@@ -1,11 +1,17 @@
-use Rattle.survival.proofs.RunAgain.{kept_accepted, kept_again, kept_is_found}
+use Rattle.survival.proofs.RunAgain.{kept_accepted, kept_again, kept_is_found, kept_on, kept_report}
 use Rattle.survival.proofs.laws.again_law.Goals as goal
 
 pub returns-clause-heap : goal.returns-clause-heap
 returns-clause-heap c = kept_is_found c.one_study_law.ensures
+
+pub returns-clause-report : goal.returns-clause-report
+returns-clause-report c = kept_report c.one_study_law.ensures
 
 pub returns-clause-accepted : goal.returns-clause-accepted
 returns-clause-accepted c = kept_accepted c.studied_law.ensures
 
 pub returns-clause-again : goal.returns-clause-again
 returns-clause-again c = kept_again c.one_study_law.ensures
+
+pub returns-clause-on : goal.returns-clause-on
+returns-clause-on c = kept_on c.one_study_law.ensures

@@ -1,7 +1,20 @@
-use Rattle.survival.proofs.WholeRuns.{survives}
+use Rattle.survival.proofs.WholeRuns.{survives, survives_again, survives_since}
 use Rattle.survival.proofs.whole_run.play_and_recover.Goals as goal
 
 pub returns-clause-survives : goal.returns-clause-survives
 returns-clause-survives g c = λ s p has left.
     survives c.args.store.now.known s p c.args.calls.now (g.D.Disk.device c.args.store.now.disk) (g.D.Disk.device c.play.new.self.disk) g.E.Disk.device (g.E.Disk.device c.args.left) has
     (c.play.ensures.shown s p has) left c.recover.result c.recover.ensures.ok c.recover.ensures.refused
+
+pub returns-clause-moments : goal.returns-clause-moments
+returns-clause-moments g c = λ s p has n made.
+    let was = c.play.ensures.moments s p has n made in (
+      was,
+      survives_since c.args.store.now.known s p c.args.calls.now (g.D.Disk.device c.args.store.now.disk) (g.D.Disk.device c.play.new.self.disk) g.E.Disk.device (g.E.Disk.device c.args.left) n was
+          c.recover.result c.recover.ensures.ok c.recover.ensures.refused,
+    )
+
+pub returns-clause-again : goal.returns-clause-again
+returns-clause-again g c = λ s p has image attempts left tries.
+    survives_again c.args.store.now.known s p c.args.calls.now (g.D.Disk.device c.args.store.now.disk) (g.D.Disk.device c.play.new.self.disk) g.E.Disk.device (g.E.Disk.device c.args.left) image attempts has
+    c.again_law.ensures.heap c.again_law.ensures.report c.again_law.ensures.accepted c.again_law.ensures.on (c.play.ensures.shown s p has) left tries c.recover.result c.recover.ensures.ok c.recover.ensures.refused

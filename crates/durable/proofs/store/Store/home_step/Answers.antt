@@ -1,12 +1,14 @@
 use Rattle.std.proofs.Common.{◌≡◌, true, false, refl, sym, ◌∙◌, arith}
 use Rattle.block_disk.specs.Images.{LeavesOnly}
 use Rattle.block_disk.proofs.Images.{begin}
-use Rattle.durable.specs.Store.{HasPast, ShowsStep}
+use Rattle.durable.specs.Store.{HasPast}
+use Rattle.durable.specs.declared.doubt.Doubt.TheVariants.{Nothing}
+use Rattle.store_image.specs.Consistent.{ShowsPast}
 use Rattle.store_image.specs.KeptHeap.{StandsForCut}
 use Rattle.store_past.specs.Past.{after_home}
 use Rattle.store_memory.specs.Begin.{IsLeastDirtyOf}
 use Rattle.durable.specs.Calls.{IsClean}
-use Rattle.durable.proofs.Storing.{to_parts, from_parts, home_has, failed_has, may_go_home, shows_now, shows_then}
+use Rattle.durable.proofs.Storing.{to_parts, from_parts, home_has, failed_has, may_go_home, shows_now}
 use Rattle.durable.proofs.store.Store.home_step.Goals as goal
 
 pub returns-in_default-clause-answer : goal.returns-in_default-clause-answer
@@ -18,7 +20,7 @@ pub returns-in_default-clause-any_moment : goal.returns-in_default-clause-any_mo
 returns-in_default-clause-any_moment g c = λ s p has. begin (g.D.Disk.device c.args.self.now.disk) (StandsForCut c.args.self.now.known.layout s p.logged p.cut)
 
 pub returns-in_default-clause-shown : goal.returns-in_default-clause-shown
-returns-in_default-clause-shown g c = λ s p has. begin (g.D.Disk.device c.args.self.now.disk) (ShowsStep c.args.self.now.known.layout s p)
+returns-in_default-clause-shown g c = λ s p has. begin (g.D.Disk.device c.args.self.now.disk) (ShowsPast c.args.self.now.known.layout s p)
 
 pub logged_value-value-requires : goal.logged_value-value-requires
 logged_value-value-requires g c =
@@ -40,7 +42,7 @@ pub invariant_of-self-in-Err : goal.invariant_of-self-in-Err
 invariant_of-self-in-Err g c =
     let was = c.self.invariant in
     let may = may_go_home _ was.0 was.1 _ was.2 c.in-Some.field.0 c.logged_value-value.result c.if-self.false (c.in-Some.ensures was.0 was.1 was.2.remembers) (c.logged_value-value.ensures was.0 was.1 was.2.remembers) in
-    (was.0, was.1, failed_has _ was.0 was.1 _ was.2 _ _ _ refl refl (shows_now _ was.0 was.1 _ was.2 _ c.if-self.false (c.in-Err.ensures.shown was.0 was.1 _ may)))
+    (was.0, was.1, failed_has _ was.0 was.1 _ was.2 _ _ Nothing _ refl refl (shows_now _ was.0 was.1 _ was.2 Nothing _ c.if-self.false (c.in-Err.ensures.shown was.0 was.1 _ may)))
 
 pub returns-in-Ok-clause-ok : goal.returns-in-Ok-clause-ok
 returns-in-Ok-clause-ok g c = λ s p has.
@@ -69,13 +71,13 @@ pub returns-in-Ok-clause-shown : goal.returns-in-Ok-clause-shown
 returns-in-Ok-clause-shown g c = λ s p has.
     let was = to_parts g.D.Disk.device _ c.args.self.now (λ x d. HasPast x s p d) c.self.view_is has in
     let may = may_go_home _ s p _ was c.in-Some.field.0 c.logged_value-value.result c.if-self.false (c.in-Some.ensures s p was.remembers) (c.logged_value-value.ensures s p was.remembers) in
-    from_parts g.D.Disk.device _ c.args.self.now (λ x d. LeavesOnly d (g.D.Disk.device c.write_home.new.disk) (ShowsStep x.layout s p)) c.self.view_is (shows_then _ s p _ _ (c.in-Ok.ensures.shown s p _ may))
+    from_parts g.D.Disk.device _ c.args.self.now (λ x d. LeavesOnly d (g.D.Disk.device c.write_home.new.disk) (ShowsPast x.layout s p)) c.self.view_is (c.in-Ok.ensures.shown s p _ may)
 
 pub returns-in-Err-clause-kept : goal.returns-in-Err-clause-kept
 returns-in-Err-clause-kept g c = λ s p has.
     let was = to_parts g.D.Disk.device _ c.args.self.now (λ x d. HasPast x s p d) c.self.view_is has in
     let may = may_go_home _ s p _ was c.in-Some.field.0 c.logged_value-value.result c.if-self.false (c.in-Some.ensures s p was.remembers) (c.logged_value-value.ensures s p was.remembers) in
-    failed_has _ s p _ was _ _ _ refl refl (shows_now _ s p _ was _ c.if-self.false (c.in-Err.ensures.shown s p _ may))
+    failed_has _ s p _ was _ _ Nothing _ refl refl (shows_now _ s p _ was Nothing _ c.if-self.false (c.in-Err.ensures.shown s p _ may))
 
 pub returns-in-Err-clause-none : goal.returns-in-Err-clause-none
 returns-in-Err-clause-none g c = λ s p has clean.
@@ -93,4 +95,4 @@ pub returns-in-Err-clause-shown : goal.returns-in-Err-clause-shown
 returns-in-Err-clause-shown g c = λ s p has.
     let was = to_parts g.D.Disk.device _ c.args.self.now (λ x d. HasPast x s p d) c.self.view_is has in
     let may = may_go_home _ s p _ was c.in-Some.field.0 c.logged_value-value.result c.if-self.false (c.in-Some.ensures s p was.remembers) (c.logged_value-value.ensures s p was.remembers) in
-    from_parts g.D.Disk.device _ c.args.self.now (λ x d. LeavesOnly d (g.D.Disk.device c.write_home.new.disk) (ShowsStep x.layout s p)) c.self.view_is (shows_then _ s p _ _ (c.in-Err.ensures.shown s p _ may))
+    from_parts g.D.Disk.device _ c.args.self.now (λ x d. LeavesOnly d (g.D.Disk.device c.write_home.new.disk) (ShowsPast x.layout s p)) c.self.view_is (c.in-Err.ensures.shown s p _ may)

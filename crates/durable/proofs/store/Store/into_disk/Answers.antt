@@ -8,12 +8,12 @@ use Rattle.durable.proofs.store.Store.into_disk.Goals as goal
 
 pub returns-clause-shown : goal.returns-clause-shown
 returns-clause-shown g c = λ s p has.
-    subst (λ (x : Parts g.row.D.Denot). Always (g.D.Disk.device x.disk) (ShowsStep c.args.self.known.layout s p)) (sym c.self.view_is) has.images
+    subst (λ (x : Parts g.row.D.Denot). Always (g.D.Disk.device x.disk) (ShowsStep c.args.self.known.layout s p c.args.self.known.doubt)) (sym c.self.view_is) has.images
 
 pub returns-clause-crash : goal.returns-clause-crash
 returns-clause-crash g c = λ s p has.
-    subst (λ (x : Parts g.row.D.Denot). Always (g.D.Disk.device x.disk) (StandsForStep c.args.self.known.layout s p)) (sym c.self.view_is)
-    (λ image left. past_stands c.args.self.known s p (g.D.Disk.device c.args.self.disk) has image (has.images image left))
+    subst (λ (x : Parts g.row.D.Denot). Always (g.D.Disk.device x.disk) (StandsForStep c.args.self.known.layout s p c.args.self.known.doubt)) (sym c.self.view_is)
+    (λ image left. past_stands c.args.self.known s p c.args.self.known.doubt (g.D.Disk.device c.args.self.disk) has image (has.images image left))
 
 pub returns-clause-at_rest : goal.returns-clause-at_rest
 returns-clause-at_rest g c = λ s p has serves.

@@ -14,7 +14,7 @@ returns-then-any_open g c = λ s p has.
 pub returns-then-is_acknowledged : goal.returns-then-is_acknowledged
 returns-then-is_acknowledged g c = λ s p has.
     let here = subst (λ (x : Parts g.row.D.Denot). HasPast x.known s p (g.D.Disk.device x.disk)) (sym c.self.view_is) has in
-    let known : Known = record { layout = c.self.inside.layout; committed = c.self.inside.committed; memory = c.self.inside.applied; logged = c.self.inside.sections; has_failed = c.self.inside.has_failed } in (
+    let known : Known = record { layout = c.self.inside.layout; committed = c.self.inside.committed; memory = c.self.inside.applied; logged = c.self.inside.sections; has_failed = c.self.inside.has_failed; doubt = c.self.inside.doubt } in (
       ap (λ (x : Parts g.row.D.Denot). x.known.has_failed) (sym c.self.view_is) ∙ c.if-self.false,
       (λ held. absurd (omega (arith, held.1, c.any_open.ensures.«open» s p held.0 here.remembers c.if-any_open.false))),
       record {
@@ -28,7 +28,7 @@ returns-then-is_acknowledged g c = λ s p has.
 pub returns-else-is_logged : goal.returns-else-is_logged
 returns-else-is_logged g c = λ s p has.
     let here = subst (λ (x : Parts g.row.D.Denot). HasPast x.known s p (g.D.Disk.device x.disk)) (sym c.self.view_is) has in
-    let known : Known = record { layout = c.self.inside.layout; committed = c.self.inside.committed; memory = c.self.inside.applied; logged = c.self.inside.sections; has_failed = c.self.inside.has_failed } in (
+    let known : Known = record { layout = c.self.inside.layout; committed = c.self.inside.committed; memory = c.self.inside.applied; logged = c.self.inside.sections; has_failed = c.self.inside.has_failed; doubt = c.self.inside.doubt } in (
       ap (λ (x : Parts g.row.D.Denot). x.known.has_failed) (sym c.self.view_is) ∙ c.if-self.false,
       (λ held. absurd (omega (arith, held.1, c.any_open.ensures.«open» s p held.0 here.remembers c.if-any_open.false))),
       λ written. ⊎_elim

@@ -2,6 +2,7 @@ use Rattle.std.proofs.Common.{◌≡◌, inr, ⊎_elim, ℕ, false, List, Err, r
 use Rattle.heap_model.specs.Setting.{Setting}
 use Rattle.block_disk.specs.Images.{LeavesOnly}
 use Rattle.durable.specs.Store.{HasPast, ShowsStep}
+use Rattle.durable.specs.declared.doubt.Doubt.TheVariants.{Logging}
 use Rattle.store_image.specs.KeptHeap.{StandsForCut}
 use Rattle.store_past.specs.Past.{Past, after_log}
 use Rattle.std.proofs.Common.{◌++◌, length}
@@ -32,7 +33,7 @@ push_all-requires g c =
     }
 
 -- the sections after the new records
-tells_after : (g : _) (c : goal.After-logged_all g) (s : Setting) (p : Past) → HasPast (record { layout = c.self.inside.layout; committed = c.self.inside.committed; memory = c.self.inside.applied; logged = c.self.inside.sections; has_failed = c.self.inside.has_failed }) s p (g.D.Disk.device c.self.inside.disk) → TellsSections c.push_all.new.self p.base (p.fresh ++ p.logged)
+tells_after : (g : _) (c : goal.After-logged_all g) (s : Setting) (p : Past) → HasPast (record { layout = c.self.inside.layout; committed = c.self.inside.committed; memory = c.self.inside.applied; logged = c.self.inside.sections; has_failed = c.self.inside.has_failed; doubt = c.self.inside.doubt }) s p (g.D.Disk.device c.self.inside.disk) → TellsSections c.push_all.new.self p.base (p.fresh ++ p.logged)
 tells_after g c s p was =
     let records = c.fresh-fresh.ensures.records s p was.remembers in
     subst (λ (log : List (ℕ × Record)). TellsSections c.push_all.new.self p.base (log ++ p.logged)) records
@@ -51,7 +52,7 @@ invariant_of-self g c =
 pub invariant_of-self-in-Fault : goal.invariant_of-self-in-Fault
 invariant_of-self-in-Fault g c =
     let was = c.self.invariant in
-    (was.0, was.1, failed_has _ was.0 was.1 _ was.2 _ _ _ c.in-Err.ensures.err refl (logs_now _ was.0 was.1 _ was.2 _ (logs_then _ was.0 was.1 _ _ (c.in-Err.ensures.shown was.0 was.1 (may_log _ was.0 was.1 _ was.2 c.fresh-fresh.ensures.within c.fresh-fresh.ensures.words c.if-self.false)))))
+    (was.0, was.1, failed_has _ was.0 was.1 _ was.2 _ _ Logging _ c.in-Err.ensures.err refl (logs_now _ was.0 was.1 _ was.2 Logging _ c.if-self.false (logs_then _ was.0 was.1 _ _ (c.in-Err.ensures.shown was.0 was.1 (may_log _ was.0 was.1 _ was.2 c.fresh-fresh.ensures.within c.fresh-fresh.ensures.words c.if-self.false)))))
 
 pub returns-in-Ok-clause-ok : goal.returns-in-Ok-clause-ok
 returns-in-Ok-clause-ok g c = λ s p has.
@@ -82,7 +83,7 @@ returns-in-Ok-clause-any_moment g c = λ s p has.
 pub returns-in-Ok-clause-shown : goal.returns-in-Ok-clause-shown
 returns-in-Ok-clause-shown g c = λ s p has.
     let was = to_parts g.D.Disk.device _ c.args.self.now (λ x d. HasPast x s p d) c.self.view_is has in
-    from_parts g.D.Disk.device _ c.args.self.now (λ x d. LeavesOnly d (g.D.Disk.device c.log_records.new.disk) (ShowsStep x.layout s p)) c.self.view_is (logs_then _ s p _ _ (c.in-Ok.ensures.shown s p (may_log _ s p _ was c.fresh-fresh.ensures.within c.fresh-fresh.ensures.words c.if-self.false)))
+    from_parts g.D.Disk.device _ c.args.self.now (λ x d. LeavesOnly d (g.D.Disk.device c.log_records.new.disk) (ShowsStep x.layout s p Logging)) c.self.view_is (logs_then _ s p _ _ (c.in-Ok.ensures.shown s p (may_log _ s p _ was c.fresh-fresh.ensures.within c.fresh-fresh.ensures.words c.if-self.false)))
 
 pub returns-in-Fault-clause-none : goal.returns-in-Fault-clause-none
 returns-in-Fault-clause-none g c = λ s p has none.
@@ -92,7 +93,7 @@ returns-in-Fault-clause-none g c = λ s p has none.
 pub returns-in-Fault-clause-kept : goal.returns-in-Fault-clause-kept
 returns-in-Fault-clause-kept g c = λ s p has.
     let was = to_parts g.D.Disk.device _ c.args.self.now (λ x d. HasPast x s p d) c.self.view_is has in
-    failed_has _ s p _ was _ _ _ c.in-Err.ensures.err refl (logs_now _ s p _ was _ (logs_then _ s p _ _ (c.in-Err.ensures.shown s p (may_log _ s p _ was c.fresh-fresh.ensures.within c.fresh-fresh.ensures.words c.if-self.false))))
+    failed_has _ s p _ was _ _ Logging _ c.in-Err.ensures.err refl (logs_now _ s p _ was Logging _ c.if-self.false (logs_then _ s p _ _ (c.in-Err.ensures.shown s p (may_log _ s p _ was c.fresh-fresh.ensures.within c.fresh-fresh.ensures.words c.if-self.false))))
 
 pub returns-in-Fault-clause-worn : goal.returns-in-Fault-clause-worn
 returns-in-Fault-clause-worn g c = λ s p has serves fresh last.
@@ -107,7 +108,7 @@ returns-in-Fault-clause-any_moment g c = λ s p has.
 pub returns-in-Fault-clause-shown : goal.returns-in-Fault-clause-shown
 returns-in-Fault-clause-shown g c = λ s p has.
     let was = to_parts g.D.Disk.device _ c.args.self.now (λ x d. HasPast x s p d) c.self.view_is has in
-    from_parts g.D.Disk.device _ c.args.self.now (λ x d. LeavesOnly d (g.D.Disk.device c.log_records.new.disk) (ShowsStep x.layout s p)) c.self.view_is (logs_then _ s p _ _ (c.in-Err.ensures.shown s p (may_log _ s p _ was c.fresh-fresh.ensures.within c.fresh-fresh.ensures.words c.if-self.false)))
+    from_parts g.D.Disk.device _ c.args.self.now (λ x d. LeavesOnly d (g.D.Disk.device c.log_records.new.disk) (ShowsStep x.layout s p Logging)) c.self.view_is (logs_then _ s p _ _ (c.in-Err.ensures.shown s p (may_log _ s p _ was c.fresh-fresh.ensures.within c.fresh-fresh.ensures.words c.if-self.false)))
 
 pub returns-in_default : goal.returns-in_default
 returns-in_default g c =
@@ -120,7 +121,7 @@ returns-in_default g c =
       answer = λ s p has. (
           let was = to_parts g.D.Disk.device _ c.args.self.now (λ x d. HasPast x s p d) c.self.view_is has in
           let last = (c.in-Err.ensures.worn s p (may_log _ s p _ was c.fresh-fresh.ensures.within c.fresh-fresh.ensures.words c.if-self.false)).0 (ap Err worn) in
-          from_parts g.D.Disk.device _ c.args.self.now (λ x d. RefusesLog x p c.in-Err.reason) c.self.view_is (log_refused (record { layout = c.self.inside.layout; committed = c.self.inside.committed; memory = c.self.inside.applied; logged = c.self.inside.sections; has_failed = c.self.inside.has_failed }) p c.in-Err.reason c.if-self.false worn last.0 last.1));
+          from_parts g.D.Disk.device _ c.args.self.now (λ x d. RefusesLog x p c.in-Err.reason) c.self.view_is (log_refused (record { layout = c.self.inside.layout; committed = c.self.inside.committed; memory = c.self.inside.applied; logged = c.self.inside.sections; has_failed = c.self.inside.has_failed; doubt = c.self.inside.doubt }) p c.in-Err.reason c.if-self.false worn last.0 last.1));
       none = λ s p has none. device;
       worn = λ s p has serves fresh last. (
           let was = to_parts g.D.Disk.device _ c.args.self.now (λ x d. HasPast x s p d) c.self.view_is has in
@@ -128,15 +129,16 @@ returns-in_default g c =
       kept = λ s p has. (
           let was = to_parts g.D.Disk.device _ c.args.self.now (λ x d. HasPast x s p d) c.self.view_is has in
           kept_has _ s p _ was _ _ _ c.in-Err.ensures.err refl (ap g.D.Disk.device same));
-      refused = inr ((λ i. record { disk = same i; known = record { layout = c.self.inside.layout; committed = c.in-Err.ensures.err i; memory = c.self.inside.applied; logged = c.self.inside.sections; has_failed = c.self.inside.has_failed } })
+      refused = inr ((λ i. record { disk = same i; known = record { layout = c.self.inside.layout; committed = c.in-Err.ensures.err i; memory = c.self.inside.applied; logged = c.self.inside.sections; has_failed = c.self.inside.has_failed; doubt = c.self.inside.doubt } })
           ∙ c.self.view_is);
       failed = λ is. absurd (c.in_default.not-Fault (let same : c.in-Err.reason ≡ Fault = cc in same));
+      in_doubt = λ is. absurd (c.in_default.not-Fault (let again : c.in-Err.reason ≡ Fault = cc in again));
       any_moment = λ s p has. (
           let was = to_parts g.D.Disk.device _ c.args.self.now (λ x d. HasPast x s p d) c.self.view_is has in
           from_parts g.D.Disk.device _ c.args.self.now (λ x d. LeavesOnly d (g.D.Disk.device c.log_records.new.disk) (StandsForCut x.layout s p.logged p.cut)) c.self.view_is (c.in-Err.ensures.any_moment s p (may_log _ s p _ was c.fresh-fresh.ensures.within c.fresh-fresh.ensures.words c.if-self.false)));
       shown = λ s p has. (
           let was = to_parts g.D.Disk.device _ c.args.self.now (λ x d. HasPast x s p d) c.self.view_is has in
-          from_parts g.D.Disk.device _ c.args.self.now (λ x d. LeavesOnly d (g.D.Disk.device c.log_records.new.disk) (ShowsStep x.layout s p)) c.self.view_is (logs_then _ s p _ _ (c.in-Err.ensures.shown s p (may_log _ s p _ was c.fresh-fresh.ensures.within c.fresh-fresh.ensures.words c.if-self.false))));
+          from_parts g.D.Disk.device _ c.args.self.now (λ x d. LeavesOnly d (g.D.Disk.device c.log_records.new.disk) (ShowsStep x.layout s p Logging)) c.self.view_is (logs_then _ s p _ _ (c.in-Err.ensures.shown s p (may_log _ s p _ was c.fresh-fresh.ensures.within c.fresh-fresh.ensures.words c.if-self.false))));
       cause = from_parts g.D.Disk.device _ c.args.self.now (λ x d. HasCause {T = ℕ} d.failures (g.D.Disk.device c.log_records.new.disk).failures Fault (Err c.in-Err.reason)) c.self.view_is c.in-Err.ensures.cause;
       layout = ap (λ z. z.known.layout) c.self.view_is;
     }

@@ -1,10 +1,14 @@
-use Rattle.std.proofs.Common.{◌≡◌}
-use Rattle.std.proofs.Common.{◌≡◌, false, refl, sym, ap, subst, arith}
+use Rattle.std.proofs.Common.{◌≡◌, ◌∙◌, Some, Err, false, refl, sym, ap, subst, arith}
 use Rattle.heap_model.proofs.Existence.{stable_exists}
 use Rattle.heap_model.specs.Sections.{actions}
 use Rattle.durable.specs.declared.store_call.StoreCall.{StoreCall}
 use Rattle.durable.specs.Calls.{IsQuiet, Makes, RefusesCall, after_home_step}
 use Rattle.store_past.specs.Past.{after_log}
+use Rattle.store_past.specs.declared.error.StoreError.TheVariants.{Fault}
+use Rattle.block_disk.specs.Images.{LeavesOnly}
+use Rattle.block_disk.proofs.Images.{begin}
+use Rattle.durable.specs.Store.{ShowsStep, doubt_in}
+use Rattle.durable.proofs.Storing.{shows_then}
 use Rattle.durable.proofs.Playing.{apply_made, apply_refused, settle_made, settle_refused, no_cause}
 use Rattle.durable.proofs.store.Store.make.Goals as goal
 
@@ -62,3 +66,37 @@ returns-in-Err-home_step-clause-quiet g c = λ s p has quiet.
 
 pub returns-in-Settle-clause-quiet : goal.returns-in-Settle-clause-quiet
 returns-in-Settle-clause-quiet g c = λ s p has quiet. absurd (subst (λ (call : StoreCall). IsQuiet s p call) c.in-Settle.is quiet)
+
+pub returns-in-Apply-clause-shown : goal.returns-in-Apply-clause-shown
+returns-in-Apply-clause-shown g c = λ s p has.
+    subst (λ x. LeavesOnly (g.D.Disk.device c.args.self.now.disk) x (ShowsStep c.args.self.now.known.layout s p (doubt_in (Some c.args.call)))) (sym (ap g.D.Disk.device c.apply.ensures.disk))
+    (begin (g.D.Disk.device c.args.self.now.disk) (ShowsStep c.args.self.now.known.layout s p (doubt_in (Some c.args.call))))
+
+pub returns-in-Ok-clause-shown : goal.returns-in-Ok-clause-shown
+returns-in-Ok-clause-shown g c = λ s p has.
+    subst (λ (call : StoreCall). LeavesOnly (g.D.Disk.device c.args.self.now.disk) (g.D.Disk.device c.log_step.new.self.disk) (ShowsStep c.args.self.now.known.layout s p (doubt_in (Some call)))) (sym c.in-Log.is) (c.in-Ok.ensures.shown s p has)
+
+pub returns-in-Err-clause-shown : goal.returns-in-Err-clause-shown
+returns-in-Err-clause-shown g c = λ s p has.
+    subst (λ (call : StoreCall). LeavesOnly (g.D.Disk.device c.args.self.now.disk) (g.D.Disk.device c.log_step.new.self.disk) (ShowsStep c.args.self.now.known.layout s p (doubt_in (Some call)))) (sym c.in-Log.is) (c.in-Err.ensures.shown s p has)
+
+pub returns-in-Ok-home_step-clause-shown : goal.returns-in-Ok-home_step-clause-shown
+returns-in-Ok-home_step-clause-shown g c = λ s p has.
+    shows_then c.args.self.now.known.layout s p (doubt_in (Some c.args.call)) (g.D.Disk.device c.args.self.now.disk) (g.D.Disk.device c.home_step.new.self.disk) (c.in-Ok-home_step.ensures.shown s p has)
+
+pub returns-in-Err-home_step-clause-shown : goal.returns-in-Err-home_step-clause-shown
+returns-in-Err-home_step-clause-shown g c = λ s p has.
+    shows_then c.args.self.now.known.layout s p (doubt_in (Some c.args.call)) (g.D.Disk.device c.args.self.now.disk) (g.D.Disk.device c.home_step.new.self.disk) (c.in-Err-home_step.ensures.shown s p has)
+
+pub returns-in-Settle-clause-shown : goal.returns-in-Settle-clause-shown
+returns-in-Settle-clause-shown g c = λ s p has.
+    subst (λ (call : StoreCall). LeavesOnly (g.D.Disk.device c.args.self.now.disk) (g.D.Disk.device c.settle.new.self.disk) (ShowsStep c.args.self.now.known.layout s p (doubt_in (Some call)))) (sym c.in-Settle.is) (c.settle.ensures.shown s p has)
+
+pub returns-in-Err-clause-in_doubt : goal.returns-in-Err-clause-in_doubt
+returns-in-Err-clause-in_doubt g c = λ is. let same : c.in-Err.reason ≡ Fault = cc in c.in-Err.ensures.in_doubt (ap Err same) ∙ ap (λ (call : StoreCall). doubt_in (Some call)) (sym c.in-Log.is)
+
+pub returns-in-Err-home_step-clause-in_doubt : goal.returns-in-Err-home_step-clause-in_doubt
+returns-in-Err-home_step-clause-in_doubt g c = λ is. let same : c.in-Err-home_step.reason ≡ Fault = cc in c.in-Err-home_step.ensures.in_doubt (ap Err same) ∙ ap (λ (call : StoreCall). doubt_in (Some call)) (sym c.in-Home.is)
+
+pub returns-in-Settle-clause-in_doubt : goal.returns-in-Settle-clause-in_doubt
+returns-in-Settle-clause-in_doubt g c = λ is. c.settle.ensures.in_doubt is ∙ ap (λ (call : StoreCall). doubt_in (Some call)) (sym c.in-Settle.is)

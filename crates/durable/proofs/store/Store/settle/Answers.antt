@@ -2,6 +2,7 @@ use Rattle.std.proofs.Common.{◌≡◌, inr, ⊎_elim, ℕ, true, false, Err, s
 use Rattle.block_disk.specs.Images.{LeavesOnly}
 use Rattle.block_disk.proofs.Images.{begin}
 use Rattle.durable.specs.Store.{HasPast, ShowsStep}
+use Rattle.durable.specs.declared.doubt.Doubt.TheVariants.{Settling}
 use Rattle.store_past.specs.Past.{after_settle}
 use Rattle.heap_model.specs.Sections.{actions}
 use Rattle.heap_model.specs.Cuts.{counts_of}
@@ -27,7 +28,7 @@ pub returns-then-is_some-clause-any_moment : goal.returns-then-is_some-clause-an
 returns-then-is_some-clause-any_moment g c = λ s p cut has stable. begin (g.D.Disk.device c.args.self.now.disk) (StandsForEither c.args.self.now.known.layout s p.logged p.cut cut)
 
 pub returns-then-is_some-clause-shown : goal.returns-then-is_some-clause-shown
-returns-then-is_some-clause-shown g c = λ s p has. begin (g.D.Disk.device c.args.self.now.disk) (ShowsStep c.args.self.now.known.layout s p)
+returns-then-is_some-clause-shown g c = λ s p has. begin (g.D.Disk.device c.args.self.now.disk) (ShowsStep c.args.self.now.known.layout s p Settling)
 
 pub settle-requires : goal.settle-requires
 settle-requires g c =
@@ -44,14 +45,14 @@ invariant_of-self-in-Fault g c =
     let was = c.self.invariant in (
       was.0,
       was.1,
-      failed_has _ was.0 was.1 _ was.2 _ _ _ c.in-Err.ensures.err c.stable-stable.ensures.same
-          (logs_now _ was.0 was.1 _ was.2 _ (settles_then _ was.0 was.1 _ _ _ (c.stable-stable.ensures.stable was.1.base was.1.logged was.2.sections) (c.in-Err.ensures.shown was.0 was.1 (may_settle _ was.0 was.1 _ was.2 c.stable-stable.result.cut c.stable-stable.result.places c.if-self.false (none_dirty was.0 was.1 c.least_dirty.result (sym c.is_some.ensures ∙ c.if-is_some.false) (c.least_dirty.ensures was.0 was.1 was.2.remembers)) (c.stable-stable.ensures.stable was.1.base was.1.logged was.2.sections) (c.stable-stable.ensures.behind was.1.base was.1.logged was.2.sections))))),
+      failed_has _ was.0 was.1 _ was.2 _ _ Settling _ c.in-Err.ensures.err c.stable-stable.ensures.same
+          (logs_now _ was.0 was.1 _ was.2 Settling _ c.if-self.false (settles_then _ was.0 was.1 _ _ _ (none_dirty was.0 was.1 c.least_dirty.result (sym c.is_some.ensures ∙ c.if-is_some.false) (c.least_dirty.ensures was.0 was.1 was.2.remembers)) (c.stable-stable.ensures.stable was.1.base was.1.logged was.2.sections) (c.in-Err.ensures.shown was.0 was.1 (may_settle _ was.0 was.1 _ was.2 c.stable-stable.result.cut c.stable-stable.result.places c.if-self.false (none_dirty was.0 was.1 c.least_dirty.result (sym c.is_some.ensures ∙ c.if-is_some.false) (c.least_dirty.ensures was.0 was.1 was.2.remembers)) (c.stable-stable.ensures.stable was.1.base was.1.logged was.2.sections) (c.stable-stable.ensures.behind was.1.base was.1.logged was.2.sections))))),
     )
 
 pub returns-in-Ok-clause-ok : goal.returns-in-Ok-clause-ok
 returns-in-Ok-clause-ok g c = λ s p cut has stable.
     let was = to_parts g.D.Disk.device _ c.args.self.now (λ x d. HasPast x s p d) c.self.view_is has in
-    subst (λ (k : ℕ → ℕ). HasPast (record { layout = c.self.inside.layout; committed = c.settle.new.committed; memory = c.self.inside.applied; logged = c.stable-stable.new.self; has_failed = c.self.inside.has_failed }) s (after_settle p k) (g.D.Disk.device c.settle.new.disk)) (λ i l. one_stable (actions p.logged) (counts_of c.stable-stable.result.cut) cut (c.stable-stable.ensures.stable p.base p.logged was.sections) stable l i)
+    subst (λ (k : ℕ → ℕ). HasPast (record { layout = c.self.inside.layout; committed = c.settle.new.committed; memory = c.self.inside.applied; logged = c.stable-stable.new.self; has_failed = c.self.inside.has_failed; doubt = c.self.inside.doubt }) s (after_settle p k) (g.D.Disk.device c.settle.new.disk)) (λ i l. one_stable (actions p.logged) (counts_of c.stable-stable.result.cut) cut (c.stable-stable.ensures.stable p.base p.logged was.sections) stable l i)
     (settled_has _ s p _ was _ _ _ _ c.stable-stable.ensures.same (c.in-Ok.ensures.ok s p (may_settle _ s p _ was c.stable-stable.result.cut c.stable-stable.result.places c.if-self.false (none_dirty s p c.least_dirty.result (sym c.is_some.ensures ∙ c.if-is_some.false) (c.least_dirty.ensures s p was.remembers)) (c.stable-stable.ensures.stable p.base p.logged was.sections) (c.stable-stable.ensures.behind p.base p.logged was.sections))))
 
 pub returns-in-Ok-clause-answer : goal.returns-in-Ok-clause-answer
@@ -71,18 +72,18 @@ returns-in-Ok-clause-any_moment g c = λ s p cut has stable.
 pub returns-in-Ok-clause-shown : goal.returns-in-Ok-clause-shown
 returns-in-Ok-clause-shown g c = λ s p has.
     let was = to_parts g.D.Disk.device _ c.args.self.now (λ x d. HasPast x s p d) c.self.view_is has in
-    from_parts g.D.Disk.device _ c.args.self.now (λ x d. LeavesOnly d (g.D.Disk.device c.settle.new.disk) (ShowsStep x.layout s p)) c.self.view_is (settles_then _ s p _ _ _ (c.stable-stable.ensures.stable p.base p.logged was.sections) (c.in-Ok.ensures.shown s p (may_settle _ s p _ was c.stable-stable.result.cut c.stable-stable.result.places c.if-self.false (none_dirty s p c.least_dirty.result (sym c.is_some.ensures ∙ c.if-is_some.false) (c.least_dirty.ensures s p was.remembers)) (c.stable-stable.ensures.stable p.base p.logged was.sections) (c.stable-stable.ensures.behind p.base p.logged was.sections))))
+    from_parts g.D.Disk.device _ c.args.self.now (λ x d. LeavesOnly d (g.D.Disk.device c.settle.new.disk) (ShowsStep x.layout s p Settling)) c.self.view_is (settles_then _ s p _ _ _ (none_dirty s p c.least_dirty.result (sym c.is_some.ensures ∙ c.if-is_some.false) (c.least_dirty.ensures s p was.remembers)) (c.stable-stable.ensures.stable p.base p.logged was.sections) (c.in-Ok.ensures.shown s p (may_settle _ s p _ was c.stable-stable.result.cut c.stable-stable.result.places c.if-self.false (none_dirty s p c.least_dirty.result (sym c.is_some.ensures ∙ c.if-is_some.false) (c.least_dirty.ensures s p was.remembers)) (c.stable-stable.ensures.stable p.base p.logged was.sections) (c.stable-stable.ensures.behind p.base p.logged was.sections))))
 
 pub returns-in-Fault-clause-answer : goal.returns-in-Fault-clause-answer
 returns-in-Fault-clause-answer g c = λ s p has.
     let was = to_parts g.D.Disk.device _ c.args.self.now (λ x d. HasPast x s p d) c.self.view_is has in
-    from_parts g.D.Disk.device _ c.args.self.now (λ x d. RefusesSettle x s p c.in-Err.reason) c.self.view_is (subst (RefusesSettle (record { layout = c.self.inside.layout; committed = c.self.inside.committed; memory = c.self.inside.applied; logged = c.self.inside.sections; has_failed = c.self.inside.has_failed }) s p) (sym c.in-Fault.is) (c.if-self.false, none_dirty s p c.least_dirty.result (sym c.is_some.ensures ∙ c.if-is_some.false) (c.least_dirty.ensures s p was.remembers)))
+    from_parts g.D.Disk.device _ c.args.self.now (λ x d. RefusesSettle x s p c.in-Err.reason) c.self.view_is (subst (RefusesSettle (record { layout = c.self.inside.layout; committed = c.self.inside.committed; memory = c.self.inside.applied; logged = c.self.inside.sections; has_failed = c.self.inside.has_failed; doubt = c.self.inside.doubt }) s p) (sym c.in-Fault.is) (c.if-self.false, none_dirty s p c.least_dirty.result (sym c.is_some.ensures ∙ c.if-is_some.false) (c.least_dirty.ensures s p was.remembers)))
 
 pub returns-in-Fault-clause-kept : goal.returns-in-Fault-clause-kept
 returns-in-Fault-clause-kept g c = λ s p has.
     let was = to_parts g.D.Disk.device _ c.args.self.now (λ x d. HasPast x s p d) c.self.view_is has in
-    failed_has _ s p _ was _ _ _ c.in-Err.ensures.err c.stable-stable.ensures.same
-    (logs_now _ s p _ was _ (settles_then _ s p _ _ _ (c.stable-stable.ensures.stable p.base p.logged was.sections) (c.in-Err.ensures.shown s p (may_settle _ s p _ was c.stable-stable.result.cut c.stable-stable.result.places c.if-self.false (none_dirty s p c.least_dirty.result (sym c.is_some.ensures ∙ c.if-is_some.false) (c.least_dirty.ensures s p was.remembers)) (c.stable-stable.ensures.stable p.base p.logged was.sections) (c.stable-stable.ensures.behind p.base p.logged was.sections)))))
+    failed_has _ s p _ was _ _ Settling _ c.in-Err.ensures.err c.stable-stable.ensures.same
+    (logs_now _ s p _ was Settling _ c.if-self.false (settles_then _ s p _ _ _ (none_dirty s p c.least_dirty.result (sym c.is_some.ensures ∙ c.if-is_some.false) (c.least_dirty.ensures s p was.remembers)) (c.stable-stable.ensures.stable p.base p.logged was.sections) (c.in-Err.ensures.shown s p (may_settle _ s p _ was c.stable-stable.result.cut c.stable-stable.result.places c.if-self.false (none_dirty s p c.least_dirty.result (sym c.is_some.ensures ∙ c.if-is_some.false) (c.least_dirty.ensures s p was.remembers)) (c.stable-stable.ensures.stable p.base p.logged was.sections) (c.stable-stable.ensures.behind p.base p.logged was.sections)))))
 
 pub returns-in-Fault-clause-worn : goal.returns-in-Fault-clause-worn
 returns-in-Fault-clause-worn g c = λ s p has serves clean last.
@@ -96,7 +97,7 @@ returns-in-Fault-clause-any_moment g c = λ s p cut has stable.
 pub returns-in-Fault-clause-shown : goal.returns-in-Fault-clause-shown
 returns-in-Fault-clause-shown g c = λ s p has.
     let was = to_parts g.D.Disk.device _ c.args.self.now (λ x d. HasPast x s p d) c.self.view_is has in
-    from_parts g.D.Disk.device _ c.args.self.now (λ x d. LeavesOnly d (g.D.Disk.device c.settle.new.disk) (ShowsStep x.layout s p)) c.self.view_is (settles_then _ s p _ _ _ (c.stable-stable.ensures.stable p.base p.logged was.sections) (c.in-Err.ensures.shown s p (may_settle _ s p _ was c.stable-stable.result.cut c.stable-stable.result.places c.if-self.false (none_dirty s p c.least_dirty.result (sym c.is_some.ensures ∙ c.if-is_some.false) (c.least_dirty.ensures s p was.remembers)) (c.stable-stable.ensures.stable p.base p.logged was.sections) (c.stable-stable.ensures.behind p.base p.logged was.sections))))
+    from_parts g.D.Disk.device _ c.args.self.now (λ x d. LeavesOnly d (g.D.Disk.device c.settle.new.disk) (ShowsStep x.layout s p Settling)) c.self.view_is (settles_then _ s p _ _ _ (none_dirty s p c.least_dirty.result (sym c.is_some.ensures ∙ c.if-is_some.false) (c.least_dirty.ensures s p was.remembers)) (c.stable-stable.ensures.stable p.base p.logged was.sections) (c.in-Err.ensures.shown s p (may_settle _ s p _ was c.stable-stable.result.cut c.stable-stable.result.places c.if-self.false (none_dirty s p c.least_dirty.result (sym c.is_some.ensures ∙ c.if-is_some.false) (c.least_dirty.ensures s p was.remembers)) (c.stable-stable.ensures.stable p.base p.logged was.sections) (c.stable-stable.ensures.behind p.base p.logged was.sections))))
 
 pub returns-in_default : goal.returns-in_default
 returns-in_default g c =
@@ -108,20 +109,21 @@ returns-in_default g c =
       running = tt;
       answer = λ s p has. (
           let was = to_parts g.D.Disk.device _ c.args.self.now (λ x d. HasPast x s p d) c.self.view_is has in
-          from_parts g.D.Disk.device _ c.args.self.now (λ x d. RefusesSettle x s p c.in-Err.reason) c.self.view_is (settle_refused (record { layout = c.self.inside.layout; committed = c.self.inside.committed; memory = c.self.inside.applied; logged = c.self.inside.sections; has_failed = c.self.inside.has_failed }) s p c.in-Err.reason c.if-self.false worn (none_dirty s p c.least_dirty.result (sym c.is_some.ensures ∙ c.if-is_some.false) (c.least_dirty.ensures s p was.remembers)) (c.in-Err.ensures.worn.0 (ap Err worn))));
+          from_parts g.D.Disk.device _ c.args.self.now (λ x d. RefusesSettle x s p c.in-Err.reason) c.self.view_is (settle_refused (record { layout = c.self.inside.layout; committed = c.self.inside.committed; memory = c.self.inside.applied; logged = c.self.inside.sections; has_failed = c.self.inside.has_failed; doubt = c.self.inside.doubt }) s p c.in-Err.reason c.if-self.false worn (none_dirty s p c.least_dirty.result (sym c.is_some.ensures ∙ c.if-is_some.false) (c.least_dirty.ensures s p was.remembers)) (c.in-Err.ensures.worn.0 (ap Err worn))));
       worn = λ s p has serves clean last. c.in-Err.ensures.worn.1 (ap (λ z. z.known.committed.sequence) c.self.view_is ∙ last);
       kept = λ s p has. (
           let was = to_parts g.D.Disk.device _ c.args.self.now (λ x d. HasPast x s p d) c.self.view_is has in
           kept_has _ s p _ was _ _ _ c.in-Err.ensures.err c.stable-stable.ensures.same (ap g.D.Disk.device same));
-      refused = inr ((λ i. record { disk = same i; known = record { layout = c.self.inside.layout; committed = c.in-Err.ensures.err i; memory = c.self.inside.applied; logged = c.stable-stable.ensures.same i; has_failed = c.self.inside.has_failed } })
+      refused = inr ((λ i. record { disk = same i; known = record { layout = c.self.inside.layout; committed = c.in-Err.ensures.err i; memory = c.self.inside.applied; logged = c.stable-stable.ensures.same i; has_failed = c.self.inside.has_failed; doubt = c.self.inside.doubt } })
           ∙ c.self.view_is);
       failed = λ is. absurd (c.in_default.not-Fault (let again : c.in-Err.reason ≡ Fault = cc in again));
+      in_doubt = λ is. absurd (c.in_default.not-Fault (let again : c.in-Err.reason ≡ Fault = cc in again));
       any_moment = λ s p cut has stable. (
           let was = to_parts g.D.Disk.device _ c.args.self.now (λ x d. HasPast x s p d) c.self.view_is has in
           from_parts g.D.Disk.device _ c.args.self.now (λ x d. LeavesOnly d (g.D.Disk.device c.settle.new.disk) (StandsForEither x.layout s p.logged p.cut cut)) c.self.view_is (subst (λ (k : ℕ → ℕ). LeavesOnly (g.D.Disk.device c.self.inside.disk) (g.D.Disk.device c.settle.new.disk) (StandsForEither c.self.inside.layout s p.logged p.cut k)) (λ i l. one_stable (actions p.logged) (counts_of c.stable-stable.result.cut) cut (c.stable-stable.ensures.stable p.base p.logged was.sections) stable l i) (c.in-Err.ensures.any_moment s p (may_settle _ s p _ was c.stable-stable.result.cut c.stable-stable.result.places c.if-self.false (none_dirty s p c.least_dirty.result (sym c.is_some.ensures ∙ c.if-is_some.false) (c.least_dirty.ensures s p was.remembers)) (c.stable-stable.ensures.stable p.base p.logged was.sections) (c.stable-stable.ensures.behind p.base p.logged was.sections)))));
       shown = λ s p has. (
           let was = to_parts g.D.Disk.device _ c.args.self.now (λ x d. HasPast x s p d) c.self.view_is has in
-          from_parts g.D.Disk.device _ c.args.self.now (λ x d. LeavesOnly d (g.D.Disk.device c.settle.new.disk) (ShowsStep x.layout s p)) c.self.view_is (settles_then _ s p _ _ _ (c.stable-stable.ensures.stable p.base p.logged was.sections) (c.in-Err.ensures.shown s p (may_settle _ s p _ was c.stable-stable.result.cut c.stable-stable.result.places c.if-self.false (none_dirty s p c.least_dirty.result (sym c.is_some.ensures ∙ c.if-is_some.false) (c.least_dirty.ensures s p was.remembers)) (c.stable-stable.ensures.stable p.base p.logged was.sections) (c.stable-stable.ensures.behind p.base p.logged was.sections)))));
+          from_parts g.D.Disk.device _ c.args.self.now (λ x d. LeavesOnly d (g.D.Disk.device c.settle.new.disk) (ShowsStep x.layout s p Settling)) c.self.view_is (settles_then _ s p _ _ _ (none_dirty s p c.least_dirty.result (sym c.is_some.ensures ∙ c.if-is_some.false) (c.least_dirty.ensures s p was.remembers)) (c.stable-stable.ensures.stable p.base p.logged was.sections) (c.in-Err.ensures.shown s p (may_settle _ s p _ was c.stable-stable.result.cut c.stable-stable.result.places c.if-self.false (none_dirty s p c.least_dirty.result (sym c.is_some.ensures ∙ c.if-is_some.false) (c.least_dirty.ensures s p was.remembers)) (c.stable-stable.ensures.stable p.base p.logged was.sections) (c.stable-stable.ensures.behind p.base p.logged was.sections)))));
       cause = from_parts g.D.Disk.device _ c.args.self.now (λ x d. HasCause {T = Unit {0}} d.failures (g.D.Disk.device c.settle.new.disk).failures Fault (Err c.in-Err.reason)) c.self.view_is c.in-Err.ensures.cause;
       layout = ap (λ z. z.known.layout) c.self.view_is;
     }
