@@ -1,0 +1,149 @@
+-- A round of the helper.
+use Rattle.std.proofs.Common.{ℕ, zero, suc, ◌≡◌, ◌≢◌, ◌<◌, ◌==◌, if◌then◌else◌, Bool, true, false, List, [], ◌∷◌, ◌++◌, length, replicate, Option, None, refl, sym, ap, ◌∙◌, subst, inl, inr, arith}
+use Rattle.std.proofs.lemmas.Bool.Decides.{eqb_tells}
+use Rattle.std.proofs.lemmas.List.{append_assoc}
+use Rattle.rtrb.specs.declared.consumer.Consumer.{Consumer}
+use Rattle.heap_model.specs.declared.record.Record.{Record}
+use Rattle.heap_model.specs.Setting.{Setting}
+use Rattle.block_disk.specs.Device.{Device}
+use Rattle.block_disk.specs.Images.{LeavesOnly}
+use Rattle.block_disk.proofs.Images.{begin}
+use Rattle.image.specs.declared.layout.Layout.{Layout}
+use Rattle.store_past.specs.Past.{Past, applied}
+use Rattle.durable.specs.Store.{Known, HasPast}
+use Rattle.trim_helper.specs.Rings.{received_of, held_back, waiting_in, stream}
+use Rattle.trim_helper.specs.Moves.{Looks, SameRings}
+use Rattle.trim_helper.specs.Taken.{HasTaken, applied_more, trimmed_of}
+use Rattle.trim_helper.specs.Settled.{HasSame, IsSettled, StandsForRound}
+use Rattle.trim_helper.specs.Serving.{Serves, Drains, Served}
+use Rattle.trim_helper.proofs.RingMoves.{same_then}
+
+pub chosen : (i k a b : ℕ) {r : ℕ} → i ≡ k → r ≡ (if i == k then a else b) → r ≡ a
+chosen i k a b same e = elim (eqb_tells i k) [
+  | inl t ↦ e ∙ ap (λ c. if c then a else b) t.0
+  | inr t ↦ absurd (t.1 same)
+]
+
+pub unchosen : (i k a b : ℕ) {r : ℕ} → i ≢ k → r ≡ (if i == k then a else b) → r ≡ b
+unchosen i k a b other e = elim (eqb_tells i k) [
+  | inl t ↦ absurd (other t.1)
+  | inr t ↦ e ∙ ap (λ c. if c then a else b) t.0
+]
+
+none_of : {A : Type 0} → (xs : List A) → length xs ≡ 0 → xs ≡ []
+none_of [] e = refl
+none_of (x ∷ xs) e = absurd (omega arith)
+
+module _ {A P : Type 0} where
+  pub looks_taken : (x : Known) (d : Device) (r0 r1 : List (Consumer Record A P)) (w : List (Option Record)) (s : Setting) (p : Past) → Looks r0 r1 → HasTaken x d r0 w s p → HasTaken x d r1 w s p
+  looks_taken x d r0 r1 w s p looks was = record { has = was.has; taken = λ l. looks.received l ∙ was.taken l }
+
+  pub drains_taken : (x x' : Known) (d d' : Device) (r0 r1 : List (Consumer Record A P)) (w0 w1 : List (Option Record)) (n : ℕ) (s : Setting) (p : Past) → Drains x d r0 w0 x' d' r1 w1 n → HasTaken x d r0 w0 s p →
+      (newer : List (ℕ × Record)) × (length newer ≡ n) × HasTaken x' d' r1 w1 s (applied_more newer p)
+  drains_taken x x' d d' r0 r1 w0 w1 n s p drains was = drains.advances.made s p (looks_taken x d r0 drains.seen w0 s p drains.looks was)
+
+  pub drains_same : (x x' : Known) (d d' : Device) (r0 r1 : List (Consumer Record A P)) (w0 w1 : List (Option Record)) (n : ℕ) → Drains x d r0 w0 x' d' r1 w1 n → SameRings r0 r1
+  drains_same x x' d d' r0 r1 w0 w1 n drains = same_then r0 drains.seen r1 drains.looks.same drains.advances.same
+
+  pub drains_served : (x x' : Known) (d d' : Device) (r0 r1 : List (Consumer Record A P)) (w0 w1 : List (Option Record)) (n : ℕ) (b b' : Bool) (count place : ℕ → ℕ) (s : Setting) (p : Past) → Drains x d r0 w0 x' d' r1 w1 n →
+      (b' ≡ true → (b ≡ true) × (n ≡ 0)) → Serves x d r0 w0 b count place s p → Served x' d' r1 w1 b' count place s p n
+  drains_served x x' d d' r0 r1 w0 w1 n b b' count place s p drains quiet was =
+      let now = drains_taken x x' d d' r0 r1 w0 w1 n s p drains was.taken in
+      let lanes : x'.layout.lanes ≡ x.layout.lanes = ap (λ l. l.lanes) drains.advances.layout in
+      record {
+        newer = now.0;
+        long = now.1;
+        now = applied_more now.0 p;
+        same = append_assoc now.0 p.fresh p.logged;
+        serves = record {
+          taken = now.2;
+          counts = λ l lt. was.counts l (omega arith);
+          places = λ l lt. was.places l (omega arith);
+          settled = λ is. let q = quiet is in subst (λ xs. IsSettled s (applied_more xs p)) (sym (none_of now.0 (now.1 ∙ q.1))) (was.settled q.0);
+          published = λ is l lt. was.published (quiet is).0 l (omega arith);
+        };
+      }
+
+  -- the store goes on with the same records
+  pub same_taken : (x x' : Known) (d d' : Device) (r : List (Consumer Record A P)) (w : List (Option Record)) (s : Setting) (p : Past) → HasTaken x d r w s p → (h : HasSame x' d' s p) → HasTaken x' d' r w s h.now
+  same_taken x x' d d' r w s p was h = record {
+    has = h.has;
+    taken = λ l. was.taken l ∙ ap (λ (xs : List (ℕ × Record)). stream l xs ++ held_back (waiting_in w l)) (sym h.same);
+  }
+
+  pub same_served : (x x' : Known) (d d' : Device) (r : List (Consumer Record A P)) (w : List (Option Record)) (b : Bool) (count place : ℕ → ℕ) (s : Setting) (p : Past) (n : ℕ) → x'.layout ≡ x.layout → (was : Served x d r w b count place s p n) → HasSame x' d' s was.now →
+      Served x' d' r w false count place s p n
+  same_served x x' d d' r w b count place s p n layout was h =
+      let lanes : x'.layout.lanes ≡ x.layout.lanes = ap (λ l. l.lanes) layout in
+      record {
+        newer = was.newer;
+        long = was.long;
+        now = h.now;
+        same = h.same ∙ was.same;
+        serves = record {
+          taken = same_taken x x' d d' r w s was.now was.serves.taken h;
+          counts = λ l lt. omega (arith, was.serves.counts l (omega arith), h.cut l);
+          places = λ l lt. omega (arith, was.serves.places l (omega arith), h.places l);
+          settled = λ is. absurd (let no : false ≡ true = is in cc);
+          published = λ is l lt. absurd (let no : false ≡ true = is in cc);
+        };
+      }
+
+  pub published_served : (x x' : Known) (d d' : Device) (r : List (Consumer Record A P)) (w : List (Option Record)) (b : Bool) (count place count' place' : ℕ → ℕ) (s : Setting) (p : Past) (n : ℕ) → x'.layout ≡ x.layout →
+      (was : Served x d r w b count place s p n) → (h : HasSame x' d' s was.now) → IsSettled s h.now →
+      ((l : ℕ) → l < x'.layout.lanes → (count' l ≡ h.now.cut l) × (place' l ≡ trimmed_of h.now l)) → Served x' d' r w true count' place' s p n
+  published_served x x' d d' r w b count place count' place' s p n layout was h settled published = record {
+    newer = was.newer;
+    long = was.long;
+    now = h.now;
+    same = h.same ∙ was.same;
+    serves = record {
+      taken = same_taken x x' d d' r w s was.now was.serves.taken h;
+      counts = λ l lt. omega (arith, (published l lt).0);
+      places = λ l lt. omega (arith, (published l lt).1);
+      settled = λ is. settled;
+      published = λ is l lt. published l lt;
+    };
+  }
+
+  pub moved_seat : {H : Type 0} (count place : H → ℕ → ℕ) (x : Known) (d : Device) (r : List (Consumer Record A P)) (w : List (Option Record)) (b : Bool) (s : Setting) (p : Past) (n : ℕ) (h h' : H) → h' ≡ h →
+      Served x d r w b (count h) (place h) s p n → Served x d r w b (count h') (place h') s p n
+  moved_seat {H} count place x d r w b s p n h h' same was = subst (λ (k : H). Served x d r w b (count k) (place k) s p n) (sym same) was
+
+  -- whether all is settled is known
+  pub known_settled : (count place : ℕ → ℕ) (x : Known) (d : Device) (r : List (Consumer Record A P)) (w : List (Option Record)) (b c : Bool) (s : Setting) (p : Past) (n : ℕ) → b ≡ c → Served x d r w b count place s p n → Served x d r w c count place s p n
+  known_settled count place x d r w b c s p n same was = subst (λ (k : Bool). Served x d r w k count place s p n) same was
+
+  pub drains_device : (x x' : Known) (d d' : Device) (r0 r1 : List (Consumer Record A P)) (w0 w1 : List (Option Record)) (n : ℕ) → Drains x d r0 w0 x' d' r1 w1 n → d' ≡ d
+  drains_device x x' d d' r0 r1 w0 w1 n drains = drains.advances.device
+
+pub moment_drained : (d e : Device) (l : Layout) (s : Setting) (log : List (ℕ × Record)) (cut : ℕ → ℕ) → e ≡ d → LeavesOnly d e (StandsForRound l s log cut)
+moment_drained d e l s log cut same = subst (λ k. LeavesOnly d k (StandsForRound l s log cut)) (sym same) (begin d (StandsForRound l s log cut))
+
+-- the records were drained, and then settled
+pub moment_round : {A P : Type 0} (x x' : Known) (d d' : Device) (r0 r1 : List (Consumer Record A P)) (w0 w1 : List (Option Record)) (n : ℕ) (s : Setting) (p : Past) (e : Device) → Drains x d r0 w0 x' d' r1 w1 n → HasTaken x d r0 w0 s p →
+    ((s : Setting) (p : Past) → HasPast x' s p d' → LeavesOnly d' e (StandsForRound x'.layout s (applied p) p.cut)) → (newer : List (ℕ × Record)) × LeavesOnly d e (StandsForRound x.layout s (newer ++ applied p) p.cut)
+moment_round x x' d d' r0 r1 w0 w1 n s p e drains taken moment =
+    let now = drains_taken x x' d d' r0 r1 w0 w1 n s p drains taken in
+    let leaves = moment s (applied_more now.0 p) now.2.has in (
+      now.0,
+      subst (λ k. LeavesOnly k e (StandsForRound x.layout s (now.0 ++ applied p) p.cut)) drains.advances.device
+          (subst (λ l. LeavesOnly d' e (StandsForRound l s (now.0 ++ applied p) p.cut)) drains.advances.layout
+          (subst (λ (xs : List (ℕ × Record)). LeavesOnly d' e (StandsForRound x'.layout s xs p.cut)) (append_assoc now.0 p.fresh p.logged) leaves)),
+    )
+
+-- nothing was taken yet
+pub serves_new : {A P : Type 0} (x : Known) (d : Device) (r : List (Consumer Record A P)) (w : List (Option Record)) (s : Setting) (p : Past) (count place : ℕ → ℕ) → ((l : ℕ) → waiting_in w l ≡ None) → HasPast x s p d → applied p ≡ [] → ((l : ℕ) → received_of r l ≡ []) →
+    ((l : ℕ) → count l ≡ 0) → ((l : ℕ) → place l ≡ 0) → Serves x d r w false count place s p
+serves_new x d r w s p count place none has empty taken counts places = record {
+  taken = record { has = has; taken = λ l. taken l ∙ sym (ap (λ (xs : List (ℕ × Record)). stream l xs ++ held_back (waiting_in w l)) empty ∙ ap held_back (none l)) };
+  counts = λ l lt. omega (arith, counts l);
+  places = λ l lt. omega (arith, places l);
+  settled = λ is. absurd (let no : false ≡ true = is in cc);
+  published = λ is l lt. absurd (let no : false ≡ true = is in cc);
+}
+
+pub nobody_waits : (n l : ℕ) → waiting_in (replicate n None) l ≡ None
+nobody_waits zero l = refl
+nobody_waits (suc n) zero = refl
+nobody_waits (suc n) (suc l) = nobody_waits n l
