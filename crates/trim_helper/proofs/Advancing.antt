@@ -15,7 +15,7 @@ use Rattle.store_past.specs.declared.error.StoreError.TheVariants.{Failed}
 use Rattle.trim_helper.specs.Rings.{received_of, known_of, held_back, waiting_in, stream}
 use Rattle.trim_helper.specs.Moves.{Moves, most_room, known_sum, held_sum}
 use Rattle.trim_helper.specs.Taken.{HasTaken, Advances, IsLaneStuck, applied_more}
-use Rattle.trim_helper.proofs.Draining.{stream_own, stream_other}
+use Rattle.trim_helper.proofs.Progress.{stream_own, stream_other}
 use Rattle.trim_helper.proofs.RingMoves.{same_refl, same_then, known_most, held_most}
 
 module _ {A P : Type 0} where

@@ -1,4 +1,4 @@
-pub mod Draining
+pub mod Progress
 pub mod Refusing
 pub mod RingMoves
 pub mod Advancing

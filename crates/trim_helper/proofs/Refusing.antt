@@ -23,7 +23,7 @@ use Rattle.durable.specs.Store.{Known, HasPast}
 use Rattle.trim_helper.specs.Rings.{received_of, known_of, held_back, waiting_in, stream}
 use Rattle.trim_helper.specs.Limits.{FitsNext, KeepsLimits}
 use Rattle.trim_helper.specs.Taken.{HasTaken, IsRefused, IsStuck, trimmed_of}
-use Rattle.trim_helper.proofs.Draining.{longer_lane, all_done, nothing_left}
+use Rattle.trim_helper.proofs.Progress.{longer_lane, all_done, nothing_left}
 
 -- who holds an object took it at a number below the last
 pub held_low : (s : Setting) (log : List (ℕ × Record)) (o l : ℕ) → IsLegal s log → holder o log ≡ Some l → number o log < s.last

@@ -44,5 +44,7 @@ one_history k h heap e same = record {
   no_other = λ l le. e.2 l (omega arith);
 }
 
-pub read_low : (k : Plan) (h : Helping) (heap : ℕ → ℕ) → Ended k h.view h.next heap → (x : Part) → Among (taken_in h) x → x.place ≤ place_published h x.lane
-read_low k h heap e x is = let i = among h.view.gathered x is in subst (λ (y : Part). y.place ≤ place_published h y.lane) i.3 (e.4 i.0 i.1 (32 + i.1.lane.0) i.2)
+pub read_low : (k : Plan) (h : Helping) (heap : ℕ → ℕ) → Ended k h.view h.next heap → (x : Part) → Among (taken_in h) x → (x.count ≤ count_published h x.lane) × (x.place ≤ place_published h x.lane)
+read_low k h heap e x is =
+    let i = among h.view.gathered x is in
+    subst (λ (y : Part). (y.count ≤ count_published h y.lane) × (y.place ≤ place_published h y.lane)) i.3 (e.4 i.0 i.1 i.1.lane.0 i.2, e.4 i.0 i.1 (32 + i.1.lane.0) i.2)

@@ -21,13 +21,16 @@ use Rattle.trim_helper.specs.declared.close_error.CloseError.TheVariants.{Missin
 abbrev pub Rings : Type 0
 Rings = List (Consumer Record Global AnyItems)
 
--- the trimmed place that a seat last read of its lane
+-- the acknowledged count and the trimmed place that a seat last read of its lane, 0 before
+abbrev pub count_read : Sitting → ℕ
+count_read s = noted (lane_of s.view).0 s.view.notes
+
 abbrev pub place_read : Sitting → ℕ
 place_read s = noted (32 + (lane_of s.view).0) s.view.notes
 
 -- a seat, as the lane that it is of
 abbrev pub part_at : Sitting → Part
-part_at s = record { lane = (lane_of s.view).0; events = s.view.events; place = place_read s }
+part_at s = record { lane = (lane_of s.view).0; events = s.view.events; count = count_read s; place = place_read s }
 
 -- What is known of a session that has ended: its seat's view has its lane; what it sent is the log of its events, within the limits by the
 -- trimmed place that it last read; it counts what it holds; and its ring is the lane's.

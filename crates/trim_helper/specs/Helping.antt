@@ -15,9 +15,9 @@ count_published h l = known_post h.view (Stable (record { 0 = l }))
 abbrev pub place_published : Helping → (lane : ℕ) → ℕ
 place_published h l = known_post h.view (Trimmed (record { 0 = l }))
 
--- a lane that was taken in, with the trimmed place that it last read
+-- a lane that was taken in, with what it last read
 abbrev pub part_of : raw.Part → Part
-part_of p = record { lane = p.lane.0; events = p.events; place = noted (32 + p.lane.0) p.notes }
+part_of p = record { lane = p.lane.0; events = p.events; count = noted p.lane.0 p.notes; place = noted (32 + p.lane.0) p.notes }
 
 -- the lanes that it took in
 abbrev pub taken_in : Helping → List Part

@@ -1,24 +1,23 @@
 //! Both ends meet.
 ghost use Rattle.std.specs.Prelude.{◌≡◌, ◌+◌, ◌<◌, ◌≤◌, ◌==◌, ◌++◌, List, [], ℕ, if◌then◌else◌, ◌⊎◌, MatchOption, MatchResult, IfErr, IfOk, OnOk, length};
-ghost use Rattle.store_past.specs.Past.{Past, applied};
+ghost use Rattle.store_past.specs.Past.{Past};
 ghost use Rattle.heap_model.specs.Setting.{Setting};
-ghost use Rattle.heap_model.specs.declared.record.Record.{Record};
-ghost use Rattle.block_disk.specs.Images.{LeavesOnly};
-ghost use Rattle.trim_helper.specs.Settled.{StandsForRound};
 ghost use Rattle.monitor.specs.Words.{setting_of};
-ghost use Rattle.trim_helper.specs.Closed.{HasSpelled, IsClosedDown, disk_of};
+ghost use Rattle.trim_helper.specs.Closed.{HasSpelled, IsClosedDown, Stood, disk_of};
 ghost use Rattle.trim_helper.specs.Helping.{IsHelper, count_published, place_published, taken_in};
 ghost use Rattle.trim_helper.specs.Endings.{AreEnded, HasOpen, HoldNone, IsCloseStop, IsComplete, RefusesClosing, RefusesEnded, count_lane, parts_of};
 ghost use Rattle.trim_helper.specs.Moves.{most_room};
+ghost use Rattle.trim_helper.specs.declared.rings.TheConstants.{RING_RECORDS};
 ghost use Rattle.trim_helper.specs.Serving.{Serves};
 ghost use Rattle.trim_helper.specs.Taken.{HasTaken, trimmed_of};
 
 use crate::close_error::{CloseError, close_error};
+use crate::draining::drain_known;
 use crate::ended::Ended;
-use crate::going::drain_known;
 use crate::helper::Helper;
 use crate::meeting::meet;
 use crate::published::close;
+use crate::rings::RING_RECORDS;
 use crate::settling::settle_applied;
 use block_disk::Disk;
 use durable::Store;
@@ -97,17 +96,17 @@ fn finish<D: Disk>(
     requires lanes { shared.plan.lanes ≡ store.old.known.layout.lanes }
     requires rings { length rings.old ≡ store.old.known.layout.lanes }
     requires few { length rings.old ≤ 32 }
-    requires room { most_room rings.old ≤ 4096 }
+    requires room { most_room rings.old ≤ RING_RECORDS }
     requires slots { length waiting.old ≡ 32 }
     requires ended { AreEnded shared store.old.known.layout.capacity rings.old ended.items }
     requires none { HoldNone ended.items }
     requires complete { IsComplete store.old.known.layout.lanes ended.items }
     requires nothing { taken_in seat ≡ [] }
-    ensures ok { (p : Past) → HasTaken store.old.known (D.device store.old.disk) rings.old waiting.old (setting_of shared.plan) p → ((l : ℕ) → l < store.old.known.layout.lanes → place_published seat l ≤ trimmed_of p l)
-        → IfOk result (HasSpelled (setting_of shared.plan) shared.plan.lanes store.old.known.layout (parts_of ended.items) (D.device store.new.disk)) }
+    ensures ok { (p : Past) → HasTaken store.old.known (D.device store.old.disk) rings.old waiting.old (setting_of shared.plan) p → ((l : ℕ) → l < store.old.known.layout.lanes → (count_published seat l ≤ p.cut l) × (place_published seat l ≤ trimmed_of p l))
+        → IfOk result (HasSpelled (setting_of shared.plan) shared.plan.lanes store.old.known.layout (parts_of ended.items) p.cut (D.device store.new.disk)) }
     ensures stop { IfErr result IsCloseStop }
     ensures any_moment { (s : Setting) (p : Past) → HasTaken store.old.known (D.device store.old.disk) rings.old waiting.old s p
-        → (newer : List (ℕ × Record)) × LeavesOnly (D.device store.old.disk) (D.device store.new.disk) (StandsForRound store.old.known.layout s (newer ++ applied p) p.cut) }
+        → Stood store.old.known.layout s p (D.device store.old.disk) (D.device store.new.disk) }
 {
     log_law();
     own_log_law();
@@ -141,10 +140,10 @@ pub fn close_down<D: Disk>(
     requires ended { AreEnded shared helper.store.known.layout.capacity helper.rings.items ended.items }
     requires nothing { taken_in helper.seat ≡ [] }
     ensures ok { (p : Past) → Serves helper.store.known (D.device helper.store.disk) helper.rings.items helper.waiting helper.is_settled (count_published helper.seat) (place_published helper.seat) (setting_of shared.plan) p
-        → IfOk result (λ disk. IsClosedDown (setting_of shared.plan) shared.plan.lanes helper.store.known.layout (parts_of ended.items) (D.device disk)) }
+        → IfOk result (λ disk. IsClosedDown (setting_of shared.plan) shared.plan.lanes helper.store.known.layout (parts_of ended.items) p.cut (D.device disk)) }
     ensures refused { MatchResult result (λ disk. HoldNone ended.items × IsComplete helper.store.known.layout.lanes ended.items) (λ back. RefusesClosing helper.store.known.layout.lanes ended.items back.1) }
     ensures any_moment { (s : Setting) (p : Past) → HasTaken helper.store.known (D.device helper.store.disk) helper.rings.items helper.waiting s p
-        → (newer : List (ℕ × Record)) × LeavesOnly (D.device helper.store.disk) (D.device (disk_of result)) (StandsForRound helper.store.known.layout s (newer ++ applied p) p.cut) }
+        → Stood helper.store.known.layout s p (D.device helper.store.disk) (D.device (disk_of result)) }
 {
     let Helper {
         mut store,

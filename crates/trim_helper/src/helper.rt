@@ -11,20 +11,20 @@ ghost use Rattle.trim_helper.specs.Serving.{Drains, HoldHistory, Served, Serves}
 ghost use Rattle.heap_model.specs.declared.event.Event.{Event};
 ghost use Rattle.heap_model.specs.History.{log_of};
 ghost use Rattle.heap_model.specs.Log.{lane as lane_of};
+ghost use Rattle.trim_helper.specs.declared.rings.TheConstants.{RING_RECORDS};
 ghost use Rattle.trim_helper.specs.Rings.{received_of};
 ghost use Rattle.block_disk.specs.Device.{HasCause};
-ghost use Rattle.block_disk.specs.Images.{LeavesOnly};
 ghost use Rattle.store_past.specs.declared.error.StoreError.TheVariants.{Fault};
 ghost use Rattle.trim_helper.specs.Helping.{IsHelper, count_published, place_published, taken_in};
-ghost use Rattle.trim_helper.specs.Settled.{IsStop, StandsForRound};
+ghost use Rattle.trim_helper.specs.Settled.{IsStop};
 
-use crate::going::drain_known;
+use crate::draining::drain_rings;
 use crate::published::publish;
-use crate::rings::look;
+use crate::rings::RING_RECORDS;
 use crate::settling::settle_applied;
 use block_disk::Disk;
 use durable::{Store, StoreError};
-use heap_model::{Lane, Record};
+use heap_model::{LANES, Lane, Record};
 use monitor::{HelperSeat, Shared};
 use rtrb::Consumer;
 
@@ -33,13 +33,13 @@ use rtrb::Consumer;
 pub struct Helper<D: Disk> {
     pub(crate) store: Store<D>,
     pub(crate) rings: Vec<Consumer<Record>>,
-    pub(crate) waiting: [Option<Record>; 32],
+    pub(crate) waiting: [Option<Record>; LANES],
     pub(crate) seat: HelperSeat,
     // Nothing was applied since a round answered Ok.
     pub(crate) is_settled: bool,
     ghost lanes: { vec_len rings ≡ store.known.layout.lanes },
     ghost few: { vec_len rings ≤ 32 },
-    ghost rooms: { most_room rings.items ≤ 4096 },
+    ghost rooms: { most_room rings.items ≤ RING_RECORDS },
 }
 
 impl<D: Disk> Helper<D> {
@@ -47,7 +47,7 @@ impl<D: Disk> Helper<D> {
     pub fn new(store: Store<D>, rings: Vec<Consumer<Record>>, seat: HelperSeat) -> Helper<D>
         requires lanes { vec_len rings ≡ store.known.layout.lanes }
         requires few { vec_len rings ≤ 32 }
-        requires rooms { most_room rings.items ≤ 4096 }
+        requires rooms { most_room rings.items ≤ RING_RECORDS }
         ensures serves { (s : Setting) (p : Past) (count place : ℕ → ℕ) → HasPast store.known s p (D.device store.disk) → applied p ≡ [] → ((l : ℕ) → received_of rings.items l ≡ [])
             → ((l : ℕ) → count l ≡ 0) → ((l : ℕ) → place l ≡ 0) → Serves result.store.known (D.device result.store.disk) result.rings.items result.waiting result.is_settled count place s p }
         ensures parts { (result.store ≡ store) × (result.rings ≡ rings) × (result.seat ≡ seat) }
@@ -55,7 +55,7 @@ impl<D: Disk> Helper<D> {
         Helper {
             store,
             rings,
-            waiting: [None; 32],
+            waiting: [None; LANES],
             seat,
             is_settled: false,
         }
@@ -83,10 +83,9 @@ impl<D: Disk> Helper<D> {
         ensures stays { IfOk result (λ n. n ≡ 0 → self.old.is_settled ≡ true → self.new.is_settled ≡ true) }
         ensures unsettled { OnErr result (self.new.is_settled ≡ false) }
     {
-        look(&mut self.rings);
         let was_settled = self.is_settled;
         self.is_settled = false;
-        match drain_known(&mut self.store, &mut self.rings, &mut self.waiting) {
+        match drain_rings(&mut self.store, &mut self.rings, &mut self.waiting) {
             Ok(count) => {
                 self.is_settled = was_settled && count == 0;
                 Ok(count)
@@ -101,9 +100,9 @@ impl<D: Disk> Helper<D> {
         requires lanes { shared.now.plan.lanes ≡ self.old.store.known.layout.lanes }
         requires serves { (s : Setting) × (p : Past) × Serves self.old.store.known (D.device self.old.store.disk) self.old.rings.items self.old.waiting self.old.is_settled (count_published self.old.seat) (place_published self.old.seat) s p }
         ensures ok { (s : Setting) (p : Past) → Serves self.old.store.known (D.device self.old.store.disk) self.old.rings.items self.old.waiting self.old.is_settled (count_published self.old.seat) (place_published self.old.seat) s p
-            → IfOk result (λ n. Served self.new.store.known (D.device self.new.store.disk) self.new.rings.items self.new.waiting true (count_published self.new.seat) (place_published self.new.seat) s p n) }
+            → IfOk result (λ n. Served (D.device self.old.store.disk) self.new.store.known (D.device self.new.store.disk) self.new.rings.items self.new.waiting true (count_published self.new.seat) (place_published self.new.seat) s p n) }
         ensures err { (s : Setting) (p : Past) → Serves self.old.store.known (D.device self.old.store.disk) self.old.rings.items self.old.waiting self.old.is_settled (count_published self.old.seat) (place_published self.old.seat) s p
-            → OnErr result ((n : ℕ) × Served self.new.store.known (D.device self.new.store.disk) self.new.rings.items self.new.waiting false (count_published self.new.seat) (place_published self.new.seat) s p n) }
+            → OnErr result ((n : ℕ) × Served (D.device self.old.store.disk) self.new.store.known (D.device self.new.store.disk) self.new.rings.items self.new.waiting false (count_published self.new.seat) (place_published self.new.seat) s p n) }
         ensures settled { OnOk result (self.new.is_settled ≡ true) }
         ensures unsettled { OnErr result (self.new.is_settled ≡ false) }
         ensures quiet { self.old.is_settled ≡ true → IfOk result (λ n. n ≡ 0 → D.device self.new.store.disk ≡ D.device self.old.store.disk) }
@@ -111,8 +110,6 @@ impl<D: Disk> Helper<D> {
         ensures seat { IsHelper shared.now self.new.seat }
         ensures gathered { taken_in self.new.seat ≡ taken_in self.old.seat }
         ensures same { SameRings self.old.rings.items self.new.rings.items }
-        ensures any_moment { (s : Setting) (p : Past) → Serves self.old.store.known (D.device self.old.store.disk) self.old.rings.items self.old.waiting self.old.is_settled (count_published self.old.seat) (place_published self.old.seat) s p
-            → (newer : List (ℕ × Record)) × LeavesOnly (D.device self.old.store.disk) (D.device self.new.store.disk) (StandsForRound self.old.store.known.layout s (newer ++ applied p) p.cut) }
         ensures cause { HasCause (D.device self.old.store.disk).failures (D.device self.new.store.disk).failures Fault result }
     {
         let count = match self.drain() {

@@ -3,8 +3,8 @@
 
 mod close_error;
 mod closing_down;
+mod draining;
 mod ended;
-mod going;
 mod helper;
 mod meeting;
 mod opening;
@@ -17,3 +17,4 @@ pub use closing_down::close_down;
 pub use ended::Ended;
 pub use helper::Helper;
 pub use opening::{Opened, open_heap};
+pub use rings::RING_RECORDS;

@@ -2,7 +2,7 @@
 ghost use Rattle.std.specs.Prelude.{◌≡◌, ◌≢◌, ◌+◌, ◌<◌, ◌≤◌, ◌∷◌, ◌++◌, [], ℕ, List, length, vec_len};
 ghost use Rattle.trim_helper.specs.Endings.{AreEnded, HoldNone, IsComplete, IsEnded, part_at, parts_of};
 ghost use Rattle.monitor.specs.Words.{setting_of};
-ghost use Rattle.trim_helper.specs.Helping.{IsHelper, place_published, taken_in};
+ghost use Rattle.trim_helper.specs.Helping.{IsHelper, count_published, place_published, taken_in};
 ghost use Rattle.trim_helper.specs.Meeting.{HasPart, HaveMet};
 ghost use Rattle.trim_helper.specs.Moves.{IsEndOf, Looks};
 ghost use Rattle.rtrb.specs.Ring.{sent};
@@ -39,6 +39,7 @@ fn meet_one(
     ensures others { (l : ℕ) → one.lane.0 ≢ l → known_of rings.new l ≡ known_of rings.old l }
     ensures fifo { received_of rings.new one.lane.0 ++ known_of rings.new one.lane.0 ≡ sent one.producer }
     ensures helper { IsHelper shared.now seat.new }
+    ensures count { (l : ℕ) → count_published seat.new l ≡ count_published seat.old l }
     ensures place { (l : ℕ) → place_published seat.new l ≡ place_published seat.old l }
     ensures gathered { taken_in seat.new ≡ part_at one.seat ∷ taken_in seat.old }
 {
@@ -68,6 +69,7 @@ pub fn meet(
     requires nothing { taken_in seat.old ≡ [] }
     ensures looks { Looks rings.old rings.new }
     ensures helper { IsHelper shared.now seat.new }
+    ensures count { (l : ℕ) → count_published seat.new l ≡ count_published seat.old l }
     ensures place { (l : ℕ) → place_published seat.new l ≡ place_published seat.old l }
     ensures met { HaveMet (setting_of shared.now.plan) rings.new (taken_in seat.new) capacity }
     ensures gathered { taken_in seat.new ≡ parts_of ended.items }

@@ -30,6 +30,7 @@ pub fn gather(shared: &Shared, helper: &mut HelperSeat, seat: Seat)
     requires helper { IsHelper shared.now helper.old }
     requires seat { IsSeatOf shared.now seat }
     ensures helper { IsHelper shared.now helper.new }
+    ensures count { (l : ℕ) → count_published helper.new l ≡ count_published helper.old l }
     ensures place { (l : ℕ) → place_published helper.new l ≡ place_published helper.old l }
     ensures gathered { taken_in helper.new ≡ part_at seat ∷ taken_in helper.old }
 {
@@ -37,11 +38,11 @@ pub fn gather(shared: &Shared, helper: &mut HelperSeat, seat: Seat)
 }
 
 /// Nobody goes on: one legal history has the lanes that were taken in as its parts, the words spell its state, and nobody
-/// read a trimmed place past the published one.
+/// read more than was published.
 pub fn close(shared: Shared, helper: HelperSeat) -> Finals
     requires helper { IsHelper shared helper }
     ensures history { (h : List (ℕ × Event)) × IsOneHistory (setting_of shared.plan) shared.plan.lanes (taken_in helper) h × Spells result (state_after (setting_of shared.plan) h) }
-    ensures read { (x : Part) → Among (taken_in helper) x → x.place ≤ place_published helper x.lane }
+    ensures read { (x : Part) → Among (taken_in helper) x → (x.count ≤ count_published helper x.lane) × (x.place ≤ place_published helper x.lane) }
 {
     shared.close(helper)
 }

@@ -2,7 +2,7 @@ use Rattle.std.proofs.Common.{ℕ, ◌≡◌, ◌+◌, ◌∷◌, ◌++◌, ◌=
 use Rattle.std.proofs.lemmas.List.{append-nil}
 use Rattle.monitor.specs.Words.{setting_of}
 use Rattle.trim_helper.specs.Helping.{taken_in}
-use Rattle.trim_helper.specs.Endings.{AreEnded, HoldNone, count_lane, parts_of, place_read}
+use Rattle.trim_helper.specs.Endings.{AreEnded, HoldNone, count_lane, parts_of, count_read, place_read}
 use Rattle.trim_helper.specs.Meeting.{HaveMet, count_parts}
 use Rattle.trim_helper.specs.Serving.{Part}
 use Rattle.trim_helper.proofs.RingMoves.{looks_none, looks_then}
@@ -16,6 +16,7 @@ ends-init c = record {
   met = subst (λ parts. HaveMet (setting_of c.args.shared.now.plan) c.args.rings.now parts c.args.capacity) (sym c.requires.nothing) (met_none (setting_of c.args.shared.now.plan) c.args.rings.now c.args.capacity);
   looks = looks_none c.args.rings.now;
   helper = c.requires.helper;
+  count = λ l. refl;
   place = λ l. refl;
   counts = λ k. let none = ap (λ (xs : List Part). count_parts k xs) c.requires.nothing in omega arith;
   parts = ap (λ (xs : List Part). parts_of c.args.ended.items ++ xs) c.requires.nothing ∙ append-nil (parts_of c.args.ended.items);
@@ -35,9 +36,9 @@ ends-preserved c =
     let seat = c.in-Some.one.seat in
     let lane : ℕ = c.in-Some.one.lane.0 in
     let low = end_below c.in-Some.one.producer c.ends.rings lane one.ring in
-    let x : Part = record { lane = lane; events = seat.view.events; place = place_read seat } in
+    let x : Part = record { lane = lane; events = seat.view.events; count = count_read seat; place = place_read seat } in
     let before : List Part = taken_in c.ends.seat in
-    let gathered : taken_in c.meet_one.new.seat ≡ x ∷ before = c.meet_one.ensures.gathered ∙ ap (λ k. record { lane = k; events = seat.view.events; place = place_read seat } ∷ before) (sym one.lane) in
+    let gathered : taken_in c.meet_one.new.seat ≡ x ∷ before = c.meet_one.ensures.gathered ∙ ap (λ k. record { lane = k; events = seat.view.events; count = count_read seat; place = place_read seat } ∷ before) (sym one.lane) in
     let counted : (k : ℕ) → count_lane k c.ends.left.items ≡ count_lane k c.pop.new.self.items + (if lane == k then 1 else 0) = λ k. ap (λ es. count_lane k es) c.in-Some.ensures.items ∙ count_last k c.pop.new.self.items c.in-Some.one in
     record {
       ended = are_same c.args.shared.now c.args.capacity c.ends.rings c.meet_one.new.rings c.pop.new.self.items c.meet_one.ensures.looks.same are.0;
@@ -48,6 +49,7 @@ ends-preserved c =
           one.limits (sym one.held ∙ none.1));
       looks = looks_then _ _ _ c.ends.invariant.looks c.meet_one.ensures.looks;
       helper = c.meet_one.ensures.helper;
+      count = λ l. c.meet_one.ensures.count l ∙ c.ends.invariant.count l;
       place = λ l. c.meet_one.ensures.place l ∙ c.ends.invariant.place l;
       counts = λ k. ap (λ parts. count_lane k c.pop.new.self.items + count_parts k parts) gathered ∙ counts_on _ _ _ _ _ _ (counted k) (count_more k x before) (c.ends.invariant.counts k);
       parts = ap (λ (xs : List Part). parts_of c.pop.new.self.items ++ xs) c.meet_one.ensures.gathered

@@ -5,13 +5,14 @@ ghost use Rattle.store_past.specs.Past.{Past, applied};
 ghost use Rattle.durable.specs.Store.{HasPast};
 ghost use Rattle.store_past.specs.declared.error.StoreError.TheVariants.{Failed};
 ghost use Rattle.trim_helper.specs.Moves.{most_room};
+ghost use Rattle.trim_helper.specs.declared.rings.TheConstants.{RING_RECORDS};
 ghost use Rattle.heap_model.specs.declared.event.Event.{Event};
 ghost use Rattle.heap_model.specs.History.{log_of};
 ghost use Rattle.heap_model.specs.Log.{lane as lane_of};
-ghost use Rattle.trim_helper.specs.Serving.{HoldHistory};
+ghost use Rattle.trim_helper.specs.Serving.{Drains, HoldHistory};
 ghost use Rattle.trim_helper.specs.Taken.{Advances, HasTaken, IsLaneStuck};
 
-use crate::rings::{fetch, let_go};
+use crate::rings::{RING_RECORDS, fetch, let_go, look};
 use block_disk::Disk;
 use durable::{Store, StoreError};
 use heap_model::{Lane, Record, log_law, next_law, own_log_law};
@@ -89,7 +90,7 @@ pub fn drain_known<D: Disk>(
 ) -> Result<u64, StoreError>
     requires slots { length waiting.old ≡ 32 }
     requires few { length rings.old ≤ 32 }
-    requires room { most_room rings.old ≤ 4096 }
+    requires room { most_room rings.old ≤ RING_RECORDS }
     requires lanes { length rings.old ≡ store.old.known.layout.lanes }
     ensures drained { (s : Setting) (p : Past) (h : List (ℕ × Event)) → HasTaken store.new.known (D.device store.new.disk) rings.new waiting.new s p
         → HoldHistory rings.new store.new.known.layout s p h → OnOk result ((l : ℕ) → lane_of l (applied p) ≡ lane_of l (log_of s h)) }
@@ -112,5 +113,30 @@ pub fn drain_known<D: Disk>(
             }
             Err(reason) => return Err(reason),
         }
+    }
+}
+
+/// Looks how many records are in the rings, and applies what is next in its lane of those, until nothing is. Answers how many
+/// it applied.
+pub fn drain_rings<D: Disk>(
+    store: &mut Store<D>,
+    rings: &mut [Consumer<Record>],
+    waiting: &mut [Option<Record>],
+) -> Result<u64, StoreError>
+    requires slots { length waiting.old ≡ 32 }
+    requires few { length rings.old ≤ 32 }
+    requires room { most_room rings.old ≤ RING_RECORDS }
+    requires lanes { length rings.old ≡ store.old.known.layout.lanes }
+    ensures drained { (s : Setting) (p : Past) (h : List (ℕ × Event)) → HasTaken store.new.known (D.device store.new.disk) rings.new waiting.new s p
+        → HoldHistory rings.new store.new.known.layout s p h → OnOk result ((l : ℕ) → lane_of l (applied p) ≡ lane_of l (log_of s h)) }
+    ensures applied { IfOk result (λ n. Drains store.old.known (D.device store.old.disk) rings.old waiting.old store.new.known (D.device store.new.disk) rings.new waiting.new n) }
+    ensures stuck { OnOk result ((l : ℕ) (s : Setting) (p : Past) → l < length rings.new → HasPast store.new.known s p (D.device store.new.disk) → IsLaneStuck store.new.known rings.new waiting.new s p l) }
+    ensures failed { IfErr result (λ e. e ≡ Failed) }
+    ensures kept { OnErr result ((n : ℕ) × Drains store.old.known (D.device store.old.disk) rings.old waiting.old store.new.known (D.device store.new.disk) rings.new waiting.new n) }
+{
+    look(rings);
+    match drain_known(store, rings, waiting) {
+        Ok(count) => Ok(count),
+        Err(reason) => Err(reason),
     }
 }
