@@ -1,0 +1,153 @@
+-- Both ends have met, and all that was sent is applied, logged, at home and acknowledged.
+use Rattle.std.proofs.Common.{ℕ, zero, suc, ◌≡◌, ◌<◌, ◌≤◌, true, false, List, [], ◌∷◌, ◌++◌, map, length, reverse, Option, refl, sym, ap, ◌∙◌, subst, inl, inr, arith}
+use Rattle.std.proofs.lemmas.Bool.{cases_lt}
+use Rattle.rtrb.specs.declared.consumer.Consumer.{Consumer}
+use Rattle.heap_model.specs.declared.record.Record.{Record}
+use Rattle.heap_model.specs.declared.event.Event.{Event}
+use Rattle.heap_model.specs.Setting.{Setting}
+use Rattle.heap_model.specs.History.{state_after, log_of}
+use Rattle.heap_model.specs.Own.{own_log}
+use Rattle.heap_model.specs.Log.{lane, IsLegal}
+use Rattle.heap_model.specs.Laws.{LogLaw, OwnLogLaw, NextLaw, OrderLaw, OneStableLaw}
+use Rattle.heap_model.specs.SectionLaws.{AllKeptLaw}
+use Rattle.heap_model.specs.Sections.{Action, action, actions, holding, ended}
+use Rattle.heap_model.specs.Cuts.{IsStable, all_ended}
+use Rattle.heap_model.specs.KeptHeap.{kept_value}
+use Rattle.heap_model.proofs.Lanes.{lane_actions}
+use Rattle.heap_model.proofs.Logged.{value_log}
+use Rattle.block_disk.specs.Device.{Device}
+use Rattle.block_disk.specs.Images.{Always}
+use Rattle.block_disk.proofs.Images.{always_weaker}
+use Rattle.undo_log.specs.StandsFor.{StandsFor}
+use Rattle.store_image.specs.KeptHeap.{StandsForCut, values_below}
+use Rattle.store_past.specs.Past.{Past, applied}
+use Rattle.durable.specs.Store.{Known, HasPast}
+use Rattle.store_image.proofs.Stands.{same_heap, stands_always}
+use Rattle.trim_helper.specs.Rings.{received_of, known_of, stream}
+use Rattle.trim_helper.specs.Limits.{KeepsLimits}
+use Rattle.trim_helper.specs.Taken.{HasTaken, Advances, IsLaneStuck, applied_more, trimmed_of}
+use Rattle.trim_helper.specs.Settled.{IsSettled}
+use Rattle.trim_helper.specs.Serving.{Part, Among, IsOneHistory}
+use Rattle.trim_helper.specs.Meeting.{HasPart, HaveMet}
+use Rattle.trim_helper.specs.Closed.{HasSpelled, IsClosedDown}
+use Rattle.monitor.specs.Seats.{Final}
+use Rattle.trim_helper.specs.Helping.{Spells}
+use Rattle.trim_helper.proofs.Refusing.{drained}
+
+-- a later start leaves more room
+pub limits_more : (start later capacity : ℕ) (rs : List Record) → start ≤ later → KeepsLimits start capacity rs → KeepsLimits later capacity rs
+limits_more start later capacity [] le keeps = tt
+limits_more start later capacity (r ∷ rs) le keeps = (
+  limits_more start later capacity rs le keeps.0,
+  record { short = keeps.1.short; low = keeps.1.low; room = λ none. let room = keeps.1.room none in omega arith },
+)
+
+-- a part that no list has
+pub received_past : {A P : Type 0} → (cs : List (Consumer Record A P)) (l : ℕ) → length cs ≤ l → received_of cs l ++ known_of cs l ≡ []
+received_past [] l le = refl
+received_past (c ∷ cs) zero le = absurd (omega arith)
+received_past (c ∷ cs) (suc l) le = received_past cs l (omega arith)
+
+module _ {A P : Type 0} (s : Setting) (lanes capacity : ℕ) (place : ℕ → ℕ) (parts : List Part) (h : List (ℕ × Event)) (one : IsOneHistory s lanes parts h) (r1 : List (Consumer Record A P)) (met : HaveMet s r1 parts capacity)
+    (present : (l : ℕ) → l < lanes → HasPart parts l) (count : length r1 ≡ lanes) (log_law : LogLaw) (own_log_law : OwnLogLaw) where
+  abbrev log : List (ℕ × Record)
+  log = log_of s h
+
+  lane_is : (l : ℕ) (x : Part) → Among parts x → x.lane ≡ l → lane l log ≡ own_log s x.events
+  lane_is l x among at = own_log_law s h l ∙ ap (own_log s) (ap (λ k. lane k h) (sym at) ∙ one.part x among)
+
+  none_past : (l : ℕ) → lanes ≤ l → lane l log ≡ []
+  none_past l le = own_log_law s h l ∙ ap (own_log s) (one.no_other l le)
+
+  -- what was received and what is left is the history's log, lane by lane
+  pub streams : (l : ℕ) → stream l log ≡ received_of r1 l ++ known_of r1 l
+  streams l = elim (cases_lt l lanes) [
+    | inl low ↦ let here = present l low in ap (λ (xs : List Record). reverse xs) (lane_is l here.0 here.1 here.2) ∙ sym (met.whole here.0 here.1) ∙ ap (λ k. received_of r1 k ++ known_of r1 k) here.2
+    | inr high ↦ ap (λ (xs : List Record). reverse xs) (none_past l high) ∙ sym (received_past r1 l (omega arith))
+  ]
+
+  pub all_free : (l : ℕ) → length (holding (map action (lane l log))) ≡ 0
+  all_free l = elim (cases_lt l lanes) [
+    | inl low ↦ let here = present l low in ap (λ (xs : List Record). length (holding (map action xs))) (lane_is l here.0 here.1 here.2) ∙ met.free here.0 here.1
+    | inr high ↦ ap (λ (xs : List Record). length (holding (map action xs))) (none_past l high)
+  ]
+
+  -- All that was sent is applied.
+  pub all_applied : (x x' : Known) (d d' : Device) (r2 : List (Consumer Record A P)) (w1 w2 : List (Option Record)) (n : ℕ) (p : Past) → NextLaw → HasTaken x d r1 w1 s p → lanes ≡ x.layout.lanes → capacity ≡ x.layout.capacity →
+      ((x : Part) → Among parts x → x.place ≤ place x.lane) → ((l : ℕ) → l < lanes → place l ≤ trimmed_of p l) → Advances x d r1 w1 x' d' r2 w2 n → ((l : ℕ) (s : Setting) (p : Past) → l < length r2 → HasPast x' s p d' → IsLaneStuck x' r2 w2 s p l) →
+      (newer : List (ℕ × Record)) × HasTaken x' d' r2 w2 s (applied_more newer p) × ((l : ℕ) → lane l (applied (applied_more newer p)) ≡ lane l log)
+  all_applied x x' d d' r2 w1 w2 n p next taken same room read places on stuck =
+      let made = on.made s p taken in
+      let lanes' : x'.layout.lanes ≡ lanes = ap (λ l. l.lanes) on.layout ∙ sym same in
+      let room' : x'.layout.capacity ≡ capacity = ap (λ l. l.capacity) on.layout ∙ sym room in
+      let count' : length r2 ≡ lanes = on.same.count ∙ count in
+      let limits : (l : ℕ) → l < x'.layout.lanes → KeepsLimits (trimmed_of (applied_more made.0 p) l) x'.layout.capacity (lane l log) = λ l lt.
+      let low : l < lanes = omega arith in
+      let here = present l low in
+      subst (λ (k : ℕ). KeepsLimits (trimmed_of p l) k (lane l log)) (sym room')
+      (subst (λ (xs : List Record). KeepsLimits (trimmed_of p l) capacity xs) (sym (lane_is l here.0 here.1 here.2))
+      (limits_more here.0.place (trimmed_of p l) capacity (own_log s here.0.events) (let at : place here.0.lane ≡ place l = ap place here.2 in omega (arith, read here.0 here.1, places l low)) (met.limits here.0 here.1))) in (
+        made.0,
+        made.2,
+        drained x' d' r2 w2 s (applied_more made.0 p) made.2 log (log_law s h one.legal) next (λ l. streams l ∙ sym (on.whole l)) (λ l le. none_past l (omega arith)) limits (λ l lt. stuck l s (applied_more made.0 p) (omega arith) made.2.has),
+      )
+
+module _ (s : Setting) (lanes : ℕ) (parts : List Part) (h : List (ℕ × Event)) (one : IsOneHistory s lanes parts h) (log_law : LogLaw) (order_law : OrderLaw) (all_kept : AllKeptLaw) (one_stable : OneStableLaw) (keeps : (f : ℕ) → s.is_logged f ≡ true)
+    (words : Final) (spelled : Spells words (state_after s h)) (acknowledged : ℕ → ℕ) (told : (x : Part) → Among parts x → x.lane < lanes → x.count ≤ acknowledged x.lane)
+    (x : Known) (d : Device) (now : Past) (has : HasPast x s now d) (running : x.has_failed ≡ false) (settled : IsSettled s now)
+    (same : (l : ℕ) → lane l (applied now) ≡ lane l (log_of s h)) (free : (l : ℕ) → length (holding (map action (lane l (log_of s h)))) ≡ 0) where
+  abbrev cut : ℕ → ℕ
+  cut = all_ended (actions (log_of s h))
+
+  logged_is : now.logged ≡ applied now
+  logged_is = ap (λ (xs : List (ℕ × Record)). xs ++ now.logged) (sym settled.logged)
+
+  same_logged : (l : ℕ) → lane l now.logged ≡ lane l (log_of s h)
+  same_logged l = ap (lane l) logged_is ∙ same l
+
+  acts_same : (l : ℕ) → lane l (actions now.logged) ≡ lane l (actions (log_of s h))
+  acts_same l = lane_actions l now.logged ∙ ap (map action) (same_logged l) ∙ sym (lane_actions l (log_of s h))
+
+  free_log : (l : ℕ) → length (holding (lane l (actions (log_of s h)))) ≡ 0
+  free_log l = ap (λ (xs : List Action). length (holding xs)) (lane_actions l (log_of s h)) ∙ free l
+
+  -- what is acknowledged is all sections
+  cut_is : (l : ℕ) → now.cut l ≡ cut l
+  cut_is l =
+      let stable : IsStable (actions now.logged) now.cut = subst (λ (xs : List (ℕ × Record)). IsStable (actions xs) now.cut) (sym logged_is) settled.stable in
+      let all : IsStable (actions now.logged) (all_ended (actions now.logged)) = (all_kept s now.logged (subst (IsLegal s) (sym logged_is) has.past.legal) (λ k. ap (λ (xs : List Action). length (holding xs)) (acts_same k) ∙ free_log k)).0 in
+      one_stable (actions now.logged) now.cut (all_ended (actions now.logged)) stable all l ∙ ap (λ (xs : List Action). ended xs) (acts_same l)
+
+  cuts_are : now.cut ≡ cut
+  cuts_are i l = cut_is l i
+
+  -- whatever the order in which the lanes came, the heap is the history's
+  same_kept : (f : ℕ) → kept_value s.first cut f now.logged ≡ kept_value s.first cut f (log_of s h)
+  same_kept f = order_law s now.logged (log_of s h) (subst (IsLegal s) (sym logged_is) has.past.legal) (log_law s h one.legal) (λ l. ([], sym (same_logged l))) cut (λ l. let e : ended (lane l (actions now.logged)) ≡ cut l = ap (λ (xs : List Action). ended xs) (acts_same l) in omega arith) f
+
+  stands : Always d (StandsForCut x.layout s (log_of s h) cut)
+  stands = always_weaker d (StandsForCut x.layout s now.logged now.cut) (StandsForCut x.layout s (log_of s h) cut) (λ image st.
+      let moved : StandsForCut x.layout s now.logged cut image = subst (λ c. StandsForCut x.layout s now.logged c image) cuts_are st in
+      record { heap = subst (λ heap. StandsFor x.layout image heap) (same_heap x.layout s now.logged (log_of s h) cut same_kept) moved.heap; sections = moved.sections })
+      (stands_always x.layout s now x.committed d (has.agrees running))
+
+  values : (f : ℕ) → kept_value s.first cut f (log_of s h) ≡ (state_after s h).value f
+  values f = (all_kept s (log_of s h) (log_law s h one.legal) free_log).1 f ∙ value_log s h f (keeps f)
+
+  closed_down : IsClosedDown s lanes x.layout parts acknowledged d
+  closed_down = record {
+    history = h;
+    one = one;
+    stands = stands;
+    values = always_weaker d (StandsForCut x.layout s (log_of s h) cut) (λ image. StandsFor x.layout image (values_below (state_after s h).value x.layout.fields))
+        (λ image st. subst (λ (v : ℕ → ℕ). StandsFor x.layout image (values_below v x.layout.fields)) (λ i f. values f i) st.heap) stands;
+    told = told;
+  }
+
+  pub has_spelled : HasSpelled s lanes x.layout parts acknowledged d words
+  unfolding closed_down
+  has_spelled = record { closed = closed_down; spelled = spelled }
+
+-- the same records, lane by lane
+pub same_lanes : (xs ys zs : List (ℕ × Record)) → xs ≡ ys → ((l : ℕ) → lane l ys ≡ lane l zs) → (l : ℕ) → lane l xs ≡ lane l zs
+same_lanes xs ys zs same lanes l = ap (lane l) same ∙ lanes l

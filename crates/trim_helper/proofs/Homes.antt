@@ -1,0 +1,201 @@
+-- Logged values go home, and the stable cut is acknowledged.
+use Rattle.std.proofs.Common.{ℕ, ◌≡◌, ◌+◌, ◌≤◌, ◌==◌, if◌then◌else◌, Bool, true, false, List, Result, Ok, Err, OnOk, OnErr, IfErr, IsErrOf, MatchResult, refl, sym, ap, ◌∙◌, subst, inl, inr, ⊎_elim, arith}
+use Rattle.std.proofs.lemmas.Bool.{cases_lt}
+use Rattle.std.proofs.lemmas.Bool.Decides.{eqb_tells}
+use Rattle.heap_model.specs.Setting.{Setting}
+use Rattle.heap_model.specs.declared.record.Record.{Record}
+use Rattle.heap_model.specs.Sections.{actions}
+use Rattle.store_image.proofs.Growing.{places_grown}
+use Rattle.heap_model.specs.Cuts.{IsStable}
+use Rattle.heap_model.specs.Laws.{StayLaw}
+use Rattle.block_disk.specs.Device.{Device, HasCause}
+use Rattle.block_disk.specs.Images.{LeavesOnly}
+use Rattle.block_disk.proofs.Images.{and_then, weaker}
+use Rattle.block_disk.proofs.Failures.{failed_since}
+use Rattle.image.specs.declared.layout.Layout.{Layout}
+use Rattle.undo_log.specs.StandsFor.{StandsFor}
+use Rattle.store_image.specs.KeptHeap.{StandsForCut, StandsForEither}
+use Rattle.durable.proofs.Showing.{logged_heap}
+use Rattle.store_memory.specs.Begin.{IsLeastDirtyOf}
+use Rattle.durable.specs.Calls.{IsClean, AnswersHome, after_home_step, RefusesLog, RefusesHome, RefusesSettle}
+use Rattle.store_past.specs.Past.{Past, IsPast, applied, after_log, after_settle}
+use Rattle.durable.specs.Store.{Known, HasPast}
+use Rattle.store_past.specs.declared.error.StoreError.{StoreError}
+use Rattle.store_past.specs.declared.error.StoreError.TheVariants.{Failed, BadLane, BadId, Worn, NotNext, TooLong, LogFull, Unwritten, Fault, Unfinished}
+use Rattle.store_image.specs.declared.home.Home.{Home}
+use Rattle.store_image.specs.declared.home.Home.TheVariants.{Wrote, Done}
+use Rattle.heap_model.specs.declared.ids.FieldId.{FieldId}
+use Rattle.trim_helper.specs.Settled.{HasClean, HasSame, IsSettled, IsStop, StandsForRound, StandsBefore, StandsAfter}
+
+module _ (x : Known) (d : Device) (s : Setting) (p : Past) where
+  pub clean_none : HasPast x s p d → HasClean x d s p 0
+  clean_none has = record { dirty = p.is_dirty; has = has; clean = λ f lt. absurd (omega arith) }
+
+  pub clean_less : (n : ℕ) → HasClean x d s p n → HasClean x d s p 0
+  clean_less n was = record { dirty = was.dirty; has = was.has; clean = λ f lt. absurd (omega arith) }
+
+  pub clean_most : (n : ℕ) → s.fields ≤ n → HasClean x d s p n → HasClean x d s p s.fields
+  clean_most n le was = record { dirty = was.dirty; has = was.has; clean = λ f lt. was.clean f (omega arith) }
+
+-- the past with these fields dirty
+abbrev pub dirtied : Past → (ℕ → Bool) → Past
+dirtied p dirty = record p { is_dirty = dirty }
+
+module _ (x y : Known) (d e : Device) (s : Setting) (p : Past) (n : ℕ) (was : HasClean x d s p n) where
+  -- the past as it is now
+  abbrev now : Past
+  now = dirtied p was.dirty
+
+  pub clean_done : (h : Home) → h ≡ Done → HasPast y s (after_home_step now h) e → AnswersHome s now h → HasClean y e s p s.fields
+  clean_done h is has clean = record {
+    dirty = was.dirty;
+    has = subst (λ k. HasPast y s (after_home_step now k) e) is has;
+    clean = subst (λ k. AnswersHome s now k) is clean;
+  }
+
+  pub clean_more : (h : Home) (f : FieldId) → h ≡ Wrote f → HasPast y s (after_home_step now h) e → AnswersHome s now h → HasClean y e s p (n + 1)
+  clean_more h f is has answer =
+      let least : IsLeastDirtyOf s now f.0 = subst (λ k. AnswersHome s now k) is answer in
+      record {
+        dirty = λ g. if f.0 == g then false else was.dirty g;
+        has = subst (λ k. HasPast y s (after_home_step now k) e) is has;
+        clean = λ g lt. elim (eqb_tells f.0 g) [
+          | inl at ↦ ap (λ b. if b then false else was.dirty g) at.0
+          | inr other ↦ ap (λ b. if b then false else was.dirty g) other.0 ∙ elim (cases_lt g f.0) [
+            | inl low ↦ least.lowest g low
+            | inr high ↦ elim (cases_lt f.0 n) [
+              | inl past ↦ absurd (let no : true ≡ false = sym least.among ∙ was.clean f.0 past in cc)
+              | inr here ↦ absurd (other.1 (omega arith))
+            ]
+          ]
+        ];
+      }
+
+  pub clean_kept : HasPast y s now e → HasClean y e s p 0
+  clean_kept has = record { dirty = was.dirty; has = has; clean = λ f lt. absurd (omega arith) }
+
+-- why the helper stops
+pub stops_home : (x : Known) (e : StoreError) → RefusesHome x e → IsStop e
+stops_home x Failed h = inl refl
+stops_home x Fault h = inr (inr refl)
+stops_home x BadLane h = elim h [ ]
+stops_home x BadId h = elim h [ ]
+stops_home x Worn h = elim h [ ]
+stops_home x NotNext h = elim h [ ]
+stops_home x TooLong h = elim h [ ]
+stops_home x LogFull h = elim h [ ]
+stops_home x Unwritten h = elim h [ ]
+stops_home x Unfinished h = elim h [ ]
+
+pub stops_log : (x : Known) (p : Past) (e : StoreError) → RefusesLog x p e → IsStop e
+stops_log x p Failed h = inl refl
+stops_log x p Fault h = inr (inr refl)
+stops_log x p Worn h = inr (inl refl)
+stops_log x p BadLane h = elim h [ ]
+stops_log x p BadId h = elim h [ ]
+stops_log x p NotNext h = elim h [ ]
+stops_log x p TooLong h = elim h [ ]
+stops_log x p LogFull h = elim h [ ]
+stops_log x p Unwritten h = elim h [ ]
+stops_log x p Unfinished h = elim h [ ]
+
+pub stops_settle : (x : Known) (s : Setting) (p : Past) (e : StoreError) → IsClean s p → RefusesSettle x s p e → IsStop e
+stops_settle x s p Failed clean h = inl refl
+stops_settle x s p Fault clean h = inr (inr refl)
+stops_settle x s p Worn clean h = inr (inl refl)
+stops_settle x s p Unwritten clean h = absurd (let no : true ≡ false = sym h.1.2 ∙ clean h.1.0 h.1.1 in cc)
+stops_settle x s p BadLane clean h = elim h [ ]
+stops_settle x s p BadId clean h = elim h [ ]
+stops_settle x s p NotNext clean h = elim h [ ]
+stops_settle x s p TooLong clean h = elim h [ ]
+stops_settle x s p LogFull clean h = elim h [ ]
+stops_settle x s p Unfinished clean h = elim h [ ]
+
+-- the stable cut has what was acknowledged
+module _ (x y : Known) (d e : Device) (s : Setting) (p : Past) where
+  pub same_stay : HasPast y s p e → HasSame y e s p
+  same_stay has = record { now = p; has = has; same = refl; base = refl; cut = λ l. omega arith; places = λ l. omega arith }
+
+  pub same_dirtied : (dirty : ℕ → Bool) → IsPast s p → HasPast y s (dirtied (after_log p) dirty) e → HasSame y e s p
+  same_dirtied dirty was has = record {
+    now = dirtied (after_log p) dirty;
+    has = has;
+    same = refl;
+    base = refl;
+    cut = λ l. omega arith;
+    places = λ l. omega (arith, places_grown (p.base l) p.fresh p.logged l (was.base_whole l));
+  }
+
+  pub same_clean : (n : ℕ) → IsPast s p → HasClean y e s (after_log p) n → HasSame y e s p
+  same_clean n is was = same_dirtied was.dirty is was.has
+
+  pub settled_now : StayLaw → IsPast s p → (was : HasClean x d s (after_log p) s.fields) (cut : ℕ → ℕ) → IsStable (actions (applied p)) cut → HasPast y s (after_settle (dirtied (after_log p) was.dirty) cut) e →
+      (h : HasSame y e s p) × IsSettled s h.now
+  settled_now stay had was cut stable has =
+      let stays = stay s p.fresh p.logged p.cut had.legal had.whole had.closed in (
+        record {
+          now = after_settle (dirtied (after_log p) was.dirty) cut;
+          has = has;
+          same = refl;
+          base = refl;
+          cut = λ l. stable.greatest p.cut stays.0 stays.1 l;
+          places = λ l. omega (arith, places_grown (p.base l) p.fresh p.logged l (had.base_whole l));
+        },
+        record { logged = refl; clean = was.clean; stable = stable },
+      )
+
+module _ {T E : Type 0} where
+  pub ok_weaker : (r : Result T E) (P Q : Type 0) → (P → Q) → OnOk r P → OnOk r Q
+  ok_weaker (Ok t) P Q f h = f h
+  ok_weaker (Err e) P Q f h = tt
+
+  pub err_weaker : (r : Result T E) (P Q : Type 0) → (P → Q) → OnErr r P → OnErr r Q
+  err_weaker (Ok t) P Q f h = tt
+  err_weaker (Err e) P Q f h = f h
+
+  pub if_err_match : (r : Result T E) (P : T → Type 0) (Q R : E → Type 0) → ((e : E) → Q e → R e) → MatchResult r P Q → IfErr r R
+  if_err_match (Ok t) P Q R f h = tt
+  if_err_match (Err e) P Q R f h = f e h
+
+-- images, and causes of faults
+
+pub moment_more : (d e f : Device) (l m : Layout) (s : Setting) (log : List (ℕ × Record)) (cut : ℕ → ℕ) → m ≡ l → LeavesOnly d e (StandsForCut l s log cut) → LeavesOnly e f (StandsForCut m s log cut) → LeavesOnly d f (StandsForCut l s log cut)
+moment_more d e f l m s log cut same was on = and_then d e f (StandsForCut l s log cut) was (subst (λ k. LeavesOnly e f (StandsForCut k s log cut)) same on)
+
+module _ {T E : Type 0} where
+  pub no_fault : (a b : ℕ) (fault : E) (r : Result T E) → a ≤ b → IfErr r (λ e. ⊥) → HasCause a b fault r
+  no_fault a b fault r le none = record { later = le; failed = λ is. absurd (never r is none) }
+    where
+      never : (q : Result T E) → IsErrOf q fault → IfErr q (λ e. ⊥) → ⊥
+      never q is none = subst (λ (z : Result T E). IfErr z (λ e. ⊥)) is none
+
+err_same : {S E : Type 0} (r : Result S E) (e f : E) → r ≡ Err e → r ≡ Err f → e ≡ f
+err_same r e f one two = let both : Err e ≡ r = sym one in cc
+
+pub passed_on : {T S E : Type 0} (a b c : ℕ) (r : Result T E) (q : Result S E) (fault e : E) → r ≡ Err e → q ≡ Err e → a ≤ b → HasCause b c fault r → HasCause a c fault q
+passed_on a b c r q fault e is on le cause = record {
+  later = omega (arith, cause.later);
+  failed = λ same. let eq : e ≡ fault = err_same q e fault on same in failed_since a b c le (cause.failed (is ∙ ap Err eq));
+}
+
+module _ (l m : Layout) (s : Setting) (p : Past) (is : IsPast s p) where
+  to_round : (image : List ℕ) → StandsForCut l s p.logged p.cut image → StandsForRound l s (applied p) p.cut image
+  to_round image st = StandsBefore (record { heap = subst (StandsFor l image) (sym (logged_heap l s p is)) st.heap; sections = st.sections })
+
+  -- while records are logged
+  pub round_logs : (d e : Device) → LeavesOnly d e (StandsForCut l s p.logged p.cut) → LeavesOnly d e (StandsForRound l s (applied p) p.cut)
+  round_logs d e on = weaker d e (StandsForCut l s p.logged p.cut) (StandsForRound l s (applied p) p.cut) to_round on
+
+  -- and then values go home
+  pub round_homes : (d e f : Device) → m ≡ l → LeavesOnly d e (StandsForRound l s (applied p) p.cut) → LeavesOnly e f (StandsForCut m s (applied p) p.cut) → LeavesOnly d f (StandsForRound l s (applied p) p.cut)
+  round_homes d e f same was on =
+      and_then d e f (StandsForRound l s (applied p) p.cut) was
+      (weaker e f (StandsForCut l s (applied p) p.cut) (StandsForRound l s (applied p) p.cut) (λ image st. StandsBefore st) (subst (λ k. LeavesOnly e f (StandsForCut k s (applied p) p.cut)) same on))
+
+  -- and then the cut is acknowledged
+  pub round_settles : (d e f : Device) (cut : ℕ → ℕ) → IsStable (actions (applied p)) cut → m ≡ l → LeavesOnly d e (StandsForRound l s (applied p) p.cut) → LeavesOnly e f (StandsForEither m s (applied p) p.cut cut) →
+      LeavesOnly d f (StandsForRound l s (applied p) p.cut)
+  round_settles d e f cut stable same was on =
+      and_then d e f (StandsForRound l s (applied p) p.cut) was
+      (weaker e f (StandsForEither l s (applied p) p.cut cut) (StandsForRound l s (applied p) p.cut) (λ image either. ⊎_elim (λ (st : StandsForCut l s (applied p) p.cut image). StandsBefore st) (λ (st : StandsForCut l s (applied p) cut image). StandsAfter cut stable st) either)
+      (subst (λ k. LeavesOnly e f (StandsForEither k s (applied p) p.cut cut)) same on))

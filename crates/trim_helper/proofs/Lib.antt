@@ -1,0 +1,11 @@
+pub mod Progress
+pub mod Refusing
+pub mod RingMoves
+pub mod Advancing
+pub mod Homes
+pub mod Rounds
+pub mod Closing
+pub mod Drained
+pub mod Gathering
+pub mod SeatLemmas
+pub mod SettingLemmas

@@ -1,0 +1,180 @@
+-- A round of the helper.
+use Rattle.std.proofs.Common.{ℕ, zero, suc, ◌≡◌, ◌≢◌, ◌+◌, ◌<◌, ◌≤◌, ◌==◌, if◌then◌else◌, Bool, true, false, List, [], ◌∷◌, ◌++◌, length, replicate, Option, None, refl, sym, ap, ◌∙◌, subst, inl, inr, arith}
+use Rattle.std.proofs.lemmas.Bool.Decides.{eqb_tells}
+use Rattle.std.proofs.lemmas.List.{append_assoc}
+use Rattle.rtrb.specs.declared.consumer.Consumer.{Consumer}
+use Rattle.heap_model.specs.declared.record.Record.{Record}
+use Rattle.heap_model.specs.Setting.{Setting}
+use Rattle.block_disk.specs.Device.{Device}
+use Rattle.block_disk.specs.Images.{LeavesOnly}
+use Rattle.block_disk.proofs.Images.{begin}
+use Rattle.image.specs.declared.layout.Layout.{Layout}
+use Rattle.store_past.specs.Past.{Past, applied}
+use Rattle.durable.specs.Store.{Known, HasPast}
+use Rattle.trim_helper.specs.declared.rings.TheConstants.{RING_RECORDS}
+use Rattle.trim_helper.specs.Rings.{received_of, held_back, waiting_in, stream}
+use Rattle.trim_helper.specs.Moves.{Looks, SameRings, most_room}
+use Rattle.trim_helper.specs.Taken.{HasTaken, Advances, applied_more, trimmed_of}
+use Rattle.trim_helper.specs.Settled.{HasSame, IsSettled, StandsForRound}
+use Rattle.heap_model.specs.Log.{IsLegal}
+use Rattle.trim_helper.specs.Closed.{Stood}
+use Rattle.trim_helper.specs.Serving.{Serves, Drains, Served}
+use Rattle.trim_helper.proofs.RingMoves.{same_then, taken_most}
+
+pub chosen : (i k a b : ℕ) {r : ℕ} → i ≡ k → r ≡ (if i == k then a else b) → r ≡ a
+chosen i k a b same e = elim (eqb_tells i k) [
+  | inl t ↦ e ∙ ap (λ c. if c then a else b) t.0
+  | inr t ↦ absurd (t.1 same)
+]
+
+pub unchosen : (i k a b : ℕ) {r : ℕ} → i ≢ k → r ≡ (if i == k then a else b) → r ≡ b
+unchosen i k a b other e = elim (eqb_tells i k) [
+  | inl t ↦ absurd (other t.1)
+  | inr t ↦ e ∙ ap (λ c. if c then a else b) t.0
+]
+
+pub none_of : {A : Type 0} → (xs : List A) → length xs ≡ 0 → xs ≡ []
+none_of [] e = refl
+none_of (x ∷ xs) e = absurd (omega arith)
+
+pub moment_drained : (d e : Device) (l : Layout) (s : Setting) (log : List (ℕ × Record)) (cut : ℕ → ℕ) → e ≡ d → LeavesOnly d e (StandsForRound l s log cut)
+moment_drained d e l s log cut same = subst (λ k. LeavesOnly d k (StandsForRound l s log cut)) (sym same) (begin d (StandsForRound l s log cut))
+
+module _ {A P : Type 0} where
+  pub looks_taken : (x : Known) (d : Device) (r0 r1 : List (Consumer Record A P)) (w : List (Option Record)) (s : Setting) (p : Past) → Looks r0 r1 → HasTaken x d r0 w s p → HasTaken x d r1 w s p
+  looks_taken x d r0 r1 w s p looks was = record { has = was.has; taken = λ l. looks.received l ∙ was.taken l }
+
+  pub drains_taken : (x x' : Known) (d d' : Device) (r0 r1 : List (Consumer Record A P)) (w0 w1 : List (Option Record)) (n : ℕ) (s : Setting) (p : Past) → Drains x d r0 w0 x' d' r1 w1 n → HasTaken x d r0 w0 s p →
+      (newer : List (ℕ × Record)) × (length newer ≡ n) × HasTaken x' d' r1 w1 s (applied_more newer p)
+  drains_taken x x' d d' r0 r1 w0 w1 n s p drains was = drains.advances.made s p (looks_taken x d r0 drains.seen w0 s p drains.looks was)
+
+  pub drains_same : (x x' : Known) (d d' : Device) (r0 r1 : List (Consumer Record A P)) (w0 w1 : List (Option Record)) (n : ℕ) → Drains x d r0 w0 x' d' r1 w1 n → SameRings r0 r1
+  drains_same x x' d d' r0 r1 w0 w1 n drains = same_then r0 drains.seen r1 drains.looks.same drains.advances.same
+
+  abbrev pub drains_served : (x x' : Known) (d d' : Device) (r0 r1 : List (Consumer Record A P)) (w0 w1 : List (Option Record)) (n : ℕ) (b b' : Bool) (count place : ℕ → ℕ) (s : Setting) (p : Past) → Drains x d r0 w0 x' d' r1 w1 n →
+      (b' ≡ true → (b ≡ true) × (n ≡ 0)) → Serves x d r0 w0 b count place s p → Served d x' d' r1 w1 b' count place s p n
+  drains_served x x' d d' r0 r1 w0 w1 n b b' count place s p drains quiet was =
+      let now = drains_taken x x' d d' r0 r1 w0 w1 n s p drains was.taken in
+      let lanes : x'.layout.lanes ≡ x.layout.lanes = ap (λ l. l.lanes) drains.advances.layout in
+      record {
+        newer = now.0;
+        long = now.1;
+        now = applied_more now.0 p;
+        same = append_assoc now.0 p.fresh p.logged;
+        serves = record {
+          taken = now.2;
+          counts = λ l lt. was.counts l (omega arith);
+          places = λ l lt. was.places l (omega arith);
+          settled = λ is. let q = quiet is in subst (λ xs. IsSettled s (applied_more xs p)) (sym (none_of now.0 (now.1 ∙ q.1))) (was.settled q.0);
+          published = λ is l lt. was.published (quiet is).0 l (omega arith);
+        };
+        moments = moment_drained d d' x'.layout s (now.0 ++ applied p) p.cut drains.advances.device;
+      }
+
+  -- the store goes on with the same records
+  pub same_taken : (x x' : Known) (d d' : Device) (r : List (Consumer Record A P)) (w : List (Option Record)) (s : Setting) (p : Past) → HasTaken x d r w s p → (h : HasSame x' d' s p) → HasTaken x' d' r w s h.now
+  same_taken x x' d d' r w s p was h = record {
+    has = h.has;
+    taken = λ l. was.taken l ∙ ap (λ (xs : List (ℕ × Record)). stream l xs ++ held_back (waiting_in w l)) (sym h.same);
+  }
+
+  pub same_served : (d0 : Device) (x x' : Known) (d d' : Device) (r : List (Consumer Record A P)) (w : List (Option Record)) (b : Bool) (count place : ℕ → ℕ) (s : Setting) (p : Past) (n : ℕ) → x'.layout ≡ x.layout → (was : Served d0 x d r w b count place s p n) → HasSame x' d' s was.now →
+      LeavesOnly d0 d' (StandsForRound x.layout s (was.newer ++ applied p) p.cut) → Served d0 x' d' r w false count place s p n
+  same_served d0 x x' d d' r w b count place s p n layout was h moments =
+      let lanes : x'.layout.lanes ≡ x.layout.lanes = ap (λ l. l.lanes) layout in
+      record {
+        newer = was.newer;
+        long = was.long;
+        now = h.now;
+        same = h.same ∙ was.same;
+        serves = record {
+          taken = same_taken x x' d d' r w s was.now was.serves.taken h;
+          counts = λ l lt. omega (arith, was.serves.counts l (omega arith), h.cut l);
+          places = λ l lt. omega (arith, was.serves.places l (omega arith), h.places l);
+          settled = λ is. absurd (let no : false ≡ true = is in cc);
+          published = λ is l lt. absurd (let no : false ≡ true = is in cc);
+        };
+        moments = subst (λ l. LeavesOnly d0 d' (StandsForRound l s (was.newer ++ applied p) p.cut)) (sym layout) moments;
+      }
+
+  pub published_served : (d0 : Device) (x x' : Known) (d d' : Device) (r : List (Consumer Record A P)) (w : List (Option Record)) (b : Bool) (count place count' place' : ℕ → ℕ) (s : Setting) (p : Past) (n : ℕ) → x'.layout ≡ x.layout →
+      (was : Served d0 x d r w b count place s p n) → (h : HasSame x' d' s was.now) → IsSettled s h.now →
+      ((l : ℕ) → l < x'.layout.lanes → (count' l ≡ h.now.cut l) × (place' l ≡ trimmed_of h.now l)) → LeavesOnly d0 d' (StandsForRound x.layout s (was.newer ++ applied p) p.cut) → Served d0 x' d' r w true count' place' s p n
+  published_served d0 x x' d d' r w b count place count' place' s p n layout was h settled published moments = record {
+    newer = was.newer;
+    long = was.long;
+    now = h.now;
+    same = h.same ∙ was.same;
+    serves = record {
+      taken = same_taken x x' d d' r w s was.now was.serves.taken h;
+      counts = λ l lt. omega (arith, (published l lt).0);
+      places = λ l lt. omega (arith, (published l lt).1);
+      settled = λ is. settled;
+      published = λ is l lt. published l lt;
+    };
+    moments = subst (λ l. LeavesOnly d0 d' (StandsForRound l s (was.newer ++ applied p) p.cut)) (sym layout) moments;
+  }
+
+  -- the seat is as it was
+  abbrev pub moved_seat : {H : Type 0} (count place : H → ℕ → ℕ) (d0 : Device) (x : Known) (d : Device) (r : List (Consumer Record A P)) (w : List (Option Record)) (b : Bool) (s : Setting) (p : Past) (n : ℕ) (h h' : H) → h' ≡ h →
+      Served d0 x d r w b (count h) (place h) s p n → Served d0 x d r w b (count h') (place h') s p n
+  moved_seat {H} count place d0 x d r w b s p n h h' same was = record {
+    newer = was.newer;
+    long = was.long;
+    now = was.now;
+    same = was.same;
+    serves = subst (λ (k : H). Serves x d r w b (count k) (place k) s was.now) (sym same) was.serves;
+    moments = was.moments;
+  }
+
+  pub drains_device : (x x' : Known) (d d' : Device) (r0 r1 : List (Consumer Record A P)) (w0 w1 : List (Option Record)) (n : ℕ) → Drains x d r0 w0 x' d' r1 w1 n → d' ≡ d
+  drains_device x x' d d' r0 r1 w0 w1 n drains = drains.advances.device
+
+-- the records were drained, and then settled
+pub moment_round : {A P : Type 0} (x x' : Known) (d d' : Device) (r0 r1 : List (Consumer Record A P)) (w0 w1 : List (Option Record)) (n : ℕ) (s : Setting) (p : Past) (e : Device) → (drains : Drains x d r0 w0 x' d' r1 w1 n) → (taken : HasTaken x d r0 w0 s p) →
+    ((s : Setting) (p : Past) → HasPast x' s p d' → LeavesOnly d' e (StandsForRound x'.layout s (applied p) p.cut)) → LeavesOnly d e (StandsForRound x'.layout s ((drains_taken x x' d d' r0 r1 w0 w1 n s p drains taken).0 ++ applied p) p.cut)
+moment_round x x' d d' r0 r1 w0 w1 n s p e drains taken moment =
+    let now = drains_taken x x' d d' r0 r1 w0 w1 n s p drains taken in
+    let leaves = moment s (applied_more now.0 p) now.2.has in
+    subst (λ k. LeavesOnly k e (StandsForRound x'.layout s (now.0 ++ applied p) p.cut)) drains.advances.device
+    (subst (λ (xs : List (ℕ × Record)). LeavesOnly d' e (StandsForRound x'.layout s xs p.cut)) (append_assoc now.0 p.fresh p.logged) leaves)
+
+pub stood_round : {A P : Type 0} (x x' : Known) (d d' : Device) (r0 r1 : List (Consumer Record A P)) (w0 w1 : List (Option Record)) (n : ℕ) (s : Setting) (p : Past) (e : Device) → (drains : Drains x d r0 w0 x' d' r1 w1 n) → (taken : HasTaken x d r0 w0 s p) →
+    ((s : Setting) (p : Past) → HasPast x' s p d' → LeavesOnly d' e (StandsForRound x'.layout s (applied p) p.cut)) → Stood x.layout s p d e
+stood_round x x' d d' r0 r1 w0 w1 n s p e drains taken moment =
+    let now = drains_taken x x' d d' r0 r1 w0 w1 n s p drains taken in
+    record {
+      newer = now.0;
+      legal = subst (IsLegal s) (append_assoc now.0 p.fresh p.logged) now.2.has.past.legal;
+      leaves = subst (λ l. LeavesOnly d e (StandsForRound l s (now.0 ++ applied p) p.cut)) drains.advances.layout (moment_round x x' d d' r0 r1 w0 w1 n s p e drains taken moment);
+    }
+
+pub stood_still : (l : Layout) (s : Setting) (p : Past) (d e : Device) → IsLegal s (applied p) → e ≡ d → Stood l s p d e
+stood_still l s p d e legal same = record { newer = []; legal = legal; leaves = moment_drained d e l s (applied p) p.cut same }
+
+-- nothing was taken yet
+pub serves_new : {A P : Type 0} (x : Known) (d : Device) (r : List (Consumer Record A P)) (w : List (Option Record)) (s : Setting) (p : Past) (count place : ℕ → ℕ) → ((l : ℕ) → waiting_in w l ≡ None) → HasPast x s p d → applied p ≡ [] → ((l : ℕ) → received_of r l ≡ []) →
+    ((l : ℕ) → count l ≡ 0) → ((l : ℕ) → place l ≡ 0) → Serves x d r w false count place s p
+serves_new x d r w s p count place none has empty taken counts places = record {
+  taken = record { has = has; taken = λ l. taken l ∙ sym (ap (λ (xs : List (ℕ × Record)). stream l xs ++ held_back (waiting_in w l)) empty ∙ ap held_back (none l)) };
+  counts = λ l lt. omega (arith, counts l);
+  places = λ l lt. omega (arith, places l);
+  settled = λ is. absurd (let no : false ≡ true = is in cc);
+  published = λ is l lt. absurd (let no : false ≡ true = is in cc);
+}
+
+pub nobody_waits : (n l : ℕ) → waiting_in (replicate n None) l ≡ None
+nobody_waits zero l = refl
+nobody_waits (suc n) zero = refl
+nobody_waits (suc n) (suc l) = nobody_waits n l
+
+-- the rings were looked at, and then drained
+pub looks_drains : {A P : Type 0} (x x' : Known) (d d' : Device) (r0 r1 r2 : List (Consumer Record A P)) (w0 w1 : List (Option Record)) (n : ℕ) → most_room r0 ≤ RING_RECORDS → Looks r0 r1 → Advances x d r1 w0 x' d' r2 w1 n → Drains x d r0 w0 x' d' r2 w1 n
+looks_drains x x' d d' r0 r1 r2 w0 w1 n have looks on = record {
+  seen = r1;
+  looks = looks;
+  advances = on;
+  most = λ l.
+      let e : length (received_of r1 l) ≡ length (received_of r0 l) = ap (λ (xs : List Record). length xs) (looks.received l) in
+      omega (arith, e, taken_most r1 r2 RING_RECORDS l (omega (arith, looks.same.rooms)) (on.whole l));
+}

@@ -1,0 +1,41 @@
+use Rattle.std.proofs.Common.{ℕ, [], ◌≡◌, ◌<◌, length, ap, refl, sym, subst, ◌∙◌, arith}
+use Rattle.trim_helper.specs.Closed.{HasSpelled}
+use Rattle.monitor.specs.Words.{setting_of}
+use Rattle.trim_helper.specs.Helping.{place_published, taken_in}
+use Rattle.trim_helper.specs.Meeting.{HasPart}
+use Rattle.trim_helper.specs.Taken.{applied_more}
+use Rattle.trim_helper.proofs.Rounds.{looks_drains, looks_taken, stood_round, stood_still}
+use Rattle.trim_helper.proofs.Closing.{all_applied, all_free, has_spelled, same_lanes}
+use Rattle.trim_helper.proofs.closing_down.finish.Goals as goal
+
+pub returns-clause-ok : goal.returns-clause-ok
+returns-clause-ok g c = λ p has places.
+    let layout = c.layout-layout.ensures in
+    let lanes : c.args.shared.plan.lanes ≡ c.args.store.now.known.layout.lanes = c.requires.lanes in
+    let history = c.close-words.ensures.history in
+    let present : (l : ℕ) → l < c.args.shared.plan.lanes → HasPart (taken_in c.meet.new.seat) l = λ l lt. c.meet.ensures.present l (omega (arith, c.requires.rings)) in
+    let count : length c.meet.new.rings ≡ c.args.shared.plan.lanes = c.meet.ensures.looks.same.count ∙ c.requires.rings ∙ sym lanes in
+    let taken = looks_taken _ _ _ _ _ (setting_of c.args.shared.plan) p c.meet.ensures.looks has in
+    let all = all_applied (setting_of c.args.shared.plan) c.args.shared.plan.lanes c.layout-layout.result.capacity (place_published c.meet.new.seat) (taken_in c.meet.new.seat) history.0 history.1 c.meet.new.rings c.meet.ensures.met present count
+    c.log_law.ensures c.own_log_law.ensures _ _ _ _ _ _ _ _ p c.next_law.ensures taken lanes (ap (λ l. l.capacity) layout)
+    (λ x among. (c.close-words.ensures.read x among).1) (λ l lt. let place = c.meet.ensures.place l in omega (arith, (places l (omega arith)).1))
+    c.in_default.ensures.advances (c.in_default.ensures.stuck) in
+    let free = all_free (setting_of c.args.shared.plan) c.args.shared.plan.lanes c.layout-layout.result.capacity (place_published c.meet.new.seat) (taken_in c.meet.new.seat) history.0 history.1 c.meet.new.rings c.meet.ensures.met present count
+    c.log_law.ensures c.own_log_law.ensures in
+    let settled = c.in_default-settle_applied.ensures.settled (setting_of c.args.shared.plan) (applied_more all.0 p) all.1.has in
+    subst (λ parts. HasSpelled (setting_of c.args.shared.plan) c.args.shared.plan.lanes c.args.store.now.known.layout parts p.cut (g.D.Disk.device c.settle_applied.new.store.disk) c.close-words.result) c.meet.ensures.gathered
+    (subst (λ l. HasSpelled (setting_of c.args.shared.plan) c.args.shared.plan.lanes l (taken_in c.meet.new.seat) p.cut (g.D.Disk.device c.settle_applied.new.store.disk) c.close-words.result) (c.settle_applied.ensures.layout ∙ c.in_default.ensures.advances.layout)
+    (has_spelled (setting_of c.args.shared.plan) c.args.shared.plan.lanes (taken_in c.meet.new.seat) history.0 history.1 c.log_law.ensures c.order_law.ensures c.all_kept_law.ensures c.stable_law.ensures.one (λ f. refl) c.close-words.result history.2 p.cut
+    (λ x among lt. let counts = c.meet.ensures.count x.lane in omega (arith, (c.close-words.ensures.read x among).0, (places x.lane (omega arith)).0))
+    c.settle_applied.new.store.known (g.D.Disk.device c.settle_applied.new.store.disk) settled.0.now settled.0.has c.in_default-settle_applied.ensures.running settled.1 (same_lanes _ _ _ settled.0.same all.2) free))
+
+pub returns-in-Err-clause-any_moment : goal.returns-in-Err-clause-any_moment
+returns-in-Err-clause-any_moment g c = λ s p has. stood_still _ s p _ _ has.has.past.legal c.in-Err.ensures.kept.1.device
+
+pub returns-in-Err-settle_applied-clause-any_moment : goal.returns-in-Err-settle_applied-clause-any_moment
+returns-in-Err-settle_applied-clause-any_moment g c = λ s p has.
+    stood_round _ _ _ _ _ _ _ _ _ s p _ (looks_drains _ _ _ _ _ c.meet.new.rings _ _ _ _ c.requires.room c.meet.ensures.looks c.in_default.ensures.advances) has c.in-Err-settle_applied.ensures.any_moment
+
+pub returns-clause-any_moment : goal.returns-clause-any_moment
+returns-clause-any_moment g c = λ s p has.
+    stood_round _ _ _ _ _ _ _ _ _ s p _ (looks_drains _ _ _ _ _ c.meet.new.rings _ _ _ _ c.requires.room c.meet.ensures.looks c.in_default.ensures.advances) has c.in_default-settle_applied.ensures.any_moment

@@ -1,0 +1,8 @@
+use Rattle.trim_helper.proofs.Rounds.{looks_drains}
+use Rattle.trim_helper.proofs.draining.drain_rings.Goals as goal
+
+pub returns-in-Ok-clause-applied : goal.returns-in-Ok-clause-applied
+returns-in-Ok-clause-applied g c = looks_drains _ _ _ _ _ c.look.new.rings _ _ _ _ c.requires.room c.look.ensures c.in-Ok.ensures.advances
+
+pub returns-in-Err-clause-kept : goal.returns-in-Err-clause-kept
+returns-in-Err-clause-kept g c = (_, looks_drains _ _ _ _ _ c.look.new.rings _ _ _ _ c.requires.room c.look.ensures c.in-Err.ensures.kept.1)

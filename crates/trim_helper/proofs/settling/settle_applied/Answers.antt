@@ -1,0 +1,67 @@
+use Rattle.std.proofs.Common.{◌∙◌, refl, arith}
+use Rattle.heap_model.specs.Sections.{actions}
+use Rattle.store_past.specs.Past.{applied, after_log}
+use Rattle.trim_helper.specs.Settled.{HasSame, IsSettled, IsStop}
+use Rattle.durable.specs.Calls.{RefusesSettle}
+use Rattle.trim_helper.proofs.Homes.{round_logs, round_homes, round_settles, passed_on, same_stay, same_dirtied, same_clean, settled_now, dirtied, stops_log, stops_settle, ok_weaker, err_weaker, if_err_match}
+use Rattle.block_disk.proofs.Failures.{cause_since}
+use Rattle.trim_helper.proofs.settling.settle_applied.Goals as goal
+
+pub returns-in-Err-clause-kept : goal.returns-in-Err-clause-kept
+returns-in-Err-clause-kept g c = λ s p has. same_stay c.args.store.now.known _ (g.D.Disk.device c.args.store.now.disk) _ s p (c.in-Err.ensures.kept s p has)
+
+pub returns-in-Err-clause-stop : goal.returns-in-Err-clause-stop
+returns-in-Err-clause-stop g c = λ s p has. stops_log c.args.store.now.known p c.in-Err.reason (c.in-Err.ensures.answer s p has)
+
+pub returns-in-Err-write_home-clause-kept : goal.returns-in-Err-write_home-clause-kept
+returns-in-Err-write_home-clause-kept g c = λ s p has. same_clean c.args.store.now.known _ (g.D.Disk.device c.args.store.now.disk) _ s p 0 has.past (c.in-Err-write_home.ensures.kept s (after_log p) (c.in_default.ensures.ok s p has))
+
+pub returns-in-Err-write_home-clause-stop : goal.returns-in-Err-write_home-clause-stop
+returns-in-Err-write_home-clause-stop g c = λ s p has. c.in-Err-write_home.ensures.stop s (after_log p) (c.in_default.ensures.ok s p has)
+
+pub returns-clause-settled : goal.returns-clause-settled
+returns-clause-settled g c = λ s p has.
+    let was = c.in_default-write_home.ensures.clean s (after_log p) (c.in_default.ensures.ok s p has) in
+    let cut = c.stable_law.ensures.exists (actions (applied p)) in
+    ok_weaker c.settle.result _ ((h : HasSame c.settle.new.self.known (g.D.Disk.device c.settle.new.self.disk) s p) × IsSettled s h.now)
+    (settled_now _ _ _ _ s p c.stay_law.ensures has.past was cut.0 cut.1)
+    (c.settle.ensures.ok s (dirtied (after_log p) was.dirty) cut.0 was.has cut.1)
+
+pub returns-clause-kept : goal.returns-clause-kept
+returns-clause-kept g c = λ s p has.
+    let was = c.in_default-write_home.ensures.clean s (after_log p) (c.in_default.ensures.ok s p has) in
+    err_weaker c.settle.result _ (HasSame c.settle.new.self.known (g.D.Disk.device c.settle.new.self.disk) s p)
+    (λ had. same_dirtied c.args.store.now.known c.settle.new.self.known (g.D.Disk.device c.args.store.now.disk) (g.D.Disk.device c.settle.new.self.disk) s p was.dirty has.past had)
+    (c.settle.ensures.kept s (dirtied (after_log p) was.dirty) was.has)
+
+pub returns-clause-stop : goal.returns-clause-stop
+returns-clause-stop g c = λ s p has.
+    let was = c.in_default-write_home.ensures.clean s (after_log p) (c.in_default.ensures.ok s p has) in
+    if_err_match c.settle.result _ (RefusesSettle c.write_home.new.store.known s (dirtied (after_log p) was.dirty)) IsStop (λ e h. stops_settle c.write_home.new.store.known s (dirtied (after_log p) was.dirty) e was.clean h)
+    (c.settle.ensures.answer s (dirtied (after_log p) was.dirty) was.has)
+
+pub returns-in-Err-clause-any_moment : goal.returns-in-Err-clause-any_moment
+returns-in-Err-clause-any_moment g c = λ s p has. round_logs _ c.args.store.now.known.layout s p has.past _ _ (c.in-Err.ensures.any_moment s p has)
+
+pub returns-in-Err-write_home-clause-any_moment : goal.returns-in-Err-write_home-clause-any_moment
+returns-in-Err-write_home-clause-any_moment g c = λ s p has.
+    round_homes _ c.log_step.new.self.known.layout s p has.past _ _ _ c.log_step.ensures.layout (round_logs _ c.args.store.now.known.layout s p has.past _ _ (c.in_default.ensures.any_moment s p has))
+    (c.in-Err-write_home.ensures.any_moment s (after_log p) (c.in_default.ensures.ok s p has))
+
+pub returns-clause-any_moment : goal.returns-clause-any_moment
+returns-clause-any_moment g c = λ s p has.
+    let was = c.in_default-write_home.ensures.clean s (after_log p) (c.in_default.ensures.ok s p has) in
+    let cut = c.stable_law.ensures.exists (actions (applied p)) in
+    round_settles _ c.write_home.new.store.known.layout s p has.past _ _ _ cut.0 cut.1 (c.write_home.ensures.layout ∙ c.log_step.ensures.layout)
+    (round_homes _ c.log_step.new.self.known.layout s p has.past _ _ _ c.log_step.ensures.layout (round_logs _ c.args.store.now.known.layout s p has.past _ _ (c.in_default.ensures.any_moment s p has))
+    (c.in_default-write_home.ensures.any_moment s (after_log p) (c.in_default.ensures.ok s p has)))
+    (c.settle.ensures.any_moment s (dirtied (after_log p) was.dirty) cut.0 was.has cut.1)
+
+pub returns-in-Err-clause-cause : goal.returns-in-Err-clause-cause
+returns-in-Err-clause-cause g c = passed_on _ _ _ c.log_step.result _ _ c.in-Err.reason c.in-Err.is refl (omega arith) c.log_step.ensures.cause
+
+pub returns-in-Err-write_home-clause-cause : goal.returns-in-Err-write_home-clause-cause
+returns-in-Err-write_home-clause-cause g c = passed_on _ _ _ c.write_home.result _ _ c.in-Err-write_home.reason c.in-Err-write_home.is refl c.log_step.ensures.cause.later c.write_home.ensures.cause
+
+pub returns-clause-cause : goal.returns-clause-cause
+returns-clause-cause g c = cause_since _ _ _ _ c.settle.result (omega (arith, c.log_step.ensures.cause.later, c.write_home.ensures.cause.later)) c.settle.ensures.cause

@@ -1,0 +1,16 @@
+use Rattle.std.proofs.Common.{◌≡◌, ◌≤◌}
+use Rattle.heap_model.specs.Setting.{Setting}
+use Rattle.block_disk.specs.Images.{LeavesOnly}
+use Rattle.store_image.specs.KeptHeap.{StandsForCut}
+use Rattle.store_past.specs.Past.{Past}
+use Rattle.durable.specs.Store.{HasPast}
+use Rattle.trim_helper.specs.Settled.{HasClean}
+use Rattle.trim_helper.proofs.settling.write_home.Given as goal
+
+abbrev pub invariant-loop-field : goal.invariant-loop-field
+invariant-loop-field g l = record {
+  clean : (s : Setting) (p : Past) → HasPast l.initial.store.known s p (g.D.Disk.device l.initial.store.disk) → HasClean l.store.known (g.D.Disk.device l.store.disk) s p l.field;
+  moment : (s : Setting) (p : Past) → HasPast l.initial.store.known s p (g.D.Disk.device l.initial.store.disk) → LeavesOnly (g.D.Disk.device l.initial.store.disk) (g.D.Disk.device l.store.disk) (StandsForCut l.initial.store.known.layout s p.logged p.cut);
+  later : (g.D.Disk.device l.initial.store.disk).failures ≤ (g.D.Disk.device l.store.disk).failures;
+  layout : l.store.known.layout ≡ l.initial.store.known.layout;
+}

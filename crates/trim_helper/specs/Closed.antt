@@ -1,0 +1,45 @@
+-- What stands once both ends have met.
+use Rattle.std.specs.Prelude.{ℕ, ◌<◌, ◌≤◌, ◌++◌, List, Result, Ok, Err}
+use Rattle.heap_model.specs.declared.event.Event.{Event}
+use Rattle.heap_model.specs.Setting.{Setting}
+use Rattle.heap_model.specs.History.{state_after, log_of}
+use Rattle.heap_model.specs.Sections.{actions}
+use Rattle.heap_model.specs.Cuts.{all_ended}
+use Rattle.block_disk.specs.Device.{Device}
+use Rattle.block_disk.specs.Images.{Always, LeavesOnly}
+use Rattle.heap_model.specs.declared.record.Record.{Record}
+use Rattle.heap_model.specs.Log.{IsLegal}
+use Rattle.store_past.specs.Past.{Past, applied}
+use Rattle.trim_helper.specs.Settled.{StandsForRound}
+use Rattle.image.specs.declared.layout.Layout.{Layout}
+use Rattle.undo_log.specs.StandsFor.{StandsFor}
+use Rattle.store_image.specs.KeptHeap.{StandsForCut, values_below}
+use Rattle.monitor.specs.Seats.{Final}
+use Rattle.trim_helper.specs.Helping.{Spells}
+use Rattle.trim_helper.specs.Serving.{Among, Part, IsOneHistory}
+
+-- One legal history has these threads' views as its parts, and the device stands for its heap with all its sections, which is
+-- the heap after it. None of them was told of more sections than were acknowledged.
+pub record IsClosedDown (s : Setting) (lanes : ℕ) (l : Layout) (parts : List Part) (acknowledged : ℕ → ℕ) (d : Device) : Type 0 where
+  pub history : List (ℕ × Event)
+  pub one : IsOneHistory s lanes parts history
+  pub stands : Always d (StandsForCut l s (log_of s history) (all_ended (actions (log_of s history))))
+  pub values : Always d (λ image. StandsFor l image (values_below (state_after s history).value l.fields))
+  pub told : (x : Part) → Among parts x → x.lane < lanes → x.count ≤ acknowledged x.lane
+
+-- So it is, and the words at the end spell the state after that history.
+pub record HasSpelled (s : Setting) (lanes : ℕ) (l : Layout) (parts : List Part) (acknowledged : ℕ → ℕ) (d : Device) (words : Final) : Type 0 where
+  pub closed : IsClosedDown s lanes l parts acknowledged d
+  pub spelled : Spells words (state_after s closed.history)
+
+-- Since the one moment a crash may have left what stands for the heap of what was acknowledged, or of the stable cut, of these records
+-- and those applied since.
+pub record Stood (l : Layout) (s : Setting) (p : Past) (since now : Device) : Type 0 where
+  pub newer : List (ℕ × Record)
+  pub legal : IsLegal s (newer ++ applied p)
+  pub leaves : LeavesOnly since now (StandsForRound l s (newer ++ applied p) p.cut)
+
+-- the device that is given back, whatever is answered
+abbrev pub disk_of : {D E : Type 0} → Result D (D × E) → D
+disk_of (Ok disk) = disk
+disk_of (Err back) = back.0

@@ -1,0 +1,11 @@
+pub mod Rings
+pub mod Moves
+pub mod Limits
+pub mod Taken
+pub mod Settled
+pub mod Serving
+pub mod Meeting
+pub mod Closed
+pub mod Endings
+pub mod Helping
+pub mod Opening

@@ -1,0 +1,11 @@
+-- Which schema a recovered heap is of (this project's own).
+use Rattle.std.specs.Prelude.{ℕ, ◌≡◌, ◌<◌, List, slice_index_or}
+use Rattle.guards.specs.Schema.{Declarations, object_count, field_count, guard_of}
+use Rattle.image.specs.declared.guard_row.GuardRow.{GuardRow}
+use Rattle.image.specs.declared.layout.Layout.{Layout}
+
+-- the image has the schema's objects and fields, each field with its guard
+pub record FitsSchema (schema : Declarations) (layout : Layout) (rows : List GuardRow) : Type 0 where
+  pub objects : layout.objects ≡ object_count schema
+  pub fields : layout.fields ≡ field_count schema
+  pub guarded : (f : ℕ) (d : GuardRow) → f < field_count schema → (slice_index_or rows f d).guard.0 ≡ guard_of schema f

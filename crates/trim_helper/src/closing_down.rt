@@ -1,0 +1,163 @@
+//! Both ends meet.
+ghost use Rattle.std.specs.Prelude.{◌≡◌, ◌+◌, ◌<◌, ◌≤◌, ◌==◌, ◌++◌, List, [], ℕ, if◌then◌else◌, ◌⊎◌, MatchOption, MatchResult, IfErr, IfOk, OnOk, length};
+ghost use Rattle.store_past.specs.Past.{Past};
+ghost use Rattle.heap_model.specs.Setting.{Setting};
+ghost use Rattle.monitor.specs.Words.{setting_of};
+ghost use Rattle.trim_helper.specs.Closed.{HasSpelled, IsClosedDown, Stood, disk_of};
+ghost use Rattle.trim_helper.specs.Helping.{IsHelper, count_published, place_published, taken_in};
+ghost use Rattle.trim_helper.specs.Endings.{AreEnded, HasOpen, HoldNone, IsCloseStop, IsComplete, RefusesClosing, RefusesEnded, count_lane, parts_of};
+ghost use Rattle.trim_helper.specs.Moves.{most_room};
+ghost use Rattle.trim_helper.specs.declared.rings.TheConstants.{RING_RECORDS};
+ghost use Rattle.trim_helper.specs.Serving.{Serves};
+ghost use Rattle.trim_helper.specs.Taken.{HasTaken, trimmed_of};
+
+use crate::close_error::{CloseError, close_error};
+use crate::draining::drain_known;
+use crate::ended::Ended;
+use crate::helper::Helper;
+use crate::meeting::meet;
+use crate::published::close;
+use crate::rings::RING_RECORDS;
+use crate::settling::settle_applied;
+use block_disk::Disk;
+use durable::Store;
+use heap_model::{
+    Lane, Record, all_kept_law, log_law, next_law, order_law, own_log_law, stable_law,
+};
+use monitor::{Finals, HelperSeat, Shared};
+use rtrb::Consumer;
+
+// How many of the sessions are of this lane.
+fn count_of(ended: &[Ended], lane: u8) -> usize
+    ensures count { result ≡ count_lane lane ended.now }
+    ensures few { result ≤ length ended.now }
+{
+    match ended.split_first() {
+        None => 0,
+        Some((one, rest)) => {
+            let later = count_of(rest, lane);
+            if one.lane.0 == lane { later + 1 } else { later }
+        }
+    }
+}
+
+// The least lane whose session holds a monitor.
+fn first_open(ended: &[Ended]) -> Option<Lane>
+    ensures { MatchOption result (HoldNone ended.now) (λ lane. HasOpen lane.0 ended.now × ((k : ℕ) → HasOpen k ended.now → lane.0 ≤ k)) }
+{
+    match ended.split_first() {
+        None => None,
+        Some((one, rest)) => {
+            let later = first_open(rest);
+            if one.held == 0 {
+                later
+            } else {
+                Some(lesser(one.lane, later))
+            }
+        }
+    }
+}
+
+// The lesser of these lanes.
+fn lesser(one: Lane, other: Option<Lane>) -> Lane
+    ensures { MatchOption other (result ≡ one) (λ lane. ((result ≡ one) × (one.0 ≤ lane.0)) ⊎ ((result ≡ lane) × (lane.0 ≤ one.0))) }
+{
+    match other {
+        Some(lane) => { if lane.0 < one.0 { lane } else { one } }
+        None => one,
+    }
+}
+
+// Whether there is just one session of each lane, and none holds a monitor.
+fn check_ended(ended: &[Ended], lanes: u8) -> Result<(), CloseError>
+    ensures { MatchResult result (λ done. HoldNone ended.now × IsComplete lanes ended.now) (RefusesEnded lanes ended.now) }
+{
+    for lane in 0..lanes {
+        if count_of(ended, lane) != 1 {
+            return Err(CloseError::Missing { lane: Lane(lane) });
+        }
+    }
+    match first_open(ended) {
+        Some(lane) => Err(CloseError::Unfinished { lane }),
+        None => Ok(()),
+    }
+}
+
+// The rings meet their other ends, and what is left in them is applied, made durable and acknowledged.
+fn finish<D: Disk>(
+    shared: Shared,
+    ended: Vec<Ended>,
+    store: &mut Store<D>,
+    rings: &mut [Consumer<Record>],
+    waiting: &mut [Option<Record>],
+    mut seat: HelperSeat,
+) -> Result<Finals, CloseError>
+    requires helper { IsHelper shared seat }
+    requires lanes { shared.plan.lanes ≡ store.old.known.layout.lanes }
+    requires rings { length rings.old ≡ store.old.known.layout.lanes }
+    requires few { length rings.old ≤ 32 }
+    requires room { most_room rings.old ≤ RING_RECORDS }
+    requires slots { length waiting.old ≡ 32 }
+    requires ended { AreEnded shared store.old.known.layout.capacity rings.old ended.items }
+    requires none { HoldNone ended.items }
+    requires complete { IsComplete store.old.known.layout.lanes ended.items }
+    requires nothing { taken_in seat ≡ [] }
+    ensures ok { (p : Past) → HasTaken store.old.known (D.device store.old.disk) rings.old waiting.old (setting_of shared.plan) p → ((l : ℕ) → l < store.old.known.layout.lanes → (count_published seat l ≤ p.cut l) × (place_published seat l ≤ trimmed_of p l))
+        → IfOk result (HasSpelled (setting_of shared.plan) shared.plan.lanes store.old.known.layout (parts_of ended.items) p.cut (D.device store.new.disk)) }
+    ensures stop { IfErr result IsCloseStop }
+    ensures any_moment { (s : Setting) (p : Past) → HasTaken store.old.known (D.device store.old.disk) rings.old waiting.old s p
+        → Stood store.old.known.layout s p (D.device store.old.disk) (D.device store.new.disk) }
+{
+    log_law();
+    own_log_law();
+    next_law();
+    order_law();
+    all_kept_law();
+    stable_law();
+    let layout = store.layout();
+    meet(&shared, ended, rings, &mut seat, layout.capacity);
+    if let Err(reason) = drain_known(store, rings, waiting) {
+        return Err(close_error(reason));
+    }
+    if let Err(reason) = settle_applied(store) {
+        return Err(close_error(reason));
+    }
+    let words = close(shared, seat);
+    Ok(words)
+}
+
+/// Both ends meet: what the sessions sent is applied, made durable and acknowledged, and the device is given back.
+///
+/// Refusals, in this order: `Missing`: the least lane that hasn't just one session in the list; `Unfinished`: the least that
+/// holds a monitor; `Failed`; `Worn`; `Fault`.
+pub fn close_down<D: Disk>(
+    shared: Shared,
+    ended: Vec<Ended>,
+    helper: Helper<D>,
+) -> Result<D, (D, CloseError)>
+    requires helper { IsHelper shared helper.seat }
+    requires lanes { shared.plan.lanes ≡ helper.store.known.layout.lanes }
+    requires ended { AreEnded shared helper.store.known.layout.capacity helper.rings.items ended.items }
+    requires nothing { taken_in helper.seat ≡ [] }
+    ensures ok { (p : Past) → Serves helper.store.known (D.device helper.store.disk) helper.rings.items helper.waiting helper.is_settled (count_published helper.seat) (place_published helper.seat) (setting_of shared.plan) p
+        → IfOk result (λ disk. IsClosedDown (setting_of shared.plan) shared.plan.lanes helper.store.known.layout (parts_of ended.items) p.cut (D.device disk)) }
+    ensures refused { MatchResult result (λ disk. HoldNone ended.items × IsComplete helper.store.known.layout.lanes ended.items) (λ back. RefusesClosing helper.store.known.layout.lanes ended.items back.1) }
+    ensures any_moment { (s : Setting) (p : Past) → HasTaken helper.store.known (D.device helper.store.disk) helper.rings.items helper.waiting s p
+        → Stood helper.store.known.layout s p (D.device helper.store.disk) (D.device (disk_of result)) }
+{
+    let Helper {
+        mut store,
+        mut rings,
+        mut waiting,
+        seat,
+        is_settled: _,
+    } = helper;
+    let lanes = store.layout().lanes;
+    if let Err(reason) = check_ended(&ended, lanes) {
+        return Err((store.into_disk(), reason));
+    }
+    match finish(shared, ended, &mut store, &mut rings, &mut waiting, seat) {
+        Ok(_) => Ok(store.into_disk()),
+        Err(reason) => Err((store.into_disk(), reason)),
+    }
+}

@@ -1,0 +1,64 @@
+//! A heap that was recovered, opened for threads.
+ghost use Rattle.std.specs.Prelude.{◌≡◌, ◌<◌, ◌^◌, IfErr, IfOk, All, map};
+ghost use Rattle.durable.specs.Store.{HasPast};
+ghost use Rattle.monitor.specs.Seats.{IsSeatOf, fresh_views, helper_at};
+ghost use Rattle.monitor.specs.Words.{setting_of};
+ghost use Rattle.store_past.specs.Past.{no_past};
+ghost use Rattle.trim_helper.specs.Helping.{IsHelper};
+ghost use Rattle.trim_helper.specs.Opening.{FitsSchema};
+
+use block_disk::Disk;
+use durable::Store;
+use guards::Schema;
+use image::Recovered;
+use monitor::{HelperSeat, Seat, Shared};
+use std::alloc::{AllocError, Global};
+
+/// A heap that is open for threads: the words that they share, the seats of its lanes, and what a helper is made of.
+#[derive(Drop)]
+pub struct Opened<D: Disk> {
+    /// The words of its monitors and fields, all free and with the recovered values.
+    pub shared: Shared,
+    /// The seat of each lane, lane i's as the i-th.
+    pub seats: Vec<Seat>,
+    /// The store of the device, which was told nothing.
+    pub store: Store<D>,
+    /// The helper's seat, which has published nothing.
+    pub seat: HelperSeat,
+}
+
+/// Opens a heap of this schema that was recovered. Both the words and the store begin with its values, and release numbers
+/// stay at `last` or below. After want of memory the device is given back as it was.
+pub fn open_heap<D: Disk>(
+    alloc: Global,
+    schema: Schema,
+    recovered: Recovered<D>,
+    last: u64,
+) -> Result<Opened<D>, (Recovered<D>, AllocError)>
+    requires last { last < 2 ^ 40 }
+    requires schema { FitsSchema schema recovered.layout recovered.guards }
+    ensures plan { IfOk result (λ o. o.shared.plan ≡ record { schema = schema; first = recovered.heap; last = last; lanes = recovered.layout.lanes }) }
+    ensures seats { IfOk result (λ o. All (IsSeatOf o.shared) o.seats.items) }
+    ensures views { IfOk result (λ o. map (λ s. s.view) o.seats.items ≡ fresh_views o.shared.plan recovered.layout.lanes) }
+    ensures helper { IfOk result (λ o. IsHelper o.shared o.seat) }
+    ensures silent { IfOk result (λ o. o.seat.view ≡ helper_at o.shared.plan recovered.layout.lanes) }
+    ensures past { IfOk result (λ o. HasPast o.store.known (setting_of o.shared.plan) no_past (D.device o.store.disk)) }
+    ensures layout { IfOk result (λ o. o.store.known.layout ≡ recovered.layout) }
+    ensures disk { IfOk result (λ o. o.store.disk ≡ recovered.disk) }
+    ensures refused { IfErr result (λ back. back.0 ≡ recovered) }
+{
+    let lanes = recovered.layout().lanes;
+    let (shared, seats, seat) = match Shared::new(alloc, schema, recovered.heap(), lanes, last) {
+        Ok(made) => made,
+        Err(error) => return Err((recovered, error)),
+    };
+    match Store::adopt(alloc, recovered, last) {
+        Ok(store) => Ok(Opened {
+            shared,
+            seats,
+            store,
+            seat,
+        }),
+        Err(back) => Err(back),
+    }
+}

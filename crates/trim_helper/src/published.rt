@@ -1,0 +1,48 @@
+//! The shared words, as the helper uses them.
+ghost use Rattle.std.specs.Prelude.{◌≡◌, ◌==◌, ◌<◌, ◌≤◌, ◌∷◌, ℕ, List, if◌then◌else◌};
+ghost use Rattle.heap_model.specs.declared.event.Event.{Event};
+ghost use Rattle.heap_model.specs.History.{state_after};
+ghost use Rattle.monitor.specs.Words.{setting_of};
+ghost use Rattle.monitor.specs.Seats.{IsSeatOf};
+ghost use Rattle.trim_helper.specs.Endings.{part_at};
+ghost use Rattle.trim_helper.specs.Helping.{IsHelper, Spells, count_published, place_published, taken_in};
+ghost use Rattle.trim_helper.specs.Serving.{Among, IsOneHistory, Part};
+
+use heap_model::Lane;
+use monitor::{Finals, HelperSeat, Seat, Shared};
+
+/// Publishes of the lane how many sections are acknowledged, and the place up to which its log is trimmed.
+pub fn publish(shared: &Shared, seat: &mut HelperSeat, lane: Lane, acknowledged: u64, trimmed: u64)
+    requires seat { IsHelper shared.now seat.old }
+    requires lane { lane.0 < shared.now.plan.lanes }
+    requires count { count_published seat.old lane.0 ≤ acknowledged }
+    requires place { place_published seat.old lane.0 ≤ trimmed }
+    ensures seat { IsHelper shared.now seat.new }
+    ensures count { (l : ℕ) → l < 32 → count_published seat.new l ≡ (if lane.0 == l then acknowledged else count_published seat.old l) }
+    ensures place { (l : ℕ) → l < 32 → place_published seat.new l ≡ (if lane.0 == l then trimmed else place_published seat.old l) }
+    ensures gathered { taken_in seat.new ≡ taken_in seat.old }
+{
+    shared.publish(seat, lane, acknowledged, trimmed);
+}
+
+/// Takes in the seat of a session that has ended.
+pub fn gather(shared: &Shared, helper: &mut HelperSeat, seat: Seat)
+    requires helper { IsHelper shared.now helper.old }
+    requires seat { IsSeatOf shared.now seat }
+    ensures helper { IsHelper shared.now helper.new }
+    ensures count { (l : ℕ) → count_published helper.new l ≡ count_published helper.old l }
+    ensures place { (l : ℕ) → place_published helper.new l ≡ place_published helper.old l }
+    ensures gathered { taken_in helper.new ≡ part_at seat ∷ taken_in helper.old }
+{
+    shared.gather(helper, seat);
+}
+
+/// Nobody goes on: one legal history has the lanes that were taken in as its parts, the words spell its state, and nobody
+/// read more than was published.
+pub fn close(shared: Shared, helper: HelperSeat) -> Finals
+    requires helper { IsHelper shared helper }
+    ensures history { (h : List (ℕ × Event)) × IsOneHistory (setting_of shared.plan) shared.plan.lanes (taken_in helper) h × Spells result (state_after (setting_of shared.plan) h) }
+    ensures read { (x : Part) → Among (taken_in helper) x → (x.count ≤ count_published helper x.lane) × (x.place ≤ place_published helper x.lane) }
+{
+    shared.close(helper)
+}
