@@ -1,6 +1,6 @@
 //! The words that only rise: the count of fat slots, and the published numbers.
 
-ghost use Rattle.std.specs.Prelude.{◌≡◌, ◌≤◌, [], false};
+ghost use Rattle.std.specs.Prelude.{◌≡◌, ◌<◌, ◌≤◌, [], false, true};
 ghost use Rattle.steps.specs.Views.{view, IsSeatOf, KeepsEach, Lengthens};
 
 use lock_word::FAT_SLOTS;
@@ -13,6 +13,7 @@ pub fn has_slot(shared: &Shared, seat: &mut Seat) -> bool
     ensures mark { (view seat.new).mark ≡ (view seat.old).mark }
     ensures told { Lengthens (view seat.old) (view seat.new) [] }
     ensures none { result ≡ false → FAT_SLOTS ≤ (view seat.new).slots }
+    ensures some { result ≡ true → (view seat.new).slots < FAT_SLOTS }
     ensures grips { KeepsEach (view seat.old) (view seat.new) }
 {
     shared.count_slots(seat) < u64::from(FAT_SLOTS)
