@@ -61,13 +61,13 @@ pub held_looks : (c : ℕ) (v w : View) (o : ObjectId) (x : Seen) → EntersFirs
 held_looks c v w o x e = by_count (held_count v) refl
   where
     by_count : (n : ℕ) → held_count v ≡ n → OnlyLooks v w o
-    by_count zero is = tried_looks v w o x (e.0 is).1
+    by_count zero is = tried_looks v w o x (e.0 is).2
     by_count (suc n) is = tried_looks v w o x (e.1 (omega arith)).2
 
 -- nothing was told after an enter
 pub quiet_enter : (c : ℕ) (u v w : View) (o : ObjectId) (done : Unit {0}) → EntersFirst c u v o (Ok done) → Lengthens v w [] → EntersFirst c u w o (Ok done)
 quiet_enter c u v w o done e f = (
-  λ none. (let b = e.0 none in (b.0, (b.1.0, b.1.1, after_both u v w _ [] b.1.2 f))),
+  λ none. (let b = e.0 none in ((let fits = b.0 in let r = f.trimmed in omega arith), b.1, (b.2.0, b.2.1, after_both u v w _ [] b.2.2 f))),
   λ some. (let b = e.1 some in (b.0, b.1, (b.2.0, b.2.1, after_both u v w _ [] b.2.2 f))),
 )
 

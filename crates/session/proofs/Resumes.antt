@@ -10,7 +10,8 @@ use Rattle.session.specs.declared.waiting.Waiting.{Waiting}
 use Rattle.session.specs.declared.error.Still.{Still}
 use Rattle.session.specs.declared.error.Still.TheVariants as still
 use Rattle.steps.specs.Views.{Lengthens}
-use Rattle.session.specs.Calls.{SeesAnother, SeesLast, Resumes, WaitsOn, MissesResume}
+use Rattle.session.specs.Calls.{SeesAnother, SeesLast, Resumes, WaitsOn}
+use Rattle.session.specs.Steps.{MissesResume}
 use Rattle.session.specs.Sessions.{view_of, view_waiting}
 use Rattle.session.proofs.Lengthening.{after_quiet, after_both}
 use Rattle.session.proofs.Trying.{sees_change}

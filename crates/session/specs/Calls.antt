@@ -1,5 +1,6 @@
--- What the calls of a session answer.
-use Rattle.std.specs.Prelude.{ℕ, ◌≡◌, ◌≢◌, ◌+◌, ◌<◌, ◌≤◌, ◌^◌, ◌⊎◌, List, [], ◌∷◌, ◌++◌, Some, None, Result, Ok, Err}
+-- What the calls of a session answer: `v` is the view before a call, and `w` the view after it.
+use Rattle.std.specs.Prelude.{ℕ, ◌≡◌, ◌≢◌, ◌+◌, ◌<◌, ◌≤◌, ◌⊎◌, List, [], ◌∷◌, ◌++◌, Some, None, Result, Ok, Err}
+use Rattle.heap_model.specs.declared.limits.TheConstants.{SECTION_RECORDS}
 use Rattle.heap_model.specs.declared.ids.ObjectId.{ObjectId}
 use Rattle.heap_model.specs.declared.ids.FieldId.{FieldId}
 use Rattle.heap_model.specs.declared.ids.Lane.{Lane}
@@ -16,8 +17,10 @@ use Rattle.session.specs.declared.error.SessionError.{SessionError}
 use Rattle.session.specs.declared.error.SessionError.TheVariants.{Behind, SectionFull, TooMany, TooDeep, NoFat, Worn, Held}
 use Rattle.session.specs.declared.error.Still.{Still}
 use Rattle.session.specs.declared.error.Still.TheVariants as still
+use Rattle.lock_word.specs.declared.lock_word.TheConstants.{FAT_SLOTS}
 use Rattle.lock_word.specs.Spelling.{fat_sight, lane_of_thread}
-use Rattle.steps.specs.Views.{Lengthens, Misses, miss_events, IsAnother}
+use Rattle.steps.specs.Views.{Lengthens, slot_in, miss_events, IsAnother}
+use Rattle.session.specs.declared.limits.TheConstants.{MOST_HELD, THIN_LOCKS, FAT_LOCKS, RING_RECORDS, LAST_PLACE}
 use Rattle.session.specs.Logs.{held_count, place, section_records}
 
 -- nothing is told
@@ -26,11 +29,15 @@ IsQuiet v w = Lengthens v w []
 
 -- the helper is behind, as far as the view knows: so many records with all that were sent pass the ring, or with those since the trimmed place pass the lane
 abbrev pub IsBehind : (capacity needed : ℕ) → View → Type 0
-IsBehind c k w = (4096 < place w + k) ⊎ (w.trimmed + c < place w + k)
+IsBehind c k w = (RING_RECORDS < place w + k) ⊎ (w.trimmed + c < place w + k)
+
+-- so many records more fit the lane, by the trimmed place that the view keeps
+abbrev pub Fits : (capacity more : ℕ) → View → View → Type 0
+Fits c k v w = place v + k ≤ w.trimmed + c
 
 -- so many records, with those of the section and the releases that it needs now, pass 1,000
 abbrev pub IsFull : View → (more : ℕ) → Type 0
-IsFull v k = 1000 < section_records v + held_count v + k
+IsFull v k = SECTION_RECORDS < section_records v + held_count v + k
 
 -- what a word shows
 abbrev pub sight_in : Seen → Sight
@@ -56,26 +63,26 @@ Tries v w o (Err _) = ⊥
 
 -- an enter that would begin a section
 abbrev pub Begins : (capacity : ℕ) → View → View → ObjectId → Result (Unit {0}) SessionError → Type 0
-Begins c v w o (Ok done) = (place v < 2 ^ 62) × Tries v w o (Ok done)
-Begins c v w o (Err Behind) = IsBehind c 1000 w × IsQuiet v w
-Begins c v w o (Err Worn) = ((2 ^ 62 ≤ place v) × IsQuiet v w) ⊎ ((place v < 2 ^ 62) × Tries v w o (Err Worn))
-Begins c v w o (Err (Held x)) = (place v < 2 ^ 62) × Tries v w o (Err (Held x))
+Begins c v w o (Err Behind) = IsBehind c SECTION_RECORDS w × IsQuiet v w
+Begins c v w o (Ok done) = Fits c SECTION_RECORDS v w × (place v < LAST_PLACE) × Tries v w o (Ok done)
+Begins c v w o (Err Worn) = Fits c SECTION_RECORDS v w × (((LAST_PLACE ≤ place v) × IsQuiet v w) ⊎ ((place v < LAST_PLACE) × Tries v w o (Err Worn)))
+Begins c v w o (Err (Held x)) = Fits c SECTION_RECORDS v w × (place v < LAST_PLACE) × Tries v w o (Err (Held x))
 Begins c v w o (Err _) = ⊥
 
 -- an enter inside a section, of a monitor that isn't held
 abbrev pub GoesOn : View → View → ObjectId → Result (Unit {0}) SessionError → Type 0
 GoesOn v w o (Err SectionFull) = IsFull v 2 × IsQuiet v w
-GoesOn v w o (Err TooMany) = (¬ IsFull v 2) × (16 ≤ held_count v) × IsQuiet v w
-GoesOn v w o (Ok done) = (¬ IsFull v 2) × (held_count v < 16) × Tries v w o (Ok done)
-GoesOn v w o (Err Worn) = (¬ IsFull v 2) × (held_count v < 16) × Tries v w o (Err Worn)
-GoesOn v w o (Err (Held x)) = (¬ IsFull v 2) × (held_count v < 16) × Tries v w o (Err (Held x))
+GoesOn v w o (Err TooMany) = (¬ IsFull v 2) × (MOST_HELD ≤ held_count v) × IsQuiet v w
+GoesOn v w o (Ok done) = (¬ IsFull v 2) × (held_count v < MOST_HELD) × Tries v w o (Ok done)
+GoesOn v w o (Err Worn) = (¬ IsFull v 2) × (held_count v < MOST_HELD) × Tries v w o (Err Worn)
+GoesOn v w o (Err (Held x)) = (¬ IsFull v 2) × (held_count v < MOST_HELD) × Tries v w o (Err (Held x))
 GoesOn v w o (Err _) = ⊥
 
 -- an enter of a monitor that is held
 abbrev pub EntersAgain : View → View → ObjectId → Hold → Result (Unit {0}) SessionError → Type 0
-EntersAgain v w o h (Ok done) = (h.count < 65536) × Lengthens v w (NestedEnter o ∷ [])
-EntersAgain v w o h (Err TooDeep) = (h.count ≡ 65536) × IsQuiet v w
-EntersAgain v w o h (Err NoFat) = (h.count ≡ 256) × (1024 ≤ w.slots) × IsQuiet v w
+EntersAgain v w o h (Ok done) = (h.count < FAT_LOCKS) × Lengthens v w (NestedEnter o ∷ [])
+EntersAgain v w o h (Err TooDeep) = (h.count ≡ FAT_LOCKS) × IsQuiet v w
+EntersAgain v w o h (Err NoFat) = (h.count ≡ THIN_LOCKS) × (FAT_SLOTS ≤ w.slots) × IsQuiet v w
 EntersAgain v w o h (Err _) = ⊥
 
 -- a store to a field whose guard is held
@@ -86,31 +93,27 @@ Stores v w f value (Err _) = ⊥
 
 -- a wait whose numbers have come to their end
 abbrev pub IsWaitWorn : View → Hold → Type 0
-IsWaitWorn v h = (v.plan.last ≤ h.number + 1) ⊎ ((held_count v ≡ 1) × (2 ^ 62 ≤ place v + 1))
+IsWaitWorn v h = (v.plan.last ≤ h.number + 1) ⊎ ((held_count v ≡ 1) × (LAST_PLACE ≤ place v + 1))
+
+-- there is room for a wait: in the section where it goes on, or in the lane for the next one
+abbrev pub LeavesRoom : (capacity : ℕ) → View → View → Type 0
+LeavesRoom c v w = (1 < held_count v → ¬ IsFull v 2) × (held_count v ≡ 1 → Fits c (SECTION_RECORDS + 1) v w)
+
+-- the monitor is fat, or a slot was left at the last look
+abbrev pub MayBeFat : View → ObjectId → Type 0
+MayBeFat w o = ((i : ℕ) × (slot_in o.0 w.fats ≡ Some i)) ⊎ (w.slots < FAT_SLOTS)
 
 -- why a wait on a monitor that is held is refused
-abbrev pub RefusesWait : (capacity : ℕ) → View → View → Hold → SessionError → Type 0
-RefusesWait c v w h Behind = (held_count v ≡ 1) × IsBehind c 1001 w × IsQuiet v w
-RefusesWait c v w h SectionFull = (1 < held_count v) × IsFull v 2 × IsQuiet v w
-RefusesWait c v w h NoFat = (1 < held_count v → ¬ IsFull v 2) × (1024 ≤ w.slots) × IsQuiet v w
-RefusesWait c v w h Worn = (1 < held_count v → ¬ IsFull v 2) × IsWaitWorn v h × IsQuiet v w
-RefusesWait c v w h _ = ⊥
+abbrev pub RefusesWait : (capacity : ℕ) → View → View → ObjectId → Hold → SessionError → Type 0
+RefusesWait c v w o h Behind = (held_count v ≡ 1) × IsBehind c (SECTION_RECORDS + 1) w × IsQuiet v w
+RefusesWait c v w o h SectionFull = (1 < held_count v) × IsFull v 2 × IsQuiet v w
+RefusesWait c v w o h NoFat = LeavesRoom c v w × (FAT_SLOTS ≤ w.slots) × IsQuiet v w
+RefusesWait c v w o h Worn = LeavesRoom c v w × MayBeFat w o × IsWaitWorn v h × IsQuiet v w
+RefusesWait c v w o h _ = ⊥
 
 -- a wait that is begun
-abbrev pub BeginsWait : View → View → ObjectId → Hold → Type 0
-BeginsWait v w o h = (1 < held_count v → ¬ IsFull v 2) × (¬ IsWaitWorn v h) × Lengthens v w (Wait o h.number ∷ [])
-
--- why there is no room for a wait
-abbrev pub RefusesRoom : (capacity : ℕ) → View → View → SessionError → Type 0
-RefusesRoom c v w Behind = (held_count v ≡ 1) × IsBehind c 1001 w
-RefusesRoom c v w SectionFull = (1 < held_count v) × IsFull v 2
-RefusesRoom c v w _ = ⊥
-
--- why a wait for which there is room is refused
-abbrev pub RefusesFat : View → View → Hold → SessionError → Type 0
-RefusesFat v w h NoFat = 1024 ≤ w.slots
-RefusesFat v w h Worn = IsWaitWorn v h
-RefusesFat v w h _ = ⊥
+abbrev pub BeginsWait : (capacity : ℕ) → View → View → ObjectId → Hold → Type 0
+BeginsWait c v w o h = LeavesRoom c v w × (¬ IsWaitWorn v h) × Lengthens v w (Wait o h.number ∷ [])
 
 -- a resume that takes the monitor again
 abbrev pub Resumes : View → View → ObjectId → Type 0
@@ -124,11 +127,6 @@ SeesLast v w o x = (n : ℕ) × (v.plan.last ≤ n) × (sight_in x ≡ Found Non
 abbrev pub WaitsOn : View → View → ObjectId → Still → Type 0
 WaitsOn v w o still.InSet = Lengthens v w (Look o StillInSet ∷ [])
 WaitsOn v w o (still.Held x) = (SeesAnother v w o x ⊎ SeesLast v w o x) ⊎ SeesChange v w o x
-
--- a try to resume that missed
-abbrev pub MissesResume : View → View → ObjectId → (number : ℕ) → Still → Type 0
-MissesResume v w o n still.InSet = ⊥
-MissesResume v w o n (still.Held x) = Misses v w o n x
 
 -- each is a look at the object
 abbrev pub AreLooks : ObjectId → List Event → Type 0
@@ -149,5 +147,5 @@ IsSettled (Err (Held x)) = ⊥
 IsSettled _ = Unit {0}
 
 -- a wait that has come back: it was begun, then there were looks, and then the resume
-abbrev pub Waits : View → View → ObjectId → Hold → Type 0
-Waits v w o h = (t : View) × (u : View) × BeginsWait v t o h × OnlyLooks t u o × Resumes u w o
+abbrev pub Waits : (capacity : ℕ) → View → View → ObjectId → Hold → Type 0
+Waits c v w o h = (t : View) × (u : View) × BeginsWait c v t o h × OnlyLooks t u o × Resumes u w o

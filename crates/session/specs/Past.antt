@@ -1,18 +1,21 @@
--- What all records of a lane so far kept to: the limits by which a store takes them one by one.
-use Rattle.std.specs.Prelude.{ℕ, ◌≡◌, ◌+◌, ◌<◌, ◌≤◌, ◌^◌, List, [], ◌∷◌, length}
+-- Where the sections of a lane began.
+use Rattle.std.specs.Prelude.{ℕ, ◌≡◌, ◌+◌, ◌<◌, ◌≤◌, List, [], ◌∷◌, length}
 use Rattle.std.specs.Coded.{×_prop, →_prop, Unit-prop, le_prop}
-use Rattle.heap_model.specs.Sections.{Action, holding, open_section}
+use Rattle.heap_model.specs.declared.limits.TheConstants.{SECTION_RECORDS}
+use Rattle.heap_model.specs.Sections.{Action, holding}
+use Rattle.heap_model.specs.Limits.{IsWithinLimits}
+use Rattle.session.specs.declared.limits.TheConstants.{LAST_PLACE}
 
--- the record leaves room for the releases that are then still needed; and where it begins a section, that has room below the bound, at a place that isn't the last
-abbrev pub Kept : (bound : ℕ) → Action → List Action → Type 0
-Kept bound a older = (length (open_section older) + 1 + length (holding (a ∷ older)) ≤ 1000)
-    × (length (holding older) ≡ 0 → (length older + 1000 ≤ bound) × (length older < 2 ^ 62))
+-- each section began where a whole one fits below the bound, and no section begins at the last place
+abbrev pub BeganBelow : (bound : ℕ) → List Action → Type 0
+BeganBelow bound [] = Unit {0}
+BeganBelow bound (a ∷ older) = BeganBelow bound older × (length (holding older) ≡ 0 → (length older + SECTION_RECORDS ≤ bound) × (length older < LAST_PLACE))
 
--- each record did, the newest first
-abbrev pub WasWithin : (bound : ℕ) → List Action → Type 0
-WasWithin bound [] = Unit {0}
-WasWithin bound (a ∷ older) = Kept bound a older × WasWithin bound older
+-- these facts have one proof each
+pub IsWithinLimits-prop : (actions : List Action) → IsProp (IsWithinLimits actions)
+IsWithinLimits-prop [] = Unit-prop
+IsWithinLimits-prop (a ∷ older) = ×_prop (IsWithinLimits-prop older) le_prop
 
-pub WasWithin-prop : (bound : ℕ) (actions : List Action) → IsProp (WasWithin bound actions)
-WasWithin-prop bound [] = Unit-prop
-WasWithin-prop bound (a ∷ older) = ×_prop (×_prop le_prop (→_prop (×_prop le_prop le_prop))) (WasWithin-prop bound older)
+pub BeganBelow-prop : (bound : ℕ) (actions : List Action) → IsProp (BeganBelow bound actions)
+BeganBelow-prop bound [] = Unit-prop
+BeganBelow-prop bound (a ∷ older) = ×_prop (BeganBelow-prop bound older) (→_prop (×_prop le_prop le_prop))

@@ -1,21 +1,47 @@
--- What a contract sees of a session, and of one that waits.
-use Rattle.std.specs.Prelude.{ℕ, ◌≡◌, ◌+◌, ◌<◌, ◌≤◌, Some, length}
-use Rattle.rtrb.specs.Ring.{known_free, SameProducer}
+-- What a contract sees of a session, of one that waits, and of one that has ended.
+use Rattle.std.specs.Prelude.{ℕ, ◌≡◌, List}
+use Rattle.std.specs.Global.{Global}
+use Rattle.rtrb.specs.declared.AnyItems.{AnyItems}
+use Rattle.rtrb.specs.declared.producer.Producer.{Producer}
+use Rattle.rtrb.specs.Ring.{SameProducer}
 use Rattle.heap_model.specs.declared.ids.ObjectId.{ObjectId}
-use Rattle.heap_model.specs.Own.{Hold}
-use Rattle.steps.specs.Views.{View}
-use Rattle.steps.specs.declared.grip.Grip.{Grip}
+use Rattle.heap_model.specs.declared.event.Event.{Event}
+use Rattle.heap_model.specs.declared.record.Record.{Record}
+use Rattle.monitor.specs.Seats.{Home, Sitting}
+use Rattle.steps.specs.Views.{View, view, IsSeatOf, Lengthens}
 use Rattle.session.specs.declared.session.Session.{Session}
 use Rattle.session.specs.declared.waiting.Waiting.{Waiting}
-use Rattle.steps.specs.Views.{view}
-use Rattle.session.specs.Sits.{Finds}
-use Rattle.session.specs.Calls.{IsWaitWorn}
+use Rattle.session.specs.declared.ended.Ended.{Ended}
 
+-- what the session's seat knows: its view
 abbrev pub view_of : Session → View
 view_of s = view s.seat
 
 abbrev pub view_waiting : Waiting → View
 view_waiting w = view w.seat
+
+-- its seat
+abbrev pub seat_of : Session → Sitting
+seat_of s = s.seat
+
+-- how many records its lane holds
+abbrev pub capacity_of : Session → ℕ
+capacity_of s = s.capacity
+
+-- its end of the ring to the helper
+abbrev pub ring_of : Session → Producer Record Global AnyItems
+ring_of s = s.ring
+
+-- the object that it waits for
+abbrev pub awaited : Waiting → ObjectId
+awaited w = w.object
+
+-- the session is of this heap
+abbrev pub IsSessionOf : Home → Session → Type 0
+IsSessionOf h s = IsSeatOf h s.seat
+
+abbrev pub IsWaitingOf : Home → Waiting → Type 0
+IsWaitingOf h w = IsSeatOf h w.seat
 
 -- the same ring, and the same lane
 abbrev pub SameRing : Session → Session → Type 0
@@ -30,25 +56,19 @@ SameRingResumed w s = SameProducer w.ring s.ring × (s.capacity ≡ w.capacity)
 abbrev pub SameRingStill : Waiting → Waiting → Type 0
 SameRingStill w x = SameProducer w.ring x.ring × (x.capacity ≡ w.capacity)
 
--- nothing was pushed or counted
-pub record SameNumbers (s t : Session) : Type 0 where
-  pub ring : t.ring ≡ s.ring
-  pub records : t.records ≡ s.records
-  pub place : t.place ≡ s.place
-  pub capacity : t.capacity ≡ s.capacity
-  pub trimmed : t.trimmed ≡ s.trimmed
-  pub held : length t.held.items ≡ length s.held.items
+-- the session has ended with its seat and its end of the ring as they were
+pub record Ends (s : Session) (e : Ended) : Type 0 where
+  pub seat : e.seat ≡ s.seat
+  pub ring : e.ring ≡ s.ring
+  pub capacity : e.capacity ≡ s.capacity
 
--- there is room for a wait, for the acquire after it and its release; and for a section where the wait ends one
-pub record HasRoomToWait (s : Session) : Type 0 where
-  pub ring : length s.held.items ≡ 1 → 1001 ≤ known_free s.ring
-  pub lane : length s.held.items ≡ 1 → s.place + 1001 ≤ s.trimmed + s.capacity
-  pub short : 1 < length s.held.items → s.records + length s.held.items + 2 ≤ 1000
+-- the session goes on from where it was: it is of the same lane and ring, and has more events
+pub record GoesOnFrom (s t : Session) : Type 0 where
+  pub ring : SameRing s t
+  pub told : (newer : List Event) × Lengthens (view_of s) (view_of t) newer
 
--- the session may wait on this object, which is fat
-pub record MayWait (s : Session) (o : ObjectId) (h : Hold) (g : Grip) : Type 0 where
-  pub found : Finds (view_of s) s.held.items o g
-  pub number : g.number ≡ h.number
-  pub fat : (i : ℕ) × (g.slot ≡ Some i)
-  pub room : HasRoomToWait s
-  pub fresh : ¬ IsWaitWorn (view_of s) h
+-- the ended session has this seat, this end of the ring, and this capacity
+pub record IsMadeOf (e : Ended) (s : Sitting) (p : Producer Record Global AnyItems) (c : ℕ) : Type 0 where
+  pub seat : s ≡ e.seat
+  pub ring : p ≡ e.ring
+  pub capacity : c ≡ e.capacity

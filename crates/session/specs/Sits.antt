@@ -1,11 +1,13 @@
 -- What a session keeps beside its seat's view.
-use Rattle.std.specs.Prelude.{ℕ, ◌≡◌, ◌+◌, ◌<◌, ◌≤◌, ◌^◌, List, length, Some, None, true}
+use Rattle.std.specs.Prelude.{ℕ, ◌≡◌, ◌+◌, ◌<◌, ◌≤◌, List, length, Some, None, true}
+use Rattle.heap_model.specs.declared.limits.TheConstants.{SECTION_RECORDS}
 use Rattle.heap_model.specs.declared.ids.ObjectId.{ObjectId}
 use Rattle.heap_model.specs.declared.record.Record.{Record}
-use Rattle.steps.specs.Views.{View}
+use Rattle.heap_model.specs.Limits.{IsWithinLimits}
 use Rattle.steps.specs.declared.grip.Grip.{Grip}
-use Rattle.steps.specs.Views.{hold, Keeps, IsAwake, IsClear}
-use Rattle.session.specs.Past.{WasWithin}
+use Rattle.steps.specs.Views.{View, hold, Keeps, IsAwake, IsClear}
+use Rattle.session.specs.declared.limits.TheConstants.{MOST_HELD, LEAST_CAPACITY, MOST_CAPACITY, LAST_PLACE}
+use Rattle.session.specs.Past.{BeganBelow}
 use Rattle.session.specs.Grips.{grip_in, objects_of, are_apart}
 use Rattle.session.specs.Logs.{sent_in, actions_in, held_objects, place, section_records, sections_ended}
 
@@ -16,7 +18,8 @@ pub record Holds (v : View) (held : List Grip) : Type 0 where
   pub listed : objects_of held ≡ held_objects v
   pub apart : are_apart (objects_of held) ≡ true
 
--- What was sent is the log of the thread's own events, and these are its numbers.
+-- What was sent is the log of the thread's own events, and these are its numbers: the records of the open section, all
+-- records, and the sections that have ended.
 pub record IsTold (v : View) (pushed : List Record) (r p k : ℕ) : Type 0 where
   pub sent : pushed ≡ sent_in v
   pub records : r ≡ section_records v
@@ -26,38 +29,35 @@ pub record IsTold (v : View) (pushed : List Record) (r p k : ℕ) : Type 0 where
 -- The numbers are within the limits.
 pub record IsWithin (held records places sections c : ℕ) : Type 0 where
   -- the open section with the releases that it needs
-  pub short : records + held ≤ 1000
-  pub few : held ≤ 16
+  pub short : records + held ≤ SECTION_RECORDS
+  pub few : held ≤ MOST_HELD
   pub closed : held ≡ 0 → records ≡ 0
-  pub low : places < 2 ^ 62 + 1001
+  pub low : places < LAST_PLACE + SECTION_RECORDS + 1
   pub ended : sections ≤ places
-  pub capacity : (2000 ≤ c) × (c ≤ 1048576)
+  pub capacity : (LEAST_CAPACITY ≤ c) × (c ≤ MOST_CAPACITY)
 
 -- There is room for the rest of an open section: in the lane, in the ring and among the places.
 pub record HasRoom (records places capacity trimmed free : ℕ) : Type 0 where
-  pub lane : places + 1000 ≤ trimmed + capacity + records
-  pub ring : 1000 ≤ free + records
-  pub low : places < 2 ^ 62 + records
+  pub lane : places + SECTION_RECORDS ≤ trimmed + capacity + records
+  pub ring : SECTION_RECORDS ≤ free + records
+  pub low : places < LAST_PLACE + records
 
--- All that a session keeps of its seat's view: its grips, what it pushed, how many slots it knows to be free, the records of its section, its place, the sections that have ended,
--- the lane's capacity and the trimmed place that it read last.
-pub record Sits (v : View) (gs : List Grip) (pushed : List Record) (free r p k c t : ℕ) : Type 0 where
-  pub holds : Holds v gs
-  pub told : IsTold v pushed r p k
-  pub within : IsWithin (length gs) r p k c
-  pub room : 0 < length gs → HasRoom r p c t free
-  pub idle : IsAwake v × IsClear v
-  pub known : t ≤ v.trimmed
-  pub past : WasWithin (t + c) (actions_in v)
-
--- The same, whether it waits or not.
+-- What a session keeps, whether it waits or not: its grips, what it pushed, how many slots of the ring it knows to be free,
+-- the records of its open section, its place, the sections that have ended, the lane's capacity, and the trimmed place that
+-- it read last.
 pub record Stays (v : View) (gs : List Grip) (pushed : List Record) (free r p k c t : ℕ) : Type 0 where
   pub holds : Holds v gs
   pub told : IsTold v pushed r p k
   pub within : IsWithin (length gs) r p k c
   pub room : 0 < length gs → HasRoom r p c t free
   pub known : t ≤ v.trimmed
-  pub past : WasWithin (t + c) (actions_in v)
+  pub limits : IsWithinLimits (actions_in v)
+  pub began : BeganBelow (t + c) (actions_in v)
+
+-- What it keeps while it doesn't wait.
+pub record Sits (v : View) (gs : List Grip) (pushed : List Record) (free r p k c t : ℕ) : Type 0 where
+  pub stays : Stays v gs pushed free r p k c t
+  pub idle : IsAwake v × IsClear v
 
 -- The session has this grip on the object.
 pub record Finds (v : View) (gs : List Grip) (o : ObjectId) (g : Grip) : Type 0 where

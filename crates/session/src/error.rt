@@ -1,37 +1,50 @@
 //! Why a session refuses a call.
 
 use steps::Seen;
+use thiserror::Error;
 
-/// Why a call is refused. The reasons are tried in this order.
-#[derive(Clone, Copy, Debug, PartialEq, Eq)]
+/// Why a call is refused. The reasons are tried in this order, as far as a call has them. A refused call leaves what is held,
+/// what was sent and the shared words as they were, but for a monitor that may have become fat; what it looked at it was told.
+#[derive(Clone, Copy, Debug, Drop, Error, PartialEq, Eq)]
 pub enum SessionError {
     /// There is no such object.
+    #[error("unknown")]
     UnknownObject,
     /// There is no such field.
+    #[error("unknown")]
     UnknownField,
-    /// The session doesn't hold the monitor.
+    /// The session doesn't hold the monitor, or that of the field's guard.
+    #[error("not held")]
     NotHeld,
-    /// The helper is behind: the ring or the lane has no room for another section.
+    /// The helper is behind: the ring or the lane, from where it was trimmed, lacks room for a whole section.
+    #[error("behind")]
     Behind,
-    /// The section would have more than 1,000 records.
+    /// The section, with the releases that it still needs, would have more than
+    /// [`SECTION_RECORDS`](heap_model::SECTION_RECORDS) records.
+    #[error("section full")]
     SectionFull,
-    /// The session holds as many monitors as it can.
+    /// The session holds [`MOST_HELD`](crate::MOST_HELD) monitors already.
+    #[error("too many")]
     TooMany,
-    /// The monitor is locked as often as it can be.
+    /// The session holds the monitor by [`FAT_LOCKS`](crate::FAT_LOCKS) locks already.
+    #[error("too deep")]
     TooDeep,
-    /// No fat slot is left.
+    /// The monitor would have to become fat, and all [`FAT_SLOTS`](lock_word::FAT_SLOTS) slots are taken.
+    #[error("no fat slot")]
     NoFat,
-    /// Numbers or places have come to their end.
+    /// Release numbers or places have come to their end.
+    #[error("worn")]
     Worn,
-    /// The monitor wasn't free, and this is its word.
+    /// Another thread has the monitor, or had it between the look and the try. This is the word that was found.
+    #[error("held")]
     Held(Seen),
 }
 
-/// Why a waiting thread waits on.
+/// Why a thread waits on.
 #[derive(Clone, Copy, Debug, PartialEq, Eq)]
 pub enum Still {
-    /// It is still in the wait set.
+    /// Nobody has taken it out of the wait set.
     InSet,
-    /// It was removed from the wait set, but the monitor wasn't free, or has the last number. This is its word.
+    /// It is out of the wait set, but the monitor wasn't free, or has the last number. This is its word.
     Held(Seen),
 }

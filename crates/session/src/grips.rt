@@ -3,12 +3,11 @@
 ghost use Rattle.std.specs.Prelude.{◌≡◌, ◌+◌, ◌<◌, ◌^◌, ◌==◌, if◌then◌else◌};
 ghost use Rattle.session.specs.Grips.{grip_in, place_in, with_grip, without_grip};
 
+use crate::limits::MOST_HELD;
+use crate::session::Session;
 use arrayvec::ArrayVec;
 use heap_model::ObjectId;
 use steps::Grip;
-
-/// How many monitors a session holds at most.
-pub const HELD: usize = 16;
 
 // The place of the grip on the object, or the length.
 fn place_of(held: &[Grip], object: ObjectId) -> usize
@@ -35,9 +34,9 @@ pub fn grip_for(held: &[Grip], object: ObjectId) -> Option<Grip>
     }
 }
 
-#[tactic(auto, using(crate::proofs::GripLists::place_set, crate::proofs::GripLists::place_absent))]
 /// Puts the grip in the place of the one on its object.
-pub fn put(held: &mut ArrayVec<Grip, HELD>, grip: Grip)
+#[tactic(auto, using(crate::proofs::GripLists::place_set, crate::proofs::GripLists::place_absent))]
+pub fn put(held: &mut ArrayVec<Grip, MOST_HELD>, grip: Grip)
     ensures { held.new.items ≡ with_grip grip held.old.items }
 {
     let place = place_of(held.as_slice(), grip.object);
@@ -46,9 +45,9 @@ pub fn put(held: &mut ArrayVec<Grip, HELD>, grip: Grip)
     }
 }
 
-#[tactic(auto, using(crate::proofs::GripLists::place_remove, crate::proofs::GripLists::without_absent))]
 /// Takes the grip on the object out, if there is one.
-pub fn take_out(held: &mut ArrayVec<Grip, HELD>, object: ObjectId)
+#[tactic(auto, using(crate::proofs::GripLists::place_remove, crate::proofs::GripLists::without_absent))]
+pub fn take_out(held: &mut ArrayVec<Grip, MOST_HELD>, object: ObjectId)
     ensures { held.new.items ≡ without_grip object.0 held.old.items }
 {
     let place = place_of(held.as_slice(), object);
@@ -67,5 +66,20 @@ pub fn after_release(left: usize, records: u64, sections: u64) -> (u64, u64)
         (0, sections + 1)
     } else {
         (records + 1, sections)
+    }
+}
+
+impl Session {
+    ghost use Rattle.std.specs.Prelude.{MatchOption};
+    ghost use Rattle.session.specs.Sits.{Finds, FindsNone};
+    ghost use Rattle.session.specs.Sessions.{view_of};
+
+    // The grip on the object, if there is one.
+    pub(crate) fn grip_on(&self, object: ObjectId) -> Option<Grip>
+        ensures { MatchOption result
+            (FindsNone (view_of self.now) self.now.held.items object)
+            (Finds (view_of self.now) self.now.held.items object) }
+    {
+        grip_for(self.held.as_slice(), object)
     }
 }

@@ -1,4 +1,4 @@
-//! How a session that waits goes on.
+//! How a wait ends (JLS 17.2.1).
 
 use crate::error::Still;
 use crate::session::Session;
@@ -13,17 +13,19 @@ impl Waiting {
     ghost use Rattle.heap_model.specs.declared.event.Event.TheVariants as event;
     ghost use Rattle.heap_model.specs.declared.event.Sight.TheVariants.{Found, StillInSet};
     ghost use Rattle.session.specs.declared.error.Still.TheVariants as still;
-    ghost use Rattle.steps.specs.Views.{plan, view, IsSeatOf, Lengthens, Misses};
-    ghost use Rattle.session.specs.Calls.{IsQuiet, Resumes, SeesAnother, SeesLast, WaitsOn, MissesResume};
-    ghost use Rattle.session.specs.Sessions.{SameRingResumed, SameRingStill, view_of, view_waiting};
+    ghost use Rattle.steps.specs.Views.{plan, Lengthens};
+    ghost use Rattle.session.specs.Calls.{IsQuiet, Resumes, SeesAnother, SeesLast, WaitsOn};
+    ghost use Rattle.session.specs.Steps.{MissesResume};
+    ghost use Rattle.session.specs.Sessions.{SameRingResumed, SameRingStill, IsSessionOf, IsWaitingOf, view_of, view_waiting, awaited};
 
-    /// Takes the monitor again, if the thread was removed from its wait set and the monitor is free. It looks once and tries once.
+    /// Takes the monitor again, by as many locks as before, if the thread was removed from its wait set and the monitor is
+    /// free (JLS 17.2.1). It looks once, and tries once. Otherwise the thread waits on, and is told why.
     pub fn try_resume(self, shared: &Shared) -> Result<Session, (Waiting, Still)>
-        requires seat { IsSeatOf shared.now self.seat }
-        ensures seat { MatchResult result (λ session. IsSeatOf shared.now session.seat) (λ e. IsSeatOf shared.now e.0.seat) }
+        requires seat { IsWaitingOf shared.now self }
+        ensures seat { MatchResult result (IsSessionOf shared.now) (λ e. IsWaitingOf shared.now e.0) }
         ensures ring { MatchResult result (SameRingResumed self) (λ e. SameRingStill self e.0) }
-        ensures resumes { MatchResult result (λ session. Resumes (view_waiting self) (view_of session) self.object) (λ e. WaitsOn (view_waiting self) (view_waiting e.0) self.object e.1) }
-        ensures object { IfErr result (λ e. e.0.object ≡ self.object) }
+        ensures resumes { MatchResult result (λ session. Resumes (view_waiting self) (view_of session) (awaited self)) (λ e. WaitsOn (view_waiting self) (view_waiting e.0) (awaited self) e.1) }
+        ensures object { IfErr result (λ e. awaited e.0 ≡ awaited self) }
     {
         let mut waiting = self;
         if waiting.is_in_set(shared) {
@@ -37,12 +39,12 @@ impl Waiting {
 
     // Whether the thread is still in the wait set.
     fn is_in_set(&mut self, shared: &Shared) -> bool
-        requires seat { IsSeatOf shared.now self.old.seat }
-        ensures seat { IsSeatOf shared.now self.new.seat }
+        requires seat { IsWaitingOf shared.now self.old }
+        ensures seat { IsWaitingOf shared.now self.new }
         ensures ring { SameRingStill self.old self.new }
-        ensures object { self.new.object ≡ self.old.object }
+        ensures object { awaited self.new ≡ awaited self.old }
         ensures told { MatchBool result
-            (Lengthens (view_waiting self.old) (view_waiting self.new) (event.Look self.old.object StillInSet ∷ []))
+            (Lengthens (view_waiting self.old) (view_waiting self.new) (event.Look (awaited self.old) StillInSet ∷ []))
             (IsQuiet (view_waiting self.old) (view_waiting self.new) × (self.new.removed ≡ true)) }
     {
         if self.removed {
@@ -57,15 +59,15 @@ impl Waiting {
 
     // The number of the monitor, if a look shows it free and not worn.
     fn look(&mut self, shared: &Shared) -> Result<u64, Seen>
-        requires seat { IsSeatOf shared.now self.old.seat }
+        requires seat { IsWaitingOf shared.now self.old }
         requires removed { self.old.removed ≡ true }
-        ensures seat { IsSeatOf shared.now self.new.seat }
+        ensures seat { IsWaitingOf shared.now self.new }
         ensures ring { SameRingStill self.old self.new }
-        ensures object { self.new.object ≡ self.old.object }
+        ensures object { awaited self.new ≡ awaited self.old }
         ensures removed { self.new.removed ≡ true }
         ensures told { MatchResult result
-            (λ n. (n < (plan shared.now).last) × Lengthens (view_waiting self.old) (view_waiting self.new) (event.Look self.old.object (Found None 0 n) ∷ []))
-            (λ x. SeesAnother (view_waiting self.old) (view_waiting self.new) self.old.object x ⊎ SeesLast (view_waiting self.old) (view_waiting self.new) self.old.object x) }
+            (λ n. (n < (plan shared.now).last) × Lengthens (view_waiting self.old) (view_waiting self.new) (event.Look (awaited self.old) (Found None 0 n) ∷ []))
+            (λ x. SeesAnother (view_waiting self.old) (view_waiting self.new) (awaited self.old) x ⊎ SeesLast (view_waiting self.old) (view_waiting self.new) (awaited self.old) x) }
     {
         let found = steps::look(shared, &mut self.seat, self.object);
         let Some(free) = free_at(&found) else {
@@ -79,15 +81,15 @@ impl Waiting {
 
     // Takes the monitor again, if it is still free at this number.
     fn retake(self, shared: &Shared, number: u64) -> Result<Session, (Waiting, Still)>
-        requires seat { IsSeatOf shared.now self.seat }
+        requires seat { IsWaitingOf shared.now self }
         requires removed { self.removed ≡ true }
         requires number { number < (plan shared.now).last }
-        ensures seat { MatchResult result (λ session. IsSeatOf shared.now session.seat) (λ e. IsSeatOf shared.now e.0.seat) }
+        ensures seat { MatchResult result (IsSessionOf shared.now) (λ e. IsWaitingOf shared.now e.0) }
         ensures ring { MatchResult result (SameRingResumed self) (λ e. SameRingStill self e.0) }
-        ensures object { IfErr result (λ e. e.0.object ≡ self.object) }
+        ensures object { IfErr result (λ e. awaited e.0 ≡ awaited self) }
         ensures told { MatchResult result
-            (λ session. Lengthens (view_waiting self) (view_of session) (event.Resume self.object number ∷ []))
-            (λ e. MissesResume (view_waiting self) (view_waiting e.0) self.object number e.1) }
+            (λ session. Lengthens (view_waiting self) (view_of session) (event.Resume (awaited self) number ∷ []))
+            (λ e. MissesResume (view_waiting self) (view_waiting e.0) (awaited self) number e.1) }
     {
         let Waiting {
             mut seat,

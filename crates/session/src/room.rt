@@ -9,12 +9,6 @@ use monitor::{Seat, Shared};
 use rtrb::Producer;
 use std::alloc::Global;
 
-/// How many records a section has at most, with the releases that it still needs.
-pub const SECTION_RECORDS: u64 = 1000;
-
-/// No section begins at this place or later.
-pub const LAST_PLACE: u64 = 1 << 62;
-
 /// Whether so many slots of the ring are known to be free.
 pub fn ring_has_room(ring: &mut Producer<Record, Global>, needed: usize) -> bool
     ensures looked { ProducerLooked ring.old ring.new }
