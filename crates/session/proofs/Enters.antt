@@ -1,0 +1,49 @@
+-- The cases of an enter.
+use Rattle.std.proofs.Common.{ℕ, ◌+◌, ◌<◌, ◌≤◌, inl, inr, Result, Ok, Err, sym, ap, ◌∙◌, arith}
+use Rattle.heap_model.specs.declared.ids.ObjectId.{ObjectId}
+use Rattle.steps.specs.Views.{View}
+use Rattle.session.specs.declared.error.SessionError.{SessionError}
+use Rattle.session.specs.declared.error.SessionError.TheVariants.{UnknownObject, UnknownField, NotHeld, Behind, SectionFull, TooMany, TooDeep, NoFat, Worn, Held}
+use Rattle.heap_model.specs.declared.limits.TheConstants.{SECTION_RECORDS}
+use Rattle.session.specs.declared.limits.TheConstants.{MOST_HELD, LAST_PLACE}
+use Rattle.session.specs.Logs.{held_count, place}
+use Rattle.session.specs.Calls.{IsQuiet, IsFull, Tries, Begins, GoesOn}
+use Rattle.session.proofs.Lengthening.{after_quiet}
+
+-- inside a section, with room
+pub went_on : (v w : View) (o : ObjectId) (x : Result (Unit {0}) SessionError) → (IsFull v 2 → ⊥) → held_count v < MOST_HELD → Tries v w o x → GoesOn v w o x
+went_on v w o (Ok done) a b t = (a, b, t)
+went_on v w o (Err Worn) a b t = (a, b, t)
+went_on v w o (Err (Held x)) a b t = (a, b, t)
+went_on v w o (Err UnknownObject) a b t = absurd t
+went_on v w o (Err UnknownField) a b t = absurd t
+went_on v w o (Err NotHeld) a b t = absurd t
+went_on v w o (Err Behind) a b t = absurd t
+went_on v w o (Err SectionFull) a b t = absurd t
+went_on v w o (Err TooMany) a b t = absurd t
+went_on v w o (Err TooDeep) a b t = absurd t
+went_on v w o (Err NoFat) a b t = absurd t
+
+-- where a section begins, with room below the trimmed place that was read
+pub began : (c : ℕ) (v u w : View) (o : ObjectId) (x : Result (Unit {0}) SessionError) → IsQuiet v u → place v + SECTION_RECORDS ≤ u.trimmed + c → place v < LAST_PLACE → Tries u w o x → Begins c v w o x
+began c v u w o (Ok done) q fits low t = ((let r = t.2.trimmed in omega arith), low, (t.0, later t.0 t.1, after_quiet v u w _ q t.2))
+  where
+    later : (n : ℕ) → n < u.plan.last → n < v.plan.last
+    later n lt = (let e = ap (λ k. k.last) q.plan in omega arith)
+began c v u w o (Err Worn) q fits low t = ((let r = t.2.trimmed in omega arith), inr (low, (t.0, later t.0 t.1, after_quiet v u w _ q t.2)))
+  where
+    later : (n : ℕ) → u.plan.last ≤ n → v.plan.last ≤ n
+    later n le = (let e = ap (λ k. k.last) q.plan in omega arith)
+began c v u w o (Err (Held x)) q fits low (inl a) = ((let r = a.5.trimmed in omega arith), low, inl (a.0, a.1, a.2, (λ e. a.3 (e ∙ sym q.lane)), a.4, after_quiet v u w _ q a.5))
+began c v u w o (Err (Held x)) q fits low (inr a) = ((let r = a.3.trimmed in omega arith), low, inr (a.0, later a.0 a.1, a.2, after_quiet v u w _ q a.3))
+  where
+    later : (n : ℕ) → n < u.plan.last → n < v.plan.last
+    later n lt = (let e = ap (λ k. k.last) q.plan in omega arith)
+began c v u w o (Err UnknownObject) q fits low t = absurd t
+began c v u w o (Err UnknownField) q fits low t = absurd t
+began c v u w o (Err NotHeld) q fits low t = absurd t
+began c v u w o (Err Behind) q fits low t = absurd t
+began c v u w o (Err SectionFull) q fits low t = absurd t
+began c v u w o (Err TooMany) q fits low t = absurd t
+began c v u w o (Err TooDeep) q fits low t = absurd t
+began c v u w o (Err NoFat) q fits low t = absurd t

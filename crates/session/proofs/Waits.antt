@@ -1,0 +1,84 @@
+-- What sessions know of a wait.
+use Rattle.std.proofs.Common.{ℕ, ◌≡◌, ◌+◌, ◌<◌, ◌≤◌, inl, inr, [], ◌∷◌, Result, Ok, Err, MatchResult, sym, ap, ◌∙◌, subst, arith}
+use Rattle.heap_model.specs.declared.limits.TheConstants.{SECTION_RECORDS}
+use Rattle.rtrb.specs.Ring.{known_free}
+use Rattle.heap_model.specs.declared.ids.ObjectId.{ObjectId}
+use Rattle.heap_model.specs.declared.event.Event.TheVariants.{Wait}
+use Rattle.heap_model.specs.Own.{Hold}
+use Rattle.steps.specs.Views.{View}
+use Rattle.steps.specs.declared.grip.Grip.{Grip}
+use Rattle.session.specs.declared.session.Session.{Session}
+use Rattle.session.specs.declared.waiting.Waiting.{Waiting}
+use Rattle.session.specs.declared.error.SessionError.{SessionError}
+use Rattle.session.specs.declared.error.SessionError.TheVariants.{UnknownObject, UnknownField, NotHeld, Behind, SectionFull, TooMany, TooDeep, NoFat, Worn, Held}
+use Rattle.steps.specs.Views.{Lengthens}
+use Rattle.session.specs.Logs.{held_count}
+use Rattle.session.specs.Calls.{IsFull, IsWaitWorn, LeavesRoom, RefusesWait, BeginsWait}
+use Rattle.session.specs.Steps.{RefusesFat}
+use Rattle.session.specs.Sessions.{SameRing, SameRingStill, view_of}
+use Rattle.session.specs.Keeping.{SameNumbers, HasRoomToWait, MayWait}
+use Rattle.session.proofs.Holding.{held_length}
+use Rattle.session.proofs.Lengthening.{after_quiet, held_stays, records_stay, place_stays}
+use Rattle.session.proofs.Sitting.{not_full_by}
+
+-- the room stays where nothing was pushed
+pub room_again : (s t : Session) → SameNumbers s t → HasRoomToWait s → HasRoomToWait t
+room_again s t same room = record {
+  ring = λ one. subst (λ ring. SECTION_RECORDS + 1 ≤ known_free ring) (sym same.ring) (room.ring (sym same.held ∙ one));
+  lane = λ one. (let a = room.lane (sym same.held ∙ one) in let b = same.place in let c = same.trimmed in let d = same.capacity in omega arith);
+  short = λ several. (let n = same.held in let a = room.short (omega arith) in let b = same.records in omega arith);
+}
+
+-- the same events
+full_again : (v w : View) (more : ℕ) → Lengthens v w [] → IsFull v more → IsFull w more
+full_again v w more told full = (let a = records_stay v w told in let b = held_stays v w told in omega arith)
+
+worn_again : (v w : View) (h : Hold) → Lengthens v w [] → IsWaitWorn v h → IsWaitWorn w h
+worn_again v w h told (inl a) = inl (let e = ap (λ k. k.last) told.plan in omega arith)
+worn_again v w h told (inr a) = inr (held_stays v w told ∙ a.0, (let e = place_stays v w told in let b = a.1 in omega arith))
+
+-- a section isn't full where there is room for a wait
+room_for_wait : (s : Session) → HasRoomToWait s → 1 < held_count (view_of s) → IsFull (view_of s) 2 → ⊥
+room_for_wait s room several = not_full_by _ _ _ _ _ _ _ _ _ 2 s.sits (let n = held_length _ _ s.sits.stays.holds in room.short (omega arith))
+
+-- there is room for the wait, as an earlier view and a later one have it
+leaves_room : (v : View) (t : Session) (u : View) (c : ℕ) → Lengthens v (view_of t) [] → (view_of t).trimmed ≤ u.trimmed → t.capacity ≡ c → HasRoomToWait t → LeavesRoom c v u
+leaves_room v t u c f rises same room = (
+  λ several full. room_for_wait t room (subst (λ (n : ℕ). 1 < n) (sym (held_stays _ _ f)) several) (full_again _ _ 2 f full),
+  λ one. (let n = held_length _ _ t.sits.stays.holds in let h = held_stays v (view_of t) f in let lane = room.lane (omega arith) in let k = t.sits.stays.known in let p = t.sits.stays.told.places in
+      let e = place_stays v (view_of t) f in omega arith),
+)
+
+-- the answer of both tests
+pub wait_answer : (s t u : Session) (o : ObjectId) (h : Hold) (x : Result Grip SessionError) (c : ℕ) → Lengthens (view_of s) (view_of t) [] → Lengthens (view_of t) (view_of u) [] → t.capacity ≡ c → HasRoomToWait t →
+    MatchResult x (MayWait u o h) (RefusesFat (view_of t) (view_of u) o h) → MatchResult x (MayWait u o h) (RefusesWait c (view_of s) (view_of u) o h)
+wait_answer s t u o h (Ok g) c f k same room may = may
+wait_answer s t u o h (Err NoFat) c f k same room no_ = (leaves_room (view_of s) t (view_of u) c f k.trimmed same room, no_, after_quiet _ _ _ [] f k)
+wait_answer s t u o h (Err Worn) c f k same room worn = (leaves_room (view_of s) t (view_of u) c f k.trimmed same room, worn.0, fresh_back worn.1, after_quiet _ _ _ [] f k)
+  where
+    fresh_back : IsWaitWorn (view_of t) h → IsWaitWorn (view_of s) h
+    fresh_back (inl a) = inl (let e = ap (λ p. p.last) f.plan in omega arith)
+    fresh_back (inr a) = inr (sym (held_stays _ _ f) ∙ a.0, (let e = place_stays (view_of s) (view_of t) f in let b = a.1 in omega arith))
+wait_answer s t u o h (Err UnknownObject) c f k same room no_ = absurd no_
+wait_answer s t u o h (Err UnknownField) c f k same room no_ = absurd no_
+wait_answer s t u o h (Err NotHeld) c f k same room no_ = absurd no_
+wait_answer s t u o h (Err Behind) c f k same room no_ = absurd no_
+wait_answer s t u o h (Err SectionFull) c f k same room no_ = absurd no_
+wait_answer s t u o h (Err TooMany) c f k same room no_ = absurd no_
+wait_answer s t u o h (Err TooDeep) c f k same room no_ = absurd no_
+wait_answer s t u o h (Err (Held x)) c f k same room no_ = absurd no_
+
+-- a wait is begun
+pub begun : (s t : Session) (w : View) (o : ObjectId) (h : Hold) (g : Grip) (c : ℕ) → Lengthens (view_of s) (view_of t) [] → t.capacity ≡ c → MayWait t o h g → Lengthens (view_of t) w (Wait g.object g.number ∷ []) → BeginsWait c (view_of s) w o h
+begun s t w o h g c f same may told = (
+  leaves_room (view_of s) t w c f told.trimmed same may.room,
+  λ worn. may.fresh (worn_again _ _ h f worn),
+  subst (λ z. Lengthens (view_of s) w (Wait z h.number ∷ [])) may.found.object (subst (λ n. Lengthens (view_of s) w (Wait g.object n ∷ [])) may.number (after_quiet _ _ _ _ f told)),
+)
+
+-- the same ring twice
+pub ring_again : (s t u : Session) → SameRing s t → SameRing t u → SameRing s u
+ring_again s t u p q = (((q.0.0.0 ∙ p.0.0.0, q.0.0.1 ∙ p.0.0.1, q.0.0.2 ∙ p.0.0.2, q.0.0.3 ∙ p.0.0.3), q.0.1 ∙ p.0.1), q.1 ∙ p.1)
+
+pub still_again : (s t u : Waiting) → SameRingStill s t → SameRingStill t u → SameRingStill s u
+still_again s t u p q = (((q.0.0.0 ∙ p.0.0.0, q.0.0.1 ∙ p.0.0.1, q.0.0.2 ∙ p.0.0.2, q.0.0.3 ∙ p.0.0.3), q.0.1 ∙ p.0.1), q.1 ∙ p.1)

@@ -1,0 +1,74 @@
+-- What a contract sees of a session, of one that waits, and of one that has ended.
+use Rattle.std.specs.Prelude.{ℕ, ◌≡◌, List}
+use Rattle.std.specs.Global.{Global}
+use Rattle.rtrb.specs.declared.AnyItems.{AnyItems}
+use Rattle.rtrb.specs.declared.producer.Producer.{Producer}
+use Rattle.rtrb.specs.Ring.{SameProducer}
+use Rattle.heap_model.specs.declared.ids.ObjectId.{ObjectId}
+use Rattle.heap_model.specs.declared.event.Event.{Event}
+use Rattle.heap_model.specs.declared.record.Record.{Record}
+use Rattle.monitor.specs.Seats.{Home, Sitting}
+use Rattle.steps.specs.Views.{View, view, IsSeatOf, Lengthens}
+use Rattle.session.specs.declared.session.Session.{Session}
+use Rattle.session.specs.declared.waiting.Waiting.{Waiting}
+use Rattle.session.specs.declared.ended.Ended.{Ended}
+
+-- what the session's seat knows: its view
+abbrev pub view_of : Session → View
+view_of s = view s.seat
+
+abbrev pub view_waiting : Waiting → View
+view_waiting w = view w.seat
+
+-- its seat
+abbrev pub seat_of : Session → Sitting
+seat_of s = s.seat
+
+-- how many records its lane holds
+abbrev pub capacity_of : Session → ℕ
+capacity_of s = s.capacity
+
+-- its end of the ring to the helper
+abbrev pub ring_of : Session → Producer Record Global AnyItems
+ring_of s = s.ring
+
+-- the object that it waits for
+abbrev pub awaited : Waiting → ObjectId
+awaited w = w.object
+
+-- the session is of this heap
+abbrev pub IsSessionOf : Home → Session → Type 0
+IsSessionOf h s = IsSeatOf h s.seat
+
+abbrev pub IsWaitingOf : Home → Waiting → Type 0
+IsWaitingOf h w = IsSeatOf h w.seat
+
+-- the same ring, and the same lane
+abbrev pub SameRing : Session → Session → Type 0
+SameRing s t = SameProducer s.ring t.ring × (t.capacity ≡ s.capacity)
+
+abbrev pub SameRingWaiting : Session → Waiting → Type 0
+SameRingWaiting s w = SameProducer s.ring w.ring × (w.capacity ≡ s.capacity)
+
+abbrev pub SameRingResumed : Waiting → Session → Type 0
+SameRingResumed w s = SameProducer w.ring s.ring × (s.capacity ≡ w.capacity)
+
+abbrev pub SameRingStill : Waiting → Waiting → Type 0
+SameRingStill w x = SameProducer w.ring x.ring × (x.capacity ≡ w.capacity)
+
+-- the session has ended with its seat and its end of the ring as they were
+pub record Ends (s : Session) (e : Ended) : Type 0 where
+  pub seat : e.seat ≡ s.seat
+  pub ring : e.ring ≡ s.ring
+  pub capacity : e.capacity ≡ s.capacity
+
+-- the session goes on from where it was: it is of the same lane and ring, and has more events
+pub record GoesOnFrom (s t : Session) : Type 0 where
+  pub ring : SameRing s t
+  pub told : (newer : List Event) × Lengthens (view_of s) (view_of t) newer
+
+-- the ended session has this seat, this end of the ring, and this capacity
+pub record IsMadeOf (e : Ended) (s : Sitting) (p : Producer Record Global AnyItems) (c : ℕ) : Type 0 where
+  pub seat : s ≡ e.seat
+  pub ring : p ≡ e.ring
+  pub capacity : c ≡ e.capacity

@@ -1,0 +1,145 @@
+//! The calls that may wait. How long, and whether another thread comes first, is not said.
+
+use crate::error::SessionError;
+use crate::session::Session;
+use crate::waiting::Waiting;
+use heap_model::ObjectId;
+use monitor::Shared;
+use std::sync::Wait;
+use std::thread;
+
+impl Session {
+    ghost use Rattle.std.specs.Prelude.{◌≡◌, ◌<◌, ◌≤◌, Some, None, Ok, Err, IsErrAnd, MatchResult};
+    ghost use Rattle.heap_model.specs.Own.{Hold};
+    ghost use Rattle.session.specs.declared.error.SessionError.TheVariants as error;
+    ghost use Rattle.session.specs.Sits.{FindsNone};
+    ghost use Rattle.steps.specs.Views.{View, plan, hold};
+    ghost use Rattle.session.specs.Calls.{IsQuiet, OnlyLooks, EntersAgain, EntersFirst, IsSettled, Waits, RefusesWait};
+    ghost use Rattle.session.specs.Sessions.{SameRing, IsSessionOf, view_of, capacity_of};
+
+    /// Takes the monitor, or one lock more of it, and waits while another thread holds it (JLS 17.1). After such a wait it makes
+    /// the monitor fat, if it is thin and a slot is left.
+    ///
+    /// Refused as [`try_enter`](Session::try_enter) refuses, but never as held.
+    pub fn enter<R: Wait>(
+        &mut self,
+        rt: &R,
+        shared: &Shared,
+        object: ObjectId,
+    ) -> Result<(), SessionError>
+        requires seat { IsSessionOf shared.now self.old }
+        ensures seat { IsSessionOf shared.now self.new }
+        ensures ring { SameRing self.old self.new }
+        ensures settled { IsSettled result }
+        ensures unknown { (plan shared.now).objects ≤ object.0 → (result ≡ Err error.UnknownObject) × IsQuiet (view_of self.old) (view_of self.new) }
+        ensures again { (h : Hold) → object.0 < (plan shared.now).objects → hold (view_of self.old) object.0 ≡ Some h
+            → EntersAgain (view_of self.old) (view_of self.new) object h result }
+        ensures first { object.0 < (plan shared.now).objects → hold (view_of self.old) object.0 ≡ None
+            → (u : View) × OnlyLooks (view_of self.old) u object × EntersFirst (capacity_of self.old) u (view_of self.new) object result }
+    {
+        if u64::from(object.0) >= steps::objects(shared) {
+            return Err(SessionError::UnknownObject);
+        }
+        match self.grip_on(object) {
+            Some(grip) => self.enter_again(shared, grip),
+            None => self.enter_waiting(rt, shared, object),
+        }
+    }
+
+    // A monitor that isn't held: it tries until the answer is another than that the monitor is held.
+    fn enter_waiting<R: Wait>(
+        &mut self,
+        rt: &R,
+        shared: &Shared,
+        object: ObjectId,
+    ) -> Result<(), SessionError>
+        requires seat { IsSessionOf shared.now self.old }
+        requires object { object.0 < (plan shared.now).objects }
+        requires free { FindsNone (view_of self.old) self.old.held.items object }
+        ensures seat { IsSessionOf shared.now self.new }
+        ensures ring { SameRing self.old self.new }
+        ensures settled { IsSettled result }
+        ensures first { (u : View) × OnlyLooks (view_of self.old) u object × EntersFirst (capacity_of self.old) u (view_of self.new) object result }
+    {
+        let mut contended = false;
+        for _ in rt.forever() {
+            match self.enter_first(shared, object) {
+                Ok(()) => {
+                    self.make_fat_if(shared, object, contended);
+                    return Ok(());
+                }
+                Err(SessionError::Held(_)) => contended = true,
+                Err(error) => return Err(error),
+            }
+            thread::yield_now();
+        }
+        unreachable!()
+    }
+
+    // Makes the monitor fat where another thread was seen to want it, if a slot is left.
+    fn make_fat_if(&mut self, shared: &Shared, object: ObjectId, contended: bool)
+        requires seat { IsSessionOf shared.now self.old }
+        ensures seat { IsSessionOf shared.now self.new }
+        ensures ring { SameRing self.old self.new }
+        ensures quiet { IsQuiet (view_of self.old) (view_of self.new) }
+    {
+        if !contended {
+            return;
+        }
+        let Some(grip) = self.grip_on(object) else {
+            return;
+        };
+        if grip.slot.is_none() {
+            let _ = self.fatten(shared, grip);
+        }
+    }
+
+    /// Frees the monitor, and waits until the thread was notified and has taken it again: [`begin_wait`](Session::begin_wait),
+    /// and then [`try_resume`](Waiting::try_resume) until it answers a session (JLS 17.2.1).
+    ///
+    /// Refused as `begin_wait` refuses, and then the session comes back.
+    pub fn wait<R: Wait>(
+        self,
+        rt: &R,
+        shared: &Shared,
+        object: ObjectId,
+    ) -> Result<Session, (Session, SessionError)>
+        requires seat { IsSessionOf shared.now self }
+        ensures seat { MatchResult result (IsSessionOf shared.now) (λ e. IsSessionOf shared.now e.0) }
+        ensures ring { MatchResult result (SameRing self) (λ e. SameRing self e.0) }
+        ensures unknown { (plan shared.now).objects ≤ object.0 → IsErrAnd result (λ e. (e.1 ≡ error.UnknownObject) × IsQuiet (view_of self) (view_of e.0)) }
+        ensures not_held { object.0 < (plan shared.now).objects → hold (view_of self) object.0 ≡ None
+            → IsErrAnd result (λ e. (e.1 ≡ error.NotHeld) × IsQuiet (view_of self) (view_of e.0)) }
+        ensures held { (h : Hold) → object.0 < (plan shared.now).objects → hold (view_of self) object.0 ≡ Some h
+            → MatchResult result (λ session. Waits (capacity_of self) (view_of self) (view_of session) object h) (λ e. RefusesWait (capacity_of self) (view_of self) (view_of e.0) object h e.1) }
+    {
+        match self.begin_wait(shared, object) {
+            Ok(waiting) => Ok(waiting.resume(rt, shared)),
+            Err(refused) => Err(refused),
+        }
+    }
+}
+
+impl Waiting {
+    ghost use Rattle.steps.specs.Views.{View};
+    ghost use Rattle.session.specs.Calls.{OnlyLooks, Resumes};
+    ghost use Rattle.session.specs.Sessions.{SameRingResumed, IsSessionOf, IsWaitingOf, view_of, view_waiting, awaited};
+
+    // Waits until the thread was notified and has taken the monitor again.
+    fn resume<R: Wait>(self, rt: &R, shared: &Shared) -> Session
+        requires seat { IsWaitingOf shared.now self }
+        ensures seat { IsSessionOf shared.now result }
+        ensures ring { SameRingResumed self result }
+        ensures resumes { (u : View) × OnlyLooks (view_waiting self) u (awaited self) × Resumes u (view_of result) (awaited self) }
+    {
+        let mut waiting = self;
+        for _ in rt.forever() {
+            match waiting.try_resume(shared) {
+                Ok(session) => return session,
+                Err((still, _why)) => waiting = still,
+            }
+            thread::yield_now();
+        }
+        unreachable!()
+    }
+}

@@ -1,0 +1,202 @@
+//! First and further locks of a session (JLS 17.1).
+
+use crate::error::SessionError;
+use crate::grips::put;
+use crate::limits::{FAT_LOCKS, LAST_PLACE, MOST_HELD, THIN_LOCKS};
+use crate::room::{lane_has_room, ring_has_room};
+use crate::session::Session;
+use crate::sights::{free_at, shown};
+use heap_model::{ObjectId, Record, SECTION_RECORDS};
+use monitor::Shared;
+use steps::Grip;
+
+impl Session {
+    ghost use Rattle.std.specs.Prelude.{◌≡◌, ◌+◌, ◌<◌, ◌≤◌, length, [], ◌∷◌, Some, None, Err, MatchOption};
+    ghost use Rattle.heap_model.specs.Own.{Hold};
+    ghost use Rattle.heap_model.specs.declared.event.Event.TheVariants as event;
+    ghost use Rattle.session.specs.declared.error.SessionError.TheVariants as error;
+    ghost use Rattle.heap_model.specs.declared.limits.TheConstants.{SECTION_RECORDS};
+    ghost use Rattle.lock_word.specs.declared.lock_word.TheConstants.{FAT_SLOTS};
+    ghost use Rattle.rtrb.specs.Ring.{known_free};
+    ghost use Rattle.steps.specs.Views.{plan, Lengthens, hold, room_of, Fattens};
+    ghost use Rattle.session.specs.declared.limits.TheConstants.{MOST_HELD};
+    ghost use Rattle.session.specs.Sits.{Finds, FindsNone, HasRoom};
+    ghost use Rattle.session.specs.Logs.{held_count};
+    ghost use Rattle.session.specs.Calls.{IsQuiet, Tries, Begins, GoesOn, EntersAgain};
+    ghost use Rattle.session.specs.Keeping.{SameNumbers};
+    ghost use Rattle.session.specs.Sessions.{SameRing, IsSessionOf, view_of, capacity_of};
+
+    /// Takes the monitor, or one lock more of it (JLS 17.1). It looks once and, where that showed the monitor free, tries
+    /// once; a lock more is one store. A first lock begins a section where nothing was held.
+    ///
+    /// Refused, in this order:
+    /// - [`UnknownObject`](SessionError::UnknownObject);
+    /// - [`Behind`](SessionError::Behind), where a section would begin;
+    /// - [`SectionFull`](SessionError::SectionFull) and [`TooMany`](SessionError::TooMany), for a first lock inside a section;
+    /// - [`TooDeep`](SessionError::TooDeep) and [`NoFat`](SessionError::NoFat), for a lock more;
+    /// - [`Worn`](SessionError::Worn), where a section would begin at the last place, or the look showed the last number;
+    /// - [`Held`](SessionError::Held), where the look or the try showed that another thread has the monitor, or had it.
+    pub fn try_enter(&mut self, shared: &Shared, object: ObjectId) -> Result<(), SessionError>
+        requires seat { IsSessionOf shared.now self.old }
+        ensures seat { IsSessionOf shared.now self.new }
+        ensures ring { SameRing self.old self.new }
+        ensures unknown { (plan shared.now).objects ≤ object.0 → (result ≡ Err error.UnknownObject) × IsQuiet (view_of self.old) (view_of self.new) }
+        ensures again { (h : Hold) → object.0 < (plan shared.now).objects → hold (view_of self.old) object.0 ≡ Some h
+            → EntersAgain (view_of self.old) (view_of self.new) object h result }
+        ensures begins { object.0 < (plan shared.now).objects → hold (view_of self.old) object.0 ≡ None → held_count (view_of self.old) ≡ 0
+            → Begins (capacity_of self.old) (view_of self.old) (view_of self.new) object result }
+        ensures goes_on { object.0 < (plan shared.now).objects → hold (view_of self.old) object.0 ≡ None → 0 < held_count (view_of self.old)
+            → GoesOn (view_of self.old) (view_of self.new) object result }
+    {
+        if u64::from(object.0) >= steps::objects(shared) {
+            return Err(SessionError::UnknownObject);
+        }
+        match self.grip_on(object) {
+            Some(grip) => self.enter_again(shared, grip),
+            None => self.enter_first(shared, object),
+        }
+    }
+
+    // One lock more, of a monitor that is held.
+    pub(crate) fn enter_again(&mut self, shared: &Shared, grip: Grip) -> Result<(), SessionError>
+        requires seat { IsSessionOf shared.now self.old }
+        requires found { Finds (view_of self.old) self.old.held.items grip.object grip }
+        ensures seat { IsSessionOf shared.now self.new }
+        ensures ring { SameRing self.old self.new }
+        ensures again { EntersAgain (view_of self.old) (view_of self.new) grip.object (record { count = grip.count; number = grip.number }) result }
+    {
+        if grip.count == FAT_LOCKS {
+            return Err(SessionError::TooDeep);
+        }
+        if grip.slot.is_none() && grip.count == THIN_LOCKS {
+            let Some(fat) = self.fatten(shared, grip) else {
+                return Err(SessionError::NoFat);
+            };
+            self.nest(shared, fat);
+        } else {
+            self.nest(shared, grip);
+        }
+        Ok(())
+    }
+
+    // One lock more, for which the monitor's word has room.
+    fn nest(&mut self, shared: &Shared, grip: Grip)
+        requires seat { IsSessionOf shared.now self.old }
+        requires found { Finds (view_of self.old) self.old.held.items grip.object grip }
+        requires room { grip.count < room_of grip.slot }
+        ensures seat { IsSessionOf shared.now self.new }
+        ensures ring { SameRing self.old self.new }
+        ensures told { Lengthens (view_of self.old) (view_of self.new) (event.NestedEnter grip.object ∷ []) }
+    {
+        let more = steps::nest(shared, &mut self.seat, grip);
+        put(&mut self.held, more);
+    }
+
+    // Makes a thin monitor fat, if a slot is left.
+    pub(crate) fn fatten(&mut self, shared: &Shared, grip: Grip) -> Option<Grip>
+        requires seat { IsSessionOf shared.now self.old }
+        requires found { Finds (view_of self.old) self.old.held.items grip.object grip }
+        requires thin { grip.slot ≡ None }
+        ensures seat { IsSessionOf shared.now self.new }
+        ensures ring { SameRing self.old self.new }
+        ensures quiet { IsQuiet (view_of self.old) (view_of self.new) }
+        ensures numbers { SameNumbers self.old self.new }
+        ensures made { MatchOption result (FAT_SLOTS ≤ (view_of self.new).slots) (λ fat. Fattens (view_of self.new) grip fat × Finds (view_of self.new) self.new.held.items grip.object fat) }
+    {
+        let Some(fat) = steps::inflate(shared, &mut self.seat, grip) else {
+            return None;
+        };
+        put(&mut self.held, fat);
+        Some(fat)
+    }
+
+    // A monitor that isn't held: a section's first, or one more.
+    pub(crate) fn enter_first(
+        &mut self,
+        shared: &Shared,
+        object: ObjectId,
+    ) -> Result<(), SessionError>
+        requires seat { IsSessionOf shared.now self.old }
+        requires object { object.0 < (plan shared.now).objects }
+        requires free { FindsNone (view_of self.old) self.old.held.items object }
+        ensures seat { IsSessionOf shared.now self.new }
+        ensures ring { SameRing self.old self.new }
+        ensures begins { held_count (view_of self.old) ≡ 0 → Begins (capacity_of self.old) (view_of self.old) (view_of self.new) object result }
+        ensures goes_on { 0 < held_count (view_of self.old) → GoesOn (view_of self.old) (view_of self.new) object result }
+    {
+        let count = self.held.len();
+        if count == 0 {
+            return self.begin(shared, object);
+        }
+        if self.records + count as u64 + 2 > SECTION_RECORDS {
+            return Err(SessionError::SectionFull);
+        }
+        if count >= MOST_HELD {
+            return Err(SessionError::TooMany);
+        }
+        self.take(shared, object)
+    }
+
+    // A section's first monitor.
+    fn begin(&mut self, shared: &Shared, object: ObjectId) -> Result<(), SessionError>
+        requires seat { IsSessionOf shared.now self.old }
+        requires object { object.0 < (plan shared.now).objects }
+        requires free { FindsNone (view_of self.old) self.old.held.items object }
+        requires empty { self.old.held.items ≡ [] }
+        ensures seat { IsSessionOf shared.now self.new }
+        ensures ring { SameRing self.old self.new }
+        ensures begins { Begins (capacity_of self.old) (view_of self.old) (view_of self.new) object result }
+    {
+        if !ring_has_room(&mut self.ring, SECTION_RECORDS as usize) {
+            return Err(SessionError::Behind);
+        }
+        if !lane_has_room(
+            shared,
+            &mut self.seat,
+            &mut self.trimmed,
+            self.place,
+            self.capacity,
+            SECTION_RECORDS,
+        ) {
+            return Err(SessionError::Behind);
+        }
+        if self.place >= LAST_PLACE {
+            return Err(SessionError::Worn);
+        }
+        self.take(shared, object)
+    }
+
+    // A look, and a try where that showed the monitor free.
+    fn take(&mut self, shared: &Shared, object: ObjectId) -> Result<(), SessionError>
+        requires seat { IsSessionOf shared.now self.old }
+        requires object { object.0 < (plan shared.now).objects }
+        requires free { FindsNone (view_of self.old) self.old.held.items object }
+        requires few { length self.old.held.items < MOST_HELD }
+        requires short { self.old.records + length self.old.held.items + 2 ≤ SECTION_RECORDS }
+        requires room { HasRoom self.old.records self.old.place self.old.capacity self.old.trimmed (known_free self.old.ring) }
+        ensures seat { IsSessionOf shared.now self.new }
+        ensures ring { SameRing self.old self.new }
+        ensures tries { Tries (view_of self.old) (view_of self.new) object result }
+    {
+        let found = steps::look(shared, &mut self.seat, object);
+        let Some(free) = free_at(&found) else {
+            return Err(SessionError::Held(shown(&found)));
+        };
+        if free.number >= steps::last(shared) {
+            return Err(SessionError::Worn);
+        }
+        match steps::try_take(shared, &mut self.seat, object, free.slot, free.number) {
+            Ok(grip) => {
+                self.held.insert(0, grip);
+                self.records += 1;
+                self.place += 1;
+                self.ring.push_reserved(Record::Acq {
+                    object,
+                    number: free.number,
+                });
+                Ok(())
+            }
+            Err(seen) => Err(SessionError::Held(seen)),
+        }
+    }
+}

@@ -1,0 +1,98 @@
+//! Loads and stores of a session.
+
+use crate::error::SessionError;
+use crate::session::Session;
+use heap_model::{FieldId, Record, SECTION_RECORDS};
+use monitor::Shared;
+
+impl Session {
+    ghost use Rattle.std.specs.Prelude.{◌≡◌, ◌+◌, ◌<◌, ◌≤◌, length, [], ◌∷◌, Some, None, Ok, Err};
+    ghost use Rattle.heap_model.specs.Own.{Hold};
+    ghost use Rattle.heap_model.specs.declared.event.Event.TheVariants as event;
+    ghost use Rattle.session.specs.declared.error.SessionError.TheVariants as error;
+    ghost use Rattle.heap_model.specs.Known.{known_value};
+    ghost use Rattle.heap_model.specs.declared.limits.TheConstants.{SECTION_RECORDS};
+    ghost use Rattle.steps.specs.Views.{plan, IsHeld, Lengthens, hold};
+    ghost use Rattle.session.specs.Calls.{IsQuiet, Stores};
+    ghost use Rattle.session.specs.Sessions.{SameRing, IsSessionOf, view_of};
+
+    /// Loads a field. One load.
+    ///
+    /// Refused, in this order: [`UnknownField`](SessionError::UnknownField); [`NotHeld`](SessionError::NotHeld) where the
+    /// session doesn't hold the monitor of the field's guard.
+    pub fn load(&mut self, shared: &Shared, field: FieldId) -> Result<u64, SessionError>
+        requires seat { IsSessionOf shared.now self.old }
+        ensures seat { IsSessionOf shared.now self.new }
+        ensures ring { SameRing self.old self.new }
+        ensures unknown { (plan shared.now).fields ≤ field.0 → (result ≡ Err error.UnknownField) × IsQuiet (view_of self.old) (view_of self.new) }
+        ensures not_held { field.0 < (plan shared.now).fields → hold (view_of self.old) ((plan shared.now).guard field.0) ≡ None
+            → (result ≡ Err error.NotHeld) × IsQuiet (view_of self.old) (view_of self.new) }
+        ensures held { field.0 < (plan shared.now).fields → IsHeld (view_of self.old) ((plan shared.now).guard field.0)
+            → (value : _) × (result ≡ Ok value) × Lengthens (view_of self.old) (view_of self.new) (event.Load field value ∷ []) }
+        ensures known { (value : _) → field.0 < (plan shared.now).fields → IsHeld (view_of self.old) ((plan shared.now).guard field.0) → known_value (plan shared.now) (view_of self.old).events field.0 ≡ Some value → result ≡ Ok value }
+    {
+        if u64::from(field.0) >= steps::fields(shared) {
+            return Err(SessionError::UnknownField);
+        }
+        let guard = steps::guard(shared, field);
+        let Some(_grip) = self.grip_on(guard) else {
+            return Err(SessionError::NotHeld);
+        };
+        let value = steps::read_field(shared, &mut self.seat, field);
+        self.seat.stands();
+        monitor::load_law();
+        Ok(value)
+    }
+
+    /// Stores a field, and sends the record. One swap.
+    ///
+    /// Refused, in this order: [`UnknownField`](SessionError::UnknownField); [`NotHeld`](SessionError::NotHeld) where the
+    /// session doesn't hold the monitor of the field's guard; [`SectionFull`](SessionError::SectionFull).
+    pub fn store(&mut self, shared: &Shared, field: FieldId, value: u64) -> Result<(), SessionError>
+        requires seat { IsSessionOf shared.now self.old }
+        ensures seat { IsSessionOf shared.now self.new }
+        ensures ring { SameRing self.old self.new }
+        ensures unknown { (plan shared.now).fields ≤ field.0 → (result ≡ Err error.UnknownField) × IsQuiet (view_of self.old) (view_of self.new) }
+        ensures not_held { field.0 < (plan shared.now).fields → hold (view_of self.old) ((plan shared.now).guard field.0) ≡ None
+            → (result ≡ Err error.NotHeld) × IsQuiet (view_of self.old) (view_of self.new) }
+        ensures held { field.0 < (plan shared.now).fields → IsHeld (view_of self.old) ((plan shared.now).guard field.0)
+            → Stores (view_of self.old) (view_of self.new) field value result }
+    {
+        if u64::from(field.0) >= steps::fields(shared) {
+            return Err(SessionError::UnknownField);
+        }
+        let guard = steps::guard(shared, field);
+        let Some(_grip) = self.grip_on(guard) else {
+            return Err(SessionError::NotHeld);
+        };
+        if self.records + self.held.len() as u64 + 1 > SECTION_RECORDS {
+            return Err(SessionError::SectionFull);
+        }
+        self.write(shared, field, value);
+        Ok(())
+    }
+
+    // Writes a field whose guard is held, and pushes its record. Answers the value before.
+    pub(crate) fn write(&mut self, shared: &Shared, field: FieldId, value: u64) -> u64
+        requires seat { IsSessionOf shared.now self.old }
+        requires field { field.0 < (plan shared.now).fields }
+        requires held { IsHeld (view_of self.old) ((plan shared.now).guard field.0) }
+        requires some { 0 < length self.old.held.items }
+        requires short { self.old.records + length self.old.held.items + 1 ≤ SECTION_RECORDS }
+        ensures seat { IsSessionOf shared.now self.new }
+        ensures ring { SameRing self.old self.new }
+        ensures told { Lengthens (view_of self.old) (view_of self.new) (event.Store field result value ∷ []) }
+        ensures held { self.new.held ≡ self.old.held }
+        ensures records { self.new.records ≡ self.old.records + 1 }
+    {
+        let before = steps::write_field(shared, &mut self.seat, field, value);
+        self.records += 1;
+        self.place += 1;
+        self.ring.push_reserved(Record::Put {
+            field,
+            before,
+            after: value,
+        });
+        before
+    }
+}

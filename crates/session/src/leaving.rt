@@ -1,0 +1,70 @@
+//! Exits of a session (JLS 17.1).
+
+use crate::error::SessionError;
+use crate::grips::{after_release, put, take_out};
+use crate::session::Session;
+use heap_model::{ObjectId, Record};
+use monitor::Shared;
+use steps::Grip;
+
+impl Session {
+    ghost use Rattle.std.specs.Prelude.{◌≡◌, ◌<◌, ◌≤◌, [], ◌∷◌, Some, None, Err, IsOk};
+    ghost use Rattle.heap_model.specs.Own.{Hold};
+    ghost use Rattle.heap_model.specs.declared.event.Event.TheVariants as event;
+    ghost use Rattle.session.specs.declared.error.SessionError.TheVariants as error;
+    ghost use Rattle.steps.specs.Views.{plan, Lengthens, hold};
+    ghost use Rattle.session.specs.Sits.{Finds};
+    ghost use Rattle.session.specs.Calls.{IsQuiet};
+    ghost use Rattle.session.specs.Sessions.{SameRing, IsSessionOf, view_of};
+
+    /// Gives one lock back, and with the last one the monitor (JLS 17.1). One store. The section ends with the last monitor.
+    ///
+    /// Refused, in this order: [`UnknownObject`](SessionError::UnknownObject); [`NotHeld`](SessionError::NotHeld).
+    pub fn exit(&mut self, shared: &Shared, object: ObjectId) -> Result<(), SessionError>
+        requires seat { IsSessionOf shared.now self.old }
+        ensures seat { IsSessionOf shared.now self.new }
+        ensures ring { SameRing self.old self.new }
+        ensures unknown { (plan shared.now).objects ≤ object.0 → (result ≡ Err error.UnknownObject) × IsQuiet (view_of self.old) (view_of self.new) }
+        ensures not_held { object.0 < (plan shared.now).objects → hold (view_of self.old) object.0 ≡ None
+            → (result ≡ Err error.NotHeld) × IsQuiet (view_of self.old) (view_of self.new) }
+        ensures nested { (h : Hold) → object.0 < (plan shared.now).objects → hold (view_of self.old) object.0 ≡ Some h → 1 < h.count
+            → IsOk result × Lengthens (view_of self.old) (view_of self.new) (event.NestedExit object ∷ []) }
+        ensures last { (h : Hold) → object.0 < (plan shared.now).objects → hold (view_of self.old) object.0 ≡ Some h → h.count ≡ 1
+            → IsOk result × Lengthens (view_of self.old) (view_of self.new) (event.Exit object h.number ∷ []) }
+    {
+        if u64::from(object.0) >= steps::objects(shared) {
+            return Err(SessionError::UnknownObject);
+        }
+        let Some(grip) = self.grip_on(object) else {
+            return Err(SessionError::NotHeld);
+        };
+        if grip.count > 1 {
+            let less = steps::unnest(shared, &mut self.seat, grip);
+            put(&mut self.held, less);
+        } else {
+            self.release(shared, grip);
+        }
+        Ok(())
+    }
+
+    // The last exit.
+    fn release(&mut self, shared: &Shared, grip: Grip)
+        requires seat { IsSessionOf shared.now self.old }
+        requires found { Finds (view_of self.old) self.old.held.items grip.object grip }
+        requires last { grip.count ≡ 1 }
+        ensures seat { IsSessionOf shared.now self.new }
+        ensures ring { SameRing self.old self.new }
+        ensures told { Lengthens (view_of self.old) (view_of self.new) (event.Exit grip.object grip.number ∷ []) }
+    {
+        steps::release(shared, &mut self.seat, grip);
+        take_out(&mut self.held, grip.object);
+        let (records, sections) = after_release(self.held.len(), self.records, self.sections);
+        self.records = records;
+        self.sections = sections;
+        self.place += 1;
+        self.ring.push_reserved(Record::Rel {
+            object: grip.object,
+            number: grip.number,
+        });
+    }
+}

@@ -1,0 +1,72 @@
+//! What a session tells of itself, of its lane, and of monitors that it needn't hold.
+
+use crate::error::SessionError;
+use crate::session::Session;
+use heap_model::ObjectId;
+use lock_word::{FatWord, LockWord};
+use monitor::Shared;
+
+impl Session {
+    ghost use Rattle.std.specs.Prelude.{◌≡◌, ◌<◌, ◌≤◌, [], ◌∷◌, Ok, Err};
+    ghost use Rattle.heap_model.specs.Own.{Hold};
+    ghost use Rattle.heap_model.specs.declared.event.Event.TheVariants as event;
+    ghost use Rattle.session.specs.declared.error.SessionError.TheVariants as error;
+    ghost use Rattle.lock_word.specs.Spelling.{sight_of};
+    ghost use Rattle.steps.specs.Views.{plan, Lengthens, IsPaired};
+    ghost use Rattle.session.specs.Calls.{IsQuiet};
+    ghost use Rattle.session.specs.Sessions.{SameRing, IsSessionOf, view_of, seat_of, ring_of};
+    ghost use Rattle.session.specs.Logs.{sent_in, sections_ended};
+    ghost use Rattle.monitor.specs.Views.{Stands};
+    ghost use Rattle.rtrb.specs.Ring.{sent};
+
+    /// How many sections have ended since the session was opened.
+    pub fn sections(&self) -> u64
+        ensures { result ≡ sections_ended (view_of self.now) }
+    {
+        self.sections
+    }
+
+    /// What the session was told is its lane's part of one legal history (JLS 17.1, 17.2), and what it has sent is the log of
+    /// that part (Atlas, OOPSLA 2014). This does nothing at run time.
+    pub fn stands(&self)
+        ensures history { Stands (seat_of self.now).view }
+        ensures sent { sent (ring_of self.now) ≡ sent_in (view_of self.now) }
+    {
+        self.seat.stands();
+    }
+
+    /// What the monitor's words say: its lock word and, where that is fat, the word of its slot. One load of each. The session
+    /// needn't hold the monitor.
+    ///
+    /// Refused: [`UnknownObject`](SessionError::UnknownObject).
+    pub fn look(
+        &mut self,
+        shared: &Shared,
+        object: ObjectId,
+    ) -> Result<(LockWord, Option<FatWord>), SessionError>
+        requires seat { IsSessionOf shared.now self.old }
+        ensures seat { IsSessionOf shared.now self.new }
+        ensures ring { SameRing self.old self.new }
+        ensures unknown { (plan shared.now).objects ≤ object.0 → (result ≡ Err error.UnknownObject) × IsQuiet (view_of self.old) (view_of self.new) }
+        ensures known { object.0 < (plan shared.now).objects
+            → (lock : _) × (fat : _) × (result ≡ Ok (lock, fat)) × IsPaired lock fat × Lengthens (view_of self.old) (view_of self.new) (event.Look object (sight_of lock fat) ∷ []) }
+    {
+        if u64::from(object.0) >= steps::objects(shared) {
+            return Err(SessionError::UnknownObject);
+        }
+        let found = steps::look(shared, &mut self.seat, object);
+        Ok((found.lock, found.fat))
+    }
+
+    /// How many sections of the lane were acknowledged at the helper's last publication, counted from the session's first; 0
+    /// before the first. It never falls. One load.
+    pub fn stable(&mut self, shared: &Shared) -> u64
+        requires seat { IsSessionOf shared.now self.old }
+        ensures seat { IsSessionOf shared.now self.new }
+        ensures ring { SameRing self.old self.new }
+        ensures quiet { IsQuiet (view_of self.old) (view_of self.new) }
+        ensures read { (view_of self.new).stable ≡ result }
+    {
+        steps::read_stable(shared, &mut self.seat)
+    }
+}

@@ -1,0 +1,223 @@
+//! How a wait begins (JLS 17.2.1).
+
+ghost use Rattle.std.specs.Prelude.{◌≡◌, ◌+◌, ◌<◌, ◌≤◌, ◌^◌, ◌↔◌, ◌⊎◌, IsTrue};
+ghost use Rattle.session.specs.declared.limits.TheConstants.{LAST_PLACE};
+
+use crate::error::SessionError;
+use crate::grips::{after_release, take_out};
+use crate::limits::LAST_PLACE;
+use crate::room::{lane_has_room, ring_has_room};
+use crate::session::Session;
+use crate::waiting::Waiting;
+use heap_model::{ObjectId, Record, SECTION_RECORDS};
+use monitor::Shared;
+use steps::Grip;
+
+// Whether a wait can't be begun: its release would give the last number, or the next section would begin at the last place.
+fn is_wait_worn(held: usize, place: u64, number: u64, last: u64) -> bool
+    requires { (place + 1 < 2 ^ 64) × (number + 1 < 2 ^ 64) }
+    ensures { IsTrue result ↔ ((last ≤ number + 1) ⊎ ((held ≡ 1) × (LAST_PLACE ≤ place + 1))) }
+{
+    if number + 1 >= last {
+        return true;
+    }
+    if held == 1 {
+        return place + 1 >= LAST_PLACE;
+    }
+    false
+}
+
+impl Session {
+    ghost use Rattle.std.specs.Prelude.{◌≡◌, ◌+◌, ◌<◌, ◌≤◌, ◌≢◌, length, [], ◌∷◌, Some, None, Ok, Err, IsErrAnd, MatchResult};
+    ghost use Rattle.heap_model.specs.Own.{Hold};
+    ghost use Rattle.heap_model.specs.declared.event.Event.TheVariants as event;
+    ghost use Rattle.session.specs.declared.error.SessionError.TheVariants as error;
+    ghost use Rattle.session.specs.Sits.{Finds};
+    ghost use Rattle.steps.specs.Views.{plan, KeepsEach, Lengthens, hold};
+    ghost use Rattle.session.specs.Calls.{IsQuiet, IsWaitWorn, RefusesWait, BeginsWait};
+    ghost use Rattle.session.specs.Sessions.{SameRing, SameRingWaiting, IsSessionOf, IsWaitingOf, view_of, view_waiting, capacity_of, awaited};
+    ghost use Rattle.session.specs.Keeping.{HasRoomToWait, MayWait};
+    ghost use Rattle.session.specs.Steps.{RefusesRoom, RefusesFat};
+
+    /// Joins the monitor's wait set and frees the monitor, whatever the count of its locks, which comes back with it (JLS
+    /// 17.2.1). The section ends here where no other monitor is held. The monitor gets fat, if it isn't.
+    ///
+    /// Refused, in this order, and then the session comes back:
+    /// - [`UnknownObject`](SessionError::UnknownObject);
+    /// - [`NotHeld`](SessionError::NotHeld);
+    /// - [`Behind`](SessionError::Behind), where the section would end, with the wait's record counted;
+    /// - [`SectionFull`](SessionError::SectionFull), where the section goes on: the acquire that follows and its release
+    ///   count too;
+    /// - [`NoFat`](SessionError::NoFat);
+    /// - [`Worn`](SessionError::Worn), where the monitor would get the last number, or the next section would begin at the
+    ///   last place.
+    pub fn begin_wait(
+        self,
+        shared: &Shared,
+        object: ObjectId,
+    ) -> Result<Waiting, (Session, SessionError)>
+        requires seat { IsSessionOf shared.now self }
+        ensures seat { MatchResult result (IsWaitingOf shared.now) (λ e. IsSessionOf shared.now e.0) }
+        ensures ring { MatchResult result (SameRingWaiting self) (λ e. SameRing self e.0) }
+        ensures unknown { (plan shared.now).objects ≤ object.0 → IsErrAnd result (λ e. (e.1 ≡ error.UnknownObject) × IsQuiet (view_of self) (view_of e.0)) }
+        ensures not_held { object.0 < (plan shared.now).objects → hold (view_of self) object.0 ≡ None
+            → IsErrAnd result (λ e. (e.1 ≡ error.NotHeld) × IsQuiet (view_of self) (view_of e.0)) }
+        ensures held { (h : Hold) → object.0 < (plan shared.now).objects → hold (view_of self) object.0 ≡ Some h
+            → MatchResult result (λ waiting. (awaited waiting ≡ object) × BeginsWait (capacity_of self) (view_of self) (view_waiting waiting) object h) (λ e. RefusesWait (capacity_of self) (view_of self) (view_of e.0) object h e.1) }
+    {
+        let mut session = self;
+        match session.prepare_wait(shared, object) {
+            Ok(grip) => Ok(session.join(shared, grip)),
+            Err(error) => Err((session, error)),
+        }
+    }
+
+    // Whether the thread may wait for the monitor. If so, it is fat.
+    fn prepare_wait(&mut self, shared: &Shared, object: ObjectId) -> Result<Grip, SessionError>
+        requires seat { IsSessionOf shared.now self.old }
+        ensures seat { IsSessionOf shared.now self.new }
+        ensures ring { SameRing self.old self.new }
+        ensures quiet { IsQuiet (view_of self.old) (view_of self.new) }
+        ensures unknown { (plan shared.now).objects ≤ object.0 → result ≡ Err error.UnknownObject }
+        ensures not_held { object.0 < (plan shared.now).objects → hold (view_of self.old) object.0 ≡ None → result ≡ Err error.NotHeld }
+        ensures held { (h : Hold) → object.0 < (plan shared.now).objects → hold (view_of self.old) object.0 ≡ Some h
+            → MatchResult result (MayWait self.new object h) (RefusesWait (capacity_of self.old) (view_of self.old) (view_of self.new) object h) }
+    {
+        if u64::from(object.0) >= steps::objects(shared) {
+            return Err(SessionError::UnknownObject);
+        }
+        let Some(grip) = self.grip_on(object) else {
+            return Err(SessionError::NotHeld);
+        };
+        match self.room_to_wait(shared) {
+            Ok(()) => self.fatten_to_wait(shared, grip),
+            Err(error) => Err(error),
+        }
+    }
+
+    // Whether there is room for a wait.
+    fn room_to_wait(&mut self, shared: &Shared) -> Result<(), SessionError>
+        requires seat { IsSessionOf shared.now self.old }
+        requires some { 0 < length self.old.held.items }
+        ensures seat { IsSessionOf shared.now self.new }
+        ensures ring { SameRing self.old self.new }
+        ensures quiet { IsQuiet (view_of self.old) (view_of self.new) }
+        ensures grips { KeepsEach (view_of self.old) (view_of self.new) }
+        ensures held { self.new.held ≡ self.old.held }
+        ensures room { MatchResult result (λ _. HasRoomToWait self.new) (RefusesRoom (capacity_of self.old) (view_of self.old) (view_of self.new)) }
+    {
+        let count = self.held.len();
+        if count > 1 {
+            if self.records + count as u64 + 2 > SECTION_RECORDS {
+                return Err(SessionError::SectionFull);
+            }
+            return Ok(());
+        }
+        if !ring_has_room(&mut self.ring, SECTION_RECORDS as usize + 1) {
+            return Err(SessionError::Behind);
+        }
+        if !lane_has_room(
+            shared,
+            &mut self.seat,
+            &mut self.trimmed,
+            self.place,
+            self.capacity,
+            SECTION_RECORDS + 1,
+        ) {
+            return Err(SessionError::Behind);
+        }
+        Ok(())
+    }
+
+    // The grip on the monitor, fat, unless the wait is refused.
+    fn fatten_to_wait(&mut self, shared: &Shared, grip: Grip) -> Result<Grip, SessionError>
+        requires seat { IsSessionOf shared.now self.old }
+        requires found { Finds (view_of self.old) self.old.held.items grip.object grip }
+        requires room { HasRoomToWait self.old }
+        ensures seat { IsSessionOf shared.now self.new }
+        ensures ring { SameRing self.old self.new }
+        ensures quiet { IsQuiet (view_of self.old) (view_of self.new) }
+        ensures fat { MatchResult result
+            (MayWait self.new grip.object (record { count = grip.count; number = grip.number }))
+            (RefusesFat (view_of self.old) (view_of self.new) grip.object (record { count = grip.count; number = grip.number })) }
+    {
+        if is_wait_worn(
+            self.held.len(),
+            self.place,
+            grip.number,
+            steps::last(shared),
+        ) {
+            return Err(self.why_worn(shared, grip));
+        }
+        if let Some(_slot) = grip.slot {
+            return Ok(grip);
+        }
+        match self.fatten(shared, grip) {
+            Some(fat) => Ok(fat),
+            None => Err(SessionError::NoFat),
+        }
+    }
+
+    // Why a wait is refused whose numbers have come to their end: a slot that is wanting comes first.
+    fn why_worn(&mut self, shared: &Shared, grip: Grip) -> SessionError
+        requires seat { IsSessionOf shared.now self.old }
+        requires found { Finds (view_of self.old) self.old.held.items grip.object grip }
+        ensures seat { IsSessionOf shared.now self.new }
+        ensures ring { SameRing self.old self.new }
+        ensures quiet { IsQuiet (view_of self.old) (view_of self.new) }
+        ensures why { IsWaitWorn (view_of self.old) (record { count = grip.count; number = grip.number })
+            → RefusesFat (view_of self.old) (view_of self.new) grip.object (record { count = grip.count; number = grip.number }) result }
+    {
+        if let Some(_slot) = grip.slot {
+            return SessionError::Worn;
+        }
+        if steps::has_slot(shared, &mut self.seat) {
+            return SessionError::Worn;
+        }
+        SessionError::NoFat
+    }
+
+    // Waits: the two steps, and their record.
+    fn join(self, shared: &Shared, grip: Grip) -> Waiting
+        requires seat { IsSessionOf shared.now self }
+        requires may { MayWait self grip.object (record { count = grip.count; number = grip.number }) grip }
+        ensures seat { IsWaitingOf shared.now result }
+        ensures ring { SameRingWaiting self result }
+        ensures object { awaited result ≡ grip.object }
+        ensures told { Lengthens (view_of self) (view_waiting result) (event.Wait grip.object grip.number ∷ []) }
+    {
+        let Session {
+            mut seat,
+            mut ring,
+            mut held,
+            records,
+            place,
+            sections,
+            capacity,
+            trimmed,
+        } = self;
+        let object = grip.object;
+        let slot = grip.slot.unwrap();
+        steps::join_wait(shared, &mut seat, grip);
+        take_out(&mut held, object);
+        let (records, sections) = after_release(held.len(), records, sections);
+        ring.push_reserved(Record::WaitRel {
+            object,
+            number: grip.number,
+        });
+        Waiting {
+            seat,
+            ring,
+            held,
+            records,
+            place: place + 1,
+            sections,
+            capacity,
+            trimmed,
+            object,
+            count: grip.count,
+            slot,
+            removed: false,
+        }
+    }
+}

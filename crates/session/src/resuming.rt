@@ -1,0 +1,142 @@
+//! How a wait ends (JLS 17.2.1).
+
+use crate::error::Still;
+use crate::session::Session;
+use crate::sights::{free_at, shown};
+use crate::waiting::Waiting;
+use heap_model::Record;
+use monitor::Shared;
+use steps::Seen;
+
+impl Waiting {
+    ghost use Rattle.std.specs.Prelude.{◌≡◌, ◌+◌, ◌<◌, ◌≤◌, ◌⊎◌, [], ◌∷◌, Some, None, Ok, Err, true, IfErr, MatchBool, MatchResult};
+    ghost use Rattle.heap_model.specs.declared.event.Event.TheVariants as event;
+    ghost use Rattle.heap_model.specs.declared.event.Sight.TheVariants.{Found, StillInSet};
+    ghost use Rattle.session.specs.declared.error.Still.TheVariants as still;
+    ghost use Rattle.steps.specs.Views.{plan, Lengthens};
+    ghost use Rattle.session.specs.Calls.{IsQuiet, Resumes, SeesAnother, SeesLast, WaitsOn};
+    ghost use Rattle.session.specs.Steps.{MissesResume};
+    ghost use Rattle.session.specs.Sessions.{SameRingResumed, SameRingStill, IsSessionOf, IsWaitingOf, view_of, view_waiting, awaited};
+
+    /// Takes the monitor again, by as many locks as before, if the thread was removed from its wait set and the monitor is
+    /// free (JLS 17.2.1). It looks once, and tries once. Otherwise the thread waits on, and is told why.
+    pub fn try_resume(self, shared: &Shared) -> Result<Session, (Waiting, Still)>
+        requires seat { IsWaitingOf shared.now self }
+        ensures seat { MatchResult result (IsSessionOf shared.now) (λ e. IsWaitingOf shared.now e.0) }
+        ensures ring { MatchResult result (SameRingResumed self) (λ e. SameRingStill self e.0) }
+        ensures resumes { MatchResult result (λ session. Resumes (view_waiting self) (view_of session) (awaited self)) (λ e. WaitsOn (view_waiting self) (view_waiting e.0) (awaited self) e.1) }
+        ensures object { IfErr result (λ e. awaited e.0 ≡ awaited self) }
+    {
+        let mut waiting = self;
+        if waiting.is_in_set(shared) {
+            return Err((waiting, Still::InSet));
+        }
+        match waiting.look(shared) {
+            Ok(number) => waiting.retake(shared, number),
+            Err(seen) => Err((waiting, Still::Held(seen))),
+        }
+    }
+
+    // Whether the thread is still in the wait set.
+    fn is_in_set(&mut self, shared: &Shared) -> bool
+        requires seat { IsWaitingOf shared.now self.old }
+        ensures seat { IsWaitingOf shared.now self.new }
+        ensures ring { SameRingStill self.old self.new }
+        ensures object { awaited self.new ≡ awaited self.old }
+        ensures told { MatchBool result
+            (Lengthens (view_waiting self.old) (view_waiting self.new) (event.Look (awaited self.old) StillInSet ∷ []))
+            (IsQuiet (view_waiting self.old) (view_waiting self.new) × (self.new.removed ≡ true)) }
+    {
+        if self.removed {
+            return false;
+        }
+        if steps::poll_wait(shared, &mut self.seat, self.object) {
+            return true;
+        }
+        self.removed = true;
+        false
+    }
+
+    // The number of the monitor, if a look shows it free and not worn.
+    fn look(&mut self, shared: &Shared) -> Result<u64, Seen>
+        requires seat { IsWaitingOf shared.now self.old }
+        requires removed { self.old.removed ≡ true }
+        ensures seat { IsWaitingOf shared.now self.new }
+        ensures ring { SameRingStill self.old self.new }
+        ensures object { awaited self.new ≡ awaited self.old }
+        ensures removed { self.new.removed ≡ true }
+        ensures told { MatchResult result
+            (λ n. (n < (plan shared.now).last) × Lengthens (view_waiting self.old) (view_waiting self.new) (event.Look (awaited self.old) (Found None 0 n) ∷ []))
+            (λ x. SeesAnother (view_waiting self.old) (view_waiting self.new) (awaited self.old) x ⊎ SeesLast (view_waiting self.old) (view_waiting self.new) (awaited self.old) x) }
+    {
+        let found = steps::look(shared, &mut self.seat, self.object);
+        let Some(free) = free_at(&found) else {
+            return Err(shown(&found));
+        };
+        if free.number >= steps::last(shared) {
+            return Err(shown(&found));
+        }
+        Ok(free.number)
+    }
+
+    // Takes the monitor again, if it is still free at this number.
+    fn retake(self, shared: &Shared, number: u64) -> Result<Session, (Waiting, Still)>
+        requires seat { IsWaitingOf shared.now self }
+        requires removed { self.removed ≡ true }
+        requires number { number < (plan shared.now).last }
+        ensures seat { MatchResult result (IsSessionOf shared.now) (λ e. IsWaitingOf shared.now e.0) }
+        ensures ring { MatchResult result (SameRingResumed self) (λ e. SameRingStill self e.0) }
+        ensures object { IfErr result (λ e. awaited e.0 ≡ awaited self) }
+        ensures told { MatchResult result
+            (λ session. Lengthens (view_waiting self) (view_of session) (event.Resume (awaited self) number ∷ []))
+            (λ e. MissesResume (view_waiting self) (view_waiting e.0) (awaited self) number e.1) }
+    {
+        let Waiting {
+            mut seat,
+            mut ring,
+            mut held,
+            records,
+            place,
+            sections,
+            capacity,
+            trimmed,
+            object,
+            count,
+            slot,
+            removed,
+        } = self;
+        match steps::try_retake(shared, &mut seat, object, count, slot, number) {
+            Ok(grip) => {
+                held.insert(0, grip);
+                ring.push_reserved(Record::Acq { object, number });
+                Ok(Session {
+                    seat,
+                    ring,
+                    held,
+                    records: records + 1,
+                    place: place + 1,
+                    sections,
+                    capacity,
+                    trimmed,
+                })
+            }
+            Err(seen) => Err((
+                Waiting {
+                    seat,
+                    ring,
+                    held,
+                    records,
+                    place,
+                    sections,
+                    capacity,
+                    trimmed,
+                    object,
+                    count,
+                    slot,
+                    removed,
+                },
+                Still::Held(seen),
+            )),
+        }
+    }
+}

@@ -1,0 +1,58 @@
+//! Whether there is room for another section.
+
+ghost use Rattle.std.specs.Prelude.{◌≡◌, ◌+◌, ◌<◌, ◌≤◌, ◌^◌, ◌↔◌, [], length, IsTrue, MatchBool};
+ghost use Rattle.rtrb.specs.Ring.{sent, known_free, producer_capacity, ProducerLooked};
+ghost use Rattle.steps.specs.Views.{view, IsSeatOf, KeepsEach, Lengthens};
+
+use heap_model::Record;
+use monitor::{Seat, Shared};
+use rtrb::Producer;
+use std::alloc::Global;
+
+/// Whether so many slots of the ring are known to be free.
+pub fn ring_has_room(ring: &mut Producer<Record, Global>, needed: usize) -> bool
+    ensures looked { ProducerLooked ring.old ring.new }
+    ensures room { MatchBool result (needed ≤ known_free ring.new) (producer_capacity ring.old < length (sent ring.old) + needed) }
+{
+    if ring.cached_slots() >= needed {
+        return true;
+    }
+    ring.slots() >= needed
+}
+
+// Whether so many records since the trimmed place fit the lane.
+fn is_lane_wide(trimmed: u64, place: u64, capacity: u64, needed: u64) -> bool
+    requires small { place + needed < 2 ^ 64 }
+    requires needed { needed ≤ capacity }
+    ensures { IsTrue result ↔ (place + needed ≤ trimmed + capacity) }
+{
+    place.saturating_sub(trimmed) + needed <= capacity
+}
+
+/// Whether so many records fit the lane, by the trimmed place that was read last, or else by the one that is published.
+pub fn lane_has_room(
+    shared: &Shared,
+    seat: &mut Seat,
+    trimmed: &mut u64,
+    place: u64,
+    capacity: u64,
+    needed: u64,
+) -> bool
+    requires seat { IsSeatOf shared.now seat.old }
+    requires small { place + needed < 2 ^ 64 }
+    requires needed { needed ≤ capacity }
+    requires known { trimmed.old ≤ (view seat.old).trimmed }
+    ensures seat { IsSeatOf shared.now seat.new }
+    ensures mark { (view seat.new).mark ≡ (view seat.old).mark }
+    ensures told { Lengthens (view seat.old) (view seat.new) [] }
+    ensures grips { KeepsEach (view seat.old) (view seat.new) }
+    ensures known { trimmed.new ≤ (view seat.new).trimmed }
+    ensures rises { trimmed.old ≤ trimmed.new }
+    ensures room { MatchBool result (place + needed ≤ trimmed.new + capacity) ((view seat.new).trimmed + capacity < place + needed) }
+{
+    if is_lane_wide(*trimmed, place, capacity, needed) {
+        return true;
+    }
+    *trimmed = steps::read_trimmed(shared, seat);
+    is_lane_wide(*trimmed, place, capacity, needed)
+}

@@ -1,0 +1,49 @@
+//! What a look found.
+
+ghost use Rattle.std.specs.Prelude.{◌≡◌, MatchOption, None};
+ghost use Rattle.heap_model.specs.declared.event.Sight.TheVariants.{Found};
+ghost use Rattle.lock_word.specs.Spelling.{sight_of, slot_named};
+ghost use Rattle.steps.specs.Views.{IsPaired, IsOwned};
+ghost use Rattle.session.specs.Calls.{sight_in};
+
+use lock_word::{FatShape, Shape};
+use steps::{Seen, Sighted};
+
+/// A monitor that nobody owns: its release number, and its fat slot.
+#[derive(Clone, Copy, Debug, PartialEq, Eq)]
+pub struct Free {
+    pub number: u64,
+    pub slot: Option<u32>,
+}
+
+/// Whether the monitor is free.
+pub fn free_at(found: &Sighted) -> Option<Free>
+    requires { IsPaired found.now.lock found.now.fat }
+    ensures { MatchOption result
+        (IsOwned (sight_of found.now.lock found.now.fat))
+        (λ free. (sight_of found.now.lock found.now.fat ≡ Found None 0 free.number) × (slot_named found.now.lock ≡ free.slot)) }
+{
+    let index = match found.lock.shape() {
+        Shape::Free { number } => return Some(Free { number, slot: None }),
+        Shape::Thin { .. } => return None,
+        Shape::Fat { index, .. } => index,
+    };
+    match found.fat?.shape() {
+        FatShape::Free { number } => Some(Free {
+            number,
+            slot: Some(index),
+        }),
+        FatShape::Held { .. } => None,
+    }
+}
+
+/// The word that tells of the monitor.
+pub fn shown(found: &Sighted) -> Seen
+    requires { IsPaired found.now.lock found.now.fat }
+    ensures { sight_in result ≡ sight_of found.now.lock found.now.fat }
+{
+    match found.fat {
+        Some(word) => Seen::Fat(word),
+        None => Seen::Lock(found.lock),
+    }
+}
