@@ -4,4 +4,5 @@ pub mod Unstuck
 pub mod Rests
 pub mod Accepts
 pub mod WholeRuns
+pub mod Unsettled
 pub mod RunAgain

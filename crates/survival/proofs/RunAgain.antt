@@ -1,12 +1,14 @@
 -- What a recovery leaves of an image that stands for the kept heap, wherever it ends.
-use Rattle.std.proofs.Common.{ℕ, ◌≡◌, ◌∙◌, ⊎_elim, List, [], ◌∷◌, length, refl, sym, ap, subst, inl, inr, arith}
+use Rattle.std.proofs.Common.{ℕ, Result, Ok, Err, IfOk, IfErr, MatchResult, ◌≡◌, ◌∙◌, ⊎_elim, List, [], ◌∷◌, length, refl, sym, ap, subst, inl, inr, arith}
 use Rattle.heap_model.specs.Setting.{Setting}
 use Rattle.block_disk.specs.Device.{Device, Moment, synced}
 use Rattle.block_disk.specs.Images.{Always, LeavesOnly}
 use Rattle.block_disk.proofs.Images.{after_sync, always_now, always_only, and_then, leaves_synced, left_now, now_too, stays, weaker}
+use Rattle.image.specs.Recovered.{Parts}
 use Rattle.image.specs.declared.layout.Layout.{Layout}
 use Rattle.store_past.specs.Past.{Past}
-use Rattle.recover.specs.Recovery.{IsCutOff, IsOnTheWay, OneStudyLaw, SameReports, StudiedLaw}
+use Rattle.recover.specs.Recovery.{IsCutOff, IsOnTheWay, IsRecovery, OneStudyLaw, SameReports, StudiedLaw}
+use Rattle.recover.specs.declared.error.RecoverError.{RecoverError}
 use Rattle.recover.specs.declared.report.Report.{Report}
 use Rattle.recover.specs.Study.{IsStudyOf, held_by}
 use Rattle.recover.specs.declared.studied.Study.{Study}
@@ -71,3 +73,10 @@ pub kept_on : OneStudyLaw → KeptOnLaw
 kept_on one l s p [] image last kept same = subst (IsKept l s p) (sym same) kept
 kept_on one l s p (a ∷ later) image last kept (now, cut_off, (next, left, rest)) =
     kept_on one l s p later next last ((kept_again one l s p a.old a.new (kept_alone l s p image a.old now kept) cut_off).any_moment next left) rest
+
+-- however a recovery ended, it left what one leaves that is cut off
+pub always_cut_off : {E : Type 0} (device : E → Device) (old : Device) (answer : Result (Parts E × Report) (E × RecoverError)) → IfOk answer (λ r. IsRecovery old (device r.0.disk) r.0 r.1) →
+    IfOk answer (λ r. (s : Study) → IsStudyOf old.now.bytes s → LeavesOnly (synced old) (device r.0.disk) (IsOnTheWay s)) → IfErr answer (λ back. IsCutOff old (device back.0)) →
+    MatchResult answer (λ r. IsCutOff old (device r.0.disk)) (λ back. IsCutOff old (device back.0))
+always_cut_off device old (Ok r) done leaves cut_off = inr (inr (done.study, done.of, leaves done.study done.of))
+always_cut_off device old (Err back) done leaves cut_off = cut_off

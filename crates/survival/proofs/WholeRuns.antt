@@ -138,7 +138,7 @@ cannot image takes (IllegalLog lane place) refuses = ⊎_elim (λ is. inl is) (�
 cannot image takes NoMemory refuses = inr (inl refl)
 
 -- no call takes back what is acknowledged
-grows_by : (s : Setting) (p q : Past) (call : StoreCall) → IsPast s p → Makes s p call q → IsPast s q × ((l : ℕ) → p.cut l ≤ q.cut l)
+pub grows_by : (s : Setting) (p q : Past) (call : StoreCall) → IsPast s p → Makes s p call q → IsPast s q × ((l : ℕ) → p.cut l ≤ q.cut l)
 grows_by s p q (Apply l r) is (legal, same) = subst (λ (x : Past). IsPast s x × ((l : ℕ) → p.cut l ≤ x.cut l)) (sym same) (past_apply s p l.0 r is legal, λ l. omega arith)
 grows_by s p q Log is same = subst (λ (x : Past). IsPast s x × ((l : ℕ) → p.cut l ≤ x.cut l)) (sym same) (past_log cut_stays s p is, λ l. omega arith)
 grows_by s p q HomeStep is (Wrote f, answers, same) = subst (λ (x : Past). IsPast s x × ((l : ℕ) → p.cut l ≤ x.cut l)) (sym same) (past_home s p f.0 is, λ l. omega arith)

@@ -1,4 +1,5 @@
 -- What public clauses state: what a store leaves, and what survives a run of it.
 pub mod Accepted
 pub mod WholeRun
+pub mod Unsettled
 pub mod Again

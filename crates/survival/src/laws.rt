@@ -1,5 +1,6 @@
 //! Laws of what a store leaves, each the contract of a function that does nothing.
 ghost use Rattle.survival.specs.Accepted.{AcceptedLaw, FoundHeapLaw, FoundLaw, LeftLaw};
+ghost use Rattle.survival.specs.Unsettled.{UnsettledLaw};
 ghost use Rattle.survival.specs.Again.{KeptAcceptedLaw, KeptAgainLaw, KeptHeapLaw, KeptOnLaw, KeptReportLaw};
 
 use recover::{one_study_law, studied_law};
@@ -14,6 +15,11 @@ pub fn accepted_law()
 pub fn found_law()
     ensures found { FoundLaw }
     ensures heap { FoundHeapLaw }
+{}
+
+/// Calls with no settling leave nothing but what was acknowledged before the first of them: neither less nor more.
+pub fn unsettled_law()
+    ensures { UnsettledLaw }
 {}
 
 /// Recovery that a crash cuts off, or that answers a fault, may be run again, any number of times: each time it takes the

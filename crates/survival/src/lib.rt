@@ -2,11 +2,12 @@
 //!
 //! No image that a store leaves is refused ([`accepted_law`]), and its heap is the one that the store keeps ([`found_law`]).
 //! Recovery that was cut off or answered a fault finds it again, however often it is run ([`again_law`]).
-//! [`play_and_recover`] says the whole of it: the heap after a crash is that of the acknowledged sections, and of nothing else.
+//! [`play_and_recover`] says the whole of it: the heap after a crash is that of the acknowledged sections, and of nothing else;
+//! calls that acknowledge nothing leave it as it was ([`unsettled_law`]).
 #![tactic(auto)]
 
 mod laws;
 mod whole_run;
 
-pub use laws::{accepted_law, again_law, found_law};
+pub use laws::{accepted_law, again_law, found_law, unsettled_law};
 pub use whole_run::{WholeRun, play_and_recover};

@@ -8,7 +8,7 @@ ghost use Rattle.durable.specs.Calls.{MakeAll, Reached, StoppedAt, made_of};
 ghost use Rattle.store_past.specs.Past.{Past};
 ghost use Rattle.durable.specs.Store.{HasPast};
 ghost use Rattle.store_past.specs.declared.error.StoreError.TheVariants.{Fault as StoreFault};
-ghost use Rattle.recover.specs.Recovery.{IsOnTheWay, IsRecovery, LeavesOnTheWay, RefusesRecovery};
+ghost use Rattle.recover.specs.Recovery.{IsCutOff, IsOnTheWay, IsRecovery, LeavesOnTheWay, RefusesRecovery};
 ghost use Rattle.recover.specs.Study.{IsStudyOf};
 ghost use Rattle.survival.specs.Again.{AreCutOff, Attempt, SurvivesAgain};
 ghost use Rattle.survival.specs.WholeRun.{CannotRecover, MayBeLeft, Survives};
@@ -36,14 +36,14 @@ pub struct WholeRun<E: Disk> {
 /// **What survives.** Whatever bytes a crash leaves at any moment of the run, recovery takes them, and gives the heap that was
 /// acknowledged after some of the calls: that of the acknowledged sections and of nothing else, each whole, with all that it
 /// depends on. Only in a settling that the crash cuts off may it be the heap that this settling acknowledges: calls with no
-/// settling never give what wasn't acknowledged before them.
+/// settling never give what wasn't acknowledged before them ([`unsettled_law`](crate::unsettled_law)).
 ///
 /// **The moment.** After each of the calls that were made there is a moment since which the same holds of the calls that
 /// came behind it: a crash from then on keeps each section that was acknowledged by then.
 ///
 /// **Again and again.** The same holds where recovery was tried before, any number of times, and each time a crash cut it off or
 /// the device failed: the heap is that of the first try. So is the report, until the last commit of a try shows: then
-/// nothing is left to keep or to drop.
+/// nothing is left to keep or to drop. However a try ends, it counts as one that was cut off, and another may follow.
 ///
 /// The device `left` stands for the machine after the crash: it may be any that holds such bytes. It is refused only where
 /// a call of it fails, memory is wanting, or the control's sequence is at its last value. What a refusal of either leaves is
@@ -75,6 +75,7 @@ pub fn play_and_recover<D: Disk, E: Disk>(
     ensures any_moment { IfOk result.recovered (λ r. (s : Shape) → IsStudyOf (E.device left).now.bytes s → LeavesOnly (synced (E.device left)) (E.device r.0.disk) (IsOnTheWay s)) }
     ensures untouched { IfErr result.recovered (λ back. (back.1 ≡ Fault) ⊎ SameMoments (synced (E.device left)) (E.device back.0)) }
     ensures interrupted { IfErr result.recovered (λ back. (s : Shape) → IsStudyOf (E.device left).now.bytes s → LeavesOnTheWay s (E.device left) (E.device back.0)) }
+    ensures cut_off { MatchResult result.recovered (λ r. IsCutOff (E.device left) (E.device r.0.disk)) (λ back. IsCutOff (E.device left) (E.device back.0)) }
     ensures cause { IfErr result.recovered (λ back. back.1 ≡ Fault → HasFailed (E.device left).failures (E.device back.0).failures) }
 {
     again_law();

@@ -1,3 +1,4 @@
+use Rattle.survival.proofs.RunAgain.{always_cut_off}
 use Rattle.survival.proofs.WholeRuns.{survives, survives_again, survives_since}
 use Rattle.survival.proofs.whole_run.play_and_recover.Goals as goal
 
@@ -18,3 +19,6 @@ pub returns-clause-again : goal.returns-clause-again
 returns-clause-again g c = λ s p has image attempts left tries.
     survives_again c.args.store.now.known s p c.args.calls.now (g.D.Disk.device c.args.store.now.disk) (g.D.Disk.device c.play.new.self.disk) g.E.Disk.device (g.E.Disk.device c.args.left) image attempts has
     c.again_law.ensures.heap c.again_law.ensures.report c.again_law.ensures.accepted c.again_law.ensures.on (c.play.ensures.shown s p has) left tries c.recover.result c.recover.ensures.ok c.recover.ensures.refused
+
+pub returns-clause-cut_off : goal.returns-clause-cut_off
+returns-clause-cut_off g c = always_cut_off g.E.Disk.device (g.E.Disk.device c.args.left) c.recover.result c.recover.ensures.ok c.recover.ensures.any_moment c.recover.ensures.cut_off
