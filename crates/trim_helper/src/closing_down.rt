@@ -8,6 +8,7 @@ ghost use Rattle.trim_helper.specs.Helping.{IsHelper, count_published, place_pub
 ghost use Rattle.trim_helper.specs.Endings.{AreEnded, HasOpen, HoldNone, IsCloseStop, IsComplete, RefusesClosing, RefusesEnded, count_lane, parts_of};
 ghost use Rattle.trim_helper.specs.Moves.{most_room};
 ghost use Rattle.trim_helper.specs.declared.rings.TheConstants.{RING_RECORDS};
+ghost use Rattle.trim_helper.specs.Parts.{IsServing};
 ghost use Rattle.trim_helper.specs.Serving.{Serves};
 ghost use Rattle.trim_helper.specs.Taken.{HasTaken, trimmed_of};
 
@@ -18,6 +19,7 @@ use crate::helper::Helper;
 use crate::meeting::meet;
 use crate::published::close;
 use crate::rings::RING_RECORDS;
+use crate::serving::Serving;
 use crate::settling::settle_applied;
 use block_disk::Disk;
 use durable::Store;
@@ -137,6 +139,26 @@ pub fn close_down<D: Disk>(
 ) -> Result<D, (D, CloseError)>
     requires helper { IsHelper shared helper.seat }
     requires lanes { shared.plan.lanes ≡ helper.store.known.layout.lanes }
+    requires ended { AreEnded shared helper.store.known.layout.capacity helper.rings ended.items }
+    requires nothing { taken_in helper.seat ≡ [] }
+    ensures ok { (p : Past) → IsServing D.device helper (setting_of shared.plan) p
+        → IfOk result (λ disk. IsClosedDown (setting_of shared.plan) shared.plan.lanes helper.store.known.layout (parts_of ended.items) p.cut (D.device disk)) }
+    ensures refused { MatchResult result (λ disk. HoldNone ended.items × IsComplete helper.store.known.layout.lanes ended.items) (λ back. RefusesClosing helper.store.known.layout.lanes ended.items back.1) }
+    ensures any_moment { (s : Setting) (p : Past) → HasTaken helper.store.known (D.device helper.store.disk) helper.rings helper.waiting s p
+        → Stood helper.store.known.layout s p (D.device helper.store.disk) (D.device (disk_of result)) }
+{
+    let Helper { serving } = helper;
+    close_serving(shared, ended, serving)
+}
+
+// The same, by the helper's parts.
+fn close_serving<D: Disk>(
+    shared: Shared,
+    ended: Vec<Ended>,
+    helper: Serving<D>,
+) -> Result<D, (D, CloseError)>
+    requires helper { IsHelper shared helper.seat }
+    requires lanes { shared.plan.lanes ≡ helper.store.known.layout.lanes }
     requires ended { AreEnded shared helper.store.known.layout.capacity helper.rings.items ended.items }
     requires nothing { taken_in helper.seat ≡ [] }
     ensures ok { (p : Past) → Serves helper.store.known (D.device helper.store.disk) helper.rings.items helper.waiting helper.is_settled (count_published helper.seat) (place_published helper.seat) (setting_of shared.plan) p
@@ -145,7 +167,7 @@ pub fn close_down<D: Disk>(
     ensures any_moment { (s : Setting) (p : Past) → HasTaken helper.store.known (D.device helper.store.disk) helper.rings.items helper.waiting s p
         → Stood helper.store.known.layout s p (D.device helper.store.disk) (D.device (disk_of result)) }
 {
-    let Helper {
+    let Serving {
         mut store,
         mut rings,
         mut waiting,
