@@ -13,7 +13,7 @@ ghost use Rattle.trim_helper.specs.Moves.{SameRings, most_room};
 ghost use Rattle.trim_helper.specs.Parts.{HasDrained, HasServed, IsServing};
 ghost use Rattle.trim_helper.specs.Rings.{received_of};
 ghost use Rattle.trim_helper.specs.Serving.{HoldHistory};
-ghost use Rattle.trim_helper.specs.Settled.{IsStop};
+ghost use Rattle.trim_helper.specs.Settled.{IsStop, IsWhy};
 ghost use Rattle.trim_helper.specs.Taken.{HasTaken, IsLaneStuck};
 ghost use Rattle.trim_helper.specs.declared.rings.TheConstants.{RING_RECORDS};
 
@@ -80,7 +80,7 @@ impl<D: Disk> Helper<D> {
         ensures stuck { OnOk result ((l : ℕ) (s : Setting) (p : Past) → l < length self.new.rings → HasPast self.new.store.known s p (D.device self.new.store.disk) → IsLaneStuck self.new.store.known self.new.rings self.new.waiting s p l) }
         ensures drained { (s : Setting) (p : Past) (h : List (ℕ × Event)) → HasTaken self.new.store.known (D.device self.new.store.disk) self.new.rings self.new.waiting s p
             → HoldHistory self.new.rings self.new.store.known.layout s p h → OnOk result ((l : ℕ) → lane_of l (applied p) ≡ lane_of l (log_of s h)) }
-        ensures failed { IfErr result (λ e. e ≡ Failed) }
+        ensures failed { IfErr result (λ e. (e ≡ Failed) × (self.old.store.known.has_failed ≡ true)) }
         ensures err { OnErr result ((n : ℕ) × HasDrained D.device self.old self.new n) }
         ensures settled { IfOk result (λ n. self.new.is_settled ≡ true → (self.old.is_settled ≡ true) × (n ≡ 0)) }
         ensures seat { self.new.seat ≡ self.old.seat }
@@ -101,6 +101,7 @@ impl<D: Disk> Helper<D> {
         ensures settled { OnOk result (self.new.is_settled ≡ true) }
         ensures quiet { self.old.is_settled ≡ true → IfOk result (λ n. n ≡ 0 → D.device self.new.store.disk ≡ D.device self.old.store.disk) }
         ensures stop { IfErr result IsStop }
+        ensures why { IfErr result (λ e. IsWhy self.old.store.known self.new.store.known e) }
         ensures err { (s : Setting) (p : Past) → IsServing D.device self.old s p → OnErr result ((n : ℕ) × HasServed D.device self.old self.new s p n) }
         ensures unsettled { OnErr result (self.new.is_settled ≡ false) }
         ensures cause { HasCause (D.device self.old.store.disk).failures (D.device self.new.store.disk).failures Fault result }

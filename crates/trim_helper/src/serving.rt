@@ -16,7 +16,7 @@ ghost use Rattle.trim_helper.specs.Rings.{received_of};
 ghost use Rattle.block_disk.specs.Device.{HasCause};
 ghost use Rattle.store_past.specs.declared.error.StoreError.TheVariants.{Fault};
 ghost use Rattle.trim_helper.specs.Helping.{IsHelper, count_published, place_published, taken_in};
-ghost use Rattle.trim_helper.specs.Settled.{IsStop};
+ghost use Rattle.trim_helper.specs.Settled.{IsStop, IsWhy};
 
 use crate::draining::drain_rings;
 use crate::published::publish;
@@ -76,6 +76,7 @@ impl<D: Disk> Serving<D> {
         ensures applied { IfOk result (λ n. Drains self.old.store.known (D.device self.old.store.disk) self.old.rings.items self.old.waiting self.new.store.known (D.device self.new.store.disk) self.new.rings.items self.new.waiting n) }
         ensures stuck { OnOk result ((l : ℕ) (s : Setting) (p : Past) → l < length self.new.rings.items → HasPast self.new.store.known s p (D.device self.new.store.disk) → IsLaneStuck self.new.store.known self.new.rings.items self.new.waiting s p l) }
         ensures failed { IfErr result (λ e. e ≡ Failed) }
+        ensures why { (s : Setting) (p : Past) → HasTaken self.old.store.known (D.device self.old.store.disk) self.old.rings.items self.old.waiting s p → OnErr result (self.old.store.known.has_failed ≡ true) }
         ensures kept { OnErr result ((n : ℕ) × Drains self.old.store.known (D.device self.old.store.disk) self.old.rings.items self.old.waiting self.new.store.known (D.device self.new.store.disk) self.new.rings.items self.new.waiting n) }
         ensures drained { (s : Setting) (p : Past) (h : List (ℕ × Event)) → HasTaken self.new.store.known (D.device self.new.store.disk) self.new.rings.items self.new.waiting s p
             → HoldHistory self.new.rings.items self.new.store.known.layout s p h → OnOk result ((l : ℕ) → lane_of l (applied p) ≡ lane_of l (log_of s h)) }
@@ -109,6 +110,7 @@ impl<D: Disk> Serving<D> {
         ensures unsettled { OnErr result (self.new.is_settled ≡ false) }
         ensures quiet { self.old.is_settled ≡ true → IfOk result (λ n. n ≡ 0 → D.device self.new.store.disk ≡ D.device self.old.store.disk) }
         ensures stop { IfErr result IsStop }
+        ensures why { IfErr result (λ e. IsWhy self.old.store.known self.new.store.known e) }
         ensures layout { self.new.store.known.layout ≡ self.old.store.known.layout }
         ensures seat { IsHelper shared.now self.new.seat }
         ensures gathered { taken_in self.new.seat ≡ taken_in self.old.seat }

@@ -1,7 +1,7 @@
-use Rattle.std.proofs.Common.{IfOk, sym, subst}
+use Rattle.std.proofs.Common.{IfErr, IfOk, sym, subst}
 use Rattle.monitor.specs.Words.{setting_of}
 use Rattle.trim_helper.specs.Closed.{IsClosedDown, Stood, disk_of}
-use Rattle.trim_helper.specs.Endings.{parts_of}
+use Rattle.trim_helper.specs.Endings.{IsCloseWhy, parts_of}
 use Rattle.trim_helper.specs.Parts.{IsServing}
 use Rattle.trim_helper.specs.Taken.{HasTaken}
 use Rattle.trim_helper.proofs.closing_down.close_down.Goals as goal
@@ -16,3 +16,9 @@ pub returns-clause-any_moment : goal.returns-clause-any_moment
 returns-clause-any_moment g c = λ s p has.
     subst (λ x. Stood x.store.known.layout s p (g.D.Disk.device x.store.disk) (g.D.Disk.device (disk_of c.close_serving.result))) c.helper.view_is
     (c.close_serving.ensures.any_moment s p (subst (λ x. HasTaken x.store.known (g.D.Disk.device x.store.disk) x.rings x.waiting s p) (sym c.helper.view_is) has))
+
+pub returns-clause-why : goal.returns-clause-why
+returns-clause-why g c =
+    let was = c.helper.invariant in
+    subst (λ x. IfErr c.close_serving.result (λ back. IsCloseWhy x.store.known (g.D.Disk.device x.store.disk) (g.D.Disk.device back.0) back.1)) c.helper.view_is
+    (c.close_serving.ensures.why was.setting was.past was.serving.taken)

@@ -1,7 +1,7 @@
 use Rattle.std.proofs.Common.{[], ◌++◌, ap, sym, subst}
 use Rattle.trim_helper.proofs.Rounds.{stood_still}
 use Rattle.trim_helper.specs.Closed.{IsClosedDown, Stood}
-use Rattle.trim_helper.specs.Endings.{HoldNone, IsComplete, RefusesEnded, parts_of}
+use Rattle.trim_helper.specs.Endings.{HoldNone, IsCloseWhy, IsComplete, RefusesEnded, parts_of}
 use Rattle.trim_helper.proofs.Gathering.{closing_refused, ended_refused}
 use Rattle.monitor.specs.Words.{setting_of}
 use Rattle.trim_helper.specs.Taken.{HasTaken}
@@ -42,3 +42,9 @@ returns-clause-refused g c =
     closing_refused c.args.helper.store.known.layout.lanes c.args.ended.items c.in-Err-finish.reason
     (subst HoldNone c.deref.ensures.value c.in_default.ensures.0) (subst (λ n. IsComplete n c.args.ended.items) lanes (subst (λ es. IsComplete c.layout-lanes.result.lanes es) c.deref.ensures.value c.in_default.ensures.1))
     c.in-Err-finish.ensures.stop
+
+pub returns-clause-why : goal.returns-clause-why
+returns-clause-why g c = λ s p has.
+    let x = c.args.helper in
+    subst (λ disk. IsCloseWhy x.store.known (g.D.Disk.device x.store.disk) (g.D.Disk.device disk) c.in-Err-finish.reason) (sym c.into_disk-in-Err-finish.ensures.disk)
+    (c.in-Err-finish.ensures.why s p (subst (λ rings. HasTaken x.store.known (g.D.Disk.device x.store.disk) rings x.waiting s p) (sym c.deref_mut.ensures.value) has))

@@ -1,5 +1,6 @@
 use Rattle.std.proofs.Common.{[], ◌≡◌, true, false, ◌∙◌, sym, ap, arith}
 use Rattle.trim_helper.specs.Helping.{count_published, place_published}
+use Rattle.store_past.specs.declared.error.StoreError.TheVariants.{Failed, Worn}
 use Rattle.trim_helper.proofs.Rounds.{moment_round, known_settled, drains_served, same_served, published_served, moved_seat}
 use Rattle.trim_helper.proofs.serving.Serving.round.Goals as goal
 
@@ -78,3 +79,15 @@ returns-in-Err-settle_applied-clause-serves g c = λ s p has.
 
 pub returns-clause-serves : goal.returns-clause-serves
 returns-clause-serves g c = λ s p has. (c.in-Ok.count, returns-clause-ok g c s p has)
+
+pub returns-in-Err-clause-why : goal.returns-in-Err-clause-why
+returns-in-Err-clause-why g c =
+    let known = c.requires.serves in
+    record { failed = λ is. c.in-Err.ensures.why known.0 known.1 known.2.taken; worn = λ is. absurd (let no : Failed ≡ Worn = sym c.in-Err.ensures.failed ∙ is in cc) }
+
+pub returns-in-Err-settle_applied-clause-why : goal.returns-in-Err-settle_applied-clause-why
+returns-in-Err-settle_applied-clause-why g c =
+    let known = c.requires.serves in
+    let was = drains_served _ _ _ _ _ _ _ _ _ _ false _ _ known.0 known.1 c.in-Ok.ensures.applied (λ is. absurd (let no : false ≡ true = is in cc)) known.2 in
+    let why = c.in-Err-settle_applied.ensures.why known.0 was.now was.serves.taken.has in
+    record { failed = λ is. sym c.in-Ok.ensures.applied.advances.running ∙ why.failed is; worn = why.worn }
