@@ -1,5 +1,5 @@
 -- Logged values go home, and the stable cut is acknowledged.
-use Rattle.std.proofs.Common.{ℕ, ◌≡◌, ◌+◌, ◌≤◌, ◌==◌, if◌then◌else◌, Bool, true, false, List, Result, Ok, Err, OnOk, OnErr, IfErr, IsErrOf, MatchResult, refl, sym, ap, ◌∙◌, subst, inl, inr, ⊎_elim, arith}
+use Rattle.std.proofs.Common.{ℕ, ◌≡◌, ◌≢◌, ◌⊎◌, ◌+◌, ◌≤◌, ◌==◌, if◌then◌else◌, Bool, true, false, List, Result, Ok, Err, OnOk, OnErr, IfErr, IsErrOf, MatchResult, refl, sym, ap, ◌∙◌, subst, inl, inr, ⊎_elim, arith}
 use Rattle.std.proofs.lemmas.Bool.{cases_lt}
 use Rattle.std.proofs.lemmas.Bool.Decides.{eqb_tells}
 use Rattle.heap_model.specs.Setting.{Setting}
@@ -25,7 +25,7 @@ use Rattle.store_past.specs.declared.error.StoreError.TheVariants.{Failed, BadLa
 use Rattle.store_image.specs.declared.home.Home.{Home}
 use Rattle.store_image.specs.declared.home.Home.TheVariants.{Wrote, Done}
 use Rattle.heap_model.specs.declared.ids.FieldId.{FieldId}
-use Rattle.trim_helper.specs.Settled.{HasClean, HasSame, IsSettled, IsStop, StandsForRound, StandsBefore, StandsAfter}
+use Rattle.trim_helper.specs.Settled.{HasClean, HasSame, IsSettled, IsStop, IsWhy, StandsForRound, StandsBefore, StandsAfter}
 
 module _ (x : Known) (d : Device) (s : Setting) (p : Past) where
   pub clean_none : HasPast x s p d → HasClean x d s p 0
@@ -199,3 +199,53 @@ module _ (l m : Layout) (s : Setting) (p : Past) (is : IsPast s p) where
       and_then d e f (StandsForRound l s (applied p) p.cut) was
       (weaker e f (StandsForEither l s (applied p) p.cut cut) (StandsForRound l s (applied p) p.cut) (λ image either. ⊎_elim (λ (st : StandsForCut l s (applied p) p.cut image). StandsBefore st) (λ (st : StandsForCut l s (applied p) cut image). StandsAfter cut stable st) either)
       (subst (λ k. LeavesOnly e f (StandsForEither k s (applied p) p.cut cut)) same on))
+
+-- why the helper stops, by the store
+
+pub why_home : (x : Known) (e : StoreError) → RefusesHome x e → (e ≡ Failed → x.has_failed ≡ true) × (e ≢ Worn)
+why_home x Failed h = (λ is. h, λ is. absurd cc)
+why_home x Fault h = (λ is. absurd cc, λ is. absurd cc)
+why_home x BadLane h = elim h [ ]
+why_home x BadId h = elim h [ ]
+why_home x Worn h = elim h [ ]
+why_home x NotNext h = elim h [ ]
+why_home x TooLong h = elim h [ ]
+why_home x LogFull h = elim h [ ]
+why_home x Unwritten h = elim h [ ]
+why_home x Unfinished h = elim h [ ]
+
+pub why_log : (x y : Known) (p : Past) (e : StoreError) → RefusesLog x p e → (e ≡ Fault) ⊎ (y ≡ x) → IsWhy x y e
+why_log x y p Failed h same = record { failed = λ is. h; worn = λ is. absurd cc }
+why_log x y p Worn h same = record { failed = λ is. absurd cc; worn = λ is. ⊎_elim (λ no. absurd cc) (λ as_was. ap (λ (z : Known). z.committed.sequence) as_was ∙ h.1) same }
+why_log x y p Fault h same = record { failed = λ is. absurd cc; worn = λ is. absurd cc }
+why_log x y p BadLane h same = elim h [ ]
+why_log x y p BadId h same = elim h [ ]
+why_log x y p NotNext h same = elim h [ ]
+why_log x y p TooLong h same = elim h [ ]
+why_log x y p LogFull h same = elim h [ ]
+why_log x y p Unwritten h same = elim h [ ]
+why_log x y p Unfinished h same = elim h [ ]
+
+why_refused : (x y z : Known) (s : Setting) (p : Past) (e : StoreError) → y.has_failed ≡ false → RefusesSettle y s p e → (e ≡ Fault) ⊎ (z ≡ y) → IsWhy x z e
+why_refused x y z s p Failed runs h same = absurd (let no : false ≡ true = sym runs ∙ h in cc)
+why_refused x y z s p Worn runs h same = record { failed = λ is. absurd cc; worn = λ is. ⊎_elim (λ no. absurd cc) (λ as_was. ap (λ (k : Known). k.committed.sequence) as_was ∙ h.2) same }
+why_refused x y z s p Fault runs h same = record { failed = λ is. absurd cc; worn = λ is. absurd cc }
+why_refused x y z s p Unwritten runs h same = record { failed = λ is. absurd cc; worn = λ is. absurd cc }
+why_refused x y z s p BadLane runs h same = elim h [ ]
+why_refused x y z s p BadId runs h same = elim h [ ]
+why_refused x y z s p NotNext runs h same = elim h [ ]
+why_refused x y z s p TooLong runs h same = elim h [ ]
+why_refused x y z s p LogFull runs h same = elim h [ ]
+why_refused x y z s p Unfinished runs h same = elim h [ ]
+
+pub why_settle : {T : Type 0} (x y z : Known) (s : Setting) (p : Past) (r : Result T StoreError) → y.has_failed ≡ false → MatchResult r (λ done. (y.has_failed ≡ false) × IsClean s p) (RefusesSettle y s p) → IfErr r (λ e. (e ≡ Fault) ⊎ (z ≡ y)) → IfErr r (λ e. IsWhy x z e)
+why_settle x y z s p (Ok t) runs h same = tt
+why_settle x y z s p (Err e) runs h same = why_refused x y z s p e runs h same
+
+pub if_err_more : {T E : Type 0} (r : Result T E) (P Q : E → Type 0) → ((e : E) → P e → Q e) → IfErr r P → IfErr r Q
+if_err_more (Ok t) P Q f h = tt
+if_err_more (Err e) P Q f h = f e h
+
+pub err_both : {T E : Type 0} (r : Result T E) (P : E → Type 0) (Q : Type 0) → IfErr r P → OnErr r Q → IfErr r (λ e. P e × Q)
+err_both (Ok t) P Q f h = tt
+err_both (Err e) P Q f h = (f, h)

@@ -9,3 +9,4 @@ pub mod Drained
 pub mod Gathering
 pub mod SeatLemmas
 pub mod SettingLemmas
+pub mod ClosingReasons

@@ -1,5 +1,5 @@
 -- A round of the helper.
-use Rattle.std.proofs.Common.{ℕ, zero, suc, ◌≡◌, ◌≢◌, ◌+◌, ◌<◌, ◌≤◌, ◌==◌, if◌then◌else◌, Bool, true, false, List, [], ◌∷◌, ◌++◌, length, replicate, Option, None, refl, sym, ap, ◌∙◌, subst, inl, inr, arith}
+use Rattle.std.proofs.Common.{ℕ, zero, suc, ◌≡◌, ◌≢◌, ◌+◌, ◌<◌, ◌≤◌, ◌==◌, if◌then◌else◌, Bool, true, false, List, [], ◌∷◌, ◌++◌, length, replicate, Result, Ok, Err, IfOk, OnErr, Option, None, refl, sym, ap, ◌∙◌, subst, inl, inr, arith}
 use Rattle.std.proofs.lemmas.Bool.Decides.{eqb_tells}
 use Rattle.std.proofs.lemmas.List.{append_assoc}
 use Rattle.rtrb.specs.declared.consumer.Consumer.{Consumer}
@@ -127,6 +127,11 @@ module _ {A P : Type 0} where
     moments = was.moments;
   }
 
+  -- whether all is settled is known
+  pub known_settled : {H : Type 0} (count place : H → ℕ → ℕ) (d0 : Device) (x : Known) (d : Device) (r : List (Consumer Record A P)) (w : List (Option Record)) (b c : Bool) (s : Setting) (p : Past) (n : ℕ) (h : H) → b ≡ c →
+      Served d0 x d r w b (count h) (place h) s p n → Served d0 x d r w c (count h) (place h) s p n
+  known_settled {H} count place d0 x d r w b c s p n h same was = subst (λ (k : Bool). Served d0 x d r w k (count h) (place h) s p n) same was
+
   pub drains_device : (x x' : Known) (d d' : Device) (r0 r1 : List (Consumer Record A P)) (w0 w1 : List (Option Record)) (n : ℕ) → Drains x d r0 w0 x' d' r1 w1 n → d' ≡ d
   drains_device x x' d d' r0 r1 w0 w1 n drains = drains.advances.device
 
@@ -151,6 +156,12 @@ stood_round x x' d d' r0 r1 w0 w1 n s p e drains taken moment =
 
 pub stood_still : (l : Layout) (s : Setting) (p : Past) (d e : Device) → IsLegal s (applied p) → e ≡ d → Stood l s p d e
 stood_still l s p d e legal same = record { newer = []; legal = legal; leaves = moment_drained d e l s (applied p) p.cut same }
+
+-- whatever a drain answered, the helper goes on
+pub drains_either : {A P E : Type 0} (x x' : Known) (d d' : Device) (r0 r1 : List (Consumer Record A P)) (w0 w1 : List (Option Record)) (b b' : Bool) (count place : ℕ → ℕ) (s : Setting) (p : Past) (answer : Result ℕ E) → IfOk answer (λ n. Drains x d r0 w0 x' d' r1 w1 n) →
+    OnErr answer ((n : ℕ) × Drains x d r0 w0 x' d' r1 w1 n) → IfOk answer (λ n. b' ≡ true → (b ≡ true) × (n ≡ 0)) → OnErr answer (b' ≡ false) → Serves x d r0 w0 b count place s p → (n : ℕ) × Served d x' d' r1 w1 b' count place s p n
+drains_either x x' d d' r0 r1 w0 w1 b b' count place s p (Ok n) ok err quiet off was = (n, drains_served x x' d d' r0 r1 w0 w1 n b b' count place s p ok quiet was)
+drains_either x x' d d' r0 r1 w0 w1 b b' count place s p (Err e) ok err quiet off was = (err.0, drains_served x x' d d' r0 r1 w0 w1 err.0 b b' count place s p err.1 (λ is. absurd (let no : false ≡ true = sym off ∙ is in cc)) was)
 
 -- nothing was taken yet
 pub serves_new : {A P : Type 0} (x : Known) (d : Device) (r : List (Consumer Record A P)) (w : List (Option Record)) (s : Setting) (p : Past) (count place : ℕ → ℕ) → ((l : ℕ) → waiting_in w l ≡ None) → HasPast x s p d → applied p ≡ [] → ((l : ℕ) → received_of r l ≡ []) →

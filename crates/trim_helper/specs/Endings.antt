@@ -1,10 +1,14 @@
 -- The sessions that meet the helper.
-use Rattle.std.specs.Prelude.{ℕ, ◌≡◌, ◌≢◌, ◌⊎◌, ◌+◌, ◌<◌, ◌≤◌, ◌==◌, if◌then◌else◌, List, [], ◌∷◌, map, length}
+use Rattle.std.specs.Prelude.{ℕ, ◌≡◌, ◌≢◌, ◌⊎◌, true, ◌+◌, ◌-◌, ◌^◌, ◌<◌, ◌≤◌, ◌==◌, if◌then◌else◌, List, [], ◌∷◌, map, length}
 use Rattle.std.specs.Global.{Global}
 use Rattle.rtrb.specs.Ring.{sent}
 use Rattle.rtrb.specs.declared.AnyItems.{AnyItems}
 use Rattle.rtrb.specs.declared.consumer.Consumer.{Consumer}
 use Rattle.heap_model.specs.declared.record.Record.{Record}
+use Rattle.heap_model.specs.Setting.{Setting}
+use Rattle.block_disk.specs.Device.{Device, HasFailed}
+use Rattle.durable.specs.Store.{Known, HasPast}
+use Rattle.store_past.specs.Past.{Past}
 use Rattle.heap_model.specs.Own.{own_log, sent_of}
 use Rattle.heap_model.specs.Sections.{action, holding}
 use Rattle.monitor.specs.Words.{setting_of}
@@ -76,6 +80,14 @@ RefusesEnded lanes es (Missing l) = (l.0 < lanes) × (count_lane l.0 es ≢ 1) �
 RefusesEnded lanes es (Unfinished l) = IsComplete lanes es × HasOpen l.0 es × ((k : ℕ) → HasOpen k es → l.0 ≤ k)
 RefusesEnded lanes es _ = ⊥
 
+-- the device is that of a store whose control has the last sequence
+pub record IsWornOut (d : Device) : Type 0 where
+  pub known : Known
+  pub setting : Setting
+  pub past : Past
+  pub has : HasPast known setting past d
+  pub last : known.committed.sequence ≡ 2 ^ 64 - 1
+
 -- what of a store stops the closing
 abbrev pub IsCloseStop : CloseError → Type 0
 IsCloseStop e = (e ≡ Failed) ⊎ ((e ≡ Worn) ⊎ (e ≡ Fault))
@@ -85,3 +97,9 @@ abbrev pub RefusesClosing : (lanes : ℕ) → List Ended → CloseError → Type
 RefusesClosing lanes es (Missing l) = RefusesEnded lanes es (Missing l)
 RefusesClosing lanes es (Unfinished l) = RefusesEnded lanes es (Unfinished l)
 RefusesClosing lanes es _ = HoldNone es × IsComplete lanes es
+
+-- why the store stops it: the device had failed before; a control that the device has is at its last sequence; or the device has failed since
+pub record IsCloseWhy (old : Known) (before now : Device) (e : CloseError) : Type 0 where
+  pub failed : e ≡ Failed → old.has_failed ≡ true
+  pub worn : e ≡ Worn → IsWornOut now
+  pub fault : e ≡ Fault → HasFailed before.failures now.failures

@@ -1,11 +1,14 @@
+-- The promise: what a helper is and what its calls make of it; what opening a heap needs; what closing it down needs and gives.
+pub mod Parts
+pub mod Serving
+pub mod Taken
+pub mod Settled
+pub mod Helping
 pub mod Rings
 pub mod Moves
 pub mod Limits
-pub mod Taken
-pub mod Settled
-pub mod Serving
-pub mod Meeting
-pub mod Closed
-pub mod Endings
-pub mod Helping
 pub mod Opening
+pub mod Endings
+pub mod Closed
+-- The scaffold: what is known while the sessions that have ended meet their rings.
+pub mod Meeting

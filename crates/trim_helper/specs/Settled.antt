@@ -1,5 +1,5 @@
 -- What making records durable makes of a past.
-use Rattle.std.specs.Prelude.{ℕ, ◌≡◌, ◌<◌, ◌≤◌, ◌⊎◌, Bool, false, List, []}
+use Rattle.std.specs.Prelude.{ℕ, ◌≡◌, ◌<◌, ◌≤◌, ◌⊎◌, ◌-◌, ◌^◌, Bool, true, false, List, []}
 use Rattle.heap_model.specs.declared.record.Record.{Record}
 use Rattle.heap_model.specs.Setting.{Setting}
 use Rattle.heap_model.specs.Sections.{actions}
@@ -42,3 +42,8 @@ IsStop e = (e ≡ Failed) ⊎ ((e ≡ Worn) ⊎ (e ≡ Fault))
 pub data StandsForRound (l : Layout) (s : Setting) (log : List (ℕ × Record)) (cut : ℕ → ℕ) (image : List ℕ) : Type 0 where
   StandsBefore : StandsForCut l s log cut image → StandsForRound l s log cut image
   StandsAfter : (stable : ℕ → ℕ) → IsStable (actions log) stable → StandsForCut l s log stable image → StandsForRound l s log cut image
+
+-- why nothing more is made durable: the device had failed before, or the control's sequence is at its last value
+pub record IsWhy (old new : Known) (e : StoreError) : Type 0 where
+  pub failed : e ≡ Failed → old.has_failed ≡ true
+  pub worn : e ≡ Worn → new.committed.sequence ≡ 2 ^ 64 - 1

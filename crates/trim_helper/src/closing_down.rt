@@ -5,9 +5,10 @@ ghost use Rattle.heap_model.specs.Setting.{Setting};
 ghost use Rattle.monitor.specs.Words.{setting_of};
 ghost use Rattle.trim_helper.specs.Closed.{HasSpelled, IsClosedDown, Stood, disk_of};
 ghost use Rattle.trim_helper.specs.Helping.{IsHelper, count_published, place_published, taken_in};
-ghost use Rattle.trim_helper.specs.Endings.{AreEnded, HasOpen, HoldNone, IsCloseStop, IsComplete, RefusesClosing, RefusesEnded, count_lane, parts_of};
+ghost use Rattle.trim_helper.specs.Endings.{AreEnded, HasOpen, HoldNone, IsCloseStop, IsCloseWhy, IsComplete, RefusesClosing, RefusesEnded, count_lane, parts_of};
 ghost use Rattle.trim_helper.specs.Moves.{most_room};
 ghost use Rattle.trim_helper.specs.declared.rings.TheConstants.{RING_RECORDS};
+ghost use Rattle.trim_helper.specs.Parts.{IsServing};
 ghost use Rattle.trim_helper.specs.Serving.{Serves};
 ghost use Rattle.trim_helper.specs.Taken.{HasTaken, trimmed_of};
 
@@ -18,6 +19,7 @@ use crate::helper::Helper;
 use crate::meeting::meet;
 use crate::published::close;
 use crate::rings::RING_RECORDS;
+use crate::serving::Serving;
 use crate::settling::settle_applied;
 use block_disk::Disk;
 use durable::Store;
@@ -105,6 +107,8 @@ fn finish<D: Disk>(
     ensures ok { (p : Past) → HasTaken store.old.known (D.device store.old.disk) rings.old waiting.old (setting_of shared.plan) p → ((l : ℕ) → l < store.old.known.layout.lanes → (count_published seat l ≤ p.cut l) × (place_published seat l ≤ trimmed_of p l))
         → IfOk result (HasSpelled (setting_of shared.plan) shared.plan.lanes store.old.known.layout (parts_of ended.items) p.cut (D.device store.new.disk)) }
     ensures stop { IfErr result IsCloseStop }
+    ensures why { (s : Setting) (p : Past) → HasTaken store.old.known (D.device store.old.disk) rings.old waiting.old s p
+        → IfErr result (λ e. IsCloseWhy store.old.known (D.device store.old.disk) (D.device store.new.disk) e) }
     ensures any_moment { (s : Setting) (p : Past) → HasTaken store.old.known (D.device store.old.disk) rings.old waiting.old s p
         → Stood store.old.known.layout s p (D.device store.old.disk) (D.device store.new.disk) }
 {
@@ -137,15 +141,38 @@ pub fn close_down<D: Disk>(
 ) -> Result<D, (D, CloseError)>
     requires helper { IsHelper shared helper.seat }
     requires lanes { shared.plan.lanes ≡ helper.store.known.layout.lanes }
+    requires ended { AreEnded shared helper.store.known.layout.capacity helper.rings ended.items }
+    requires nothing { taken_in helper.seat ≡ [] }
+    ensures ok { (p : Past) → IsServing D.device helper (setting_of shared.plan) p
+        → IfOk result (λ disk. IsClosedDown (setting_of shared.plan) shared.plan.lanes helper.store.known.layout (parts_of ended.items) p.cut (D.device disk)) }
+    ensures refused { MatchResult result (λ disk. HoldNone ended.items × IsComplete helper.store.known.layout.lanes ended.items) (λ back. RefusesClosing helper.store.known.layout.lanes ended.items back.1) }
+    ensures why { IfErr result (λ back. IsCloseWhy helper.store.known (D.device helper.store.disk) (D.device back.0) back.1) }
+    ensures any_moment { (s : Setting) (p : Past) → HasTaken helper.store.known (D.device helper.store.disk) helper.rings helper.waiting s p
+        → Stood helper.store.known.layout s p (D.device helper.store.disk) (D.device (disk_of result)) }
+{
+    let Helper { serving } = helper;
+    close_serving(shared, ended, serving)
+}
+
+// The same, by the helper's parts.
+fn close_serving<D: Disk>(
+    shared: Shared,
+    ended: Vec<Ended>,
+    helper: Serving<D>,
+) -> Result<D, (D, CloseError)>
+    requires helper { IsHelper shared helper.seat }
+    requires lanes { shared.plan.lanes ≡ helper.store.known.layout.lanes }
     requires ended { AreEnded shared helper.store.known.layout.capacity helper.rings.items ended.items }
     requires nothing { taken_in helper.seat ≡ [] }
     ensures ok { (p : Past) → Serves helper.store.known (D.device helper.store.disk) helper.rings.items helper.waiting helper.is_settled (count_published helper.seat) (place_published helper.seat) (setting_of shared.plan) p
         → IfOk result (λ disk. IsClosedDown (setting_of shared.plan) shared.plan.lanes helper.store.known.layout (parts_of ended.items) p.cut (D.device disk)) }
     ensures refused { MatchResult result (λ disk. HoldNone ended.items × IsComplete helper.store.known.layout.lanes ended.items) (λ back. RefusesClosing helper.store.known.layout.lanes ended.items back.1) }
+    ensures why { (s : Setting) (p : Past) → HasTaken helper.store.known (D.device helper.store.disk) helper.rings.items helper.waiting s p
+        → IfErr result (λ back. IsCloseWhy helper.store.known (D.device helper.store.disk) (D.device back.0) back.1) }
     ensures any_moment { (s : Setting) (p : Past) → HasTaken helper.store.known (D.device helper.store.disk) helper.rings.items helper.waiting s p
         → Stood helper.store.known.layout s p (D.device helper.store.disk) (D.device (disk_of result)) }
 {
-    let Helper {
+    let Serving {
         mut store,
         mut rings,
         mut waiting,

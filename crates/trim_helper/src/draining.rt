@@ -30,6 +30,7 @@ pub fn go_on<D: Disk>(
     requires few { lane < 32 }
     ensures went { IfOk result (λ b. Advances store.old.known (D.device store.old.disk) rings.old waiting.old store.new.known (D.device store.new.disk) rings.new waiting.new (if b then 1 else 0)) }
     ensures failed { IfErr result (λ e. e ≡ Failed) }
+    ensures why { (s : Setting) (p : Past) → HasPast store.old.known s p (D.device store.old.disk) → OnErr result (store.old.known.has_failed ≡ true) }
     ensures kept { OnErr result (Advances store.old.known (D.device store.old.disk) rings.old waiting.old store.new.known (D.device store.new.disk) rings.new waiting.new 0) }
     ensures stuck { IfOk result (λ b. b ≡ false → (store.new ≡ store.old) × ((s : Setting) (p : Past) → HasPast store.new.known s p (D.device store.new.disk) → IsLaneStuck store.new.known rings.new waiting.new s p lane)) }
     ensures others { IfOk result (λ b. (l : ℕ) (s : Setting) (p : Past) → b ≡ false → lane ≢ l → IsLaneStuck store.old.known rings.old waiting.old s p l → IsLaneStuck store.new.known rings.new waiting.new s p l) }
@@ -70,6 +71,7 @@ pub fn turn<D: Disk>(
     ensures stuck { IfOk result (λ n. n ≡ 0 → (l : ℕ) (s : Setting) (p : Past) → l < length rings.new → HasPast store.new.known s p (D.device store.new.disk) → IsLaneStuck store.new.known rings.new waiting.new s p l) }
     ensures few { IfOk result (λ n. n ≤ 32) }
     ensures failed { IfErr result (λ e. e ≡ Failed) }
+    ensures why { (s : Setting) (p : Past) → HasTaken store.old.known (D.device store.old.disk) rings.old waiting.old s p → OnErr result (store.old.known.has_failed ≡ true) }
     ensures kept { OnErr result ((n : ℕ) × Advances store.old.known (D.device store.old.disk) rings.old waiting.old store.new.known (D.device store.new.disk) rings.new waiting.new n) }
 {
     let mut went = 0u64;
@@ -97,6 +99,7 @@ pub fn drain_known<D: Disk>(
     ensures advances { IfOk result (λ n. Advances store.old.known (D.device store.old.disk) rings.old waiting.old store.new.known (D.device store.new.disk) rings.new waiting.new n) }
     ensures stuck { OnOk result ((l : ℕ) (s : Setting) (p : Past) → l < length rings.new → HasPast store.new.known s p (D.device store.new.disk) → IsLaneStuck store.new.known rings.new waiting.new s p l) }
     ensures failed { IfErr result (λ e. e ≡ Failed) }
+    ensures why { (s : Setting) (p : Past) → HasTaken store.old.known (D.device store.old.disk) rings.old waiting.old s p → OnErr result (store.old.known.has_failed ≡ true) }
     ensures kept { OnErr result ((n : ℕ) × Advances store.old.known (D.device store.old.disk) rings.old waiting.old store.new.known (D.device store.new.disk) rings.new waiting.new n) }
 {
     next_law();
@@ -132,6 +135,7 @@ pub fn drain_rings<D: Disk>(
     ensures applied { IfOk result (λ n. Drains store.old.known (D.device store.old.disk) rings.old waiting.old store.new.known (D.device store.new.disk) rings.new waiting.new n) }
     ensures stuck { OnOk result ((l : ℕ) (s : Setting) (p : Past) → l < length rings.new → HasPast store.new.known s p (D.device store.new.disk) → IsLaneStuck store.new.known rings.new waiting.new s p l) }
     ensures failed { IfErr result (λ e. e ≡ Failed) }
+    ensures why { (s : Setting) (p : Past) → HasTaken store.old.known (D.device store.old.disk) rings.old waiting.old s p → OnErr result (store.old.known.has_failed ≡ true) }
     ensures kept { OnErr result ((n : ℕ) × Drains store.old.known (D.device store.old.disk) rings.old waiting.old store.new.known (D.device store.new.disk) rings.new waiting.new n) }
 {
     look(rings);

@@ -1,154 +1,122 @@
 //! The helper.
-ghost use Rattle.std.specs.Prelude.{◌≡◌, ◌+◌, ◌<◌, ◌≤◌, ◌++◌, [], ℕ, List, true, false, vec_len, length, IfErr, IfOk, OnErr, OnOk};
-ghost use Rattle.heap_model.specs.Setting.{Setting};
-ghost use Rattle.heap_model.specs.declared.record.Record.{Record};
-ghost use Rattle.store_past.specs.Past.{Past, applied};
+ghost use Rattle.std.specs.Prelude.{◌≡◌, ◌<◌, ◌≤◌, [], ℕ, List, true, false, vec_len, length, IfErr, IfOk, OnErr, OnOk};
+ghost use Rattle.block_disk.specs.Device.{HasCause};
 ghost use Rattle.durable.specs.Store.{HasPast};
-ghost use Rattle.store_past.specs.declared.error.StoreError.TheVariants.{Failed};
-ghost use Rattle.trim_helper.specs.Moves.{most_room, SameRings};
-ghost use Rattle.trim_helper.specs.Taken.{HasTaken, IsLaneStuck, trimmed_of};
-ghost use Rattle.trim_helper.specs.Serving.{Drains, HoldHistory, Served, Serves};
 ghost use Rattle.heap_model.specs.declared.event.Event.{Event};
 ghost use Rattle.heap_model.specs.History.{log_of};
 ghost use Rattle.heap_model.specs.Log.{lane as lane_of};
-ghost use Rattle.trim_helper.specs.declared.rings.TheConstants.{RING_RECORDS};
-ghost use Rattle.trim_helper.specs.Rings.{received_of};
-ghost use Rattle.block_disk.specs.Device.{HasCause};
-ghost use Rattle.store_past.specs.declared.error.StoreError.TheVariants.{Fault};
+ghost use Rattle.heap_model.specs.Setting.{Setting};
+ghost use Rattle.store_past.specs.Past.{Past, applied, no_past};
+ghost use Rattle.store_past.specs.declared.error.StoreError.TheVariants.{Failed, Fault};
 ghost use Rattle.trim_helper.specs.Helping.{IsHelper, count_published, place_published, taken_in};
-ghost use Rattle.trim_helper.specs.Settled.{IsStop};
+ghost use Rattle.trim_helper.specs.Moves.{SameRings, most_room};
+ghost use Rattle.trim_helper.specs.Parts.{HasDrained, HasServed, IsServing};
+ghost use Rattle.trim_helper.specs.Rings.{received_of};
+ghost use Rattle.trim_helper.specs.Serving.{HoldHistory};
+ghost use Rattle.trim_helper.specs.Settled.{IsStop, IsWhy};
+ghost use Rattle.trim_helper.specs.Taken.{HasTaken, IsLaneStuck};
+ghost use Rattle.trim_helper.specs.declared.rings.TheConstants.{RING_RECORDS};
 
-use crate::draining::drain_rings;
-use crate::published::publish;
 use crate::rings::RING_RECORDS;
-use crate::settling::settle_applied;
+use crate::serving::Serving;
 use block_disk::Disk;
 use durable::{Store, StoreError};
-use heap_model::{LANES, Lane, Record};
+use heap_model::{Lane, Record};
 use monitor::{HelperSeat, Shared};
 use rtrb::Consumer;
+use std::marker::Model;
 
-/// It owns the store, and applies to it what the sessions send.
+/// The helper: it owns the store, applies to it what the sessions send through their rings, makes that durable, and publishes
+/// how many sections of each lane are acknowledged.
+///
+/// After a `Fault` each call that applies or writes answers `Failed`, as the store's do; what there is to read stays. Contracts
+/// see it as its `Parts`.
 #[derive(Drop)]
 pub struct Helper<D: Disk> {
-    pub(crate) store: Store<D>,
-    pub(crate) rings: Vec<Consumer<Record>>,
-    pub(crate) waiting: [Option<Record>; LANES],
-    pub(crate) seat: HelperSeat,
-    // Nothing was applied since a round answered Ok.
-    pub(crate) is_settled: bool,
-    ghost lanes: { vec_len rings ≡ store.known.layout.lanes },
-    ghost few: { vec_len rings ≤ 32 },
-    ghost rooms: { most_room rings.items ≤ RING_RECORDS },
+    pub(crate) serving: Serving<D>,
+}
+
+impl<D: Disk> Model for Helper<D> {
+    ghost use Rattle.trim_helper.specs.Parts.{Parts, IsWhole};
+
+    ghost Value = { Parts D };
+
+    ghost view = { λ h. record { store = h.serving.store; rings = h.serving.rings.items; waiting = h.serving.waiting; is_settled = h.serving.is_settled; seat = h.serving.seat } };
+
+    ghost invariant = { λ h. IsWhole D.device (record { store = h.serving.store; rings = h.serving.rings.items; waiting = h.serving.waiting; is_settled = h.serving.is_settled; seat = h.serving.seat }) };
 }
 
 impl<D: Disk> Helper<D> {
-    /// A helper that has taken nothing from its rings.
+    /// The helper of a store that was told nothing, with the ends of the rings, lane i's as the i-th, from which nothing was taken,
+    /// and with the helper's seat, which has published nothing.
     pub fn new(store: Store<D>, rings: Vec<Consumer<Record>>, seat: HelperSeat) -> Helper<D>
         requires lanes { vec_len rings ≡ store.known.layout.lanes }
-        requires few { vec_len rings ≤ 32 }
         requires rooms { most_room rings.items ≤ RING_RECORDS }
-        ensures serves { (s : Setting) (p : Past) (count place : ℕ → ℕ) → HasPast store.known s p (D.device store.disk) → applied p ≡ [] → ((l : ℕ) → received_of rings.items l ≡ [])
-            → ((l : ℕ) → count l ≡ 0) → ((l : ℕ) → place l ≡ 0) → Serves result.store.known (D.device result.store.disk) result.rings.items result.waiting result.is_settled count place s p }
-        ensures parts { (result.store ≡ store) × (result.rings ≡ rings) × (result.seat ≡ seat) }
+        requires untaken { (l : ℕ) → received_of rings.items l ≡ [] }
+        requires untold { (s : Setting) × HasPast store.known s no_past (D.device store.disk) }
+        requires silent { (l : ℕ) → (count_published seat l ≡ 0) × (place_published seat l ≡ 0) }
+        ensures serves { (s : Setting) → HasPast store.known s no_past (D.device store.disk) → IsServing D.device result s no_past }
+        ensures parts { (result.store ≡ store) × (result.rings ≡ rings.items) × (result.seat ≡ seat) }
     {
         Helper {
-            store,
-            rings,
-            waiting: [None; LANES],
-            seat,
-            is_settled: false,
+            serving: Serving::new(store, rings, seat),
         }
     }
 
     /// How many sections of the lane are acknowledged.
     pub fn acknowledged(&self, lane: Lane) -> u64
         requires { lane.0 < self.now.store.known.layout.lanes }
-        ensures { (s : Setting) (p : Past) → HasPast self.now.store.known s p (D.device self.now.store.disk) → result ≡ p.cut lane.0 }
+        ensures { (s : Setting) (p : Past) → IsServing D.device self.now s p → result ≡ p.cut lane.0 }
     {
-        self.store.acknowledged(lane)
+        self.serving.acknowledged(lane)
     }
 
-    /// Applies records that are next in their lanes, until none is.
+    /// Applies records that are next in their lanes, in memory alone, until none is, and answers how many. It looks at each ring
+    /// once, and takes what was there then, at most `RING_RECORDS` of each lane. A record that isn't next waits for the next call.
+    ///
+    /// It refuses with `Failed` alone; what it applied before stands.
     pub fn drain(&mut self) -> Result<u64, StoreError>
-        ensures applied { IfOk result (λ n. Drains self.old.store.known (D.device self.old.store.disk) self.old.rings.items self.old.waiting self.new.store.known (D.device self.new.store.disk) self.new.rings.items self.new.waiting n) }
-        ensures stuck { OnOk result ((l : ℕ) (s : Setting) (p : Past) → l < length self.new.rings.items → HasPast self.new.store.known s p (D.device self.new.store.disk) → IsLaneStuck self.new.store.known self.new.rings.items self.new.waiting s p l) }
-        ensures failed { IfErr result (λ e. e ≡ Failed) }
-        ensures kept { OnErr result ((n : ℕ) × Drains self.old.store.known (D.device self.old.store.disk) self.old.rings.items self.old.waiting self.new.store.known (D.device self.new.store.disk) self.new.rings.items self.new.waiting n) }
-        ensures drained { (s : Setting) (p : Past) (h : List (ℕ × Event)) → HasTaken self.new.store.known (D.device self.new.store.disk) self.new.rings.items self.new.waiting s p
-            → HoldHistory self.new.rings.items self.new.store.known.layout s p h → OnOk result ((l : ℕ) → lane_of l (applied p) ≡ lane_of l (log_of s h)) }
-        ensures layout { self.new.store.known.layout ≡ self.old.store.known.layout }
-        ensures seat { self.new.seat ≡ self.old.seat }
+        ensures ok { IfOk result (λ n. HasDrained D.device self.old self.new n) }
+        ensures stuck { OnOk result ((l : ℕ) (s : Setting) (p : Past) → l < length self.new.rings → HasPast self.new.store.known s p (D.device self.new.store.disk) → IsLaneStuck self.new.store.known self.new.rings self.new.waiting s p l) }
+        ensures drained { (s : Setting) (p : Past) (h : List (ℕ × Event)) → HasTaken self.new.store.known (D.device self.new.store.disk) self.new.rings self.new.waiting s p
+            → HoldHistory self.new.rings self.new.store.known.layout s p h → OnOk result ((l : ℕ) → lane_of l (applied p) ≡ lane_of l (log_of s h)) }
+        ensures failed { IfErr result (λ e. (e ≡ Failed) × (self.old.store.known.has_failed ≡ true)) }
+        ensures err { OnErr result ((n : ℕ) × HasDrained D.device self.old self.new n) }
         ensures settled { IfOk result (λ n. self.new.is_settled ≡ true → (self.old.is_settled ≡ true) × (n ≡ 0)) }
-        ensures stays { IfOk result (λ n. n ≡ 0 → self.old.is_settled ≡ true → self.new.is_settled ≡ true) }
-        ensures unsettled { OnErr result (self.new.is_settled ≡ false) }
+        ensures seat { self.new.seat ≡ self.old.seat }
+        ensures layout { self.new.store.known.layout ≡ self.old.store.known.layout }
     {
-        let was_settled = self.is_settled;
-        self.is_settled = false;
-        match drain_rings(&mut self.store, &mut self.rings, &mut self.waiting) {
-            Ok(count) => {
-                self.is_settled = was_settled && count == 0;
-                Ok(count)
-            }
-            Err(reason) => Err(reason),
-        }
+        self.serving.drain()
     }
 
-    /// Drains the rings, makes what was applied durable, acknowledges its stable cut, and publishes that.
+    /// Drains the rings, logs what was applied, writes it home, acknowledges its stable cut, and then publishes that. It answers
+    /// how many records it applied. With nothing applied since the last round that answered Ok it makes no device call.
+    ///
+    /// Refusals: `Failed`; `Worn`: the control's sequence is at its last value; `Fault`: a call of the device failed now. What was
+    /// done before one stands, and nothing is published.
     pub fn round(&mut self, shared: &Shared) -> Result<u64, StoreError>
         requires seat { IsHelper shared.now self.old.seat }
         requires lanes { shared.now.plan.lanes ≡ self.old.store.known.layout.lanes }
-        requires serves { (s : Setting) × (p : Past) × Serves self.old.store.known (D.device self.old.store.disk) self.old.rings.items self.old.waiting self.old.is_settled (count_published self.old.seat) (place_published self.old.seat) s p }
-        ensures ok { (s : Setting) (p : Past) → Serves self.old.store.known (D.device self.old.store.disk) self.old.rings.items self.old.waiting self.old.is_settled (count_published self.old.seat) (place_published self.old.seat) s p
-            → IfOk result (λ n. Served (D.device self.old.store.disk) self.new.store.known (D.device self.new.store.disk) self.new.rings.items self.new.waiting true (count_published self.new.seat) (place_published self.new.seat) s p n) }
-        ensures err { (s : Setting) (p : Past) → Serves self.old.store.known (D.device self.old.store.disk) self.old.rings.items self.old.waiting self.old.is_settled (count_published self.old.seat) (place_published self.old.seat) s p
-            → OnErr result ((n : ℕ) × Served (D.device self.old.store.disk) self.new.store.known (D.device self.new.store.disk) self.new.rings.items self.new.waiting false (count_published self.new.seat) (place_published self.new.seat) s p n) }
+        ensures ok { (s : Setting) (p : Past) → IsServing D.device self.old s p → IfOk result (λ n. HasServed D.device self.old self.new s p n) }
         ensures settled { OnOk result (self.new.is_settled ≡ true) }
-        ensures unsettled { OnErr result (self.new.is_settled ≡ false) }
         ensures quiet { self.old.is_settled ≡ true → IfOk result (λ n. n ≡ 0 → D.device self.new.store.disk ≡ D.device self.old.store.disk) }
         ensures stop { IfErr result IsStop }
+        ensures why { IfErr result (λ e. IsWhy self.old.store.known self.new.store.known e) }
+        ensures err { (s : Setting) (p : Past) → IsServing D.device self.old s p → OnErr result ((n : ℕ) × HasServed D.device self.old self.new s p n) }
+        ensures unsettled { OnErr result (self.new.is_settled ≡ false) }
+        ensures cause { HasCause (D.device self.old.store.disk).failures (D.device self.new.store.disk).failures Fault result }
         ensures seat { IsHelper shared.now self.new.seat }
         ensures gathered { taken_in self.new.seat ≡ taken_in self.old.seat }
-        ensures same { SameRings self.old.rings.items self.new.rings.items }
-        ensures cause { HasCause (D.device self.old.store.disk).failures (D.device self.new.store.disk).failures Fault result }
+        ensures rings { SameRings self.old.rings self.new.rings }
+        ensures layout { self.new.store.known.layout ≡ self.old.store.known.layout }
     {
-        let count = match self.drain() {
-            Ok(count) => count,
-            Err(reason) => return Err(reason),
-        };
-        if self.is_settled {
-            return Ok(count);
-        }
-        if let Err(reason) = settle_applied(&mut self.store) {
-            return Err(reason);
-        }
-        publish_all(&self.store, shared, &mut self.seat);
-        self.is_settled = true;
-        Ok(count)
+        self.serving.round(shared)
     }
 
-    /// Its store.
+    /// Its store, as it is. What waits and what is in the rings is dropped.
     pub fn into_store(self) -> Store<D>
         ensures { result ≡ self.store }
     {
-        self.store
-    }
-}
-
-// Publishes by lane what is acknowledged and trimmed.
-fn publish_all<D: Disk>(store: &Store<D>, shared: &Shared, seat: &mut HelperSeat)
-    requires seat { IsHelper shared.now seat.old }
-    requires lanes { shared.now.plan.lanes ≡ store.now.known.layout.lanes }
-    requires rises { (s : Setting) × (p : Past) × HasPast store.now.known s p (D.device store.now.disk) × ((l : ℕ) → l < store.now.known.layout.lanes → (count_published seat.old l ≤ p.cut l) × (place_published seat.old l ≤ trimmed_of p l)) }
-    ensures published { (s : Setting) (p : Past) → HasPast store.now.known s p (D.device store.now.disk) → (l : ℕ) → l < store.now.known.layout.lanes → (count_published seat.new l ≡ p.cut l) × (place_published seat.new l ≡ trimmed_of p l) }
-    ensures seat { IsHelper shared.now seat.new }
-    ensures gathered { taken_in seat.new ≡ taken_in seat.old }
-{
-    let lanes = store.layout().lanes;
-    for lane in 0..lanes {
-        let lane = Lane(lane);
-        let acknowledged = store.acknowledged(lane);
-        let trimmed = store.trimmed(lane);
-        publish(shared, seat, lane, acknowledged, trimmed);
+        self.serving.into_store()
     }
 }

@@ -10,6 +10,7 @@ mod meeting;
 mod opening;
 mod published;
 mod rings;
+mod serving;
 mod settling;
 
 pub use close_error::CloseError;

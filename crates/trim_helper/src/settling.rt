@@ -1,13 +1,13 @@
 //! What was applied is made durable, and its stable cut acknowledged.
-ghost use Rattle.std.specs.Prelude.{◌≡◌, ◌<◌, ℕ, IfErr, OnErr, OnOk, false};
+ghost use Rattle.std.specs.Prelude.{◌≡◌, ◌≢◌, ◌<◌, ℕ, IfErr, OnErr, OnOk, true, false};
 ghost use Rattle.heap_model.specs.Setting.{Setting};
 ghost use Rattle.block_disk.specs.Device.{HasCause};
 ghost use Rattle.block_disk.specs.Images.{LeavesOnly};
 ghost use Rattle.store_image.specs.KeptHeap.{StandsForCut};
-ghost use Rattle.store_past.specs.declared.error.StoreError.TheVariants.{Fault};
+ghost use Rattle.store_past.specs.declared.error.StoreError.TheVariants.{Failed, Fault, Worn};
 ghost use Rattle.store_past.specs.Past.{Past, applied};
 ghost use Rattle.durable.specs.Store.{HasPast};
-ghost use Rattle.trim_helper.specs.Settled.{HasClean, HasSame, IsSettled, IsStop, StandsForRound};
+ghost use Rattle.trim_helper.specs.Settled.{HasClean, HasSame, IsSettled, IsStop, IsWhy, StandsForRound};
 
 use block_disk::Disk;
 use durable::{Home, Store, StoreError};
@@ -18,6 +18,8 @@ fn write_home<D: Disk>(store: &mut Store<D>) -> Result<(), StoreError>
     ensures clean { (s : Setting) (p : Past) → HasPast store.old.known s p (D.device store.old.disk) → OnOk result (HasClean store.new.known (D.device store.new.disk) s p s.fields) }
     ensures kept { (s : Setting) (p : Past) → HasPast store.old.known s p (D.device store.old.disk) → OnErr result (HasClean store.new.known (D.device store.new.disk) s p 0) }
     ensures stop { (s : Setting) (p : Past) → HasPast store.old.known s p (D.device store.old.disk) → IfErr result IsStop }
+    ensures why { (s : Setting) (p : Past) → HasPast store.old.known s p (D.device store.old.disk) → IfErr result (λ e. (e ≡ Failed → store.old.known.has_failed ≡ true) × (e ≢ Worn)) }
+    ensures running { OnOk result (store.new.known.has_failed ≡ store.old.known.has_failed) }
     ensures layout { store.new.known.layout ≡ store.old.known.layout }
     ensures any_moment { (s : Setting) (p : Past) → HasPast store.old.known s p (D.device store.old.disk) → LeavesOnly (D.device store.old.disk) (D.device store.new.disk) (StandsForCut store.old.known.layout s p.logged p.cut) }
     ensures cause { HasCause (D.device store.old.disk).failures (D.device store.new.disk).failures Fault result }
@@ -38,6 +40,7 @@ pub fn settle_applied<D: Disk>(store: &mut Store<D>) -> Result<(), StoreError>
     ensures settled { (s : Setting) (p : Past) → HasPast store.old.known s p (D.device store.old.disk) → OnOk result ((h : HasSame store.new.known (D.device store.new.disk) s p) × IsSettled s h.now) }
     ensures kept { (s : Setting) (p : Past) → HasPast store.old.known s p (D.device store.old.disk) → OnErr result (HasSame store.new.known (D.device store.new.disk) s p) }
     ensures stop { (s : Setting) (p : Past) → HasPast store.old.known s p (D.device store.old.disk) → IfErr result IsStop }
+    ensures why { (s : Setting) (p : Past) → HasPast store.old.known s p (D.device store.old.disk) → IfErr result (λ e. IsWhy store.old.known store.new.known e) }
     ensures layout { store.new.known.layout ≡ store.old.known.layout }
     ensures running { OnOk result (store.new.known.has_failed ≡ false) }
     ensures any_moment { (s : Setting) (p : Past) → HasPast store.old.known s p (D.device store.old.disk) → LeavesOnly (D.device store.old.disk) (D.device store.new.disk) (StandsForRound store.old.known.layout s (applied p) p.cut) }

@@ -1,9 +1,11 @@
-use Rattle.std.proofs.Common.{ℕ, [], ◌≡◌, ◌<◌, length, ap, refl, sym, subst, ◌∙◌, arith}
+use Rattle.std.proofs.Common.{ℕ, Err, inl, [], ◌≡◌, ◌<◌, length, ap, refl, sym, subst, ◌∙◌, arith}
 use Rattle.trim_helper.specs.Closed.{HasSpelled}
 use Rattle.monitor.specs.Words.{setting_of}
 use Rattle.trim_helper.specs.Helping.{place_published, taken_in}
 use Rattle.trim_helper.specs.Meeting.{HasPart}
 use Rattle.trim_helper.specs.Taken.{applied_more}
+use Rattle.block_disk.specs.Device.{HasFailed}
+use Rattle.trim_helper.proofs.ClosingReasons.{why_drained, why_settled}
 use Rattle.trim_helper.proofs.Rounds.{looks_drains, looks_taken, stood_round, stood_still}
 use Rattle.trim_helper.proofs.Closing.{all_applied, all_free, has_spelled, same_lanes}
 use Rattle.trim_helper.proofs.closing_down.finish.Goals as goal
@@ -39,3 +41,20 @@ returns-in-Err-settle_applied-clause-any_moment g c = λ s p has.
 pub returns-clause-any_moment : goal.returns-clause-any_moment
 returns-clause-any_moment g c = λ s p has.
     stood_round _ _ _ _ _ _ _ _ _ s p _ (looks_drains _ _ _ _ _ c.meet.new.rings _ _ _ _ c.requires.room c.meet.ensures.looks c.in_default.ensures.advances) has c.in_default-settle_applied.ensures.any_moment
+
+pub returns-in-Err-clause-why : goal.returns-in-Err-clause-why
+returns-in-Err-clause-why g c = λ s p taken.
+    why_drained c.args.store.now.known _ _ c.in-Err.reason c.close_error.result (inl c.in-Err.ensures.failed) c.close_error.ensures.failed c.close_error.ensures.worn c.close_error.ensures.fault c.in-Err.ensures.failed
+    (c.in-Err.ensures.why s p (looks_taken _ _ _ _ _ s p c.meet.ensures.looks taken))
+
+pub returns-in-Err-settle_applied-clause-why : goal.returns-in-Err-settle_applied-clause-why
+returns-in-Err-settle_applied-clause-why g c = λ s p taken.
+    let on = c.in_default.ensures.advances in
+    let made = on.made s p (looks_taken _ _ _ _ _ s p c.meet.ensures.looks taken) in
+    let q = applied_more made.0 p in
+    let left = c.in-Err-settle_applied.ensures in
+    let kept = left.kept s q made.2.has in
+    let told = c.close_error-in-Err-settle_applied.ensures in
+    why_settled c.args.store.now.known (g.D.Disk.device c.args.store.now.disk) _ c.in-Err-settle_applied.reason c.close_error-in-Err-settle_applied.result (left.stop s q made.2.has) told.failed told.worn told.fault
+    c.drain_known.new.store.known c.settle_applied.new.store.known s kept.now on.running (left.why s q made.2.has) kept.has
+    (λ is. subst (λ d. HasFailed d.failures (g.D.Disk.device c.settle_applied.new.store.disk).failures) on.device (c.settle_applied.ensures.cause.failed (c.in-Err-settle_applied.is ∙ ap Err is)))

@@ -1,9 +1,9 @@
-use Rattle.std.proofs.Common.{◌∙◌, refl, arith}
+use Rattle.std.proofs.Common.{◌∙◌, ◌≡◌, true, false, refl, sym, ap, inl, inr, ⊎_elim, arith}
 use Rattle.heap_model.specs.Sections.{actions}
 use Rattle.store_past.specs.Past.{applied, after_log}
 use Rattle.trim_helper.specs.Settled.{HasSame, IsSettled, IsStop}
 use Rattle.durable.specs.Calls.{RefusesSettle}
-use Rattle.trim_helper.proofs.Homes.{round_logs, round_homes, round_settles, passed_on, same_stay, same_dirtied, same_clean, settled_now, dirtied, stops_log, stops_settle, ok_weaker, err_weaker, if_err_match}
+use Rattle.trim_helper.proofs.Homes.{round_logs, round_homes, round_settles, passed_on, same_stay, same_dirtied, same_clean, settled_now, dirtied, stops_log, stops_settle, ok_weaker, err_weaker, if_err_match, if_err_more, why_log, why_settle}
 use Rattle.block_disk.proofs.Failures.{cause_since}
 use Rattle.trim_helper.proofs.settling.settle_applied.Goals as goal
 
@@ -65,3 +65,18 @@ returns-in-Err-write_home-clause-cause g c = passed_on _ _ _ c.write_home.result
 
 pub returns-clause-cause : goal.returns-clause-cause
 returns-clause-cause g c = cause_since _ _ _ _ c.settle.result (omega (arith, c.log_step.ensures.cause.later, c.write_home.ensures.cause.later)) c.settle.ensures.cause
+
+pub returns-in-Err-clause-why : goal.returns-in-Err-clause-why
+returns-in-Err-clause-why g c = λ s p has. why_log c.args.store.now.known _ p c.in-Err.reason (c.in-Err.ensures.answer s p has) (⊎_elim (λ is. inl is) (λ same. inr (ap (λ z. z.known) same)) c.in-Err.ensures.refused)
+
+pub returns-in-Err-write_home-clause-why : goal.returns-in-Err-write_home-clause-why
+returns-in-Err-write_home-clause-why g c = λ s p has.
+    let why = c.in-Err-write_home.ensures.why s (after_log p) (c.in_default.ensures.ok s p has) in
+    record { failed = λ is. absurd (let no : false ≡ true = sym c.in_default.ensures.running.1 ∙ why.0 is in cc); worn = λ is. absurd (why.1 is) }
+
+pub returns-clause-why : goal.returns-clause-why
+returns-clause-why g c = λ s p has.
+    let was = c.in_default-write_home.ensures.clean s (after_log p) (c.in_default.ensures.ok s p has) in
+    why_settle c.args.store.now.known c.write_home.new.store.known c.settle.new.self.known s (dirtied (after_log p) was.dirty) c.settle.result
+    (c.in_default-write_home.ensures.running ∙ c.in_default.ensures.running.1) (c.settle.ensures.answer s (dirtied (after_log p) was.dirty) was.has)
+    (if_err_more c.settle.result _ _ (λ e h. ⊎_elim (λ is. inl is) (λ same. inr (ap (λ z. z.known) same)) h) c.settle.ensures.refused)

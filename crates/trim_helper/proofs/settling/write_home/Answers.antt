@@ -1,11 +1,11 @@
-use Rattle.std.proofs.Common.{◌∙◌, ◌≡◌, ap, refl, arith}
+use Rattle.std.proofs.Common.{◌∙◌, ◌≡◌, ap, refl, sym, arith}
 use Rattle.block_disk.proofs.Images.{begin}
 use Rattle.store_image.specs.KeptHeap.{StandsForCut}
-use Rattle.trim_helper.proofs.Homes.{moment_more, no_fault, passed_on, clean_none, clean_most, clean_done, clean_more, clean_kept, dirtied, stops_home}
+use Rattle.trim_helper.proofs.Homes.{moment_more, no_fault, passed_on, clean_none, clean_most, clean_done, clean_more, clean_kept, dirtied, stops_home, why_home}
 use Rattle.trim_helper.proofs.settling.write_home.Goals as goal
 
 pub loop-field-init : goal.loop-field-init
-loop-field-init g c = record { clean = λ s p has. clean_none _ _ s p has; moment = λ s p has. begin (g.D.Disk.device c.args.store.now.disk) (StandsForCut c.args.store.now.known.layout s p.logged p.cut); later = omega arith; layout = refl }
+loop-field-init g c = record { clean = λ s p has. clean_none _ _ s p has; moment = λ s p has. begin (g.D.Disk.device c.args.store.now.disk) (StandsForCut c.args.store.now.known.layout s p.logged p.cut); later = omega arith; running = refl; layout = refl }
 
 pub returns-in-Ok-Done-clause-clean : goal.returns-in-Ok-Done-clause-clean
 returns-in-Ok-Done-clause-clean g c = λ s p has.
@@ -37,6 +37,7 @@ loop-field-preserved g c = record {
       let was = c.loop-field.invariant.clean s p has in
       moment_more _ _ _ _ c.loop-field.store.known.layout s p.logged p.cut c.loop-field.invariant.layout (c.loop-field.invariant.moment s p has) (c.home_step.ensures.any_moment s (dirtied p was.dirty) was.has);
   later = omega (arith, c.loop-field.invariant.later, c.home_step.ensures.cause.later);
+  running = c.in-Ok-Wrote.ensures.running.1 ∙ sym c.in-Ok-Wrote.ensures.running.0 ∙ c.loop-field.invariant.running;
   layout = c.home_step.ensures.layout ∙ c.loop-field.invariant.layout;
 }
 
@@ -73,3 +74,15 @@ returns-clause-any_moment g c = c.loop-field.invariant.moment
 
 pub returns-clause-cause : goal.returns-clause-cause
 returns-clause-cause g c = no_fault _ _ _ _ c.loop-field.invariant.later tt
+
+pub returns-in-Ok-Done-clause-running : goal.returns-in-Ok-Done-clause-running
+returns-in-Ok-Done-clause-running g c = c.in-Ok-Done.ensures.running.1 ∙ sym c.in-Ok-Done.ensures.running.0 ∙ c.loop-field.invariant.running
+
+pub returns-clause-running : goal.returns-clause-running
+returns-clause-running g c = c.loop-field.invariant.running
+
+pub returns-in-Err-clause-why : goal.returns-in-Err-clause-why
+returns-in-Err-clause-why g c = λ s p has.
+    let was = c.loop-field.invariant.clean s p has in
+    let why = why_home c.loop-field.store.known c.in-Err.reason (c.in-Err.ensures.answer s (dirtied p was.dirty) was.has) in
+    (λ is. sym c.loop-field.invariant.running ∙ why.0 is, why.1)

@@ -12,5 +12,6 @@ invariant-loop-field g l = record {
   clean : (s : Setting) (p : Past) → HasPast l.initial.store.known s p (g.D.Disk.device l.initial.store.disk) → HasClean l.store.known (g.D.Disk.device l.store.disk) s p l.field;
   moment : (s : Setting) (p : Past) → HasPast l.initial.store.known s p (g.D.Disk.device l.initial.store.disk) → LeavesOnly (g.D.Disk.device l.initial.store.disk) (g.D.Disk.device l.store.disk) (StandsForCut l.initial.store.known.layout s p.logged p.cut);
   later : (g.D.Disk.device l.initial.store.disk).failures ≤ (g.D.Disk.device l.store.disk).failures;
+  running : l.store.known.has_failed ≡ l.initial.store.known.has_failed;
   layout : l.store.known.layout ≡ l.initial.store.known.layout;
 }

@@ -1,0 +1,29 @@
+-- Why the store stops the closing.
+use Rattle.std.proofs.Common.{ℕ, ◌≡◌, true, ◌∙◌, sym}
+use Rattle.block_disk.specs.Device.{Device, HasFailed}
+use Rattle.heap_model.specs.Setting.{Setting}
+use Rattle.durable.specs.Store.{Known, HasPast}
+use Rattle.store_past.specs.Past.{Past}
+use Rattle.store_past.specs.declared.error.StoreError.{StoreError}
+use Rattle.store_past.specs.declared.error.StoreError.TheVariants.{Failed, Worn, Fault}
+use Rattle.trim_helper.specs.declared.close_error.CloseError.{CloseError}
+use Rattle.trim_helper.specs.declared.close_error.CloseError.TheVariants as close
+use Rattle.trim_helper.specs.Endings.{IsCloseWhy}
+use Rattle.trim_helper.specs.Settled.{IsStop, IsWhy}
+
+module _ (old : Known) (before now : Device) (reason : StoreError) (e : CloseError) (stop : IsStop reason) (failed : e ≡ close.Failed → reason ≡ Failed) (worn : e ≡ close.Worn → reason ≡ Worn) (fault : IsStop reason → e ≡ close.Fault → reason ≡ Fault) where
+  -- nothing could be applied
+  pub why_drained : reason ≡ Failed → old.has_failed ≡ true → IsCloseWhy old before now e
+  why_drained is off = record {
+    failed = λ same. off;
+    worn = λ same. absurd (let no : Failed ≡ Worn = sym is ∙ worn same in cc);
+    fault = λ same. absurd (let no : Failed ≡ Fault = sym is ∙ fault stop same in cc);
+  }
+
+  -- what was applied could not be made durable
+  pub why_settled : (mid new : Known) (s : Setting) (p : Past) → mid.has_failed ≡ old.has_failed → IsWhy mid new reason → HasPast new s p now → (reason ≡ Fault → HasFailed before.failures now.failures) → IsCloseWhy old before now e
+  why_settled mid new s p same why has broke = record {
+    failed = λ is. sym same ∙ why.failed (failed is);
+    worn = λ is. record { known = new; setting = s; past = p; has = has; last = why.worn (worn is) };
+    fault = λ is. broke (fault stop is);
+  }
