@@ -1,5 +1,7 @@
 //! The program's words.
-ghost use Rattle.std.specs.Prelude.{◌≡◌, ◌<◌, IfSome};
+ghost use Rattle.std.specs.Prelude.{◌≡◌, ◌<◌, ◌≤◌, IfSome, Some, length};
+ghost use Rattle.bench.specs.Words.{SpellsNumber};
+ghost use Rattle.bench.specs.declared.words.Words.TheVariants.{Help};
 
 /// How much is done.
 #[derive(Clone, Copy, Debug, PartialEq, Eq)]
@@ -25,8 +27,10 @@ pub enum Words<'a> {
     Recover { path: &'a str },
 }
 
-/// Reads the words; the program's name comes first. `None` where they are others than `HELP` has.
-pub fn read_words(texts: &[String]) -> Option<Words<'_>> {
+/// Reads the words; the program's name comes first. `None` where they are others than the help has.
+pub fn read_words(texts: &[String]) -> Option<Words<'_>>
+    ensures help { length texts.now ≤ 1 → result ≡ Some Help }
+{
     let Some(word) = texts.get(1) else {
         return Some(Words::Help);
     };
@@ -52,12 +56,14 @@ pub fn read_words(texts: &[String]) -> Option<Words<'_>> {
 
 // The plan of these two numerals.
 fn read_plan(sections: &str, group: &str) -> Option<Plan>
-    ensures { IfSome result (λ plan. 0 < plan.group) }
+    ensures sections { IfSome result (λ plan. SpellsNumber sections.now plan.sections) }
+    ensures group { IfSome result (λ plan. SpellsNumber group.now plan.group × (0 < plan.group)) }
 {
     let sections = sections.parse::<u64>().ok()?;
     let group = group.parse::<u64>().ok()?;
-    if group == 0 {
-        return None;
+    if group > 0 {
+        Some(Plan { sections, group })
+    } else {
+        None
     }
-    Some(Plan { sections, group })
 }

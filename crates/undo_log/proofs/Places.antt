@@ -1,5 +1,6 @@
 -- Where the places of a lane lie: within the image, and apart from one another until they are used again.
-use Rattle.std.proofs.Common.{◌≢◌, ℕ, ◌+◌, ◌<◌, ◌≤◌, [], ◌∷◌, inl, inr, arith}
+use Rattle.std.proofs.Common.{◌≡◌, ◌≢◌, ℕ, ◌+◌, ◌%◌, ◌<◌, ◌≤◌, [], ◌∷◌, inl, inr, arith}
+use Rattle.std.proofs.Math.Nat.{mod-lt, zero-mod}
 use Rattle.std.proofs.lemmas.Bool.{cases_lt}
 use Rattle.block_disk.specs.Images.{IsApart}
 use Rattle.image.specs.Laws.{AreApart}
@@ -7,10 +8,21 @@ use Rattle.image.specs.Layout.{IsLayout, area_at, record_at, size_of}
 use Rattle.image.specs.declared.layout.Layout.{Layout}
 use Rattle.image.proofs.Places.{places}
 use Rattle.undo_log.specs.Area.{record_range}
+use Rattle.undo_log.proofs.Runs.{mod_next, mod_round}
 
 -- the areas lie behind all else
 pub behind_front : (l : Layout) (lane place : ℕ) → area_at l 0 ≤ record_at l lane place
 behind_front l lane place = omega arith
+
+-- the place behind one that isn't its area's last
+pub next_place : (l : Layout) (lane place : ℕ) → place % l.capacity + 1 < l.capacity → record_at l lane place + 16 ≡ record_at l lane (place + 1)
+next_place l lane place lt = omega (arith, mod_next place l.capacity lt)
+
+-- the place behind its area's last, which is where the area begins
+pub round_place : (l : Layout) (lane place : ℕ) → 0 < l.capacity → l.capacity ≤ place % l.capacity + 1 → record_at l lane 0 ≡ record_at l lane (place + 1)
+round_place l lane place some le =
+    let last : place % l.capacity + 1 ≡ l.capacity = omega (arith, mod-lt place some, le) in
+    omega (arith, zero-mod l.capacity, mod_round place l.capacity last)
 
 module _ (l : Layout) (limits : IsLayout l) where
   apart : AreApart l

@@ -1,6 +1,6 @@
 -- Runs of records: what is decoded of the bytes that one read gives stands in the image, and runs go on one behind the other.
 use Rattle.std.proofs.Common.{◌≡◌, ℕ, zero, suc, ◌+◌, ◌*◌, ◌%◌, ◌<◌, ◌≤◌, List, [], ◌∷◌, ◌++◌, length, get_or, take, refl, sym, ◌∙◌, ap, subst, arith, length-append, length-take}
-use Rattle.std.proofs.Math.Nat.{mod-add-mod, mod-eq_of_lt}
+use Rattle.std.proofs.Math.Nat.{mod-add-mod, mod-eq_of_lt, mod_self}
 use Rattle.heap_model.specs.declared.ids.Lane.{Lane}
 use Rattle.heap_model.specs.declared.record.UndoRecord.{UndoRecord}
 use Rattle.block_disk.specs.Bytes.{part}
@@ -50,6 +50,13 @@ has_each l lane place image (x ∷ xs) each =
 -- places that don't reach the area's end lie one behind the other
 mod_on : (p i c : ℕ) → p % c + i < c → (p + i) % c ≡ p % c + i
 mod_on p i c lt = sym (mod-add-mod p c i) ∙ mod-eq_of_lt lt
+
+-- the place behind one that isn't the area's last, and behind the last one
+pub mod_next : (p c : ℕ) → p % c + 1 < c → (p + 1) % c ≡ p % c + 1
+mod_next p c lt = mod_on p 1 c lt
+
+pub mod_round : (p c : ℕ) → p % c + 1 ≡ c → (p + 1) % c ≡ 0
+mod_round p c end = sym (mod-add-mod p c 1) ∙ ap (λ (n : ℕ). n % c) end ∙ mod_self c
 
 get_take : (xs : List UndoRecord) (n i : ℕ) (d : UndoRecord) → i < n → get_or (take n xs) i d ≡ get_or xs i d
 get_take [] zero i d lt = refl

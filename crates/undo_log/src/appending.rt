@@ -10,7 +10,7 @@ ghost use Rattle.undo_log.specs.Area.{IsLoggable, HasRecords, record_range, reco
 ghost use Rattle.undo_log.specs.declared.error.LogError.TheVariants.{Fault, LogFull};
 
 use crate::error::LogError;
-use crate::record_bytes::encode_record;
+use crate::record_bytes::{RECORD_BYTES, encode_record};
 use block_disk::{Disk, write_within};
 use heap_model::{Lane, UndoRecord};
 use image::{LaneRow, Layout};
@@ -70,28 +70,41 @@ fn write_records<D: Disk>(
     ensures any_moment { LeavesOnly (D.device disk.old) (D.device disk.new) (ImageBut (D.device disk.old) (record_ranges layout.now lane.0 place (length records.now))) }
     ensures cause { HasCause (D.device disk.old).failures (D.device disk.new).failures Fault result }
 {
+    let mut at = layout.record(lane, place);
     for (i, entry) in records.iter().enumerate() {
-        write_record(disk, layout, lane, place + i as u64, entry)?;
+        write_record(disk, at, entry)?;
+        at = behind(layout, lane, place + i as u64, at);
     }
     Ok(())
 }
 
-// Writes the record at its place.
-fn write_record<D: Disk>(
-    disk: &mut D,
-    layout: &Layout,
-    lane: Lane,
-    place: u64,
-    entry: &UndoRecord,
-) -> Result<(), LogError>
+// Where the place behind this one lies, which lies at `at`. Behind its last place an area begins again; to look for that
+// takes less than to divide.
+fn behind(layout: &Layout, lane: Lane, place: u64, at: u64) -> u64
     requires limits { IsLayout layout.now }
-    requires fits { size_of layout.now ≤ length (D.device disk.old).now.bytes }
     requires lane { lane.0 < layout.now.lanes }
-    ensures written { OnOk result (D.device disk.new ≡ written (record_at layout.now lane.0 place) (record_bytes entry.now) (D.device disk.old)) }
+    requires here { at ≡ record_at layout.now lane.0 place }
+    ensures { result ≡ record_at layout.now lane.0 (place + 1) }
+{
+    let _place = place;
+    let _size = layout.size();
+    let start = layout.record(lane, 0);
+    let last = RECORD_BYTES as u64 * (u64::from(layout.capacity) - 1);
+    if at - start < last {
+        at + RECORD_BYTES as u64
+    } else {
+        start
+    }
+}
+
+// Writes the record at this offset of the image.
+fn write_record<D: Disk>(disk: &mut D, at: u64, entry: &UndoRecord) -> Result<(), LogError>
+    requires fits { at + 16 ≤ length (D.device disk.old).now.bytes }
+    ensures written { OnOk result (D.device disk.new ≡ written at (record_bytes entry.now) (D.device disk.old)) }
     ensures only_fault { IfErr result (λ e. e ≡ Fault) }
-    ensures any_moment { LeavesOnly (D.device disk.old) (D.device disk.new) (ImageBut (D.device disk.old) (record_range layout.now lane.0 place ∷ [])) }
+    ensures any_moment { LeavesOnly (D.device disk.old) (D.device disk.new) (ImageBut (D.device disk.old) (record { start = at; len = 16 } ∷ [])) }
     ensures cause { HasCause (D.device disk.old).failures (D.device disk.new).failures Fault result }
 {
-    write_within(disk, layout.record(lane, place), &encode_record(entry))?;
+    write_within(disk, at, &encode_record(entry))?;
     Ok(())
 }

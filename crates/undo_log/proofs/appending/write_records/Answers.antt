@@ -3,12 +3,17 @@ use Rattle.std.proofs.lemmas.List.{take_more}
 use Rattle.heap_model.specs.declared.record.UndoRecord.{UndoRecord}
 use Rattle.heap_model.specs.declared.record.UndoRecord.TheVariants.{Acq}
 use Rattle.block_disk.specs.Device.{Device, written}
+use Rattle.block_disk.specs.Images.{ImageBut, LeavesOnly}
 use Rattle.image.specs.Calls.{after}
 use Rattle.image.specs.Layout.{record_at, size_of}
 use Rattle.undo_log.specs.RecordBytes.{record_bytes}
 use Rattle.undo_log.specs.Area.{HasRecords, record_writes}
 use Rattle.undo_log.proofs.Appends.{writes_more, next_there, size_kept, write_follows, write_always}
 use Rattle.undo_log.proofs.appending.write_records.Goals as goal
+
+-- the range that is written is the record's
+left_there : (at to : ℕ) (old new : Device) → at ≡ to → LeavesOnly old new (ImageBut old (record { start = at; len = 16 } ∷ [])) → LeavesOnly old new (ImageBut old (record { start = to; len = 16 } ∷ []))
+left_there at to old new same = subst (λ (k : ℕ). LeavesOnly old new (ImageBut old (record { start = k; len = 16 } ∷ []))) same
 
 -- nothing is written
 abbrev none : UndoRecord
@@ -31,10 +36,13 @@ loop-i-preserved g c =
     let long : length xs ≡ i = take_long i records (omega arith) in
     let more : take (i + 1) records ≡ xs ++ r ∷ [] = take_more records i none less in
     let fits : size_of l ≤ length d1.now.bytes = omega (arith, before.size, c.requires.fits) in
-    let done : d2 ≡ written (record_at l lane (place + i)) (record_bytes r) d1 = c.in_ok-write_record.ensures.written in
+    let there = before.here in
+    let done : d2 ≡ written (record_at l lane (place + i)) (record_bytes r) d1 = c.in_ok-write_record.ensures.written
+    ∙ ap (λ (at : ℕ). written at (record_bytes r) d1) there in
     let here : d2 ≡ written (record_at l lane (place + length xs)) (record_bytes r) d1 = done ∙ ap (λ (k : ℕ). written (record_at l lane (place + k)) (record_bytes r) d1) (sym long) in
-    let one = c.write_record.ensures.any_moment in
+    let one = left_there _ _ _ _ there c.write_record.ensures.any_moment in
     record {
+      here = c.behind-at.ensures ∙ ap (λ (k : ℕ). record_at l lane k) (omega arith);
       made = here ∙ ap (λ (d : Device). written (record_at l lane (place + length xs)) (record_bytes r) d) before.made
           ∙ sym (writes_more l lane place xs r d0) ∙ ap (λ (ys : List UndoRecord). after (record_writes l lane place ys) d0) (sym more);
       has = subst (λ (d : Device). HasRecords l lane place d.now.bytes (take (i + 1) records)) (sym here)
@@ -52,9 +60,9 @@ loop-i-preserved g c =
 pub returns-in_err-write_record-clause-crash : goal.returns-in_err-write_record-clause-crash
 returns-in_err-write_record-clause-crash g c =
     write_always c.args.layout.now c.args.lane.0 c.args.place (length c.args.records.now) c.loop-i.i (g.D.Disk.device c.args.disk.now) (g.D.Disk.device c.loop-i.disk)
-    (g.D.Disk.device c.write_record.new.disk) c.loop-i-test.true c.loop-i.invariant.crash c.write_record.ensures.any_moment
+    (g.D.Disk.device c.write_record.new.disk) c.loop-i-test.true c.loop-i.invariant.crash (left_there _ _ _ _ c.loop-i.invariant.here c.write_record.ensures.any_moment)
 
 pub returns-in_err-write_record-clause-any_moment : goal.returns-in_err-write_record-clause-any_moment
 returns-in_err-write_record-clause-any_moment g c =
     write_follows c.args.layout.now c.args.lane.0 c.args.place (length c.args.records.now) c.loop-i.i (g.D.Disk.device c.args.disk.now) (g.D.Disk.device c.loop-i.disk)
-    (g.D.Disk.device c.write_record.new.disk) c.loop-i-test.true c.loop-i.invariant.crash c.loop-i.invariant.any_moment c.write_record.ensures.any_moment
+    (g.D.Disk.device c.write_record.new.disk) c.loop-i-test.true c.loop-i.invariant.crash c.loop-i.invariant.any_moment (left_there _ _ _ _ c.loop-i.invariant.here c.write_record.ensures.any_moment)

@@ -1,0 +1,2 @@
+-- What numbers the program's words spell. A contract cites it.
+pub mod Words
