@@ -1,10 +1,13 @@
 -- Each home write leaves fewer fields dirty.
-use Rattle.std.proofs.Common.{◌≡◌, ◌<◌, ◌+◌, ℕ, true, false, if◌then◌else◌, inl, inr, refl, sym, ◌∙◌, subst, arith}
+use Rattle.std.proofs.Common.{◌≡◌, ◌<◌, ◌+◌, ℕ, List, true, false, if◌then◌else◌, inl, inr, refl, sym, ◌∙◌, subst, arith}
 use Rattle.std.proofs.lemmas.Bool.{cases_lt}
 use Rattle.std.proofs.lemmas.Bool.Decides.{eqb_tells}
 use Rattle.heap_model.specs.Setting.{Setting}
 use Rattle.store_memory.specs.Begin.{IsLeastDirtyOf}
 use Rattle.store_past.specs.Past.{Past, after_home}
+use Rattle.image.specs.declared.layout.Layout.{Layout}
+use Rattle.durable.specs.Store.{ShowsStep}
+use Rattle.durable.specs.Store.ShowsStep.{Shows, ShowsLogged, ShowsSettled}
 
 -- where no field below k is dirty, none below the next is once the least dirty one is at home
 pub clean-on : (s : Setting) (p : Past) (f k : ℕ) → IsLeastDirtyOf s p f → ((g : ℕ) → g < k → p.is_dirty g ≡ false)
@@ -19,3 +22,11 @@ clean-on s p f k least clean g below = elim (eqb_tells f g) [
     ]
   ])
 ]
+
+-- what shows the past after a home write, or what a step makes of that, shows it of the past before: where the cells are dirty is
+-- written nowhere
+pub shows_before : (l : Layout) (s : Setting) (p : Past) (f : ℕ) (image : List ℕ) → ShowsStep l s (after_home p f) image → ShowsStep l s p image
+shows_before l s p f image (Shows shown) = Shows (record { slot = shown.slot; control = shown.control; shows = shown.shows; tells = shown.tells; parts = shown.parts })
+shows_before l s p f image (ShowsLogged shown) = ShowsLogged (record { slot = shown.slot; control = shown.control; shows = shown.shows; tells = shown.tells; parts = shown.parts })
+shows_before l s p f image (ShowsSettled cut stable shown) =
+    ShowsSettled cut stable (record { slot = shown.slot; control = shown.control; shows = shown.shows; tells = shown.tells; parts = shown.parts })

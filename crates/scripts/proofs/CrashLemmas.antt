@@ -52,11 +52,11 @@ only_worn image e w told (inr (inl none)) = absurd (let same = ap told_of_recove
 only_worn image e w told (inr (inr worn)) = (let same = ap told_of_recovery worn.0 in cc, worn.1)
 
 -- the machine once it is down with this image
-abbrev wreck_of : Live → (image : List ℕ) → Wreck
+abbrev pub wreck_of : Live → (image : List ℕ) → Wreck
 wreck_of m image = record { schema = m.monitors.schema; disk = fresh image }
 
 -- an image that shows a past has the header of its layout
-header_of : (l : Layout) (s : Setting) (p : Past) (image : List ℕ) → ShowsStep l s p image → HasHeader image l
+pub header_of : (l : Layout) (s : Setting) (p : Past) (image : List ℕ) → ShowsStep l s p image → HasHeader image l
 header_of l s p image (Shows shown) = shown.parts.header
 header_of l s p image (ShowsLogged shown) = shown.parts.header
 header_of l s p image (ShowsSettled cut stable shown) = shown.parts.header
@@ -73,7 +73,7 @@ module _ (m : Live) (s : Setting) (p : Past) (has : Tells m.store s p) (d : Devi
   abbrev wreck : Wreck
   wreck = wreck_of m image
 
-  shows : ShowsStep m.store.known.layout s p image
+  pub shows : ShowsStep m.store.known.layout s p image
   shows = ⊎_elim (λ was. has.images image (left_now (device_of m.store.disk) image was)) (λ shown. shown) (leaves.each (length (device_of m.store.disk).past) image (omega arith) left)
 
   some : (image : List ℕ) → ShowsStep m.store.known.layout s p image → ShowsAfterSome m.store.known.layout s p [] image
@@ -97,14 +97,14 @@ module _ (m : Live) (s : Setting) (p : Past) (has : Tells m.store s p) (d : Devi
       whole.survives m.store.known s p [] (device_of m.store.disk) d device_of (device_of (fresh image)) has
       (weaker (device_of m.store.disk) d (ShowsStep m.store.known.layout s p) (ShowsAfterSome m.store.known.layout s p []) some leaves) left answer done refused
 
-  layout_of : (found : LoggedImage) → Holds image found → found.layout ≡ m.store.known.layout
+  pub layout_of : (found : LoggedImage) → Holds image found → found.layout ≡ m.store.known.layout
   layout_of found holds =
       let here = header_of m.store.known.layout s p image shows in
       let there = holds.control.front.layout.header in
       one_layout found.layout m.store.known.layout there.limits here.limits (sym there.spelled ∙ here.spelled)
 
   -- what is told, where recovery gives the heap of this cut and keeps its sections
-  told_of : (log : List (ℕ × Record)) (cut : ℕ → ℕ) (r : Recovers (Down wreck) told new wreck) → r.restores.recovered.heap ≡ kept_heap m.store.known.layout s log cut
+  pub told_of : (log : List (ℕ × Record)) (cut : ℕ → ℕ) (r : Recovers (Down wreck) told new wreck) → r.restores.recovered.heap ≡ kept_heap m.store.known.layout s log cut
       → ((lane : ℕ) → lane < m.store.known.layout.lanes → counts_of r.restores.found.kept lane ≡ cut lane) → Survives m s log cut told new
   told_of log cut r heap kept =
       let recovery = r.restores.recovery in
@@ -124,7 +124,7 @@ module _ (m : Live) (s : Setting) (p : Past) (has : Tells m.store s p) (d : Devi
         restored = subst (λ (n : ℕ). IsRestored m.monitors.schema n r.report.heap.items r.live.monitors) (ap (λ (l : Layout). l.lanes) same) r.restored;
       }
 
-  at_its_end : RefusesImage (Down wreck) told new wreck → IsAtItsEnd (Down wreck) told
+  pub at_its_end : RefusesImage (Down wreck) told new wreck → IsAtItsEnd (Down wreck) told
   at_its_end r =
       let worn = only_worn image r.refuses.reason r.refusal r.refuses.told_is (run (Err (r.disk, r.refuses.reason)) tt r.refuses.refused) in
       record { refused = r.answers ∙ ap Refused worn.0; last = worn.1 }
@@ -146,7 +146,7 @@ module _ (m : Live) (s : Setting) (p : Past) (has : Tells m.store s p) (d : Devi
   recovers (inr refused) = inr (at_its_end refused)
 
 -- a crash that is told has come
-went_down : (m : Live) (fill : Fill) (back : ℕ) (down : MachineState) → Crashes (Running m) Crashed down m fill back → GoesDown (Running m) Crashed down m fill back
+pub went_down : (m : Live) (fill : Fill) (back : ℕ) (down : MachineState) → Crashes (Running m) Crashed down m fill back → GoesDown (Running m) Crashed down m fill back
 went_down m fill back down tests = elim (cases_lt (length m.store.disk.stops) back) as (λ _. GoesDown (Running m) Crashed down m fill back) [
   | inl few ↦ absurd (let told = (tests.refused few).0 in cc)
   | inr enough ↦ tests.passed (λ few. omega (arith, few, enough))
@@ -188,12 +188,12 @@ history m fill down new told crash recover =
     (rest m (setting_from m.monitors agrees.first) agrees.past fill down new told agrees.tells crash recover)
 
 -- an image of later moments is one of these
-since : (t u : ℕ) (ms : List Moment) (image : List ℕ) → u ≤ t → LeftIn t ms image → LeftIn u ms image
+pub since : (t u : ℕ) (ms : List Moment) (image : List ℕ) → u ≤ t → LeftIn t ms image → LeftIn u ms image
 since t u [] image le left = left
 since t u (m ∷ ms) image le (inl now) = inl ((let low = now.0 in omega (arith, low, le)), now.1)
 since t u (m ∷ ms) image le (inr was) = inr (since t u ms image le was)
 
-one_live : (a b : Live) → Running a ≡ Running b → a ≡ b
+pub one_live : (a b : Live) → Running a ≡ Running b → a ≡ b
 one_live a b same = cc
 
 -- a call of the store, a crash in it or behind it, and recovery
