@@ -1,2 +1,3 @@
 mod OptionLemmas
 mod ObeyLemmas
+mod PathLemmas
