@@ -1,1 +1,2 @@
 mod OptionLemmas
+mod PathLemmas

@@ -1,7 +1,12 @@
 -- Which words the program takes, and what they ask for (this project's own; read as clap 4 reads them).
-use Rattle.std.specs.Prelude.{◌≡◌, ◌≢◌, ℕ, ◌^◌, ◌<◌, List, [], ◌∷◌, true, codes, pos, Option, None, Some, unwrap_or}
+use Rattle.std.specs.Prelude.{◌≡◌, ◌≢◌, ◌⊎◌, ℕ, ◌^◌, ◌<◌, List, [], ◌∷◌, true, codes, pos, Option, None, Some, Result, Ok, Err, unwrap_or}
 use Rattle.std.specs.Str.Parse.{IsNumeral, digits_value, without_leading_plus}
-use Rattle.clap.specs.Simple.{App, Shape, new_app, new_shape, new_rule, with_rule, with_subcommand}
+use Rattle.clap.specs.Simple.{App, Shape, new_app, new_shape, new_rule, subcommand_of, with_rule, with_subcommand}
+use Rattle.clap.specs.Faults.{fault_of}
+use Rattle.clap.specs.Kinds.{HasKind}
+use Rattle.clap.specs.Values.{kind_of}
+use Rattle.clap.specs.declared.error.Error.{Error}
+use Rattle.clap.specs.declared.error.kind.ErrorKind.TheVariants.{ArgumentConflict}
 use Rattle.clap.specs.Walk.{Row, Rule, Text, first_of, one_of}
 use Rattle.clap.specs.declared.builder.action.ArgAction.TheVariants.{SetTrue}
 use Rattle.clap.specs.declared.builder.value_parser.ValueParser.TheVariants.{Signed}
@@ -76,10 +81,14 @@ IsSet name options = one_of name options ≡ Some (codes "true")
 abbrev pub image_of : List Row → Text
 image_of options = unwrap_or (first_of (codes "image") options) []
 
+-- the path behind `--schema`
+abbrev pub schema_of : List Row → Text
+schema_of options = unwrap_or (first_of (codes "schema") options) []
+
 -- an image file is to be made, as the options behind the word say
 pub record AsksToFormat (options : List Row) (image schema : Text) (lanes capacity : ℕ) : Type 0 where
   pub image_is : image ≡ image_of options
-  pub schema_is : schema ≡ unwrap_or (first_of (codes "schema") options) []
+  pub schema_is : schema ≡ schema_of options
   pub lanes_are : Reads 8 (one_of (codes "lanes") options) lanes
   pub capacity_is : Reads 32 (one_of (codes "capacity") options) capacity
 
@@ -95,3 +104,24 @@ AsksFor found (words.Draw image) =
     (options : List Row) × (found ≡ Some (codes "show", options)) × (image.now ≡ image_of options) × IsSet (codes "dot") options
 AsksFor found (words.Recover image) =
     (options : List Row) × (found ≡ Some (codes "recover", options)) × (image.now ≡ image_of options)
+
+-- an image file is to be made in the place of its own schema file
+abbrev pub HasOnePath : Words → Type 0
+HasOnePath (words.Format image schema lanes capacity) = image.now ≡ schema.now
+HasOnePath _ = ⊥
+
+-- the words are those of `format`, with one path behind `--image` and `--schema`
+pub record NamesOneFile (texts : List Text) : Type 0 where
+  pub options : List Row
+  pub found : subcommand_of program texts ≡ Some (codes "format", options)
+  pub same : image_of options ≡ schema_of options
+
+-- the answer's kind is one that clap gives to such words; or clap takes them, and they are one file's
+abbrev pub Refuses : List Text → Error → Type 0
+Refuses texts answer = HasKind (fault_of program texts) answer
+    ⊎ ((fault_of program texts ≡ []) × NamesOneFile texts × (kind_of answer ≡ ArgumentConflict))
+
+-- these words are taken where clap takes them and no file is named twice, and else they are refused; or memory was wanting
+abbrev pub IsAnsweredBy : List Text → Result Words Error → Type 0
+IsAnsweredBy texts (Ok asked) = (fault_of program texts ≡ []) × (NamesOneFile texts → ⊥)
+IsAnsweredBy texts (Err answer) = Refuses texts answer

@@ -1,14 +1,13 @@
 //! The program's words.
 ghost use Rattle.std.specs.Prelude.{◌≡◌, ◌↔◌, ◌∷◌, [], List, ℕ, codes, false, map, string_bytes, unwrap_or, IfErr, IfOk, IsTrue};
-ghost use Rattle.clap.specs.Kinds.{FailsBy};
-ghost use Rattle.clap.specs.Faults.{fault_of};
 ghost use Rattle.clap.specs.Simple.{app_of, subcommand_of, subcommand_rows_of};
 ghost use Rattle.clap.specs.Values.{kind_of};
 ghost use Rattle.clap.specs.Walk.{first_of, one_of, rows_of, rule_of};
 ghost use Rattle.clap.specs.Matches.{found_of};
-ghost use Rattle.clap.specs.declared.error.kind.ErrorKind.TheVariants.{OutOfMemory};
-ghost use Rattle.command_words.specs.Words.{AsksFor, IsSet, Reads, capacity_option, dot_flag, format_words, lanes_option, path_option, play_words, program, recover_words, show_words};
+ghost use Rattle.clap.specs.declared.error.kind.ErrorKind.TheVariants.{ArgumentConflict, OutOfMemory};
+ghost use Rattle.command_words.specs.Words.{AsksFor, HasOnePath, IsAnsweredBy, IsSet, Reads, capacity_option, dot_flag, format_words, lanes_option, path_option, play_words, program, recover_words, show_words};
 
+use clap::error::ErrorKind;
 use clap::{Arg, ArgAction, ArgMatches, Command, Error, value_parser};
 use std::alloc::{AllocError, Global};
 
@@ -95,8 +94,14 @@ fn format<'a>(alloc: Global) -> Result<Command<'a>, AllocError>
     ensures { IfOk result (λ command. app_of command ≡ format_words) }
 {
     Command::new(alloc, "format")
-        .about("Makes an image file for the objects and fields of a schema file")
-        .arg(path(alloc, "image", "The image file to make"))?
+        .about(
+            "Makes an image file for the objects and fields of a schema file, and replaces one that is there",
+        )
+        .arg(path(
+            alloc,
+            "image",
+            "The image file to make, at another path than the schema file",
+        ))?
         .arg(path(alloc, "schema", "The schema file"))?
         .arg(lanes(alloc))?
         .arg(capacity(alloc))
@@ -115,7 +120,9 @@ fn recover<'a>(alloc: Global) -> Result<Command<'a>, AllocError>
     ensures { IfOk result (λ command. app_of command ≡ recover_words) }
 {
     Command::new(alloc, "recover")
-        .about("Recovers an image file after a crash, and prints what was kept and dropped")
+        .about(
+            "Recovers an image file after a crash, and prints what was kept and dropped. Where the report must not be lost, run 'show' first",
+        )
         .arg(path(alloc, "image", "The image file to recover"))
 }
 
@@ -147,18 +154,44 @@ fn command<'a>(alloc: Global) -> Result<Command<'a>, AllocError>
 /// Reads the words; the program's name comes first.
 ///
 /// An `Err` holds the text to print: for wrong words what is wrong, for `--help` and `--version` what they ask for. Its
-/// kind is `OutOfMemory` where there was no memory.
+/// kind is `OutOfMemory` where there was no memory. `format` with one path for the image and for the schema, which would
+/// be emptied, is an `ArgumentConflict`: paths are compared as they are written.
 pub fn read_words<'a>(alloc: Global, words: &'a [String]) -> Result<Words<'a>, Error>
-    ensures exact { FailsBy (fault_of program (map (λ s. string_bytes s) words.entry.now)) result }
+    ensures exact { IsAnsweredBy (map (λ s. string_bytes s) words.entry.now) result }
     ensures asked { IfOk result (λ asked. AsksFor (subcommand_of program (map (λ s. string_bytes s) words.entry.now)) asked) }
     ensures none { (name : List ℕ) → map (λ s. string_bytes s) words.entry.now ≡ name ∷ [] → IfErr result (λ e. kind_of e ≡ OutOfMemory) }
     ensures run { (name : List ℕ) → map (λ s. string_bytes s) words.entry.now ≡ name ∷ codes "run" ∷ [] → IfErr result (λ e. kind_of e ≡ OutOfMemory) }
 {
     let command = command(alloc)?;
-    match command.try_get_matches_from(words) {
-        Ok(matches) => Ok(asked_by(&matches)),
-        Err(answer) => Err(answer),
+    let asked = match command.try_get_matches_from(words) {
+        Ok(matches) => asked_by(&matches),
+        Err(answer) => return Err(answer),
+    };
+    if has_one_path(&asked) {
+        return Err(one_path(alloc)?);
     }
+    Ok(asked)
+}
+
+// The words ask for an image in the place of its own schema file.
+fn has_one_path(words: &Words<'_>) -> bool
+    ensures { IsTrue result ↔ HasOnePath words.now }
+{
+    match words {
+        Words::Format { image, schema, .. } => *image == *schema,
+        _ => false,
+    }
+}
+
+// What is answered to one path for both files.
+fn one_path(alloc: Global) -> Result<Error, AllocError>
+    ensures { IfOk result (λ answer. kind_of answer ≡ ArgumentConflict) }
+{
+    let mut command = command(alloc)?;
+    command.error(
+        ErrorKind::ArgumentConflict,
+        "the image and the schema are two files, and '--image' and '--schema' name one",
+    )
 }
 
 // What the words ask for in which this was found.

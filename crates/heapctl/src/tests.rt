@@ -65,6 +65,28 @@ fn numbers_past_the_limits_are_wrong_words(rt: HostRuntime) -> Result<(), AllocE
     Ok(())
 }
 
+#[test]
+fn one_path_for_image_and_schema_is_wrong_words(rt: HostRuntime) -> Result<(), AllocError> {
+    let alloc = rt.alloc();
+    let words = ["format", "--image", "s", "--schema", "s"];
+    assert!(rt; answer_to(alloc, words.as_slice())? == Some(ErrorKind::ArgumentConflict));
+    let texts = with_name(alloc, words.as_slice())?;
+    let said = match read_words(alloc, texts.as_slice()) {
+        Ok(_) => String::new(alloc),
+        Err(answer) => format!(in alloc; "{answer}")?,
+    };
+    assert_eq!(rt;
+        said.as_str(),
+        "error: the image and the schema are two files, and '--image' and '--schema' name one\n\n\
+         Usage: heapctl [COMMAND]\n\n\
+         For more information, try '--help'.\n"
+    );
+    // Two paths are two files, whatever they lead to.
+    let words = ["format", "--image", "s", "--schema", "./s"];
+    assert!(rt; answer_to(alloc, words.as_slice())? == None);
+    Ok(())
+}
+
 fn expect_words(rt: &impl Abort, texts: &[String], alloc: Global, asked: Words<'_>) {
     match read_words(alloc, texts) {
         Ok(words) => assert_eq!(rt; words, asked),

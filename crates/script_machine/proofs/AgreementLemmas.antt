@@ -29,7 +29,7 @@ use Rattle.script_machine.specs.States.{Tells}
 use Rattle.plain_monitors.specs.Table.{Table, lanes_of, setting_in, setting_of, state_of, IsStepOf, IsAfter, SameSetting}
 
 -- the values at first don't decide what is allowed
-may-from : (a : Table) (first : ℕ → ℕ) (s : State) (t : ℕ) (e : Event) → MayDo (setting_of a) s t e → MayDo (setting_from a first) s t e
+pub may-from : (a : Table) (first : ℕ → ℕ) (s : State) (t : ℕ) (e : Event) → MayDo (setting_of a) s t e → MayDo (setting_from a first) s t e
 may-from a first s t (Enter o n) may = may
 may-from a first s t (NestedEnter o) may = may
 may-from a first s t (NestedExit o) may = may
@@ -43,7 +43,7 @@ may-from a first s t (NotifyAll o woken) may = may
 may-from a first s t (Look o sight) may = may
 
 -- nor which events are the setting's
-event-from : (a : Table) (first : ℕ → ℕ) (e : Event) → IsEventOf (setting_of a) e → IsEventOf (setting_from a first) e
+pub event-from : (a : Table) (first : ℕ → ℕ) (e : Event) → IsEventOf (setting_of a) e → IsEventOf (setting_from a first) e
 event-from a first (Enter o n) is = is
 event-from a first (NestedEnter o) is = is
 event-from a first (NestedExit o) is = is
@@ -71,11 +71,11 @@ step-event a (NotifyAll o woken) is = elim is [ ]
 step-event a (Look o sight) is = elim is [ ]
 
 -- the setting stays where schema and bound do
-same-from : (a b : Table) (first : ℕ → ℕ) → SameSetting a b → setting_from b first ≡ setting_from a first
+pub same-from : (a b : Table) (first : ℕ → ℕ) → SameSetting a b → setting_from b first ≡ setting_from a first
 same-from a b first same = λ i. record (setting_in (same.schema i) (same.last i)) { first = first }
 
 -- what the store keeps of an event is what logs do, whatever the values at first
-logged-from : (a : Table) (first : ℕ → ℕ) (e : Event) → history.logged (setting_from a first) e ≡ logged e
+pub logged-from : (a : Table) (first : ℕ → ℕ) (e : Event) → history.logged (setting_from a first) e ≡ logged e
 logged-from a first (Enter o n) = refl
 logged-from a first (NestedEnter o) = refl
 logged-from a first (NestedExit o) = refl
@@ -213,7 +213,7 @@ refused-settle x s p Fault running refused = tt
 refused-settle x s p Unfinished running refused = elim refused [ ]
 
 -- the settings of a table of this schema and this bound
-table-from : (d : Declarations) (last : ℕ) (a : Table) (first : ℕ → ℕ) → a.schema ≡ d → a.last ≡ last → record (setting_in d last) { first = first } ≡ setting_from a first
+pub table-from : (d : Declarations) (last : ℕ) (a : Table) (first : ℕ → ℕ) → a.schema ≡ d → a.last ≡ last → record (setting_in d last) { first = first } ≡ setting_from a first
 table-from d last a first schema bound = λ i. record (setting_in (sym schema i) (sym bound i)) { first = first }
 
 -- free monitors agree with the store of an image just made

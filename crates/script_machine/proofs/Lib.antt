@@ -2,4 +2,4 @@ mod PlanLemmas
 mod StoreLemmas
 mod ListLemmas
 mod HomeLemmas
-mod AgreementLemmas
+pub mod AgreementLemmas

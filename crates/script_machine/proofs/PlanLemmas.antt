@@ -1,7 +1,7 @@
 -- What is looked up and planned, as the lines of a script tell it.
 use Rattle.std.proofs.Common.{◌≡◌, ◌≢◌, ℕ, ◌<◌, ◌≤◌, inl, inr, List, Some, None, Result, Ok, Err, IfOk, MatchResult, refl, subst, take}
 use Rattle.std.proofs.lemmas.Bool.{cases_lt}
-use Rattle.guards.specs.Schema.{guard_of}
+use Rattle.guards.specs.Schema.{object_count, guard_of}
 use Rattle.heap_model.specs.declared.ids.ObjectId.{ObjectId}
 use Rattle.heap_model.specs.declared.ids.FieldId.{FieldId}
 use Rattle.heap_model.specs.declared.event.Event.{Event}
@@ -135,13 +135,14 @@ module _ (old : MachineState) (answer : Answer) (new : MachineState) where
   not_notified_all m t o other is = record { not_held = λ _. is; ok = λ mine. absurd (other mine) }
 
   module _ (m : Live) (t : ℕ) (o : ObjectId) (table : Table) (mine : (state_of m.monitors).owner o.0 ≡ Some t)
-      (runs : new ≡ Running (record m { monitors = table })) where
+      (runs : new ≡ Running (record m { monitors = table })) (named : o.0 < object_count m.monitors.schema) where
     pub notified : MayDo (setting_of m.monitors) (state_of m.monitors) t (Notify o (least_of (waiters m.monitors o.0))) → woken_in answer ≡ Some (take 1 (waiters m.monitors o.0)) → IsAfter m.monitors t (Notify o (least_of (waiters m.monitors o.0))) table → Notifies old answer new m t o
     notified allowed answers after = record {
       not_held = λ other. absurd (other mine);
       ok = λ _. record {
         monitors = table;
         allowed = allowed;
+        named = named;
         answers = answers;
         runs = runs;
         after = after;
@@ -154,6 +155,7 @@ module _ (old : MachineState) (answer : Answer) (new : MachineState) where
       ok = λ _. record {
         monitors = table;
         allowed = allowed;
+        named = named;
         answers = answers;
         runs = runs;
         after = after;

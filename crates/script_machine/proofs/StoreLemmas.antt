@@ -1,5 +1,5 @@
 -- What the store's calls make of the machine.
-use Rattle.std.proofs.Common.{◌≡◌, ◌⊎◌, ℕ, inl, inr, Result, Ok, Err, IfErr, OnOk, MatchResult, refl, ap}
+use Rattle.std.proofs.Common.{◌≡◌, ◌⊎◌, ℕ, false, inl, inr, Result, Ok, Err, IfErr, OnOk, MatchResult, refl, ap}
 use Rattle.heap_model.specs.Setting.{Setting}
 use Rattle.block_disk.specs.Memory.{Memory}
 use Rattle.heap_model.specs.declared.record.Record.{Record}
@@ -40,9 +40,10 @@ refused-line a x y P e w told same because = record {
 -- a record that the store takes
 pub took : (x y : Parts Memory) (t : ℕ) (next : Record) (r : Result (Unit {0}) StoreError)
     → ((s : Setting) (p : Past) → Tells x s p → MatchResult r (λ done. Answers s x.known.memory p t next (Ok done)) (RefusesApply x.known s p t next))
-    → ((s : Setting) (p : Past) → Tells x s p → OnOk r (Tells y s (after_apply p t next))) → y.disk ≡ x.disk → y.known.layout ≡ x.known.layout → OnOk r (Takes x t next y)
-took x y t next (Ok done) answer ok disk layout = record { judged = answer; after = ok; disk = disk; layout = layout }
-took x y t next (Err e) answer ok disk layout = tt
+    → ((s : Setting) (p : Past) → Tells x s p → OnOk r (Tells y s (after_apply p t next))) → y.disk ≡ x.disk → y.known.layout ≡ x.known.layout
+    → OnOk r ((x.known.has_failed ≡ false) × (y.known.has_failed ≡ false)) → OnOk r (Takes x t next y)
+took x y t next (Ok done) answer ok disk layout running = record { judged = answer; after = ok; disk = disk; layout = layout; running = running.1 }
+took x y t next (Err e) answer ok disk layout running = tt
 
 -- and one that it refuses
 pub not_took : (x : Parts Memory) (t : ℕ) (next : Record) (r : Result (Unit {0}) StoreError)

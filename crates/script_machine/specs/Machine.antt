@@ -1,5 +1,5 @@
 -- What a line does to the machine, and which lines are refused, and why (docs/SCRIPTS.md, "Lines" and "Refusals").
-use Rattle.std.specs.Prelude.{ℕ, false, ◌≡◌, ◌≢◌, ◌<◌, ◌≤◌, ◌⊎◌, List, [], Option, Some, None, Ok, Contains, length, take, slice_get, slice_index}
+use Rattle.std.specs.Prelude.{ℕ, false, ◌≡◌, ◌≢◌, ◌<◌, ◌≤◌, ◌⊎◌, List, Option, Some, None, Ok, length, take, slice_index}
 use Rattle.guards.specs.Schema.{Declarations, object_count, field_count, names_of, guard_of, first_of, nothing}
 use Rattle.declarations.specs.Declares.{Declares, Tests, Named}
 use Rattle.declarations.specs.declared.declared.Declared.{Declared}
@@ -12,7 +12,7 @@ use Rattle.heap_model.specs.declared.event.Event.{Event}
 use Rattle.heap_model.specs.declared.event.Event.TheVariants.{Enter, NestedEnter, NestedExit, Exit, Store, Wait, Resume, Notify, NotifyAll}
 use Rattle.heap_model.specs.Setting.{Setting}
 use Rattle.heap_model.specs.State.{initial_state, Awake, InSet, Woken}
-use Rattle.heap_model.specs.Events.{MayDo}
+use Rattle.heap_model.specs.Events.{MayDo, IsEventOf}
 use Rattle.plain_monitors.specs.Logged.{logged}
 use Rattle.heap_model.specs.Log.{value}
 use Rattle.heap_model.specs.Sections.{actions}
@@ -26,10 +26,11 @@ use Rattle.image.specs.Layout.{size_of}
 use Rattle.store_memory.specs.Apply.{Answers}
 use Rattle.durable.specs.Calls.{IsClean, RefusesApply, RefusesLog, RefusesSettle}
 use Rattle.store_image.specs.Formatting.{layout_with}
+use Rattle.store_image.specs.KeptHeap.{StandsForCut, StandsForEither}
 use Rattle.store_past.specs.Past.{Past, applied, no_past, after_apply, after_log, after_settle}
 use Rattle.durable.specs.Store.{Parts, ShowsStep}
 use Rattle.durable.specs.declared.doubt.Doubt.{Doubt}
-use Rattle.durable.specs.declared.doubt.Doubt.TheVariants.{Logging, Settling}
+use Rattle.durable.specs.declared.doubt.Doubt.TheVariants.{Nothing, Logging, Settling}
 use Rattle.store_past.specs.declared.error.StoreError.{StoreError}
 use Rattle.recover.specs.Reading as reading
 use Rattle.recover.specs.Study.{IsStudyOf}
@@ -41,7 +42,7 @@ use Rattle.script_machine.specs.declared.answer.Answer.TheVariants as answers
 use Rattle.script_machine.specs.declared.answer.Report.{Report}
 use Rattle.script_machine.specs.declared.answer.Refusal.{Refusal}
 use Rattle.script_machine.specs.declared.answer.Refusal.TheVariants as why
-use Rattle.script_machine.specs.Agreement.{Agrees}
+use Rattle.script_machine.specs.Agreement.{Agrees, BeginsWith}
 use Rattle.script_machine.specs.Answers.{heap_in, acknowledged_in, woken_in}
 use Rattle.script_machine.specs.Homes.{BringsHome}
 use Rattle.script_machine.specs.Limits.{IsFormattable}
@@ -88,6 +89,7 @@ pub record Takes (old : Parts Memory) (lane : ℕ) (next : Record) (new : Parts 
   pub after : (s : Setting) (p : Past) → Tells old s p → Tells new s (after_apply p lane next)
   pub disk : new.disk ≡ old.disk
   pub layout : new.known.layout ≡ old.known.layout
+  pub running : new.known.has_failed ≡ false
 
 -- what the store makes of an event's record, if it has one
 abbrev pub Keeps : Parts Memory → (lane : ℕ) → Option Record → Parts Memory → Type 0
@@ -120,6 +122,7 @@ module _ (old : MachineState) (answer : Answer) (new : MachineState) where
     pub layout : live.store.known.layout ≡ layout_with d lanes capacity
     pub fresh_monitors : IsFresh d lanes (first_of d) live.monitors
     pub tells : Tells live.store (setting_of live.monitors) no_past
+    pub running : live.store.known.has_failed ≡ false
 
   -- an image is formatted where there is an object and a field, and lanes and capacity are within their limits
   abbrev pub FormatsImage : Declarations → (lanes capacity : ℕ) → Type 0
@@ -147,6 +150,7 @@ module _ (old : MachineState) (answer : Answer) (new : MachineState) where
   -- the event is allowed (JLS 17.1, 17.2). It is done, unless the store refuses its record
   pub record Does (m : Live) (thread : ℕ) (said : Answer) (event : Event) : Type 0 where
     pub allowed : MayDo (setting_of m.monitors) (state_of m.monitors) thread event
+    pub named : IsEventOf (setting_of m.monitors) event
     pub outcome : Completes m thread event said ⊎ IsRefusedByStore m (λ s p reason. RefusesRecord m.store s p thread (logged event) reason)
 
   -- a lock of the object's monitor
@@ -191,6 +195,7 @@ module _ (old : MachineState) (answer : Answer) (new : MachineState) where
   pub record Wakes (m : Live) (thread : ℕ) (event : Event) (woken : List Lane) : Type 0 where
     pub monitors : Table
     pub allowed : MayDo (setting_of m.monitors) (state_of m.monitors) thread event
+    pub named : IsEventOf (setting_of m.monitors) event
     pub answers : woken_in answer ≡ Some woken
     pub runs : new ≡ Running (record m { monitors = monitors })
     pub after : IsAfter m.monitors thread event monitors
@@ -228,14 +233,22 @@ module _ (old : MachineState) (answer : Answer) (new : MachineState) where
   pub record Calls (m : Live) (said : Answer) (store : Parts Memory) (w : Doubt) : Type 0 where
     pub answers : answer ≡ said
     pub runs : new ≡ Running (record m { store = store })
+    pub layout : store.known.layout ≡ m.store.known.layout
+    pub running : store.known.has_failed ≡ false
     pub shown : (s : Setting) (p : Past) → Tells m.store s p
         → LeavesOnly (device_of m.store.disk) (device_of store.disk) (ShowsStep m.store.known.layout s p w)
 
-  -- the records that no log has yet are logged
+  -- a crash inside the call leaves what stands for the sections that were acknowledged before it, and for no others
+  abbrev pub KeepsAcknowledged : Live → Parts Memory → Type 0
+  KeepsAcknowledged m store = (s : Setting) (p : Past) → Tells m.store s p
+      → LeavesOnly (device_of m.store.disk) (device_of store.disk) (StandsForCut m.store.known.layout s p.logged p.cut)
+
+  -- the records that no log has yet are logged. That acknowledges nothing
   pub record Logs (m : Live) : Type 0 where
     pub store : Parts Memory
     pub records : ℕ
     pub call : Calls m (Logged records) store Logging
+    pub stands : KeepsAcknowledged m store
     pub count : (s : Setting) (p : Past) → Tells m.store s p → records ≡ length p.fresh
     pub after : (s : Setting) (p : Past) → Tells m.store s p → Tells store s (after_log p)
 
@@ -243,12 +256,12 @@ module _ (old : MachineState) (answer : Answer) (new : MachineState) where
   abbrev pub LogsRecords : Live → Type 0
   LogsRecords m = Logs m ⊎ IsRefusedByStore m (λ s p reason. RefusesLog m.store.known p reason)
 
-  -- home cells are written until no field is dirty
+  -- home cells are written until no field is dirty. That acknowledges nothing
   pub record WritesHome (m : Live) : Type 0 where
     pub store : Parts Memory
     pub cells : ℕ
-    pub answers : answer ≡ Wrote cells
-    pub runs : new ≡ Running (record m { store = store })
+    pub call : Calls m (Wrote cells) store Nothing
+    pub stands : KeepsAcknowledged m store
     pub after : (s : Setting) (p : Past) → Tells m.store s p → BringsHome store s p cells
 
   -- the stable cut is acknowledged
@@ -261,6 +274,9 @@ module _ (old : MachineState) (answer : Answer) (new : MachineState) where
     pub running : store.known.has_failed ≡ false
     pub shown : (s : Setting) (p : Past) → Tells m.store s p
         → LeavesOnly (device_of m.store.disk) (device_of store.disk) (ShowsStep m.store.known.layout s p Settling)
+    -- a crash inside it leaves what stands for the sections that were acknowledged before, or for those that are now
+    pub stands : (s : Setting) (p : Past) (cut : ℕ → ℕ) → Tells m.store s p → IsStable (actions p.logged) cut
+        → LeavesOnly (device_of m.store.disk) (device_of store.disk) (StandsForEither m.store.known.layout s p.logged p.cut cut)
     pub clean : (s : Setting) (p : Past) → Tells m.store s p → IsClean s p
     pub lanes : length sections ≡ m.store.known.layout.lanes
     pub after : (s : Setting) (p : Past) (cut : ℕ → ℕ) → Tells m.store s p → IsStable (actions p.logged) cut → Tells store s (after_settle p cut)
@@ -326,6 +342,7 @@ module _ (old : MachineState) (answer : Answer) (new : MachineState) where
     pub answers : answer ≡ answers.Recovered report
     pub runs : new ≡ Running live
     pub restores : Restores w.disk live.store report
+    pub begins : BeginsWith w.schema report.heap.items live.store
     pub restored : IsRestored w.schema live.store.known.layout.lanes report.heap.items live.monitors
 
   -- the image is refused, and the machine stays down

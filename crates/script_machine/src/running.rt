@@ -259,7 +259,10 @@ impl Running {
             monitors,
             mut store,
         } = self;
-        let cells = write_homes(&mut store)?;
+        let Ok(cells) = write_homes(&mut store) else {
+            // The device hadn't failed, so this is a fault: the disk in memory had no room for one more write.
+            return Err(AllocError);
+        };
         Ok((Running { monitors, store }, Answer::Wrote(cells)))
     }
 

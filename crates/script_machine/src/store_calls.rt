@@ -4,6 +4,11 @@ ghost use Rattle.heap_model.specs.Setting.{Setting};
 ghost use Rattle.heap_model.specs.Log.{value};
 ghost use Rattle.plain_monitors.specs.Logged.{logged};
 ghost use Rattle.store_past.specs.Past.{Past, applied};
+ghost use Rattle.block_disk.specs.Images.{LeavesOnly};
+ghost use Rattle.block_disk.specs.Memory.{device_of};
+ghost use Rattle.store_image.specs.Consistent.{ShowsPast};
+ghost use Rattle.store_image.specs.KeptHeap.{StandsForCut};
+ghost use Rattle.durable.specs.Calls.{RefusesHome};
 ghost use Rattle.script_machine.specs.States.{Tells};
 ghost use Rattle.script_machine.specs.Homes.{BringsHome};
 ghost use Rattle.script_machine.specs.Machine.{Keeps, RefusesRecord};
@@ -31,12 +36,19 @@ pub(crate) fn keep_record(
     }
 }
 
-/// Takes home steps until no field is dirty, and answers how many cells were written. A fault of the device is want of
-/// memory.
-pub(crate) fn write_homes(store: &mut Store<MemDisk>) -> Result<u64, AllocError>
+/// Takes home steps until no field is dirty, and answers how many cells were written.
+///
+/// Refusals: `Failed` where the device had failed before, after which nothing has changed; `Fault`. A crash at any moment of
+/// it leaves what stands for the acknowledged sections, as a crash before it does.
+pub(crate) fn write_homes(store: &mut Store<MemDisk>) -> Result<u64, StoreError>
     ensures homes { (s : Setting) (p : Past) → Tells store.old s p → IfOk result (BringsHome store.new s p) }
     ensures running { store.old.known.has_failed ≡ false → OnOk result (store.new.known.has_failed ≡ false) }
     ensures layout { store.new.known.layout ≡ store.old.known.layout }
+    ensures shown { (s : Setting) (p : Past) → Tells store.old s p
+        → OnOk result (LeavesOnly (device_of store.old.disk) (device_of store.new.disk) (ShowsPast store.old.known.layout s p)) }
+    ensures any_moment { (s : Setting) (p : Past) → Tells store.old s p
+        → OnOk result (LeavesOnly (device_of store.old.disk) (device_of store.new.disk) (StandsForCut store.old.known.layout s p.logged p.cut)) }
+    ensures refused { (s : Setting) (p : Past) → Tells store.old s p → IfErr result (RefusesHome store.old.known) }
 {
     let fields = store.layout().fields;
     // A step writes a greater field than the one before it, so no field is dirty after as many steps as there are fields.
@@ -44,7 +56,7 @@ pub(crate) fn write_homes(store: &mut Store<MemDisk>) -> Result<u64, AllocError>
         match store.home_step() {
             Ok(Home::Wrote(_)) => {}
             Ok(Home::Done) => return Ok(u64::from(written)),
-            Err(_) => return Err(AllocError),
+            Err(why) => return Err(why),
         }
     }
     Ok(u64::from(fields))

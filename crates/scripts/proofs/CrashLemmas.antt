@@ -51,11 +51,11 @@ only_worn image e w told (inr (inl none)) = absurd (let same = ap told_of_recove
 only_worn image e w told (inr (inr worn)) = (let same = ap told_of_recovery worn.0 in cc, worn.1)
 
 -- the machine once it is down with this image
-abbrev wreck_of : Live → (image : List ℕ) → Wreck
+abbrev pub wreck_of : Live → (image : List ℕ) → Wreck
 wreck_of m image = record { schema = m.monitors.schema; disk = fresh image }
 
 -- an image that shows a past has the header of its layout
-header_of : (l : Layout) (s : Setting) (p : Past) (w : Doubt) (image : List ℕ) → ShowsStep l s p w image → HasHeader image l
+pub header_of : (l : Layout) (s : Setting) (p : Past) (w : Doubt) (image : List ℕ) → ShowsStep l s p w image → HasHeader image l
 header_of l s p w image (Shows shown) = shown.parts.header
 header_of l s p w image (ShowsLogged doubt shown) = shown.parts.header
 header_of l s p w image (ShowsSettled doubt clean cut stable shown) = shown.parts.header
@@ -66,7 +66,7 @@ module _ (m : Live) (s : Setting) (p : Past) (has : Tells m.store s p) (w : Doub
   abbrev wreck : Wreck
   wreck = wreck_of m image
 
-  shows : (v : Doubt) × ShowsStep m.store.known.layout s p v image
+  pub shows : (v : Doubt) × ShowsStep m.store.known.layout s p v image
   shows = ⊎_elim (λ was. (m.store.known.doubt, has.images image (left_now (device_of m.store.disk) image was))) (λ shown. (w, shown))
       (leaves.each (length (device_of m.store.disk).past) image (omega arith) left)
 
@@ -77,14 +77,14 @@ module _ (m : Live) (s : Setting) (p : Past) (has : Tells m.store s p) (w : Doub
       → MatchResult answer (λ r. Keeps m.store.known.layout s p shows.0 r.0.heap (counts_of r.1.kept)) (λ back. CannotRecover image back.1)
   run = keeps m.store.known.layout s p shows.0 device_of (device_of (fresh image)) has.past (subst (λ (n : ℕ). IsOfLanes n (applied p)) has.layout.lanes has.remembers.of_lanes) shows.1
 
-  layout_of : (found : LoggedImage) → Holds image found → found.layout ≡ m.store.known.layout
+  pub layout_of : (found : LoggedImage) → Holds image found → found.layout ≡ m.store.known.layout
   layout_of found holds =
       let here = header_of m.store.known.layout s p shows.0 image shows.1 in
       let there = holds.control.front.layout.header in
       one_layout found.layout m.store.known.layout there.limits here.limits (sym there.spelled ∙ here.spelled)
 
   -- what is told, where recovery gives the heap of this cut and keeps its sections
-  told_of : (log : List (ℕ × Record)) (cut : ℕ → ℕ) (r : Recovers (Down wreck) told new wreck) → r.restores.recovered.heap ≡ kept_heap m.store.known.layout s log cut
+  pub told_of : (log : List (ℕ × Record)) (cut : ℕ → ℕ) (r : Recovers (Down wreck) told new wreck) → r.restores.recovered.heap ≡ kept_heap m.store.known.layout s log cut
       → ((lane : ℕ) → lane < m.store.known.layout.lanes → counts_of r.restores.found.kept lane ≡ cut lane) → Survives m s log cut told new
   told_of log cut r heap kept =
       let recovery = r.restores.recovery in
@@ -104,7 +104,7 @@ module _ (m : Live) (s : Setting) (p : Past) (has : Tells m.store s p) (w : Doub
         restored = subst (λ (n : ℕ). IsRestored m.monitors.schema n r.report.heap.items r.live.monitors) (ap (λ (l : Layout). l.lanes) same) r.restored;
       }
 
-  at_its_end : RefusesImage (Down wreck) told new wreck → IsAtItsEnd (Down wreck) told
+  pub at_its_end : RefusesImage (Down wreck) told new wreck → IsAtItsEnd (Down wreck) told
   at_its_end r =
       let worn = only_worn image r.refuses.reason r.refusal r.refuses.told_is (run (Err (r.disk, r.refuses.reason)) tt r.refuses.refused) in
       record { refused = r.answers ∙ ap Refused worn.0; last = worn.1 }
@@ -122,7 +122,7 @@ module _ (m : Live) (s : Setting) (p : Past) (has : Tells m.store s p) (w : Doub
   recovers (inr refused) = inr (at_its_end refused)
 
 -- a crash that is told has come
-went_down : (m : Live) (fill : Fill) (back : ℕ) (down : MachineState) → Crashes (Running m) Crashed down m fill back → GoesDown (Running m) Crashed down m fill back
+pub went_down : (m : Live) (fill : Fill) (back : ℕ) (down : MachineState) → Crashes (Running m) Crashed down m fill back → GoesDown (Running m) Crashed down m fill back
 went_down m fill back down tests = elim (cases_lt (length m.store.disk.stops) back) as (λ _. GoesDown (Running m) Crashed down m fill back) [
   | inl few ↦ absurd (let told = (tests.refused few).0 in cc)
   | inr enough ↦ tests.passed (λ few. omega (arith, few, enough))
@@ -164,12 +164,12 @@ history m fill down new told crash recover =
     (rest m (setting_from m.monitors agrees.first) agrees.past fill down new told agrees.tells crash recover)
 
 -- an image of later moments is one of these
-since : (t u : ℕ) (ms : List Moment) (image : List ℕ) → u ≤ t → LeftIn t ms image → LeftIn u ms image
+pub since : (t u : ℕ) (ms : List Moment) (image : List ℕ) → u ≤ t → LeftIn t ms image → LeftIn u ms image
 since t u [] image le left = left
 since t u (m ∷ ms) image le (inl now) = inl ((let low = now.0 in omega (arith, low, le)), now.1)
 since t u (m ∷ ms) image le (inr was) = inr (since t u ms image le was)
 
-one_live : (a b : Live) → Running a ≡ Running b → a ≡ b
+pub one_live : (a b : Live) → Running a ≡ Running b → a ≡ b
 one_live a b same = cc
 
 -- a call of the store, a crash in it or behind it, and recovery

@@ -1,3 +1,5 @@
 mod FrontLemmas
 mod PlayLemmas
 mod CrashLemmas
+mod StepLemmas
+mod PlayingLemmas

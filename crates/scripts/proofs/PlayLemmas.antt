@@ -1,5 +1,5 @@
 -- A run goes line by line, and prints what its lines print.
-use Rattle.std.proofs.Common.{◌≡◌, ℕ, zero, suc, length-drop, ◌+◌, ◌-◌, ◌<◌, ◌≤◌, Bool, true, false, List, [], ◌∷◌, ◌++◌, ◌==◌, ◌&&◌, if◌then◌else◌, Option, Some, Result, Ok, Err, IfErr, OnErr, length, take, drop, refl, sym, ap, subst, ◌∙◌, inl, inr, append-nil, take-append-drop, arith}
+use Rattle.std.proofs.Common.{◌≡◌, ℕ, zero, suc, ◌+◌, ◌-◌, ◌<◌, ◌≤◌, true, List, [], ◌∷◌, ◌++◌, ◌==◌, Option, Result, Ok, Err, IfErr, OnErr, length, take, drop, refl, sym, ap, subst, ◌∙◌, inl, inr, append-nil, arith}
 use Rattle.std.proofs.KnownBytes.{Appends-nil, Appends-trans}
 use Rattle.std.proofs.lemmas.List.{take_all}
 use Rattle.std.proofs.lemmas.List.Folds.{concat-append}

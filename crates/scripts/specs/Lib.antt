@@ -2,3 +2,4 @@
 pub mod Runs
 pub mod Texts
 pub mod Crashing
+pub mod Playing

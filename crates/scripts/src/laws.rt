@@ -1,5 +1,6 @@
-//! A law of crashes and recoveries in a script: the contract of a function that does nothing.
+//! Laws of crashes and recoveries in a script: contracts of functions that do nothing.
 ghost use Rattle.scripts.specs.Crashing.{CallLaw, HistoryLaw, RestLaw, ToldLaw};
+ghost use Rattle.scripts.specs.Playing.{FormattedLaw, PlayLaw, RecoveredLaw};
 
 /// What is acknowledged survives, from script to script: what `recover` gives and tells after a crash with any fill. With
 /// nothing under way it is the heap of the acknowledged sections, of those of the threads' own legal history; at any write
@@ -9,4 +10,15 @@ pub fn crash_law()
     ensures history { HistoryLaw }
     ensures call { CallLaw }
     ensures told { ToldLaw }
+{}
+
+/// What is acknowledged survives, over any lines since `format` or `recover`, by the history of the threads' events in them.
+///
+/// At whichever write or sync of the lines a crash comes, what is recovered is the heap of the sections that some first part
+/// of the lines had acknowledged, or that the `settle` right behind it was about to acknowledge. However the lines that had ended
+/// by then are told apart from the rest, none of the sections that they had acknowledged is lost.
+pub fn play_law()
+    ensures formatted { FormattedLaw }
+    ensures recovered { RecoveredLaw }
+    ensures played { PlayLaw }
 {}

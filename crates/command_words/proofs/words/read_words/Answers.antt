@@ -1,9 +1,11 @@
-use Rattle.std.proofs.Common.{◌≡◌, ◌∷◌, [], List, ℕ, codes, map, string_bytes, true, ap, ap₂, sym, subst, ◌∙◌, refl}
+use Rattle.std.proofs.Common.{◌≡◌, List, [], ◌∷◌, ℕ, None, Some, codes, map, string_bytes, true, false, ap, ap₂, sym, subst, ◌∙◌, refl, inl, inr}
 use Rattle.clap.proofs.OnLiterals.{clap_on_literals}
 use Rattle.clap.specs.Faults.{fault_of, is_simple_and_free}
+use Rattle.clap.specs.Kinds.{HasKind}
 use Rattle.clap.specs.Simple.{App, is_simple, subcommand_of}
 use Rattle.clap.specs.Takes.{takes}
 use Rattle.command_words.specs.Words.{AsksFor, program}
+use Rattle.command_words.proofs.PathLemmas.{not_none, not_run, one_file, two_files}
 use Rattle.command_words.proofs.words.read_words.Goals as goal
 
 is_plain : is_simple_and_free program ≡ true
@@ -22,19 +24,63 @@ takes_run : (name : List ℕ) → takes program (name ∷ codes "run" ∷ []) �
 unfolding clap_on_literals
 takes_run name = refl
 
-pub returns-in-Ok-clause-exact : goal.returns-in-Ok-clause-exact
-returns-in-Ok-clause-exact c =
-    let is = c.in_ok-command.ensures in
-    ap (λ (a : App). fault_of a (map (λ s. string_bytes s) c.args.words.now)) (sym is) ∙ c.in-Ok.ensures.kinds (ap is_simple_and_free is ∙ is_plain)
+meets_none : (name : List ℕ) → subcommand_of program (name ∷ []) ≡ None
+unfolding clap_on_literals
+meets_none name = refl
 
-pub returns-in-Ok-clause-asked : goal.returns-in-Ok-clause-asked
-returns-in-Ok-clause-asked c =
+meets_run : (name : List ℕ) → subcommand_of program (name ∷ codes "run" ∷ []) ≡ Some (codes "run", [])
+unfolding clap_on_literals
+meets_run name = refl
+
+pub returns-in-Err-clause-exact : goal.returns-in-Err-clause-exact
+returns-in-Err-clause-exact c =
     let is = c.in_ok-command.ensures in
-    let met = (c.in-Ok.ensures.matches (ap is_simple is ∙ is_plainly_read)).1 ∙ ap (λ (a : App). subcommand_of a (map (λ s. string_bytes s) c.args.words.now)) is in
-    subst (λ found. AsksFor found c.asked_by.result) met c.asked_by.ensures
+    inl (subst (λ (a : App). HasKind (fault_of a (map (λ s. string_bytes s) c.args.words.now)) c.in-Err.answer) is (c.in-Err.ensures.kinds (ap is_simple_and_free is ∙ is_plain)))
 
 pub returns-in-Err-clause-none : goal.returns-in-Err-clause-none
 returns-in-Err-clause-none c = λ name words_are. c.in-Err.ensures.passes (ap₂ takes c.in_ok-command.ensures words_are ∙ takes_none name)
 
 pub returns-in-Err-clause-run : goal.returns-in-Err-clause-run
 returns-in-Err-clause-run c = λ name words_are. c.in-Err.ensures.passes (ap₂ takes c.in_ok-command.ensures words_are ∙ takes_run name)
+
+pub returns-then-has_one_path-clause-exact : goal.returns-then-has_one_path-clause-exact
+returns-then-has_one_path-clause-exact c =
+    let is = c.in_ok-command.ensures in
+    let met = (c.in-Ok.ensures.matches (ap is_simple is ∙ is_plainly_read)).1 ∙ ap (λ (a : App). subcommand_of a (map (λ s. string_bytes s) c.args.words.now)) is in
+    let asks = subst (λ found. AsksFor found c.asked_by-asked.result) met c.asked_by-asked.ensures in
+    let none = ap (λ (a : App). fault_of a (map (λ s. string_bytes s) c.args.words.now)) (sym is) ∙ c.in-Ok.ensures.kinds (ap is_simple_and_free is ∙ is_plain) in
+    inr (none, one_file (map (λ s. string_bytes s) c.args.words.now) c.asked_by-asked.result asks (c.has_one_path.ensures.0 c.if-has_one_path.true), c.in_ok-one_path.ensures)
+
+pub returns-then-has_one_path-clause-none : goal.returns-then-has_one_path-clause-none
+returns-then-has_one_path-clause-none c = λ name words_are.
+    let is = c.in_ok-command.ensures in
+    let met = (c.in-Ok.ensures.matches (ap is_simple is ∙ is_plainly_read)).1 ∙ ap (λ (a : App). subcommand_of a (map (λ s. string_bytes s) c.args.words.now)) is in
+    let asks = subst (λ found. AsksFor found c.asked_by-asked.result) met c.asked_by-asked.ensures in
+    absurd (not_none (map (λ s. string_bytes s) c.args.words.now) (ap (subcommand_of program) words_are ∙ meets_none name)
+    (one_file (map (λ s. string_bytes s) c.args.words.now) c.asked_by-asked.result asks (c.has_one_path.ensures.0 c.if-has_one_path.true)))
+
+pub returns-then-has_one_path-clause-run : goal.returns-then-has_one_path-clause-run
+returns-then-has_one_path-clause-run c = λ name words_are.
+    let is = c.in_ok-command.ensures in
+    let met = (c.in-Ok.ensures.matches (ap is_simple is ∙ is_plainly_read)).1 ∙ ap (λ (a : App). subcommand_of a (map (λ s. string_bytes s) c.args.words.now)) is in
+    let asks = subst (λ found. AsksFor found c.asked_by-asked.result) met c.asked_by-asked.ensures in
+    absurd (not_run (map (λ s. string_bytes s) c.args.words.now) (ap (subcommand_of program) words_are ∙ meets_run name)
+    (one_file (map (λ s. string_bytes s) c.args.words.now) c.asked_by-asked.result asks (c.has_one_path.ensures.0 c.if-has_one_path.true)))
+
+pub returns-clause-exact : goal.returns-clause-exact
+returns-clause-exact c =
+    let is = c.in_ok-command.ensures in
+    let met = (c.in-Ok.ensures.matches (ap is_simple is ∙ is_plainly_read)).1 ∙ ap (λ (a : App). subcommand_of a (map (λ s. string_bytes s) c.args.words.now)) is in
+    let asks = subst (λ found. AsksFor found c.asked_by-asked.result) met c.asked_by-asked.ensures in
+    let none = ap (λ (a : App). fault_of a (map (λ s. string_bytes s) c.args.words.now)) (sym is) ∙ c.in-Ok.ensures.kinds (ap is_simple_and_free is ∙ is_plain) in (
+      none,
+      two_files (map (λ s. string_bytes s) c.args.words.now) c.asked_by-asked.result asks
+          (λ same. let both : true ≡ false = sym (c.has_one_path.ensures.1 same) ∙ c.if-has_one_path.false in absurd cc),
+    )
+
+pub returns-clause-asked : goal.returns-clause-asked
+returns-clause-asked c =
+    let is = c.in_ok-command.ensures in
+    let met = (c.in-Ok.ensures.matches (ap is_simple is ∙ is_plainly_read)).1 ∙ ap (λ (a : App). subcommand_of a (map (λ s. string_bytes s) c.args.words.now)) is in
+    let asks = subst (λ found. AsksFor found c.asked_by-asked.result) met c.asked_by-asked.ensures in
+    asks

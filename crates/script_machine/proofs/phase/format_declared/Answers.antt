@@ -37,6 +37,7 @@ returns c =
             state = c.in_ok-monitors.ensures.state ∙ ap (λ (d : Declarations). initial_state (first_of d)) c.build-schema.ensures;
           };
           tells = subst (λ (s : Setting). Tells c.in_ok-store.store s no_past) (λ i. setting_in (sym schema i) (sym c.in_ok-monitors.ensures.last i)) c.in_ok-store.ensures.tells;
+          running = c.in_ok-store.ensures.running;
         };
       };
     }

@@ -3,6 +3,7 @@ use Rattle.guards.specs.Schema.{Declarations, field_count}
 use Rattle.image.specs.declared.layout.Layout.{Layout}
 use Rattle.block_disk.specs.Memory.{Memory}
 use Rattle.script_machine.specs.Machine as machine
+use Rattle.script_machine.specs.Agreement.{BeginsWith}
 use Rattle.script_machine.specs.Reports.{Restores}
 use Rattle.script_machine.proofs.AgreementLemmas.{agree-restored}
 use Rattle.script_machine.proofs.phase.recover_down.Goals as goal
@@ -14,6 +15,7 @@ returns-in_ok-monitors-in-Ok c = inl (record {
   answers = refl;
   runs = ap machine.Running c.new-running.ensures;
   restores = subst (λ (d : Memory). Restores d c.in-Ok.store c.in-Ok.report) (ap (λ (p : Declarations × Memory). p.1) c.into_parts-schema.ensures) (rw c.in-Ok.is at c.in_ok-store.ensures.restored);
+  begins = subst (λ (d : Declarations). BeginsWith d c.in-Ok.report.heap.items c.in-Ok.store) (ap (λ (p : Declarations × Memory). p.0) c.into_parts-schema.ensures) (rw c.in-Ok.is at c.in_ok-store.ensures.begins);
   restored = record {
     first = slice_index c.in_ok-monitors-in-Ok.monitors.values;
     fresh_monitors = record {

@@ -14,7 +14,7 @@ returns-in-Some-clause-kept c =
     let t = c.args.thread.0 in
     let step = c.apply.ensures in
     subst (λ (r : Option Record). OnOk c.apply.result (Keeps x t r y)) (sym c.in-Some.is ∙ c.record_of.ensures)
-    (took x y t c.in-Some.next c.apply.result step.answer step.ok step.disk step.layout)
+    (took x y t c.in-Some.next c.apply.result step.answer step.ok step.disk step.layout step.running)
 
 pub returns-in-Some-clause-refused : goal.returns-in-Some-clause-refused
 returns-in-Some-clause-refused c =

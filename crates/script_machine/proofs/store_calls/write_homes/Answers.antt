@@ -1,59 +1,150 @@
 use Rattle.std.proofs.Common.{◌≡◌, ℕ, suc, ◌+◌, ◌∙◌, refl, sym, subst, ap, arith, rules}
 use Rattle.std.proofs.Math.Numerals.{add-one}
+use Rattle.block_disk.proofs.Images.{and_then, begin, weaker}
+use Rattle.block_disk.specs.Images.{LeavesOnly}
+use Rattle.block_disk.specs.Memory.{Memory, device_of}
 use Rattle.image.specs.declared.layout.Layout.{Layout}
 use Rattle.heap_model.specs.Setting.{Setting}
+use Rattle.store_image.specs.KeptHeap.{StandsForCut}
 use Rattle.store_past.specs.Past.{Past, after_home}
-use Rattle.durable.specs.Calls.{AnswersHome, after_home_step}
+use Rattle.durable.specs.Calls.{AnswersHome, RefusesHome, after_home_step}
+use Rattle.store_image.specs.Consistent.{ShowsPast}
+use Rattle.durable.specs.Store.{Known, Parts}
+use Rattle.store_past.specs.declared.error.StoreError.{StoreError}
+use Rattle.store_past.specs.declared.error.StoreError.TheVariants.{Failed, BadLane, BadId, Worn, NotNext, TooLong, LogFull, Unwritten, Fault, Unfinished}
 use Rattle.store_image.specs.declared.home.Home.{Home}
 use Rattle.script_machine.specs.Homes.{WriteHomes}
 use Rattle.script_machine.specs.States.{Tells}
-use Rattle.script_machine.proofs.HomeLemmas.{clean-on}
+use Rattle.script_machine.proofs.HomeLemmas.{clean-on, shows_before}
+use Rattle.script_machine.proofs.store_calls.write_homes.Invariants.{HasWritten}
 use Rattle.script_machine.proofs.store_calls.write_homes.Goals as goal
 
 -- one more home write
 one-more : (s : Setting) (p : Past) (k n : ℕ) (q : Past) → WriteHomes s p (k + suc n) q → WriteHomes s p (k + 1 + n) q
 one-more s p k n q = let a : n + 1 ≡ suc n = add-one n in let same : k + suc n ≡ k + 1 + n = omega (arith, a) in subst (λ m. WriteHomes s p m q) same
 
+-- a call leaves what shows the first past, and stands for its cut
+module _ (old mid new : Parts Memory) (s : Setting) (p : Past) (k : ℕ) (so : HasWritten old mid s p k) (layout : mid.known.layout ≡ old.known.layout)
+    (shown : LeavesOnly (device_of mid.disk) (device_of new.disk) (ShowsPast mid.known.layout s so.now))
+    (stands : LeavesOnly (device_of mid.disk) (device_of new.disk) (StandsForCut mid.known.layout s so.now.logged so.now.cut)) where
+  shown_on : LeavesOnly (device_of old.disk) (device_of new.disk) (ShowsPast old.known.layout s p)
+  shown_on = and_then (device_of old.disk) (device_of mid.disk) (device_of new.disk) (ShowsPast old.known.layout s p) so.shown
+      (weaker (device_of mid.disk) (device_of new.disk) (ShowsPast mid.known.layout s so.now) (ShowsPast old.known.layout s p)
+      (λ image shows. so.shows old.known.layout image (subst (λ (l : Layout). ShowsPast l s so.now image) layout shows)) shown)
+
+  stands_on : LeavesOnly (device_of old.disk) (device_of new.disk) (StandsForCut old.known.layout s p.logged p.cut)
+  stands_on = and_then (device_of old.disk) (device_of mid.disk) (device_of new.disk) (StandsForCut old.known.layout s p.logged p.cut) so.stands
+      (subst (λ (l : Layout). LeavesOnly (device_of mid.disk) (device_of new.disk) (StandsForCut l s p.logged p.cut)) layout
+      (subst (λ (cut : ℕ → ℕ). LeavesOnly (device_of mid.disk) (device_of new.disk) (StandsForCut mid.known.layout s p.logged cut)) so.cut
+      (subst (λ log. LeavesOnly (device_of mid.disk) (device_of new.disk) (StandsForCut mid.known.layout s log so.now.cut)) so.logged stands)))
+
+-- a refusal of a later one is one of the first
+refused_same : (x y : Known) (e : StoreError) → y.has_failed ≡ x.has_failed → RefusesHome y e → RefusesHome x e
+refused_same x y Failed same refused = sym same ∙ refused
+refused_same x y BadLane same refused = refused
+refused_same x y BadId same refused = refused
+refused_same x y Worn same refused = refused
+refused_same x y NotNext same refused = refused
+refused_same x y TooLong same refused = refused
+refused_same x y LogFull same refused = refused
+refused_same x y Unwritten same refused = refused
+refused_same x y Fault same refused = sym same ∙ refused
+refused_same x y Unfinished same refused = refused
+
+pub loop-written-init : goal.loop-written-init
+loop-written-init c = (
+  λ s p t. record {
+    now = p;
+    tells = t;
+    more = λ n q more. let same : n ≡ 0 + n = omega arith in subst (λ m. WriteHomes s p m q) same more;
+    clean = λ f below. absurd (omega (arith, below));
+    shown = begin (device_of c.args.store.now.disk) (ShowsPast c.args.store.now.known.layout s p);
+    stands = begin (device_of c.args.store.now.disk) (StandsForCut c.args.store.now.known.layout s p.logged p.cut);
+    shows = λ l image shows. shows;
+    logged = refl;
+    cut = refl;
+  },
+  refl,
+  refl,
+)
+
+pub returns-in-Err-clause-refused : goal.returns-in-Err-clause-refused
+returns-in-Err-clause-refused c = λ s p t.
+    let so = c.loop-written.invariant.0 s p t in
+    refused_same c.args.store.now.known c.loop-written.store.known c.in-Err.why c.loop-written.invariant.2 (rw c.in-Err.is at c.home_step.ensures.answer s so.now so.tells)
+
 pub loop-written-preserved : goal.loop-written-preserved
 loop-written-preserved c = (
   λ s p t.
+      let old = c.args.store.now in
+      let mid = c.loop-written.store in
+      let new = c.home_step.new.self in
       let so = c.loop-written.invariant.0 s p t in
       let f = c.in-Ok-Wrote.field-0-0.0 in
-      let answer = rw c.in-Ok-Wrote.is at c.home_step.ensures.answer s so.0 so.1 in
-      let least = subst (λ (h : Home). AnswersHome s so.0 h) c.in-Ok-Wrote.field-0-is answer.1 in
-      let tells = subst (λ (h : Home). Tells c.home_step.new.self s (after_home_step so.0 h)) c.in-Ok-Wrote.field-0-is (rw c.in-Ok-Wrote.is at c.home_step.ensures.ok s so.0 so.1) in
-      (after_home so.0 f, tells, λ n q more. one-more s p c.loop-written.written n q (so.2 (suc n) q (f, least, more)), clean-on s so.0 f c.loop-written.written least so.3),
+      let answer = rw c.in-Ok-Wrote.is at c.home_step.ensures.answer s so.now so.tells in
+      let least = subst (λ (h : Home). AnswersHome s so.now h) c.in-Ok-Wrote.field-0-is answer.1 in
+      let shown = c.home_step.ensures.shown s so.now so.tells in
+      let stands = c.home_step.ensures.any_moment s so.now so.tells in
+      record {
+        now = after_home so.now f;
+        tells = subst (λ (h : Home). Tells new s (after_home_step so.now h)) c.in-Ok-Wrote.field-0-is (rw c.in-Ok-Wrote.is at c.home_step.ensures.ok s so.now so.tells);
+        more = λ n q more. one-more s p c.loop-written.written n q (so.more (suc n) q (f, least, more));
+        clean = clean-on s so.now f c.loop-written.written least so.clean;
+        shown = shown_on old mid new s p c.loop-written.written so c.loop-written.invariant.1 shown stands;
+        stands = stands_on old mid new s p c.loop-written.written so c.loop-written.invariant.1 shown stands;
+        shows = λ l image shows. so.shows l image (shows_before l s so.now f image shows);
+        logged = so.logged;
+        cut = so.cut;
+      },
   c.home_step.ensures.layout ∙ c.loop-written.invariant.1,
-  λ _. (rw c.in-Ok-Wrote.is at c.home_step.ensures.running).1,
+  (let running = rw c.in-Ok-Wrote.is at c.home_step.ensures.running in running.1 ∙ sym running.0 ∙ c.loop-written.invariant.2),
 )
 
 pub returns-in-Ok-Done-clause-homes : goal.returns-in-Ok-Done-clause-homes
 returns-in-Ok-Done-clause-homes c = λ s p t.
     let so = c.loop-written.invariant.0 s p t in
-    let answer = rw c.in-Ok-Done.is at c.home_step.ensures.answer s so.0 so.1 in
+    let answer = rw c.in-Ok-Done.is at c.home_step.ensures.answer s so.now so.tells in
     let same : c.loop-written.written + 0 ≡ c.from.result = omega (arith, c.from.ensures) in
     record {
-      then = so.0;
-      written = subst (λ m. WriteHomes s p m so.0) same (so.2 0 so.0 refl);
-      clean = subst (λ (h : Home). AnswersHome s so.0 h) c.in-Ok-Done.field-0-is answer.1;
-      tells = subst (λ (h : Home). Tells c.home_step.new.self s (after_home_step so.0 h)) c.in-Ok-Done.field-0-is (rw c.in-Ok-Done.is at c.home_step.ensures.ok s so.0 so.1);
+      then = so.now;
+      written = subst (λ m. WriteHomes s p m so.now) same (so.more 0 so.now refl);
+      clean = subst (λ (h : Home). AnswersHome s so.now h) c.in-Ok-Done.field-0-is answer.1;
+      tells = subst (λ (h : Home). Tells c.home_step.new.self s (after_home_step so.now h)) c.in-Ok-Done.field-0-is (rw c.in-Ok-Done.is at c.home_step.ensures.ok s so.now so.tells);
     }
 
 pub returns-in-Ok-Done-clause-running : goal.returns-in-Ok-Done-clause-running
 returns-in-Ok-Done-clause-running c = λ _. (rw c.in-Ok-Done.is at c.home_step.ensures.running).1
 
+pub returns-in-Ok-Done-clause-shown : goal.returns-in-Ok-Done-clause-shown
+returns-in-Ok-Done-clause-shown c = λ s p t.
+    let so = c.loop-written.invariant.0 s p t in
+    shown_on c.args.store.now c.loop-written.store c.home_step.new.self s p c.loop-written.written so c.loop-written.invariant.1
+    (c.home_step.ensures.shown s so.now so.tells) (c.home_step.ensures.any_moment s so.now so.tells)
+
+pub returns-in-Ok-Done-clause-any_moment : goal.returns-in-Ok-Done-clause-any_moment
+returns-in-Ok-Done-clause-any_moment c = λ s p t.
+    let so = c.loop-written.invariant.0 s p t in
+    stands_on c.args.store.now c.loop-written.store c.home_step.new.self s p c.loop-written.written so c.loop-written.invariant.1
+    (c.home_step.ensures.shown s so.now so.tells) (c.home_step.ensures.any_moment s so.now so.tells)
+
 pub returns-clause-homes : goal.returns-clause-homes
 returns-clause-homes c = λ s p t.
     let so = c.loop-written.invariant.0 s p t in
-    let same : s.fields ≡ c.layout-fields.result.fields = so.1.setting.fields ∙ ap (λ (l : Layout). l.fields) (c.loop-written.invariant.1 ∙ sym c.layout-fields.ensures) in
+    let same : s.fields ≡ c.layout-fields.result.fields = so.tells.setting.fields ∙ ap (λ (l : Layout). l.fields) (c.loop-written.invariant.1 ∙ sym c.layout-fields.ensures) in
     let all : c.loop-written.written ≡ c.layout-fields.result.fields = search rules in
     let count : c.loop-written.written + 0 ≡ c.from-2.result = omega (arith, c.from-2.ensures, all) in
     record {
-      then = so.0;
-      written = subst (λ m. WriteHomes s p m so.0) count (so.2 0 so.0 refl);
-      clean = λ f below. so.3 f (omega (arith, same, all, below));
-      tells = so.1;
+      then = so.now;
+      written = subst (λ m. WriteHomes s p m so.now) count (so.more 0 so.now refl);
+      clean = λ f below. so.clean f (omega (arith, same, all, below));
+      tells = so.tells;
     }
 
 pub returns-clause-running : goal.returns-clause-running
-returns-clause-running c = c.loop-written.invariant.2
+returns-clause-running c = λ runs. c.loop-written.invariant.2 ∙ runs
+
+pub returns-clause-shown : goal.returns-clause-shown
+returns-clause-shown c = λ s p t. (c.loop-written.invariant.0 s p t).shown
+
+pub returns-clause-any_moment : goal.returns-clause-any_moment
+returns-clause-any_moment c = λ s p t. (c.loop-written.invariant.0 s p t).stands

@@ -42,7 +42,8 @@ returns c =
       | in-Ok w ↦ rw w.answer-is (inl (record {
         store = y;
         records = w.in-Ok.records;
-        call = record { answers = refl; runs = refl; shown = step.shown };
+        call = record { answers = refl; runs = refl; layout = step.layout; running = (rw w.in-Ok.is at step.running).1; shown = step.shown };
+        stands = step.any_moment;
         count = λ s p t. (rw w.in-Ok.is at step.answer s p t).1;
         after = λ s p t. rw w.in-Ok.is at step.ok s p t;
       }))

@@ -31,8 +31,9 @@ returns c =
     let w = c.in_ok-woken.ensures in
     let awake : (state_of m0.monitors).waiting t ≡ Awake = subst (λ (z : Live). (state_of z.monitors).waiting t ≡ Awake) (sym c.self.view_is) c.in-Ok.ensures.awake in
     let mine : (state_of m0.monitors).owner o.0 ≡ Some t = c.owns.ensures.0 (search rules) in
+    let within : o.0 < object_count m0.monitors.schema = subst (λ (z : Live). o.0 < object_count z.monitors.schema) (sym c.self.view_is) c.in-Ok.ensures.within in
     let woke : machine.NotifiesAll old said new m t o = subst (λ (z : Live). machine.NotifiesAll (machine.Running z) said new z t o) c.self.view_is
-    (notified_all (machine.Running m0) said new m0 t o table mine refl (w.allowed awake mine) (ap Some w.woken) (subst (λ (us : List Lane). IsAfter m0.monitors t (NotifyAll o us) table) w.woken w.after)) in
+    (notified_all (machine.Running m0) said new m0 t o table mine refl within (w.allowed awake mine) (ap Some w.woken) (subst (λ (us : List Lane). IsAfter m0.monitors t (NotifyAll o us) table) w.woken w.after)) in
     looked_up old said new object_of m m.monitors.schema.objects c.args.name.now t c.object.result (machine.NotifiesAll old said new m t) c.object.ensures.named
     (subst (λ (r : Result ObjectId Refusal). MatchResult r (machine.NotifiesAll old said new m t) (machine.Refuses old said new)) (sym c.in-Ok.is) woke)
 

@@ -56,6 +56,7 @@ returns c =
             layout = step.layout;
             running = (rw w.in-Ok.is at step.running).1;
             shown = step.shown;
+            stands = step.any_moment;
             clean = λ s p t. (rw w.in-Ok.is at step.answer s p t).1;
             lanes = told.count ∙ lanes;
             after = λ s p cut t stable. rw w.in-Ok.is at step.ok s p cut t stable;

@@ -1,0 +1,58 @@
+-- Whether `format` is asked for with one path for both of its files.
+use Rattle.std.proofs.Common.{◌≡◌, ℕ, List, [], Option, None, Some, sym, ◌∙◌, ap, arith, codes, length}
+use Rattle.clap.specs.Simple.{subcommand_of}
+use Rattle.clap.specs.Walk.{Row, Text}
+use Rattle.command_words.specs.declared.words.Words.{Words}
+use Rattle.command_words.specs.declared.words.Words.TheVariants as words
+use Rattle.command_words.specs.Words.{AsksFor, HasOnePath, NamesOneFile, image_of, program, schema_of}
+
+pub one_file : (texts : List Text) (asked : Words) → AsksFor (subcommand_of program texts) asked → HasOnePath asked → NamesOneFile texts
+one_file texts words.Run asks same = elim same [ ]
+one_file texts (words.Format image schema lanes capacity) (options, found, asks) same =
+    record { options = options; found = found; same = sym asks.image_is ∙ same ∙ asks.schema_is }
+one_file texts (words.Show image) asks same = elim same [ ]
+one_file texts (words.Draw image) asks same = elim same [ ]
+one_file texts (words.Recover image) asks same = elim same [ ]
+
+-- the word that was met, and what stands behind it
+abbrev word_in : Option (Text × List Row) → Text
+word_in None = []
+word_in (Some x) = x.0
+
+abbrev rows_in : Option (Text × List Row) → List Row
+rows_in None = []
+rows_in (Some x) = x.1
+
+longer : (n : ℕ) → n ≡ 4 → n ≡ 6 → ⊥
+longer n is lengths = omega (arith, is, lengths)
+
+shorter : (n : ℕ) → n ≡ 7 → n ≡ 6 → ⊥
+shorter n is lengths = omega (arith, is, lengths)
+
+none : (n : ℕ) → n ≡ 0 → n ≡ 6 → ⊥
+none n is lengths = omega (arith, is, lengths)
+
+run : (n : ℕ) → n ≡ 3 → n ≡ 6 → ⊥
+run n is lengths = omega (arith, is, lengths)
+
+-- no word is met, or another than `format`
+pub not_none : (texts : List Text) → subcommand_of program texts ≡ None → NamesOneFile texts → ⊥
+not_none texts is one = none (length (word_in (subcommand_of program texts))) (ap (λ found. length (word_in found)) is) (ap (λ found. length (word_in found)) one.found)
+
+pub not_run : (texts : List Text) → subcommand_of program texts ≡ Some (codes "run", []) → NamesOneFile texts → ⊥
+not_run texts is one = run (length (word_in (subcommand_of program texts))) (ap (λ found. length (word_in found)) is) (ap (λ found. length (word_in found)) one.found)
+
+not_show : (texts : List Text) (options : List Row) → subcommand_of program texts ≡ Some (codes "show", options) → NamesOneFile texts → ⊥
+not_show texts options is one = longer (length (word_in (subcommand_of program texts))) (ap (λ found. length (word_in found)) is) (ap (λ found. length (word_in found)) one.found)
+
+not_recover : (texts : List Text) (options : List Row) → subcommand_of program texts ≡ Some (codes "recover", options) → NamesOneFile texts → ⊥
+not_recover texts options is one = shorter (length (word_in (subcommand_of program texts))) (ap (λ found. length (word_in found)) is) (ap (λ found. length (word_in found)) one.found)
+
+pub two_files : (texts : List Text) (asked : Words) → AsksFor (subcommand_of program texts) asked → (HasOnePath asked → ⊥) → NamesOneFile texts → ⊥
+two_files texts words.Run asks two one = (asks one.options).0 one.found
+two_files texts (words.Format image schema lanes capacity) (options, found, asks) two one =
+    let same : options ≡ one.options = ap rows_in (sym found ∙ one.found) in
+    two (asks.image_is ∙ ap image_of same ∙ one.same ∙ ap schema_of (sym same) ∙ sym asks.schema_is)
+two_files texts (words.Show image) (options, found, path, rest) two one = not_show texts options found one
+two_files texts (words.Draw image) (options, found, path, rest) two one = not_show texts options found one
+two_files texts (words.Recover image) (options, found, path) two one = not_recover texts options found one
