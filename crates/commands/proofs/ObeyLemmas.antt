@@ -1,9 +1,25 @@
--- What is told of work on an image file.
-use Rattle.std.proofs.Common.{ℕ, List, Option, Result, Ok, Err, OnOk, OnErr}
+-- What is told of a run, of an image that was made, and of work on an image file.
+use Rattle.std.proofs.Common.{ℕ, List, [], Option, Result, Ok, Err, IfErr, OnOk, OnErr}
+use Rattle.std.specs.Io.KnownBytes.{Appends}
+use Rattle.script_lines.specs.Endings.{OfScript}
+use Rattle.script_lines.specs.declared.error.ScriptError.{ScriptError}
+use Rattle.scripts.specs.Runs.{Ends}
+use Rattle.image_file.specs.declared.error.FormatError.{FormatError}
+use Rattle.image_file.specs.Formatting.{PrintsImage, IsBeforeFile}
 use Rattle.recover.specs.declared.error.RecoverError.{RecoverError}
 use Rattle.recover.specs.declared.studied.Study.{Study}
 use Rattle.image_file.specs.Telling.{Tells, TellsLess}
-use Rattle.commands.specs.Obeying.{TellsOf, told_of_image}
+use Rattle.commands.specs.Obeying.{Formats, PlaysScript, TellsOf, told_of_format, told_of_image, told_of_script}
+
+pub played : (r : Result (Unit {0}) ScriptError) (read unread written now : Option (List ℕ)) → OfScript read unread (λ lines ending. Ends lines ending r written now)
+    → PlaysScript (told_of_script r) read unread written now
+played (Ok done) read unread written now plays = plays
+played (Err error) read unread written now plays = plays
+
+pub made : (lanes capacity : ℕ) (r : Result (Unit {0}) FormatError) (written now : Option (List ℕ)) → OnOk r (PrintsImage lanes capacity written now)
+    → IfErr r (λ error. IsBeforeFile error → Appends written now []) → Formats lanes capacity (told_of_format r) written now
+made lanes capacity (Ok done) written now printed silent = printed
+made lanes capacity (Err error) written now printed silent = silent
 
 pub told : (text : Study → List ℕ) (r : Result (Unit {0}) RecoverError) (written now : Option (List ℕ)) → OnOk r (Tells text written now)
     → OnErr r (TellsLess text written now) → TellsOf text (told_of_image r) written now

@@ -5,8 +5,10 @@ use Rattle.script_lines.specs.Endings.{OfScript}
 use Rattle.scripts.specs.Runs.{Ends}
 use Rattle.inspect.specs.StudyText.{study_text}
 use Rattle.inspect.specs.WholeGraph.{graph_text}
+use Rattle.script_lines.specs.declared.error.ScriptError.{ScriptError}
 use Rattle.recover.specs.declared.error.RecoverError.{RecoverError}
 use Rattle.recover.specs.declared.studied.Study.{Study}
+use Rattle.image_file.specs.declared.error.FormatError.{FormatError}
 use Rattle.image_file.specs.Formatting.{PrintsImage, IsBeforeFile}
 use Rattle.image_file.specs.Telling.{Tells, TellsLess, report_of}
 use Rattle.commands.specs.declared.fault.WorkFault.{WorkFault}
@@ -14,7 +16,17 @@ use Rattle.commands.specs.declared.fault.WorkFault.TheVariants as fault
 use Rattle.command_words.specs.declared.words.Words.{Words}
 use Rattle.command_words.specs.declared.words.Words.TheVariants as words
 
--- how work on an image file ended, as the program tells it
+-- how the run of a script ended, as the program tells it
+abbrev pub told_of_script : Result (Unit {0}) ScriptError → Result (Unit {0}) WorkFault
+told_of_script (Ok done) = Ok done
+told_of_script (Err error) = Err (fault.Script error)
+
+-- how the making of an image file ended
+abbrev pub told_of_format : Result (Unit {0}) FormatError → Result (Unit {0}) WorkFault
+told_of_format (Ok done) = Ok done
+told_of_format (Err error) = Err (fault.Format error)
+
+-- how work on an image file ended
 abbrev pub told_of_image : Result (Unit {0}) RecoverError → Result (Unit {0}) WorkFault
 told_of_image (Ok done) = Ok done
 told_of_image (Err error) = Err (fault.Image error)

@@ -1,12 +1,13 @@
 //! What the program's words do.
 ghost use Rattle.std.specs.Prelude.{◌≡◌};
-ghost use Rattle.commands.specs.Obeying.{Obeys, told_of_image};
+ghost use Rattle.commands.specs.Obeying.{Obeys, told_of_format, told_of_image, told_of_script};
 
 use crate::fault::WorkFault;
 use command_words::Words;
 use file_disk::BackingFile;
-use image_file::{draw_file, format_file, recover_file, show_file};
+use image_file::{FormatError, draw_file, format_file, recover_file, show_file};
 use recover::RecoverError;
+use script_lines::ScriptError;
 use scripts::run_script;
 use std::io::{Read, Write};
 use std::rt::Files;
@@ -27,22 +28,36 @@ where
 {
     let alloc = rt.alloc();
     match words {
-        Words::Run => match run_script(alloc, reader, writer) {
-            Ok(()) => Ok(()),
-            Err(error) => Err(WorkFault::Script(error)),
-        },
+        Words::Run => on_script(run_script(alloc, reader, writer)),
         Words::Format {
             image,
             schema,
             lanes,
             capacity,
-        } => match format_file(rt, alloc, image, schema, lanes, capacity, writer) {
-            Ok(()) => Ok(()),
-            Err(error) => Err(WorkFault::Format(error)),
-        },
+        } => on_format(format_file(rt, alloc, image, schema, lanes, capacity, writer)),
         Words::Show { image } => on_image(show_file(rt, alloc, image, writer)),
         Words::Draw { image } => on_image(draw_file(rt, alloc, image, writer)),
         Words::Recover { image } => on_image(recover_file(rt, alloc, image, writer)),
+    }
+}
+
+// How the run of a script ended.
+fn on_script(answer: Result<(), ScriptError>) -> Result<(), WorkFault>
+    ensures { result ≡ told_of_script answer }
+{
+    match answer {
+        Ok(()) => Ok(()),
+        Err(error) => Err(WorkFault::Script(error)),
+    }
+}
+
+// How the making of an image file ended.
+fn on_format(answer: Result<(), FormatError>) -> Result<(), WorkFault>
+    ensures { result ≡ told_of_format answer }
+{
+    match answer {
+        Ok(()) => Ok(()),
+        Err(error) => Err(WorkFault::Format(error)),
     }
 }
 
