@@ -132,8 +132,12 @@ fn finish<D: Disk>(
 
 /// Both ends meet: what the sessions sent is applied, made durable and acknowledged, and the device is given back.
 ///
-/// Refusals, in this order: `Missing`: the least lane that hasn't just one session in the list; `Unfinished`: the least that
-/// holds a monitor; `Failed`; `Worn`; `Fault`.
+/// Refusals, in this order, each with the device, as a stop leaves it:
+/// - `Missing`: the least lane that hasn't just one session in the list. Nothing was done;
+/// - `Unfinished`: the least lane whose session holds a monitor. Nothing was done;
+/// - `Failed`: the device had failed in an earlier call;
+/// - `Worn`: a control must be written, and the device's is at its last sequence;
+/// - `Fault`: a call of the device failed now.
 pub fn close_down<D: Disk>(
     shared: Shared,
     ended: Vec<Ended>,
