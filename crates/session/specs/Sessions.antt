@@ -62,11 +62,6 @@ pub record Ends (s : Session) (e : Ended) : Type 0 where
   pub ring : e.ring ≡ s.ring
   pub capacity : e.capacity ≡ s.capacity
 
--- the session goes on from where it was: it is of the same lane and ring, and has more events
-pub record GoesOnFrom (s t : Session) : Type 0 where
-  pub ring : SameRing s t
-  pub told : (newer : List Event) × Lengthens (view_of s) (view_of t) newer
-
 -- the ended session has this seat, this end of the ring, and this capacity
 pub record IsMadeOf (e : Ended) (s : Sitting) (p : Producer Record Global AnyItems) (c : ℕ) : Type 0 where
   pub seat : s ≡ e.seat

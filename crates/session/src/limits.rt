@@ -12,9 +12,10 @@ pub const FAT_LOCKS: u32 = 65_536;
 /// How many records the ring from a session to the helper has room for.
 pub const RING_RECORDS: usize = 4_096;
 
-/// How many records a lane holds at least, and at most.
+/// How many records a lane holds at least.
 pub const LEAST_CAPACITY: u32 = 2_000;
 
+/// How many records a lane holds at most.
 pub const MOST_CAPACITY: u32 = 1_048_576;
 
 /// No section begins at this place of a lane or later, counted in records. It is 2^62.

@@ -19,8 +19,8 @@ use steps::Grip;
 /// One thread's use of the heap: the seat of its lane, the monitors that it holds, and its end of the ring through which
 /// the helper gets its records. It may cross to another thread.
 ///
-/// Contracts see it by [`Logs`](crate)'s words as the events that its calls have told, the newest first. A call that is
-/// refused leaves it as it was.
+/// Contracts see it as the events that its calls have told, the newest first (`specs/Logs`). A call that is refused leaves
+/// it as it was.
 #[derive(Drop)]
 pub struct Session {
     pub(crate) seat: Seat,

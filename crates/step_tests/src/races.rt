@@ -2,15 +2,26 @@
 
 ghost use Rattle.std.specs.Prelude.{◌≡◌, ◌<◌};
 ghost use Rattle.monitor.specs.Words.{objects};
-ghost use Rattle.step_tests.specs.Idle.{IsIdle};
+ghost use Rattle.one_monitor.specs.Idle.{IsIdle};
 
-use crate::heaps::nine_objects;
-use crate::sections::work;
 use heap_model::ObjectId;
 use lock_word::Shape;
 use monitor::{Seat, Shared};
+use one_monitor::{deal, nine_objects, take_often};
+use std::alloc::AllocError;
 use std::test::Fail;
 use std::thread::{Threads, join};
+
+// Rounds on the object that all share, then as many on one's own. Answers how often each was taken.
+fn work(shared: &Shared, seat: Seat, own: ObjectId, rounds: u64) -> (u64, u64)
+    requires idle { IsIdle shared.now seat }
+    requires object { (0 < objects shared.now.plan) × (own.0 < objects shared.now.plan) }
+{
+    let mut seat = seat;
+    let all = take_often(shared, &mut seat, ObjectId(0), rounds);
+    let alone = take_often(shared, &mut seat, own, rounds);
+    (all, alone)
+}
 
 // Two threads work, each on object 0 and on its own, `first` and the next. Answers what each did.
 fn two<R: Threads + Sync>(
@@ -45,10 +56,10 @@ fn times_taken(shared: &Shared, seat: &mut Seat, object: ObjectId) -> u64
 
 #[test]
 fn two_threads_take_one_object(rt: HostRuntime) -> Result<(), Fail> {
-    let (shared, mut helper) = nine_objects(rt.alloc())?;
-    let a = shared.deal(&mut helper);
-    let b = shared.deal(&mut helper);
-    let mut seat = shared.deal(&mut helper);
+    let (shared, mut helper) = nine_objects(rt.alloc()).ok_or(AllocError)?;
+    let a = deal(&shared, &mut helper);
+    let b = deal(&shared, &mut helper);
+    let mut seat = deal(&shared, &mut helper);
     let done = two(&rt, &shared, a, b, 1, 250_000);
     assert_eq!(rt; done, ((250_000, 250_000), (250_000, 250_000)));
     assert_eq!(rt; times_taken(&shared, &mut seat, ObjectId(0)), 500_000);
@@ -59,12 +70,12 @@ fn two_threads_take_one_object(rt: HostRuntime) -> Result<(), Fail> {
 
 #[test]
 fn four_threads_take_one_object(rt: HostRuntime) -> Result<(), Fail> {
-    let (shared, mut helper) = nine_objects(rt.alloc())?;
-    let a = shared.deal(&mut helper);
-    let b = shared.deal(&mut helper);
-    let c = shared.deal(&mut helper);
-    let d = shared.deal(&mut helper);
-    let mut seat = shared.deal(&mut helper);
+    let (shared, mut helper) = nine_objects(rt.alloc()).ok_or(AllocError)?;
+    let a = deal(&shared, &mut helper);
+    let b = deal(&shared, &mut helper);
+    let c = deal(&shared, &mut helper);
+    let d = deal(&shared, &mut helper);
+    let mut seat = deal(&shared, &mut helper);
     let done = join(
         &rt,
         || two(&rt, &shared, a, b, 1, 125_000),

@@ -16,7 +16,7 @@ use Rattle.steps.specs.declared.grip.Grip.{Grip}
 use Rattle.steps.specs.declared.grip.Seen.{Seen}
 use Rattle.steps.specs.declared.grip.Seen.TheVariants as seen
 use Rattle.steps.specs.Views.{view, IsSeatOf, IsClear, Lengthens, Takes, Misses, miss_events}
-use Rattle.step_tests.specs.Idle.{IsIdle}
+use Rattle.one_monitor.specs.Idle.{IsIdle}
 
 pub idle_dealt : (h : Home) (s : Sitting) (v : raw.View) → seats.IsSeatOf h s → s.view ≡ views.lane_for v → IsIdle h s
 idle_dealt h s v at is = record {
@@ -44,7 +44,7 @@ idle_looked h s t o x idle seat mark told = record {
 }
 
 -- a missed try adds a look or nothing
-missed_own : (o : ObjectId) (x : Seen) (es : List Event) → own (miss_events o x ++ es) ≡ own es
+pub missed_own : (o : ObjectId) (x : Seen) (es : List Event) → own (miss_events o x ++ es) ≡ own es
 missed_own o (seen.Lock (thin.Free n)) es = refl
 missed_own o (seen.Lock (thin.Thin t a n)) es = refl
 missed_own o (seen.Lock (thin.Fat i m)) es = refl

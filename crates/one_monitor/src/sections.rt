@@ -2,7 +2,7 @@
 
 ghost use Rattle.std.specs.Prelude.{◌≡◌, ◌<◌, ◌≤◌};
 ghost use Rattle.steps.specs.Views.{plan};
-ghost use Rattle.step_tests.specs.Idle.{IsIdle};
+ghost use Rattle.one_monitor.specs.Idle.{IsIdle};
 
 use heap_model::ObjectId;
 use lock_word::Shape;
@@ -48,15 +48,4 @@ pub fn take_often(shared: &Shared, seat: &mut Seat, object: ObjectId, rounds: u6
         }
     }
     made
-}
-
-/// Rounds on the object that all share, then as many on one's own. Answers how often each was taken.
-pub fn work(shared: &Shared, seat: Seat, own: ObjectId, rounds: u64) -> (u64, u64)
-    requires idle { IsIdle shared.now seat }
-    requires object { (0 < (plan shared.now).objects) × (own.0 < (plan shared.now).objects) }
-{
-    let mut seat = seat;
-    let all = take_often(shared, &mut seat, ObjectId(0), rounds);
-    let alone = take_often(shared, &mut seat, own, rounds);
-    (all, alone)
 }

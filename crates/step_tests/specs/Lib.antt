@@ -1,2 +1,0 @@
--- What the contracts of the tests' helpers state.
-pub mod Idle
