@@ -1,6 +1,6 @@
 //! What words are taken, and what is answered to the others.
-use command_words::{Words, read_words};
 use clap::error::ErrorKind;
+use command_words::{Words, read_words};
 use std::alloc::{AllocError, Global};
 use std::process::Abort;
 
