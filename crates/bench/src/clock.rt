@@ -15,6 +15,7 @@ fn nanos(time: Duration) -> u64 {
         .wrapping_add(u64::from(time.subsec_nanos()))
 }
 
+/// The clocks as they read now; one that can't be read is at 0.
 pub fn read_clocks<R: Clock + CpuClock>(rt: &R) -> Reading {
     Reading {
         wall: rt.monotonic().map(nanos).unwrap_or(0),
@@ -29,6 +30,7 @@ pub struct Spent {
     pub cpu: u64,
 }
 
+/// No time.
 pub const NOTHING: Spent = Spent { wall: 0, cpu: 0 };
 
 impl Spent {

@@ -31,6 +31,7 @@ pub struct Load {
 }
 
 impl Load {
+    /// Nothing was done: each object is at number 0, and each field has 0.
     pub fn new() -> Load {
         Load {
             numbers: [0; 5],
