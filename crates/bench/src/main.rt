@@ -15,8 +15,6 @@ mod measuring;
 mod memory;
 mod recovering;
 mod stopped;
-#[cfg(test)]
-mod tests;
 mod words;
 
 use figures::{Figures, print_figures};
