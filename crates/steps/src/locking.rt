@@ -7,7 +7,7 @@ ghost use Rattle.lock_word.specs.declared.fat_word.FatShape.TheVariants.{Held};
 ghost use Rattle.lock_word.specs.Spelling.{sight_of};
 ghost use Rattle.monitor.specs.Views.{lane_of};
 ghost use Rattle.monitor.specs.Seats.{HoldsThin, HoldsFat};
-ghost use Rattle.steps.specs.Views.{view, plan, IsSeatOf, Keeps, KeepsEach, KeepsOthers, KeepsWords, Lengthens, IsLasting, IsLastingSeen, IsClear, IsAwake, Takes, Misses, Fattens, IsWhole, AgreesWith, IsSlot, room_of, hold};
+ghost use Rattle.steps.specs.Views.{view, plan, IsSeatOf, Keeps, KeepsEach, KeepsOthers, KeepsWords, Lengthens, IsLasting, IsLastingSeen, IsClear, IsAwake, Takes, Misses, Fattens, IsWhole, AgreesWith, IsSlot, IsOfSlot, room_of, hold};
 
 use crate::grip::{Grip, Seen, Sighted};
 use heap_model::ObjectId;
@@ -68,6 +68,7 @@ pub fn try_take(
     ensures clear { IsClear (view seat.new) }
     ensures told { MatchResult result (Takes (view seat.old) (view seat.new) (event.Enter object number) object 1 number) (Misses (view seat.old) (view seat.new) object number) }
     ensures slot { IfOk result (λ g. g.slot ≡ slot) }
+    ensures found { IfErr result (λ x. IsOfSlot slot x) }
     ensures lasting { IfErr result (λ x. IsLastingSeen (view seat.new) object x) }
     ensures grips { KeepsOthers (view seat.old) (view seat.new) object.0 }
     ensures words { KeepsWords (view seat.old) (view seat.new) }

@@ -1,9 +1,9 @@
 //! The steps of a wait (JLS 17.2.1).
 
-ghost use Rattle.std.specs.Prelude.{◌≡◌, ◌<◌, ◌≤◌, [], ◌∷◌, Some, None, MatchResult, MatchBool, IfOk, ℕ};
+ghost use Rattle.std.specs.Prelude.{◌≡◌, ◌<◌, ◌≤◌, [], ◌∷◌, Some, None, MatchResult, MatchBool, IfOk, IfErr, ℕ};
 ghost use Rattle.heap_model.specs.declared.event.Event.TheVariants as event;
 ghost use Rattle.heap_model.specs.declared.event.Sight.TheVariants.{StillInSet};
-ghost use Rattle.steps.specs.Views.{view, plan, IsSeatOf, Keeps, KeepsEach, KeepsOthers, KeepsWords, Lengthens, IsClear, IsAwake, IsPaused, IsRemoved, Takes, Misses, IsSlot, hold};
+ghost use Rattle.steps.specs.Views.{view, plan, IsSeatOf, Keeps, KeepsEach, KeepsOthers, KeepsWords, Lengthens, IsClear, IsAwake, IsPaused, IsRemoved, Takes, Misses, IsSlot, IsOfSlot, hold};
 
 use crate::grip::{Grip, Seen};
 use crate::locking::fat_word;
@@ -68,6 +68,7 @@ pub fn try_retake(
     ensures mark { MatchResult result (λ _. IsClear (view seat.new)) (λ _. IsRemoved (view seat.new) object) }
     ensures told { MatchResult result (Takes (view seat.old) (view seat.new) (event.Resume object number) object count number) (Misses (view seat.old) (view seat.new) object number) }
     ensures slot { IfOk result (λ g. g.slot ≡ Some slot) }
+    ensures found { IfErr result (λ x. IsOfSlot (Some slot) x) }
     ensures grips { KeepsOthers (view seat.old) (view seat.new) object.0 }
     ensures words { KeepsWords (view seat.old) (view seat.new) }
 {
