@@ -1,10 +1,14 @@
 -- What looks leave.
-use Rattle.std.proofs.Common.{ℕ, zero, suc, ◌≡◌, ◌⊎◌, inl, inr, List, [], ◌∷◌, ◌++◌, Option, Some, None, Ok, Err, refl, ap, ◌∙◌, arith}
+use Rattle.std.proofs.Common.{ℕ, zero, suc, ◌≡◌, ◌⊎◌, inl, inr, List, [], ◌∷◌, ◌++◌, length, map, Option, Some, None, Ok, Err, refl, ap, ◌∙◌, arith}
 use Rattle.heap_model.specs.declared.ids.ObjectId.{ObjectId}
 use Rattle.heap_model.specs.declared.event.Event.{Event}
 use Rattle.heap_model.specs.declared.event.Event.TheVariants.{Look}
 use Rattle.heap_model.specs.declared.event.Sight.TheVariants.{Found}
-use Rattle.heap_model.specs.Own.{Own, own, own_after}
+use Rattle.heap_model.specs.declared.record.Record.{Record}
+use Rattle.heap_model.specs.Setting.{Setting}
+use Rattle.heap_model.specs.History.{logged}
+use Rattle.heap_model.specs.Sections.{action, holding}
+use Rattle.heap_model.specs.Own.{Own, own, own_after, own_log, with_own}
 use Rattle.lock_word.specs.declared.lock_word.Shape.TheVariants as thin
 use Rattle.steps.specs.Views.{View}
 use Rattle.steps.specs.declared.grip.Grip.{Grip}
@@ -18,7 +22,7 @@ use Rattle.session.specs.Grips.{grip_in}
 use Rattle.session.specs.Sits.{Holds, FindsNone}
 use Rattle.session.specs.Logs.{held_count}
 use Rattle.session.specs.Calls.{WaitsOn, AreLooks, OnlyLooks, SeesAnother, SeesChange, EntersFirst}
-use Rattle.session.proofs.Lengthening.{after_both, same_view}
+use Rattle.session.proofs.Lengthening.{after_both, same_view, logs_after}
 use Rattle.session.proofs.Holding.{finds_none, free_found}
 
 pub none_yet : (v : View) (o : ObjectId) → OnlyLooks v v o
@@ -37,6 +41,14 @@ looks_own o (e ∷ looks) es x = ap (own_after (own (looks ++ es))) x.0.1 ∙ lo
 
 pub looks_hold : (v w : View) (o : ObjectId) (q : ℕ) → OnlyLooks v w o → hold w q ≡ hold v q
 looks_hold v w o q l = ap (λ es. (own es).hold q) l.2.events ∙ ap (λ (u : Own). u.hold q) (looks_own o l.0 v.events l.1)
+
+-- looks aren't logged
+looks_log : (p : Setting) (o : ObjectId) (looks es : List Event) → AreLooks o looks → own_log p (looks ++ es) ≡ own_log p es
+looks_log p o [] es x = refl
+looks_log p o (e ∷ looks) es x = ap (λ (y : Event). with_own (logged p y) (own_log p (looks ++ es))) x.0.1 ∙ looks_log p o looks es x.1
+
+pub looks_count : (v w : View) (o : ObjectId) → OnlyLooks v w o → held_count w ≡ held_count v
+looks_count v w o l = ap (λ (log : List Record). length (holding (map action log))) (logs_after v w l.0 l.2 ∙ looks_log v.plan o l.0 v.events l.1)
 
 -- a monitor that isn't held has no grip
 pub finds_none_by : (v : View) (gs : List Grip) (o : ObjectId) → Holds v gs → hold v o.0 ≡ None → FindsNone v gs o

@@ -19,7 +19,7 @@ use Rattle.session.specs.declared.error.Still.{Still}
 use Rattle.session.specs.declared.error.Still.TheVariants as still
 use Rattle.lock_word.specs.declared.lock_word.TheConstants.{FAT_SLOTS}
 use Rattle.lock_word.specs.Spelling.{fat_sight, lane_of_thread}
-use Rattle.steps.specs.Views.{Lengthens, slot_in, miss_events, IsAnother}
+use Rattle.steps.specs.Views.{Lengthens, slot_in, miss_events, IsAnother, IsLastingSeen}
 use Rattle.session.specs.declared.limits.TheConstants.{MOST_HELD, THIN_LOCKS, FAT_LOCKS, RING_RECORDS, LAST_PLACE}
 use Rattle.session.specs.Logs.{held_count, place, section_records}
 
@@ -39,6 +39,15 @@ Fits c k v w = place v + k ≤ w.trimmed + c
 abbrev pub IsFull : View → (more : ℕ) → Type 0
 IsFull v k = SECTION_RECORDS < section_records v + held_count v + k
 
+-- so many slots of the ring are known to be free, unless the reason is that the helper is behind
+abbrev pub HasRing : (needed free : ℕ) → SessionError → Type 0
+HasRing k r Behind = Unit {0}
+HasRing k r _ = k ≤ r
+
+-- the monitor, which the thread holds, isn't fat
+abbrev pub IsThin : View → ObjectId → Type 0
+IsThin v o = slot_in o.0 v.fats ≡ None
+
 -- what a word shows
 abbrev pub sight_in : Seen → Sight
 sight_in (seen.Lock (thin.Free n)) = Found None 0 n
@@ -53,6 +62,11 @@ SeesAnother v w o x = (l : Lane) × (c : ℕ) × (n : ℕ) × (l ≢ v.lane) × 
 -- the look showed a free monitor below the last number, which was gone at the try
 abbrev pub SeesChange : View → View → ObjectId → Seen → Type 0
 SeesChange v w o x = (n : ℕ) × (n < v.plan.last) × IsAnother w o n x × Lengthens v w (miss_events o x ++ Look o (Found None 0 n) ∷ [])
+
+-- a lock word that names a slot, and was met in place of a free one, is known whole from then on
+abbrev pub IsLastingHeld : View → ObjectId → SessionError → Type 0
+IsLastingHeld w o (Held x) = IsLastingSeen w o x
+IsLastingHeld w o _ = Unit {0}
 
 -- a monitor that the thread doesn't hold, once it may take it: a look, and a try where that showed it free
 abbrev pub Tries : View → View → ObjectId → Result (Unit {0}) SessionError → Type 0
@@ -82,7 +96,7 @@ GoesOn v w o (Err _) = ⊥
 abbrev pub EntersAgain : View → View → ObjectId → Hold → Result (Unit {0}) SessionError → Type 0
 EntersAgain v w o h (Ok done) = (h.count < FAT_LOCKS) × Lengthens v w (NestedEnter o ∷ [])
 EntersAgain v w o h (Err TooDeep) = (h.count ≡ FAT_LOCKS) × IsQuiet v w
-EntersAgain v w o h (Err NoFat) = (h.count ≡ THIN_LOCKS) × (FAT_SLOTS ≤ w.slots) × IsQuiet v w
+EntersAgain v w o h (Err NoFat) = (h.count ≡ THIN_LOCKS) × IsThin v o × (FAT_SLOTS ≤ w.slots) × IsQuiet v w
 EntersAgain v w o h (Err _) = ⊥
 
 -- a store to a field whose guard is held
@@ -107,7 +121,7 @@ MayBeFat w o = ((i : ℕ) × (slot_in o.0 w.fats ≡ Some i)) ⊎ (w.slots < FAT
 abbrev pub RefusesWait : (capacity : ℕ) → View → View → ObjectId → Hold → SessionError → Type 0
 RefusesWait c v w o h Behind = (held_count v ≡ 1) × IsBehind c (SECTION_RECORDS + 1) w × IsQuiet v w
 RefusesWait c v w o h SectionFull = (1 < held_count v) × IsFull v 2 × IsQuiet v w
-RefusesWait c v w o h NoFat = LeavesRoom c v w × (FAT_SLOTS ≤ w.slots) × IsQuiet v w
+RefusesWait c v w o h NoFat = LeavesRoom c v w × IsThin v o × (FAT_SLOTS ≤ w.slots) × IsQuiet v w
 RefusesWait c v w o h Worn = LeavesRoom c v w × MayBeFat w o × IsWaitWorn v h × IsQuiet v w
 RefusesWait c v w o h _ = ⊥
 

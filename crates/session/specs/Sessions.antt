@@ -1,9 +1,10 @@
 -- What a contract sees of a session, of one that waits, and of one that has ended.
-use Rattle.std.specs.Prelude.{ℕ, ◌≡◌, List}
+use Rattle.std.specs.Prelude.{ℕ, ◌≡◌, ◌+◌, ◌≤◌, List}
 use Rattle.std.specs.Global.{Global}
 use Rattle.rtrb.specs.declared.AnyItems.{AnyItems}
 use Rattle.rtrb.specs.declared.producer.Producer.{Producer}
-use Rattle.rtrb.specs.Ring.{SameProducer}
+use Rattle.rtrb.specs.Ring.{SameProducer, known_free}
+use Rattle.heap_model.specs.declared.limits.TheConstants.{SECTION_RECORDS}
 use Rattle.heap_model.specs.declared.ids.ObjectId.{ObjectId}
 use Rattle.heap_model.specs.declared.event.Event.{Event}
 use Rattle.heap_model.specs.declared.record.Record.{Record}
@@ -12,6 +13,7 @@ use Rattle.steps.specs.Views.{View, view, IsSeatOf, Lengthens}
 use Rattle.session.specs.declared.session.Session.{Session}
 use Rattle.session.specs.declared.waiting.Waiting.{Waiting}
 use Rattle.session.specs.declared.ended.Ended.{Ended}
+use Rattle.session.specs.Logs.{place, section_records}
 
 -- what the session's seat knows: its view
 abbrev pub view_of : Session → View
@@ -31,6 +33,18 @@ capacity_of s = s.capacity
 -- its end of the ring to the helper
 abbrev pub ring_of : Session → Producer Record Global AnyItems
 ring_of s = s.ring
+
+-- how many slots of its ring it knows to be free
+abbrev pub free_of : Session → ℕ
+free_of s = known_free s.ring
+
+abbrev pub free_waiting : Waiting → ℕ
+free_waiting w = known_free w.ring
+
+-- There is room for what an open section may still log: in the ring and in the lane.
+pub record HasRoomLeft (s : Session) : Type 0 where
+  pub ring : SECTION_RECORDS ≤ free_of s + section_records (view_of s)
+  pub lane : place (view_of s) + SECTION_RECORDS ≤ (view_of s).trimmed + capacity_of s + section_records (view_of s)
 
 -- the object that it waits for
 abbrev pub awaited : Waiting → ObjectId

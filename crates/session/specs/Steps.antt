@@ -10,7 +10,7 @@ use Rattle.session.specs.declared.error.SessionError.TheVariants.{Behind, Sectio
 use Rattle.session.specs.declared.error.Still.{Still}
 use Rattle.session.specs.declared.error.Still.TheVariants as still
 use Rattle.session.specs.Logs.{held_count}
-use Rattle.session.specs.Calls.{IsBehind, IsFull, MayBeFat, IsWaitWorn}
+use Rattle.session.specs.Calls.{IsBehind, IsFull, IsThin, MayBeFat, IsWaitWorn}
 
 -- why there is no room for a wait
 abbrev pub RefusesRoom : (capacity : ℕ) → View → View → SessionError → Type 0
@@ -20,7 +20,7 @@ RefusesRoom c v w _ = ⊥
 
 -- why a wait for which there is room is refused
 abbrev pub RefusesFat : View → View → ObjectId → Hold → SessionError → Type 0
-RefusesFat v w o h NoFat = FAT_SLOTS ≤ w.slots
+RefusesFat v w o h NoFat = IsThin v o × (FAT_SLOTS ≤ w.slots)
 RefusesFat v w o h Worn = MayBeFat w o × IsWaitWorn v h
 RefusesFat v w o h _ = ⊥
 

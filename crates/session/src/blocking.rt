@@ -9,13 +9,15 @@ use std::sync::Wait;
 use std::thread;
 
 impl Session {
-    ghost use Rattle.std.specs.Prelude.{◌≡◌, ◌<◌, ◌≤◌, Some, None, Ok, Err, IsErrAnd, MatchResult};
+    ghost use Rattle.std.specs.Prelude.{◌≡◌, ◌<◌, ◌≤◌, ◌+◌, Some, None, Ok, Err, IfErr, IsErrAnd, MatchResult};
     ghost use Rattle.heap_model.specs.Own.{Hold};
     ghost use Rattle.session.specs.declared.error.SessionError.TheVariants as error;
     ghost use Rattle.session.specs.Sits.{FindsNone};
     ghost use Rattle.steps.specs.Views.{View, plan, hold};
-    ghost use Rattle.session.specs.Calls.{IsQuiet, OnlyLooks, EntersAgain, EntersFirst, IsSettled, Waits, RefusesWait};
-    ghost use Rattle.session.specs.Sessions.{SameRing, IsSessionOf, view_of, capacity_of};
+    ghost use Rattle.heap_model.specs.declared.limits.TheConstants.{SECTION_RECORDS};
+    ghost use Rattle.session.specs.Logs.{held_count};
+    ghost use Rattle.session.specs.Calls.{IsQuiet, HasRing, OnlyLooks, EntersAgain, EntersFirst, IsSettled, Waits, RefusesWait};
+    ghost use Rattle.session.specs.Sessions.{SameRing, IsSessionOf, view_of, capacity_of, free_of};
 
     /// Takes the monitor, or one lock more of it, and waits while another thread holds it (JLS 17.1). After such a wait it makes
     /// the monitor fat, if it is thin and a slot is left.
@@ -36,6 +38,8 @@ impl Session {
             → EntersAgain (view_of self.old) (view_of self.new) object h result }
         ensures first { object.0 < (plan shared.now).objects → hold (view_of self.old) object.0 ≡ None
             → (u : View) × OnlyLooks (view_of self.old) u object × EntersFirst (capacity_of self.old) u (view_of self.new) object result }
+        ensures ring_room { object.0 < (plan shared.now).objects → hold (view_of self.old) object.0 ≡ None → held_count (view_of self.old) ≡ 0
+            → MatchResult result (λ _. SECTION_RECORDS ≤ free_of self.new + 1) (HasRing SECTION_RECORDS (free_of self.new)) }
     {
         if u64::from(object.0) >= steps::objects(shared) {
             return Err(SessionError::UnknownObject);
@@ -60,6 +64,7 @@ impl Session {
         ensures ring { SameRing self.old self.new }
         ensures settled { IsSettled result }
         ensures first { (u : View) × OnlyLooks (view_of self.old) u object × EntersFirst (capacity_of self.old) u (view_of self.new) object result }
+        ensures ring_room { held_count (view_of self.old) ≡ 0 → MatchResult result (λ _. SECTION_RECORDS ≤ free_of self.new + 1) (HasRing SECTION_RECORDS (free_of self.new)) }
     {
         let mut contended = false;
         for _ in rt.forever() {
@@ -82,6 +87,7 @@ impl Session {
         ensures seat { IsSessionOf shared.now self.new }
         ensures ring { SameRing self.old self.new }
         ensures quiet { IsQuiet (view_of self.old) (view_of self.new) }
+        ensures free { free_of self.new ≡ free_of self.old }
     {
         if !contended {
             return;
@@ -112,6 +118,8 @@ impl Session {
             → IsErrAnd result (λ e. (e.1 ≡ error.NotHeld) × IsQuiet (view_of self) (view_of e.0)) }
         ensures held { (h : Hold) → object.0 < (plan shared.now).objects → hold (view_of self) object.0 ≡ Some h
             → MatchResult result (λ session. Waits (capacity_of self) (view_of self) (view_of session) object h) (λ e. RefusesWait (capacity_of self) (view_of self) (view_of e.0) object h e.1) }
+        ensures ring_room { (h : Hold) → object.0 < (plan shared.now).objects → hold (view_of self) object.0 ≡ Some h → held_count (view_of self) ≡ 1
+            → IfErr result (λ e. HasRing (SECTION_RECORDS + 1) (free_of e.0) e.1) }
     {
         match self.begin_wait(shared, object) {
             Ok(waiting) => Ok(waiting.resume(rt, shared)),

@@ -11,7 +11,7 @@ use monitor::Shared;
 use steps::Grip;
 
 impl Session {
-    ghost use Rattle.std.specs.Prelude.{◌≡◌, ◌+◌, ◌<◌, ◌≤◌, length, [], ◌∷◌, Some, None, Err, MatchOption};
+    ghost use Rattle.std.specs.Prelude.{◌≡◌, ◌+◌, ◌<◌, ◌≤◌, length, [], ◌∷◌, Some, None, Err, IfErr, MatchOption, MatchResult};
     ghost use Rattle.heap_model.specs.Own.{Hold};
     ghost use Rattle.heap_model.specs.declared.event.Event.TheVariants as event;
     ghost use Rattle.session.specs.declared.error.SessionError.TheVariants as error;
@@ -22,9 +22,9 @@ impl Session {
     ghost use Rattle.session.specs.declared.limits.TheConstants.{MOST_HELD};
     ghost use Rattle.session.specs.Sits.{Finds, FindsNone, HasRoom};
     ghost use Rattle.session.specs.Logs.{held_count};
-    ghost use Rattle.session.specs.Calls.{IsQuiet, Tries, Begins, GoesOn, EntersAgain};
+    ghost use Rattle.session.specs.Calls.{IsQuiet, HasRing, IsLastingHeld, Tries, Begins, GoesOn, EntersAgain};
     ghost use Rattle.session.specs.Keeping.{SameNumbers};
-    ghost use Rattle.session.specs.Sessions.{SameRing, IsSessionOf, view_of, capacity_of};
+    ghost use Rattle.session.specs.Sessions.{SameRing, IsSessionOf, view_of, capacity_of, free_of};
 
     /// Takes the monitor, or one lock more of it (JLS 17.1). It looks once and, where that showed the monitor free, tries
     /// once; a lock more is one store. A first lock begins a section where nothing was held.
@@ -47,6 +47,9 @@ impl Session {
             → Begins (capacity_of self.old) (view_of self.old) (view_of self.new) object result }
         ensures goes_on { object.0 < (plan shared.now).objects → hold (view_of self.old) object.0 ≡ None → 0 < held_count (view_of self.old)
             → GoesOn (view_of self.old) (view_of self.new) object result }
+        ensures ring_room { object.0 < (plan shared.now).objects → hold (view_of self.old) object.0 ≡ None → held_count (view_of self.old) ≡ 0
+            → MatchResult result (λ _. SECTION_RECORDS ≤ free_of self.new + 1) (HasRing SECTION_RECORDS (free_of self.new)) }
+        ensures lasting { IfErr result (IsLastingHeld (view_of self.new) object) }
     {
         if u64::from(object.0) >= steps::objects(shared) {
             return Err(SessionError::UnknownObject);
@@ -123,6 +126,8 @@ impl Session {
         ensures ring { SameRing self.old self.new }
         ensures begins { held_count (view_of self.old) ≡ 0 → Begins (capacity_of self.old) (view_of self.old) (view_of self.new) object result }
         ensures goes_on { 0 < held_count (view_of self.old) → GoesOn (view_of self.old) (view_of self.new) object result }
+        ensures ring_room { held_count (view_of self.old) ≡ 0 → MatchResult result (λ _. SECTION_RECORDS ≤ free_of self.new + 1) (HasRing SECTION_RECORDS (free_of self.new)) }
+        ensures lasting { IfErr result (IsLastingHeld (view_of self.new) object) }
     {
         let count = self.held.len();
         if count == 0 {
@@ -146,6 +151,8 @@ impl Session {
         ensures seat { IsSessionOf shared.now self.new }
         ensures ring { SameRing self.old self.new }
         ensures begins { Begins (capacity_of self.old) (view_of self.old) (view_of self.new) object result }
+        ensures ring_room { MatchResult result (λ _. SECTION_RECORDS ≤ free_of self.new + 1) (HasRing SECTION_RECORDS (free_of self.new)) }
+        ensures lasting { IfErr result (IsLastingHeld (view_of self.new) object) }
     {
         if !ring_has_room(&mut self.ring, SECTION_RECORDS as usize) {
             return Err(SessionError::Behind);
@@ -177,6 +184,8 @@ impl Session {
         ensures seat { IsSessionOf shared.now self.new }
         ensures ring { SameRing self.old self.new }
         ensures tries { Tries (view_of self.old) (view_of self.new) object result }
+        ensures free { MatchResult result (λ _. free_of self.old ≤ free_of self.new + 1) (λ _. free_of self.old ≤ free_of self.new) }
+        ensures lasting { IfErr result (IsLastingHeld (view_of self.new) object) }
     {
         let found = steps::look(shared, &mut self.seat, object);
         let Some(free) = free_at(&found) else {

@@ -7,15 +7,15 @@ use lock_word::{FatWord, LockWord};
 use monitor::Shared;
 
 impl Session {
-    ghost use Rattle.std.specs.Prelude.{◌≡◌, ◌<◌, ◌≤◌, [], ◌∷◌, Ok, Err};
+    ghost use Rattle.std.specs.Prelude.{◌≡◌, ◌<◌, ◌≤◌, [], ◌∷◌, Ok, Err, IfOk};
     ghost use Rattle.heap_model.specs.Own.{Hold};
     ghost use Rattle.heap_model.specs.declared.event.Event.TheVariants as event;
     ghost use Rattle.session.specs.declared.error.SessionError.TheVariants as error;
     ghost use Rattle.lock_word.specs.Spelling.{sight_of};
-    ghost use Rattle.steps.specs.Views.{plan, Lengthens, IsPaired};
+    ghost use Rattle.steps.specs.Views.{plan, Lengthens, IsPaired, IsLasting};
     ghost use Rattle.session.specs.Calls.{IsQuiet};
-    ghost use Rattle.session.specs.Sessions.{SameRing, IsSessionOf, view_of, seat_of, ring_of};
-    ghost use Rattle.session.specs.Logs.{sent_in, sections_ended};
+    ghost use Rattle.session.specs.Sessions.{SameRing, HasRoomLeft, IsSessionOf, view_of, seat_of, ring_of};
+    ghost use Rattle.session.specs.Logs.{sent_in, held_count, sections_ended};
     ghost use Rattle.monitor.specs.Views.{Stands};
     ghost use Rattle.rtrb.specs.Ring.{sent};
 
@@ -27,10 +27,11 @@ impl Session {
     }
 
     /// What the session was told is its lane's part of one legal history (JLS 17.1, 17.2), and what it has sent is the log of
-    /// that part (Atlas, OOPSLA 2014). This does nothing at run time.
+    /// that part (Atlas, OOPSLA 2014). An open section has room for all that it may still log. This does nothing at run time.
     pub fn stands(&self)
         ensures history { Stands (seat_of self.now).view }
         ensures sent { sent (ring_of self.now) ≡ sent_in (view_of self.now) }
+        ensures room { 0 < held_count (view_of self.now) → HasRoomLeft self.now }
     {
         self.seat.stands();
     }
@@ -50,6 +51,7 @@ impl Session {
         ensures unknown { (plan shared.now).objects ≤ object.0 → (result ≡ Err error.UnknownObject) × IsQuiet (view_of self.old) (view_of self.new) }
         ensures known { object.0 < (plan shared.now).objects
             → (lock : _) × (fat : _) × (result ≡ Ok (lock, fat)) × IsPaired lock fat × Lengthens (view_of self.old) (view_of self.new) (event.Look object (sight_of lock fat) ∷ []) }
+        ensures lasting { IfOk result (λ words. IsLasting (view_of self.new) object words.0) }
     {
         if u64::from(object.0) >= steps::objects(shared) {
             return Err(SessionError::UnknownObject);

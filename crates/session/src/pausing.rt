@@ -28,14 +28,16 @@ fn is_wait_worn(held: usize, place: u64, number: u64, last: u64) -> bool
 }
 
 impl Session {
-    ghost use Rattle.std.specs.Prelude.{◌≡◌, ◌+◌, ◌<◌, ◌≤◌, ◌≢◌, length, [], ◌∷◌, Some, None, Ok, Err, IsErrAnd, MatchResult};
+    ghost use Rattle.std.specs.Prelude.{◌≡◌, ◌+◌, ◌<◌, ◌≤◌, ◌≢◌, length, [], ◌∷◌, Some, None, Ok, Err, IfErr, IsErrAnd, MatchResult};
     ghost use Rattle.heap_model.specs.Own.{Hold};
     ghost use Rattle.heap_model.specs.declared.event.Event.TheVariants as event;
     ghost use Rattle.session.specs.declared.error.SessionError.TheVariants as error;
     ghost use Rattle.session.specs.Sits.{Finds};
     ghost use Rattle.steps.specs.Views.{plan, KeepsEach, Lengthens, hold};
-    ghost use Rattle.session.specs.Calls.{IsQuiet, IsWaitWorn, RefusesWait, BeginsWait};
-    ghost use Rattle.session.specs.Sessions.{SameRing, SameRingWaiting, IsSessionOf, IsWaitingOf, view_of, view_waiting, capacity_of, awaited};
+    ghost use Rattle.heap_model.specs.declared.limits.TheConstants.{SECTION_RECORDS};
+    ghost use Rattle.session.specs.Logs.{held_count};
+    ghost use Rattle.session.specs.Calls.{IsQuiet, HasRing, IsWaitWorn, RefusesWait, BeginsWait};
+    ghost use Rattle.session.specs.Sessions.{SameRing, SameRingWaiting, IsSessionOf, IsWaitingOf, view_of, view_waiting, capacity_of, awaited, free_of, free_waiting};
     ghost use Rattle.session.specs.Keeping.{HasRoomToWait, MayWait};
     ghost use Rattle.session.specs.Steps.{RefusesRoom, RefusesFat};
 
@@ -64,6 +66,8 @@ impl Session {
             → IsErrAnd result (λ e. (e.1 ≡ error.NotHeld) × IsQuiet (view_of self) (view_of e.0)) }
         ensures held { (h : Hold) → object.0 < (plan shared.now).objects → hold (view_of self) object.0 ≡ Some h
             → MatchResult result (λ waiting. (awaited waiting ≡ object) × BeginsWait (capacity_of self) (view_of self) (view_waiting waiting) object h) (λ e. RefusesWait (capacity_of self) (view_of self) (view_of e.0) object h e.1) }
+        ensures ring_room { (h : Hold) → object.0 < (plan shared.now).objects → hold (view_of self) object.0 ≡ Some h → held_count (view_of self) ≡ 1
+            → MatchResult result (λ waiting. SECTION_RECORDS ≤ free_waiting waiting) (λ e. HasRing (SECTION_RECORDS + 1) (free_of e.0) e.1) }
     {
         let mut session = self;
         match session.prepare_wait(shared, object) {
@@ -82,6 +86,8 @@ impl Session {
         ensures not_held { object.0 < (plan shared.now).objects → hold (view_of self.old) object.0 ≡ None → result ≡ Err error.NotHeld }
         ensures held { (h : Hold) → object.0 < (plan shared.now).objects → hold (view_of self.old) object.0 ≡ Some h
             → MatchResult result (MayWait self.new object h) (RefusesWait (capacity_of self.old) (view_of self.old) (view_of self.new) object h) }
+        ensures ring_room { (h : Hold) → object.0 < (plan shared.now).objects → hold (view_of self.old) object.0 ≡ Some h → held_count (view_of self.old) ≡ 1
+            → IfErr result (HasRing (SECTION_RECORDS + 1) (free_of self.new)) }
     {
         if u64::from(object.0) >= steps::objects(shared) {
             return Err(SessionError::UnknownObject);
@@ -140,6 +146,7 @@ impl Session {
         ensures fat { MatchResult result
             (MayWait self.new grip.object (record { count = grip.count; number = grip.number }))
             (RefusesFat (view_of self.old) (view_of self.new) grip.object (record { count = grip.count; number = grip.number })) }
+        ensures free { free_of self.new ≡ free_of self.old }
     {
         if is_wait_worn(
             self.held.len(),
@@ -167,6 +174,7 @@ impl Session {
         ensures quiet { IsQuiet (view_of self.old) (view_of self.new) }
         ensures why { IsWaitWorn (view_of self.old) (record { count = grip.count; number = grip.number })
             → RefusesFat (view_of self.old) (view_of self.new) grip.object (record { count = grip.count; number = grip.number }) result }
+        ensures free { free_of self.new ≡ free_of self.old }
     {
         if let Some(_slot) = grip.slot {
             return SessionError::Worn;
@@ -185,6 +193,7 @@ impl Session {
         ensures ring { SameRingWaiting self result }
         ensures object { awaited result ≡ grip.object }
         ensures told { Lengthens (view_of self) (view_waiting result) (event.Wait grip.object grip.number ∷ []) }
+        ensures free { free_of self ≡ free_waiting result + 1 }
     {
         let Session {
             mut seat,

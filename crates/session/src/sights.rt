@@ -4,6 +4,8 @@ ghost use Rattle.std.specs.Prelude.{◌≡◌, MatchOption, None};
 ghost use Rattle.heap_model.specs.declared.event.Sight.TheVariants.{Found};
 ghost use Rattle.lock_word.specs.Spelling.{sight_of, slot_named};
 ghost use Rattle.steps.specs.Views.{IsPaired, IsOwned};
+ghost use Rattle.steps.specs.Views.{View, IsLasting, IsLastingSeen};
+ghost use Rattle.heap_model.specs.declared.ids.ObjectId.{ObjectId};
 ghost use Rattle.session.specs.Calls.{sight_in};
 
 use lock_word::{FatShape, Shape};
@@ -40,7 +42,8 @@ pub fn free_at(found: &Sighted) -> Option<Free>
 /// The word that tells of the monitor.
 pub fn shown(found: &Sighted) -> Seen
     requires { IsPaired found.now.lock found.now.fat }
-    ensures { sight_in result ≡ sight_of found.now.lock found.now.fat }
+    ensures sight { sight_in result ≡ sight_of found.now.lock found.now.fat }
+    ensures lasting { (v : View) → (o : ObjectId) → IsLasting v o found.now.lock → IsLastingSeen v o result }
 {
     match found.fat {
         Some(word) => Seen::Fat(word),
