@@ -100,7 +100,7 @@ order_next log l (Frees o n) h = h.1
 order_next log l Stores h = tt
 
 -- sections rise in each lane
-ended_cons : (x : ℕ × Action) (log : List (ℕ × Action)) (l : ℕ) → ended (lane l log) ≤ ended (lane l (x ∷ log))
+pub ended_cons : (x : ℕ × Action) (log : List (ℕ × Action)) (l : ℕ) → ended (lane l log) ≤ ended (lane l (x ∷ log))
 ended_cons x log l = elim (x.0 == l) as (λ b. ended (lane l log) ≤ ended (if b then x.1 ∷ lane l log else lane l log)) [ true ↦ ended_rises x.1 (lane l log) | false ↦ omega arith ]
 
 section_low : (base : ℕ → ℕ) (steps : List Step) → HasSections base steps → (m : ℕ) → m < length steps →

@@ -6,14 +6,16 @@ use Rattle.heap_model.specs.declared.cut.Cut.{Cut}
 use Rattle.heap_model.specs.Cuts.{counts_of, IsWhole}
 use Rattle.heap_model.specs.Sections.{Action}
 use Rattle.heap_model.specs.Base.{since}
+use Rattle.heap_model.specs.Plain.{IsClosedOver}
 use Rattle.dependence.specs.declared.step.Step.{Step}
 use Rattle.dependence.specs.declared.graph.Graph.TheInside.{Inside}
 use Rattle.dependence.specs.Trace.{beyond}
 use Rattle.dependence.specs.Next.{IsObjectBelow}
-use Rattle.dependence.specs.Steps.{log_of, HasSections}
+use Rattle.dependence.specs.Steps.{log_of, reading, HasSections}
 use Rattle.dependence.specs.Kept.{IsCounted, Rises, IsLinked, HasRoom}
 use Rattle.dependence.specs.Inside.{trace_of, IsKept}
 use Rattle.dependence.proofs.Keeping.{no_cut}
+use Rattle.dependence.proofs.Answering.{closed_left}
 use Rattle.dependence.proofs.Trimming.{reverse_filter, rises_since, log_since, sections_since, counted_since}
 
 module _ (old : Inside) (cut : Cut) (next : List ℕ) (left : List Step) (kept : IsKept old)
@@ -47,8 +49,8 @@ module _ (old : Inside) (cut : Cut) (next : List ℕ) (left : List Step) (kept :
   left_numbered = subst (λ (xs : List Step). HasSections (slice_index next) xs) (sym left_back) (sections_since (slice_index old.base) (slice_index next) more raised_by (reverse old.steps.items) kept.numbered)
 
   pub kept_forget : (new : Inside) → IsWhole (log_of (reverse old.steps.items)) more → new.lanes ≡ old.lanes → new.base ≡ next → new.ended ≡ old.ended → new.held ≡ old.held → new.steps.items ≡ left →
-      vec_len new.steps + new.room ≤ vec_capacity new.steps → IsLinked left new.links → HasRoom new.links new.room → new.stable ≡ None → IsKept new
-  kept_forget new whole lanes base ended_in held_in items room linked links_room fresh = record {
+      vec_len new.steps + new.room ≤ vec_capacity new.steps → IsLinked left new.links → HasRoom new.links new.room → ((l : ℕ) → counts_of new.answered l ≡ max (counts_of old.answered l) (counts_of cut l)) → new.stable ≡ None → IsKept new
+  kept_forget new whole lanes base ended_in held_in items room linked links_room answered fresh = record {
     lanes = omega (arith, kept.lanes);
     low = subst (λ (xs : List Step). All (λ s. s.lane.0 < new.lanes) xs) (sym items) (subst (λ (n : ℕ). All (λ s. s.lane.0 < n) left) (sym lanes) left_low);
     named = subst (λ (xs : List Step). All (λ s. IsObjectBelow 4096 s.entry) xs) (sym items) left_named;
@@ -63,5 +65,12 @@ module _ (old : Inside) (cut : Cut) (next : List ℕ) (left : List Step) (kept :
     linked = subst (λ (xs : List Step). IsLinked xs new.links) (sym items) linked;
     steps_room = room;
     links_room = links_room;
+    answered = record {
+      past = λ l. let base_is : slice_index new.base l ≡ slice_index next l = ap (λ (xs : List ℕ). slice_index xs l) base in omega (arith, answered l, raised l, kept.answered.past l);
+      below = λ l. let ended_is : slice_index new.ended l ≡ slice_index old.ended l = ap (λ (xs : List ℕ). slice_index xs l) ended_in in omega (arith, answered l, kept.answered.below l, kept.counted.whole l, whole l);
+      closed = subst (λ (xs : List Step). IsClosedOver reading xs (counts_of new.answered)) (sym items)
+          (closed_left old.steps.items left (λ s. nat_lt (slice_index next s.lane.0) s.section) (slice_index next) (counts_of old.answered) (counts_of new.answered) filtered left_numbered
+          (λ l. omega (arith, answered l)) (λ l. omega (arith, answered l, raised l)) kept.answered.closed);
+    };
     stable = no_cut new fresh;
   }

@@ -1,22 +1,26 @@
 -- What is true of a graph's fields stays so.
-use Rattle.std.proofs.Common.{ℕ, ◌≡◌, ◌+◌, ◌-◌, ◌<◌, ◌≤◌, false, List, [], ◌∷◌, ◌++◌, All, length, get_or, reverse, take, drop, replicate, slice_index, vec_len, vec_capacity, None, MatchOption, sym, ap, ◌∙◌, subst, inl, inr, arith, zero-add}
+use Rattle.std.proofs.Common.{ℕ, ◌≡◌, ◌+◌, ◌-◌, ◌*◌, ◌<◌, ◌≤◌, false, List, [], ◌∷◌, ◌++◌, All, length, get_or, reverse, take, drop, replicate, slice_index, vec_len, vec_capacity, None, MatchOption, sym, ap, ◌∙◌, subst, inl, inr, arith, zero-add}
 use Rattle.std.proofs.lemmas.Bool.{cases_lt}
-use Rattle.std.proofs.lemmas.List.{get_or_past, get_or-replicate, take_more, take-append-drop, reverse-append}
+use Rattle.std.proofs.lemmas.List.{length-reverse, get_or_past, get_or-replicate, take_more, take-append-drop, reverse-append}
+use Rattle.heap_model.specs.declared.cut.Cut.{Cut}
 use Rattle.heap_model.specs.Cuts.{counts_of}
 use Rattle.heap_model.specs.Log.{lane}
 use Rattle.heap_model.specs.Sections.{Action, Stores, undo_action, ended}
-use Rattle.heap_model.specs.Plain.{takes_after, IsGreatest}
+use Rattle.heap_model.specs.Plain.{takes_after, IsClosedOver, IsGreatest}
 use Rattle.dependence.specs.declared.step.Step.{Step}
 use Rattle.dependence.specs.declared.links.Links.{Links}
 use Rattle.dependence.specs.declared.graph.Graph.TheInside.{Inside}
-use Rattle.dependence.specs.Trace.{IsStableOf}
+use Rattle.dependence.specs.Trace.{sections_of, growth, unanswered, IsStableOf}
 use Rattle.dependence.specs.Next.{IsNext, IsObjectBelow}
 use Rattle.dependence.specs.Steps.{did, log_of, HasSections, reading}
 use Rattle.dependence.specs.Links.{act_at}
 use Rattle.dependence.specs.Kept.{IsCounted, IsInOrder, Rises, IsLinked, HasRoom}
-use Rattle.dependence.specs.Inside.{trace_of, IsKept}
-use Rattle.dependence.proofs.Places.{at_old, at_new, length_snoc, reverse_snoc}
-use Rattle.dependence.proofs.Counted.{order_next}
+use Rattle.dependence.specs.Inside.{trace_of, IsAtHand, IsKept}
+use Rattle.dependence.specs.Search.{IsAnswered, IsFound, IsSorted}
+use Rattle.dependence.proofs.Places.{at_old, at_new, length_snoc, length_map, reverse_snoc}
+use Rattle.dependence.proofs.Counted.{order_next, ended_cons, sorted, lanes_low}
+use Rattle.dependence.proofs.Answering.{closed_push}
+use Rattle.dependence.proofs.Sums.{in_all_le, sections_few, growth_le}
 use Rattle.dependence.proofs.Steady.{stable_since, above_base}
 
 pub zeros : (l : ℕ) → slice_index (replicate 32 0) l ≡ 0
@@ -28,6 +32,30 @@ kept_stable g cut kept greatest = record {
   stable = stable_since (slice_index g.base) g.steps.items kept.numbered (slice_index g.ended) cut kept.counted.whole greatest;
   counts = λ l. omega (arith, above_base (slice_index g.base) g.steps.items kept.numbered (slice_index g.ended) cut kept.counted.whole greatest l);
 }
+
+pub sorted_steps : (g : Inside) → IsKept g → IsSorted g.steps.items g.lanes
+sorted_steps g kept = sorted (slice_index g.base) g.steps.items kept.numbered g.lanes (lanes_low g.steps.items g.lanes kept.low)
+
+-- no more sections are unanswered than there are steps
+pub beyond_few : (g : Inside) → IsKept g → growth g.lanes (slice_index g.ended) (counts_of g.answered) ≤ length g.steps.items
+beyond_few g kept = omega (
+  arith,
+  in_all_le g.lanes (λ l. slice_index g.ended l - counts_of g.answered l) (λ l. ended (lane l (log_of (reverse g.steps.items)))) (λ l lt. omega (arith, kept.counted.whole l, kept.answered.past l)),
+  sections_few g.lanes (log_of (reverse g.steps.items)),
+  length_map did (reverse g.steps.items),
+  length-reverse g.steps.items,
+)
+
+unanswered_is : (g : Inside) → IsKept g → unanswered (trace_of g) ≡ growth g.lanes (slice_index g.ended) (counts_of g.answered)
+unanswered_is g kept = omega (
+  arith,
+  growth_le g.lanes (sections_of (trace_of g)) (slice_index g.ended) (counts_of g.answered) (λ l. omega (arith, kept.counted.whole l)),
+  growth_le g.lanes (slice_index g.ended) (sections_of (trace_of g)) (counts_of g.answered) (λ l. omega (arith, kept.counted.whole l)),
+)
+
+-- the looks are within the bound
+pub few_looks : (g : Inside) (cut : ℕ → ℕ) (looks : ℕ) → IsKept g → IsFound g.lanes g.steps.items (slice_index g.ended) (counts_of g.answered) cut looks → looks ≤ unanswered (trace_of g) * (unanswered (trace_of g) + 1)
+few_looks g cut looks kept found = subst (λ (n : ℕ). looks ≤ n * (n + 1)) (sym (unanswered_is g kept)) found.most
 
 -- the links of no steps
 pub linked_none : (k : Links) → k.newest ≡ replicate 32 0 → k.before.items ≡ [] → k.partner.items ≡ [] → length k.freed.items ≡ 4096 → IsLinked [] k
@@ -56,15 +84,30 @@ all_snoc P steps s all p k d lt = elim (cases_lt k (length steps)) [
 ]
 
 -- no cut is kept
-pub no_cut : (g : Inside) → g.stable ≡ None → MatchOption g.stable (Unit {0}) (λ cut. IsGreatest reading g.steps.items (slice_index g.ended) (counts_of cut))
-no_cut g e = subst (λ o. MatchOption o (Unit {0}) (λ cut. IsGreatest reading g.steps.items (slice_index g.ended) (counts_of cut))) (sym e) tt
+pub no_cut : (g : Inside) → g.stable ≡ None → IsAtHand g g.stable
+no_cut g e = subst (IsAtHand g) (sym e) tt
+
+-- the cut that was answered, with one more step
+answered_push : (old new : Inside) (s : Step) → IsKept old → new.base ≡ old.base → new.steps.items ≡ old.steps.items ++ s ∷ [] → s.section ≡ slice_index old.ended s.lane.0 + 1 → IsNext (log_of (reverse old.steps.items)) s.lane.0 (undo_action s.entry) →
+    IsCounted (slice_index old.base) (did s ∷ log_of (reverse old.steps.items)) new.ended new.held → new.answered ≡ old.answered → IsAnswered new.steps.items (slice_index new.base) (slice_index new.ended) (counts_of new.answered)
+answered_push old new s kept base items section next counted answered = record {
+  past = λ l.
+      let base_is : slice_index new.base l ≡ slice_index old.base l = ap (λ (xs : List ℕ). slice_index xs l) base in
+      let answered_is : counts_of new.answered l ≡ counts_of old.answered l = ap (λ (c : Cut). counts_of c l) answered in
+      omega (arith, kept.answered.past l);
+  below = λ l.
+      let answered_is : counts_of new.answered l ≡ counts_of old.answered l = ap (λ (c : Cut). counts_of c l) answered in
+      omega (arith, kept.answered.below l, kept.counted.whole l, counted.whole l, ended_cons (did s) (log_of (reverse old.steps.items)) l);
+  closed = subst (λ (c : Cut). IsClosedOver reading new.steps.items (counts_of c)) (sym answered) (subst (λ (xs : List Step). IsClosedOver reading xs (counts_of old.answered)) (sym items)
+      (closed_push old.steps.items s (counts_of old.answered) (order_next (log_of (reverse old.steps.items)) s.lane.0 (undo_action s.entry) next) (omega (arith, section, kept.answered.below s.lane.0)) kept.answered.closed));
+}
 
 -- the fields with one more step
 pub kept_push : (old new : Inside) (s : Step) → IsKept old → new.lanes ≡ old.lanes → new.base ≡ old.base → new.room + 1 ≡ old.room → new.steps.items ≡ old.steps.items ++ s ∷ [] →
     vec_len new.steps ≡ vec_len old.steps + 1 → vec_capacity new.steps ≡ vec_capacity old.steps → HasRoom new.links new.room → (xs : List Step) → xs ≡ old.steps.items → IsLinked (xs ++ s ∷ []) new.links →
     s.lane.0 < old.lanes → IsObjectBelow 4096 s.entry → s.section ≡ slice_index old.ended s.lane.0 + 1 → IsNext (log_of (reverse old.steps.items)) s.lane.0 (undo_action s.entry) →
-    IsCounted (slice_index old.base) (did s ∷ log_of (reverse old.steps.items)) new.ended new.held → new.stable ≡ None → IsKept new
-kept_push old new s kept lanes base room items len capacity links_room xs same linked low named section next counted fresh =
+    IsCounted (slice_index old.base) (did s ∷ log_of (reverse old.steps.items)) new.ended new.held → new.answered ≡ old.answered → new.stable ≡ None → IsKept new
+kept_push old new s kept lanes base room items len capacity links_room xs same linked low named section next counted answered fresh =
     let steps : new.steps.items ≡ old.steps.items ++ s ∷ [] = items in
     let back : reverse new.steps.items ≡ s ∷ reverse old.steps.items = ap (λ (xs : List Step). reverse xs) items ∙ reverse_snoc old.steps.items s in
     let number : s.section ≡ ended (lane s.lane.0 (log_of (reverse old.steps.items))) + 1 + slice_index old.base s.lane.0 = omega (arith, kept.counted.whole s.lane.0) in
@@ -78,6 +121,7 @@ kept_push old new s kept lanes base room items len capacity links_room xs same l
       linked = subst (λ (ys : List Step). IsLinked ys new.links) (sym items) (subst (λ (ys : List Step). IsLinked (ys ++ s ∷ []) new.links) same linked);
       steps_room = omega (arith, kept.steps_room);
       links_room = links_room;
+      answered = answered_push old new s kept base items section next counted answered;
       stable = no_cut new fresh;
     }
 
@@ -100,8 +144,8 @@ all_none : (P : Step → Type 0) → All P []
 all_none P k d lt = absurd (let no : k < 0 = lt in omega arith)
 
 -- the fields of a graph of nothing
-pub kept_none : (g : Inside) → g.lanes ≤ 32 → g.base ≡ replicate 32 0 → g.ended ≡ replicate 32 0 → g.held ≡ replicate 32 0 → g.steps.items ≡ [] → vec_len g.steps + g.room ≤ vec_capacity g.steps → IsLinked [] g.links → HasRoom g.links g.room → g.stable ≡ None → IsKept g
-kept_none g lanes base ended_in held_in items room linked links_room fresh =
+pub kept_none : (g : Inside) → g.lanes ≤ 32 → g.base ≡ replicate 32 0 → g.ended ≡ replicate 32 0 → g.held ≡ replicate 32 0 → g.steps.items ≡ [] → vec_len g.steps + g.room ≤ vec_capacity g.steps → IsLinked [] g.links → HasRoom g.links g.room → g.answered.counts ≡ replicate 32 0 → g.stable ≡ None → IsKept g
+kept_none g lanes base ended_in held_in items room linked links_room answered fresh =
     let back : reverse g.steps.items ≡ [] = ap (λ (xs : List Step). reverse xs) items in
     record {
       lanes = lanes;
@@ -116,5 +160,10 @@ kept_none g lanes base ended_in held_in items room linked links_room fresh =
       linked = subst (λ (xs : List Step). IsLinked xs g.links) (sym items) linked;
       steps_room = room;
       links_room = links_room;
+      answered = record {
+        past = λ l. let none : slice_index g.base l ≡ 0 = ap (λ (xs : List ℕ). slice_index xs l) base ∙ zeros l in omega arith;
+        below = λ l. let none : slice_index g.answered.counts l ≡ 0 = ap (λ (xs : List ℕ). slice_index xs l) answered ∙ zeros l in omega arith;
+        closed = subst (λ (xs : List Step). IsClosedOver reading xs (counts_of g.answered)) (sym items) (λ s t here there. absurd (let no : here.0 < 0 = here.1 in omega arith));
+      };
       stable = no_cut g fresh;
     }

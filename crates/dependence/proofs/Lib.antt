@@ -6,6 +6,8 @@ pub mod Linked
 pub mod Falling
 pub mod Counted
 pub mod Steady
+pub mod Sums
+pub mod Answering
 pub mod Keeping
 pub mod Trimming
 pub mod Forgetting

@@ -1,5 +1,5 @@
 -- The steps without what a cut counts.
-use Rattle.std.proofs.Common.{ℕ, ◌≡◌, ◌+◌, ◌<◌, ◌≤◌, if◌then◌else◌, cond, Bool, true, false, nat_lt, List, [], ◌∷◌, ◌++◌, length, reverse, refl, sym, ap, ◌∙◌, subst, inl, inr, arith}
+use Rattle.std.proofs.Common.{ℕ, ◌≡◌, ◌+◌, ◌<◌, ◌≤◌, if◌then◌else◌, cond, Bool, true, false, nat_lt, List, [], ◌∷◌, ◌++◌, length, reverse, slice_index, refl, sym, ap, ◌∙◌, subst, inl, inr, arith}
 use Rattle.std.specs.List.{filter}
 use Rattle.std.proofs.lemmas.Bool.{eq-eqb, ne_eqb, lt-ltb, le-ltb, cases_lt, cases_eq}
 use Rattle.std.proofs.lemmas.List.{reverse-append}
@@ -160,6 +160,8 @@ stable_after old new more cut log base is stable =
       counts = λ l. omega (arith, stable.counts l, base l, stable_once old.log stable.since (λ m. more m + found.0 m) stable.stable before l);
     }
 
--- a part of the stable cut may be forgotten
-pub at_most_stable : (t : Trace) (cut part : Cut) → IsStableOf t (counts_of cut) → ((l : ℕ) → counts_of part l ≤ counts_of cut l) → (c : ℕ → ℕ) → IsStable t.log c → (l : ℕ) → beyond t part l ≤ c l
-at_most_stable t cut part stable le c is l = omega (arith, le l, stable.counts l, stable_once t.log stable.since c stable.stable is l)
+-- a part of the stable cut may be forgotten, once that was answered
+pub at_most_stable : (old new : Trace) (cut part : Cut) → new.log ≡ old.log → new.base ≡ old.base → IsStableOf old (counts_of cut) → ((l : ℕ) → counts_of part l ≤ counts_of cut l) → (c : ℕ → ℕ) → IsStable new.log c → (l : ℕ) → beyond new part l ≤ c l
+at_most_stable old new cut part log base stable le c is l =
+    let base_is : base_of new l ≡ base_of old l = ap (λ (xs : List ℕ). slice_index xs l) base in
+    omega (arith, le l, stable.counts l, stable_once old.log stable.since c stable.stable (subst (λ (xs : List (ℕ × Action)). IsStable xs c) log is) l)

@@ -1,16 +1,21 @@
 -- What is true of a graph's fields.
-use Rattle.std.specs.Prelude.{◌+◌, ◌<◌, ◌≤◌, All, reverse, slice_index, vec_len, vec_capacity, MatchOption}
+use Rattle.std.specs.Prelude.{◌+◌, ◌<◌, ◌≤◌, All, reverse, slice_index, vec_len, vec_capacity, Option, MatchOption}
 use Rattle.heap_model.specs.Cuts.{counts_of}
-use Rattle.heap_model.specs.Plain.{IsGreatest}
 use Rattle.dependence.specs.declared.graph.Graph.TheInside.{Inside}
+use Rattle.dependence.specs.declared.found.Found.{Found}
 use Rattle.dependence.specs.Trace.{Trace}
 use Rattle.dependence.specs.Next.{IsObjectBelow}
-use Rattle.dependence.specs.Steps.{log_of, reading, HasSections}
+use Rattle.dependence.specs.Steps.{log_of, HasSections}
 use Rattle.dependence.specs.Kept.{IsCounted, Rises, IsLinked, HasRoom}
+use Rattle.dependence.specs.Search.{IsAnswered, IsFound}
 
 -- the plain data of the fields
 abbrev pub trace_of : Inside → Trace
-trace_of g = record { lanes = g.lanes; base = g.base; log = log_of (reverse g.steps.items); room = g.room }
+trace_of g = record { lanes = g.lanes; base = g.base; log = log_of (reverse g.steps.items); room = g.room; answered = g.answered.counts; looks = g.looks }
+
+-- a cut that is at hand is the one that a search beyond the answered cut finds
+abbrev pub IsAtHand : Inside → Option Found → Type 0
+IsAtHand g stable = MatchOption stable (Unit {0}) (λ found. IsFound g.lanes g.steps.items (slice_index g.ended) (counts_of g.answered) (counts_of found.cut) found.looks)
 
 -- the steps know their sections, and what is kept beside them tells the truth of them
 pub record IsKept (g : Inside) : Type 0 where
@@ -23,4 +28,5 @@ pub record IsKept (g : Inside) : Type 0 where
   pub linked : IsLinked g.steps.items g.links
   pub steps_room : vec_len g.steps + g.room ≤ vec_capacity g.steps
   pub links_room : HasRoom g.links g.room
-  pub stable : MatchOption g.stable (Unit {0}) (λ cut. IsGreatest reading g.steps.items (slice_index g.ended) (counts_of cut))
+  pub answered : IsAnswered g.steps.items (slice_index g.base) (slice_index g.ended) (counts_of g.answered)
+  pub stable : IsAtHand g g.stable

@@ -1,9 +1,22 @@
 -- The search for the stable cut: a cut that falls, and in each lane the place + 1 of the newest step that is left.
-use Rattle.std.specs.Prelude.{ℕ, ◌≡◌, ◌+◌, ◌-◌, ◌<◌, ◌≤◌, ◌⊎◌, true, List, length, slice_index}
-use Rattle.heap_model.specs.Plain.{takes_after, IsClosedOver}
+use Rattle.std.specs.Prelude.{ℕ, ◌≡◌, ◌+◌, ◌-◌, ◌*◌, ◌<◌, ◌≤◌, ◌⊎◌, true, List, length, slice_index}
+use Rattle.heap_model.specs.Plain.{takes_after, IsClosedOver, IsGreatest}
 use Rattle.dependence.specs.declared.step.Step.{Step}
+use Rattle.dependence.specs.Trace.{growth}
 use Rattle.dependence.specs.Steps.{reading}
 use Rattle.dependence.specs.Links.{lanes_in, sections_in, acts_in, act_at}
+
+-- the cut is whole and closed, and has what was forgotten
+pub record IsAnswered (steps : List Step) (base whole cut : ℕ → ℕ) : Type 0 where
+  pub past : (l : ℕ) → base l ≤ cut l
+  pub below : (l : ℕ) → cut l ≤ whole l
+  pub closed : IsClosedOver reading steps cut
+
+-- the greatest cut, found by so many looks: at least one for each section that is new, and within the bound
+pub record IsFound (lanes : ℕ) (steps : List Step) (whole answered cut : ℕ → ℕ) (looks : ℕ) : Type 0 where
+  pub greatest : IsGreatest reading steps whole cut
+  pub least : growth lanes cut answered ≤ looks
+  pub most : looks ≤ growth lanes whole answered * (growth lanes whole answered + 1)
 
 -- the step at one place takes what the step at the other freed
 abbrev pub Takes : List Step → (taker releaser : ℕ) → Type 0

@@ -1,5 +1,5 @@
 -- What a graph of sections knows, as plain data (this project's own).
-use Rattle.std.specs.Prelude.{ℕ, ◌≡◌, ◌+◌, ◌-◌, List, slice_index, refl}
+use Rattle.std.specs.Prelude.{ℕ, zero, suc, ◌≡◌, ◌+◌, ◌-◌, List, [], slice_index, refl}
 use Rattle.std.specs.Coded.{Coded, code_by, coded×, coded⊎, coded_ℕ, coded_list}
 use Rattle.std.proofs.Common.{inl, inr, ◌⊎◌}
 use Rattle.heap_model.specs.declared.cut.Cut.{Cut}
@@ -8,12 +8,20 @@ use Rattle.heap_model.specs.Sections.{Action, Takes, Frees, Stores, Section, end
 use Rattle.heap_model.specs.Cuts.{counts_of, IsStable}
 
 -- the lanes, numbered from 0; by lane, how many of its sections were forgotten;
--- what the lanes' records did since, the newest first; and how many records more there is room for
+-- what the lanes' records did since, the newest first; how many records more there is room for;
+-- by lane, how many of its sections the last answered cut has, or were forgotten since;
+-- and how many sections were taken up for that answer
 pub record Trace : Type 0 where
   pub lanes : ℕ
   pub base : List ℕ
   pub log : List (ℕ × Action)
   pub room : ℕ
+  pub answered : List ℕ
+  pub looks : ℕ
+
+-- what was told, without what was answered
+abbrev pub told_of : Trace → Trace
+told_of t = record { lanes = t.lanes; base = t.base; log = t.log; room = t.room; answered = []; looks = 0 }
 
 -- how many sections of the lane were forgotten
 abbrev pub base_of : Trace → (lane : ℕ) → ℕ
@@ -22,6 +30,23 @@ base_of t l = slice_index t.base l
 -- how many sections of the lane have ended, what was forgotten included
 abbrev pub sections_of : Trace → (lane : ℕ) → ℕ
 sections_of t l = base_of t l + ended (lane l t.log)
+
+-- how many sections of the lane were answered
+abbrev pub answered_of : Trace → (lane : ℕ) → ℕ
+answered_of t l = slice_index t.answered l
+
+-- the sum over the lanes
+abbrev pub in_all : (lanes : ℕ) → (ℕ → ℕ) → ℕ
+in_all zero count = 0
+in_all (suc l) count = in_all l count + count l
+
+-- how many sections the cut has beyond another
+abbrev pub growth : (lanes : ℕ) → (cut before : ℕ → ℕ) → ℕ
+growth lanes cut before = in_all lanes (λ l. cut l - before l)
+
+-- how many whole sections there are beyond the cut that was answered
+abbrev pub unanswered : Trace → ℕ
+unanswered t = growth t.lanes (sections_of t) (answered_of t)
 
 -- how far the cut goes past what was forgotten
 abbrev pub beyond : Trace → Cut → (lane : ℕ) → ℕ
@@ -58,5 +83,5 @@ action_code = code_by ((ℕ × ℕ) ⊎ ((ℕ × ℕ) ⊎ ℕ)) (coded⊎ (coded
 
 -- a trace is stored as the tuple of its parts
 abbrev pub trace_code : Coded Trace
-trace_code = code_by (ℕ × (List ℕ × (List (ℕ × Action) × ℕ))) (coded× coded_ℕ (coded× (coded_list coded_ℕ) (coded× (coded_list (coded× coded_ℕ action_code)) coded_ℕ)))
-    (λ t. (t.lanes, (t.base, (t.log, t.room)))) (λ p. record { lanes = p.0; base = p.1.0; log = p.1.1.0; room = p.1.1.1 }) (λ _. refl)
+trace_code = code_by (ℕ × (List ℕ × (List (ℕ × Action) × (ℕ × (List ℕ × ℕ))))) (coded× coded_ℕ (coded× (coded_list coded_ℕ) (coded× (coded_list (coded× coded_ℕ action_code)) (coded× coded_ℕ (coded× (coded_list coded_ℕ) coded_ℕ)))))
+    (λ t. (t.lanes, (t.base, (t.log, (t.room, (t.answered, t.looks)))))) (λ p. record { lanes = p.0; base = p.1.0; log = p.1.1.0; room = p.1.1.1.0; answered = p.1.1.1.1.0; looks = p.1.1.1.1.1 }) (λ _. refl)

@@ -1,19 +1,19 @@
 //! The graph of the sections.
 
-ghost use Rattle.std.specs.Prelude.{◌≡◌, ◌+◌, ◌^◌, ◌<◌, ◌≤◌, ◌∷◌, [], ◌↔◌, ℕ, None, max, length, replicate, IfOk, IfSome, IsSome};
+ghost use Rattle.std.specs.Prelude.{◌≡◌, ◌+◌, ◌^◌, ◌*◌, ◌<◌, ◌≤◌, ◌∷◌, [], ◌↔◌, ℕ, None, max, length, replicate, IfOk, IfSome, IsSome};
 ghost use Rattle.heap_model.specs.Sections.{undo_action};
 ghost use Rattle.heap_model.specs.Cuts.{counts_of, IsStable};
 ghost use Rattle.heap_model.specs.Base.{since};
-ghost use Rattle.dependence.specs.Trace.{base_of, sections_of, beyond, section_since, IsStableOf};
+ghost use Rattle.dependence.specs.Trace.{base_of, sections_of, answered_of, growth, unanswered, beyond, section_since, IsStableOf};
 ghost use Rattle.dependence.specs.Next.{IsNext, IsObjectBelow};
 ghost use Rattle.dependence.specs.Reason.{IsLeftOut, IsReason};
 
 #[cfg(test)]
 pub mod checked;
 
+use crate::found::{Found, at_hand};
 use crate::lanes::{count, raise};
 use crate::links::Links;
-use crate::search::greatest_cut;
 use crate::section::Dependence;
 use crate::step::Step;
 use crate::steps::retain;
@@ -26,7 +26,7 @@ use std::marker::Model;
 ///
 /// A section depends on the earlier ones of its lane, and on each other one that freed a monitor which it
 /// took next. Guards and values are left out. Contracts see a graph as what was forgotten, what was done
-/// since, the newest first, and the room that is left.
+/// since, the newest first, the room that is left, and the cut that was last answered.
 #[derive(Drop)]
 pub struct Graph {
     lanes: u8,
@@ -36,8 +36,12 @@ pub struct Graph {
     held: [usize; 32],
     steps: Vec<Step>,
     links: Links,
-    // The stable cut, where nothing was pushed or forgotten since it was last asked for.
-    stable: Option<Cut>,
+    // The cut that was last answered, with what was forgotten since, and the looks that it took.
+    answered: Cut,
+    looks: u64,
+    // The stable cut, where nothing was pushed or forgotten since it was found. Its looks are those since
+    // the last answer.
+    stable: Option<Found>,
 }
 
 impl Model for Graph {
@@ -65,6 +69,8 @@ impl Graph {
         ensures base { IfOk result (λ g. (l : ℕ) → base_of g l ≡ 0) }
         ensures empty { IfOk result (λ g. g.log ≡ []) }
         ensures room { IfOk result (λ g. g.room ≡ records) }
+        ensures answered { IfOk result (λ g. (l : ℕ) → answered_of g l ≡ 0) }
+        ensures looks { IfOk result (λ g. g.looks ≡ 0) }
     {
         Ok(Graph {
             lanes,
@@ -74,6 +80,8 @@ impl Graph {
             held: [0; 32],
             steps: Vec::with_capacity(alloc, records)?,
             links: Links::with_capacity(alloc, records)?,
+            answered: Cut { counts: [0; 32] },
+            looks: 0,
             stable: None,
         })
     }
@@ -94,6 +102,8 @@ impl Graph {
         ensures room { self.new.room + 1 ≡ self.old.room }
         ensures base { self.new.base ≡ self.old.base }
         ensures lanes { self.new.lanes ≡ self.old.lanes }
+        ensures answered { self.new.answered ≡ self.old.answered }
+        ensures looks { self.new.looks ≡ self.old.looks }
     {
         let next = Step {
             lane,
@@ -110,7 +120,7 @@ impl Graph {
     /// Leaves out what the cut counts, which is at most the stable one. It may be a part of what depends
     /// on one another: the rest stays in the stable cut. Sections and cuts go on counting it, and no later
     /// answer changes by it. Where the cut counts less than was forgotten already, that stays forgotten.
-    /// The room of what is forgotten is free again.
+    /// The room of what is forgotten is free again. What is forgotten counts as answered.
     ///
     /// The time is linear in the records that were not forgotten before, and in the number of objects.
     pub fn forget_to(&mut self, cut: &Cut)
@@ -119,10 +129,13 @@ impl Graph {
         ensures base { (l : ℕ) → base_of self.new l ≡ max (base_of self.old l) (counts_of cut.now l) }
         ensures room { self.new.room + length self.new.log ≡ self.old.room + length self.old.log }
         ensures lanes { self.new.lanes ≡ self.old.lanes }
+        ensures answered { (l : ℕ) → answered_of self.new l ≡ max (answered_of self.old l) (counts_of cut.now l) }
+        ensures looks { self.new.looks ≡ self.old.looks }
         ensures answers { (c : ℕ → ℕ) → IsStableOf self.new c ↔ IsStableOf self.old c }
     {
         let records = self.steps.len();
         raise(&mut self.base, &cut.counts);
+        raise(&mut self.answered.counts, &cut.counts);
         retain(&mut self.steps, &self.base);
         self.room += records - self.steps.len();
         self.links.again(&self.steps);
@@ -136,14 +149,39 @@ impl Graph {
     /// most once. Where nothing was pushed or forgotten since the last call, the answer is at hand.
     pub fn stable_cut(&mut self) -> Cut
         ensures stable { IsStableOf self.old (counts_of result) }
-        ensures same { self.new ≡ self.old }
+        ensures answered { (l : ℕ) → answered_of self.new l ≡ counts_of result l }
+        ensures looks_least { growth self.old.lanes (counts_of result) (answered_of self.old) ≤ self.new.looks }
+        ensures looks_most { self.new.looks ≤ unanswered self.old * (unanswered self.old + 1) }
+        ensures log { self.new.log ≡ self.old.log }
+        ensures base { self.new.base ≡ self.old.base }
+        ensures lanes { self.new.lanes ≡ self.old.lanes }
+        ensures room { self.new.room ≡ self.old.room }
     {
-        if let Some(cut) = self.stable {
-            return cut;
-        }
-        let cut = greatest_cut(self.lanes, &self.steps, &self.links, &self.ended).cut;
-        self.stable = Some(cut);
-        cut
+        let found = at_hand(
+            self.lanes,
+            &self.steps,
+            &self.links,
+            &self.ended,
+            &self.answered,
+            self.stable,
+        );
+        self.answered = found.cut;
+        self.looks = found.looks;
+        // A cut that is at hand takes no look.
+        self.stable = Some(Found {
+            cut: found.cut,
+            looks: 0,
+        });
+        found.cut
+    }
+
+    /// How many sections the last [`stable_cut`](Self::stable_cut) took up with their dependences, or a
+    /// [`reason`](Self::reason) since the answer before; a section taken up twice counts twice. 0 before
+    /// the first.
+    pub fn last_looks(&self) -> u64
+        ensures { result ≡ self.now.looks }
+    {
+        self.looks
     }
 
     /// For how many more records there is room.
@@ -172,19 +210,27 @@ impl Graph {
         ensures kept { IfSome result (λ d. base_of self.old d.lane.0 < d.section) }
         ensures same { self.new ≡ self.old }
     {
-        let cut = self.stable_cut();
+        let found = at_hand(
+            self.lanes,
+            &self.steps,
+            &self.links,
+            &self.ended,
+            &self.answered,
+            self.stable,
+        );
+        self.stable = Some(found);
         reason_of(
             &self.steps,
             &self.links,
             &self.ended,
-            &cut,
+            &found.cut,
             Dependence { lane, section },
         )
     }
 }
 
 // Leaves no cut at hand. The test saves a write of the whole cut for each record.
-fn forget(stable: &mut Option<Cut>)
+fn forget(stable: &mut Option<Found>)
     ensures { stable.new ≡ None }
 {
     if stable.is_some() {

@@ -152,6 +152,26 @@ fn a_circle_enters_when_it_is_whole(rt: HostRuntime) -> Result<(), Fail> {
     Ok(())
 }
 
+// How many sections are taken up before the circle's last record, after it, and with nothing new.
+fn looks_at_circle(rt: &impl Abort, alloc: Global) -> Result<[u64; 3], AllocError> {
+    let mut graph = Graph::with_capacity(alloc, 2, 10)?;
+    let records = circle();
+    push_all(rt, &mut graph, &records[..9]);
+    graph.stable_cut();
+    let before = graph.last_looks();
+    push_all(rt, &mut graph, &records[9..]);
+    graph.stable_cut();
+    let after = graph.last_looks();
+    graph.stable_cut();
+    Ok([before, after, graph.last_looks()])
+}
+
+#[test]
+fn a_circle_takes_few_looks(rt: HostRuntime) -> Result<(), Fail> {
+    assert_eq!(&rt; looks_at_circle(&rt, rt.alloc())?, [1, 2, 0]);
+    Ok(())
+}
+
 #[test]
 fn a_wait_ends_a_section(rt: HostRuntime) -> Result<(), Fail> {
     let mut graph = Graph::with_capacity(rt.alloc(), 2, 7)?;

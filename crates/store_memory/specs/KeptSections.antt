@@ -1,11 +1,12 @@
 -- What is true of the fields in which a store keeps what it knows of its logged sections.
 use Rattle.std.specs.Prelude.{◌≡◌, ◌+◌, ◌*◌, ◌≤◌, length}
+use Rattle.dependence.specs.Trace.{told_of}
 use Rattle.store_memory.specs.declared.sections.LoggedSections.TheInside.{Inside}
 use Rattle.store_memory.specs.Sections.{Logged}
 
--- the plain data of the fields
+-- the plain data of the fields, without what the graph answered
 abbrev pub logged_of : Inside → Logged
-logged_of g = record { lanes = g.lanes; capacity = g.capacity; graph = g.graph; counts = g.counts; ends = g.ends.items }
+logged_of g = record { lanes = g.lanes; capacity = g.capacity; graph = told_of g.graph; counts = g.counts; ends = g.ends.items }
 
 -- the graph has room for the records of all lanes, and the table for the places of their sections
 pub record HasSlots (g : Inside) : Type 0 where

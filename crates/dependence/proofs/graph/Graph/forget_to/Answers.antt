@@ -62,6 +62,7 @@ invariant_of-self c =
         length_map (λ (s : Step). undo_action s.entry) c.self.inside.steps.items,
       );
     })
+    c.raise-2.ensures
     refl
 
 pub returns-clause-log : goal.returns-clause-log

@@ -3,6 +3,7 @@ use Rattle.std.specs.Vec.{with_items}
 use Rattle.std.proofs.lemmas.List.{with_items_is}
 use Rattle.heap_model.specs.declared.record.UndoRecord.{UndoRecord}
 use Rattle.heap_model.specs.Sections.{undo_action}
+use Rattle.dependence.specs.Trace.{told_of}
 use Rattle.dependence.specs.Next.{IsNext}
 use Rattle.store_memory.specs.Counted.{lane_in, lane_after, ends_after}
 use Rattle.store_memory.specs.Sections.{Logged, TellsSections, MayBeLogged}
@@ -78,9 +79,9 @@ returns-clause-tells c = λ s base log was.
     let ends : (with_items c.self.inside.ends c.count.new.ends).items ≡ ends_after c.self.inside.capacity c.args.lane.0 (lane_in c.self.inside.counts c.args.lane.0) (lane_after c.args.next (lane_in c.self.inside.counts c.args.lane.0)) c.self.inside.ends.items =
     with_items_is c.self.inside.ends c.count.new.ends (c.count.auto.ends ∙ c.deref_mut.ensures.len) ∙ c.count.ensures.ends
     ∙ ap (λ (xs : List ℕ). ends_after c.self.inside.capacity c.args.lane.0 (lane_in c.self.inside.counts c.args.lane.0) (lane_after c.args.next (lane_in c.self.inside.counts c.args.lane.0)) xs) c.deref_mut.ensures.value in
-    let same : logged_after (logged_of c.self.inside) c.push.new.self c.args.lane.0 c.args.next ≡ record { lanes = c.self.inside.lanes; capacity = c.self.inside.capacity; graph = c.push.new.self; counts = c.count.new.counts; ends = (with_items c.self.inside.ends c.count.new.ends).items } =
-    λ i. record { lanes = c.self.inside.lanes; capacity = c.self.inside.capacity; graph = c.push.new.self; counts = sym c.count.ensures.counts i; ends = sym ends i } in
+    let same : logged_after (logged_of c.self.inside) (told_of c.push.new.self) c.args.lane.0 c.args.next ≡ record { lanes = c.self.inside.lanes; capacity = c.self.inside.capacity; graph = told_of c.push.new.self; counts = c.count.new.counts; ends = (with_items c.self.inside.ends c.count.new.ends).items } =
+    λ i. record { lanes = c.self.inside.lanes; capacity = c.self.inside.capacity; graph = told_of c.push.new.self; counts = sym c.count.ensures.counts i; ends = sym ends i } in
     subst (λ (k : Logged). TellsSections k base ((c.args.lane.0, c.args.next) ∷ log)) same
-    (tells_next s (logged_of c.self.inside) base log c.args.lane.0 c.args.next may c.push.new.self
+    (tells_next s (logged_of c.self.inside) base log c.args.lane.0 c.args.next may (told_of c.push.new.self)
     (omega (arith, low s (logged_of c.self.inside) base log c.args.lane.0 c.args.next may, c.self.invariant.lanes, c.self.invariant.counted)) c.self.invariant.slots
     (c.push.ensures.log ∙ ap (λ (u : UndoRecord). (c.args.lane.0, undo_action u) ∷ c.self.inside.graph.log) c.undo.ensures) c.push.ensures.base)
