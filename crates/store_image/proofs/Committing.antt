@@ -1,4 +1,4 @@
--- The commit of a control over a device on which nothing is pending.
+-- The commit of a control over a device.
 use Rattle.std.proofs.Common.{◌≡◌, ◌⊎◌, inl, inr, ⊎_elim, ℕ, ◌*◌, ◌≤◌, List, [], ◌∷◌, length, arith}
 use Rattle.heap_model.specs.declared.record.Record.{Record}
 use Rattle.heap_model.specs.Setting.{Setting}
@@ -36,16 +36,15 @@ slot_spared l s log base cut t = record {
   cells = λ f below. inr (slot_before t (cell_at l f) 8 (omega arith));
 }
 
-module _ (l : Layout) (s : Setting) (slot : Slot) (old new : Control) (d : Device) (steady : IsSteady l d slot old) (rest : d.now.pending ≡ [])
-    (p : Past) (tells : TellsCut l p.logged p.base p.cut old.rows) (parts : HasParts l s p.logged p.base p.cut d.now.bytes)
-    (q : Past) (tells_new : TellsCut l q.logged q.base q.cut new.rows) (parts_new : HasParts l s q.logged q.base q.cut d.now.bytes)
+module _ (l : Layout) (s : Setting) (slot : Slot) (old new : Control) (d : Device) (steady : IsSteady l d slot old)
+    (p : Past) (tells : TellsCut l p.logged p.base p.cut old.rows) (parts : Always d (HasParts l s p.logged p.base p.cut))
+    (q : Past) (tells_new : TellsCut l q.logged q.base q.cut new.rows) (parts_new : Always d (HasParts l s q.logged q.base q.cut))
     (e : Device) (committing : LeavesOnly d e (OldOrNew l d slot old new)) where
   abbrev rs : List Range
   rs = slot_range (other slot) ∷ []
 
-  still : (log : List (ℕ × Record)) (base cut : ℕ → ℕ) → HasParts l s log base cut d.now.bytes → (image : List ℕ) → ImageBut d rs image → HasParts l s log base cut image
-  still log base cut has image from =
-      besides_survives d rs (HasParts l s log base cut) (always_only d (HasParts l s log base cut) rest has) (parts_survive l s log base cut rs (slot_spared l s log base cut (other slot))) image from
+  still : (log : List (ℕ × Record)) (base cut : ℕ → ℕ) → Always d (HasParts l s log base cut) → (image : List ℕ) → ImageBut d rs image → HasParts l s log base cut image
+  still log base cut has image from = besides_survives d rs (HasParts l s log base cut) has (parts_survive l s log base cut rs (slot_spared l s log base cut (other slot))) image from
 
   -- the past by the old control, or by the new one
   abbrev Either : List ℕ → Type 0
@@ -58,20 +57,40 @@ module _ (l : Layout) (s : Setting) (slot : Slot) (old new : Control) (d : Devic
       c.shows
 
   -- at every moment, whatever it answers
-  pub commit_leaves : LeavesOnly d e Either
-  commit_leaves = weaker d e (OldOrNew l d slot old new) Either in_commit committing
+  pub commit_shows : LeavesOnly d e Either
+  commit_shows = weaker d e (OldOrNew l d slot old new) Either in_commit committing
 
   each : Always e (OldOrNew l d slot old new)
   each = now_too d e (OldOrNew l d slot old new) (steady_before l d slot old new steady) committing
 
+  -- each image that may be left then has the new parts
+  pub commit_has : Always e (HasParts l s q.logged q.base q.cut)
+  commit_has image left = still q.logged q.base q.cut parts_new image (each image left).from
+
+-- over a device on which nothing is pending
+module _ (l : Layout) (s : Setting) (slot : Slot) (old new : Control) (d : Device) (steady : IsSteady l d slot old) (rest : d.now.pending ≡ [])
+    (p : Past) (tells : TellsCut l p.logged p.base p.cut old.rows) (parts : HasParts l s p.logged p.base p.cut d.now.bytes)
+    (q : Past) (tells_new : TellsCut l q.logged q.base q.cut new.rows) (parts_new : HasParts l s q.logged q.base q.cut d.now.bytes)
+    (e : Device) (committing : LeavesOnly d e (OldOrNew l d slot old new)) where
+  abbrev the_slot : List Range
+  the_slot = slot_range (other slot) ∷ []
+
+  every : (log : List (ℕ × Record)) (base cut : ℕ → ℕ) → HasParts l s log base cut d.now.bytes → Always d (HasParts l s log base cut)
+  every log base cut has = always_only d (HasParts l s log base cut) rest has
+
+  pub commit_leaves : LeavesOnly d e (λ image. ShowsPast l s p image ⊎ ShowsPast l s q image)
+  commit_leaves = commit_shows l s slot old new d steady p tells (every p.logged p.base p.cut parts) q tells_new (every q.logged q.base q.cut parts_new) e committing
+
   -- each image that may be left then has the new parts, and the cells read as before
   pub commit_parts : Always e (HasParts l s q.logged q.base q.cut)
-  commit_parts image left = still q.logged q.base q.cut parts_new image (each image left).from
+  commit_parts = commit_has l s slot old new d steady p tells (every p.logged p.base p.cut parts) q tells_new (every q.logged q.base q.cut parts_new) e committing
+
+  left_now : ImageBut d the_slot e.now.bytes
+  left_now = (now_too d e (OldOrNew l d slot old new) (steady_before l d slot old new steady) committing e.now.bytes (image_now e)).from
 
   pub commit_cells : (f v : ℕ) → HasCell l f d.now.bytes v → HasCell l f e.now.bytes v
   commit_cells f v holds =
-      cell_survives l f v rs (slot_before (other slot) (cell_at l f) 8 (omega arith)) d.now.bytes e.now.bytes holds
-      (besides_only d rs e.now.bytes rest (each e.now.bytes (image_now e)).from)
+      cell_survives l f v the_slot (slot_before (other slot) (cell_at l f) 8 (omega arith)) d.now.bytes e.now.bytes holds (besides_only d the_slot e.now.bytes rest left_now)
 
   pub commit_size : length e.now.bytes ≡ length d.now.bytes
-  commit_size = (besides_only d rs e.now.bytes rest (each e.now.bytes (image_now e)).from).size
+  commit_size = (besides_only d the_slot e.now.bytes rest left_now).size

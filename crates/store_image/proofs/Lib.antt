@@ -10,3 +10,5 @@ pub mod Counting
 pub mod Recording
 pub mod Committing
 pub mod Acknowledging
+pub mod Rewriting
+pub mod Freeing

@@ -20,7 +20,7 @@ use Rattle.undo_log.specs.Dropped.{undo_logs, records_in}
 use Rattle.undo_log.proofs.Back.{actions_undo, length_undo}
 
 -- a record of the first n sections, and one that is none
-in_sections : (n : ℕ) (r : UndoRecord) (older : List UndoRecord) → ended (map undo_action older) < n → records_in n (r ∷ older) ≡ length older + 1
+pub in_sections : (n : ℕ) (r : UndoRecord) (older : List UndoRecord) → ended (map undo_action older) < n → records_in n (r ∷ older) ≡ length older + 1
 in_sections n r older lt = ap (λ b. if b then length older + 1 else records_in n older) (lt-ltb _ _ lt)
 
 pub past_sections : (n : ℕ) (r : UndoRecord) (older : List UndoRecord) → n ≤ ended (map undo_action older) → records_in n (r ∷ older) ≡ records_in n older
@@ -44,7 +44,7 @@ ended_within (undo.Rel o n ∷ xs) = elim (length (without o.0 (holding (map und
 ended_within (undo.WaitRel o n ∷ xs) = elim (length (without o.0 (holding (map undo_action xs))) == 0) as (λ b. (if b then ended (map undo_action xs) + 1 else ended (map undo_action xs)) ≤ suc (length xs))
     [ true ↦ omega (arith, ended_within xs) | false ↦ omega (arith, ended_within xs) ]
 
-one_more : (r : UndoRecord) (xs : List UndoRecord) → ended (map undo_action (r ∷ xs)) ≤ ended (map undo_action xs) + 1
+pub one_more : (r : UndoRecord) (xs : List UndoRecord) → ended (map undo_action (r ∷ xs)) ≤ ended (map undo_action xs) + 1
 one_more (undo.Acq o n) xs = omega arith
 one_more (undo.Put f v) xs = omega arith
 one_more (undo.Rel o n) xs = elim (length (without o.0 (holding (map undo_action xs))) == 0) as (λ b. (if b then ended (map undo_action xs) + 1 else ended (map undo_action xs)) ≤ ended (map undo_action xs) + 1)

@@ -1,11 +1,11 @@
 //! A commit of the next control.
-ghost use Rattle.std.specs.Prelude.{◌≡◌, ◌+◌, ◌-◌, ◌<◌, ◌^◌, [], IfErr, OnErr, OnOk};
-ghost use Rattle.block_disk.specs.Device.{HasCause};
+ghost use Rattle.std.specs.Prelude.{◌≡◌, ◌+◌, ◌-◌, ◌<◌, ◌^◌, [], ◌∷◌, IfErr, OnErr, OnOk};
+ghost use Rattle.block_disk.specs.Device.{HasCause, SameOutside};
 ghost use Rattle.block_disk.specs.Images.{LeavesOnly};
 ghost use Rattle.image.specs.Commit.{IsSteady, OldOrNew};
 ghost use Rattle.image.specs.Control.{AreRows, control_of};
 ghost use Rattle.image.specs.Layout.{IsLayout};
-ghost use Rattle.image.specs.Slots.{other};
+ghost use Rattle.image.specs.Slots.{other, slot_range};
 ghost use Rattle.store_past.specs.declared.error.StoreError.TheVariants.{Fault};
 
 use crate::committed::Committed;
@@ -26,6 +26,7 @@ pub fn commit<D: Disk>(
     requires sequence { committed.old.sequence < 2 ^ 64 - 1 }
     ensures ok { OnOk result (committed.new ≡ record { slot = other committed.old.slot; sequence = committed.old.sequence + 1; rows = rows.now }) }
     ensures steady { OnOk result (IsSteady layout.now (D.device disk.new) (other committed.old.slot) (control_of (committed.old.sequence + 1) rows.now)) }
+    ensures same { OnOk result (SameOutside (slot_range (other committed.old.slot) ∷ []) (D.device disk.old).now.bytes (D.device disk.new).now.bytes) }
     ensures only_fault { IfErr result (λ e. e ≡ Fault) }
     ensures err { OnErr result (committed.new ≡ committed.old) }
     ensures any_moment { LeavesOnly (D.device disk.old) (D.device disk.new)

@@ -1,7 +1,7 @@
 //! The image of a store: the steps by which what a store was told reaches its device.
 //!
 //! [`format`] makes an image. [`log_records`] makes new records durable, [`write_home`] brings a logged value to its home
-//! cell, and [`settle`] acknowledges the stable cut. Each says which past the device agrees with afterwards, and what every
+//! cell, [`settle`] acknowledges the stable cut, and [`trim`] frees the places of what is acknowledged. Each says which past the device agrees with afterwards, and what every
 //! image that a crash may leave stands for at every moment until then. [`standing_law`] says what such an image is worth.
 #![tactic(auto)]
 
@@ -16,6 +16,7 @@ mod sync;
 mod home;
 mod logging;
 mod settling;
+mod trimming;
 
 // What an image of a store is worth.
 mod laws;
@@ -26,3 +27,4 @@ pub use home::{Home, write_home};
 pub use laws::standing_law;
 pub use logging::log_records;
 pub use settling::settle;
+pub use trimming::{is_trimmed, trim};

@@ -9,3 +9,4 @@ pub mod Begins
 pub mod SectionCounts
 pub mod SectionRoom
 pub mod SectionLaws
+pub mod Forgetting

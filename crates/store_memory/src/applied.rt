@@ -1,22 +1,23 @@
 //! What a store remembers of the records applied.
 
-ghost use Rattle.std.specs.Prelude.{◌≡◌, ◌+◌, ◌^◌, ◌<◌, ◌≤◌, ◌↔◌, ℕ, false, length, IsTrue, IfOk, OnOk, OnErr, MatchOption};
+ghost use Rattle.std.specs.Prelude.{◌≡◌, ◌+◌, ◌^◌, ◌<◌, ◌≤◌, ◌↔◌, ℕ, false, length, slice_index, IsTrue, IfOk, OnOk, OnErr, MatchOption};
 ghost use Rattle.heap_model.specs.Setting.{Setting};
 ghost use Rattle.heap_model.specs.Log.{value as value_of};
 ghost use Rattle.heap_model.specs.Plain.{log_from};
-ghost use Rattle.store_past.specs.Past.{Past, applied, no_past, after_apply, after_log, after_home};
+ghost use Rattle.store_past.specs.Past.{Past, applied, no_past, after_apply, after_log, after_home, after_trim};
 ghost use Rattle.store_memory.specs.Memory.{field_in, lane_in, guard_in, value_in, KeepsLayout};
 ghost use Rattle.store_memory.specs.Remembers.{Remembers, place_of, held_of};
 ghost use Rattle.store_memory.specs.Apply.{Answers};
 ghost use Rattle.store_memory.specs.Fresh.{undo_log_of};
 ghost use Rattle.store_memory.specs.Limits.{AreWithin, FitWords};
 ghost use Rattle.store_memory.specs.Begin.{AreFieldsOf, IsLeastDirtyOf};
+ghost use Rattle.store_memory.specs.Trimming.{MayStart};
 
 use crate::check::{any_open, check, field_at, lane_at, word_law};
 use crate::dirty::DirtyFields;
 use crate::fresh::FreshRecords;
 use crate::logged::log_all;
-use crate::note::{note_lane, note_monitor, note_store};
+use crate::note::{note_lane, note_monitor, note_starts, note_store};
 use crate::states::{FREE, FieldState, IDLE, LaneState, MonitorState};
 use heap_model::{FieldId, Lane, LaneRecord, Record, UndoRecord};
 use std::alloc::{AllocError, Global};
@@ -196,6 +197,19 @@ impl Applied {
         ensures kept { KeepsLayout self.old self.new }
     {
         self.dirty.clear(field);
+    }
+
+    /// Takes the lanes' records before these places for trimmed; `places` has them by lane. The lanes have room for as many
+    /// records more. One look for each lane.
+    pub fn start_at(&mut self, places: &[u64; 32])
+        requires lanes { length self.old.lanes ≤ 32 }
+        requires may { (s : Setting) × (p : Past) × MayStart s self.old p places.now }
+        ensures trimmed { (s : Setting) (p : Past) → MayStart s self.old p places.now → Remembers s self.new (after_trim p) }
+        ensures starts { (l : ℕ) → l < length self.old.lanes → (lane_in self.new.lanes l).start ≡ slice_index places.now l }
+        ensures lanes { length self.new.lanes ≡ length self.old.lanes }
+        ensures capacity { self.new.capacity ≡ self.old.capacity }
+    {
+        note_starts(&mut self.lanes, places);
     }
 }
 

@@ -1,6 +1,6 @@
 //! What a record changes of the memory.
 
-ghost use Rattle.std.specs.Prelude.{◌≡◌, ◌+◌, ◌<◌, ◌^◌, ◌==◌, ℕ, if◌then◌else◌, length, slice_set};
+ghost use Rattle.std.specs.Prelude.{◌≡◌, ◌+◌, ◌<◌, ◌≤◌, ◌^◌, ◌==◌, ℕ, if◌then◌else◌, length, slice_index, slice_set};
 ghost use Rattle.store_memory.specs.Memory.{lane_in, awaited_after as awaited_after_record, lane_after as lane_after_record, monitors_after, fields_after};
 ghost use Rattle.store_memory.specs.Verdict.{IsNamed, NumberFits};
 
@@ -71,5 +71,15 @@ pub fn note_store(fields: &mut [FieldState], objects: usize, record: Record)
 {
     if let Record::Put { field, after, .. } = record {
         fields[field.0 as usize].value = after;
+    }
+}
+
+/// Notes the first places of the lanes that were not trimmed.
+pub fn note_starts(lanes: &mut [LaneState], places: &[u64; 32])
+    requires { length lanes.old ≤ 32 }
+    ensures { (l : ℕ) → l < length lanes.old → lane_in lanes.new l ≡ record (lane_in lanes.old l) { start = slice_index places.now l } }
+{
+    for lane in 0..lanes.len() {
+        lanes[lane].start = places[lane];
     }
 }

@@ -8,6 +8,7 @@ ghost use Rattle.heap_model.specs.Sections.{actions, ended};
 ghost use Rattle.heap_model.specs.Cuts.{counts_of, IsStable};
 ghost use Rattle.heap_model.specs.Plain.{log_from};
 ghost use Rattle.store_memory.specs.Sections.{place_behind, TellsSections, MayBeLogged};
+ghost use Rattle.store_memory.specs.Trimming.{MayForget};
 
 use crate::ends::{are_within, count, places_behind, slots};
 use crate::logged_lane::LoggedLane;
@@ -111,6 +112,17 @@ impl LoggedSections {
             cut,
             places: places_behind(self.lanes, self.capacity, &self.ends, &cut.counts),
         }
+    }
+
+    /// Forgets the sections of the cut: what they did, and with that the room that their records took. Sections and places are
+    /// numbered on. The time is that of [`Graph::forget_to`], and no memory is taken.
+    pub fn forget_to(&mut self, cut: &Cut)
+        requires may { (base : ℕ → ℕ) × (log : List (ℕ × AnyRecord)) × MayForget self.old base log (counts_of cut.now) }
+        ensures tells { (base : ℕ → ℕ) (log : List (ℕ × AnyRecord)) → MayForget self.old base log (counts_of cut.now) → TellsSections self.new (counts_of cut.now) log }
+        ensures lanes { self.new.lanes ≡ self.old.lanes }
+        ensures capacity { self.new.capacity ≡ self.old.capacity }
+    {
+        self.graph.forget_to(cut);
     }
 
     /// Whether the cut has each logged section that has ended. One look for each lane.

@@ -1,5 +1,5 @@
 -- A store's past: what it was told, and what became of that (this project's own; acknowledged sections after Atlas's consistent states).
-use Rattle.std.specs.Prelude.{ℕ, ◌≤◌, ◌==◌, if◌then◌else◌, Bool, true, false, List, [], ◌∷◌, ◌++◌}
+use Rattle.std.specs.Prelude.{ℕ, ◌≡◌, ◌≤◌, ◌==◌, if◌then◌else◌, Bool, true, false, List, [], ◌∷◌, ◌++◌}
 use Rattle.heap_model.specs.declared.record.Record.{Record}
 use Rattle.heap_model.specs.declared.record.Record.TheVariants.{Acq, Rel, WaitRel, Put}
 use Rattle.heap_model.specs.Setting.{Setting}
@@ -59,3 +59,11 @@ after_home p f = record p { is_dirty = λ g. if f == g then false else p.is_dirt
 -- the cut is acknowledged
 abbrev pub after_settle : Past → (ℕ → ℕ) → Past
 after_settle p cut = record p { cut = cut }
+
+-- what is acknowledged is trimmed: it is no longer needed
+abbrev pub after_trim : Past → Past
+after_trim p = record p { base = p.cut }
+
+-- all that is acknowledged was trimmed
+abbrev pub IsTrimmed : Past → Type 0
+IsTrimmed p = (l : ℕ) → p.base l ≡ p.cut l

@@ -1,5 +1,6 @@
-use Rattle.std.proofs.Common.{refl}
+use Rattle.std.proofs.Common.{◌+◌, refl}
 use Rattle.image.specs.Control.{control_of}
+use Rattle.store_image.proofs.Rewriting.{committed_same}
 use Rattle.store_image.proofs.commit.commit.Goals as goal
 
 pub returns-in-Ok-clause-any_moment : goal.returns-in-Ok-clause-any_moment
@@ -7,3 +8,8 @@ returns-in-Ok-clause-any_moment g c = c.commit_control.ensures.any_moment (contr
 
 pub returns-in-Err-clause-any_moment : goal.returns-in-Err-clause-any_moment
 returns-in-Err-clause-any_moment g c = c.commit_control.ensures.any_moment (control_of c.args.committed.now.sequence c.args.committed.now.rows) c.requires.steady refl
+
+pub returns-in-Ok-clause-same : goal.returns-in-Ok-clause-same
+returns-in-Ok-clause-same g c =
+    committed_same c.args.layout.now c.args.committed.now.slot (g.D.Disk.device c.args.disk.now) (g.D.Disk.device c.commit_control.new.disk)
+    (control_of c.args.committed.now.sequence c.args.committed.now.rows) (control_of (c.args.committed.now.sequence + 1) c.args.rows.now) c.requires.steady c.in-Ok.ensures.ok c.in-Ok.ensures.calls

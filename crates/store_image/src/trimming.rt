@@ -1,0 +1,86 @@
+//! What is acknowledged is no longer needed of the undo logs.
+ghost use Rattle.std.specs.Prelude.{◌≡◌, ◌⊎◌, ◌↔◌, ◌-◌, ◌<◌, ◌≤◌, ◌^◌, ℕ, IfErr, IsErrOf, IsTrue, OnErr, OnOk, length};
+ghost use Rattle.block_disk.specs.Device.{Device, HasCause};
+ghost use Rattle.block_disk.specs.Images.{Always, LeavesOnly};
+ghost use Rattle.heap_model.specs.Setting.{Setting};
+ghost use Rattle.image.specs.declared.layout.Layout.{Layout as Shape};
+ghost use Rattle.undo_log.specs.StandsFor.{row_of};
+ghost use Rattle.store_image.specs.Consistent.{IsConsistent, ShowsEither};
+ghost use Rattle.store_image.specs.KeptHeap.{StandsForCut};
+ghost use Rattle.store_past.specs.Past.{Past, IsTrimmed, after_trim};
+ghost use Rattle.store_past.specs.declared.error.StoreError.TheVariants.{Fault, Worn};
+
+use crate::commit::commit;
+use crate::committed::Committed;
+use block_disk::Disk;
+use image::{LaneRow, Layout};
+use store_past::StoreError;
+
+/// Whether all that is acknowledged was trimmed: then a trim has nothing to move.
+pub fn is_trimmed(committed: &Committed) -> bool
+    ensures { (l : Shape) (s : Setting) (p : Past) (d : Device) → IsConsistent l s p committed.now d → (IsTrue result ↔ IsTrimmed p) }
+{
+    start_settled(&committed.rows)
+}
+
+// Whether each lane starts behind its settled records.
+fn start_settled(rows: &[LaneRow; 32]) -> bool
+    ensures { IsTrue result ↔ ((lane : ℕ) → lane < 32 → (row_of rows.now lane).start ≡ (row_of rows.now lane).settled) }
+{
+    for lane in 0..32 {
+        if rows[lane].start != rows[lane].settled {
+            return false;
+        }
+    }
+    true
+}
+
+/// Moves each lane's start behind its settled records, by one commit: then the places of these are free. Until the control
+/// that says so is durable, the one that counts wants them.
+///
+/// Refusals, in this order:
+/// - `Worn`: the control's sequence is at its last value, 2^64 - 1. The device isn't called;
+/// - `Fault`: a call failed. A crash may leave either control, and the heap of the same cut.
+pub fn trim<D: Disk>(
+    disk: &mut D,
+    layout: &Layout,
+    committed: &mut Committed,
+) -> Result<(), StoreError>
+    requires trims { (s : Setting) × (p : Past) × IsConsistent layout.now s p committed.old (D.device disk.old) }
+    ensures ok { (s : Setting) (p : Past) → IsConsistent layout.now s p committed.old (D.device disk.old)
+        → OnOk result (IsConsistent layout.now s (after_trim p) committed.new (D.device disk.new)) }
+    ensures worn { IsErrOf result Worn ↔ (committed.old.sequence ≡ 2 ^ 64 - 1) }
+    ensures no_call { IsErrOf result Worn → disk.new ≡ disk.old }
+    ensures no_other { IfErr result (λ e. (e ≡ Worn) ⊎ (e ≡ Fault)) }
+    ensures err { OnErr result (committed.new ≡ committed.old) }
+    ensures any_moment { (s : Setting) (p : Past) → IsConsistent layout.now s p committed.old (D.device disk.old)
+        → LeavesOnly (D.device disk.old) (D.device disk.new) (StandsForCut layout.now s p.logged p.cut) }
+    ensures shown { (s : Setting) (p : Past) → IsConsistent layout.now s p committed.old (D.device disk.old)
+        → LeavesOnly (D.device disk.old) (D.device disk.new) (ShowsEither layout.now s p (after_trim p)) }
+    ensures crash { (s : Setting) (p : Past) → IsConsistent layout.now s p committed.old (D.device disk.old)
+        → Always (D.device disk.new) (StandsForCut layout.now s p.logged p.cut) }
+    ensures cause { HasCause (D.device disk.old).failures (D.device disk.new).failures Fault result }
+{
+    if committed.sequence == u64::MAX {
+        return Err(StoreError::Worn);
+    }
+    let rows = trimmed_rows(layout.lanes, &committed.rows);
+    commit(disk, layout, committed, &rows)
+}
+
+// The rows with each lane's start behind its settled records.
+fn trimmed_rows(lanes: u8, rows: &[LaneRow; 32]) -> [LaneRow; 32]
+    requires { lanes ≤ 32 }
+    ensures lanes { (lane : ℕ) → lane < lanes → row_of result lane ≡ record (row_of rows.now lane) { start = (row_of rows.now lane).settled } }
+    ensures rest { (lane : ℕ) → lanes ≤ lane → row_of result lane ≡ row_of rows.now lane }
+    ensures size { length result ≡ length rows.now }
+{
+    let mut next = *rows;
+    for lane in 0..usize::from(lanes) {
+        next[lane] = LaneRow {
+            start: rows[lane].settled,
+            ..rows[lane]
+        };
+    }
+    next
+}

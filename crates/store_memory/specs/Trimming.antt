@@ -1,0 +1,24 @@
+-- What may be forgotten: what is no longer needed of the lanes' records and of their sections (this project's own).
+use Rattle.std.specs.Prelude.{ℕ, ◌<◌, ◌≤◌, List, length, slice_index}
+use Rattle.heap_model.specs.declared.record.Record.{Record}
+use Rattle.heap_model.specs.Setting.{Setting}
+use Rattle.heap_model.specs.Log.{lane}
+use Rattle.heap_model.specs.Sections.{actions}
+use Rattle.heap_model.specs.Cuts.{IsWhole, IsClosed}
+use Rattle.store_past.specs.Past.{Past}
+use Rattle.store_memory.specs.Memory.{Memory, lane_in}
+use Rattle.store_memory.specs.Remembers.{Remembers}
+use Rattle.store_memory.specs.Sections.{Logged, TellsSections}
+
+-- The lanes may start at these places: no start falls, and what lies before was logged.
+pub record MayStart (s : Setting) (m : Memory) (p : Past) (places : List ℕ) : Type 0 where
+  pub remembers : Remembers s m p
+  pub rises : (l : ℕ) → l < length m.lanes → (lane_in m.lanes l).start ≤ slice_index places l
+  pub logged : (l : ℕ) → l < length m.lanes → slice_index places l ≤ length (lane l p.logged)
+
+-- The sections of this cut may be forgotten: they are whole, need no others, and have those that were forgotten before.
+pub record MayForget (m : Logged) (base : ℕ → ℕ) (log : List (ℕ × Record)) (cut : ℕ → ℕ) : Type 0 where
+  pub tells : TellsSections m base log
+  pub within : (l : ℕ) → base l ≤ cut l
+  pub whole : IsWhole (actions log) cut
+  pub closed : IsClosed (actions log) cut
