@@ -2,6 +2,7 @@
 pub mod Logs
 pub mod Sessions
 pub mod Calls
+pub mod TwoStores
 pub mod Past
 pub mod Opened
 -- The scaffold: what a session keeps beside its seat's view, and what the parts of a call answer.

@@ -1,0 +1,13 @@
+//! An object pool: numbered slots, of which some are taken and the others stand in a free list, kept in guarded fields.
+//!
+//! [`Pool::lay_out`] declares the fields. [`Pool::take`] and [`Pool::give`] work over any [`Cells`] that hold them, whose
+//! `store_two` does both stores or neither: so whatever ends a section, each slot is taken or stands in the list once.
+#![tactic(auto)]
+
+mod cells;
+mod error;
+mod pool;
+
+pub use cells::Cells;
+pub use error::PoolError;
+pub use pool::{MOST_SLOTS, Pool, TAKEN};

@@ -1,0 +1,37 @@
+-- What one call keeps and then another, both keep.
+use Rattle.std.specs.Prelude.{List, [], ◌∷◌, ◌++◌}
+use Rattle.std.proofs.Common.{sym, ap, ◌∙◌, append_assoc, arith}
+use Rattle.heap_model.specs.declared.event.Event.{Event}
+use Rattle.heap_model.specs.declared.event.Event.TheVariants.{Load, Store}
+use Rattle.steps.specs.Views.{View}
+use Rattle.session.specs.Sessions.{view_of}
+use Rattle.pool_in_section.specs.declared.in_section.InSection.{InSection}
+use Rattle.pool_in_section.specs.Knowing.{session_of, Keeps, AreOfFields, TellsOfFields}
+
+both_of_fields : (a b : List Event) → AreOfFields b → AreOfFields a → AreOfFields (b ++ a)
+both_of_fields a [] y x = x
+both_of_fields a (Load f v ∷ b) y x = both_of_fields a b y x
+both_of_fields a (Store f before after ∷ b) y x = both_of_fields a b y x
+both_of_fields a (_ ∷ b) y x = absurd y
+
+tells_both : (v w x : View) → TellsOfFields v w → TellsOfFields w x → TellsOfFields v x
+tells_both v w x a b = let f = a.2 in let s = b.2 in (
+  b.0 ++ a.0,
+  both_of_fields a.0 b.0 b.1 a.1,
+  record {
+    events = s.events ∙ ap (λ (es : List Event). b.0 ++ es) f.events ∙ sym (append_assoc b.0 a.0 v.events);
+    plan = s.plan ∙ f.plan;
+    lane = s.lane ∙ f.lane;
+    slots = (let p = f.slots in let q = s.slots in omega arith);
+    stable = (let p = f.stable in let q = s.stable in omega arith);
+    trimmed = (let p = f.trimmed in let q = s.trimmed in omega arith);
+    fats = λ o i e. s.fats o i (f.fats o i e);
+  },
+)
+
+pub keeps_on : (a b c : InSection) → Keeps a b → Keeps b c → Keeps a c
+keeps_on a b c x y = let r = x.ring in let s = y.ring in record {
+  home = y.home ∙ x.home;
+  ring = (((s.0.0.0 ∙ r.0.0.0, s.0.0.1 ∙ r.0.0.1, s.0.0.2 ∙ r.0.0.2, s.0.0.3 ∙ r.0.0.3), s.0.1 ∙ r.0.1), s.1 ∙ r.1);
+  told = tells_both (view_of (session_of a)) (view_of (session_of b)) (view_of (session_of c)) x.told y.told;
+}

@@ -1,0 +1,59 @@
+//! A store to two fields.
+
+use crate::error::SessionError;
+use crate::session::Session;
+use heap_model::{FieldId, SECTION_RECORDS};
+use monitor::Shared;
+
+impl Session {
+    ghost use Rattle.std.specs.Prelude.{◌≡◌, ◌<◌, ◌≤◌, ◌⊎◌, None, Err};
+    ghost use Rattle.session.specs.declared.error.SessionError.TheVariants as error;
+    ghost use Rattle.steps.specs.Views.{plan, IsHeld, hold};
+    ghost use Rattle.session.specs.Calls.{IsQuiet};
+    ghost use Rattle.session.specs.TwoStores.{StoresTwo};
+    ghost use Rattle.session.specs.Sessions.{SameRing, IsSessionOf, view_of};
+
+    /// Stores `one` in the first field and then `two` in the second, and sends both records; or, refused, does neither. One
+    /// field named twice takes `two`. Two swaps.
+    ///
+    /// Refused, in this order: [`UnknownField`](SessionError::UnknownField), for either; [`NotHeld`](SessionError::NotHeld)
+    /// where the session doesn't hold the monitor of either field's guard; [`SectionFull`](SessionError::SectionFull), where
+    /// both records don't fit.
+    pub fn store_two(
+        &mut self,
+        shared: &Shared,
+        first: FieldId,
+        one: u64,
+        second: FieldId,
+        two: u64,
+    ) -> Result<(), SessionError>
+        requires seat { IsSessionOf shared.now self.old }
+        ensures seat { IsSessionOf shared.now self.new }
+        ensures ring { SameRing self.old self.new }
+        ensures unknown { ((plan shared.now).fields ≤ first.0) ⊎ ((plan shared.now).fields ≤ second.0)
+            → (result ≡ Err error.UnknownField) × IsQuiet (view_of self.old) (view_of self.new) }
+        ensures not_held { first.0 < (plan shared.now).fields → second.0 < (plan shared.now).fields
+            → (hold (view_of self.old) ((plan shared.now).guard first.0) ≡ None) ⊎ (hold (view_of self.old) ((plan shared.now).guard second.0) ≡ None)
+            → (result ≡ Err error.NotHeld) × IsQuiet (view_of self.old) (view_of self.new) }
+        ensures held { first.0 < (plan shared.now).fields → second.0 < (plan shared.now).fields
+            → IsHeld (view_of self.old) ((plan shared.now).guard first.0) → IsHeld (view_of self.old) ((plan shared.now).guard second.0)
+            → StoresTwo (view_of self.old) (view_of self.new) first one second two result }
+    {
+        let fields = steps::fields(shared);
+        if u64::from(first.0) >= fields || u64::from(second.0) >= fields {
+            return Err(SessionError::UnknownField);
+        }
+        let Some(_grip) = self.grip_on(steps::guard(shared, first)) else {
+            return Err(SessionError::NotHeld);
+        };
+        let Some(_other) = self.grip_on(steps::guard(shared, second)) else {
+            return Err(SessionError::NotHeld);
+        };
+        if self.records + self.held.len() as u64 + 2 > SECTION_RECORDS {
+            return Err(SessionError::SectionFull);
+        }
+        self.write(shared, first, one);
+        self.write(shared, second, two);
+        Ok(())
+    }
+}
