@@ -1,7 +1,7 @@
 //! Laws of what a store leaves, each the contract of a function that does nothing.
 ghost use Rattle.survival.specs.Accepted.{AcceptedLaw, FoundHeapLaw, FoundLaw, LeftLaw};
 ghost use Rattle.survival.specs.Unsettled.{UnsettledLaw};
-ghost use Rattle.survival.specs.Again.{KeptAcceptedLaw, KeptAgainLaw, KeptHeapLaw, KeptOnLaw, KeptReportLaw};
+ghost use Rattle.survival.specs.Again.{HasStudyLaw, KeptAcceptedLaw, KeptAgainLaw, KeptHeapLaw, KeptOnLaw, KeptReportLaw};
 
 use recover::{one_study_law, studied_law};
 
@@ -20,6 +20,12 @@ pub fn found_law()
 /// Calls with no settling leave nothing but what was acknowledged before the first of them: neither less nor more.
 pub fn unsettled_law()
     ensures { UnsettledLaw }
+{}
+
+/// Each image that a store leaves, or a recovery on the way, has a study. So whatever is said of a study of such an image is said
+/// of one that is there.
+pub fn has_study_law()
+    ensures { HasStudyLaw }
 {}
 
 /// Recovery that a crash cuts off, or that answers a fault, may be run again, any number of times: each time it takes the
