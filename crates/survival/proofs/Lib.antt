@@ -12,3 +12,4 @@ pub mod Studies
 pub mod WholeRuns
 pub mod Unsettled
 pub mod RunAgain
+pub mod Histories
