@@ -42,14 +42,15 @@ use Rattle.store_image.proofs.Stands.{empty, none_logged, stands, shows_always}
 use Rattle.survival.specs.Accepted.{IsLeftBy, FindsPast}
 use Rattle.recover.specs.Logs.{AreLogs, IsBadAt, lanes_of}
 use Rattle.recover.specs.Reading.{HasLayout, HasControl, RefusesRows, RefusesImage, Holds}
-use Rattle.live_logs.specs.Replay.{IsStuckAt}
-use Rattle.recover.specs.Settled.{first_of, settled_records, IsAtRest, TakesUnsettled, IsIllegalAt, Stuck, Restless, Crossing}
+use Rattle.live_logs.specs.Replay.{IsStuckAt, Replays}
+use Rattle.recover.specs.Settled.{first_of, settled_records, AreLegal, IsAtRest, TakesUnsettled, IsIllegalAt, Stuck, Restless, Crossing}
 use Rattle.recover.specs.declared.error.RecoverError.{RecoverError}
 use Rattle.recover.specs.declared.error.RecoverError.TheVariants.{Fault, NotFormatted, BadHeader, TooSmall, NoControl, BadControl, Worn, BadRecord, IllegalLog, NoMemory}
 use Rattle.recover.specs.declared.logged_image.LoggedImage.{LoggedImage}
 use Rattle.survival.proofs.LaneParts.{contains_reverse, lane_map}
 use Rattle.survival.proofs.Blank.{blanks, undone, valueless, blank_legal, holder_blank}
 use Rattle.survival.proofs.Unstuck.{IsGuarded, unstuck}
+use Rattle.survival.proofs.Replays.{replay_there}
 use Rattle.survival.proofs.Rests.{first_none, at_some, rests, inside}
 
 -- what a legal log's lanes have since a whole closed base
@@ -84,6 +85,16 @@ module _ (s : Setting) (log : List (ℕ × Record)) (base : ℕ → ℕ) (legal 
       (λ m r h. guarded m r (subst (λ (xs : List UndoRecord). Contains xs r) (lane_map undo_of m since) h))
       (subst (λ (lanes : ℕ → List UndoRecord). IsStuckAt guard lanes l count) (sym logs_are) stuck)
 
+  -- and they have a replay, which does all of them
+  pub replays_since : (guard : ℕ → ℕ) (count : ℕ) → ((l : ℕ) (r : UndoRecord) → Contains (undo_logs since l) r → IsGuarded s guard r) → ((l : ℕ) (r : UndoRecord) → Contains (undo_logs since l) r → l < count) →
+      (done : List (ℕ × UndoRecord)) × Replays guard (undo_logs since) done
+  replays_since guard count guarded few =
+      let found = replay_there s (undone gone) (undone since) (subst (λ (xs : List (ℕ × UndoRecord)). IsLegal (valueless s) (blanks xs)) split_undone (blank_legal s (since ++ gone) both))
+      (λ o. holder_blank o gone ∙ nobody o (holder o gone) refl) guard
+      (λ m r h. guarded m r (subst (λ (xs : List UndoRecord). Contains xs r) (lane_map undo_of m since) h)) count
+      (λ m r h. few m r (subst (λ (xs : List UndoRecord). Contains xs r) (lane_map undo_of m since) h)) in
+      (found.0, subst (λ (lanes : ℕ → List UndoRecord). Replays guard lanes found.0) logs_are found.1)
+
 same_answer : (x y : Slot × Control) → (let a : Result (Slot × Control) ImageError = Ok x in a ≡ Ok y) → x ≡ y
 same_answer x y is = cc
 
@@ -110,13 +121,13 @@ none_there : (xs : List UndoRecord) (r : UndoRecord) → xs ≡ [] → Contains 
 none_there xs r is h = omega (arith, h.1, ap (λ (ys : List UndoRecord). length ys) is)
 
 module _ (l : Layout) (s : Setting) (p : Past) (image : List ℕ) (left : IsLeftBy l s p image) where
-  abbrev logs : ℕ → List UndoRecord
+  abbrev pub logs : ℕ → List UndoRecord
   logs = undo_logs (records_since p.base p.logged)
 
-  abbrev rows : List LaneRow
+  abbrev pub rows : List LaneRow
   rows = left.shows.control.rows
 
-  abbrev guards : List GuardRow
+  abbrev pub guards : List GuardRow
   guards = left.shows.parts.guards
 
   -- what was logged is a legal list
@@ -124,7 +135,7 @@ module _ (l : Layout) (s : Setting) (p : Past) (image : List ℕ) (left : IsLeft
   legal = legal_before s p.fresh p.logged left.past.legal
 
   -- the lanes' live records are the records since what was trimmed
-  live : HasLive l image rows logs
+  pub live : HasLive l image rows logs
   live = record {
     live = λ lane below.
         let start = sym (left.shows.tells.start lane below) in
@@ -180,6 +191,18 @@ module _ (l : Layout) (s : Setting) (p : Past) (image : List ℕ) (left : IsLeft
         | inl below ↦ settled_is m below
         | inr from ↦ absurd (omega (arith, at_some (logs m) j r has, ap (λ (xs : List UndoRecord). length xs) (live.others m from)))
       ]) lane i h
+
+  -- they have a replay
+  pub replayed : (done : List (ℕ × UndoRecord)) × Replays (guard_in guards) logs done
+  replayed = replays_since s p.logged p.base legal left.past.base_whole left.past.base_closed (guard_in guards) l.lanes (λ m r h. guarded_one r (named m r h))
+      (λ m r h. elim (cases_lt m l.lanes) [
+        | inl below ↦ below
+        | inr from ↦ absurd (none_there (logs m) r (live.others m from) h)
+      ])
+
+  -- and are such as no test refuses
+  pub legal_there : AreLegal (guard_in guards) rows logs
+  legal_there = record { logs = record { done = replayed.0; replays = replayed.1; rest = rest }; inside = not_crossed }
 
   -- no test of the logs refuses them
   legal_logs : (lane place : ℕ) → IsIllegalAt (guard_in guards) rows logs lane place → ⊥

@@ -1,8 +1,15 @@
 pub mod LaneParts
 pub mod Blank
 pub mod Unstuck
+pub mod Choices
+pub mod Replays
 pub mod Rests
 pub mod Accepts
+pub mod Reasons
+pub mod Vecs
+pub mod Reports
+pub mod Studies
 pub mod WholeRuns
 pub mod Unsettled
 pub mod RunAgain
+pub mod Histories

@@ -59,7 +59,7 @@ pub record Earliest (all done : List (ℕ × UndoRecord)) : Type 0 where
   pub next : UndoRecord
   pub earliest : IsEarliest all done lane_of next
 
-earliest : (all done : List (ℕ × UndoRecord)) → ((l : ℕ) → length (lane l all) ≤ length (lane l done)) ⊎ Earliest all done
+pub earliest : (all done : List (ℕ × UndoRecord)) → ((l : ℕ) → length (lane l all) ≤ length (lane l done)) ⊎ Earliest all done
 earliest [] done = inl (λ l. omega arith)
 earliest ((m, r) ∷ older) done = elim (earliest older done) [
   | inr e ↦ inr (record {
@@ -209,8 +209,32 @@ module _ (s : Setting) (gone all : List (ℕ × UndoRecord)) (legal : IsLegal (v
       ] in
       omega (arith, above, below)
 
+  -- such numbers are there: those that the objects had
+  least_had : (m n : ℕ) (o : ObjectId) → Contains (lanes m) (undo.Acq o n) → number o.0 (blanks gone) ≤ n
+  least_had m n o h =
+      let b = stands m (undo.Acq o n) h in
+      let took : IsLegal (valueless s) (after ((m, undo.Acq o n) ∷ b.1)) = legal_here b.0 ((m, undo.Acq o n) ∷ b.1) b.2 in
+      omega (arith, took.1.1, number_grown o.0 b.1 took.0)
+
+  taken_had : (m n : ℕ) (o : ObjectId) → Contains (lanes m) (undo.Acq o n) → (l : ℕ) × Contains (lanes l) (undo.Acq o (number o.0 (blanks gone)))
+  taken_had m n o h =
+      let b = stands m (undo.Acq o n) h in
+      let took : IsLegal (valueless s) (after ((m, undo.Acq o n) ∷ b.1)) = legal_here b.0 ((m, undo.Acq o n) ∷ b.1) b.2 in
+      elim (untouched o b.1 took.0) [
+        | inl u ↦
+            let at : n ≡ number o.0 (blanks gone) = sym took.1.1 ∙ u.1 in
+            (m, subst (λ (k : ℕ). Contains (lanes m) (undo.Acq o k)) at h)
+        | inr t ↦
+            let more : Contains (lane t.0 (b.0 ++ (m, undo.Acq o n) ∷ b.1)) (undo.Acq o (number o.0 (blanks gone))) =
+            contains_more t.0 b.0 ((m, undo.Acq o n) ∷ b.1) (undo.Acq o (number o.0 (blanks gone))) (contains_older t.0 m (undo.Acq o n) b.1 (undo.Acq o (number o.0 (blanks gone))) t.1) in
+            (t.0, subst (λ (xs : List (ℕ × UndoRecord)). Contains (lane t.0 xs) (undo.Acq o (number o.0 (blanks gone)))) (sym b.2) more)
+      ]
+
+  pub begins_had : BeginsAt lanes (λ o. number o (blanks gone))
+  begins_had = record { least = least_had; taken = taken_had }
+
   -- the lane's next record is one of its records
-  of_lane : (done : List (ℕ × UndoRecord)) (m : ℕ) (r : UndoRecord) → IsNext lanes done m r → Contains (lanes m) r
+  pub of_lane : (done : List (ℕ × UndoRecord)) (m : ℕ) (r : UndoRecord) → IsNext lanes done m r → Contains (lanes m) r
   of_lane done m r next = subst (λ (xs : List UndoRecord). Contains xs r) (sym next.1) (there next.0 (lane m done) r)
 
   module _ (guard first : ℕ → ℕ) (begins : BeginsAt lanes first) (guarded : (l : ℕ) (r : UndoRecord) → Contains (lanes l) r → IsGuarded s guard r) where
@@ -232,7 +256,7 @@ module _ (s : Setting) (gone all : List (ℕ × UndoRecord)) (legal : IsLegal (v
     begun_held o k ((m, undo.Put f v) ∷ older) greedy h = begun_held o k older greedy.0 h
 
     -- what was done is a part of each lane
-    part : (done : List (ℕ × UndoRecord)) → IsGreedy guard first lanes done → (l : ℕ) → (more : List UndoRecord) × (lane l all ≡ more ++ lane l done)
+    pub part : (done : List (ℕ × UndoRecord)) → IsGreedy guard first lanes done → (l : ℕ) → (more : List UndoRecord) × (lane l all ≡ more ++ lane l done)
     part [] greedy l = (lane l all, sym (append-nil (lane l all)))
     part ((m, r) ∷ older) greedy l = elim (eqb_tells m l) [
       | inl e ↦ (
@@ -283,7 +307,7 @@ module _ (s : Setting) (gone all : List (ℕ × UndoRecord)) (legal : IsLegal (v
         some_of (replay.holder (guard f.0) done) m (ap (λ (k : ℕ). lane_number (replay.holder k done)) (guarded m (undo.Put f v) (of_lane done m (undo.Put f v) next)) ∙ sym (holder_done (s.guard f.0) done) ∙ h.0)
 
     -- the earliest record that is left can go on
-    goes_on : (done : List (ℕ × UndoRecord)) (m : ℕ) (r : UndoRecord) → IsGreedy guard first lanes done → IsEarliest all done m r → GoesOn guard first lanes done m r
+    pub goes_on : (done : List (ℕ × UndoRecord)) (m : ℕ) (r : UndoRecord) → IsGreedy guard first lanes done → IsEarliest all done m r → GoesOn guard first lanes done m r
     goes_on done m r greedy e =
         let p = part done greedy in
         let split : (l : ℕ) → lane l all ≡ lane l (e.newer ++ (m, r) ∷ []) ++ lane l e.older =

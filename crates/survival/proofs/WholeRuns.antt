@@ -26,7 +26,7 @@ use Rattle.durable.proofs.Pasts.{past_apply, past_home, past_log}
 use Rattle.heap_model.proofs.Stays.{cut_stays}
 use Rattle.durable.proofs.Showing.{undone_beyond, of_lanes_before, past_settle, logged_heap}
 use Rattle.survival.specs.Accepted.{IsLeftBy}
-use Rattle.survival.specs.Again.{AreCutOff, Attempt, IsKept, ByStore, KeptAcceptedLaw, KeptHeapLaw, KeptOnLaw, KeptReportLaw, SurvivesAgain}
+use Rattle.survival.specs.Again.{AreCutOff, Attempt, HasStudyLaw, IsKept, ByStore, KeptAcceptedLaw, KeptHeapLaw, KeptOnLaw, KeptReportLaw, SurvivesAgain}
 use Rattle.recover.specs.Recovery.{IsRecovery, RefusesRecovery}
 use Rattle.recover.specs.Reading.{RefusesImage}
 use Rattle.recover.specs.Study.{IsStudyOf, held_by}
@@ -268,3 +268,11 @@ survives_again x s p calls old new device there image attempts has heaps reports
     let by = left_by x.layout s some.then some.doubt image some.is some.of_lanes some.shows in
     let kept = on x.layout s by.past attempts image there.now.bytes (ByStore by.is) tries in
     cannot there.now.bytes (λ e refuses. takes x.layout s by.past there.now.bytes e kept refuses) back.1 refused
+
+-- each image on the way has a study
+pub studied_again : (x : Known) (s : Setting) (p : Past) (calls : List StoreCall) (old new : Device) (image last : List ℕ) (attempts : List Attempt) → HasPast x s p old →
+    HasStudyLaw → KeptOnLaw → LeavesOnly old new (ShowsAfterSome x.layout s p calls) → MayBeLeft old new image → AreCutOff attempts image last → (study : Study) × IsStudyOf last study
+studied_again x s p calls old new image last attempts has studied on leaves left tries =
+    let some = shows_some x s p calls old new image has leaves left in
+    let by = left_by x.layout s some.then some.doubt image some.is some.of_lanes some.shows in
+    studied x.layout s by.past last (on x.layout s by.past attempts image last (ByStore by.is) tries)

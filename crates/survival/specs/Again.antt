@@ -34,6 +34,10 @@ pub data IsKept (l : Layout) (s : Setting) (p : Past) (image : List ℕ) : Type 
   ByStore : IsLeftBy l s p image → IsKept l s p image
   ByRecovery : (study : Study) → IsStudyOf image study → study.heap.items ≡ kept_heap l s p.logged p.cut → ReportsKept l p study.report → IsKept l s p image
 
+-- Such an image has a study, so that nothing of what is said of its study is said of none.
+abbrev pub HasStudyLaw : Type 0
+HasStudyLaw = (l : Layout) (s : Setting) (p : Past) (image : List ℕ) → IsKept l s p image → (study : Study) × IsStudyOf image study
+
 -- Recovery of such an image finds the kept heap.
 abbrev pub KeptHeapLaw : Type 0
 KeptHeapLaw = (l : Layout) (s : Setting) (p : Past) (image : List ℕ) (study : Study) → IsKept l s p image → IsStudyOf image study → study.heap.items ≡ kept_heap l s p.logged p.cut

@@ -3,3 +3,4 @@ pub mod Accepted
 pub mod WholeRun
 pub mod Unsettled
 pub mod Again
+pub mod History

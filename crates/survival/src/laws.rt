@@ -1,8 +1,10 @@
 //! Laws of what a store leaves, each the contract of a function that does nothing.
 ghost use Rattle.survival.specs.Accepted.{AcceptedLaw, FoundHeapLaw, FoundLaw, LeftLaw};
+ghost use Rattle.survival.specs.History.{HistoryLaw};
 ghost use Rattle.survival.specs.Unsettled.{UnsettledLaw};
-ghost use Rattle.survival.specs.Again.{KeptAcceptedLaw, KeptAgainLaw, KeptHeapLaw, KeptOnLaw, KeptReportLaw};
+ghost use Rattle.survival.specs.Again.{HasStudyLaw, KeptAcceptedLaw, KeptAgainLaw, KeptHeapLaw, KeptOnLaw, KeptReportLaw};
 
+use heap_model::{log_law, order_law};
 use recover::{one_study_law, studied_law};
 
 /// No image that a store leaves is refused, whatever a crash left of its device. Only the device can fail, and memory be wanting.
@@ -20,6 +22,22 @@ pub fn found_law()
 /// Calls with no settling leave nothing but what was acknowledged before the first of them: neither less nor more.
 pub fn unsettled_law()
     ensures { UnsettledLaw }
+{}
+
+/// What survives is of the threads' history: where the calls apply what a legal history logs, each thread's records in their
+/// order and the threads among one another in any that the store allows, the sections that were kept are whole ones of the
+/// history, each with all that it depends on there, and the heap is that of their stores in the history's order.
+pub fn history_law()
+    ensures { HistoryLaw }
+{
+    log_law();
+    order_law();
+}
+
+/// Each image that a store leaves, or a recovery on the way, has a study. So whatever is said of a study of such an image is said
+/// of one that is there.
+pub fn has_study_law()
+    ensures { HasStudyLaw }
 {}
 
 /// Recovery that a crash cuts off, or that answers a fault, may be run again, any number of times: each time it takes the

@@ -15,7 +15,7 @@ ghost use Rattle.survival.specs.WholeRun.{CannotRecover, MayBeLeft, Survives};
 ghost use Rattle.recover.specs.declared.error.RecoverError.TheVariants.{Fault};
 ghost use Rattle.recover.specs.declared.studied.Study.{Study as Shape};
 
-use crate::laws::again_law;
+use crate::laws::{again_law, has_study_law};
 use block_disk::Disk;
 use durable::{Store, StoreCall, StoreError};
 use image::Recovered;
@@ -43,7 +43,8 @@ pub struct WholeRun<E: Disk> {
 ///
 /// **Again and again.** The same holds where recovery was tried before, any number of times, and each time a crash cut it off or
 /// the device failed: the heap is that of the first try. So is the report, until the last commit of a try shows: then
-/// nothing is left to keep or to drop. However a try ends, it counts as one that was cut off, and another may follow.
+/// nothing is left to keep or to drop. However a try ends, it counts as one that was cut off, and another may follow. Each
+/// image on this way has a study, so what is said below of a study of it is said of one that is there.
 ///
 /// The device `left` stands for the machine after the crash: it may be any that holds such bytes. It is refused only where
 /// a call of it fails, memory is wanting, or the control's sequence is at its last value. What a refusal of either leaves is
@@ -64,6 +65,9 @@ pub fn play_and_recover<D: Disk, E: Disk>(
     ensures again { (s : Setting) (p : Past) → HasPast store.old.known s p (D.device store.old.disk)
         → (image : List ℕ) (attempts : List Attempt) → MayBeLeft (D.device store.old.disk) (D.device store.new.disk) image → AreCutOff attempts image (E.device left).now.bytes
         → MatchResult result.recovered (λ r. SurvivesAgain store.old.known s p calls.now r.0.heap r.1) (λ back. CannotRecover (E.device left).now.bytes back.1) }
+    ensures studied { (s : Setting) (p : Past) → HasPast store.old.known s p (D.device store.old.disk)
+        → (image : List ℕ) (attempts : List Attempt) → MayBeLeft (D.device store.old.disk) (D.device store.new.disk) image → AreCutOff attempts image (E.device left).now.bytes
+        → (study : Shape) × IsStudyOf (E.device left).now.bytes study }
     ensures played { (s : Setting) (p : Past) → HasPast store.old.known s p (D.device store.old.disk)
         → OnOk result.played ((q : Past) × MakeAll s p calls.now q × HasPast store.new.known s q (D.device store.new.disk)) }
     ensures stopped { (s : Setting) (p : Past) → HasPast store.old.known s p (D.device store.old.disk)
@@ -79,6 +83,7 @@ pub fn play_and_recover<D: Disk, E: Disk>(
     ensures cause { IfErr result.recovered (λ back. back.1 ≡ Fault → HasFailed (E.device left).failures (E.device back.0).failures) }
 {
     again_law();
+    has_study_law();
     WholeRun {
         played: store.play(calls),
         recovered: recover(alloc, left),

@@ -1,5 +1,5 @@
 use Rattle.survival.proofs.RunAgain.{always_cut_off}
-use Rattle.survival.proofs.WholeRuns.{survives, survives_again, survives_since}
+use Rattle.survival.proofs.WholeRuns.{studied_again, survives, survives_again, survives_since}
 use Rattle.survival.proofs.whole_run.play_and_recover.Goals as goal
 
 pub returns-clause-survives : goal.returns-clause-survives
@@ -19,6 +19,11 @@ pub returns-clause-again : goal.returns-clause-again
 returns-clause-again g c = λ s p has image attempts left tries.
     survives_again c.args.store.now.known s p c.args.calls.now (g.D.Disk.device c.args.store.now.disk) (g.D.Disk.device c.play.new.self.disk) g.E.Disk.device (g.E.Disk.device c.args.left) image attempts has
     c.again_law.ensures.heap c.again_law.ensures.report c.again_law.ensures.accepted c.again_law.ensures.on (c.play.ensures.shown s p has) left tries c.recover.result c.recover.ensures.ok c.recover.ensures.refused
+
+pub returns-clause-studied : goal.returns-clause-studied
+returns-clause-studied g c = λ s p has image attempts left tries.
+    studied_again c.args.store.now.known s p c.args.calls.now (g.D.Disk.device c.args.store.now.disk) (g.D.Disk.device c.play.new.self.disk) image (g.E.Disk.device c.args.left).now.bytes attempts has
+    c.has_study_law.ensures c.again_law.ensures.on (c.play.ensures.shown s p has) left tries
 
 pub returns-clause-cut_off : goal.returns-clause-cut_off
 returns-clause-cut_off g c = always_cut_off g.E.Disk.device (g.E.Disk.device c.args.left) c.recover.result c.recover.ensures.ok c.recover.ensures.any_moment c.recover.ensures.cut_off
