@@ -86,7 +86,7 @@ begun s t w o h g c f same may told = (
 
 -- the same ring twice
 pub ring_again : (s t u : Session) → SameRing s t → SameRing t u → SameRing s u
-ring_again s t u p q = (((q.0.0.0 ∙ p.0.0.0, q.0.0.1 ∙ p.0.0.1, q.0.0.2 ∙ p.0.0.2, q.0.0.3 ∙ p.0.0.3), q.0.1 ∙ p.0.1), q.1 ∙ p.1)
+ring_again s t u p q = (((q.0.0.0 ∙ p.0.0.0, q.0.0.1 ∙ p.0.0.1, q.0.0.2 ∙ p.0.0.2, q.0.0.3 ∙ p.0.0.3), q.0.1 ∙ p.0.1), q.1 ∙ p.1, q.2 ∙ p.2)
 
 pub still_again : (s t u : Waiting) → SameRingStill s t → SameRingStill t u → SameRingStill s u
-still_again s t u p q = (((q.0.0.0 ∙ p.0.0.0, q.0.0.1 ∙ p.0.0.1, q.0.0.2 ∙ p.0.0.2, q.0.0.3 ∙ p.0.0.3), q.0.1 ∙ p.0.1), q.1 ∙ p.1)
+still_again s t u p q = (((q.0.0.0 ∙ p.0.0.0, q.0.0.1 ∙ p.0.0.1, q.0.0.2 ∙ p.0.0.2, q.0.0.3 ∙ p.0.0.3), q.0.1 ∙ p.0.1), q.1 ∙ p.1, q.2 ∙ p.2)

@@ -57,18 +57,18 @@ IsSessionOf h s = IsSeatOf h s.seat
 abbrev pub IsWaitingOf : Home → Waiting → Type 0
 IsWaitingOf h w = IsSeatOf h w.seat
 
--- the same ring, and the same lane
+-- the same ring, the same capacity of the lane, and the same lane
 abbrev pub SameRing : Session → Session → Type 0
-SameRing s t = SameProducer s.ring t.ring × (t.capacity ≡ s.capacity)
+SameRing s t = SameProducer s.ring t.ring × (t.capacity ≡ s.capacity) × ((view_of t).lane ≡ (view_of s).lane)
 
 abbrev pub SameRingWaiting : Session → Waiting → Type 0
-SameRingWaiting s w = SameProducer s.ring w.ring × (w.capacity ≡ s.capacity)
+SameRingWaiting s w = SameProducer s.ring w.ring × (w.capacity ≡ s.capacity) × ((view_waiting w).lane ≡ (view_of s).lane)
 
 abbrev pub SameRingResumed : Waiting → Session → Type 0
-SameRingResumed w s = SameProducer w.ring s.ring × (s.capacity ≡ w.capacity)
+SameRingResumed w s = SameProducer w.ring s.ring × (s.capacity ≡ w.capacity) × ((view_of s).lane ≡ (view_waiting w).lane)
 
 abbrev pub SameRingStill : Waiting → Waiting → Type 0
-SameRingStill w x = SameProducer w.ring x.ring × (x.capacity ≡ w.capacity)
+SameRingStill w x = SameProducer w.ring x.ring × (x.capacity ≡ w.capacity) × ((view_waiting x).lane ≡ (view_waiting w).lane)
 
 -- the session has ended with its seat and its end of the ring as they were
 pub record Ends (s : Session) (e : Ended) : Type 0 where
