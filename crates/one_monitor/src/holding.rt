@@ -1,12 +1,13 @@
 //! Takes, nested locks, inflation and waits of a thread that holds one monitor at most.
 
-ghost use Rattle.std.specs.Prelude.{◌≡◌, ◌<◌, ◌≤◌, Some, true, IfOk, MatchResult, MatchBool};
-ghost use Rattle.steps.specs.Views.{view, plan, IsClear, IsRemoved, room_of};
+ghost use Rattle.std.specs.Prelude.{◌≡◌, ◌<◌, ◌≤◌, [], ◌∷◌, Some, None, true, IfOk, MatchResult, MatchBool};
+ghost use Rattle.heap_model.specs.declared.event.Event.TheVariants as event;
+ghost use Rattle.steps.specs.Views.{view, plan, Lengthens, Takes, IsClear, IsRemoved, room_of};
 ghost use Rattle.one_monitor.specs.Idle.{IsIdle};
 ghost use Rattle.one_monitor.specs.Held.{HasOne, IsWaiting};
 
 use heap_model::{FieldId, Lane, ObjectId};
-use lock_word::{FatShape, FatWord, Shape};
+use lock_word::{FAT_SLOTS, FatShape, FatWord, Shape};
 use monitor::{Seat, Shared};
 use steps::{Grip, Seen, Sighted};
 
@@ -57,6 +58,7 @@ pub fn try_enter(shared: &Shared, seat: &mut Seat, object: ObjectId) -> Result<G
     requires last { 0 < (plan shared.now).last }
     ensures taken { MatchResult result (λ g. HasOne shared.now seat.new g) (λ _. IsIdle shared.now seat.new) }
     ensures object { IfOk result (λ g. g.object ≡ object) }
+    ensures count { IfOk result (λ g. g.count ≡ 1) }
 {
     let Sighted { lock, fat } = steps::look(shared, seat, object);
     let shape = lock.shape();
@@ -103,6 +105,8 @@ pub fn nest_to(shared: &Shared, seat: &mut Seat, grip: Grip, count: u32) -> Grip
 pub fn fatten(shared: &Shared, seat: &mut Seat, grip: Grip) -> Grip
     requires one { HasOne shared.now seat.old grip }
     ensures one { HasOne shared.now seat.new result }
+    ensures kept { (result.object ≡ grip.object) × (result.count ≡ grip.count) × (result.number ≡ grip.number) }
+    ensures fat { result.slot ≡ None → FAT_SLOTS ≤ (view seat.new).slots }
 {
     if grip.slot.is_some() {
         return grip;
@@ -131,6 +135,7 @@ pub fn begin_wait(shared: &Shared, seat: &mut Seat, grip: Grip, slot: u32) -> Wa
     requires fat { grip.slot ≡ Some slot }
     ensures waits { IsWaiting shared.now seat.new result.object result.count result.slot }
     ensures clear { IsClear (view seat.new) }
+    ensures told { Lengthens (view seat.old) (view seat.new) (event.Wait grip.object grip.number ∷ []) }
 {
     steps::join_wait(shared, seat, grip);
     Waiter {
@@ -162,6 +167,7 @@ pub fn try_return(
     requires number { number < (plan shared.now).last }
     ensures back { MatchResult result (λ g. HasOne shared.now seat.new g) (λ _. IsWaiting shared.now seat.new waiter.object waiter.count waiter.slot) }
     ensures removed { MatchResult result (λ _. IsClear (view seat.new)) (λ _. IsRemoved (view seat.new) waiter.object) }
+    ensures told { IfOk result (λ g. Takes (view seat.old) (view seat.new) (event.Resume waiter.object number) waiter.object waiter.count number g) }
 {
     match steps::try_retake(
         shared,
@@ -180,6 +186,7 @@ pub fn try_return(
 pub fn wake(shared: &Shared, seat: &mut Seat, grip: Grip) -> Option<Lane>
     requires one { HasOne shared.now seat.old grip }
     ensures one { HasOne shared.now seat.new grip }
+    ensures told { Lengthens (view seat.old) (view seat.new) (event.Notify grip.object result ∷ []) }
 {
     steps::notify_one(shared, seat, grip)
 }
@@ -198,6 +205,7 @@ pub fn read(shared: &Shared, seat: &mut Seat, grip: Grip, field: FieldId) -> u64
     requires field { field.0 < (plan shared.now).fields }
     requires guard { (plan shared.now).guard field.0 ≡ grip.object.0 }
     ensures one { HasOne shared.now seat.new grip }
+    ensures told { Lengthens (view seat.old) (view seat.new) (event.Load field result ∷ []) }
 {
     steps::read_field(shared, seat, field)
 }
@@ -208,6 +216,7 @@ pub fn write(shared: &Shared, seat: &mut Seat, grip: Grip, field: FieldId, value
     requires field { field.0 < (plan shared.now).fields }
     requires guard { (plan shared.now).guard field.0 ≡ grip.object.0 }
     ensures one { HasOne shared.now seat.new grip }
+    ensures told { Lengthens (view seat.old) (view seat.new) (event.Store field result value ∷ []) }
 {
     steps::write_field(shared, seat, field, value)
 }

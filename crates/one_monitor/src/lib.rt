@@ -6,6 +6,7 @@
 
 mod heap;
 mod holding;
+mod racing;
 mod sections;
 
 pub use heap::{deal, nine_objects};
@@ -13,4 +14,5 @@ pub use holding::{
     Waiter, begin_wait, fatten, is_guard, is_in_set, leave, nest_to, read, try_enter, try_return,
     wake, words_of, write,
 };
-pub use sections::{take_often, take_once};
+pub use racing::{Racer, is_right, race, racers};
+pub use sections::{take_again, take_often, take_once};

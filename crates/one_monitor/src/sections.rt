@@ -49,3 +49,29 @@ pub fn take_often(shared: &Shared, seat: &mut Seat, object: ObjectId, rounds: u6
     }
     made
 }
+
+/// Takes the monitor and leaves it so many times, with one look at first and then each time at the number that it left.
+/// It stops where another comes first. Answers how often it did.
+pub fn take_again(shared: &Shared, seat: &mut Seat, object: ObjectId, rounds: u64) -> u64
+    requires idle { IsIdle shared.now seat.old }
+    requires object { object.0 < (plan shared.now).objects }
+    ensures idle { IsIdle shared.now seat.new }
+    ensures most { result ≤ rounds }
+{
+    let Shape::Free { number } = look(shared, seat, object).lock.shape() else {
+        return 0;
+    };
+    let bound = last(shared);
+    let mut made = 0;
+    for next in number..bound {
+        if made >= rounds {
+            break;
+        }
+        let Ok(grip) = try_take(shared, seat, object, None, next) else {
+            break;
+        };
+        release(shared, seat, grip);
+        made += 1;
+    }
+    made
+}

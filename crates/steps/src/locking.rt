@@ -184,6 +184,7 @@ pub fn release(shared: &Shared, seat: &mut Seat, grip: Grip)
     ensures seat { IsSeatOf shared.now seat.new }
     ensures clear { IsClear (view seat.new) }
     ensures told { Lengthens (view seat.old) (view seat.new) (event.Exit grip.object grip.number ∷ []) }
+    ensures slot { IsSlot (view seat.new) grip.object grip.slot }
     ensures grips { KeepsOthers (view seat.old) (view seat.new) grip.object.0 }
     ensures words { KeepsWords (view seat.old) (view seat.new) }
 {
