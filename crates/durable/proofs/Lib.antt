@@ -9,3 +9,4 @@ pub mod Playing
 pub mod Ending
 pub mod AllKept
 pub mod Closing
+pub mod Trimming

@@ -12,10 +12,10 @@ use Rattle.block_disk.specs.Device.{Device}
 use Rattle.image.specs.declared.layout.Layout.{Layout}
 use Rattle.undo_log.specs.Dropped.{undo_logs}
 use Rattle.undo_log.specs.StandsFor.{StandsFor}
-use Rattle.store_past.specs.Past.{Past, IsPast, applied, after_log, after_settle}
+use Rattle.store_past.specs.Past.{Past, IsPast, applied, after_log, after_settle, after_trim}
 use Rattle.store_memory.specs.Fresh.{IsOfLanes}
 use Rattle.store_image.specs.KeptHeap.{kept_heap, StandsForCut}
-use Rattle.durable.specs.Store.{Known, HasPast, ShowsStep, Shows, ShowsLogged, ShowsSettled, StandsForStep, Stands, StandsSettled}
+use Rattle.durable.specs.Store.{Known, HasPast, ShowsStep, Shows, ShowsLogged, ShowsSettled, ShowsTrimmed, StandsForStep, Stands, StandsSettled}
 use Rattle.durable.specs.declared.doubt.Doubt.{Doubt}
 use Rattle.store_image.proofs.Growing.{kept_grown}
 use Rattle.durable.proofs.Pasts.{past_log}
@@ -46,6 +46,17 @@ past_settle s p cut was stable = record {
   closed = stable.closed;
 }
 
+-- so is a trimmed one
+pub past_trim : (s : Setting) (p : Past) → IsPast s p → IsPast s (after_trim p)
+past_trim s p was = record {
+  legal = was.legal;
+  within = λ l. omega arith;
+  base_whole = was.whole;
+  base_closed = was.closed;
+  whole = was.whole;
+  closed = was.closed;
+}
+
 -- what is logged next leaves the heap of the acknowledged cut
 pub logged_heap : (l : Layout) (s : Setting) (p : Past) → IsPast s p → kept_heap l s (p.fresh ++ p.logged) p.cut ≡ kept_heap l s p.logged p.cut
 logged_heap l s p is = sym (same_heap l s p.logged (p.fresh ++ p.logged) p.cut (λ f. kept_grown s p.fresh p.logged p.cut f is.legal is.whole))
@@ -58,6 +69,8 @@ shown_stands l s p w is of image (ShowsLogged doubt shown) =
     Stands (record { heap = subst (StandsFor l image) (logged_heap l s p is) after.heap; sections = after.sections })
 shown_stands l s p w is of image (ShowsSettled doubt clean cut stable shown) =
     StandsSettled doubt clean cut stable (stands l s (after_settle p cut) (past_settle s p cut is stable) (λ k from. undone_beyond l.lanes k p.logged (of_lanes_before l.lanes p.fresh p.logged of) from) image shown)
+shown_stands l s p w is of image (ShowsTrimmed doubt shown) =
+    Stands (stands l s (after_trim p) (past_trim s p is) (λ k from. undone_beyond l.lanes k p.logged (of_lanes_before l.lanes p.fresh p.logged of) from) image shown)
 
 -- and so does each image of a store that has the past
 pub past_stands : (x : Known) (s : Setting) (p : Past) (w : Doubt) (d : Device) → HasPast x s p d → (image : List ℕ) → ShowsStep x.layout s p w image → StandsForStep x.layout s p w image

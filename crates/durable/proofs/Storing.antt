@@ -28,7 +28,7 @@ use Rattle.store_memory.specs.Fresh.{IsOfLanes, undo_log_of}
 use Rattle.store_memory.specs.Limits.{AreWithin, FitWords}
 use Rattle.store_memory.specs.Memory.{Memory, KeepsLayout, lane_in}
 use Rattle.store_image.specs.NewRecords.{FitsLane}
-use Rattle.store_past.specs.Past.{Past, after_apply, after_log, after_home, after_settle}
+use Rattle.store_past.specs.Past.{Past, after_apply, after_log, after_home, after_settle, after_trim}
 use Rattle.store_memory.specs.Remembers.{Remembers}
 use Rattle.store_memory.specs.Sections.{Logged, place_behind, TellsSections, MayBeLogged}
 use Rattle.store_memory.specs.Apply.{Answers}
@@ -39,8 +39,8 @@ use Rattle.store_past.specs.declared.error.StoreError.TheVariants.{Failed, BadLa
 use Rattle.store_image.specs.Steps.{MayGoHome, MayLog, MaySettle}
 use Rattle.durable.specs.Store.{Known, Parts, FitsLayout, HasPast, ShowsStep}
 use Rattle.durable.specs.declared.doubt.Doubt.{Doubt}
-use Rattle.durable.specs.declared.doubt.Doubt.TheVariants.{Logging, Settling}
-use Rattle.durable.specs.Store.ShowsStep.{Shows, ShowsLogged, ShowsSettled}
+use Rattle.durable.specs.declared.doubt.Doubt.TheVariants.{Logging, Settling, Trimming}
+use Rattle.durable.specs.Store.ShowsStep.{Shows, ShowsLogged, ShowsSettled, ShowsTrimmed}
 use Rattle.store_image.specs.declared.committed.Committed.{Committed}
 use Rattle.durable.proofs.Begun.{applies}
 use Rattle.durable.proofs.Behind.{behind_undo}
@@ -121,6 +121,9 @@ pub settles_then : (l : Layout) (s : Setting) (p : Past) (cut : ℕ → ℕ) (d 
     LeavesOnly d d2 (ShowsStep l s p Settling)
 settles_then l s p cut d d2 clean stable = weaker d d2 (ShowsEither l s p (after_settle p cut)) (ShowsStep l s p Settling) (λ image. ⊎_elim Shows (ShowsSettled refl clean cut stable))
 
+pub trims_then : (l : Layout) (s : Setting) (p : Past) (d d2 : Device) → LeavesOnly d d2 (ShowsEither l s p (after_trim p)) → LeavesOnly d d2 (ShowsStep l s p Trimming)
+trims_then l s p d d2 = weaker d d2 (ShowsEither l s p (after_trim p)) (ShowsStep l s p Trimming) (λ image. ⊎_elim Shows (ShowsTrimmed refl))
+
 -- stable cuts of one list are the same
 pub one_stable : (log : List (ℕ × Action)) (c d : ℕ → ℕ) → IsStable log c → IsStable log d → (l : ℕ) → c l ≡ d l
 one_stable log c d one other l = omega (arith, other.greatest c one.whole one.closed l, one.greatest d other.whole other.closed l)
@@ -143,7 +146,7 @@ settle_refused x s p e serves is clean last = subst (RefusesSettle x s p) (sym i
 
 module _ (x : Known) (s : Setting) (p : Past) (d : Device) (has : HasPast x s p d) where
   -- a device that agrees shows the past
-  shows_past : (l : Layout) (q : Past) (c : Committed) (w : Doubt) (d2 : Device) → IsConsistent l s q c d2 → Always d2 (ShowsStep l s q w)
+  pub shows_past : (l : Layout) (q : Past) (c : Committed) (w : Doubt) (d2 : Device) → IsConsistent l s q c d2 → Always d2 (ShowsStep l s q w)
   shows_past l q c w d2 is = always_weaker d2 (ShowsPast l s q) (ShowsStep l s q w) (λ image. Shows) (shows_always l s q c d2 is)
 
   -- a record is applied

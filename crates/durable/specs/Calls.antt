@@ -16,7 +16,7 @@ use Rattle.durable.specs.declared.store_call.StoreCall.{StoreCall}
 use Rattle.durable.specs.declared.store_call.StoreCall.TheVariants.{Apply, Log, Home as HomeStep, Settle}
 use Rattle.store_memory.specs.Apply.{Answers}
 use Rattle.store_memory.specs.Begin.{IsLeastDirtyOf}
-use Rattle.store_past.specs.Past.{Past, IsPast, applied, after_apply, after_log, after_home, after_settle}
+use Rattle.store_past.specs.Past.{Past, IsPast, IsTrimmed, applied, after_apply, after_log, after_home, after_settle}
 use Rattle.store_memory.specs.Fresh.{IsOfLanes}
 use Rattle.store_memory.specs.Remembers.{held_of}
 pub use Rattle.durable.specs.Store.{IsClean}
@@ -61,6 +61,13 @@ RefusesSettle x s p Unwritten = (x.has_failed ≡ false) × HasDirty s p
 RefusesSettle x s p Worn = (x.has_failed ≡ false) × IsClean s p × (x.committed.sequence ≡ 2 ^ 64 - 1)
 RefusesSettle x s p Fault = (x.has_failed ≡ false) × IsClean s p
 RefusesSettle x s p _ = ⊥
+
+-- why nothing is trimmed: `Worn` where there is something to trim and the control's sequence is at its last value
+abbrev pub RefusesTrim : Known → Past → StoreError → Type 0
+RefusesTrim x p Failed = x.has_failed ≡ true
+RefusesTrim x p Worn = (x.has_failed ≡ false) × (x.committed.sequence ≡ 2 ^ 64 - 1) × (¬ IsTrimmed p)
+RefusesTrim x p Fault = (x.has_failed ≡ false) × (¬ IsTrimmed p)
+RefusesTrim x p _ = ⊥
 
 -- why a store isn't closed, in the order of the tests
 abbrev pub RefusesClose : Known → Setting → Past → StoreError → Type 0

@@ -8,7 +8,7 @@ use Rattle.block_disk.specs.Images.{Always}
 use Rattle.image.specs.Layout.{IsLayout}
 use Rattle.image.specs.declared.layout.Layout.{Layout}
 use Rattle.undo_log.specs.Dropped.{undo_logs, records_in}
-use Rattle.store_past.specs.Past.{Past, IsPast, after_log, after_settle}
+use Rattle.store_past.specs.Past.{Past, IsPast, after_log, after_settle, after_trim}
 use Rattle.store_image.specs.Consistent.{TellsCut, ShowsPast, IsConsistent}
 use Rattle.store_image.specs.KeptHeap.{StandsForCut}
 use Rattle.store_memory.specs.Memory.{Memory, lane_in}
@@ -16,7 +16,7 @@ use Rattle.store_memory.specs.Remembers.{Remembers}
 use Rattle.store_memory.specs.Sections.{Logged, TellsSections}
 use Rattle.store_image.specs.declared.committed.Committed.{Committed}
 use Rattle.durable.specs.declared.doubt.Doubt.{Doubt}
-use Rattle.durable.specs.declared.doubt.Doubt.TheVariants.{Nothing, Logging, Settling}
+use Rattle.durable.specs.declared.doubt.Doubt.TheVariants.{Nothing, Logging, Settling, Trimming}
 use Rattle.durable.specs.declared.store_call.StoreCall.{StoreCall}
 use Rattle.durable.specs.declared.store_call.StoreCall.TheVariants.{Apply, Log, Home as HomeStep, Settle}
 
@@ -61,11 +61,12 @@ doubt_in (Some Log) = Logging
 doubt_in (Some HomeStep) = Nothing
 doubt_in (Some Settle) = Settling
 
--- The image shows the past; or, where the logging is in doubt, what that makes of it; or, where a settling is, what that does.
+-- The image shows the past; or, where the logging is in doubt, what that makes of it; or, where a settling or a trim is, what that does.
 pub data ShowsStep (l : Layout) (s : Setting) (p : Past) (w : Doubt) (image : List ℕ) : Type 0 where
   Shows : ShowsPast l s p image → ShowsStep l s p w image
   ShowsLogged : w ≡ Logging → ShowsPast l s (after_log p) image → ShowsStep l s p w image
   ShowsSettled : w ≡ Settling → IsClean s p → (cut : ℕ → ℕ) → IsStable (actions p.logged) cut → ShowsPast l s (after_settle p cut) image → ShowsStep l s p w image
+  ShowsTrimmed : w ≡ Trimming → ShowsPast l s (after_trim p) image → ShowsStep l s p w image
 
 -- The image stands for the heap of the acknowledged cut; or, where a settling is in doubt, of the stable one.
 pub data StandsForStep (l : Layout) (s : Setting) (p : Past) (w : Doubt) (image : List ℕ) : Type 0 where

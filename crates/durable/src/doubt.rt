@@ -9,4 +9,6 @@ pub enum Doubt {
     Logging,
     /// Whether the stable cut is acknowledged.
     Settling,
+    /// Whether what is acknowledged is trimmed. The heap is the same.
+    Trimming,
 }

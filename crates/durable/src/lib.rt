@@ -2,7 +2,7 @@
 //!
 //! [`Store::format`] makes an image, [`Store::adopt`] takes it over. [`Store::apply`] is told the records of each lane,
 //! [`Store::log_step`] makes them durable, [`Store::home_step`] brings a logged value to its home cell, and
-//! [`Store::settle`] acknowledges the stable cut. Whatever a call answers, and at every moment until then, each image that
+//! [`Store::settle`] acknowledges the stable cut; [`Store::trim`] forgets what is acknowledged. Whatever a call answers, and at every moment until then, each image that
 //! a crash may leave stands for the heap of the acknowledged cut, in `settle` for that of the old one or of the new one.
 //! [`Store::play`] makes a list of calls, so that this is one theorem.
 #![tactic(auto)]

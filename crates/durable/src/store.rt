@@ -1,5 +1,5 @@
 //! The store: a heap whose sections survive a crash whole or not at all (Atlas, OOPSLA 2014).
-ghost use Rattle.std.specs.Prelude.{◌≡◌, ◌≢◌, ◌⊎◌, ◌+◌, ◌-◌, ◌<◌, ◌≤◌, ◌^◌, ◌↔◌, ℕ, [], true, false, length, Ok, Err, IfErr, IfOk, IsErrOf, OnErr, OnOk, MatchResult};
+ghost use Rattle.std.specs.Prelude.{◌≡◌, ◌≢◌, ◌⊎◌, ◌+◌, ◌-◌, ◌<◌, ◌≤◌, ◌^◌, ◌↔◌, ℕ, [], true, false, length, slice_index, Ok, Err, IfErr, IfOk, IsErrOf, OnErr, OnOk, MatchResult};
 ghost use Rattle.block_disk.specs.Device.{HasCause};
 ghost use Rattle.block_disk.specs.Images.{Always, LeavesOnly};
 ghost use Rattle.heap_model.specs.Setting.{Setting};
@@ -12,18 +12,18 @@ ghost use Rattle.undo_log.specs.Dropped.{undo_logs, records_in};
 ghost use Rattle.undo_log.specs.StandsFor.{StandsFor, row_of};
 ghost use Rattle.store_memory.specs.Apply.{Answers};
 ghost use Rattle.durable.specs.Begin.{HasRows, IsSettingOf};
-ghost use Rattle.durable.specs.Calls.{AnswersHome, HasOpen, IsClean, IsWritten, RefusesApply, RefusesClose, RefusesHome, RefusesLog, RefusesSettle, after_home_step};
+ghost use Rattle.durable.specs.Calls.{AnswersHome, HasOpen, IsClean, IsWritten, RefusesApply, RefusesClose, RefusesHome, RefusesLog, RefusesSettle, RefusesTrim, after_home_step};
 ghost use Rattle.durable.specs.Closed.{applied_heap};
 ghost use Rattle.store_image.specs.Consistent.{ShowsPast};
 ghost use Rattle.store_image.specs.KeptHeap.{StandsForCut, StandsForEither};
 ghost use Rattle.store_memory.specs.Memory.{lane_in};
-ghost use Rattle.store_past.specs.Past.{Past, applied, no_past, after_apply, after_log, after_settle};
+ghost use Rattle.store_past.specs.Past.{Past, IsTrimmed, applied, no_past, after_apply, after_log, after_settle, after_trim};
 ghost use Rattle.store_memory.specs.Remembers.{Remembers};
 ghost use Rattle.store_memory.specs.Sections.{TellsSections};
 ghost use Rattle.durable.specs.Store.{HasPast, ShowsStep, StandsForStep};
 ghost use Rattle.store_past.specs.declared.error.StoreError.TheVariants.{Fault, Worn};
 ghost use Rattle.store_image.specs.declared.home.Home.TheVariants.{Done};
-ghost use Rattle.durable.specs.declared.doubt.Doubt.TheVariants.{Nothing, Logging, Settling};
+ghost use Rattle.durable.specs.declared.doubt.Doubt.TheVariants.{Nothing, Logging, Settling, Trimming};
 
 use crate::beginning::fields_of;
 use crate::doubt::Doubt;
@@ -32,14 +32,15 @@ use heap_model::{Cut, FieldId, Lane, Record};
 use image::{GuardRow, LaneRow, Layout, Recovered, RecoveredParts};
 use std::alloc::{AllocError, Global};
 use std::marker::Model;
-use store_image::{Committed, Home, log_records, settle, write_home};
+use store_image::{Committed, Home, is_trimmed, log_records, settle, trim, write_home};
 use store_memory::{Applied, LoggedSections};
 use store_past::StoreError;
 
 /// A heap whose sections survive a crash whole or not at all, on a device of its own.
 ///
 /// It is told the lanes' records as they come ([`apply`](Store::apply)), makes them durable ([`log_step`](Store::log_step)), writes
-/// logged values home ([`home_step`](Store::home_step)) and acknowledges the stable cut ([`settle`](Store::settle)). Whatever a crash leaves of its
+/// logged values home ([`home_step`](Store::home_step)) and acknowledges the stable cut ([`settle`](Store::settle)). What is acknowledged may be
+/// forgotten ([`trim`](Store::trim)), so that its memory and its area of the device last for ever. Whatever a crash leaves of its
 /// device, at any moment of any call, stands for the heap of the acknowledged cut, in `settle` for that of the old one or
 /// of the new one. All its memory is taken by [`adopt`](Store::adopt).
 ///
@@ -280,6 +281,58 @@ impl<D: Disk> Store<D> {
         }
     }
 
+    /// Forgets what is acknowledged: moves each lane's start behind its settled records, durably, so that their places on the
+    /// device and what the memory kept of them are free again.
+    ///
+    /// It takes the calls of a commit; with nothing to move it takes no call. The time is linear in the records since the
+    /// lanes' starts and in the number of objects, and no memory is taken. Refusals, in this order: `Failed`; `Worn`: there is
+    /// something to move, and the control's sequence is at its last value; `Fault`. After the first two nothing has changed.
+    pub fn trim(&mut self) -> Result<(), StoreError>
+        ensures ok { (s : Setting) (p : Past) → HasPast self.old.known s p (D.device self.old.disk)
+            → OnOk result (HasPast self.new.known s (after_trim p) (D.device self.new.disk)) }
+        ensures running { OnOk result ((self.old.known.has_failed ≡ false) × (self.new.known.has_failed ≡ false)) }
+        ensures answer { (s : Setting) (p : Past) → HasPast self.old.known s p (D.device self.old.disk)
+            → MatchResult result (λ done. self.old.known.has_failed ≡ false) (RefusesTrim self.old.known p) }
+        ensures none { (s : Setting) (p : Past) → HasPast self.old.known s p (D.device self.old.disk)
+            → IsTrimmed p → self.new ≡ self.old }
+        ensures worn { (s : Setting) (p : Past) → HasPast self.old.known s p (D.device self.old.disk)
+            → self.old.known.has_failed ≡ false → ¬ IsTrimmed p → self.old.known.committed.sequence ≡ 2 ^ 64 - 1 → IsErrOf result Worn }
+        ensures kept { (s : Setting) (p : Past) → HasPast self.old.known s p (D.device self.old.disk)
+            → OnErr result (HasPast self.new.known s p (D.device self.new.disk)) }
+        ensures refused { IfErr result (λ e. (e ≡ Fault) ⊎ (self.new ≡ self.old)) }
+        ensures failed { IsErrOf result Fault → self.new.known.has_failed ≡ true }
+        ensures in_doubt { IsErrOf result Fault → self.new.known.doubt ≡ Trimming }
+        ensures any_moment { (s : Setting) (p : Past) → HasPast self.old.known s p (D.device self.old.disk)
+            → LeavesOnly (D.device self.old.disk) (D.device self.new.disk) (StandsForCut self.old.known.layout s p.logged p.cut) }
+        ensures shown { (s : Setting) (p : Past) → HasPast self.old.known s p (D.device self.old.disk)
+            → LeavesOnly (D.device self.old.disk) (D.device self.new.disk) (ShowsStep self.old.known.layout s p Trimming) }
+        ensures cause { HasCause (D.device self.old.disk).failures (D.device self.new.disk).failures Fault result }
+        ensures layout { self.new.known.layout ≡ self.old.known.layout }
+    {
+        if self.has_failed {
+            return Err(StoreError::Failed);
+        }
+        if is_trimmed(&self.committed) {
+            return Ok(());
+        }
+        match trim(&mut self.disk, &self.layout, &mut self.committed) {
+            Ok(()) => {
+                // Not before: until the new control is durable, the old one counts, and wants the records at these places.
+                self.applied.start_at(&starts(&self.committed.rows));
+                self.sections.forget_to(&kept_cut(&self.committed.rows));
+                Ok(())
+            }
+            Err(reason) => match reason {
+                StoreError::Fault => {
+                    self.has_failed = true;
+                    self.doubt = Doubt::Trimming;
+                    Err(reason)
+                }
+                _ => Err(reason),
+            },
+        }
+    }
+
     /// How many sections of the lane are acknowledged.
     pub fn acknowledged(&self, lane: Lane) -> u64
         requires { lane.0 < self.now.known.layout.lanes }
@@ -407,9 +460,21 @@ fn memory(
     Ok((applied, sections))
 }
 
+// The lanes' starts by these rows.
+fn starts(rows: &[LaneRow; 32]) -> [u64; 32]
+    ensures { (l : ℕ) → l < 32 → slice_index result l ≡ (row_of rows.now l).start }
+{
+    let mut places = [0; 32];
+    for (lane, row) in rows.iter().enumerate() {
+        places[lane] = row.start;
+    }
+    places
+}
+
 // The acknowledged sections by these rows.
 fn kept_cut(rows: &[LaneRow; 32]) -> Cut
-    ensures { (l : ℕ) → l < 32 → counts_of result l ≡ (row_of rows.now l).kept }
+    ensures kept { (l : ℕ) → l < 32 → counts_of result l ≡ (row_of rows.now l).kept }
+    ensures size { length result.counts ≡ 32 }
 {
     let mut counts = [0; 32];
     for (lane, row) in rows.iter().enumerate() {

@@ -20,7 +20,7 @@ returns-then-is_acknowledged g c = λ s p has.
       record {
         logged = logged_told p c.fresh.result.now (c.fresh.ensures.records s p here.remembers) (sym c.if-is_logged.ensures);
         home = clean_told s p c.least_dirty.result (c.least_dirty.ensures s p here.remembers) c.if-is_home.ensures;
-        acknowledged = acknowledged_told known s p (g.D.Disk.device c.self.inside.disk) here (counts_of c.kept_cut.result) c.kept_cut.ensures
+        acknowledged = acknowledged_told known s p (g.D.Disk.device c.self.inside.disk) here (counts_of c.kept_cut.result) c.kept_cut.ensures.kept
             ((c.is_all_within-is_acknowledged.ensures p.base p.logged here.sections).0 c.if-is_acknowledged.true);
       },
     )
@@ -34,7 +34,7 @@ returns-else-is_logged g c = λ s p has.
       λ written. ⊎_elim
           (λ unacknowledged. absurd (
           let all : c.is_all_within-is_acknowledged.result ≡ true = (c.is_all_within-is_acknowledged.ensures p.base p.logged here.sections).1
-          (told_acknowledged known s p (g.D.Disk.device c.self.inside.disk) here (counts_of c.kept_cut.result) c.kept_cut.ensures written.acknowledged) in
+          (told_acknowledged known s p (g.D.Disk.device c.self.inside.disk) here (counts_of c.kept_cut.result) c.kept_cut.ensures.kept written.acknowledged) in
           let no : true ≡ false = sym all ∙ unacknowledged.2 in
           cc
           ))
