@@ -7,12 +7,13 @@ use Rattle.block_disk.proofs.Images.{after_sync, always_now, always_only, and_th
 use Rattle.image.specs.Recovered.{Parts}
 use Rattle.image.specs.declared.layout.Layout.{Layout}
 use Rattle.store_past.specs.Past.{Past}
-use Rattle.recover.specs.Recovery.{IsCutOff, IsOnTheWay, IsRecovery, OneStudyLaw, SameReports, StudiedLaw}
+use Rattle.recover.specs.Recovery.{AreAlike, IsCutOff, IsOnTheWay, IsRecovery, OneStudyLaw, SameReports, StudiedLaw}
 use Rattle.recover.specs.declared.error.RecoverError.{RecoverError}
 use Rattle.recover.specs.declared.report.Report.{Report}
 use Rattle.recover.specs.Study.{IsStudyOf, held_by}
 use Rattle.recover.specs.declared.studied.Study.{Study}
-use Rattle.survival.specs.Again.{IsKept, ByStore, ByRecovery, KeptAcceptedLaw, KeptAgainLaw, KeptHeapLaw, KeptOnLaw, KeptReportLaw, ReportsKept, StaysKept}
+use Rattle.survival.specs.Again.{AreCutOff, Attempt, IsKept, ByStore, ByRecovery, KeptAcceptedLaw, KeptAgainLaw, KeptHeapLaw, KeptOnLaw, KeptReportLaw, ReportsKept, StaysKept, TellsAgain, TriedLaw}
+use Rattle.survival.specs.WholeRun.{MayBeLeft}
 use Rattle.survival.proofs.Accepts.{accepted, finds, finds_heap}
 
 pub kept_is_found : OneStudyLaw → KeptHeapLaw
@@ -36,6 +37,17 @@ pub kept_accepted : StudiedLaw → KeptAcceptedLaw
 kept_accepted law l s p image e (ByStore left) refuses = accepted l s p image left e refuses
 kept_accepted law l s p image e (ByRecovery study is heap reports) refuses = law image study e is refuses
 
+-- A recovery that is cut off leaves only such images, where each that was left before it is such, and each on the way.
+leaves_on : (old new : Device) (P : List ℕ → Type 0) → Always old P → ((study : Study) → IsStudyOf old.now.bytes study → (image : List ℕ) → IsOnTheWay study image → P image) → IsCutOff old new → LeavesOnly old new P
+leaves_on old new P all way (inl same) = stays old new P same
+leaves_on old new P all way (inr (inl same)) = and_then old (synced old) new P (after_sync old (synced old) P all (leaves_synced old (synced old) refl)).0 (stays (synced old) new P same)
+leaves_on old new P all way (inr (inr (study, of, leaves))) =
+    and_then old (synced old) new P (after_sync old (synced old) P all (leaves_synced old (synced old) refl)).0 (weaker (synced old) new (IsOnTheWay study) P (way study of) leaves)
+
+-- what a crash at any moment of it leaves
+left_on : (old new : Device) (P : List ℕ → Type 0) → Always old P → LeavesOnly old new P → (image : List ℕ) → MayBeLeft old new image → P image
+left_on old new P all leaves image left = ⊎_elim (λ before. all image (left_now old image before)) (λ is. is) (leaves.each (length old.past) image (omega arith) left)
+
 module _ (one : OneStudyLaw) (l : Layout) (s : Setting) (p : Past) (old new : Device) (all : Always old (IsKept l s p)) where
   kept_way : (study : Study) → IsStudyOf old.now.bytes study → (image : List ℕ) → IsOnTheWay study image → IsKept l s p image
   kept_way study of image (inl is) =
@@ -44,20 +56,14 @@ module _ (one : OneStudyLaw) (l : Layout) (s : Setting) (p : Past) (old new : De
   kept_way study of image (inr (e, ended, is)) = ByRecovery e is (ended.heap_is ∙ kept_is_found one l s p old.now.bytes study (always_now old (IsKept l s p) all) of)
       (inr (record { kept_none = ended.kept_none; dropped_none = ended.dropped_none; undone_none = ended.undone_none }))
 
-  past_sync : LeavesOnly old (synced old) (IsKept l s p) × Always (synced old) (IsKept l s p)
-  past_sync = after_sync old (synced old) (IsKept l s p) all (leaves_synced old (synced old) refl)
-
   leaves_kept : IsCutOff old new → LeavesOnly old new (IsKept l s p)
-  leaves_kept (inl same) = stays old new (IsKept l s p) same
-  leaves_kept (inr (inl same)) = and_then old (synced old) new (IsKept l s p) past_sync.0 (stays (synced old) new (IsKept l s p) same)
-  leaves_kept (inr (inr (study, of, leaves))) =
-      and_then old (synced old) new (IsKept l s p) past_sync.0 (weaker (synced old) new (IsOnTheWay study) (IsKept l s p) (kept_way study of) leaves)
+  leaves_kept cut_off = leaves_on old new (IsKept l s p) all kept_way cut_off
 
   stays_kept : IsCutOff old new → StaysKept l s p old new
   stays_kept cut_off =
       let leaves : LeavesOnly old new (IsKept l s p) = leaves_kept cut_off in
       record {
-        any_moment = λ image left. ⊎_elim (λ before. all image (left_now old image before)) (λ kept. kept) (leaves.each (length old.past) image (omega arith) left);
+        any_moment = left_on old new (IsKept l s p) all leaves;
         now = now_too old new (IsKept l s p) all leaves;
       }
 
@@ -65,14 +71,67 @@ pub kept_again : OneStudyLaw → KeptAgainLaw
 kept_again one l s p old new all cut_off = stays_kept one l s p old new all cut_off
 
 -- a device with nothing pending leaves what it reads
-kept_alone : (l : Layout) (s : Setting) (p : Past) (image : List ℕ) (old : Device) → old.now ≡ record { bytes = image; pending = [] } → IsKept l s p image → Always old (IsKept l s p)
-kept_alone l s p image old now kept =
-    always_only old (IsKept l s p) (ap (λ (m : Moment). m.pending) now) (subst (IsKept l s p) (sym (ap (λ (m : Moment). m.bytes) now)) kept)
+left_alone : (P : List ℕ → Type 0) (image : List ℕ) (old : Device) → old.now ≡ record { bytes = image; pending = [] } → P image → Always old P
+left_alone P image old now is = always_only old P (ap (λ (m : Moment). m.pending) now) (subst P (sym (ap (λ (m : Moment). m.bytes) now)) is)
 
 pub kept_on : OneStudyLaw → KeptOnLaw
 kept_on one l s p [] image last kept same = subst (IsKept l s p) (sym same) kept
 kept_on one l s p (a ∷ later) image last kept (now, cut_off, (next, left, rest)) =
-    kept_on one l s p later next last ((kept_again one l s p a.old a.new (kept_alone l s p image a.old now kept) cut_off).any_moment next left) rest
+    kept_on one l s p later next last ((kept_again one l s p a.old a.new (left_alone (IsKept l s p) image a.old now kept) cut_off).any_moment next left) rest
+
+-- What is told over several tries.
+
+-- a study of the image tells what the first one does
+record IsTried (first : Study) (image : List ℕ) : Type 0 where
+  again : Study
+  of : IsStudyOf image again
+  tells : TellsAgain first again.heap.items again.report
+
+same_told : (first a b : Study) → AreAlike b a → TellsAgain first a.heap.items a.report → TellsAgain first b.heap.items b.report
+same_told first a b same tells = record {
+  heap_is = same.heaps ∙ tells.heap_is;
+  reported = ⊎_elim
+      (λ told. inl (record {
+        kept_same = λ lane. same.reports_same.kept_same lane ∙ told.kept_same lane;
+        dropped_same = same.reports_same.dropped_same ∙ told.dropped_same;
+        undone_same = same.reports_same.undone_same ∙ told.undone_same;
+      }))
+      (λ ended. inr (record {
+        kept_none = λ lane. same.reports_same.kept_same lane ∙ ended.kept_none lane;
+        dropped_none = same.reports_same.dropped_same ∙ ended.dropped_none;
+        undone_none = same.reports_same.undone_same ∙ ended.undone_none;
+      }))
+      tells.reported;
+}
+
+-- so it is of each image on the way
+tried_way : OneStudyLaw → (first : Study) (old : List ℕ) → IsTried first old → (study : Study) → IsStudyOf old study → (image : List ℕ) → IsOnTheWay study image → IsTried first image
+tried_way one first old tried study of image (inl is) = record { again = study; of = is; tells = same_told first tried.again study (one old study tried.again of tried.of) tried.tells }
+tried_way one first old tried study of image (inr (e, ended, is)) = record {
+  again = e;
+  of = is;
+  tells = record {
+    heap_is = ended.heap_is ∙ (one old study tried.again of tried.of).heaps ∙ tried.tells.heap_is;
+    reported = inr (record { kept_none = ended.kept_none; dropped_none = ended.dropped_none; undone_none = ended.undone_none });
+  };
+}
+
+tried_on : OneStudyLaw → (first : Study) (attempts : List Attempt) (image last : List ℕ) → IsTried first image → AreCutOff attempts image last → IsTried first last
+tried_on one first [] image last tried same = subst (IsTried first) (sym same) tried
+tried_on one first (a ∷ later) image last tried (now, cut_off, (next, left, rest)) =
+    let here : IsTried first a.old.now.bytes = subst (IsTried first) (sym (ap (λ (m : Moment). m.bytes) now)) tried in
+    let all : Always a.old (IsTried first) = left_alone (IsTried first) image a.old now tried in
+    tried_on one first later next last (left_on a.old a.new (IsTried first) all (leaves_on a.old a.new (IsTried first) all (tried_way one first a.old.now.bytes here) cut_off) next left) rest
+
+pub tried_law : OneStudyLaw → TriedLaw
+tried_law one attempts image last first again of tries of_last =
+    let begun : IsTried first image = record {
+      again = first;
+      of = of;
+      tells = record { heap_is = refl; reported = inl (record { kept_same = λ lane. refl; dropped_same = refl; undone_same = refl }) };
+    } in
+    let found : IsTried first last = tried_on one first attempts image last begun tries in
+    same_told first found.again again (one last again found.again of_last found.of) found.tells
 
 -- however a recovery ended, it left what one leaves that is cut off
 pub always_cut_off : {E : Type 0} (device : E → Device) (old : Device) (answer : Result (Parts E × Report) (E × RecoverError)) → IfOk answer (λ r. IsRecovery old (device r.0.disk) r.0 r.1) →

@@ -26,7 +26,7 @@ use Rattle.durable.proofs.Pasts.{past_apply, past_home, past_log}
 use Rattle.heap_model.proofs.Stays.{cut_stays}
 use Rattle.durable.proofs.Showing.{undone_beyond, of_lanes_before, past_settle, logged_heap}
 use Rattle.survival.specs.Accepted.{IsLeftBy}
-use Rattle.survival.specs.Again.{AreCutOff, Attempt, HasStudyLaw, IsKept, ByStore, KeptAcceptedLaw, KeptHeapLaw, KeptOnLaw, KeptReportLaw, SurvivesAgain}
+use Rattle.survival.specs.Again.{AreCutOff, Attempt, HasStudyLaw, IsKept, ByStore, KeptAcceptedLaw, KeptHeapLaw, KeptOnLaw, KeptReportLaw, SurvivesAgain, TellsAgain, TriedLaw}
 use Rattle.recover.specs.Recovery.{IsRecovery, RefusesRecovery}
 use Rattle.recover.specs.Reading.{RefusesImage}
 use Rattle.recover.specs.Study.{IsStudyOf, held_by}
@@ -276,3 +276,20 @@ studied_again x s p calls old new image last attempts has studied on leaves left
     let some = shows_some x s p calls old new image has leaves left in
     let by = left_by x.layout s some.then some.doubt image some.is some.of_lanes some.shows in
     studied x.layout s by.past last (on x.layout s by.past attempts image last (ByStore by.is) tries)
+
+-- the heap and the report of each try are those of the first
+told_again : {E : Type 0} (device : E → Device) (there : Device) (image : List ℕ) (attempts : List Attempt) (first : Study) → IsStudyOf image first → TriedLaw → AreCutOff attempts image there.now.bytes →
+    (answer : Result (Parts E × Report) (E × RecoverError)) → IfOk answer (λ r. IsRecovery there (device r.0.disk) r.0 r.1) → IfOk answer (λ r. TellsAgain first r.0.heap r.1)
+told_again device there image attempts first of tried tries (Ok r) done =
+    subst (λ (heap : List ℕ). TellsAgain first heap r.1) (sym done.heap_is)
+    (subst (λ (report : Report). TellsAgain first done.study.heap.items report) (sym done.report_is) (tried attempts image there.now.bytes first done.study of tries done.of))
+told_again device there image attempts first of tried tries (Err back) done = tt
+
+pub tried_again : {E : Type 0} (x : Known) (s : Setting) (p : Past) (calls : List StoreCall) (old new : Device) (device : E → Device) (there : Device) (image : List ℕ) (attempts : List Attempt) → HasPast x s p old →
+    HasStudyLaw → TriedLaw → LeavesOnly old new (ShowsAfterSome x.layout s p calls) → MayBeLeft old new image → AreCutOff attempts image there.now.bytes →
+    (answer : Result (Parts E × Report) (E × RecoverError)) → IfOk answer (λ r. IsRecovery there (device r.0.disk) r.0 r.1) → (first : Study) × IsStudyOf image first × IfOk answer (λ r. TellsAgain first r.0.heap r.1)
+tried_again x s p calls old new device there image attempts has studied tried leaves left tries answer done =
+    let some = shows_some x s p calls old new image has leaves left in
+    let by = left_by x.layout s some.then some.doubt image some.is some.of_lanes some.shows in
+    let first = studied x.layout s by.past image (ByStore by.is) in
+    (first.0, first.1, told_again device there image attempts first.0 first.1 tried tries answer done)

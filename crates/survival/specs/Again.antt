@@ -10,7 +10,7 @@ use Rattle.store_past.specs.Past.{Past}
 use Rattle.recover.specs.Reading.{RefusesImage}
 use Rattle.durable.specs.Store.{Known}
 use Rattle.durable.specs.declared.store_call.StoreCall.{StoreCall}
-use Rattle.recover.specs.Recovery.{IsCutOff}
+use Rattle.recover.specs.Recovery.{IsCutOff, SameReports}
 use Rattle.recover.specs.Study.{IsStudyOf}
 use Rattle.recover.specs.declared.error.RecoverError.{RecoverError}
 use Rattle.recover.specs.declared.error.RecoverError.TheVariants.{Fault, NoMemory}
@@ -74,6 +74,16 @@ AreCutOff (a ∷ later) image last =
 -- So many tries of such an image leave such an image.
 abbrev pub KeptOnLaw : Type 0
 KeptOnLaw = (l : Layout) (s : Setting) (p : Past) (attempts : List Attempt) (image last : List ℕ) → IsKept l s p image → AreCutOff attempts image last → IsKept l s p last
+
+-- a try gives the heap that the first one finds, and reports all that it does, unless a recovery has ended before
+pub record TellsAgain (first : Study) (heap : List ℕ) (report : Report) : Type 0 where
+  pub heap_is : heap ≡ first.heap.items
+  pub reported : SameReports report first.report ⊎ HasEnded report
+
+-- However often an image is tried, each try finds and tells what the first one does, the dropped sections with their reasons and the
+-- number of fields that take an old value back included.
+abbrev pub TriedLaw : Type 0
+TriedLaw = (attempts : List Attempt) (image last : List ℕ) (first again : Study) → IsStudyOf image first → AreCutOff attempts image last → IsStudyOf last again → TellsAgain first again.heap.items again.report
 
 -- The heap is one acknowledged after some of the calls, and what is reported as kept are its sections, unless a recovery has ended before.
 pub record SurvivesAgain (x : Known) (s : Setting) (p : Past) (calls : List StoreCall) (heap : List ℕ) (report : Report) : Type 0 where

@@ -2,7 +2,7 @@
 ghost use Rattle.survival.specs.Accepted.{AcceptedLaw, FoundHeapLaw, FoundLaw, LeftLaw};
 ghost use Rattle.survival.specs.History.{HistoryLaw};
 ghost use Rattle.survival.specs.Unsettled.{UnsettledLaw};
-ghost use Rattle.survival.specs.Again.{HasStudyLaw, KeptAcceptedLaw, KeptAgainLaw, KeptHeapLaw, KeptOnLaw, KeptReportLaw};
+ghost use Rattle.survival.specs.Again.{HasStudyLaw, KeptAcceptedLaw, KeptAgainLaw, KeptHeapLaw, KeptOnLaw, KeptReportLaw, TriedLaw};
 
 use heap_model::{log_law, order_law};
 use recover::{one_study_law, studied_law};
@@ -42,13 +42,15 @@ pub fn has_study_law()
 
 /// Recovery that a crash cuts off, or that answers a fault, may be run again, any number of times: each time it takes the
 /// image, finds the kept heap, reports the acknowledged sections until a try has ended, and leaves only images of which the
-/// same may be said.
+/// same may be said. Until then all else that it reports is what the first try does: what is dropped, why, and how many fields
+/// take an old value back.
 pub fn again_law()
     ensures heap { KeptHeapLaw }
     ensures report { KeptReportLaw }
     ensures accepted { KeptAcceptedLaw }
     ensures again { KeptAgainLaw }
     ensures on { KeptOnLaw }
+    ensures tried { TriedLaw }
 {
     one_study_law();
     studied_law();

@@ -10,7 +10,7 @@ ghost use Rattle.durable.specs.Store.{HasPast};
 ghost use Rattle.store_past.specs.declared.error.StoreError.TheVariants.{Fault as StoreFault};
 ghost use Rattle.recover.specs.Recovery.{IsCutOff, IsOnTheWay, IsRecovery, LeavesOnTheWay, RefusesRecovery};
 ghost use Rattle.recover.specs.Study.{IsStudyOf};
-ghost use Rattle.survival.specs.Again.{AreCutOff, Attempt, SurvivesAgain};
+ghost use Rattle.survival.specs.Again.{AreCutOff, Attempt, SurvivesAgain, TellsAgain};
 ghost use Rattle.survival.specs.WholeRun.{CannotRecover, MayBeLeft, Survives};
 ghost use Rattle.recover.specs.declared.error.RecoverError.TheVariants.{Fault};
 ghost use Rattle.recover.specs.declared.studied.Study.{Study as Shape};
@@ -42,9 +42,9 @@ pub struct WholeRun<E: Disk> {
 /// came behind it: a crash from then on keeps each section that was acknowledged by then.
 ///
 /// **Again and again.** The same holds where recovery was tried before, any number of times, and each time a crash cut it off or
-/// the device failed: the heap is that of the first try. So is the report, until the last commit of a try shows: then
-/// nothing is left to keep or to drop. However a try ends, it counts as one that was cut off, and another may follow. Each
-/// image on this way has a study, so what is said below of a study of it is said of one that is there.
+/// the device failed: the heap is that of the first try. So is the report, with each reason, until the last commit of a try
+/// shows: then nothing is left to keep or to drop. However a try ends, it counts as one that was cut off, and another may
+/// follow. Each image on this way has a study, so what is said below of a study of it is said of one that is there.
 ///
 /// The device `left` stands for the machine after the crash: it may be any that holds such bytes. It is refused only where
 /// a call of it fails, memory is wanting, or the control's sequence is at its last value. What a refusal of either leaves is
@@ -65,6 +65,9 @@ pub fn play_and_recover<D: Disk, E: Disk>(
     ensures again { (s : Setting) (p : Past) → HasPast store.old.known s p (D.device store.old.disk)
         → (image : List ℕ) (attempts : List Attempt) → MayBeLeft (D.device store.old.disk) (D.device store.new.disk) image → AreCutOff attempts image (E.device left).now.bytes
         → MatchResult result.recovered (λ r. SurvivesAgain store.old.known s p calls.now r.0.heap r.1) (λ back. CannotRecover (E.device left).now.bytes back.1) }
+    ensures tried { (s : Setting) (p : Past) → HasPast store.old.known s p (D.device store.old.disk)
+        → (image : List ℕ) (attempts : List Attempt) → MayBeLeft (D.device store.old.disk) (D.device store.new.disk) image → AreCutOff attempts image (E.device left).now.bytes
+        → (first : Shape) × IsStudyOf image first × IfOk result.recovered (λ r. TellsAgain first r.0.heap r.1) }
     ensures studied { (s : Setting) (p : Past) → HasPast store.old.known s p (D.device store.old.disk)
         → (image : List ℕ) (attempts : List Attempt) → MayBeLeft (D.device store.old.disk) (D.device store.new.disk) image → AreCutOff attempts image (E.device left).now.bytes
         → (study : Shape) × IsStudyOf (E.device left).now.bytes study }

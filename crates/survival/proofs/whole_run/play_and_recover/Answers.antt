@@ -1,5 +1,5 @@
 use Rattle.survival.proofs.RunAgain.{always_cut_off}
-use Rattle.survival.proofs.WholeRuns.{studied_again, survives, survives_again, survives_since}
+use Rattle.survival.proofs.WholeRuns.{studied_again, survives, survives_again, survives_since, tried_again}
 use Rattle.survival.proofs.whole_run.play_and_recover.Goals as goal
 
 pub returns-clause-survives : goal.returns-clause-survives
@@ -19,6 +19,11 @@ pub returns-clause-again : goal.returns-clause-again
 returns-clause-again g c = λ s p has image attempts left tries.
     survives_again c.args.store.now.known s p c.args.calls.now (g.D.Disk.device c.args.store.now.disk) (g.D.Disk.device c.play.new.self.disk) g.E.Disk.device (g.E.Disk.device c.args.left) image attempts has
     c.again_law.ensures.heap c.again_law.ensures.report c.again_law.ensures.accepted c.again_law.ensures.on (c.play.ensures.shown s p has) left tries c.recover.result c.recover.ensures.ok c.recover.ensures.refused
+
+pub returns-clause-tried : goal.returns-clause-tried
+returns-clause-tried g c = λ s p has image attempts left tries.
+    tried_again c.args.store.now.known s p c.args.calls.now (g.D.Disk.device c.args.store.now.disk) (g.D.Disk.device c.play.new.self.disk) g.E.Disk.device (g.E.Disk.device c.args.left) image attempts has
+    c.has_study_law.ensures c.again_law.ensures.tried (c.play.ensures.shown s p has) left tries c.recover.result c.recover.ensures.ok
 
 pub returns-clause-studied : goal.returns-clause-studied
 returns-clause-studied g c = λ s p has image attempts left tries.
