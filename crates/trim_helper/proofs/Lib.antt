@@ -10,3 +10,4 @@ pub mod Gathering
 pub mod SeatLemmas
 pub mod SettingLemmas
 pub mod ClosingReasons
+pub mod Sent

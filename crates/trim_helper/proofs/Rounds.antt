@@ -12,12 +12,14 @@ use Rattle.image.specs.declared.layout.Layout.{Layout}
 use Rattle.store_past.specs.Past.{Past, applied}
 use Rattle.durable.specs.Store.{Known, HasPast}
 use Rattle.trim_helper.specs.declared.rings.TheConstants.{RING_RECORDS}
-use Rattle.trim_helper.specs.Rings.{received_of, held_back, waiting_in, stream}
+use Rattle.trim_helper.specs.Rings.{received_of, known_of, held_back, waiting_in, stream}
 use Rattle.trim_helper.specs.Moves.{Looks, SameRings, most_room}
 use Rattle.trim_helper.specs.Taken.{HasTaken, Advances, applied_more, trimmed_of}
 use Rattle.trim_helper.specs.Settled.{HasSame, IsSettled, StandsForRound}
 use Rattle.heap_model.specs.Log.{IsLegal}
-use Rattle.trim_helper.specs.Closed.{Stood}
+use Rattle.trim_helper.specs.Closed.{AreSent, Stood}
+use Rattle.trim_helper.specs.declared.ended.Ended.{Ended}
+use Rattle.trim_helper.specs.Endings.{HoldNone, IsComplete}
 use Rattle.trim_helper.specs.Serving.{Serves, Drains, Served}
 use Rattle.trim_helper.proofs.RingMoves.{same_then, taken_most}
 
@@ -144,18 +146,27 @@ moment_round x x' d d' r0 r1 w0 w1 n s p e drains taken moment =
     subst (λ k. LeavesOnly k e (StandsForRound x'.layout s (now.0 ++ applied p) p.cut)) drains.advances.device
     (subst (λ (xs : List (ℕ × Record)). LeavesOnly d' e (StandsForRound x'.layout s xs p.cut)) (append_assoc now.0 p.fresh p.logged) leaves)
 
-pub stood_round : {A P : Type 0} (x x' : Known) (d d' : Device) (r0 r1 : List (Consumer Record A P)) (w0 w1 : List (Option Record)) (n : ℕ) (s : Setting) (p : Past) (e : Device) → (drains : Drains x d r0 w0 x' d' r1 w1 n) → (taken : HasTaken x d r0 w0 s p) →
-    ((s : Setting) (p : Past) → HasPast x' s p d' → LeavesOnly d' e (StandsForRound x'.layout s (applied p) p.cut)) → Stood x.layout s p d e
-stood_round x x' d d' r0 r1 w0 w1 n s p e drains taken moment =
+-- of each lane, what its rings have is what was applied of it, and more
+abbrev pub Follows : {A P : Type 0} → List (Consumer Record A P) → List (ℕ × Record) → Type 0
+Follows rings log = (l : ℕ) → (later : List Record) × (received_of rings l ++ known_of rings l ≡ stream l log ++ later)
+
+pub taken_follows : {A P : Type 0} (x : Known) (d : Device) (r : List (Consumer Record A P)) (w : List (Option Record)) (s : Setting) (p : Past) → HasTaken x d r w s p → Follows r (applied p)
+taken_follows x d r w s p was = λ l.
+    (held_back (waiting_in w l) ++ known_of r l, ap (λ (xs : List Record). xs ++ known_of r l) (was.taken l) ∙ append_assoc (stream l (applied p)) (held_back (waiting_in w l)) (known_of r l))
+
+pub stood_round : {A P : Type 0} (x x' : Known) (d d' : Device) (r0 r1 : List (Consumer Record A P)) (w0 w1 : List (Option Record)) (n : ℕ) (s : Setting) (p : Past) (e : Device) (ended : List Ended) → (drains : Drains x d r0 w0 x' d' r1 w1 n) → (taken : HasTaken x d r0 w0 s p) →
+    ((log : List (ℕ × Record)) → Follows r1 log → AreSent ended log) → ((s : Setting) (p : Past) → HasPast x' s p d' → LeavesOnly d' e (StandsForRound x'.layout s (applied p) p.cut)) → Stood x.layout s p ended d e
+stood_round x x' d d' r0 r1 w0 w1 n s p e ended drains taken meets moment =
     let now = drains_taken x x' d d' r0 r1 w0 w1 n s p drains taken in
     record {
       newer = now.0;
       legal = subst (IsLegal s) (append_assoc now.0 p.fresh p.logged) now.2.has.past.legal;
+      sent = λ none complete. meets (now.0 ++ applied p) (subst (λ (log : List (ℕ × Record)). Follows r1 log) (append_assoc now.0 p.fresh p.logged) (taken_follows x' d' r1 w1 s (applied_more now.0 p) now.2));
       leaves = subst (λ l. LeavesOnly d e (StandsForRound l s (now.0 ++ applied p) p.cut)) drains.advances.layout (moment_round x x' d d' r0 r1 w0 w1 n s p e drains taken moment);
     }
 
-pub stood_still : (l : Layout) (s : Setting) (p : Past) (d e : Device) → IsLegal s (applied p) → e ≡ d → Stood l s p d e
-stood_still l s p d e legal same = record { newer = []; legal = legal; leaves = moment_drained d e l s (applied p) p.cut same }
+pub stood_still : (l : Layout) (s : Setting) (p : Past) (ended : List Ended) (d e : Device) → IsLegal s (applied p) → (HoldNone ended → IsComplete l.lanes ended → AreSent ended (applied p)) → e ≡ d → Stood l s p ended d e
+stood_still l s p ended d e legal sent same = record { newer = []; legal = legal; sent = sent; leaves = moment_drained d e l s (applied p) p.cut same }
 
 -- whatever a drain answered, the helper goes on
 pub drains_either : {A P E : Type 0} (x x' : Known) (d d' : Device) (r0 r1 : List (Consumer Record A P)) (w0 w1 : List (Option Record)) (b b' : Bool) (count place : ℕ → ℕ) (s : Setting) (p : Past) (answer : Result ℕ E) → IfOk answer (λ n. Drains x d r0 w0 x' d' r1 w1 n) →

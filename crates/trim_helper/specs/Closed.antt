@@ -1,5 +1,6 @@
 -- What stands once both ends have met.
-use Rattle.std.specs.Prelude.{ℕ, ◌<◌, ◌≤◌, ◌++◌, List, Result, Ok, Err}
+use Rattle.std.specs.Prelude.{ℕ, ◌≡◌, ◌<◌, ◌≤◌, ◌++◌, List, All, Result, Ok, Err}
+use Rattle.rtrb.specs.Ring.{sent}
 use Rattle.heap_model.specs.declared.event.Event.{Event}
 use Rattle.heap_model.specs.Setting.{Setting}
 use Rattle.heap_model.specs.History.{state_after, log_of}
@@ -17,6 +18,9 @@ use Rattle.store_image.specs.KeptHeap.{StandsForCut, values_below}
 use Rattle.monitor.specs.Seats.{Final}
 use Rattle.trim_helper.specs.Helping.{Spells}
 use Rattle.trim_helper.specs.Serving.{Among, Part, IsOneHistory}
+use Rattle.trim_helper.specs.declared.ended.Ended.{Ended}
+use Rattle.trim_helper.specs.Endings.{HoldNone, IsComplete}
+use Rattle.trim_helper.specs.Rings.{stream}
 
 -- One legal history has these threads' views as its parts, and the device stands for its heap with all its sections, which is
 -- the heap after it. None of them was told of more sections than were acknowledged.
@@ -32,11 +36,20 @@ pub record HasSpelled (s : Setting) (lanes : ℕ) (l : Layout) (parts : List Par
   pub closed : IsClosedDown s lanes l parts acknowledged d
   pub spelled : Spells words (state_after s closed.history)
 
+-- the session sent the records that the log has of its lane, in their order, and maybe more
+abbrev pub WasSent : List (ℕ × Record) → Ended → Type 0
+WasSent log e = (later : List Record) × (sent e.producer ≡ stream e.lane.0 log ++ later)
+
+-- each of these sessions did
+abbrev pub AreSent : List Ended → List (ℕ × Record) → Type 0
+AreSent ended log = All (WasSent log) ended
+
 -- Since the one moment a crash may have left what stands for the heap of what was acknowledged, or of the stable cut, of these records
--- and those applied since.
-pub record Stood (l : Layout) (s : Setting) (p : Past) (since now : Device) : Type 0 where
+-- and those applied since. Once the sessions were let meet, all of these are what they had sent.
+pub record Stood (l : Layout) (s : Setting) (p : Past) (ended : List Ended) (since now : Device) : Type 0 where
   pub newer : List (ℕ × Record)
   pub legal : IsLegal s (newer ++ applied p)
+  pub sent : HoldNone ended → IsComplete l.lanes ended → AreSent ended (newer ++ applied p)
   pub leaves : LeavesOnly since now (StandsForRound l s (newer ++ applied p) p.cut)
 
 -- the device that is given back, whatever is answered

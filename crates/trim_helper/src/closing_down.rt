@@ -110,7 +110,7 @@ fn finish<D: Disk>(
     ensures why { (s : Setting) (p : Past) → HasTaken store.old.known (D.device store.old.disk) rings.old waiting.old s p
         → IfErr result (λ e. IsCloseWhy store.old.known (D.device store.old.disk) (D.device store.new.disk) e) }
     ensures any_moment { (s : Setting) (p : Past) → HasTaken store.old.known (D.device store.old.disk) rings.old waiting.old s p
-        → Stood store.old.known.layout s p (D.device store.old.disk) (D.device store.new.disk) }
+        → Stood store.old.known.layout s p ended.items (D.device store.old.disk) (D.device store.new.disk) }
 {
     log_law();
     own_log_law();
@@ -152,7 +152,7 @@ pub fn close_down<D: Disk>(
     ensures refused { MatchResult result (λ disk. HoldNone ended.items × IsComplete helper.store.known.layout.lanes ended.items) (λ back. RefusesClosing helper.store.known.layout.lanes ended.items back.1) }
     ensures why { IfErr result (λ back. IsCloseWhy helper.store.known (D.device helper.store.disk) (D.device back.0) back.1) }
     ensures any_moment { (s : Setting) (p : Past) → HasTaken helper.store.known (D.device helper.store.disk) helper.rings helper.waiting s p
-        → Stood helper.store.known.layout s p (D.device helper.store.disk) (D.device (disk_of result)) }
+        → Stood helper.store.known.layout s p ended.items (D.device helper.store.disk) (D.device (disk_of result)) }
 {
     let Helper { serving } = helper;
     close_serving(shared, ended, serving)
@@ -174,7 +174,7 @@ fn close_serving<D: Disk>(
     ensures why { (s : Setting) (p : Past) → HasTaken helper.store.known (D.device helper.store.disk) helper.rings.items helper.waiting s p
         → IfErr result (λ back. IsCloseWhy helper.store.known (D.device helper.store.disk) (D.device back.0) back.1) }
     ensures any_moment { (s : Setting) (p : Past) → HasTaken helper.store.known (D.device helper.store.disk) helper.rings.items helper.waiting s p
-        → Stood helper.store.known.layout s p (D.device helper.store.disk) (D.device (disk_of result)) }
+        → Stood helper.store.known.layout s p ended.items (D.device helper.store.disk) (D.device (disk_of result)) }
 {
     let Serving {
         mut store,

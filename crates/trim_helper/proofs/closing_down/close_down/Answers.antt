@@ -14,7 +14,7 @@ returns-clause-ok g c = λ p has.
 
 pub returns-clause-any_moment : goal.returns-clause-any_moment
 returns-clause-any_moment g c = λ s p has.
-    subst (λ x. Stood x.store.known.layout s p (g.D.Disk.device x.store.disk) (g.D.Disk.device (disk_of c.close_serving.result))) c.helper.view_is
+    subst (λ x. Stood x.store.known.layout s p c.args.ended.items (g.D.Disk.device x.store.disk) (g.D.Disk.device (disk_of c.close_serving.result))) c.helper.view_is
     (c.close_serving.ensures.any_moment s p (subst (λ x. HasTaken x.store.known (g.D.Disk.device x.store.disk) x.rings x.waiting s p) (sym c.helper.view_is) has))
 
 pub returns-clause-why : goal.returns-clause-why

@@ -1,5 +1,6 @@
 use Rattle.std.proofs.Common.{[], ◌++◌, ap, sym, subst}
 use Rattle.trim_helper.proofs.Rounds.{stood_still}
+use Rattle.trim_helper.proofs.Sent.{never_refused}
 use Rattle.trim_helper.specs.Closed.{IsClosedDown, Stood}
 use Rattle.trim_helper.specs.Endings.{HoldNone, IsCloseWhy, IsComplete, RefusesEnded, parts_of}
 use Rattle.trim_helper.proofs.Gathering.{closing_refused, ended_refused}
@@ -15,15 +16,18 @@ returns-in-Ok-clause-ok g c = λ p has.
 pub returns-in-Ok-clause-any_moment : goal.returns-in-Ok-clause-any_moment
 returns-in-Ok-clause-any_moment g c = λ s p has.
     let round = c.finish.ensures.any_moment s p (subst (λ rings. HasTaken c.args.helper.store.known (g.D.Disk.device c.args.helper.store.disk) rings c.args.helper.waiting s p) (sym c.deref_mut.ensures.value) has) in
-    subst (λ disk. Stood c.args.helper.store.known.layout s p (g.D.Disk.device c.args.helper.store.disk) (g.D.Disk.device disk)) (sym c.into_disk-in-Ok.ensures.disk) round
+    subst (λ disk. Stood c.args.helper.store.known.layout s p c.args.ended.items (g.D.Disk.device c.args.helper.store.disk) (g.D.Disk.device disk)) (sym c.into_disk-in-Ok.ensures.disk) round
 
 pub returns-clause-any_moment : goal.returns-clause-any_moment
 returns-clause-any_moment g c = λ s p has.
     let round = c.finish.ensures.any_moment s p (subst (λ rings. HasTaken c.args.helper.store.known (g.D.Disk.device c.args.helper.store.disk) rings c.args.helper.waiting s p) (sym c.deref_mut.ensures.value) has) in
-    subst (λ disk. Stood c.args.helper.store.known.layout s p (g.D.Disk.device c.args.helper.store.disk) (g.D.Disk.device disk)) (sym c.into_disk-in-Err-finish.ensures.disk) round
+    subst (λ disk. Stood c.args.helper.store.known.layout s p c.args.ended.items (g.D.Disk.device c.args.helper.store.disk) (g.D.Disk.device disk)) (sym c.into_disk-in-Err-finish.ensures.disk) round
 
 pub returns-in-Err-clause-any_moment : goal.returns-in-Err-clause-any_moment
-returns-in-Err-clause-any_moment g c = λ s p has. stood_still _ s p _ _ has.has.past.legal (ap g.D.Disk.device c.into_disk.ensures.disk)
+returns-in-Err-clause-any_moment g c = λ s p has.
+    let lanes = ap (λ l. l.lanes) c.layout-lanes.ensures in
+    let why = subst (λ n. RefusesEnded n c.args.ended.items c.in-Err.reason) lanes (subst (λ es. RefusesEnded c.layout-lanes.result.lanes es c.in-Err.reason) c.deref.ensures.value c.in-Err.ensures) in
+    stood_still _ s p c.args.ended.items _ _ has.has.past.legal (λ none complete. absurd (never_refused c.args.helper.store.known.layout.lanes c.args.ended.items c.in-Err.reason why none complete)) (ap g.D.Disk.device c.into_disk.ensures.disk)
 
 pub returns-in-Err-clause-refused : goal.returns-in-Err-clause-refused
 returns-in-Err-clause-refused g c =

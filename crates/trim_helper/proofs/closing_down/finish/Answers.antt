@@ -6,7 +6,11 @@ use Rattle.trim_helper.specs.Meeting.{HasPart}
 use Rattle.trim_helper.specs.Taken.{applied_more}
 use Rattle.block_disk.specs.Device.{HasFailed}
 use Rattle.trim_helper.proofs.ClosingReasons.{why_drained, why_settled}
-use Rattle.trim_helper.proofs.Rounds.{looks_drains, looks_taken, stood_round, stood_still}
+use Rattle.trim_helper.proofs.Rounds.{looks_drains, looks_taken, stood_round, stood_still, taken_follows}
+use Rattle.trim_helper.proofs.Sent.{HasMet, are_sent}
+use Rattle.trim_helper.specs.Serving.{Among, Part}
+use Rattle.trim_helper.specs.Endings.{parts_of}
+use Rattle.store_past.specs.Past.{applied}
 use Rattle.trim_helper.proofs.Closing.{all_applied, all_free, has_spelled, same_lanes}
 use Rattle.trim_helper.proofs.closing_down.finish.Goals as goal
 
@@ -32,15 +36,25 @@ returns-clause-ok g c = λ p has places.
     c.settle_applied.new.store.known (g.D.Disk.device c.settle_applied.new.store.disk) settled.0.now settled.0.has c.in_default-settle_applied.ensures.running settled.1 (same_lanes _ _ _ settled.0.same all.2) free))
 
 pub returns-in-Err-clause-any_moment : goal.returns-in-Err-clause-any_moment
-returns-in-Err-clause-any_moment g c = λ s p has. stood_still _ s p _ _ has.has.past.legal c.in-Err.ensures.kept.1.device
+returns-in-Err-clause-any_moment g c = λ s p has.
+    let now = looks_taken _ _ _ _ _ s p c.meet.ensures.looks has in
+    let each : (x : Part) → Among (parts_of c.args.ended.items) x → HasMet c.args.shared c.meet.new.rings x = λ x among. c.meet.ensures.met.whole x (subst (λ parts. Among parts x) (sym c.meet.ensures.gathered) among) in
+    stood_still _ s p c.args.ended.items _ _ has.has.past.legal
+    (λ none complete. are_sent c.args.shared _ c.args.rings.now c.meet.new.rings c.args.ended.items (applied p) c.requires.ended each (taken_follows _ _ _ _ s p now)) c.in-Err.ensures.kept.1.device
 
 pub returns-in-Err-settle_applied-clause-any_moment : goal.returns-in-Err-settle_applied-clause-any_moment
 returns-in-Err-settle_applied-clause-any_moment g c = λ s p has.
-    stood_round _ _ _ _ _ _ _ _ _ s p _ (looks_drains _ _ _ _ _ c.meet.new.rings _ _ _ _ c.requires.room c.meet.ensures.looks c.in_default.ensures.advances) has c.in-Err-settle_applied.ensures.any_moment
+    let on = c.in_default.ensures.advances in
+    let each : (x : Part) → Among (parts_of c.args.ended.items) x → HasMet c.args.shared c.drain_known.new.rings x = λ x among. on.whole x.lane ∙ c.meet.ensures.met.whole x (subst (λ parts. Among parts x) (sym c.meet.ensures.gathered) among) in
+    stood_round _ _ _ _ _ _ _ _ _ s p _ c.args.ended.items (looks_drains _ _ _ _ _ c.meet.new.rings _ _ _ _ c.requires.room c.meet.ensures.looks on) has
+    (λ log follows. are_sent c.args.shared _ c.args.rings.now c.drain_known.new.rings c.args.ended.items log c.requires.ended each follows) c.in-Err-settle_applied.ensures.any_moment
 
 pub returns-clause-any_moment : goal.returns-clause-any_moment
 returns-clause-any_moment g c = λ s p has.
-    stood_round _ _ _ _ _ _ _ _ _ s p _ (looks_drains _ _ _ _ _ c.meet.new.rings _ _ _ _ c.requires.room c.meet.ensures.looks c.in_default.ensures.advances) has c.in_default-settle_applied.ensures.any_moment
+    let on = c.in_default.ensures.advances in
+    let each : (x : Part) → Among (parts_of c.args.ended.items) x → HasMet c.args.shared c.drain_known.new.rings x = λ x among. on.whole x.lane ∙ c.meet.ensures.met.whole x (subst (λ parts. Among parts x) (sym c.meet.ensures.gathered) among) in
+    stood_round _ _ _ _ _ _ _ _ _ s p _ c.args.ended.items (looks_drains _ _ _ _ _ c.meet.new.rings _ _ _ _ c.requires.room c.meet.ensures.looks on) has
+    (λ log follows. are_sent c.args.shared _ c.args.rings.now c.drain_known.new.rings c.args.ended.items log c.requires.ended each follows) c.in_default-settle_applied.ensures.any_moment
 
 pub returns-in-Err-clause-why : goal.returns-in-Err-clause-why
 returns-in-Err-clause-why g c = λ s p taken.
