@@ -1,13 +1,14 @@
 -- What a recovery leaves of an image that stands for the kept heap, wherever it ends.
-use Rattle.std.proofs.Common.{ℕ, Result, Ok, Err, IfOk, IfErr, MatchResult, ◌≡◌, ◌∙◌, ⊎_elim, List, [], ◌∷◌, length, refl, sym, ap, subst, inl, inr, arith}
+use Rattle.std.proofs.Common.{ℕ, Result, Ok, Err, IfOk, IfErr, MatchResult, ◌≡◌, ◌∙◌, ◌+◌, ◌<◌, ⊎_elim, List, [], ◌∷◌, length, refl, sym, ap, subst, inl, inr, arith}
 use Rattle.heap_model.specs.Setting.{Setting}
 use Rattle.block_disk.specs.Device.{Device, Moment, synced}
 use Rattle.block_disk.specs.Images.{Always, LeavesOnly}
 use Rattle.block_disk.proofs.Images.{after_sync, always_now, always_only, and_then, leaves_synced, left_now, now_too, stays, weaker}
 use Rattle.image.specs.Recovered.{Parts}
+use Rattle.image.specs.declared.control.Control.{Control}
 use Rattle.image.specs.declared.layout.Layout.{Layout}
 use Rattle.store_past.specs.Past.{Past}
-use Rattle.recover.specs.Recovery.{AreAlike, IsCutOff, IsOnTheWay, IsRecovery, OneStudyLaw, SameReports, StudiedLaw}
+use Rattle.recover.specs.Recovery.{AreAlike, IsCutOff, IsEnded, IsOnTheWay, IsRecovery, OneStudyLaw, SameReports, StudiedLaw}
 use Rattle.recover.specs.declared.error.RecoverError.{RecoverError}
 use Rattle.recover.specs.declared.report.Report.{Report}
 use Rattle.recover.specs.Study.{IsStudyOf, held_by}
@@ -85,24 +86,39 @@ kept_on one l s p (a ∷ later) image last kept (now, cut_off, (next, left, rest
 record IsTried (first : Study) (image : List ℕ) : Type 0 where
   again : Study
   of : IsStudyOf image again
-  tells : TellsAgain first again.heap.items again.report
+  tells : TellsAgain first (again.control.sequence + 1) again.heap.items again.report
 
-same_told : (first a b : Study) → AreAlike b a → TellsAgain first a.heap.items a.report → TellsAgain first b.heap.items b.report
-same_told first a b same tells = record {
-  heap_is = same.heaps ∙ tells.heap_is;
-  reported = ⊎_elim
-      (λ told. inl (record {
-        kept_same = λ lane. same.reports_same.kept_same lane ∙ told.kept_same lane;
-        dropped_same = same.reports_same.dropped_same ∙ told.dropped_same;
-        undone_same = same.reports_same.undone_same ∙ told.undone_same;
-      }))
-      (λ ended. inr (record {
-        kept_none = λ lane. same.reports_same.kept_same lane ∙ ended.kept_none lane;
-        dropped_none = same.reports_same.dropped_same ∙ ended.dropped_none;
-        undone_none = same.reports_same.undone_same ∙ ended.undone_none;
-      }))
-      tells.reported;
-}
+same_told : (first a b : Study) → AreAlike b a → TellsAgain first (a.control.sequence + 1) a.heap.items a.report → TellsAgain first (b.control.sequence + 1) b.heap.items b.report
+same_told first a b same tells =
+    let sequences : b.control.sequence ≡ a.control.sequence = ap (λ (c : Control). c.sequence) same.controls in
+    record {
+      heap_is = same.heaps ∙ tells.heap_is;
+      reported = ⊎_elim
+          (λ told. inl (
+            omega (arith, sequences, told.0),
+            record {
+              kept_same = λ lane. same.reports_same.kept_same lane ∙ told.1.kept_same lane;
+              dropped_same = same.reports_same.dropped_same ∙ told.1.dropped_same;
+              undone_same = same.reports_same.undone_same ∙ told.1.undone_same;
+            },
+          ))
+          (λ ended. inr (
+            omega (arith, sequences, ended.0),
+            record {
+              kept_none = λ lane. same.reports_same.kept_same lane ∙ ended.1.kept_none lane;
+              dropped_none = same.reports_same.dropped_same ∙ ended.1.dropped_none;
+              undone_none = same.reports_same.undone_same ∙ ended.1.undone_none;
+            },
+          ))
+          tells.reported;
+    }
+
+-- the control of an ended recovery has a greater sequence than the first
+later_control : (first study again e : Study) → AreAlike study again → TellsAgain first (again.control.sequence + 1) again.heap.items again.report → IsEnded study e → first.control.sequence + 1 < e.control.sequence + 1
+later_control first study again e same tells ended =
+    let sequences : study.control.sequence ≡ again.control.sequence = ap (λ (c : Control). c.sequence) same.controls in
+    let next : e.control.sequence ≡ study.control.sequence + 1 = ap (λ (c : Control). c.sequence) ended.control_is in
+    ⊎_elim (λ told. omega (arith, sequences, next, told.0)) (λ after. omega (arith, sequences, next, after.0)) tells.reported
 
 -- so it is of each image on the way
 tried_way : OneStudyLaw → (first : Study) (old : List ℕ) → IsTried first old → (study : Study) → IsStudyOf old study → (image : List ℕ) → IsOnTheWay study image → IsTried first image
@@ -112,7 +128,10 @@ tried_way one first old tried study of image (inr (e, ended, is)) = record {
   of = is;
   tells = record {
     heap_is = ended.heap_is ∙ (one old study tried.again of tried.of).heaps ∙ tried.tells.heap_is;
-    reported = inr (record { kept_none = ended.kept_none; dropped_none = ended.dropped_none; undone_none = ended.undone_none });
+    reported = inr (
+      later_control first study tried.again e (one old study tried.again of tried.of) tried.tells ended,
+      record { kept_none = ended.kept_none; dropped_none = ended.dropped_none; undone_none = ended.undone_none },
+    );
   };
 }
 
@@ -128,7 +147,7 @@ tried_law one attempts image last first again of tries of_last =
     let begun : IsTried first image = record {
       again = first;
       of = of;
-      tells = record { heap_is = refl; reported = inl (record { kept_same = λ lane. refl; dropped_same = refl; undone_same = refl }) };
+      tells = record { heap_is = refl; reported = inl (refl, record { kept_same = λ lane. refl; dropped_same = refl; undone_same = refl }) };
     } in
     let found : IsTried first last = tried_on one first attempts image last begun tries in
     same_told first found.again again (one last again found.again of_last found.of) found.tells

@@ -1,5 +1,5 @@
 -- What survives a whole run.
-use Rattle.std.proofs.Common.{◌≡◌, ◌⊎◌, inl, inr, ⊎_elim, ℕ, ◌<◌, ◌≤◌, ◌++◌, Bool, true, false, List, [], ◌∷◌, Option, Some, None, Result, Ok, Err, MatchResult, IfOk, IfErr, length, take, slice_get, refl, sym, ◌∙◌, subst, arith}
+use Rattle.std.proofs.Common.{◌≡◌, ◌⊎◌, inl, inr, ⊎_elim, ℕ, ◌+◌, ◌<◌, ◌≤◌, ◌++◌, Bool, true, false, List, [], ◌∷◌, Option, Some, None, Result, Ok, Err, MatchResult, IfOk, IfErr, length, take, slice_get, refl, sym, ◌∙◌, subst, arith}
 use Rattle.heap_model.specs.Setting.{Setting}
 use Rattle.heap_model.specs.Sections.{actions}
 use Rattle.heap_model.specs.Cuts.{IsWhole, IsClosed, IsStable, counts_of}
@@ -279,15 +279,16 @@ studied_again x s p calls old new image last attempts has studied on leaves left
 
 -- the heap and the report of each try are those of the first
 told_again : {E : Type 0} (device : E → Device) (there : Device) (image : List ℕ) (attempts : List Attempt) (first : Study) → IsStudyOf image first → TriedLaw → AreCutOff attempts image there.now.bytes →
-    (answer : Result (Parts E × Report) (E × RecoverError)) → IfOk answer (λ r. IsRecovery there (device r.0.disk) r.0 r.1) → IfOk answer (λ r. TellsAgain first r.0.heap r.1)
+    (answer : Result (Parts E × Report) (E × RecoverError)) → IfOk answer (λ r. IsRecovery there (device r.0.disk) r.0 r.1) → IfOk answer (λ r. TellsAgain first r.0.sequence r.0.heap r.1)
 told_again device there image attempts first of tried tries (Ok r) done =
-    subst (λ (heap : List ℕ). TellsAgain first heap r.1) (sym done.heap_is)
-    (subst (λ (report : Report). TellsAgain first done.study.heap.items report) (sym done.report_is) (tried attempts image there.now.bytes first done.study of tries done.of))
+    subst (λ (n : ℕ). TellsAgain first n r.0.heap r.1) (sym done.sequence_is)
+    (subst (λ (heap : List ℕ). TellsAgain first (done.study.control.sequence + 1) heap r.1) (sym done.heap_is)
+    (subst (λ (report : Report). TellsAgain first (done.study.control.sequence + 1) done.study.heap.items report) (sym done.report_is) (tried attempts image there.now.bytes first done.study of tries done.of)))
 told_again device there image attempts first of tried tries (Err back) done = tt
 
 pub tried_again : {E : Type 0} (x : Known) (s : Setting) (p : Past) (calls : List StoreCall) (old new : Device) (device : E → Device) (there : Device) (image : List ℕ) (attempts : List Attempt) → HasPast x s p old →
     HasStudyLaw → TriedLaw → LeavesOnly old new (ShowsAfterSome x.layout s p calls) → MayBeLeft old new image → AreCutOff attempts image there.now.bytes →
-    (answer : Result (Parts E × Report) (E × RecoverError)) → IfOk answer (λ r. IsRecovery there (device r.0.disk) r.0 r.1) → (first : Study) × IsStudyOf image first × IfOk answer (λ r. TellsAgain first r.0.heap r.1)
+    (answer : Result (Parts E × Report) (E × RecoverError)) → IfOk answer (λ r. IsRecovery there (device r.0.disk) r.0 r.1) → (first : Study) × IsStudyOf image first × IfOk answer (λ r. TellsAgain first r.0.sequence r.0.heap r.1)
 tried_again x s p calls old new device there image attempts has studied tried leaves left tries answer done =
     let some = shows_some x s p calls old new image has leaves left in
     let by = left_by x.layout s some.then some.doubt image some.is some.of_lanes some.shows in

@@ -1,5 +1,5 @@
 -- Recovery that is cut off, or answers a fault, and is run again: any number of times it is of the same heap (this project's own).
-use Rattle.std.specs.Prelude.{ℕ, ◌≡◌, ◌⊎◌, ◌<◌, List, [], ◌∷◌}
+use Rattle.std.specs.Prelude.{ℕ, ◌≡◌, ◌+◌, ◌⊎◌, ◌<◌, List, [], ◌∷◌}
 use Rattle.heap_model.specs.Cuts.{counts_of}
 use Rattle.heap_model.specs.Setting.{Setting}
 use Rattle.block_disk.specs.Device.{Device}
@@ -75,15 +75,16 @@ AreCutOff (a ∷ later) image last =
 abbrev pub KeptOnLaw : Type 0
 KeptOnLaw = (l : Layout) (s : Setting) (p : Past) (attempts : List Attempt) (image last : List ℕ) → IsKept l s p image → AreCutOff attempts image last → IsKept l s p last
 
--- a try gives the heap that the first one finds, and reports all that it does, unless a recovery has ended before
-pub record TellsAgain (first : Study) (heap : List ℕ) (report : Report) : Type 0 where
+-- What a try gives and reports, by the sequence of its control: that heap, and all that the first try reports, as long as the
+-- sequence is the first one's; a greater one shows that a recovery has ended.
+pub record TellsAgain (first : Study) (sequence : ℕ) (heap : List ℕ) (report : Report) : Type 0 where
   pub heap_is : heap ≡ first.heap.items
-  pub reported : SameReports report first.report ⊎ HasEnded report
+  pub reported : ((sequence ≡ first.control.sequence + 1) × SameReports report first.report) ⊎ ((first.control.sequence + 1 < sequence) × HasEnded report)
 
 -- However often an image is tried, each try finds and tells what the first one does, the dropped sections with their reasons and the
 -- number of fields that take an old value back included.
 abbrev pub TriedLaw : Type 0
-TriedLaw = (attempts : List Attempt) (image last : List ℕ) (first again : Study) → IsStudyOf image first → AreCutOff attempts image last → IsStudyOf last again → TellsAgain first again.heap.items again.report
+TriedLaw = (attempts : List Attempt) (image last : List ℕ) (first again : Study) → IsStudyOf image first → AreCutOff attempts image last → IsStudyOf last again → TellsAgain first (again.control.sequence + 1) again.heap.items again.report
 
 -- The heap is one acknowledged after some of the calls, and what is reported as kept are its sections, unless a recovery has ended before.
 pub record SurvivesAgain (x : Known) (s : Setting) (p : Past) (calls : List StoreCall) (heap : List ℕ) (report : Report) : Type 0 where

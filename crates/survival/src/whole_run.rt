@@ -67,7 +67,7 @@ pub fn play_and_recover<D: Disk, E: Disk>(
         → MatchResult result.recovered (λ r. SurvivesAgain store.old.known s p calls.now r.0.heap r.1) (λ back. CannotRecover (E.device left).now.bytes back.1) }
     ensures tried { (s : Setting) (p : Past) → HasPast store.old.known s p (D.device store.old.disk)
         → (image : List ℕ) (attempts : List Attempt) → MayBeLeft (D.device store.old.disk) (D.device store.new.disk) image → AreCutOff attempts image (E.device left).now.bytes
-        → (first : Shape) × IsStudyOf image first × IfOk result.recovered (λ r. TellsAgain first r.0.heap r.1) }
+        → (first : Shape) × IsStudyOf image first × IfOk result.recovered (λ r. TellsAgain first r.0.sequence r.0.heap r.1) }
     ensures studied { (s : Setting) (p : Past) → HasPast store.old.known s p (D.device store.old.disk)
         → (image : List ℕ) (attempts : List Attempt) → MayBeLeft (D.device store.old.disk) (D.device store.new.disk) image → AreCutOff attempts image (E.device left).now.bytes
         → (study : Shape) × IsStudyOf (E.device left).now.bytes study }
