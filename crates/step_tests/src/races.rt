@@ -1,89 +1,65 @@
 //! Threads that take and leave one object and their own. An object's release number says how often it was taken.
 
-ghost use Rattle.std.specs.Prelude.{◌≡◌, ◌<◌};
-ghost use Rattle.monitor.specs.Words.{objects};
+ghost use Rattle.std.specs.Prelude.{◌<◌, ◌≤◌, All};
+ghost use Rattle.steps.specs.Views.{plan};
 ghost use Rattle.one_monitor.specs.Idle.{IsIdle};
+ghost use Rattle.one_monitor.specs.Race.{IsRacer};
 
-use heap_model::ObjectId;
-use lock_word::Shape;
 use monitor::{Seat, Shared};
-use one_monitor::{deal, nine_objects, take_often};
-use std::alloc::AllocError;
+use one_monitor::{Racer, deal, is_right, nine_objects, race, racers};
+use std::alloc::Global;
 use std::test::Fail;
-use std::thread::{Threads, join};
+use std::thread::Threads;
 
-// Rounds on the object that all share, then as many on one's own. Answers how often each was taken.
-fn work(shared: &Shared, seat: Seat, own: ObjectId, rounds: u64) -> (u64, u64)
-    requires idle { IsIdle shared.now seat }
-    requires object { (0 < objects shared.now.plan) × (own.0 < objects shared.now.plan) }
+// So many threads take the object of all so many times, and each its own. Answers whether none gave up and the release
+// numbers say the same; `None` is want of memory.
+fn run<R: Threads + Sync>(rt: &R, alloc: Global, threads: u8, rounds: u64) -> Option<bool>
+    requires { threads ≤ 8 }
 {
-    let mut seat = seat;
-    let all = take_often(shared, &mut seat, ObjectId(0), rounds);
-    let alone = take_often(shared, &mut seat, own, rounds);
-    (all, alone)
+    let (shared, mut helper) = nine_objects(alloc)?;
+    let mut seat = deal(&shared, &mut helper);
+    let Ok(mut all) = racers(alloc, &shared, &mut helper, threads) else {
+        return None;
+    };
+    Some(is_whole_race(rt, &shared, &mut seat, &mut all, rounds))
 }
 
-// Two threads work, each on object 0 and on its own, `first` and the next. Answers what each did.
-fn two<R: Threads + Sync>(
+// One race of these racers. `seat` is an onlooker's.
+fn is_whole_race<R: Threads + Sync>(
     rt: &R,
     shared: &Shared,
-    a: Seat,
-    b: Seat,
-    first: u32,
+    seat: &mut Seat,
+    all: &mut [Racer],
     rounds: u64,
-) -> ((u64, u64), (u64, u64))
-    requires seats { IsIdle shared.now a × IsIdle shared.now b }
-    requires objects { (objects shared.now.plan ≡ 9) × (first < 8) }
+) -> bool
+    requires idle { IsIdle shared.now seat.old }
+    requires object { 0 < (plan shared.now).objects }
+    requires ready { All (IsRacer shared.now) all.old }
 {
-    join(
-        rt,
-        || work(shared, a, ObjectId(first), rounds),
-        || work(shared, b, ObjectId(first + 1), rounds),
-    )
+    race(rt, shared, all, rounds);
+    is_right(shared, seat, all) && is_whole(all, rounds)
 }
 
-// How often the object was taken, by its release number.
-fn times_taken(shared: &Shared, seat: &mut Seat, object: ObjectId) -> u64
-    requires seat { IsIdle shared.now seat.old }
-    requires object { object.0 < objects shared.now.plan }
-    ensures seat { IsIdle shared.now seat.new }
-{
-    match steps::look(shared, seat, object).lock.shape() {
-        Shape::Free { number } => number,
-        Shape::Thin { .. } | Shape::Fat { .. } => 0,
-    }
+// Whether none gave up.
+fn is_whole(all: &[Racer], rounds: u64) -> bool {
+    all.iter().all(|racer| racer.all_takes == rounds && racer.own_takes == rounds)
 }
 
+// Each test takes 10^6 times in all, one half on the object of all.
 #[test]
 fn two_threads_take_one_object(rt: HostRuntime) -> Result<(), Fail> {
-    let (shared, mut helper) = nine_objects(rt.alloc()).ok_or(AllocError)?;
-    let a = deal(&shared, &mut helper);
-    let b = deal(&shared, &mut helper);
-    let mut seat = deal(&shared, &mut helper);
-    let done = two(&rt, &shared, a, b, 1, 250_000);
-    assert_eq!(rt; done, ((250_000, 250_000), (250_000, 250_000)));
-    assert_eq!(rt; times_taken(&shared, &mut seat, ObjectId(0)), 500_000);
-    assert_eq!(rt; times_taken(&shared, &mut seat, ObjectId(1)), 250_000);
-    assert_eq!(rt; times_taken(&shared, &mut seat, ObjectId(2)), 250_000);
+    assert_eq!(rt; run(&rt, rt.alloc(), 2, 250_000), Some(true));
     Ok(())
 }
 
 #[test]
 fn four_threads_take_one_object(rt: HostRuntime) -> Result<(), Fail> {
-    let (shared, mut helper) = nine_objects(rt.alloc()).ok_or(AllocError)?;
-    let a = deal(&shared, &mut helper);
-    let b = deal(&shared, &mut helper);
-    let c = deal(&shared, &mut helper);
-    let d = deal(&shared, &mut helper);
-    let mut seat = deal(&shared, &mut helper);
-    let done = join(
-        &rt,
-        || two(&rt, &shared, a, b, 1, 125_000),
-        || two(&rt, &shared, c, d, 3, 125_000),
-    );
-    let each = (125_000, 125_000);
-    assert_eq!(rt; done, ((each, each), (each, each)));
-    assert_eq!(rt; times_taken(&shared, &mut seat, ObjectId(0)), 500_000);
-    assert_eq!(rt; times_taken(&shared, &mut seat, ObjectId(4)), 125_000);
+    assert_eq!(rt; run(&rt, rt.alloc(), 4, 125_000), Some(true));
+    Ok(())
+}
+
+#[test]
+fn eight_threads_take_one_object(rt: HostRuntime) -> Result<(), Fail> {
+    assert_eq!(rt; run(&rt, rt.alloc(), 8, 62_500), Some(true));
     Ok(())
 }
