@@ -2,3 +2,5 @@
 pub mod Knowledge
 pub mod FreeList
 pub mod Calls
+-- The scaffold: the cells of the tests.
+pub mod Rows

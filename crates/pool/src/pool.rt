@@ -34,10 +34,26 @@ impl Model for Pool {
 }
 
 impl Pool {
-    ghost use Rattle.std.specs.Prelude.{◌≡◌, ◌<◌, ◌≤◌, ◌+◌, Ok, Err, Some, None, MatchResult};
-    ghost use Rattle.pool.specs.declared.error.PoolError.TheVariants.{Empty, Damaged};
+    ghost use Rattle.std.specs.Prelude.{◌≡◌, ◌<◌, ◌≤◌, ◌+◌, ◌^◌};
     ghost use Rattle.pool.specs.FreeList.{cell_of};
     ghost use Rattle.pool.specs.Calls.{TakeAnswers, GiveAnswers};
+
+    // The pool whose head is kept in this field, and its slots in those that follow.
+    pub(crate) fn at(head: FieldId, slots: u32) -> Pool
+        requires few { slots ≤ MOST_SLOTS }
+        requires room { head.0 + slots < 2 ^ 32 }
+        ensures head { result.head ≡ head.0 }
+        ensures slots { result.slots ≡ slots }
+    {
+        Pool { head, slots }
+    }
+
+    /// How many slots there are.
+    pub fn slots(&self) -> u32
+        ensures { result ≡ self.now.slots }
+    {
+        self.slots
+    }
 
     /// Takes the first slot of the free list. Two loads, and a store to two fields.
     ///
@@ -89,14 +105,14 @@ impl Pool {
         if mark != TAKEN {
             return Err(PoolError::NotTaken);
         }
-        let link = match cells.load(self.head) {
-            Ok(link) => link,
+        let rest = match cells.load(self.head) {
+            Ok(rest) => rest,
             Err(fault) => return Err(PoolError::Cells(fault)),
         };
-        if link > u64::from(self.slots) {
+        if rest > u64::from(self.slots) {
             return Err(PoolError::Damaged);
         }
-        match cells.store_two(self.head, u64::from(slot) + 1, cell, link) {
+        match cells.store_two(self.head, u64::from(slot) + 1, cell, rest) {
             Ok(()) => Ok(()),
             Err(fault) => Err(PoolError::Cells(fault)),
         }
