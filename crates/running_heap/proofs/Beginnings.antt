@@ -1,0 +1,143 @@
+-- The sessions of a heap that begins to run.
+use Rattle.std.proofs.Common.{ℕ, zero, suc, ◌≡◌, ◌+◌, ◌≤◌, List, [], ◌∷◌, ◌++◌, map, length, All, refl, sym, ap, ◌∙◌, subst, arith}
+use Rattle.std.proofs.lemmas.List.{append_assoc, length-append}
+use Rattle.std.proofs.lemmas.List.Elements.{All-nil, All-cons, All-head, All-tail}
+use Rattle.std.specs.Global.{Global}
+use Rattle.rtrb.specs.Ring.{IsPair}
+use Rattle.rtrb.specs.declared.AnyItems.{AnyItems}
+use Rattle.rtrb.specs.declared.consumer.Consumer.{Consumer}
+use Rattle.rtrb.specs.declared.producer.Producer.{Producer}
+use Rattle.heap_model.specs.declared.record.Record.{Record}
+use Rattle.monitor.specs.declared.view.Plan.{Plan}
+use Rattle.monitor.specs.declared.view.View as raw
+use Rattle.monitor.specs.Views.{lane_of}
+use Rattle.monitor.specs.Seats.{Home, Sitting, fresh_view, fresh_views}
+use Rattle.session.specs.Opened.{IsOpened, AreOpened}
+use Rattle.session.specs.Sessions.{IsSessionOf, view_of}
+use Rattle.session.specs.declared.session.Session.{Session}
+use Rattle.trim_helper.specs.Endings.{Rings}
+use Rattle.trim_helper.specs.Moves.{IsEndOf, most_room}
+use Rattle.trim_helper.specs.Rings.{received_of}
+use Rattle.trim_helper.specs.declared.rings.TheConstants.{RING_RECORDS}
+use Rattle.running_heap.specs.Joined.{IsJoined, AreNew}
+
+-- the views of so many lanes, from this one on
+abbrev views_from : Plan → (first count : ℕ) → List raw.View
+views_from k l zero = []
+views_from k l (suc n) = fresh_view k l ∷ views_from k (suc l) n
+
+one_more : (k : Plan) (l n : ℕ) → views_from k l n ++ fresh_view k (l + n) ∷ [] ≡ views_from k l (suc n)
+one_more k l zero = ap (λ m. fresh_view k m ∷ []) (omega arith)
+one_more k l (suc n) = ap (λ (vs : List raw.View). fresh_view k l ∷ vs) (ap (λ m. views_from k (suc l) n ++ fresh_view k m ∷ []) (omega arith) ∙ one_more k (suc l) n)
+
+in_order : (k : Plan) (n : ℕ) → fresh_views k n ≡ views_from k 0 n
+in_order k zero = refl
+in_order k (suc n) =
+    let from_0 : n ≡ 0 + n = omega arith in
+    ap (λ (vs : List raw.View). vs ++ fresh_view k n ∷ []) (in_order k n) ∙ ap (λ m. views_from k 0 n ++ fresh_view k m ∷ []) from_0 ∙ one_more k 0 n
+
+count_from : (k : Plan) (l n : ℕ) → length (views_from k l n) ≡ n
+count_from k l zero = refl
+count_from k l (suc n) = ap suc (count_from k (suc l) n)
+
+-- the ring behind those before it
+end_at : (before cs : Rings) (p : Producer Record Global AnyItems) (c : Consumer Record Global AnyItems) → IsPair p c → IsEndOf p (before ++ c ∷ cs) (length before)
+end_at [] cs p c pair = pair
+end_at (b ∷ before) cs p c pair = end_at before cs p c pair
+
+-- the seats' views are those of the lanes from this one on
+abbrev AreFrom : Plan → (first count : ℕ) → List Sitting → Type 0
+AreFrom k l n ss = map (λ s. s.view) ss ≡ views_from k l n
+
+first_view : (k : Plan) (l n : ℕ) (s : Sitting) (ss : List Sitting) → AreFrom k l n (s ∷ ss) → (m : ℕ) × (n ≡ suc m) × (s.view ≡ fresh_view k l) × AreFrom k (suc l) m ss
+first_view k l zero s ss is = absurd cc
+first_view k l (suc n) s ss is = (n, refl, (let a : s.view ∷ map (λ z. z.view) ss ≡ fresh_view k l ∷ views_from k (suc l) n = is in cc), (let a : s.view ∷ map (λ z. z.view) ss ≡ fresh_view k l ∷ views_from k (suc l) n = is in cc))
+
+module _ (capacity : ℕ) (k : Plan) where
+  lane_is : (l : ℕ) (s : Sitting) (x : Session) (c : Consumer Record Global AnyItems) → IsOpened capacity s x c → s.view ≡ fresh_view k l → (view_of x).lane.0 ≡ l
+  lane_is l s x c one is = ap (λ (z : Sitting). (lane_of z.view).0) one.seat ∙ ap (λ (v : raw.View). (lane_of v).0) is
+
+  -- each session is joined to the ring of its lane
+  are_joined : (h : Home) (before : Rings) (l n : ℕ) (ss : List Sitting) (xs : List Session) (cs : Rings) → length before ≡ l → AreFrom k l n ss → AreOpened capacity ss xs cs → All (IsSessionOf h) xs → All (IsJoined h capacity (before ++ cs)) xs
+  are_joined h before l n [] [] [] at from opened of = All-nil (IsJoined h capacity (before ++ []))
+  are_joined h before l n (s ∷ ss) (x ∷ xs) (c ∷ cs) at from opened of =
+      let first = first_view k l n s ss from in
+      let long : length (before ++ c ∷ []) ≡ suc l = omega (arith, length-append before (c ∷ [])) in
+      All-cons (IsJoined h capacity (before ++ c ∷ cs)) x xs
+      (record {
+        of = All-head (IsSessionOf h) x xs of;
+        holds = opened.0.lane;
+        ring = subst (λ m. IsEndOf x.ring (before ++ c ∷ cs) m) (at ∙ sym (lane_is l s x c opened.0 first.2)) (end_at before cs x.ring c opened.0.pair);
+      })
+      (subst (λ (rings : Rings). All (IsJoined h capacity rings) xs) (append_assoc before (c ∷ []) cs)
+      (are_joined h (before ++ c ∷ []) (suc l) first.0 ss xs cs long first.3 opened.1 (All-tail (IsSessionOf h) x xs of)))
+  are_joined h before l n [] [] (c ∷ cs) at from opened of = absurd opened
+  are_joined h before l n [] (x ∷ xs) [] at from opened of = absurd opened
+  are_joined h before l n [] (x ∷ xs) (c ∷ cs) at from opened of = absurd opened
+  are_joined h before l n (s ∷ ss) [] [] at from opened of = absurd opened
+  are_joined h before l n (s ∷ ss) [] (c ∷ cs) at from opened of = absurd opened
+  are_joined h before l n (s ∷ ss) (x ∷ xs) [] at from opened of = absurd opened
+
+  are_new : (l n : ℕ) (ss : List Sitting) (xs : List Session) (cs : Rings) → AreFrom k l n ss → AreOpened capacity ss xs cs → AreNew l xs
+  are_new l n [] [] [] from opened = tt
+  are_new l n (s ∷ ss) (x ∷ xs) (c ∷ cs) from opened =
+      let first = first_view k l n s ss from in
+      (lane_is l s x c opened.0 first.2, ap (λ (z : Sitting). z.view.events) opened.0.seat ∙ ap (λ (v : raw.View). v.events) first.2, are_new (suc l) first.0 ss xs cs first.3 opened.1)
+  are_new l n [] [] (c ∷ cs) from opened = absurd opened
+  are_new l n [] (x ∷ xs) [] from opened = absurd opened
+  are_new l n [] (x ∷ xs) (c ∷ cs) from opened = absurd opened
+  are_new l n (s ∷ ss) [] [] from opened = absurd opened
+  are_new l n (s ∷ ss) [] (c ∷ cs) from opened = absurd opened
+  are_new l n (s ∷ ss) (x ∷ xs) [] from opened = absurd opened
+
+  counts : (l n : ℕ) (ss : List Sitting) (xs : List Session) (cs : Rings) → AreFrom k l n ss → AreOpened capacity ss xs cs → (length xs ≡ n) × (length cs ≡ n)
+  counts l n [] [] [] from opened = let e = ap (λ (vs : List raw.View). length vs) from ∙ count_from k l n in (e, e)
+  counts l n (s ∷ ss) (x ∷ xs) (c ∷ cs) from opened =
+      let first = first_view k l n s ss from in
+      let rest = counts (suc l) first.0 ss xs cs first.3 opened.1 in
+      (ap suc rest.0 ∙ sym first.1, ap suc rest.1 ∙ sym first.1)
+  counts l n [] [] (c ∷ cs) from opened = absurd opened
+  counts l n [] (x ∷ xs) [] from opened = absurd opened
+  counts l n [] (x ∷ xs) (c ∷ cs) from opened = absurd opened
+  counts l n (s ∷ ss) [] [] from opened = absurd opened
+  counts l n (s ∷ ss) [] (c ∷ cs) from opened = absurd opened
+  counts l n (s ∷ ss) (x ∷ xs) [] from opened = absurd opened
+
+  -- the rings are empty, and have their room
+  pub rooms : (ss : List Sitting) (xs : List Session) (cs : Rings) → AreOpened capacity ss xs cs → most_room cs ≤ RING_RECORDS
+  rooms [] [] [] opened = omega arith
+  rooms (s ∷ ss) (x ∷ xs) (c ∷ cs) opened = let one = opened.0.ring in let rest = rooms ss xs cs opened.1 in omega arith
+  rooms [] [] (c ∷ cs) opened = absurd opened
+  rooms [] (x ∷ xs) [] opened = absurd opened
+  rooms [] (x ∷ xs) (c ∷ cs) opened = absurd opened
+  rooms (s ∷ ss) [] [] opened = absurd opened
+  rooms (s ∷ ss) [] (c ∷ cs) opened = absurd opened
+  rooms (s ∷ ss) (x ∷ xs) [] opened = absurd opened
+
+  pub untaken : (ss : List Sitting) (xs : List Session) (cs : Rings) → AreOpened capacity ss xs cs → (l : ℕ) → received_of cs l ≡ []
+  untaken [] [] [] opened l = refl
+  untaken (s ∷ ss) (x ∷ xs) (c ∷ cs) opened zero = opened.0.none
+  untaken (s ∷ ss) (x ∷ xs) (c ∷ cs) opened (suc l) = untaken ss xs cs opened.1 l
+  untaken [] [] (c ∷ cs) opened l = absurd opened
+  untaken [] (x ∷ xs) [] opened l = absurd opened
+  untaken [] (x ∷ xs) (c ∷ cs) opened l = absurd opened
+  untaken (s ∷ ss) [] [] opened l = absurd opened
+  untaken (s ∷ ss) [] (c ∷ cs) opened l = absurd opened
+  untaken (s ∷ ss) (x ∷ xs) [] opened l = absurd opened
+
+-- What is known of the sessions on the seats of a heap.
+module _ (h : Home) (capacity n : ℕ) (ss : List Sitting) (xs : List Session) (cs : Rings) (views : map (λ s. s.view) ss ≡ fresh_views h.plan n) (opened : AreOpened capacity ss xs cs) where
+  from : AreFrom h.plan 0 n ss
+  from = views ∙ in_order h.plan n
+
+  pub all_joined : All (IsSessionOf h) xs → All (IsJoined h capacity cs) xs
+  all_joined of = are_joined capacity h.plan h [] 0 n ss xs cs refl from opened of
+
+  pub all_new : AreNew 0 xs
+  all_new = are_new capacity h.plan 0 n ss xs cs from opened
+
+  pub session_count : length xs ≡ n
+  session_count = (counts capacity h.plan 0 n ss xs cs from opened).0
+
+  pub ring_count : length cs ≡ n
+  ring_count = (counts capacity h.plan 0 n ss xs cs from opened).1

@@ -1,0 +1,4 @@
+pub mod Keeping
+pub mod Beginnings
+pub mod Ending
+pub mod Meetings

@@ -1,0 +1,39 @@
+-- What closing gives, by sessions.
+use Rattle.std.proofs.Common.{ℕ, ◌≡◌, ◌<◌, ◌≤◌, List, [], ◌∷◌, length, All, Result, Ok, Err, IfOk, refl, inl, inr, arith}
+use Rattle.std.proofs.lemmas.List.Elements.{All-nil, All-cons, All-head, All-tail}
+use Rattle.block_disk.specs.Device.{Device}
+use Rattle.heap_model.specs.Log.{lane}
+use Rattle.image.specs.declared.layout.Layout.{Layout}
+use Rattle.monitor.specs.Seats.{Home}
+use Rattle.steps.specs.Views.{plan}
+use Rattle.trim_helper.specs.Closed.{IsClosedDown}
+use Rattle.trim_helper.specs.declared.ended.Ended.{Ended}
+use Rattle.trim_helper.specs.Endings.{IsEnded, Rings, part_at, parts_of}
+use Rattle.trim_helper.specs.Serving.{Among, Part}
+use Rattle.trim_helper.proofs.Gathering.{end_below}
+use Rattle.running_heap.specs.Closed.{IsClosed, WasTold, WereTold}
+use Rattle.running_heap.proofs.Ending.{of_parts}
+
+pub closed_of : (h : Home) (l : Layout) (es : List Ended) (acknowledged : ℕ → ℕ) (d : Device) → IsClosedDown (plan h) h.plan.lanes l (parts_of es) acknowledged d → IsClosed h l es d
+closed_of h l es acknowledged d down = record {
+  history = down.history;
+  legal = down.one.legal;
+  told = of_parts (λ x. lane x.lane down.history ≡ x.events) es down.one.part;
+  no_other = down.one.no_other;
+  stands = down.stands;
+  values = down.values;
+}
+
+pub told_of : (h : Home) (c lanes : ℕ) (rings : Rings) (acknowledged : ℕ → ℕ) (es : List Ended) → length rings ≡ lanes → All (IsEnded h c rings) es → ((x : Part) → Among (parts_of es) x → x.lane < lanes → x.count ≤ acknowledged x.lane) → WereTold acknowledged es
+told_of h c lanes rings acknowledged [] count all each = All-nil (WasTold acknowledged)
+told_of h c lanes rings acknowledged (e ∷ es) count all each =
+    let one = All-head (IsEnded h c rings) e es all in
+    let low = end_below e.producer rings e.lane.0 one.ring in
+    let same = one.lane in
+    All-cons (WasTold acknowledged) e es (each (part_at e.seat) (inl refl) (omega (arith, low, same, count)))
+    (told_of h c lanes rings acknowledged es count (All-tail (IsEnded h c rings) e es all) (λ x among. each x (inr among)))
+
+-- an answer that says more
+pub ok_more : {A E : Type 0} (P Q : A → Type 0) (r : Result A E) → ((x : A) → P x → Q x) → IfOk r P → IfOk r Q
+ok_more P Q (Ok x) more is = more x is
+ok_more P Q (Err e) more is = tt

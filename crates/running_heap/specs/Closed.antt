@@ -1,0 +1,33 @@
+-- What stands once a running heap is closed.
+use Rattle.std.specs.Prelude.{ℕ, ◌≡◌, ◌≤◌, List, [], All}
+use Rattle.heap_model.specs.declared.event.Event.{Event}
+use Rattle.heap_model.specs.Cuts.{all_ended}
+use Rattle.heap_model.specs.History.{IsLegalHistory, log_of, state_after}
+use Rattle.heap_model.specs.Log.{lane}
+use Rattle.heap_model.specs.Sections.{actions}
+use Rattle.block_disk.specs.Device.{Device}
+use Rattle.block_disk.specs.Images.{Always}
+use Rattle.image.specs.declared.layout.Layout.{Layout}
+use Rattle.undo_log.specs.StandsFor.{StandsFor}
+use Rattle.store_image.specs.KeptHeap.{StandsForCut, values_below}
+use Rattle.monitor.specs.Seats.{Home}
+use Rattle.steps.specs.Views.{plan, view}
+use Rattle.trim_helper.specs.declared.ended.Ended.{Ended}
+
+-- One legal history has what each of these sessions was told as its lane's part, and no other lane has any. Whatever a crash leaves,
+-- the device stands for the heap of that history with all its sections, which is the heap after it.
+pub record IsClosed (h : Home) (l : Layout) (ended : List Ended) (d : Device) : Type 0 where
+  pub history : List (ℕ × Event)
+  pub legal : IsLegalHistory (plan h) history
+  pub told : All (λ e. lane (view e.seat).lane.0 history ≡ (view e.seat).events) ended
+  pub no_other : (k : ℕ) → h.plan.lanes ≤ k → lane k history ≡ []
+  pub stands : Always d (StandsForCut l (plan h) (log_of (plan h) history) (all_ended (actions (log_of (plan h) history))))
+  pub values : Always d (λ image. StandsFor l image (values_below (state_after (plan h) history).value l.fields))
+
+-- the session was told of no more sections of its lane than are acknowledged
+abbrev pub WasTold : (acknowledged : ℕ → ℕ) → Ended → Type 0
+WasTold acknowledged e = (view e.seat).stable ≤ acknowledged (view e.seat).lane.0
+
+-- each of these sessions was
+abbrev pub WereTold : (acknowledged : ℕ → ℕ) → List Ended → Type 0
+WereTold acknowledged ended = All (WasTold acknowledged) ended

@@ -1,0 +1,4 @@
+-- The promise: what joins sessions and helper, what stays of that, and what closing gives.
+pub mod Joined
+pub mod Laws
+pub mod Closed

@@ -1,0 +1,59 @@
+//! Sessions end, and meet their helper.
+ghost use Rattle.std.specs.Prelude.{◌≡◌, ℕ, All, IfErr, IfOk, MatchResult};
+ghost use Rattle.heap_model.specs.Setting.{Setting};
+ghost use Rattle.monitor.specs.Seats.{Home};
+ghost use Rattle.running_heap.specs.Closed.{IsClosed, WereTold};
+ghost use Rattle.running_heap.specs.Joined.{IsHelping, IsJoined};
+ghost use Rattle.steps.specs.Views.{plan};
+ghost use Rattle.store_past.specs.Past.{Past};
+ghost use Rattle.trim_helper.specs.Closed.{Stood, disk_of};
+ghost use Rattle.trim_helper.specs.Endings.{HoldNone, IsCloseWhy, IsComplete, IsEnded, RefusesClosing, Rings};
+ghost use Rattle.trim_helper.specs.Parts.{IsServing};
+ghost use Rattle.trim_helper.specs.Taken.{HasTaken};
+
+use block_disk::Disk;
+use monitor::Shared;
+use session::Session;
+use trim_helper::{CloseError, Ended, Helper, close_down};
+
+/// Ends a session, for its helper to meet. It may still hold monitors; then its heap isn't closed.
+pub fn end(session: Session) -> Ended
+    ensures seat { result.seat ≡ session.seat }
+    ensures ended { (h : Home) (capacity : ℕ) (rings : Rings) → IsJoined h capacity rings session → IsEnded h capacity rings result }
+{
+    let ended = session.finish();
+    let (seat, producer, _capacity, held) = ended.into_parts();
+    let lane = seat.lane();
+    Ended {
+        seat,
+        lane,
+        held,
+        producer,
+    }
+}
+
+/// Lets the sessions that have ended meet their helper: all that they sent is applied, made durable and acknowledged, and the
+/// device is given back. One legal history has what each session was told as its part, and the device stands for its heap.
+///
+/// Refusals, in this order, each with the device, as a stop leaves it:
+/// - `Missing`: the least lane that hasn't just one session in the list. Nothing was done;
+/// - `Unfinished`: the least lane whose session holds a monitor. Nothing was done;
+/// - `Failed`: the device had failed in an earlier call;
+/// - `Worn`: a control must be written, and the device's is at its last sequence;
+/// - `Fault`: a call of the device failed now.
+pub fn close<D: Disk>(
+    shared: Shared,
+    ended: Vec<Ended>,
+    helper: Helper<D>,
+) -> Result<D, (D, CloseError)>
+    requires helper { IsHelping D.device shared helper }
+    requires ended { All (IsEnded shared helper.store.known.layout.capacity helper.rings) ended.items }
+    ensures ok { IfOk result (λ disk. IsClosed shared helper.store.known.layout ended.items (D.device disk)) }
+    ensures told { (p : Past) → IsServing D.device helper (plan shared) p → IfOk result (λ disk. WereTold p.cut ended.items) }
+    ensures refused { MatchResult result (λ disk. HoldNone ended.items × IsComplete helper.store.known.layout.lanes ended.items) (λ back. RefusesClosing helper.store.known.layout.lanes ended.items back.1) }
+    ensures why { IfErr result (λ back. IsCloseWhy helper.store.known (D.device helper.store.disk) (D.device back.0) back.1) }
+    ensures any_moment { (s : Setting) (p : Past) → HasTaken helper.store.known (D.device helper.store.disk) helper.rings helper.waiting s p
+        → Stood helper.store.known.layout s p ended.items (D.device helper.store.disk) (D.device (disk_of result)) }
+{
+    close_down(shared, ended, helper)
+}

@@ -1,0 +1,71 @@
+//! A heap begins to run.
+ghost use Rattle.std.specs.Prelude.{◌≡◌, ◌<◌, ◌^◌, IfErr, IfOk, All, length};
+ghost use Rattle.running_heap.specs.Joined.{AreNew, IsHelping, IsJoined};
+ghost use Rattle.steps.specs.Views.{plan};
+ghost use Rattle.store_past.specs.Past.{no_past};
+ghost use Rattle.trim_helper.specs.Opening.{FitsSchema};
+ghost use Rattle.trim_helper.specs.Parts.{IsServing};
+
+use block_disk::Disk;
+use guards::Schema;
+use image::Recovered;
+use monitor::Shared;
+use session::{Session, open_sessions};
+use std::alloc::{AllocError, Global};
+use trim_helper::{Helper, Opened, open_heap};
+
+/// A heap that is open for threads.
+#[derive(Drop)]
+pub struct RunningHeap<D: Disk> {
+    /// The words that the threads share, with the recovered values.
+    pub shared: Shared,
+    /// The session of each lane, lane i's as the i-th.
+    pub sessions: Vec<Session>,
+    /// The helper, to which the sessions send. It owns the device.
+    pub helper: Helper<D>,
+}
+
+/// Opens a heap of this schema that was recovered: its words, a session for each lane, and the helper. Release numbers stay at
+/// `last` or below.
+///
+/// An error is want of memory. The device is given back as it was, and may be recovered again.
+pub fn open<D: Disk>(
+    alloc: Global,
+    schema: Schema,
+    recovered: Recovered<D>,
+    last: u64,
+) -> Result<RunningHeap<D>, (D, AllocError)>
+    requires last { last < 2 ^ 40 }
+    requires schema { FitsSchema schema recovered.layout recovered.guards }
+    ensures plan { IfOk result (λ o. o.shared.plan ≡ record { schema = schema; first = recovered.heap; last = last; lanes = recovered.layout.lanes }) }
+    ensures joined { IfOk result (λ o. All (IsJoined o.shared recovered.layout.capacity o.helper.rings) o.sessions.items) }
+    ensures fresh { IfOk result (λ o. AreNew 0 o.sessions.items) }
+    ensures count { IfOk result (λ o. length o.sessions.items ≡ recovered.layout.lanes) }
+    ensures helping { IfOk result (λ o. IsHelping D.device o.shared o.helper) }
+    ensures past { IfOk result (λ o. IsServing D.device o.helper (plan o.shared) no_past) }
+    ensures layout { IfOk result (λ o. o.helper.store.known.layout ≡ recovered.layout) }
+    ensures disk { IfOk result (λ o. o.helper.store.disk ≡ recovered.disk) }
+    ensures refused { IfErr result (λ back. back.0 ≡ recovered.disk) }
+{
+    let layout = recovered.layout();
+    let opened = match open_heap(alloc, schema, recovered, last) {
+        Ok(opened) => opened,
+        Err((recovered, error)) => return Err((recovered.into_disk(), error)),
+    };
+    let Opened {
+        shared,
+        seats,
+        store,
+        seat,
+    } = opened;
+    let (sessions, rings) = match open_sessions(alloc, &shared, seats, layout.capacity) {
+        Ok(made) => made,
+        Err(error) => return Err((store.into_disk(), error)),
+    };
+    let helper = Helper::new(store, rings, seat);
+    Ok(RunningHeap {
+        shared,
+        sessions,
+        helper,
+    })
+}
