@@ -15,6 +15,3 @@ mod schema;
 pub use builder::SchemaBuilder;
 pub use error::SchemaError;
 pub use schema::Schema;
-
-#[cfg(test)]
-mod tests;

@@ -19,6 +19,3 @@ pub use laws::{
 };
 pub use reading::{is_of_image, read};
 pub use record_bytes::{decode_record, encode_record, is_in_range};
-
-#[cfg(test)]
-mod tests;
