@@ -19,7 +19,7 @@ use Rattle.store_memory.specs.Fresh.{IsOfLanes}
 use Rattle.store_past.specs.Past.{Past, applied, after_settle}
 use Rattle.store_image.specs.KeptHeap.{kept_heap}
 use Rattle.durable.specs.Store.{Parts, ShowsStep}
-use Rattle.durable.specs.Store.ShowsStep.{Shows, ShowsLogged, ShowsSettled}
+use Rattle.durable.specs.Store.ShowsStep.{Shows, ShowsLogged, ShowsSettled, ShowsTrimmed}
 use Rattle.durable.specs.declared.doubt.Doubt.{Doubt}
 use Rattle.durable.specs.declared.doubt.Doubt.TheVariants.{Nothing, Logging, Settling}
 use Rattle.recover.specs.Reading.{Holds}
@@ -59,6 +59,7 @@ pub header_of : (l : Layout) (s : Setting) (p : Past) (w : Doubt) (image : List 
 header_of l s p w image (Shows shown) = shown.parts.header
 header_of l s p w image (ShowsLogged doubt shown) = shown.parts.header
 header_of l s p w image (ShowsSettled doubt clean cut stable shown) = shown.parts.header
+header_of l s p w image (ShowsTrimmed doubt shown) = shown.parts.header
 
 -- Recovery of what a crash since left of the device of a store, which by then leaves only what shows its past or what a step makes of it.
 module _ (m : Live) (s : Setting) (p : Past) (has : Tells m.store s p) (w : Doubt) (d : Device) (leaves : LeavesOnly (device_of m.store.disk) d (ShowsStep m.store.known.layout s p w)) (image : List ℕ)

@@ -12,19 +12,19 @@ use Rattle.std.specs.Prelude.{drop}
 use Rattle.durable.specs.Calls.{IsClean, MakeAll, Makes, Reached, ShowsAfterSome}
 use Rattle.store_memory.specs.Fresh.{IsOfLanes}
 use Rattle.store_image.specs.KeptHeap.{kept_heap}
-use Rattle.store_past.specs.Past.{Past, IsPast, applied, after_log, after_settle}
+use Rattle.store_past.specs.Past.{Past, IsPast, applied, after_log, after_settle, after_trim}
 use Rattle.durable.specs.Store.{Known, HasPast, ShowsStep, doubt_in}
 use Rattle.durable.specs.declared.doubt.Doubt.{Doubt}
 use Rattle.durable.specs.declared.doubt.Doubt.TheVariants.{Nothing, Settling}
 use Rattle.store_image.proofs.Stands.{shows_always}
-use Rattle.durable.specs.Store.ShowsStep.{Shows, ShowsLogged, ShowsSettled}
+use Rattle.durable.specs.Store.ShowsStep.{Shows, ShowsLogged, ShowsSettled, ShowsTrimmed}
 use Rattle.store_image.specs.declared.home.Home.TheVariants.{Wrote, Done}
 use Rattle.durable.specs.declared.store_call.StoreCall.{StoreCall}
 use Rattle.durable.specs.declared.store_call.StoreCall.TheVariants.{Apply, Log, Settle}
 use Rattle.durable.specs.declared.store_call.StoreCall.TheVariants.{Home as HomeStep}
 use Rattle.durable.proofs.Pasts.{past_apply, past_home, past_log}
 use Rattle.heap_model.proofs.Stays.{cut_stays}
-use Rattle.durable.proofs.Showing.{undone_beyond, of_lanes_before, past_settle, logged_heap}
+use Rattle.durable.proofs.Showing.{undone_beyond, of_lanes_before, past_settle, past_trim, logged_heap}
 use Rattle.survival.specs.Accepted.{IsLeftBy}
 use Rattle.survival.specs.Again.{AreCutOff, Attempt, HasStudyLaw, IsKept, ByStore, KeptAcceptedLaw, KeptHeapLaw, KeptOnLaw, KeptReportLaw, SurvivesAgain, TellsAgain, TriedLaw}
 use Rattle.recover.specs.Recovery.{IsRecovery, RefusesRecovery}
@@ -121,6 +121,12 @@ left_by l s p w image is of (ShowsSettled doubt clean cut stable shown) = record
   past = after_settle p cut;
   is = record { past = past_settle s p cut is stable; lanes = λ k from. undone_beyond l.lanes k p.logged (of_lanes_before l.lanes p.fresh p.logged of) from; shows = shown };
   acknowledged = inr (doubt, clean, stable);
+  heap = refl;
+}
+left_by l s p w image is of (ShowsTrimmed doubt shown) = record {
+  past = after_trim p;
+  is = record { past = past_trim s p is; lanes = λ k from. undone_beyond l.lanes k p.logged (of_lanes_before l.lanes p.fresh p.logged of) from; shows = shown };
+  acknowledged = inl refl;
   heap = refl;
 }
 
