@@ -1,0 +1,16 @@
+//! Tests of sessions, by their public calls alone: the words that they leave, where each limit lies, and threads that share
+//! a heap.
+#![tactic(auto)]
+
+#[cfg(test)]
+mod heap;
+#[cfg(test)]
+mod limits;
+#[cfg(test)]
+mod often;
+#[cfg(test)]
+mod races;
+#[cfg(test)]
+mod turns;
+#[cfg(test)]
+mod words;
