@@ -1,5 +1,5 @@
 -- A cut that was answered stays whole and closed, and what is found beyond it.
-use Rattle.std.proofs.Common.{ℕ, zero, suc, ◌≡◌, ◌+◌, ◌-◌, ◌*◌, ◌<◌, ◌≤◌, ◌&&◌, max, cond, Bool, true, false, not, List, [], ◌∷◌, ◌++◌, length, get_or, reverse, slice_index, Contains, refl, sym, ap, ◌∙◌, subst, inl, inr, arith}
+use Rattle.std.proofs.Common.{ℕ, zero, suc, ◌≡◌, ◌+◌, ◌<◌, ◌≤◌, ◌&&◌, max, cond, Bool, true, false, not, List, [], ◌∷◌, ◌++◌, length, get_or, reverse, Contains, refl, sym, ap, ◌∙◌, subst, inl, inr, arith}
 use Rattle.std.specs.List.{filter}
 use Rattle.std.proofs.lemmas.Bool.{and_parts, leb-true, leb-false, le-leb, lt-leb, cases_Bool, cases_lt, not-true}
 use Rattle.heap_model.specs.Log.{lane}
@@ -10,13 +10,13 @@ use Rattle.dependence.specs.Trace.{growth}
 use Rattle.dependence.specs.Steps.{reading, log_of, HasSections}
 use Rattle.dependence.specs.Links.{acts_in, act_at}
 use Rattle.dependence.specs.Kept.{IsInOrder}
-use Rattle.dependence.specs.Search.{IsAnswered, IsFound}
+use Rattle.dependence.specs.Search.{IsAbove, IsAnswered, IsFound}
 use Rattle.dependence.proofs.Places.{at_old, at_new, length_snoc}
 use Rattle.dependence.proofs.Pairs.{Follows, followed, AreInOrder}
 use Rattle.dependence.proofs.InOrder.{in_order}
 use Rattle.dependence.proofs.Falling.{act_is}
 use Rattle.dependence.proofs.Steady.{above_base, step_past}
-use Rattle.dependence.proofs.Sums.{in_all_none, growth_none, growth_le, once_each}
+use Rattle.dependence.proofs.Sums.{growth_none, growth_le, growth_less, twice_each}
 
 -- what is freed next was taken by none
 late_free : (acts : List Action) (j : ℕ) (a : Action) → AreInOrder acts a → takes_after (act_at acts j) a ≡ true → ⊥
@@ -99,10 +99,22 @@ answered_greatest base steps numbered whole cut is_whole greatest = record {
 pub found_again : (lanes : ℕ) (steps : List Step) (whole cut : ℕ → ℕ) → IsGreatest reading steps whole cut → IsFound lanes steps whole cut cut 0
 found_again lanes steps whole cut greatest = record { greatest = greatest; least = omega (arith, growth_none lanes cut); most = omega arith }
 
--- each whole section is taken up once
-pub found_once : (lanes : ℕ) (steps : List Step) (whole answered cut : ℕ → ℕ) (looks : ℕ) → IsGreatest reading steps whole cut → looks ≡ growth lanes whole answered → IsFound lanes steps whole answered cut looks
-found_once lanes steps whole answered cut looks greatest many = record {
-  greatest = greatest;
-  least = omega (arith, growth_le lanes cut whole answered greatest.below);
-  most = subst (λ (n : ℕ). n ≤ growth lanes whole answered * (growth lanes whole answered + 1)) (sym many) (once_each (growth lanes whole answered));
+-- the greatest cut of the candidates is the stable one
+pub greatest_of : (steps : List Step) (whole candidates cut : ℕ → ℕ) → IsAbove steps whole candidates → IsAbove steps candidates cut → IsClosedOver reading steps cut → IsGreatest reading steps whole cut
+greatest_of steps whole candidates cut few above closed = record {
+  below = λ l. omega (arith, above.below l, few.below l);
+  closed = closed;
+  greatest = λ other le is_closed. above.greatest other (few.greatest other le is_closed) is_closed;
 }
+
+-- each candidate is taken up once, and once more if it is out
+pub found_twice : (lanes : ℕ) (steps : List Step) (whole answered candidates cut : ℕ → ℕ) (looks : ℕ) → IsGreatest reading steps whole cut → ((l : ℕ) → candidates l ≤ whole l) → ((l : ℕ) → cut l ≤ candidates l) → ((l : ℕ) → answered l ≤ cut l) →
+    looks ≡ growth lanes candidates answered + growth lanes candidates cut → IsFound lanes steps whole answered cut looks
+found_twice lanes steps whole answered candidates cut looks greatest few below above many =
+    let all : growth lanes candidates answered ≤ growth lanes whole answered = growth_le lanes candidates whole answered few in
+    let out : growth lanes candidates cut ≤ growth lanes candidates answered = growth_less lanes candidates answered cut above in
+    record {
+      greatest = greatest;
+      least = omega (arith, growth_le lanes cut candidates answered below);
+      most = omega (arith, twice_each (growth lanes whole answered));
+    }

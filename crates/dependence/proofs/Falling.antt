@@ -1,15 +1,16 @@
--- The search for the stable cut, step by step.
-use Rattle.std.proofs.Common.{ℕ, ◌≡◌, ◌≢◌, ◌+◌, ◌-◌, ◌<◌, ◌≤◌, ◌&&◌, Bool, true, false, not, List, length, get_or, slice_index, slice_set, refl, sym, ap, ◌∙◌, subst, inl, inr, arith, get_or-set_same, get_or-set_other}
+-- The walks of the search for the stable cut, step by step.
+use Rattle.std.proofs.Common.{ℕ, ◌≡◌, ◌≢◌, ◌+◌, ◌-◌, ◌<◌, ◌≤◌, ◌&&◌, Bool, true, false, not, List, Option, length, get_or, slice_index, slice_set, refl, sym, ap, ◌∙◌, subst, inl, inr, arith, get_or-set_same, get_or-set_other}
 use Rattle.std.proofs.lemmas.Bool.{and_parts, leb-true, leb-false, lt-leb, cases_Bool, cases_eq, cases_lt, not-true}
 use Rattle.std.proofs.lemmas.List.{get_or-map}
 use Rattle.heap_model.specs.Sections.{undo_action}
-use Rattle.heap_model.specs.Plain.{takes_after, counts, is_blocked_by, IsClosedOver, IsGreatest}
+use Rattle.heap_model.specs.Plain.{takes_after, counts, is_blocked_by, IsClosedOver}
+use Rattle.dependence.specs.declared.section.Dependence.{Dependence}
 use Rattle.dependence.specs.declared.step.Step.{Step}
 use Rattle.dependence.specs.declared.links.Links.{Links}
 use Rattle.dependence.specs.Steps.{reading}
 use Rattle.dependence.specs.Links.{lanes_in, sections_in, acts_in, act_at}
 use Rattle.dependence.specs.Kept.{IsLinked}
-use Rattle.dependence.specs.Search.{Takes, IsSearch, IsLeft, IsSorted}
+use Rattle.dependence.specs.Search.{Takes, IsAbove, IsStart, IsWalk, IsLookedAt, IsTakenUp, IsLooking, IsSearch, IsLeft, IsSorted}
 use Rattle.dependence.proofs.Places.{length_map, pick}
 use Rattle.dependence.proofs.Pairs.{taker_there, releaser_there}
 
@@ -58,53 +59,84 @@ taker_out steps cut i j closed takes out =
       | inr outside ↦ let low : cut ((s.0).lane.0) < (s.0).section = leb-false _ _ outside in omega arith
     ]
 
+-- a cut that falls, but not below the closed ones
+pub above_low : (steps : List Step) (most cut low : ℕ → ℕ) → IsAbove steps most cut → ((l : ℕ) → low l ≤ cut l) → ((other : ℕ → ℕ) → ((l : ℕ) → other l ≤ cut l) → IsClosedOver reading steps other → (l : ℕ) → other l ≤ low l) → IsAbove steps most low
+above_low steps most cut low old lower least = record {
+  below = λ l. omega (arith, lower l, old.below l);
+  greatest = λ other le closed. least other (old.greatest other le closed) closed;
+}
+
+pub above_same : (steps : List Step) (most : ℕ → ℕ) → IsAbove steps most most
+above_same steps most = record { below = λ l. omega arith; greatest = λ other le closed. le }
+
+-- a cut that falls below the section of the step at a place
+pub record Falls (steps : List Step) (place : ℕ) (cut low : ℕ → ℕ) : Type 0 where
+  pub lower : (l : ℕ) → low l ≤ cut l
+  pub out : low (slice_index (lanes_in steps) place) < slice_index (sections_in steps) place
+  pub least : (other : ℕ → ℕ) → ((l : ℕ) → other l ≤ cut l) → other (slice_index (lanes_in steps) place) < slice_index (sections_in steps) place → (l : ℕ) → other l ≤ low l
+
+pub falls : (steps : List Step) (k : ℕ) (t : Step) (cut low : ℕ → ℕ) → k < length steps → t ≡ get_or steps k t →
+    low t.lane.0 < t.section → ((l : ℕ) → l ≢ t.lane.0 → low l ≡ cut l) → low t.lane.0 ≤ cut t.lane.0 → ((n : ℕ) → n < t.section → n ≤ cut t.lane.0 → n ≤ low t.lane.0) → Falls steps k cut low
+falls steps k t cut low lt is out others fewer least = record {
+  lower = λ l. elim (cases_eq l t.lane.0) [
+    | inl e ↦ let a : low l ≡ low t.lane.0 = ap low e in let b : cut l ≡ cut t.lane.0 = ap cut e in omega arith
+    | inr ne ↦ omega (arith, others l ne)
+  ];
+  out = let a : low (slice_index (lanes_in steps) k) ≡ low t.lane.0 = ap low of_lane in omega (arith, of_section);
+  least = λ other le outside l. elim (cases_eq l t.lane.0) [
+    | inl e ↦
+        let a : low l ≡ low t.lane.0 = ap low e in
+        let b : other l ≡ other t.lane.0 = ap other e in
+        let d : other (slice_index (lanes_in steps) k) ≡ other t.lane.0 = ap other of_lane in
+        omega (arith, least (other t.lane.0) (omega (arith, of_section)) (le t.lane.0))
+    | inr ne ↦ omega (arith, others l ne, le l)
+  ];
+}
+  where
+    of_lane : slice_index (lanes_in steps) k ≡ t.lane.0
+    of_lane = lane_is steps k t lt (sym is)
+
+    of_section : slice_index (sections_in steps) k ≡ t.section
+    of_section = section_is steps k t lt (sym is)
+
 module _ (steps : List Step) (links : Links) (linked : IsLinked steps links) where
-  -- the search begins with all steps left
-  pub search_init : (whole : ℕ → ℕ) → IsSearch steps whole links.newest whole
-  search_init whole = record {
-    below = λ l. omega arith;
-    greatest = λ other le closed. le;
-    taken = λ i j h le. absurd (omega (arith, linked.chained.newest_last i (omega (arith, releaser_in steps i j h, length_map (λ (s : Step). s.lane.0) steps))));
-    places = λ l c h. let was : (c < length (lanes_in steps)) × (slice_index (lanes_in steps) c ≡ l) = linked.chained.newest_is l c h in
-        (let lt : c < length (lanes_in steps) = was.0 in omega (arith, length_map (λ (s : Step). s.lane.0) steps), was.1);
+  -- a walk begins where nothing was visited
+  pub walk_init : (start : List ℕ) (Visited : ℕ → Type 0) (answered candidates : ℕ → ℕ) → IsStart links.newest answered candidates start → IsWalk steps start start Visited
+  walk_init start Visited answered candidates is = record {
+    places = λ l c h. elim (is l) [
+      | inl all ↦
+          let was : (c < length (lanes_in steps)) × (slice_index (lanes_in steps) c ≡ l) = linked.chained.newest_is l c (sym all ∙ h) in
+          (let lt : c < length (lanes_in steps) = was.0 in omega (arith, length_map (λ (s : Step). s.lane.0) steps), was.1)
+      | inr none ↦ absurd (let zero_is : slice_index start l ≡ 0 = none.0 in omega arith)
+    ];
+    visited = λ k lt le before. absurd (omega arith);
   }
 
-  -- one step is taken up
-  pub search_step : (whole : ℕ → ℕ) (left left_too : List ℕ) (cut low : ℕ → ℕ) (lane place : ℕ) → length left ≡ 32 → IsSearch steps whole left cut → IsLeft steps left cut lane → place + 1 ≡ slice_index left lane →
-      left_too ≡ slice_set left lane (slice_index links.before.items place) →
-      ((l : ℕ) → low l ≤ cut l) →
-      ((j : ℕ) → Takes steps j place → low (slice_index (lanes_in steps) j) < slice_index (sections_in steps) j) →
-      ((other : ℕ → ℕ) → ((l : ℕ) → other l ≤ cut l) → ((j : ℕ) → Takes steps j place → other (slice_index (lanes_in steps) j) < slice_index (sections_in steps) j) → (l : ℕ) → other l ≤ low l) →
-      IsSearch steps whole left_too low
-  search_step whole left left_too cut low lane place rows old is_left at now lower out least =
-      let here : place < length steps = omega (arith, is_left.there) in
+  -- one more step of a lane is visited
+  pub walk_step : (start left left_too : List ℕ) (Old New : ℕ → Type 0) (lane place : ℕ) → length left ≡ 32 → lane < 32 → IsWalk steps start left Old → place < length steps → place + 1 ≡ slice_index left lane →
+      left_too ≡ slice_set left lane (slice_index links.before.items place) → ((k : ℕ) → Old k → New k) → New place → IsWalk steps start left_too New
+  walk_step start left left_too Old New lane place rows low old here at now more visit =
       let many : length (lanes_in steps) ≡ length steps = length_map (λ (s : Step). s.lane.0) steps in
-      let place_is : (place < length steps) × (slice_index (lanes_in steps) place ≡ lane) = old.places lane place (sym at) in
-      let of_lane : slice_index (lanes_in steps) place ≡ lane = place_is.1 in
-      let same : slice_index left_too lane ≡ slice_index links.before.items place = ap (λ (xs : List ℕ). slice_index xs lane) now ∙ get_or-set_same left lane (slice_index links.before.items place) 0 (omega (arith, is_left.low)) in
+      let of_lane : slice_index (lanes_in steps) place ≡ lane = (old.places lane place (sym at)).1 in
+      let same : slice_index left_too lane ≡ slice_index links.before.items place = ap (λ (xs : List ℕ). slice_index xs lane) now ∙ get_or-set_same left lane (slice_index links.before.items place) 0 (omega arith) in
       let other_lane : (l : ℕ) → l ≢ lane → slice_index left_too l ≡ slice_index left l =
       λ l ne. ap (λ (xs : List ℕ). slice_index xs l) now ∙ get_or-set_other left lane l (slice_index links.before.items place) 0 ne in
-      let index : place ≡ slice_index left lane - 1 = omega arith in
-      let section_out : cut lane < slice_index (sections_in steps) place = subst (λ (k : ℕ). cut lane < slice_index (sections_in steps) k) (sym index) is_left.out in
       record {
-        below = λ l. omega (arith, lower l, old.below l);
-        greatest = λ other le closed. least other (old.greatest other le closed)
-            (λ j h. taker_out steps other place j closed h (let e : other (slice_index (lanes_in steps) place) ≡ other lane = ap other of_lane in omega (arith, old.greatest other le closed lane)));
-        taken = λ i j h le. elim (cases_eq (slice_index (lanes_in steps) i) lane) [
-          | inl e ↦ elim (cases_lt i (place + 1)) [
+        visited = λ k lt le before. elim (cases_eq (slice_index (lanes_in steps) k) lane) [
+          | inl e ↦ elim (cases_lt k (place + 1)) [
             | inr later ↦
-                let was : slice_index left (slice_index (lanes_in steps) i) ≤ i = (let f : slice_index left (slice_index (lanes_in steps) i) ≡ slice_index left lane = ap (slice_index left) e in omega arith) in
-                omega (arith, lower (slice_index (lanes_in steps) j), old.taken i j h was)
-            | inl not_later ↦ elim (cases_eq i place) [
-              | inl it ↦ out j (subst (λ (k : ℕ). Takes steps j k) it h)
+                let was : slice_index left (slice_index (lanes_in steps) k) ≤ k = (let f : slice_index left (slice_index (lanes_in steps) k) ≡ slice_index left lane = ap (slice_index left) e in omega arith) in
+                more k (old.visited k lt was before)
+            | inl not_later ↦ elim (cases_eq k place) [
+              | inl it ↦ subst New (sym it) visit
               | inr ne ↦
-                  let f : slice_index left_too (slice_index (lanes_in steps) i) ≡ slice_index links.before.items place = ap (slice_index left_too) e ∙ same in
-                  absurd (omega (arith, linked.chained.before_last place i (omega arith) (grind arith) (e ∙ sym of_lane)))
+                  let f : slice_index left_too (slice_index (lanes_in steps) k) ≡ slice_index links.before.items place = ap (slice_index left_too) e ∙ same in
+                  absurd (omega (arith, linked.chained.before_last place k (omega arith) (grind arith) (e ∙ sym of_lane)))
             ]
           ]
           | inr ne ↦
-              let f : slice_index left_too (slice_index (lanes_in steps) i) ≡ slice_index left (slice_index (lanes_in steps) i) = other_lane (slice_index (lanes_in steps) i) ne in
-              omega (arith, lower (slice_index (lanes_in steps) j), old.taken i j h (omega arith))
+              let f : slice_index left_too (slice_index (lanes_in steps) k) ≡ slice_index left (slice_index (lanes_in steps) k) = other_lane (slice_index (lanes_in steps) k) ne in
+              more k (old.visited k lt (omega arith) before)
         ];
         places = λ l c h. elim (cases_eq l lane) [
           | inl e ↦
@@ -122,28 +154,52 @@ module _ (steps : List Step) (links : Links) (linked : IsLinked steps links) whe
   pub one_releaser : (i j k : ℕ) → Takes steps k i → Takes steps k j → i ≡ j
   one_releaser i j k h g = omega (arith, linked.paired.releaser i k h, linked.paired.releaser j k g)
 
+-- a closed cut that counts a take counts what it took
+pub releaser_in_cut : (steps : List Step) (cut : ℕ → ℕ) (i j : ℕ) → IsClosedOver reading steps cut → Takes steps j i → slice_index (sections_in steps) j ≤ cut (slice_index (lanes_in steps) j) → slice_index (sections_in steps) i ≤ cut (slice_index (lanes_in steps) i)
+releaser_in_cut steps cut i j closed takes in_cut = elim (cases_lt (cut (slice_index (lanes_in steps) i)) (slice_index (sections_in steps) i)) [
+  | inl out ↦ absurd (omega (arith, taker_out steps cut i j closed takes out))
+  | inr inside ↦ inside
+]
+
+-- what the walk came by: the steps of sections beyond the cut at which it ended
+pub walked : (steps : List Step) (links : Links) (start left : List ℕ) (Visited : ℕ → Type 0) (floor : ℕ → ℕ) (lanes : ℕ) → lanes ≤ 32 → IsLinked steps links → IsSorted steps lanes → IsWalk steps start left Visited → ((l : ℕ) → l < lanes → ¬ IsLeft steps left floor l) →
+    (k : ℕ) → k < length steps → slice_index start (slice_index (lanes_in steps) k) ≡ slice_index links.newest (slice_index (lanes_in steps) k) → floor (slice_index (lanes_in steps) k) < slice_index (sections_in steps) k → Visited k
+walked steps links start left Visited floor lanes low linked sorted walk none k lt all beyond = elim (cases_lt k (slice_index left (slice_index (lanes_in steps) k))) [
+  | inr taken ↦ walk.visited k lt taken (omega (arith, all, linked.chained.newest_last k (omega (arith, length_map (λ (s : Step). s.lane.0) steps))))
+  | inl before ↦
+      let top : ℕ = slice_index left (slice_index (lanes_in steps) k) - 1 in
+      let at : slice_index left (slice_index (lanes_in steps) k) ≡ top + 1 = omega arith in
+      let place : (top < length steps) × (slice_index (lanes_in steps) top ≡ slice_index (lanes_in steps) k) = walk.places (slice_index (lanes_in steps) k) top at in
+      let there : top < length steps = place.0 in
+      absurd (none (slice_index (lanes_in steps) k) (sorted.low k lt) (record { low = omega (arith, sorted.low k lt); some = omega arith; there = omega arith; out = omega (arith, sorted.rise k top (omega arith) there (sym place.1)) }))
+]
+
+-- after the first walk, what took from a section that is no candidate is out
+pub looking_done : (steps : List Step) (links : Links) (start left : List ℕ) (answered candidates cut : ℕ → ℕ) (causes : List (Option Dependence)) (lanes : ℕ) → lanes ≤ 32 → IsLinked steps links → IsSorted steps lanes → IsClosedOver reading steps answered →
+    ((l : ℕ) → answered l ≤ candidates l) → IsStart links.newest answered candidates start → IsLooking steps start left candidates cut causes → ((l : ℕ) → l < lanes → ¬ IsLeft steps left answered l) → (j : ℕ) → IsLookedAt steps candidates cut j
+looking_done steps links start left answered candidates cut causes lanes low linked sorted closed less is looking none j i takes out = elim (cases_lt (answered (slice_index (lanes_in steps) j)) (slice_index (sections_in steps) j)) [
+  | inr was_in ↦ absurd (omega (arith, releaser_in_cut steps answered i j closed takes was_in, less (slice_index (lanes_in steps) i)))
+  | inl beyond ↦ elim (is (slice_index (lanes_in steps) j)) [
+    | inr idle ↦ omega (arith, idle.1, looking.above.below (slice_index (lanes_in steps) j))
+    | inl all ↦ walked steps links start left (IsLookedAt steps candidates cut) answered lanes low linked sorted looking.walk none j (taker_in steps i j takes) all beyond i takes out
+  ]
+]
+
 -- the cut where no lane has a step left that is outside
-pub search_done : (steps : List Step) (whole : ℕ → ℕ) (left : List ℕ) (cut : ℕ → ℕ) (lanes : ℕ) → lanes ≤ 32 → IsSorted steps lanes → IsSearch steps whole left cut → ((l : ℕ) → l < lanes → ¬ IsLeft steps left cut l) →
-    IsGreatest reading steps whole cut
-search_done steps whole left cut lanes low sorted search none = record {
-  below = search.below;
-  greatest = search.greatest;
-  closed = closed;
-}
+pub search_done : (steps : List Step) (links : Links) (start left : List ℕ) (answered candidates cut : ℕ → ℕ) (causes : List (Option Dependence)) (lanes : ℕ) → lanes ≤ 32 → IsLinked steps links → IsSorted steps lanes → IsClosedOver reading steps answered →
+    ((l : ℕ) → answered l ≤ candidates l) → IsStart links.newest answered candidates start → IsSearch steps start left candidates cut causes → ((l : ℕ) → l < lanes → ¬ IsLeft steps left cut l) → IsClosedOver reading steps cut
+search_done steps links start left answered candidates cut causes lanes low linked sorted answered_closed less is search none = closed
   where
     -- the release of a counted take is counted
     counted : (i j : ℕ) → Takes steps j i → slice_index (sections_in steps) j ≤ cut (slice_index (lanes_in steps) j) → slice_index (sections_in steps) i ≤ cut (slice_index (lanes_in steps) i)
-    counted i j h in_cut = elim (cases_lt i (slice_index left (slice_index (lanes_in steps) i))) [
-      | inr taken ↦ absurd (omega (arith, search.taken i j h taken))
-      | inl before ↦
-          let top : ℕ = slice_index left (slice_index (lanes_in steps) i) - 1 in
-          let at : slice_index left (slice_index (lanes_in steps) i) ≡ top + 1 = omega arith in
-          let place : (top < length steps) × (slice_index (lanes_in steps) top ≡ slice_index (lanes_in steps) i) = search.places (slice_index (lanes_in steps) i) top at in
-          let there : top < length steps = place.0 in
-          elim (cases_lt (cut (slice_index (lanes_in steps) i)) (slice_index (sections_in steps) top)) [
-            | inl out ↦ absurd (none (slice_index (lanes_in steps) i) (sorted.low i (omega arith)) (record { low = omega (arith, sorted.low i (omega arith)); some = omega arith; there = omega arith; out = out }))
-            | inr inside ↦ omega (arith, sorted.rise i top (omega arith) there (sym place.1))
-          ]
+    counted i j h in_cut = elim (cases_lt (cut (slice_index (lanes_in steps) i)) (slice_index (sections_in steps) i)) [
+      | inr inside ↦ inside
+      | inl out ↦ elim (is (slice_index (lanes_in steps) i)) [
+        | inl all ↦ absurd (omega (arith, walked steps links start left (IsTakenUp steps cut) cut lanes low linked sorted search.walk none i (releaser_in steps i j h) all out j h))
+        | inr idle ↦
+            let above : answered (slice_index (lanes_in steps) i) ≤ cut (slice_index (lanes_in steps) i) = search.above.greatest answered less answered_closed (slice_index (lanes_in steps) i) in
+            absurd (omega (arith, search.looked j i h (omega (arith, idle.1))))
+      ]
     ]
 
     closed : IsClosedOver reading steps cut

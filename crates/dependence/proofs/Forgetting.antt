@@ -1,5 +1,5 @@
 -- The fields without what a cut counts.
-use Rattle.std.proofs.Common.{ℕ, ◌≡◌, ◌+◌, ◌<◌, ◌≤◌, max, List, All, reverse, slice_index, nat_lt, vec_len, vec_capacity, None, sym, ap, ◌∙◌, subst, arith}
+use Rattle.std.proofs.Common.{ℕ, ◌≡◌, ◌+◌, ◌<◌, ◌≤◌, max, List, All, reverse, replicate, slice_index, nat_lt, vec_len, vec_capacity, None, sym, ap, ◌∙◌, subst, arith}
 use Rattle.std.specs.List.{filter}
 use Rattle.std.proofs.lemmas.List.Elements.{All-filter}
 use Rattle.heap_model.specs.declared.cut.Cut.{Cut}
@@ -15,6 +15,7 @@ use Rattle.dependence.specs.Steps.{log_of, reading, HasSections}
 use Rattle.dependence.specs.Kept.{IsCounted, Rises, IsLinked, HasRoom}
 use Rattle.dependence.specs.Inside.{trace_of, IsKept}
 use Rattle.dependence.proofs.Keeping.{no_cut}
+use Rattle.dependence.proofs.Causes.{causes_none}
 use Rattle.dependence.proofs.Answering.{closed_left}
 use Rattle.dependence.proofs.Trimming.{reverse_filter, rises_since, log_since, sections_since, counted_since}
 
@@ -49,8 +50,8 @@ module _ (old : Inside) (cut : Cut) (next : List ℕ) (left : List Step) (kept :
   left_numbered = subst (λ (xs : List Step). HasSections (slice_index next) xs) (sym left_back) (sections_since (slice_index old.base) (slice_index next) more raised_by (reverse old.steps.items) kept.numbered)
 
   pub kept_forget : (new : Inside) → IsWhole (log_of (reverse old.steps.items)) more → new.lanes ≡ old.lanes → new.base ≡ next → new.ended ≡ old.ended → new.held ≡ old.held → new.steps.items ≡ left →
-      vec_len new.steps + new.room ≤ vec_capacity new.steps → IsLinked left new.links → HasRoom new.links new.room → ((l : ℕ) → counts_of new.answered l ≡ max (counts_of old.answered l) (counts_of cut l)) → new.stable ≡ None → IsKept new
-  kept_forget new whole lanes base ended_in held_in items room linked links_room answered fresh = record {
+      vec_len new.steps + new.room ≤ vec_capacity new.steps → IsLinked left new.links → HasRoom new.links new.room → ((l : ℕ) → counts_of new.answered l ≡ max (counts_of old.answered l) (counts_of cut l)) → new.causes ≡ replicate 32 None → new.stable ≡ None → IsKept new
+  kept_forget new whole lanes base ended_in held_in items room linked links_room answered causes fresh = record {
     lanes = omega (arith, kept.lanes);
     low = subst (λ (xs : List Step). All (λ s. s.lane.0 < new.lanes) xs) (sym items) (subst (λ (n : ℕ). All (λ s. s.lane.0 < n) left) (sym lanes) left_low);
     named = subst (λ (xs : List Step). All (λ s. IsObjectBelow 4096 s.entry) xs) (sym items) left_named;
@@ -72,5 +73,6 @@ module _ (old : Inside) (cut : Cut) (next : List ℕ) (left : List Step) (kept :
           (closed_left old.steps.items left (λ s. nat_lt (slice_index next s.lane.0) s.section) (slice_index next) (counts_of old.answered) (counts_of new.answered) filtered left_numbered
           (λ l. omega (arith, answered l)) (λ l. omega (arith, answered l, raised l)) kept.answered.closed);
     };
+    causes = causes_none new.steps.items (counts_of new.answered) new.causes causes;
     stable = no_cut new fresh;
   }

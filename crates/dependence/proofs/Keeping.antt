@@ -1,5 +1,5 @@
 -- What is true of a graph's fields stays so.
-use Rattle.std.proofs.Common.{ℕ, ◌≡◌, ◌+◌, ◌-◌, ◌*◌, ◌<◌, ◌≤◌, false, List, [], ◌∷◌, ◌++◌, All, length, get_or, reverse, take, drop, replicate, slice_index, vec_len, vec_capacity, None, MatchOption, sym, ap, ◌∙◌, subst, inl, inr, arith, zero-add}
+use Rattle.std.proofs.Common.{ℕ, ◌≡◌, ◌+◌, ◌-◌, ◌*◌, ◌<◌, ◌≤◌, false, List, [], ◌∷◌, ◌++◌, All, length, get_or, reverse, take, drop, replicate, slice_index, vec_len, vec_capacity, None, sym, ap, ◌∙◌, subst, inl, inr, arith, zero-add}
 use Rattle.std.proofs.lemmas.Bool.{cases_lt}
 use Rattle.std.proofs.lemmas.List.{length-reverse, get_or_past, get_or-replicate, take_more, take-append-drop, reverse-append}
 use Rattle.heap_model.specs.declared.cut.Cut.{Cut}
@@ -16,9 +16,10 @@ use Rattle.dependence.specs.Steps.{did, log_of, HasSections, reading}
 use Rattle.dependence.specs.Links.{act_at}
 use Rattle.dependence.specs.Kept.{IsCounted, IsInOrder, Rises, IsLinked, HasRoom}
 use Rattle.dependence.specs.Inside.{trace_of, IsAtHand, IsKept}
-use Rattle.dependence.specs.Search.{IsAnswered, IsFound, IsSorted}
+use Rattle.dependence.specs.Search.{IsAnswered, IsFound, IsSorted, AreCauses}
 use Rattle.dependence.proofs.Places.{at_old, at_new, length_snoc, length_map, reverse_snoc}
 use Rattle.dependence.proofs.Counted.{order_next, ended_cons, sorted, lanes_low}
+use Rattle.dependence.proofs.Causes.{causes_push, causes_none}
 use Rattle.dependence.proofs.Answering.{closed_push}
 use Rattle.dependence.proofs.Sums.{in_all_le, sections_few, growth_le}
 use Rattle.dependence.proofs.Steady.{stable_since, above_base}
@@ -106,8 +107,8 @@ answered_push old new s kept base items section next counted answered = record {
 pub kept_push : (old new : Inside) (s : Step) → IsKept old → new.lanes ≡ old.lanes → new.base ≡ old.base → new.room + 1 ≡ old.room → new.steps.items ≡ old.steps.items ++ s ∷ [] →
     vec_len new.steps ≡ vec_len old.steps + 1 → vec_capacity new.steps ≡ vec_capacity old.steps → HasRoom new.links new.room → (xs : List Step) → xs ≡ old.steps.items → IsLinked (xs ++ s ∷ []) new.links →
     s.lane.0 < old.lanes → IsObjectBelow 4096 s.entry → s.section ≡ slice_index old.ended s.lane.0 + 1 → IsNext (log_of (reverse old.steps.items)) s.lane.0 (undo_action s.entry) →
-    IsCounted (slice_index old.base) (did s ∷ log_of (reverse old.steps.items)) new.ended new.held → new.answered ≡ old.answered → new.stable ≡ None → IsKept new
-kept_push old new s kept lanes base room items len capacity links_room xs same linked low named section next counted answered fresh =
+    IsCounted (slice_index old.base) (did s ∷ log_of (reverse old.steps.items)) new.ended new.held → new.answered ≡ old.answered → new.causes ≡ old.causes → new.stable ≡ None → IsKept new
+kept_push old new s kept lanes base room items len capacity links_room xs same linked low named section next counted answered causes fresh =
     let steps : new.steps.items ≡ old.steps.items ++ s ∷ [] = items in
     let back : reverse new.steps.items ≡ s ∷ reverse old.steps.items = ap (λ (xs : List Step). reverse xs) items ∙ reverse_snoc old.steps.items s in
     let number : s.section ≡ ended (lane s.lane.0 (log_of (reverse old.steps.items))) + 1 + slice_index old.base s.lane.0 = omega (arith, kept.counted.whole s.lane.0) in
@@ -122,6 +123,8 @@ kept_push old new s kept lanes base room items len capacity links_room xs same l
       steps_room = omega (arith, kept.steps_room);
       links_room = links_room;
       answered = answered_push old new s kept base items section next counted answered;
+      causes = subst (AreCauses new.steps.items (counts_of new.answered)) (sym causes) (subst (λ (c : Cut). AreCauses new.steps.items (counts_of c) old.causes) (sym answered)
+          (subst (λ (ys : List Step). AreCauses ys (counts_of old.answered) old.causes) (sym items) (causes_push old.steps.items s (counts_of old.answered) old.causes kept.causes)));
       stable = no_cut new fresh;
     }
 
@@ -144,8 +147,8 @@ all_none : (P : Step → Type 0) → All P []
 all_none P k d lt = absurd (let no : k < 0 = lt in omega arith)
 
 -- the fields of a graph of nothing
-pub kept_none : (g : Inside) → g.lanes ≤ 32 → g.base ≡ replicate 32 0 → g.ended ≡ replicate 32 0 → g.held ≡ replicate 32 0 → g.steps.items ≡ [] → vec_len g.steps + g.room ≤ vec_capacity g.steps → IsLinked [] g.links → HasRoom g.links g.room → g.answered.counts ≡ replicate 32 0 → g.stable ≡ None → IsKept g
-kept_none g lanes base ended_in held_in items room linked links_room answered fresh =
+pub kept_none : (g : Inside) → g.lanes ≤ 32 → g.base ≡ replicate 32 0 → g.ended ≡ replicate 32 0 → g.held ≡ replicate 32 0 → g.steps.items ≡ [] → vec_len g.steps + g.room ≤ vec_capacity g.steps → IsLinked [] g.links → HasRoom g.links g.room → g.answered.counts ≡ replicate 32 0 → g.causes ≡ replicate 32 None → g.stable ≡ None → IsKept g
+kept_none g lanes base ended_in held_in items room linked links_room answered causes fresh =
     let back : reverse g.steps.items ≡ [] = ap (λ (xs : List Step). reverse xs) items in
     record {
       lanes = lanes;
@@ -165,5 +168,6 @@ kept_none g lanes base ended_in held_in items room linked links_room answered fr
         below = λ l. let none : slice_index g.answered.counts l ≡ 0 = ap (λ (xs : List ℕ). slice_index xs l) answered ∙ zeros l in omega arith;
         closed = subst (λ (xs : List Step). IsClosedOver reading xs (counts_of g.answered)) (sym items) (λ s t here there. absurd (let no : here.0 < 0 = here.1 in omega arith));
       };
+      causes = causes_none g.steps.items (counts_of g.answered) g.causes causes;
       stable = no_cut g fresh;
     }

@@ -4,6 +4,8 @@ pub mod Pairs
 pub mod InOrder
 pub mod Linked
 pub mod Falling
+pub mod Causes
+pub mod Walking
 pub mod Counted
 pub mod Steady
 pub mod Sums

@@ -1,7 +1,7 @@
 -- Sums over the lanes.
 use Rattle.std.proofs.Common.{ℕ, zero, suc, ◌≡◌, ◌≢◌, ◌+◌, ◌-◌, ◌*◌, ◌<◌, ◌≤◌, ◌==◌, if◌then◌else◌, true, false, List, [], ◌∷◌, length, sym, ap, subst, inl, inr, arith}
 use Rattle.std.proofs.lemmas.Bool.{cases_eq, cases_lt, ne_eqb, eq-eqb}
-use Rattle.std.proofs.Math.Nat.{le-mul_of_pos_right}
+use Rattle.std.proofs.Math.Nat.{mul-le-mul_left}
 use Rattle.heap_model.specs.Log.{lane}
 use Rattle.heap_model.specs.Sections.{Action, Takes, Frees, Stores, without, holding, ended}
 use Rattle.dependence.specs.Trace.{in_all, growth}
@@ -39,8 +39,12 @@ growth_none lanes cut = omega (arith, in_all_none lanes, in_all_le lanes (λ l. 
 pub growth_le : (lanes : ℕ) (cut whole before : ℕ → ℕ) → ((l : ℕ) → cut l ≤ whole l) → growth lanes cut before ≤ growth lanes whole before
 growth_le lanes cut whole before le = in_all_le lanes (λ l. cut l - before l) (λ l. whole l - before l) (λ l lt. omega (arith, le l))
 
-pub once_each : (m : ℕ) → m ≤ m * (m + 1)
-once_each m = le-mul_of_pos_right m (omega arith)
+pub growth_less : (lanes : ℕ) (whole before cut : ℕ → ℕ) → ((l : ℕ) → before l ≤ cut l) → growth lanes whole cut ≤ growth lanes whole before
+growth_less lanes whole before cut le = in_all_le lanes (λ l. whole l - cut l) (λ l. whole l - before l) (λ l lt. omega (arith, le l))
+
+pub twice_each : (m : ℕ) → m + m ≤ m * (m + 1)
+twice_each zero = omega arith
+twice_each (suc m) = omega (arith, mul-le-mul_left {m = 2} {n = suc m + 1} (suc m) (omega arith))
 
 -- a record ends at most one section
 ended_one : (a : Action) (older : List Action) → ended (a ∷ older) ≤ ended older + 1

@@ -7,7 +7,7 @@ use Rattle.dependence.specs.Trace.{Trace}
 use Rattle.dependence.specs.Next.{IsObjectBelow}
 use Rattle.dependence.specs.Steps.{log_of, HasSections}
 use Rattle.dependence.specs.Kept.{IsCounted, Rises, IsLinked, HasRoom}
-use Rattle.dependence.specs.Search.{IsAnswered, IsFound}
+use Rattle.dependence.specs.Search.{IsAnswered, IsFound, AreCauses}
 
 -- the plain data of the fields
 abbrev pub trace_of : Inside → Trace
@@ -29,4 +29,5 @@ pub record IsKept (g : Inside) : Type 0 where
   pub steps_room : vec_len g.steps + g.room ≤ vec_capacity g.steps
   pub links_room : HasRoom g.links g.room
   pub answered : IsAnswered g.steps.items (slice_index g.base) (slice_index g.ended) (counts_of g.answered)
+  pub causes : AreCauses g.steps.items (counts_of g.answered) g.causes
   pub stable : IsAtHand g g.stable

@@ -1,6 +1,7 @@
--- The search for the stable cut: a cut that falls, and in each lane the place + 1 of the newest step that is left.
-use Rattle.std.specs.Prelude.{ℕ, ◌≡◌, ◌+◌, ◌-◌, ◌*◌, ◌<◌, ◌≤◌, ◌⊎◌, true, List, length, slice_index}
+-- The search for the stable cut: a cut that falls, why it does in each lane, and there the place + 1 of the newest step that is left.
+use Rattle.std.specs.Prelude.{ℕ, ◌≡◌, ◌+◌, ◌-◌, ◌*◌, ◌<◌, ◌≤◌, ◌⊎◌, true, List, Option, Some, length, get_or, slice_index}
 use Rattle.heap_model.specs.Plain.{takes_after, IsClosedOver, IsGreatest}
+use Rattle.dependence.specs.declared.section.Dependence.{Dependence}
 use Rattle.dependence.specs.declared.step.Step.{Step}
 use Rattle.dependence.specs.Trace.{growth}
 use Rattle.dependence.specs.Steps.{reading}
@@ -22,12 +23,62 @@ pub record IsFound (lanes : ℕ) (steps : List Step) (whole answered cut : ℕ �
 abbrev pub Takes : List Step → (taker releaser : ℕ) → Type 0
 Takes steps j i = takes_after (act_at (acts_in steps) j) (act_at (acts_in steps) i) ≡ true
 
--- the cut is above each closed one, and what took from a step that isn't left is out
-pub record IsSearch (steps : List Step) (whole : ℕ → ℕ) (left : List ℕ) (cut : ℕ → ℕ) : Type 0 where
-  pub below : (l : ℕ) → cut l ≤ whole l
-  pub greatest : (other : ℕ → ℕ) → ((l : ℕ) → other l ≤ whole l) → IsClosedOver reading steps other → (l : ℕ) → other l ≤ cut l
-  pub taken : (i j : ℕ) → Takes steps j i → slice_index left (slice_index (lanes_in steps) i) ≤ i → cut (slice_index (lanes_in steps) j) < slice_index (sections_in steps) j
+-- the cut is at most the given one, and at least each closed one that is
+pub record IsAbove (steps : List Step) (most cut : ℕ → ℕ) : Type 0 where
+  pub below : (l : ℕ) → cut l ≤ most l
+  pub greatest : (other : ℕ → ℕ) → ((l : ℕ) → other l ≤ most l) → IsClosedOver reading steps other → (l : ℕ) → other l ≤ cut l
+
+-- one step took what the other freed
+pub record TookFrom (steps : List Step) (taker releaser : Step) : Type 0 where
+  pub take : ℕ
+  pub release : ℕ
+  pub takes : Takes steps take release
+  pub taker_is : taker ≡ get_or steps take taker
+  pub releaser_is : releaser ≡ get_or steps release releaser
+
+-- the dependence keeps the lane's sections beyond the cut out: the first of them, or one in the cut, took what that section freed
+pub record IsCause (steps : List Step) (cut : ℕ → ℕ) (lane : ℕ) (on : Dependence) : Type 0 where
+  pub take : ℕ
+  pub release : ℕ
+  pub takes : Takes steps take release
+  pub lane_is : slice_index (lanes_in steps) take ≡ lane
+  pub first : slice_index (sections_in steps) take ≤ cut lane + 1
+  pub on_lane : slice_index (lanes_in steps) release ≡ on.lane.0
+  pub on_section : slice_index (sections_in steps) release ≡ on.section
+
+-- each lane's cause, if it has one, is such
+abbrev pub AreCauses : (steps : List Step) (cut : ℕ → ℕ) (causes : List (Option Dependence)) → Type 0
+AreCauses steps cut causes = (l : ℕ) (on : Dependence) → l < length causes → get_or causes l (Some on) ≡ Some on → IsCause steps cut l on
+
+-- by lane: all of its steps, or none where the cut has no candidates
+abbrev pub IsStart : (newest : List ℕ) (answered candidates : ℕ → ℕ) (start : List ℕ) → Type 0
+IsStart newest answered candidates start = (l : ℕ) → (slice_index start l ≡ slice_index newest l) ⊎ ((slice_index start l ≡ 0) × (candidates l ≤ answered l))
+
+-- a walk back along the lanes: the steps from the start to those that are left were visited
+pub record IsWalk (steps : List Step) (start left : List ℕ) (Visited : ℕ → Type 0) : Type 0 where
   pub places : (l c : ℕ) → slice_index left l ≡ c + 1 → (c < length steps) × (slice_index (lanes_in steps) c ≡ l)
+  pub visited : (k : ℕ) → k < length steps → slice_index left (slice_index (lanes_in steps) k) ≤ k → k < slice_index start (slice_index (lanes_in steps) k) → Visited k
+
+-- what took at the place from a section that is no candidate is out
+abbrev pub IsLookedAt : (steps : List Step) (candidates cut : ℕ → ℕ) → ℕ → Type 0
+IsLookedAt steps candidates cut j = (i : ℕ) → Takes steps j i → candidates (slice_index (lanes_in steps) i) < slice_index (sections_in steps) i → cut (slice_index (lanes_in steps) j) < slice_index (sections_in steps) j
+
+-- what took from the step at the place is out
+abbrev pub IsTakenUp : (steps : List Step) (cut : ℕ → ℕ) → ℕ → Type 0
+IsTakenUp steps cut i = (j : ℕ) → Takes steps j i → cut (slice_index (lanes_in steps) j) < slice_index (sections_in steps) j
+
+-- the first walk: from the newest candidates back to what was answered
+pub record IsLooking (steps : List Step) (start left : List ℕ) (candidates cut : ℕ → ℕ) (causes : List (Option Dependence)) : Type 0 where
+  pub above : IsAbove steps candidates cut
+  pub why : AreCauses steps cut causes
+  pub walk : IsWalk steps start left (IsLookedAt steps candidates cut)
+
+-- the second: back over what is out
+pub record IsSearch (steps : List Step) (start left : List ℕ) (candidates cut : ℕ → ℕ) (causes : List (Option Dependence)) : Type 0 where
+  pub above : IsAbove steps candidates cut
+  pub why : AreCauses steps cut causes
+  pub looked : (j : ℕ) → IsLookedAt steps candidates cut j
+  pub walk : IsWalk steps start left (IsTakenUp steps cut)
 
 -- the newest step that is left of the lane is of a section outside the cut
 pub record IsLeft (steps : List Step) (left : List ℕ) (cut : ℕ → ℕ) (lane : ℕ) : Type 0 where

@@ -39,6 +39,8 @@ pub struct Graph {
     // The cut that was last answered, with what was forgotten since, and the looks that it took.
     answered: Cut,
     looks: u64,
+    // By lane: a dependence that keeps its first section beyond that cut out, if it is known.
+    causes: [Option<Dependence>; 32],
     // The stable cut, where nothing was pushed or forgotten since it was found. Its looks are those since
     // the last answer.
     stable: Option<Found>,
@@ -82,6 +84,7 @@ impl Graph {
             links: Links::with_capacity(alloc, records)?,
             answered: Cut { counts: [0; 32] },
             looks: 0,
+            causes: [None; 32],
             stable: None,
         })
     }
@@ -139,14 +142,17 @@ impl Graph {
         retain(&mut self.steps, &self.base);
         self.room += records - self.steps.len();
         self.links.again(&self.steps);
+        self.causes = [None; 32];
         self.stable = None;
     }
 
     /// The stable cut of all records, what was forgotten included.
     ///
-    /// The time is linear in the records that are not forgotten: each is taken up at most once, in
-    /// whatever order the sections depend on one another, and after each the lanes are looked through at
-    /// most once. Where nothing was pushed or forgotten since the last call, the answer is at hand.
+    /// A section that is left out keeps a dependence that keeps it out, by lane. Where that one is still
+    /// out, the lane's sections are not taken up: so with a section open all the time the answer takes as
+    /// long as what is new. The time is linear in the records of the sections that are taken up, in
+    /// whatever order they depend on one another, and after each the lanes are looked through at most
+    /// once. Where nothing was pushed or forgotten since the last call, the answer is at hand.
     pub fn stable_cut(&mut self) -> Cut
         ensures stable { IsStableOf self.old (counts_of result) }
         ensures answered { (l : ℕ) → answered_of self.new l ≡ counts_of result l }
@@ -163,6 +169,7 @@ impl Graph {
             &self.links,
             &self.ended,
             &self.answered,
+            &mut self.causes,
             self.stable,
         );
         self.answered = found.cut;
@@ -210,12 +217,14 @@ impl Graph {
         ensures kept { IfSome result (λ d. base_of self.old d.lane.0 < d.section) }
         ensures same { self.new ≡ self.old }
     {
+        let mut causes = self.causes;
         let found = at_hand(
             self.lanes,
             &self.steps,
             &self.links,
             &self.ended,
             &self.answered,
+            &mut causes,
             self.stable,
         );
         self.stable = Some(found);

@@ -6,6 +6,7 @@
 //! from answer to answer: a graph tells how many sections it took up for the last one.
 #![tactic(auto)]
 
+mod candidates;
 mod found;
 mod graph;
 mod lanes;

@@ -1,89 +1,191 @@
 //! The search for the stable cut.
 
-ghost use Rattle.std.specs.Prelude.{◌≡◌, ◌≢◌, ◌+◌, ◌-◌, ◌<◌, ◌≤◌, ◌↔◌, ℕ, true, false, IsTrue, MatchOption, length, slice_index, get_or, sum};
+ghost use Rattle.std.specs.Prelude.{◌≡◌, ◌≢◌, ◌+◌, ◌-◌, ◌<◌, ◌≤◌, ◌↔◌, ℕ, List, true, false, IsTrue, MatchOption, length, slice_index, get_or, sum};
 ghost use Rattle.heap_model.specs.Sections.{undo_action};
 ghost use Rattle.heap_model.specs.Cuts.{counts_of};
-ghost use Rattle.heap_model.specs.Plain.{IsGreatest, takes_after};
+ghost use Rattle.heap_model.specs.Plain.{IsClosedOver, takes_after};
+ghost use Rattle.dependence.specs.declared.step.Step.{Step as AnyStep};
 ghost use Rattle.dependence.specs.Steps.{reading};
 ghost use Rattle.dependence.specs.Links.{acts_in, act_at};
 ghost use Rattle.dependence.specs.Kept.{IsLinked};
-ghost use Rattle.dependence.specs.Search.{IsSearch, IsLeft, IsSorted};
+ghost use Rattle.dependence.specs.Search.{IsAbove, TookFrom, AreCauses, IsStart, IsLooking, IsSearch, IsLeft, IsSorted};
 
 use crate::links::Links;
+use crate::section::Dependence;
 use crate::step::Step;
 use crate::steps::takes_what_frees;
+use crate::why::release_of;
 use heap_model::Cut;
 
 /// A cut that falls to the stable one.
 #[derive(Drop)]
 pub struct Search {
     pub cut: Cut,
+    /// By lane: a dependence that keeps its first section beyond the cut out.
+    pub causes: [Option<Dependence>; 32],
     /// By lane: the place of the newest step that was not taken up yet, plus 1, or 0.
     pub left: [usize; 32],
-    /// How many steps were taken up.
-    pub looks: u64,
 }
 
-/// The greatest cut below `ended` that is closed.
+/// The greatest cut of the candidates that is closed, above one that is closed.
 ///
-/// A section that is out takes with it the later ones of its lane, and the sections that took what it
-/// freed. So each step of a section that is out is taken up once, from the end of its lane: where it
-/// is a release, the section of the take after it is out too.
-pub fn greatest_cut(lanes: u8, steps: &[Step], links: &Links, ended: &[u64; 32]) -> Search
+/// First each candidate is taken up with its dependences: what depends on a section that is no candidate
+/// is out. A section that is out takes with it the later ones of its lane, and the sections that took what
+/// it freed. So each candidate that is out is taken up once more, from the end of its lane: where it is a
+/// release, the section of the take after it is out too.
+pub fn greatest_cut(
+    lanes: u8,
+    steps: &[Step],
+    links: &Links,
+    answered: &Cut,
+    candidates: &Cut,
+    causes: [Option<Dependence>; 32],
+) -> Search
     requires lanes { lanes ≤ 32 }
     requires linked { IsLinked steps.now links.now }
     requires sorted { IsSorted steps.now lanes }
-    ensures { IsGreatest reading steps.now (slice_index ended.now) (counts_of result.cut) }
+    requires closed { IsClosedOver reading steps.now (counts_of answered.now) }
+    requires less { (l : ℕ) → counts_of answered.now l ≤ counts_of candidates.now l }
+    requires causes { AreCauses steps.now (counts_of answered.now) causes }
+    ensures above { IsAbove steps.now (counts_of candidates.now) (counts_of result.cut) }
+    ensures closed { IsClosedOver reading steps.now (counts_of result.cut) }
+    ensures causes { AreCauses steps.now (counts_of result.cut) result.causes }
 {
+    let start = starts(links, answered, candidates);
     let mut search = Search {
-        cut: Cut { counts: *ended },
-        left: links.newest,
-        looks: 0,
+        cut: *candidates,
+        causes,
+        left: start,
     };
-    let mut lane = 0;
-    while let Some(next) = lane_to_take_up(lanes, steps, &search, lane) {
-        lane = next;
-        take_up(steps, links, &mut search, lane);
-    }
+    look_through(
+        lanes,
+        steps,
+        links,
+        answered,
+        candidates,
+        &mut search,
+        &start,
+    );
+    search.left = start;
+    leave_out_all(lanes, steps, links, candidates, &mut search, &start);
     search
 }
 
-// A lane whose newest step that is left is of a section that is out; the given one, if that is such.
-fn lane_to_take_up(lanes: u8, steps: &[Step], search: &Search, first: usize) -> Option<usize>
-    ensures { MatchOption result ((l : ℕ) → l < lanes → ¬ IsLeft steps.now search.now.left (counts_of search.now.cut) l) (λ l. IsLeft steps.now search.now.left (counts_of search.now.cut) l) }
+// By lane where its steps begin: at the newest, or nowhere if there are no candidates.
+fn starts(links: &Links, answered: &Cut, candidates: &Cut) -> [usize; 32]
+    requires { length links.now.newest ≡ 32 }
+    ensures { IsStart links.now.newest (counts_of answered.now) (counts_of candidates.now) result }
 {
-    if is_left(steps, search, first) {
+    let mut start = links.newest;
+    for lane in 0..32 {
+        if candidates.counts[lane] <= answered.counts[lane] {
+            start[lane] = 0;
+        }
+    }
+    start
+}
+
+// Takes up the candidates with their dependences, back to what was answered.
+fn look_through(
+    lanes: u8,
+    steps: &[Step],
+    links: &Links,
+    answered: &Cut,
+    candidates: &Cut,
+    search: &mut Search,
+    start: &[usize; 32],
+)
+    requires linked { IsLinked steps.now links.now }
+    requires search { IsLooking steps.now start.now search.old.left (counts_of candidates.now) (counts_of search.old.cut) search.old.causes }
+    ensures search { IsLooking steps.now start.now search.new.left (counts_of candidates.now) (counts_of search.new.cut) search.new.causes }
+    ensures done { (l : ℕ) → l < lanes → ¬ IsLeft steps.now search.new.left (counts_of answered.now) l }
+{
+    let mut lane = 0;
+    while let Some(next) = lane_to_take_up(lanes, steps, &search.left, answered, lane) {
+        lane = next;
+        look_at(steps, links, candidates, search, lane);
+    }
+}
+
+// Takes up the sections that are out, and leaves out what depends on them.
+fn leave_out_all(
+    lanes: u8,
+    steps: &[Step],
+    links: &Links,
+    candidates: &Cut,
+    search: &mut Search,
+    start: &[usize; 32],
+)
+    requires linked { IsLinked steps.now links.now }
+    requires search { IsSearch steps.now start.now search.old.left (counts_of candidates.now) (counts_of search.old.cut) search.old.causes }
+    ensures search { IsSearch steps.now start.now search.new.left (counts_of candidates.now) (counts_of search.new.cut) search.new.causes }
+    ensures done { (l : ℕ) → l < lanes → ¬ IsLeft steps.now search.new.left (counts_of search.new.cut) l }
+{
+    let mut lane = 0;
+    while let Some(next) = lane_to_take_up(lanes, steps, &search.left, &search.cut, lane) {
+        lane = next;
+        take_up(steps, links, search, lane);
+    }
+}
+
+// A lane whose newest step that is left is of a section beyond the cut; the given one, if that is such.
+fn lane_to_take_up(
+    lanes: u8,
+    steps: &[Step],
+    left: &[usize; 32],
+    cut: &Cut,
+    first: usize,
+) -> Option<usize>
+    ensures { MatchOption result ((l : ℕ) → l < lanes → ¬ IsLeft steps.now left.now (counts_of cut.now) l) (λ l. IsLeft steps.now left.now (counts_of cut.now) l) }
+{
+    if is_left(steps, left, cut, first) {
         return Some(first);
     }
     for lane in 0..lanes as usize {
-        if is_left(steps, search, lane) {
+        if is_left(steps, left, cut, lane) {
             return Some(lane);
         }
     }
     None
 }
 
-fn is_left(steps: &[Step], search: &Search, lane: usize) -> bool
-    ensures { IsTrue result ↔ IsLeft steps.now search.now.left (counts_of search.now.cut) lane }
+fn is_left(steps: &[Step], left: &[usize; 32], cut: &Cut, lane: usize) -> bool
+    ensures { IsTrue result ↔ IsLeft steps.now left.now (counts_of cut.now) lane }
 {
     lane < 32
-        && search.left[lane] > 0
-        && search.left[lane] <= steps.len()
-        && search.cut.counts[lane] < steps[search.left[lane] - 1].section
+        && left[lane] > 0
+        && left[lane] <= steps.len()
+        && cut.counts[lane] < steps[left[lane] - 1].section
 }
 
-// Takes up the newest step that is left of the lane.
-fn take_up(steps: &[Step], links: &Links, search: &mut Search, lane: usize)
+// Takes up the newest step that is left of the lane: what it took of a section that is no candidate leaves its own out.
+fn look_at(steps: &[Step], links: &Links, candidates: &Cut, search: &mut Search, lane: usize)
     requires linked { IsLinked steps.now links.now }
-    requires left { IsLeft steps.now search.old.left (counts_of search.old.cut) lane }
-    ensures search { (whole : ℕ → ℕ) → IsSearch steps.now whole search.old.left (counts_of search.old.cut) → IsSearch steps.now whole search.new.left (counts_of search.new.cut) }
+    requires left { (cut : ℕ → ℕ) × IsLeft steps.now search.old.left cut lane }
+    ensures search { (start : List ℕ) → IsLooking steps.now start search.old.left (counts_of candidates.now) (counts_of search.old.cut) search.old.causes → IsLooking steps.now start search.new.left (counts_of candidates.now) (counts_of search.new.cut) search.new.causes }
     ensures smaller { sum search.new.left < sum search.old.left }
 {
     let place = search.left[lane] - 1;
     search.left[lane] = links.before[place];
-    search.looks = search.looks.saturating_add(1);
+    if let Some(release) = release_of(steps, links, place) {
+        let releaser = steps[release];
+        if !is_counted(candidates, releaser) {
+            leave_out(&mut search.cut, &mut search.causes, steps[place], releaser);
+        }
+    }
+}
+
+// Takes up the newest step that is left of the lane: what took what it freed is out.
+fn take_up(steps: &[Step], links: &Links, search: &mut Search, lane: usize)
+    requires linked { IsLinked steps.now links.now }
+    requires left { IsLeft steps.now search.old.left (counts_of search.old.cut) lane }
+    ensures search { (start : List ℕ) (candidates : ℕ → ℕ) → IsSearch steps.now start search.old.left candidates (counts_of search.old.cut) search.old.causes → IsSearch steps.now start search.new.left candidates (counts_of search.new.cut) search.new.causes }
+    ensures smaller { sum search.new.left < sum search.old.left }
+{
+    let place = search.left[lane] - 1;
+    search.left[lane] = links.before[place];
     if let Some(taker) = taker_of(steps, links, place) {
-        leave_out(&mut search.cut, taker);
+        leave_out(&mut search.cut, &mut search.causes, taker, steps[place]);
     }
 }
 
@@ -105,15 +207,30 @@ fn taker_of(steps: &[Step], links: &Links, place: usize) -> Option<Step>
     }
 }
 
-// Lowers the cut below the step's section.
-fn leave_out(cut: &mut Cut, step: Step)
+/// Whether the step's section is one of the cut's.
+pub fn is_counted(cut: &Cut, step: Step) -> bool
+    ensures { IsTrue result ↔ step.section ≤ counts_of cut.now step.lane.0 }
+{
+    match cut.counts.get(step.lane.0 as usize) {
+        Some(count) => step.section <= *count,
+        None => false,
+    }
+}
+
+// Lowers the cut below the step's section, which took what the releaser freed.
+fn leave_out(cut: &mut Cut, causes: &mut [Option<Dependence>; 32], step: Step, releaser: Step)
     ensures out { counts_of cut.new step.lane.0 < step.section }
     ensures others { (l : ℕ) → l ≢ step.lane.0 → counts_of cut.new l ≡ counts_of cut.old l }
     ensures fewer { counts_of cut.new step.lane.0 ≤ counts_of cut.old step.lane.0 }
     ensures least { (n : ℕ) → n < step.section → n ≤ counts_of cut.old step.lane.0 → n ≤ counts_of cut.new step.lane.0 }
+    ensures causes { (steps : List AnyStep) → TookFrom steps step releaser → AreCauses steps (counts_of cut.old) causes.old → AreCauses steps (counts_of cut.new) causes.new }
 {
     let lane = step.lane.0 as usize;
     if lane < 32 && step.section <= cut.counts[lane] {
         cut.counts[lane] = step.section - 1;
+        causes[lane] = Some(Dependence {
+            lane: releaser.lane,
+            section: releaser.section,
+        });
     }
 }

@@ -4,7 +4,6 @@ ghost use Rattle.std.specs.Prelude.{ℕ, ◌<◌, ◌≤◌};
 ghost use Rattle.heap_model.specs.Cuts.{counts_of};
 
 use crate::graph::Graph;
-use crate::graph::checked::looks;
 use crate::section::Dependence;
 use heap_model::{Cut, FieldId, Lane, LaneRecord, ObjectId, Record, plain};
 use std::alloc::{AllocError, Global};
@@ -168,7 +167,7 @@ fn looks_at_circle(rt: &impl Abort, alloc: Global) -> Result<[u64; 3], AllocErro
 
 #[test]
 fn a_circle_takes_few_looks(rt: HostRuntime) -> Result<(), Fail> {
-    assert_eq!(&rt; looks_at_circle(&rt, rt.alloc())?, [1, 2, 0]);
+    assert_eq!(&rt; looks_at_circle(&rt, rt.alloc())?, [2, 2, 0]);
     Ok(())
 }
 
@@ -276,19 +275,45 @@ fn push_bricks(rt: &impl Abort, graph: &mut Graph, sections: u64) {
     }
 }
 
-// How many records the search takes up, in a chain of so many sections whose last has not ended.
+// How many sections are taken up, in a chain of so many whose last has not ended.
 fn looks_at_bricks(rt: &impl Abort, alloc: Global, sections: u64) -> Result<u64, AllocError> {
     let mut graph = Graph::with_capacity(alloc, 2, 12_000)?;
     push_bricks(rt, &mut graph, sections);
     assert_eq!(rt; graph.stable_cut(), cut(0, 0));
-    Ok(looks(&graph))
+    Ok(graph.last_looks())
 }
 
 #[test]
 fn the_search_is_linear(rt: HostRuntime) -> Result<(), Fail> {
     let shorter = looks_at_bricks(&rt, rt.alloc(), 1_000)?;
     let longer = looks_at_bricks(&rt, rt.alloc(), 2_000)?;
-    assert_eq!(&rt; shorter, 5_995);
-    assert!(&rt; longer.saturating_mul(10) <= shorter.saturating_mul(22));
+    assert_eq!(&rt; [shorter, longer], [1_998, 3_998]);
+    Ok(())
+}
+
+// Lane 0's section stays open, and 2,000 of lane 1 depend on it, with an answer after each 100: how many are
+// taken up until it ends, and for the answer then.
+fn looks_with_one_open(rt: &impl Abort, alloc: Global) -> Result<[u64; 2], AllocError> {
+    let mut graph = Graph::with_capacity(alloc, 2, 4_004)?;
+    push(rt, &mut graph, 0, acq(0, 0));
+    push(rt, &mut graph, 0, acq(1, 0));
+    push(rt, &mut graph, 0, rel(1, 0));
+    let mut looks = 0u64;
+    for number in 1..2_001u64 {
+        push(rt, &mut graph, 1, acq(1, number));
+        push(rt, &mut graph, 1, rel(1, number));
+        if number % 100 == 0 {
+            graph.stable_cut();
+            looks = looks.wrapping_add(graph.last_looks());
+        }
+    }
+    push(rt, &mut graph, 0, rel(0, 0));
+    graph.stable_cut();
+    Ok([looks, graph.last_looks()])
+}
+
+#[test]
+fn what_is_left_out_is_not_taken_up_again(rt: HostRuntime) -> Result<(), Fail> {
+    assert_eq!(&rt; looks_with_one_open(&rt, rt.alloc())?, [200, 2_001]);
     Ok(())
 }

@@ -1,12 +1,13 @@
 //! Why a section is left out of a cut.
 
-ghost use Rattle.std.specs.Prelude.{◌≡◌, ◌+◌, ◌<◌, ◌≤◌, ◌⊎◌, ◌↔◌, ℕ, true, IsTrue, MatchOption, length, slice_index};
+ghost use Rattle.std.specs.Prelude.{◌≡◌, ◌+◌, ◌<◌, ◌≤◌, ◌⊎◌, ℕ, true, MatchOption, length, slice_index};
 ghost use Rattle.heap_model.specs.Cuts.{counts_of};
 ghost use Rattle.dependence.specs.Kept.{IsLinked};
 ghost use Rattle.dependence.specs.Search.{Takes, TookInsideAt, TookInsideUpTo, TookOutside, IsFirstReleaser, IsLeftOutBy, HasNoReason};
 
 use crate::lanes::is_left_out;
 use crate::links::Links;
+use crate::search::is_counted;
 use crate::section::Dependence;
 use crate::step::Step;
 use crate::steps::takes_what_frees;
@@ -81,8 +82,8 @@ fn releaser_outside(
     }
 }
 
-// The place of the release that freed what the step at the place took.
-fn release_of(steps: &[Step], links: &Links, place: usize) -> Option<usize>
+/// The place of the release that freed what the step at the place took.
+pub fn release_of(steps: &[Step], links: &Links, place: usize) -> Option<usize>
     requires linked { IsLinked steps.now links.now }
     requires there { place < length steps.now }
     ensures { MatchOption result ((j : ℕ) → Takes steps.now place j → ⊥) (λ j. (j < length steps.now) × Takes steps.now place j) }
@@ -110,14 +111,5 @@ fn outside(cut: &Cut, releaser: Step, section: Dependence) -> Option<Dependence>
             lane: releaser.lane,
             section: releaser.section,
         })
-    }
-}
-
-fn is_counted(cut: &Cut, step: Step) -> bool
-    ensures { IsTrue result ↔ step.section ≤ counts_of cut.now step.lane.0 }
-{
-    match cut.counts.get(step.lane.0 as usize) {
-        Some(count) => step.section <= *count,
-        None => false,
     }
 }

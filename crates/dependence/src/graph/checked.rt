@@ -1,4 +1,4 @@
-//! What tests ask of a graph: whether a record may be pushed, and the search's looks.
+//! What tests ask of a graph: whether a record may be pushed.
 
 ghost use Rattle.std.specs.Prelude.{◌≡◌, ◌+◌, ◌^◌, ◌<◌, ◌∷◌, [], IsTrue, Contains, List, reverse};
 ghost use Rattle.heap_model.specs.Log.{lane as lane_of};
@@ -9,7 +9,6 @@ ghost use Rattle.dependence.specs.Next.{IsNext, IsObjectBelow, IsBelow};
 ghost use Rattle.dependence.specs.Steps.{log_of};
 
 use super::Graph;
-use crate::search::greatest_cut;
 use crate::step::Step;
 use heap_model::{Lane, ObjectId, UndoRecord};
 
@@ -28,11 +27,6 @@ impl Graph {
             && comes_next(&self.steps, lane, entry)
             && self.ended[lane.0 as usize] < u64::MAX
     }
-}
-
-/// How many steps a search for the stable cut takes up.
-pub fn looks(graph: &Graph) -> u64 {
-    greatest_cut(graph.lanes, &graph.steps, &graph.links, &graph.ended).looks
 }
 
 fn is_low(entry: UndoRecord) -> bool

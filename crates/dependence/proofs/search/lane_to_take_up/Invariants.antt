@@ -4,4 +4,4 @@ use Rattle.dependence.specs.Search.{IsLeft}
 use Rattle.dependence.proofs.search.lane_to_take_up.Given as goal
 
 abbrev pub invariant-loop-lane : goal.invariant-loop-lane
-invariant-loop-lane l = (k : ℕ) → k < l.lane → ¬ IsLeft l.steps l.search.left (counts_of l.search.cut) k
+invariant-loop-lane l = (k : ℕ) → k < l.lane → ¬ IsLeft l.steps l.left (counts_of l.cut) k

@@ -64,6 +64,7 @@ invariant_of-self c =
     })
     c.raise-2.ensures
     refl
+    refl
 
 pub returns-clause-log : goal.returns-clause-log
 returns-clause-log c = left_log c.self.inside c.args.cut.now c.raise.new.base c.retain.new.steps.items c.self.invariant c.raise.ensures c.retain.ensures.kept ∙ ap (λ (t : Trace). since (beyond t c.args.cut.now) t.log) c.self.view_is

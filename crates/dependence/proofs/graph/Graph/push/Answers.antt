@@ -24,4 +24,4 @@ invariant_of-self c =
     c.deref.result.now c.deref.ensures.value c.add.ensures.linked
     low c.requires.object refl next
     (counted_push (slice_index c.self.inside.base) (log_of (reverse c.self.inside.steps.items)) c.self.inside.ended c.self.inside.held c.count.new.ended c.count.new.held c.args.lane.0 (undo_action c.args.entry.now)
-    c.self.told.1 c.self.told.2 (omega (arith, c.self.invariant.lanes)) next c.self.invariant.counted c.count.ensures.held c.count.ensures.ended) refl c.forget.ensures
+    c.self.told.1 c.self.told.2 (omega (arith, c.self.invariant.lanes)) next c.self.invariant.counted c.count.ensures.held c.count.ensures.ended) refl refl c.forget.ensures

@@ -3,7 +3,7 @@ use Rattle.dependence.proofs.Keeping.{zeros, kept_none}
 use Rattle.dependence.proofs.graph.Graph.with_capacity.Goals as goal
 
 pub invariant_of-result : goal.invariant_of-result
-invariant_of-result c = kept_none _ c.requires refl refl refl c.in_ok-with_capacity.ensures.items (omega (arith, c.in_ok-with_capacity.ensures.len, c.in_ok-with_capacity.ensures.capacity)) c.in_ok-with_capacity-2.ensures.linked c.in_ok-with_capacity-2.ensures.room refl refl
+invariant_of-result c = kept_none _ c.requires refl refl refl c.in_ok-with_capacity.ensures.items (omega (arith, c.in_ok-with_capacity.ensures.len, c.in_ok-with_capacity.ensures.capacity)) c.in_ok-with_capacity-2.ensures.linked c.in_ok-with_capacity-2.ensures.room refl refl refl
 
 pub returns-clause-base : goal.returns-clause-base
 returns-clause-base c = zeros

@@ -1,0 +1,62 @@
+//! Which sections may be stable by now.
+
+ghost use Rattle.std.specs.Prelude.{◌<◌, ◌≤◌, ℕ, List, IsTrue, slice_index};
+ghost use Rattle.heap_model.specs.Cuts.{counts_of};
+ghost use Rattle.heap_model.specs.Plain.{IsClosedOver};
+ghost use Rattle.dependence.specs.declared.step.Step.{Step};
+ghost use Rattle.dependence.specs.Steps.{reading};
+ghost use Rattle.dependence.specs.Search.{IsAbove, AreCauses};
+
+use crate::section::Dependence;
+use heap_model::Cut;
+
+/// The sections that may be stable: all that have ended, but for the lanes whose cause is none of them.
+///
+/// A lane whose cause is out has no more than was answered. That may be the cause of another lane, so
+/// that the lanes are gone through as many times as there are lanes.
+pub fn candidates(
+    lanes: u8,
+    ended: &[u64; 32],
+    answered: &Cut,
+    causes: &[Option<Dependence>; 32],
+) -> Cut
+    requires lanes { lanes ≤ 32 }
+    ensures { (steps : List Step) → AreCauses steps (counts_of answered.now) causes.now → ((l : ℕ) → counts_of answered.now l ≤ slice_index ended.now l) → IsClosedOver reading steps (counts_of answered.now) → IsAbove steps (slice_index ended.now) (counts_of result) }
+{
+    let mut cut = Cut { counts: *ended };
+    for _ in 0..lanes {
+        bar_all(lanes, answered, causes, &mut cut);
+    }
+    cut
+}
+
+// Bars each lane whose cause is out.
+fn bar_all(lanes: u8, answered: &Cut, causes: &[Option<Dependence>; 32], cut: &mut Cut)
+    requires lanes { lanes ≤ 32 }
+    ensures { (steps : List Step) (most : ℕ → ℕ) → AreCauses steps (counts_of answered.now) causes.now → ((l : ℕ) → counts_of answered.now l ≤ most l) → IsClosedOver reading steps (counts_of answered.now) → IsAbove steps most (counts_of cut.old) → IsAbove steps most (counts_of cut.new) }
+{
+    for lane in 0..lanes as usize {
+        bar(lane, answered, causes, cut);
+    }
+}
+
+// Bars the lane if its cause is out: it has no more than was answered.
+fn bar(lane: usize, answered: &Cut, causes: &[Option<Dependence>; 32], cut: &mut Cut)
+    requires lane { lane < 32 }
+    ensures { (steps : List Step) (most : ℕ → ℕ) → AreCauses steps (counts_of answered.now) causes.now → ((l : ℕ) → counts_of answered.now l ≤ most l) → IsClosedOver reading steps (counts_of answered.now) → IsAbove steps most (counts_of cut.old) → IsAbove steps most (counts_of cut.new) }
+{
+    if let Some(cause) = causes[lane] {
+        if is_out(cut, cause) {
+            cut.counts[lane] = answered.counts[lane];
+        }
+    }
+}
+
+fn is_out(cut: &Cut, cause: Dependence) -> bool
+    ensures { IsTrue result → counts_of cut.now cause.lane.0 < cause.section }
+{
+    match cut.counts.get(cause.lane.0 as usize) {
+        Some(count) => *count < cause.section,
+        None => false,
+    }
+}
