@@ -1,5 +1,6 @@
 use Rattle.std.proofs.Common.{sym, subst}
 use Rattle.heap_model.specs.Cuts.{counts_of}
+use Rattle.dependence.specs.Trace.{told_of}
 use Rattle.store_memory.specs.Sections.{Logged}
 use Rattle.store_memory.specs.Trimming.{MayForget}
 use Rattle.store_memory.specs.KeptSections.{logged_of}
@@ -14,4 +15,4 @@ forget_to-requires c =
 pub returns-clause-tells : goal.returns-clause-tells
 returns-clause-tells c = λ base log may.
     tells_since (logged_of c.self.inside) base log c.args.cut.now (subst (λ (m : Logged). MayForget m base log (counts_of c.args.cut.now)) (sym c.self.view_is) may)
-    c.forget_to.new.self c.forget_to.ensures.log c.forget_to.ensures.base
+    (told_of c.forget_to.new.self) c.forget_to.ensures.log c.forget_to.ensures.base
