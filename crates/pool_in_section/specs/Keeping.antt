@@ -32,6 +32,6 @@ tells_both v w x a b = let f = a.2 in let s = b.2 in (
 pub keeps_on : (a b c : InSection) → Keeps a b → Keeps b c → Keeps a c
 keeps_on a b c x y = let r = x.ring in let s = y.ring in record {
   home = y.home ∙ x.home;
-  ring = (((s.0.0.0 ∙ r.0.0.0, s.0.0.1 ∙ r.0.0.1, s.0.0.2 ∙ r.0.0.2, s.0.0.3 ∙ r.0.0.3), s.0.1 ∙ r.0.1), s.1 ∙ r.1);
+  ring = (((s.0.0.0 ∙ r.0.0.0, s.0.0.1 ∙ r.0.0.1, s.0.0.2 ∙ r.0.0.2, s.0.0.3 ∙ r.0.0.3), s.0.1 ∙ r.0.1), s.1 ∙ r.1, s.2 ∙ r.2);
   told = tells_both (view_of (session_of a)) (view_of (session_of b)) (view_of (session_of c)) x.told y.told;
 }
