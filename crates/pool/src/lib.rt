@@ -1,7 +1,8 @@
 //! An object pool: numbered slots, of which some are taken and the others stand in a free list, kept in guarded fields.
 //!
-//! [`Pool::lay_out`] declares the fields. [`Pool::take`] and [`Pool::give`] work over any [`Cells`] that hold them, whose
-//! `store_two` does both stores or neither: so whatever ends a section, each slot is taken or stands in the list once.
+//! [`Pool::take`] and [`Pool::give`] work over any [`Cells`] that hold these fields, whose `store_two` does both stores or
+//! neither: so whatever ends a section, each slot is taken or stands in the list once. A call that declares the fields, and
+//! so makes a pool, isn't written yet.
 #![tactic(auto)]
 
 mod cells;
