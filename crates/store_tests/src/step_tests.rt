@@ -1,5 +1,5 @@
 //! Stores whose answers, device calls and crash images are known.
-ghost use Rattle.std.specs.Prelude.{◌≤◌, ◌^◌, ◌-◌};
+ghost use Rattle.std.specs.Prelude.{◌+◌, ◌-◌, ◌<◌, ◌≤◌, ◌^◌};
 
 use crate::format_tests::schema_or_none;
 use block_disk::{Disk, Fill, MemDisk};
@@ -59,12 +59,18 @@ fn two(record: Record) -> StoreCall {
     StoreCall::Apply(Lane(1), record)
 }
 
-// A store of the common schema, with so many lanes of 4,000 records. Release numbers stay at `last` or below.
-fn store_on(alloc: Global, disk: MemDisk, lanes: u8, last: u64) -> Result<Store<MemDisk>, Fail>
+// A store of the common schema, with so many lanes of so many records. Release numbers stay at `last` or below.
+fn store_on(
+    alloc: Global,
+    disk: MemDisk,
+    lanes: u8,
+    capacity: u32,
+    last: u64,
+) -> Result<Store<MemDisk>, Fail>
     requires { last ≤ 2 ^ 40 - 1 }
 {
     let schema = schema_or_none(alloc).ok_or("no schema")?;
-    let Ok(made) = format(alloc, disk, &schema, lanes, 4000) else {
+    let Ok(made) = format(alloc, disk, &schema, lanes, capacity) else {
         return Err(Fail::new("not formatted"));
     };
     let Ok(store) = Store::adopt(alloc, made, last) else {
@@ -77,7 +83,7 @@ fn fresh(alloc: Global, lanes: u8, last: u64) -> Result<Store<MemDisk>, Fail>
     requires { last ≤ 2 ^ 40 - 1 }
 {
     let disk = MemDisk::new(alloc, 130_208)?;
-    store_on(alloc, disk, lanes, last)
+    store_on(alloc, disk, lanes, 4000, last)
 }
 
 // How many sections of the lane are acknowledged, if there is such a lane.
@@ -186,6 +192,142 @@ fn a_fifth_section_is_too_much(rt: HostRuntime) -> Result<(), Fail> {
     Ok(())
 }
 
+// So many sections of 1,000 records, which are then logged and acknowledged.
+fn settled_sections(store: &mut Store<MemDisk>, from: u64, count: u64) -> Result<(), StoreError>
+    requires { from + count < 2 ^ 64 }
+{
+    for number in from..from + count {
+        if !section(store, number) {
+            return Err(StoreError::NotNext);
+        }
+    }
+    store.log_step()?;
+    store.home_step()?;
+    store.settle()
+}
+
+// The first place of the first lane that wasn't trimmed, and how often the device was called.
+fn place_and_calls(store: &Store<MemDisk>) -> (u64, u64) {
+    let place = if store.layout().lanes > 0 {
+        store.trimmed(Lane(0))
+    } else {
+        0
+    };
+    (place, store.disk().stops())
+}
+
+// Two sections fill an area of 2,000 records. What is acknowledged of them is trimmed, and a third takes the places of the
+// first: the places and calls after each step.
+fn places_again(alloc: Global) -> Result<[(u64, u64); 5], Fail> {
+    let disk = MemDisk::new(alloc, 130_208)?;
+    let mut store = store_on(alloc, disk, 1, 2000, 9)?;
+    settled_sections(&mut store, 0, 2).map_err(|_| Fail::new("not settled"))?;
+    if store.apply(Lane(0), acq(0, 2)) != Err(StoreError::LogFull) {
+        return Err(Fail::new("not full"));
+    }
+    let settled = place_and_calls(&store);
+    store.trim().map_err(|_| Fail::new("not trimmed"))?;
+    let trimmed = place_and_calls(&store);
+    store.trim().map_err(|_| Fail::new("not trimmed again"))?;
+    let again = place_and_calls(&store);
+    settled_sections(&mut store, 2, 1).map_err(|_| Fail::new("no third"))?;
+    let third = place_and_calls(&store);
+    store.trim().map_err(|_| Fail::new("third not trimmed"))?;
+    Ok([settled, trimmed, again, third, place_and_calls(&store)])
+}
+
+// The format takes 13 calls; the first two sections 2,000 writes, a sync and a commit of 4, a home write, a sync and a commit of
+// 6. Each trim is a commit of 6, and with nothing to move no call.
+#[test]
+fn a_trim_makes_room(rt: HostRuntime) -> Result<(), Fail> {
+    let steps = [
+        (0, 2026),
+        (2000, 2032),
+        (2000, 2032),
+        (2000, 3047),
+        (3000, 3053),
+    ];
+    assert_eq!(rt; places_again(rt.alloc())?, steps);
+    Ok(())
+}
+
+// How many of so many sections of an acquire and a release are taken.
+fn short_sections(store: &mut Store<MemDisk>, from: u64, count: u64) -> u64
+    requires { from + count < 2 ^ 64 }
+{
+    for number in from..from + count {
+        if store.apply(Lane(0), acq(0, number)).is_err()
+            || store.apply(Lane(0), rel(0, number)).is_err()
+        {
+            return number - from;
+        }
+    }
+    count
+}
+
+// The sections that are taken before a trim and after it, those acknowledged, and the answer to one more.
+fn sections_by_trim(
+    alloc: Global,
+) -> Result<(u64, Option<u64>, u64, Result<(), StoreError>), Fail> {
+    let mut store = fresh(alloc, 1, 9000)?;
+    let before = short_sections(&mut store, 0, 2000);
+    if store.play(&[StoreCall::Log, StoreCall::Settle]).is_err() || store.trim().is_err() {
+        return Err(Fail::new("not trimmed"));
+    }
+    let acknowledged = kept(&store, 0);
+    let after = short_sections(&mut store, 1501, 2000);
+    Ok((
+        before,
+        acknowledged,
+        after,
+        store.apply(Lane(0), acq(0, 3002)),
+    ))
+}
+
+// An area of 4,000 records begins no section where fewer than 1,000 are left.
+#[test]
+fn a_trimmed_store_takes_as_many_again(rt: HostRuntime) -> Result<(), Fail> {
+    let full = Err(StoreError::LogFull);
+    assert_eq!(rt;
+        sections_by_trim(rt.alloc())?,
+        (1501, Some(1501), 1501, full)
+    );
+    Ok(())
+}
+
+// A trim whose commit fails keeps its places: the answers of it and of the calls after it. Before it the device is called 31
+// times, two reads of a gate among them; it reads a gate and closes it, and the 35th call writes the control.
+fn failed_trim(alloc: Global) -> Result<[Result<(), StoreError>; 4], Fail> {
+    let mut disk = MemDisk::new(alloc, 130_208)?;
+    disk.fail_call(35);
+    let mut store = store_on(alloc, disk, 1, 4000, 9)?;
+    let calls = [StoreCall::Log, StoreCall::Home, StoreCall::Settle];
+    if store.play(&SECTION).is_err() || store.play(&calls).is_err() {
+        return Err(Fail::new("refused"));
+    }
+    let first = store.trim();
+    let (place, _) = place_and_calls(&store);
+    if place != 0 {
+        return Err(Fail::new("trimmed"));
+    }
+    Ok([
+        first,
+        store.trim(),
+        store.settle(),
+        store.apply(Lane(0), acq(0, 1)),
+    ])
+}
+
+#[test]
+fn a_trim_whose_device_failed_keeps_its_places(rt: HostRuntime) -> Result<(), Fail> {
+    let failed = Err(StoreError::Failed);
+    assert_eq!(rt;
+        failed_trim(rt.alloc())?,
+        [Err(StoreError::Fault), failed, failed, failed]
+    );
+    Ok(())
+}
+
 // A store of one field, inside a section.
 const SECTION: [StoreCall; 3] = [
     StoreCall::Apply(
@@ -217,7 +359,7 @@ const SECTION: [StoreCall; 3] = [
 fn a_store_whose_device_failed_takes_no_more(rt: HostRuntime) -> Result<(), Fail> {
     let mut disk = MemDisk::new(rt.alloc(), 130_208)?;
     disk.fail_call(17);
-    let mut store = store_on(rt.alloc(), disk, 2, 9)?;
+    let mut store = store_on(rt.alloc(), disk, 2, 4000, 9)?;
     assert_eq!(rt; store.play(&SECTION), Ok(()));
     let steps = [
         (StoreCall::Log, Err(StoreError::Fault)),
