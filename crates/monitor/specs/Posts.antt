@@ -2,6 +2,7 @@
 use Rattle.std.specs.Prelude.{ℕ, ◌≡◌, ◌+◌, ◌<◌, ◌≤◌, ◌⊎◌, List, [], ◌∷◌}
 use mathlib.Core.Option.{some}
 use lib.ListN.{get_elem?}
+use Rattle.heap_model.specs.declared.limits.TheConstants.{LANES}
 use Rattle.monitor.specs.declared.view.Post.{Post}
 use Rattle.monitor.specs.declared.view.Post.TheVariants.{Stable, Trimmed}
 use Rattle.monitor.specs.declared.view.Note.{Note}
@@ -9,15 +10,15 @@ use Rattle.monitor.specs.declared.view.Part.{Part}
 use Rattle.monitor.specs.declared.view.View.{View}
 use Rattle.monitor.specs.Views.{noted, keeping}
 
--- acknowledged counts are numbered from 0 and trimmed places from 32
+-- acknowledged counts are numbered from 0, and trimmed places behind them
 abbrev pub post_number : Post → ℕ
 post_number (Stable lane) = lane.0
-post_number (Trimmed lane) = 32 + lane.0
+post_number (Trimmed lane) = LANES + lane.0
 
--- of one of the 32 lanes
+-- of one of the lanes
 abbrev pub IsPost : Post → Type 0
-IsPost (Stable lane) = lane.0 < 32
-IsPost (Trimmed lane) = lane.0 < 32
+IsPost (Stable lane) = lane.0 < LANES
+IsPost (Trimmed lane) = lane.0 < LANES
 
 -- the last number that a view has of what was published, 0 before the first
 abbrev pub known_post : View → Post → ℕ

@@ -13,7 +13,7 @@ use crate::seat::Seat;
 use crate::shared::Shared;
 use crate::view::View;
 use atomic_table::Play;
-use heap_model::{Event, Lane, ObjectId};
+use heap_model::{Event, LANES, Lane, ObjectId};
 use lock_word::WaitMask;
 
 /// A load of a wait mask by the owner.
@@ -87,7 +87,7 @@ impl Shared {
         requires object { object.0 < objects self.now.plan }
         requires awake { IsAwake seat.old.view }
         requires known { seat.old.view.mark ≡ Knows object (mask_of mask) }
-        requires lane { (lane.0 < 32) × (set.contains mask lane.0 ≡ true) }
+        requires lane { (lane.0 < LANES) × (set.contains mask lane.0 ≡ true) }
         ensures seat { IsSeatOf self.now seat.new }
         ensures told { seat.new.view ≡ told seat.old.view (Event.Notify object (Some lane)) }
     {

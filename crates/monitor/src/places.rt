@@ -13,6 +13,9 @@ use lock_word::FAT_SLOTS;
 /// How many words the fat slots and their count take.
 pub const SLOT_WORDS: usize = FAT_SLOTS as usize + 1;
 
+/// How many words the published numbers take: two for each lane.
+pub const POST_WORDS: usize = 2 * LANES;
+
 impl Shared {
     // The word of a fat slot.
     pub(crate) fn fat_place(&self, slot: u32) -> usize

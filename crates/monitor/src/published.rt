@@ -10,7 +10,7 @@ use crate::seat::{HelperSeat, Seat};
 use crate::shared::Shared;
 use crate::view::{Post, View};
 use atomic_table::Play;
-use heap_model::Lane;
+use heap_model::{LANES, Lane};
 
 /// A load of a published number.
 pub struct ReadsPost;
@@ -73,7 +73,7 @@ impl Shared {
     /// records. Neither may fall. Two stores.
     pub fn publish(&self, helper: &mut HelperSeat, lane: Lane, acknowledged: u64, trimmed: u64)
         requires seat { IsHelperOf self.now helper.old }
-        requires lane { lane.0 < 32 }
+        requires lane { lane.0 < LANES }
         requires acknowledged { known_post helper.old.view (Stable lane) ≤ acknowledged }
         requires trimmed { known_post helper.old.view (Trimmed lane) ≤ trimmed }
         ensures seat { IsHelperOf self.now helper.new }

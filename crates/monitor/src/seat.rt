@@ -4,7 +4,7 @@ ghost use Rattle.std.specs.Prelude.{◌≡◌, ◌<◌};
 ghost use Rattle.monitor.specs.Views.{lane_of, Stands};
 
 use crate::view::View;
-use heap_model::Lane;
+use heap_model::{LANES, Lane};
 use std::marker::Model;
 
 /// The seat of one lane, by which its thread steps. There is one for each lane, and it has no bytes but the
@@ -47,7 +47,7 @@ impl Seat {
     /// The lane whose seat it is, numbered from 0.
     pub fn lane(&self) -> Lane
         ensures lane { result ≡ lane_of self.now.view }
-        ensures small { result.0 < 32 }
+        ensures small { result.0 < LANES }
     {
         self.lane
     }
