@@ -26,6 +26,7 @@ tells_both v w x a b = let f = a.2 in let s = b.2 in (
     stable = (let p = f.stable in let q = s.stable in omega arith);
     trimmed = (let p = f.trimmed in let q = s.trimmed in omega arith);
     fats = λ o i e. s.fats o i (f.fats o i e);
+    words = λ o x h. s.words o x (f.words o x h);
   },
 )
 

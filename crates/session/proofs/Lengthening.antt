@@ -21,6 +21,7 @@ after_both v w x a b f s = record {
   stable = (let p = f.stable in let q = s.stable in omega arith);
   trimmed = (let p = f.trimmed in let q = s.trimmed in omega arith);
   fats = λ o i e. s.fats o i (f.fats o i e);
+  words = λ o x h. s.words o x (f.words o x h);
 }
 
 -- nothing, and then some events
@@ -33,10 +34,11 @@ after_quiet v w x b f s = record {
   stable = (let p = f.stable in let q = s.stable in omega arith);
   trimmed = (let p = f.trimmed in let q = s.trimmed in omega arith);
   fats = λ o i e. s.fats o i (f.fats o i e);
+  words = λ o x h. s.words o x (f.words o x h);
 }
 
 pub same_view : (v : View) → Lengthens v v []
-same_view v = record { events = refl; plan = refl; lane = refl; slots = omega arith; stable = omega arith; trimmed = omega arith; fats = λ o i e. e }
+same_view v = record { events = refl; plan = refl; lane = refl; slots = omega arith; stable = omega arith; trimmed = omega arith; fats = λ o i e. e; words = λ o x h. h }
 
 -- the log after these events
 pub logs_after : (v w : View) (newer : List Event) → Lengthens v w newer → log_in w ≡ own_log v.plan (newer ++ v.events)

@@ -86,34 +86,38 @@ ready_fattened v w o i n is low ready = subst IsReady (sym is) (record {
       (λ _ e. subst (λ (z : ℕ). z < SLOTS) (some_once i j e) low) (λ _ e. ready.slots p j e);
 })
 
+-- the lock words of fat monitors
+
+some_shape : (a b : Shape) → ◌≡◌ {A = Option Shape} (Some a) (Some b) → a ≡ b
+some_shape a b e = let out : Option Shape → Shape = λ z. elim z [ None ↦ a | Some y ↦ y ] in ap out e
+
+-- the known word of an object is fat, and where one is known its slot is
+fat_known : (o : ℕ) (fats : List Named) (x : Shape) → word_of o fats ≡ Some x → (i : ℕ) × (n : ℕ) × (x ≡ thin.Fat i n) × (slot_of o fats ≡ Some i)
+fat_known o [] x e = absurd cc
+fat_known o (f ∷ fs) x e = by_test f.object.0 o (λ b. ◌≡◌ {A = Option Shape} (if b then Some (thin.Fat f.slot f.number) else word_of o fs) (Some x) → (i : ℕ) × (n : ℕ) × (x ≡ thin.Fat i n) × ((if b then Some f.slot else slot_of o fs) ≡ Some i))
+    (λ _ d. (f.slot, f.number, sym (some_shape (thin.Fat f.slot f.number) x d), refl)) (λ _ d. fat_known o fs x d) e
+
+-- the word that is found is the one that is known, if any
+abbrev pub IsOnlyWord : raw.View → ObjectId → Shape → Type 0
+IsOnlyWord v o y = (x : Shape) → word_of o.0 v.fats ≡ Some x → y ≡ x
+
+words_fattened : (v : raw.View) (o : ObjectId) (i n : ℕ) → IsOnlyWord v o (thin.Fat i n) → KeepsWords (shown v) (shown (fattened v o i n))
+words_fattened v o i n only p x h = by_test o.0 p (λ b. ◌≡◌ {A = Option Shape} (if b then Some (thin.Fat i n) else word_of p v.fats) (Some x))
+    (λ at. ap Some (only x (ap (λ z. word_of z v.fats) at ∙ h))) (λ _. h)
+
 -- events
 
 pub after_told : (v w : raw.View) (e : Event) → w ≡ told v e → Lengthens (shown v) (shown w) (e ∷ [])
-after_told v w e is = subst (λ (x : raw.View). Lengthens (shown v) (shown x) (e ∷ [])) (sym is) (record { events = refl; plan = refl; lane = refl; slots = same v.seen; stable = same (noted (lane_of v).0 v.notes); trimmed = same (noted (32 + (lane_of v).0) v.notes); fats = λ o i s. s })
+after_told v w e is = subst (λ (x : raw.View). Lengthens (shown v) (shown x) (e ∷ [])) (sym is) (record { events = refl; plan = refl; lane = refl; slots = same v.seen; stable = same (noted (lane_of v).0 v.notes); trimmed = same (noted (32 + (lane_of v).0) v.notes); fats = λ o i s. s; words = λ o x h. h })
 
 pub after_resumed : (v w : raw.View) (e : Event) → w ≡ resumed v e → Lengthens (shown v) (shown w) (e ∷ [])
-after_resumed v w e is = subst (λ (x : raw.View). Lengthens (shown v) (shown x) (e ∷ [])) (sym is) (record { events = refl; plan = refl; lane = refl; slots = same v.seen; stable = same (noted (lane_of v).0 v.notes); trimmed = same (noted (32 + (lane_of v).0) v.notes); fats = λ o i s. s })
+after_resumed v w e is = subst (λ (x : raw.View). Lengthens (shown v) (shown x) (e ∷ [])) (sym is) (record { events = refl; plan = refl; lane = refl; slots = same v.seen; stable = same (noted (lane_of v).0 v.notes); trimmed = same (noted (32 + (lane_of v).0) v.notes); fats = λ o i s. s; words = λ o x h. h })
 
 pub after_removed : (v w : raw.View) (o : ObjectId) → w ≡ removed v o → Lengthens (shown v) (shown w) []
-after_removed v w o is = subst (λ (x : raw.View). Lengthens (shown v) (shown x) []) (sym is) (record { events = refl; plan = refl; lane = refl; slots = same v.seen; stable = same (noted (lane_of v).0 v.notes); trimmed = same (noted (32 + (lane_of v).0) v.notes); fats = λ o i s. s })
+after_removed v w o is = subst (λ (x : raw.View). Lengthens (shown v) (shown x) []) (sym is) (record { events = refl; plan = refl; lane = refl; slots = same v.seen; stable = same (noted (lane_of v).0 v.notes); trimmed = same (noted (32 + (lane_of v).0) v.notes); fats = λ o i s. s; words = λ o x h. h })
 
 pub after_counted : (v w : raw.View) (n : ℕ) → w ≡ counted v n → v.seen ≤ n → Lengthens (shown v) (shown w) []
-after_counted v w n is low = subst (λ (x : raw.View). Lengthens (shown v) (shown x) []) (sym is) (record { events = refl; plan = refl; lane = refl; slots = low; stable = same (noted (lane_of v).0 v.notes); trimmed = same (noted (32 + (lane_of v).0) v.notes); fats = λ o i s. s })
-
--- the slot that a fat lock word names is the one that is known
-IsOnly : raw.View → ObjectId → ℕ → Type 0
-IsOnly v o i = (j : ℕ) → slot_of o.0 v.fats ≡ Some j → i ≡ j
-
-pub after_fattened : (v w : raw.View) (o : ObjectId) (i n : ℕ) → w ≡ fattened v o i n → ((j : ℕ) → slot_of o.0 v.fats ≡ Some j → i ≡ j) → Lengthens (shown v) (shown w) []
-after_fattened v w o i n is only = subst (λ (x : raw.View). Lengthens (shown v) (shown x) []) (sym is) (record {
-  events = refl;
-  plan = refl;
-  lane = refl;
-  slots = same v.seen;
-  stable = same (noted (lane_of v).0 v.notes);
-  trimmed = same (noted (32 + (lane_of v).0) v.notes);
-  fats = λ p j s. by_test o.0 p (λ b. ◌≡◌ {A = Option ℕ} (if b then Some i else slot_of p v.fats) (Some j)) (λ e. ap Some (only j (ap (λ z. slot_of z v.fats) e ∙ s))) (λ _. s);
-})
+after_counted v w n is low = subst (λ (x : raw.View). Lengthens (shown v) (shown x) []) (sym is) (record { events = refl; plan = refl; lane = refl; slots = low; stable = same (noted (lane_of v).0 v.notes); trimmed = same (noted (32 + (lane_of v).0) v.notes); fats = λ o i s. s; words = λ o x h. h })
 
 pub after_both : (v w x : View) (a : List Event) → Lengthens v w [] → Lengthens w x a → Lengthens v x a
 after_both v w x a f s = record {
@@ -124,7 +128,41 @@ after_both v w x a f s = record {
   stable = (let p = f.stable in let q = s.stable in omega arith);
   trimmed = (let p = f.trimmed in let q = s.trimmed in omega arith);
   fats = λ o i e. s.fats o i (f.fats o i e);
+  words = λ o x h. s.words o x (f.words o x h);
 }
+
+-- the slot that a fat lock word names is the one that is known
+IsOnly : raw.View → ObjectId → ℕ → Type 0
+IsOnly v o i = (j : ℕ) → slot_of o.0 v.fats ≡ Some j → i ≡ j
+
+pub after_fattened : (v w : raw.View) (o : ObjectId) (i n : ℕ) → w ≡ fattened v o i n → ((j : ℕ) → slot_of o.0 v.fats ≡ Some j → i ≡ j) → IsOnlyWord v o (thin.Fat i n) → Lengthens (shown v) (shown w) []
+after_fattened v w o i n is only word = subst (λ (x : raw.View). Lengthens (shown v) (shown x) []) (sym is) (record {
+  events = refl;
+  plan = refl;
+  lane = refl;
+  slots = same v.seen;
+  stable = same (noted (lane_of v).0 v.notes);
+  trimmed = same (noted (32 + (lane_of v).0) v.notes);
+  fats = λ p j s. by_test o.0 p (λ b. ◌≡◌ {A = Option ℕ} (if b then Some i else slot_of p v.fats) (Some j)) (λ e. ap Some (only j (ap (λ z. slot_of z v.fats) e ∙ s))) (λ _. s);
+  words = words_fattened v o i n word;
+})
+
+-- a look that met a lock word that names a slot
+pub after_named : (v w : raw.View) (o : ObjectId) (i n : ℕ) → w ≡ fattened v o i n → IsNews v o (thin.Fat i n) → Lengthens (shown v) (shown w) []
+after_named v w o i n is news = after_fattened v w o i n is news.1 (λ x h. let k = fat_known o.0 v.fats x h in news.2 k.0 k.1 (h ∙ ap Some k.2) ∙ sym k.2)
+
+pub after_looked : (v w : raw.View) (o : ObjectId) (x : Shape) (i n : ℕ) → x ≡ thin.Fat i n → w ≡ looked v o x → IsNews v o x → Lengthens (shown v) (shown w) []
+after_looked v w o x i n at is news = after_named v w o i n (is ∙ ap (looked v o) at) (subst (IsNews v o) at news)
+
+-- a look that met such a word, and then one at the fat word
+pub after_looks : (v u w : raw.View) (o : ObjectId) (x : Shape) (f : FatShape) (i n : ℕ) → x ≡ thin.Fat i n → u ≡ looked v o x → IsNews v o x → w ≡ told u (Look o (fat_sight f)) → Lengthens (shown v) (shown w) (Look o (sight_of x (Some f)) ∷ [])
+after_looks v u w o x f i n at is news told_fat = subst (λ (z : Shape). Lengthens (shown v) (shown w) (Look o (sight_of z (Some f)) ∷ [])) (sym at)
+    (after_both (shown v) (shown u) (shown w) (Look o (fat_sight f) ∷ []) (after_looked v u o x i n at is news) (after_told u w (Look o (fat_sight f)) told_fat))
+
+-- an inflation, of a monitor of which no slot was known
+pub after_inflated : (v w : raw.View) (o : ObjectId) (c i n : ℕ) → v.seen ≤ c → slot_of o.0 v.fats ≡ None → w ≡ fattened (counted v c) o i n → Lengthens (shown v) (shown w) []
+after_inflated v w o c i n low none is = after_both (shown v) (shown (counted v c)) (shown w) [] (after_counted v (counted v c) c refl low)
+    (after_fattened (counted v c) w o i n is (λ j h. absurd (some_none j (sym h ∙ none))) (λ x h. let k = fat_known o.0 v.fats x h in absurd (some_none k.0 (sym k.3 ∙ none))))
 
 -- grips
 
@@ -259,7 +297,7 @@ not_own v o t a m st free me = some_none (record { count = a + 1; number = m }) 
 thin_missed : (v : raw.View) (o : ObjectId) (n : ℕ) (x : Shape) → IsNews v o x → Stands (looked v o x) → x ≢ thin.Free n → (own v.events).hold o.0 ≡ None → Misses (shown v) (shown (looked v o x)) o n (seen.Lock x)
 thin_missed v o n (thin.Free m) news st ne free = record { told = after_told v (looked v o (thin.Free m)) (Look o (Found None 0 m)) refl; another = λ e. ne (ap thin.Free e) }
 thin_missed v o n (thin.Thin t a m) news st ne free = record { told = after_told v (looked v o (thin.Thin t a m)) (Look o (Found (Some (record { 0 = t - 1 })) (a + 1) m)) refl; another = not_own v o t a m st free }
-thin_missed v o n (thin.Fat i m) news st ne free = record { told = after_fattened v (fattened v o i m) o i m refl news.1; another = slot_here v o i m }
+thin_missed v o n (thin.Fat i m) news st ne free = record { told = after_named v (fattened v o i m) o i m refl news; another = slot_here v o i m }
 
 pub misses_thin : (v w : raw.View) (o : ObjectId) (n : ℕ) (x : Shape) → w ≡ looked v o x → IsNews v o x → Stands w → x ≢ thin.Free n → (own v.events).hold o.0 ≡ None → Misses (shown v) (shown w) o n (seen.Lock x)
 misses_thin v w o n x is news st ne free = subst (λ (z : raw.View). Misses (shown v) (shown z) o n (seen.Lock x)) (sym is) (thin_missed v o n x news (subst Stands is st) ne free)
@@ -271,56 +309,10 @@ fat_missed v o n (fat.Held t a m) st ne free = record { told = after_told v (tol
 pub misses_fat : (v w : raw.View) (o : ObjectId) (n : ℕ) (y : FatShape) → w ≡ told v (Look o (fat_sight y)) → Stands w → y ≢ fat.Free n → (own v.events).hold o.0 ≡ None → Misses (shown v) (shown w) o n (seen.Fat y)
 misses_fat v w o n y is st ne free = subst (λ (z : raw.View). Misses (shown v) (shown z) o n (seen.Fat y)) (sym is) (fat_missed v o n y (subst Stands is st) ne free)
 
--- the lock words of fat monitors
-
-abbrev WordsOf : raw.View → raw.View → Type 0
-WordsOf v w = KeepsWords (shown v) (shown w)
-
-pub words_told : (v w : raw.View) (e : Event) → w ≡ told v e → WordsOf v w
-words_told v w e is = subst (WordsOf v) (sym is) (λ o x h. h)
-
-pub words_resumed : (v w : raw.View) (e : Event) → w ≡ resumed v e → WordsOf v w
-words_resumed v w e is = subst (WordsOf v) (sym is) (λ o x h. h)
-
-pub words_counted : (v w : raw.View) (n : ℕ) → w ≡ counted v n → WordsOf v w
-words_counted v w n is = subst (WordsOf v) (sym is) (λ o x h. h)
-
-pub words_removed : (v w : raw.View) (o : ObjectId) → w ≡ removed v o → WordsOf v w
-words_removed v w o is = subst (WordsOf v) (sym is) (λ p x h. h)
-
-pub words_joined : (v w : raw.View) (o : ObjectId) → w ≡ joined v o → WordsOf v w
-words_joined v w o is = subst (WordsOf v) (sym is) (λ p x h. h)
-
-pub words_kept : (v w : raw.View) (p n : ℕ) → w ≡ keeping v p n → WordsOf v w
-words_kept v w p n is = subst (WordsOf v) (sym is) (λ o x h. h)
-
-pub words_both : (v w x : View) → KeepsWords v w → KeepsWords w x → KeepsWords v x
-words_both v w x a b o y h = b o y (a o y h)
-
-some_shape : (a b : Shape) → ◌≡◌ {A = Option Shape} (Some a) (Some b) → a ≡ b
-some_shape a b e = let out : Option Shape → Shape = λ z. elim z [ None ↦ a | Some y ↦ y ] in ap out e
-
--- the known word of an object is fat, and where one is known its slot is
-fat_known : (o : ℕ) (fats : List Named) (x : Shape) → word_of o fats ≡ Some x → (i : ℕ) × (n : ℕ) × (x ≡ thin.Fat i n) × (slot_of o fats ≡ Some i)
-fat_known o [] x e = absurd cc
-fat_known o (f ∷ fs) x e = by_test f.object.0 o (λ b. ◌≡◌ {A = Option Shape} (if b then Some (thin.Fat f.slot f.number) else word_of o fs) (Some x) → (i : ℕ) × (n : ℕ) × (x ≡ thin.Fat i n) × ((if b then Some f.slot else slot_of o fs) ≡ Some i))
-    (λ _ d. (f.slot, f.number, sym (some_shape (thin.Fat f.slot f.number) x d), refl)) (λ _ d. fat_known o fs x d) e
+-- a lock word that names a slot, once it was met
 
 word_here : (v : raw.View) (o : ObjectId) (i n : ℕ) → word_of o.0 (fattened v o i n).fats ≡ Some (thin.Fat i n)
 word_here v o i n = by_test o.0 o.0 (λ b. (if b then Some (thin.Fat i n) else word_of o.0 v.fats) ≡ Some (thin.Fat i n)) (λ _. refl) (λ ne. absurd (ne refl))
-
--- the word that is found is the one that is known, if any
-words_fattened : (v : raw.View) (o : ObjectId) (i n : ℕ) → ((x : Shape) → word_of o.0 v.fats ≡ Some x → thin.Fat i n ≡ x) → WordsOf v (fattened v o i n)
-words_fattened v o i n only p x h = by_test o.0 p (λ b. ◌≡◌ {A = Option Shape} (if b then Some (thin.Fat i n) else word_of p v.fats) (Some x))
-    (λ at. ap Some (only x (ap (λ z. word_of z v.fats) at ∙ h))) (λ _. h)
-
-pub words_looked : (v w : raw.View) (o : ObjectId) (x : Shape) → w ≡ looked v o x → IsNews v o x → WordsOf v w
-words_looked v w o (thin.Free n) is news = words_told v w (Look o (Found None 0 n)) is
-words_looked v w o (thin.Thin t a n) is news = words_told v w (Look o (Found (Some (record { 0 = t - 1 })) (a + 1) n)) is
-words_looked v w o (thin.Fat i n) is news = subst (WordsOf v) (sym is) (words_fattened v o i n (λ x h. let k = fat_known o.0 v.fats x h in news.2 k.0 k.1 (h ∙ ap Some k.2) ∙ sym k.2))
-
-pub words_inflated : (v w : raw.View) (o : ObjectId) (c i n : ℕ) → slot_of o.0 v.fats ≡ None → w ≡ fattened (counted v c) o i n → WordsOf v w
-words_inflated v w o c i n none is = subst (WordsOf v) (sym is) (words_fattened (counted v c) o i n (λ x h. let k = fat_known o.0 v.fats x h in absurd (some_none k.0 (sym k.3 ∙ none))))
 
 lasts_at : (v : raw.View) (o : ObjectId) (x : Shape) → IsLasting (shown (looked v o x)) o x
 lasts_at v o (thin.Free n) = tt

@@ -3,7 +3,7 @@
 ghost use Rattle.std.specs.Prelude.{◌≡◌, ◌<◌, [], ◌∷◌, Some, ℕ};
 ghost use Rattle.heap_model.specs.declared.event.Event.TheVariants as event;
 ghost use Rattle.heap_model.specs.Known.{known_value};
-ghost use Rattle.steps.specs.Views.{view, plan, IsSeatOf, KeepsEach, KeepsWords, Lengthens, IsClear, IsAwake, IsHeld};
+ghost use Rattle.steps.specs.Views.{view, plan, IsSeatOf, KeepsEach, Lengthens, IsClear, IsAwake, IsHeld};
 
 use heap_model::{FieldId, ObjectId};
 use monitor::{Seat, Shared};
@@ -19,7 +19,6 @@ pub fn read_field(shared: &Shared, seat: &mut Seat, field: FieldId) -> u64
     ensures told { Lengthens (view seat.old) (view seat.new) (event.Load field result ∷ []) }
     ensures known { (value : ℕ) → known_value (plan shared.now) (view seat.old).events field.0 ≡ Some value → result ≡ value }
     ensures grips { KeepsEach (view seat.old) (view seat.new) }
-    ensures words { KeepsWords (view seat.old) (view seat.new) }
 {
     shared.read_field(seat, field)
 }
@@ -34,7 +33,6 @@ pub fn write_field(shared: &Shared, seat: &mut Seat, field: FieldId, value: u64)
     ensures clear { IsClear (view seat.new) }
     ensures told { Lengthens (view seat.old) (view seat.new) (event.Store field result value ∷ []) }
     ensures grips { KeepsEach (view seat.old) (view seat.new) }
-    ensures words { KeepsWords (view seat.old) (view seat.new) }
 {
     shared.write_field(seat, field, value)
 }

@@ -1,7 +1,7 @@
 //! The words that only rise: the count of fat slots, and the published numbers.
 
 ghost use Rattle.std.specs.Prelude.{◌≡◌, ◌<◌, ◌≤◌, [], true, false};
-ghost use Rattle.steps.specs.Views.{view, IsSeatOf, KeepsEach, KeepsWords, Lengthens};
+ghost use Rattle.steps.specs.Views.{view, IsSeatOf, KeepsEach, Lengthens};
 
 use lock_word::FAT_SLOTS;
 use monitor::{Seat, Shared};
@@ -15,7 +15,6 @@ pub fn has_slot(shared: &Shared, seat: &mut Seat) -> bool
     ensures some { result ≡ true → (view seat.new).slots < FAT_SLOTS }
     ensures none { result ≡ false → FAT_SLOTS ≤ (view seat.new).slots }
     ensures grips { KeepsEach (view seat.old) (view seat.new) }
-    ensures words { KeepsWords (view seat.old) (view seat.new) }
 {
     shared.count_slots(seat) < u64::from(FAT_SLOTS)
 }
@@ -28,7 +27,6 @@ pub fn read_stable(shared: &Shared, seat: &mut Seat) -> u64
     ensures told { Lengthens (view seat.old) (view seat.new) [] }
     ensures read { (view seat.new).stable ≡ result }
     ensures grips { KeepsEach (view seat.old) (view seat.new) }
-    ensures words { KeepsWords (view seat.old) (view seat.new) }
 {
     shared.read_stable(seat)
 }
@@ -41,7 +39,6 @@ pub fn read_trimmed(shared: &Shared, seat: &mut Seat) -> u64
     ensures told { Lengthens (view seat.old) (view seat.new) [] }
     ensures read { (view seat.new).trimmed ≡ result }
     ensures grips { KeepsEach (view seat.old) (view seat.new) }
-    ensures words { KeepsWords (view seat.old) (view seat.new) }
 {
     shared.read_trimmed(seat)
 }

@@ -7,7 +7,7 @@ ghost use Rattle.lock_word.specs.declared.fat_word.FatShape.TheVariants.{Held};
 ghost use Rattle.lock_word.specs.Spelling.{sight_of};
 ghost use Rattle.monitor.specs.Views.{lane_of};
 ghost use Rattle.monitor.specs.Seats.{HoldsThin, HoldsFat};
-ghost use Rattle.steps.specs.Views.{view, plan, IsSeatOf, Keeps, KeepsEach, KeepsOthers, KeepsWords, Lengthens, IsLasting, IsLastingSeen, IsClear, IsAwake, Takes, Misses, Fattens, IsWhole, AgreesWith, IsSlot, IsOfSlot, room_of, hold};
+ghost use Rattle.steps.specs.Views.{view, plan, IsSeatOf, Keeps, KeepsEach, KeepsOthers, Lengthens, IsLasting, IsLastingSeen, IsClear, IsAwake, Takes, Misses, Fattens, IsWhole, AgreesWith, IsSlot, IsOfSlot, room_of, hold};
 
 use crate::grip::{Grip, Seen, Sighted};
 use heap_model::ObjectId;
@@ -25,7 +25,6 @@ pub fn look(shared: &Shared, seat: &mut Seat, object: ObjectId) -> Sighted
     ensures agrees { AgreesWith (view seat.new) object (sight_of result.lock result.fat) }
     ensures lasting { IsLasting (view seat.new) object result.lock }
     ensures grips { KeepsEach (view seat.old) (view seat.new) }
-    ensures words { KeepsWords (view seat.old) (view seat.new) }
 {
     monitor::sight_law();
     let lock = shared.look(seat, object);
@@ -71,7 +70,6 @@ pub fn try_take(
     ensures found { IfErr result (λ x. IsOfSlot slot x) }
     ensures lasting { IfErr result (λ x. IsLastingSeen (view seat.new) object x) }
     ensures grips { KeepsOthers (view seat.old) (view seat.new) object.0 }
-    ensures words { KeepsWords (view seat.old) (view seat.new) }
 {
     match slot {
         None => match shared.try_take(seat, object, number) {
@@ -112,7 +110,6 @@ pub fn nest(shared: &Shared, seat: &mut Seat, grip: Grip) -> Grip
     ensures told { Takes (view seat.old) (view seat.new) (event.NestedEnter grip.object) grip.object (grip.count + 1) grip.number result }
     ensures slot { result.slot ≡ grip.slot }
     ensures grips { KeepsOthers (view seat.old) (view seat.new) grip.object.0 }
-    ensures words { KeepsWords (view seat.old) (view seat.new) }
 {
     match grip.slot {
         None => {
@@ -149,7 +146,6 @@ pub fn unnest(shared: &Shared, seat: &mut Seat, grip: Grip) -> Grip
     ensures told { Takes (view seat.old) (view seat.new) (event.NestedExit grip.object) grip.object (grip.count - 1) grip.number result }
     ensures slot { result.slot ≡ grip.slot }
     ensures grips { KeepsOthers (view seat.old) (view seat.new) grip.object.0 }
-    ensures words { KeepsWords (view seat.old) (view seat.new) }
 {
     match grip.slot {
         None => {
@@ -186,7 +182,6 @@ pub fn release(shared: &Shared, seat: &mut Seat, grip: Grip)
     ensures told { Lengthens (view seat.old) (view seat.new) (event.Exit grip.object grip.number ∷ []) }
     ensures slot { IsSlot (view seat.new) grip.object grip.slot }
     ensures grips { KeepsOthers (view seat.old) (view seat.new) grip.object.0 }
-    ensures words { KeepsWords (view seat.old) (view seat.new) }
 {
     match grip.slot {
         None => {
@@ -211,7 +206,6 @@ pub fn inflate(shared: &Shared, seat: &mut Seat, grip: Grip) -> Option<Grip>
     ensures told { Lengthens (view seat.old) (view seat.new) [] }
     ensures made { MatchOption result ((FAT_SLOTS ≤ (view seat.new).slots) × KeepsEach (view seat.old) (view seat.new)) (Fattens (view seat.new) grip) }
     ensures grips { KeepsOthers (view seat.old) (view seat.new) grip.object.0 }
-    ensures words { KeepsWords (view seat.old) (view seat.new) }
 {
     let word = thin_word(shared, seat, grip);
     match shared.inflate(seat, grip.object, word) {

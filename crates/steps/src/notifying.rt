@@ -3,7 +3,7 @@
 ghost use Rattle.std.specs.Prelude.{◌≡◌, [], ◌∷◌, ◌↔◌, true, Contains, List};
 ghost use Rattle.std.specs.FinSet as set;
 ghost use Rattle.heap_model.specs.declared.event.Event.TheVariants as event;
-ghost use Rattle.steps.specs.Views.{view, IsSeatOf, Keeps, KeepsEach, KeepsWords, Lengthens, IsClear, IsAwake};
+ghost use Rattle.steps.specs.Views.{view, IsSeatOf, Keeps, KeepsEach, Lengthens, IsClear, IsAwake};
 
 use crate::grip::Grip;
 use heap_model::Lane;
@@ -20,7 +20,6 @@ pub fn notify_one(shared: &Shared, seat: &mut Seat, grip: Grip) -> Option<Lane>
     ensures clear { IsClear (view seat.new) }
     ensures told { Lengthens (view seat.old) (view seat.new) (event.Notify grip.object result ∷ []) }
     ensures grips { KeepsEach (view seat.old) (view seat.new) }
-    ensures words { KeepsWords (view seat.old) (view seat.new) }
 {
     shared.notify_one(seat, grip.object)
 }
@@ -35,7 +34,6 @@ pub fn notify_all(shared: &Shared, seat: &mut Seat, grip: Grip) -> WaitMask
     ensures told { (woken : List Lane) × Lengthens (view seat.old) (view seat.new) (event.NotifyAll grip.object woken ∷ [])
         × ((l : Lane) → Contains woken l ↔ (set.contains result l.0 ≡ true)) }
     ensures grips { KeepsEach (view seat.old) (view seat.new) }
-    ensures words { KeepsWords (view seat.old) (view seat.new) }
 {
     let woken = shared.notify_all(seat, grip.object);
     let _ = woken.bits();

@@ -3,7 +3,7 @@
 ghost use Rattle.std.specs.Prelude.{◌≡◌, ◌<◌, ◌≤◌, [], ◌∷◌, Some, None, MatchResult, MatchBool, IfOk, IfErr, ℕ};
 ghost use Rattle.heap_model.specs.declared.event.Event.TheVariants as event;
 ghost use Rattle.heap_model.specs.declared.event.Sight.TheVariants.{StillInSet};
-ghost use Rattle.steps.specs.Views.{view, plan, IsSeatOf, Keeps, KeepsEach, KeepsOthers, KeepsWords, Lengthens, IsClear, IsAwake, IsPaused, IsRemoved, Takes, Misses, IsSlot, IsOfSlot, hold};
+ghost use Rattle.steps.specs.Views.{view, plan, IsSeatOf, Keeps, KeepsEach, KeepsOthers, Lengthens, IsClear, IsAwake, IsPaused, IsRemoved, Takes, Misses, IsSlot, IsOfSlot, hold};
 
 use crate::grip::{Grip, Seen};
 use crate::locking::fat_word;
@@ -21,7 +21,6 @@ pub fn join_wait(shared: &Shared, seat: &mut Seat, grip: Grip)
     ensures clear { IsClear (view seat.new) }
     ensures told { Lengthens (view seat.old) (view seat.new) (event.Wait grip.object grip.number ∷ []) }
     ensures grips { KeepsOthers (view seat.old) (view seat.new) grip.object.0 }
-    ensures words { KeepsWords (view seat.old) (view seat.new) }
 {
     let slot = grip.slot.unwrap();
     let word = fat_word(shared, seat, grip, slot);
@@ -41,7 +40,6 @@ pub fn poll_wait(shared: &Shared, seat: &mut Seat, object: ObjectId) -> bool
         (Lengthens (view seat.old) (view seat.new) (event.Look object StillInSet ∷ []) × IsClear (view seat.new))
         (Lengthens (view seat.old) (view seat.new) [] × IsRemoved (view seat.new) object) }
     ensures grips { KeepsEach (view seat.old) (view seat.new) }
-    ensures words { KeepsWords (view seat.old) (view seat.new) }
 {
     shared.poll_wait(seat, object)
 }
@@ -70,7 +68,6 @@ pub fn try_retake(
     ensures slot { IfOk result (λ g. g.slot ≡ Some slot) }
     ensures found { IfErr result (λ x. IsOfSlot (Some slot) x) }
     ensures grips { KeepsOthers (view seat.old) (view seat.new) object.0 }
-    ensures words { KeepsWords (view seat.old) (view seat.new) }
 {
     match shared.try_resume(seat, object, slot, (count - 1) as u16, number) {
         Ok(_word) => Ok(Grip {
