@@ -17,6 +17,8 @@ pub struct Figures {
     pub home: Spent,
     /// Acknowledging.
     pub settle: Spent,
+    /// Trimming what is acknowledged.
+    pub trim: Spent,
     /// Recovering the image and opening it again, where a lane's log was full.
     pub reopen: Spent,
 }
@@ -28,6 +30,7 @@ pub const START: Figures = Figures {
     log: NOTHING,
     home: NOTHING,
     settle: NOTHING,
+    trim: NOTHING,
     reopen: NOTHING,
 };
 
@@ -52,13 +55,15 @@ pub fn print_figures<R: Print>(rt: &R, figures: &Figures) -> Result<(), Stopped>
     print_step(rt, "log", figures.log, sections)?;
     print_step(rt, "home", figures.home, sections)?;
     print_step(rt, "settle", figures.settle, sections)?;
+    print_step(rt, "trim", figures.trim, sections)?;
     print_step(rt, "reopen", figures.reopen, sections)?;
     let steady = figures
         .apply
         .wall
         .saturating_add(figures.log.wall)
         .saturating_add(figures.home.wall)
-        .saturating_add(figures.settle.wall);
+        .saturating_add(figures.settle.wall)
+        .saturating_add(figures.trim.wall);
     let steady_rate = rate(sections, steady);
     let whole_rate = rate(sections, steady.saturating_add(figures.reopen.wall));
     println!(rt;

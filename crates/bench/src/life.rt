@@ -69,19 +69,19 @@ fn write_home<D: Disk>(store: &mut Store<D>) -> Result<(), Stopped>
     Ok(())
 }
 
-// Applies a group, makes it durable, writes it home and acknowledges it.
+// Applies a group, makes it durable, writes it home and acknowledges it, and trims if the plan says so.
 fn round<R: Clock + CpuClock, D: Disk>(
     rt: &R,
     store: &mut Store<D>,
     load: &mut Load,
-    group: u64,
+    plan: &Plan,
     figures: &mut Figures,
 ) -> Result<Room, Stopped>
     ensures layout { store.new.known.layout ≡ store.old.known.layout }
     ensures sections { figures.new.sections ≡ figures.old.sections }
 {
     let begun = read_clocks(rt);
-    let room = apply_group(store, load, group)?;
+    let room = apply_group(store, load, plan.group)?;
     let applied = read_clocks(rt);
     if store.log_step().is_err() {
         return Err(Stopped::Store);
@@ -93,10 +93,15 @@ fn round<R: Clock + CpuClock, D: Disk>(
         return Err(Stopped::Store);
     }
     let settled = read_clocks(rt);
+    if plan.is_trimming && store.trim().is_err() {
+        return Err(Stopped::Store);
+    }
+    let trimmed = read_clocks(rt);
     figures.apply = figures.apply.with(begun, applied);
     figures.log = figures.log.with(applied, logged);
     figures.home = figures.home.with(logged, home);
     figures.settle = figures.settle.with(home, settled);
+    figures.trim = figures.trim.with(settled, trimmed);
     Ok(room)
 }
 
@@ -119,7 +124,7 @@ pub fn live<R: Clock + CpuClock + Print, D: Disk>(
         if plan.sections <= figures.sections {
             return Ok(Room::More);
         }
-        let room = round(rt, store, load, plan.group, figures)?;
+        let room = round(rt, store, load, plan, figures)?;
         figures.sections = before.saturating_add(acknowledged(store));
         if is_telling {
             tell(rt, figures.sections)?;

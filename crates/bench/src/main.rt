@@ -32,6 +32,7 @@ use words::{Plan, Words, read_words};
 
 const HELP: &str = "\
 bench memory SECTIONS GROUP      measures the store over bytes in memory
+bench trim SECTIONS GROUP        the same of one store that is never opened again: it trims after each group
 bench file SECTIONS GROUP PATH   the same over a new file; one that is there is emptied
 bench tell SECTIONS GROUP PATH   on a new file, tells after each group how many sections are acknowledged
 bench recover PATH               recovers that file, and prints the sections that each lane counted, and all of them
@@ -93,7 +94,7 @@ where
     let alloc = rt.alloc();
     match words {
         Words::Help => print!(rt; "{HELP}").map_err(|_| Stopped::Telling),
-        Words::Memory { plan } => {
+        Words::Memory { plan } | Words::Trim { plan } => {
             print_memory(rt, "before");
             let figures = over_memory(rt, alloc, &plan)?;
             print_memory(rt, "after");

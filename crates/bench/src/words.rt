@@ -10,6 +10,8 @@ pub struct Plan {
     pub sections: u64,
     /// So many sections are logged, written home and acknowledged together: 1 or more.
     pub group: u64,
+    /// What is acknowledged is trimmed at once, so that no log is ever full.
+    pub is_trimming: bool,
 }
 
 /// What the words ask for.
@@ -19,6 +21,8 @@ pub enum Words<'a> {
     Help,
     /// To measure the store over bytes in memory.
     Memory { plan: Plan },
+    /// The same of one store, which trims after each group.
+    Trim { plan: Plan },
     /// To measure the store over a new file.
     File { plan: Plan, path: &'a str },
     /// To tell, after each group on a new file, how many sections are acknowledged.
@@ -44,6 +48,14 @@ pub fn read_words(texts: &[String]) -> Option<Words<'_>>
     if texts.len() == 4 && word == "memory" {
         return Some(Words::Memory { plan });
     }
+    if texts.len() == 4 && word == "trim" {
+        return Some(Words::Trim {
+            plan: Plan {
+                is_trimming: true,
+                ..plan
+            },
+        });
+    }
     let path = texts.get(4)?.as_str();
     if texts.len() == 5 && word == "file" {
         return Some(Words::File { plan, path });
@@ -62,7 +74,11 @@ fn read_plan(sections: &str, group: &str) -> Option<Plan>
     let sections = sections.parse::<u64>().ok()?;
     let group = group.parse::<u64>().ok()?;
     if group > 0 {
-        Some(Plan { sections, group })
+        Some(Plan {
+            sections,
+            group,
+            is_trimming: false,
+        })
     } else {
         None
     }

@@ -6,10 +6,10 @@ use Rattle.script_lines.specs.declared.error.ScriptErrorKind.{ScriptErrorKind}
 use Rattle.script_lines.specs.declared.error.ScriptErrorKind.TheVariants as scripts
 use Rattle.declarations.specs.declared.schema_fault.SchemaFaultKind.{SchemaFaultKind}
 use Rattle.declarations.specs.declared.schema_fault.SchemaFaultKind.TheVariants as kinds
-use Rattle.script_lines.specs.Grammar.{Says}
-use Rattle.script_lines.specs.Lines.{IsText, IsSkipped, Asks, AsksOnly, HasFault}
+use Rattle.script_lines.specs.Grammar.{Asks}
+use Rattle.script_lines.specs.Lines.{IsText, IsSkipped, AsksOnly, HasFault}
 use Rattle.script_lines.specs.Orders as order
-use Rattle.script_lines.specs.Orders.{Order, order_of, plays}
+use Rattle.script_lines.specs.Orders.{Order, order_of}
 use Rattle.script_lines.specs.declared.command.Command.{Command}
 use Rattle.declarations.specs.SchemaFiles.{declares, RefusesDeclaration, RefusesLine}
 use Rattle.declarations.specs.Telling.{told_of_text, told_of_declared}
@@ -20,24 +20,9 @@ use Rattle.declarations.specs.declared.declared.DeclarationRefusal.{DeclarationR
 use Rattle.declarations.specs.declared.declared.DeclarationRefusal.TheVariants as why
 use Rattle.std.specs.declared.alloc.AllocError.{AllocError}
 
--- what declares is played
-declares-plays : (o : Order) → IsTrue (declares o) → IsTrue (plays o)
-declares-plays (order.Object name) h = h
-declares-plays (order.Field name owner guard first) h = h
-declares-plays (order.Format lanes capacity) h = absurd cc
-declares-plays (order.Act lane action) h = absurd cc
-declares-plays order.Log h = absurd cc
-declares-plays order.Home h = absurd cc
-declares-plays order.Settle h = absurd cc
-declares-plays order.Trim h = absurd cc
-declares-plays order.Heap h = absurd cc
-declares-plays (order.Crash fill back) h = absurd cc
-declares-plays order.Show h = absurd cc
-declares-plays order.Recover h = absurd cc
-
 -- a fault of the text
 pub text_refused : (d : Declarations) (line : List ℕ) (kind : ScriptErrorKind) → HasFault line kind → RefusesLine d line (told_of_text kind)
-text_refused d line scripts.Syntax h = (h.0, h.1, λ o says. h.2 o (says.0, declares-plays o says.1))
+text_refused d line scripts.Syntax h = (h.0, h.1, λ o declaration. h.2 o declaration.0)
 text_refused d line scripts.NotText h = h
 text_refused d line scripts.TooLong h = h
 text_refused d line scripts.Read h = absurd h
@@ -45,22 +30,22 @@ text_refused d line scripts.Write h = absurd h
 text_refused d line scripts.Memory h = absurd h
 
 -- a refusal of what the line declares
-declared_refused : (d : Declarations) (line : List ℕ) (o : Order) (kind : SchemaFaultKind) → IsText line → ¬ IsSkipped line → Says o line → AsksOnly o line
+declared_refused : (d : Declarations) (line : List ℕ) (o : Order) (kind : SchemaFaultKind) → IsText line → ¬ IsSkipped line → Asks o line → AsksOnly o line
     → RefusesDeclaration d o kind → RefusesLine d line kind
-declared_refused d line o kinds.Syntax text read says own h = (
+declared_refused d line o kinds.Syntax text read asks own h = (
   text,
   read,
   λ other declaration. let same : other ≡ o = own other declaration.0 in
       let never : true ≡ false = sym declaration.1 ∙ ap declares same ∙ h in absurd cc,
 )
-declared_refused d line o kinds.NotText text read says own h = absurd h
-declared_refused d line o kinds.TooLong text read says own h = absurd h
-declared_refused d line o kinds.Read text read says own h = absurd h
-declared_refused d line o kinds.Memory text read says own h = (text, o, (says, h))
-declared_refused d line o kinds.Empty text read says own h = record { order = o; text = text; says = says; declares = h }
-declared_refused d line o kinds.DoubleName text read says own h = record { order = o; text = text; says = says; declares = h }
-declared_refused d line o kinds.Unknown text read says own h = record { order = o; text = text; says = says; declares = h }
-declared_refused d line o kinds.TooMany text read says own h = record { order = o; text = text; says = says; declares = h }
+declared_refused d line o kinds.NotText text read asks own h = absurd h
+declared_refused d line o kinds.TooLong text read asks own h = absurd h
+declared_refused d line o kinds.Read text read asks own h = absurd h
+declared_refused d line o kinds.Memory text read asks own h = (text, o, (asks, h))
+declared_refused d line o kinds.Empty text read asks own h = record { order = o; text = text; asks = asks; declares = h }
+declared_refused d line o kinds.DoubleName text read asks own h = record { order = o; text = text; asks = asks; declares = h }
+declared_refused d line o kinds.Unknown text read asks own h = record { order = o; text = text; asks = asks; declares = h }
+declared_refused d line o kinds.TooMany text read asks own h = record { order = o; text = text; asks = asks; declares = h }
 
 pub if_refused : {T : Type 0} (d : Declarations) (line : List ℕ) (found : Option Command) (command : Command) (r : Result T SchemaFaultKind) → found ≡ Some command → IsText line
     → MatchOption found (IsSkipped line) (λ c. Asks (order_of c) line) → IfSome found (λ _. ¬ IsSkipped line) → IfSome found (λ c. AsksOnly (order_of c) line)
@@ -69,7 +54,7 @@ if_refused d line None command r is text asks read own h = absurd cc
 if_refused d line (Some c) command (Ok x) is text asks read own h = h
 if_refused d line (Some c) command (Err kind) is text asks read own h =
     let same : command ≡ c = cc in
-    declared_refused d line (order_of c) kind text read asks.0 own (subst (λ (x : Command). RefusesDeclaration d (order_of x) kind) same h)
+    declared_refused d line (order_of c) kind text read asks own (subst (λ (x : Command). RefusesDeclaration d (order_of x) kind) same h)
 
 module _ (d new : Declarations) (o : Order) where
   -- what was added

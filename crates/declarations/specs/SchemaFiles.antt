@@ -12,7 +12,7 @@ use Rattle.declarations.specs.declared.declared.DeclarationRefusal.TheVariants a
 use Rattle.declarations.specs.declared.schema_fault.SchemaFault.{SchemaFault}
 use Rattle.declarations.specs.declared.schema_fault.SchemaFaultKind.{SchemaFaultKind}
 use Rattle.declarations.specs.declared.schema_fault.SchemaFaultKind.TheVariants as kinds
-use Rattle.script_lines.specs.Grammar.{Says}
+use Rattle.script_lines.specs.Grammar.{Asks}
 use Rattle.script_lines.specs.Lines.{IsText, IsSkipped}
 use Rattle.script_lines.specs.Orders as order
 use Rattle.script_lines.specs.Orders.{Order}
@@ -26,13 +26,13 @@ declares _ = false
 
 -- the line declares this
 abbrev pub IsDeclaration : Order → List ℕ → Type 0
-IsDeclaration order line = Says order line × IsTrue (declares order)
+IsDeclaration order line = Asks order line × IsTrue (declares order)
 
 -- what the line declares is told so
 pub record DeclaresBy (old : Declarations) (line : List ℕ) (said : Declared) (new : Declarations) : Type 0 where
   pub order : Order
   pub text : IsText line
-  pub says : Says order line
+  pub asks : Asks order line
   pub declares : Declares old order said new
 
 -- the line declares something, or is skipped

@@ -16,10 +16,10 @@ use Rattle.block_disk.proofs.Images.{and_then, begin, weaker}
 use Rattle.store_past.specs.declared.error.StoreError.{StoreError}
 use Rattle.store_past.specs.declared.error.StoreError.TheVariants.{Fault}
 use Rattle.durable.specs.declared.store_call.StoreCall.{StoreCall}
-use Rattle.durable.specs.declared.store_call.StoreCall.TheVariants.{Apply, Settle}
+use Rattle.durable.specs.declared.store_call.StoreCall.TheVariants.{Apply, Settle, Trim}
 use Rattle.store_memory.specs.Fresh.{IsOfLanes}
-use Rattle.durable.specs.Calls.{AreQuiet, IsClean, IsQuiet, MakeAll, Makes, Reached, RefusesApply, RefusesSettle, RefusesCall, ShowsAfterSome, StandsAfterSome, StoppedAt}
-use Rattle.store_past.specs.Past.{Past, applied, after_apply, after_settle}
+use Rattle.durable.specs.Calls.{AreQuiet, IsClean, IsQuiet, MakeAll, Makes, Reached, RefusesApply, RefusesSettle, RefusesTrim, RefusesCall, ShowsAfterSome, StandsAfterSome, StoppedAt}
+use Rattle.store_past.specs.Past.{Past, applied, after_apply, after_settle, after_trim}
 use Rattle.durable.specs.Store.{Known, HasPast, ShowsStep, StandsForStep, doubt_in}
 use Rattle.durable.specs.declared.doubt.Doubt.{Doubt}
 use Rattle.durable.proofs.Showing.{past_stands}
@@ -50,6 +50,19 @@ module _ {T : Type 0} (s : Setting) (p : Past) (call : StoreCall) (result : Resu
 
   pub settle_refused : (x : Known) (P : T → Type 0) → call ≡ Settle → MatchResult result P (RefusesSettle x s p) → IfErr result (λ e. RefusesCall x s p call e)
   settle_refused x P is why = elim result as (λ (a : Result T StoreError). MatchResult a P (RefusesSettle x s p) → IfErr a (λ e. RefusesCall x s p call e)) [
+    | Ok done ↦ λ why. tt
+    | Err e ↦ λ why. subst (λ (c : StoreCall). RefusesCall x s p c e) (sym is) why
+  ] why
+
+  -- what is acknowledged is trimmed
+  pub trim_made : (new : Known) (d : Device) → call ≡ Trim → OnOk result (HasPast new s (after_trim p) d) → OnOk result ((q : Past) × Makes s p call q × HasPast new s q d)
+  trim_made new d is has = elim result as (λ (a : Result T StoreError). OnOk a (HasPast new s (after_trim p) d) → OnOk a ((q : Past) × Makes s p call q × HasPast new s q d)) [
+    | Ok done ↦ λ had. (after_trim p, subst (λ (c : StoreCall). Makes s p c (after_trim p)) (sym is) refl, had)
+    | Err e ↦ λ had. tt
+  ] has
+
+  pub trim_refused : (x : Known) (P : T → Type 0) → call ≡ Trim → MatchResult result P (RefusesTrim x p) → IfErr result (λ e. RefusesCall x s p call e)
+  trim_refused x P is why = elim result as (λ (a : Result T StoreError). MatchResult a P (RefusesTrim x p) → IfErr a (λ e. RefusesCall x s p call e)) [
     | Ok done ↦ λ why. tt
     | Err e ↦ λ why. subst (λ (c : StoreCall). RefusesCall x s p c e) (sym is) why
   ] why

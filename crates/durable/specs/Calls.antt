@@ -13,10 +13,10 @@ use Rattle.store_past.specs.declared.error.StoreError.TheVariants.{Failed, Worn,
 use Rattle.store_image.specs.declared.home.Home.{Home}
 use Rattle.store_image.specs.declared.home.Home.TheVariants.{Wrote, Done}
 use Rattle.durable.specs.declared.store_call.StoreCall.{StoreCall}
-use Rattle.durable.specs.declared.store_call.StoreCall.TheVariants.{Apply, Log, Home as HomeStep, Settle}
+use Rattle.durable.specs.declared.store_call.StoreCall.TheVariants.{Apply, Log, Home as HomeStep, Settle, Trim}
 use Rattle.store_memory.specs.Apply.{Answers}
 use Rattle.store_memory.specs.Begin.{IsLeastDirtyOf}
-use Rattle.store_past.specs.Past.{Past, IsPast, IsTrimmed, applied, after_apply, after_log, after_home, after_settle}
+use Rattle.store_past.specs.Past.{Past, IsPast, IsTrimmed, applied, after_apply, after_log, after_home, after_settle, after_trim}
 use Rattle.store_memory.specs.Fresh.{IsOfLanes}
 use Rattle.store_memory.specs.Remembers.{held_of}
 pub use Rattle.durable.specs.Store.{IsClean}
@@ -92,6 +92,7 @@ RefusesCall x s p (Apply l r) e = RefusesApply x s p l.0 r e
 RefusesCall x s p Log e = RefusesLog x p e
 RefusesCall x s p HomeStep e = RefusesHome x e
 RefusesCall x s p Settle e = RefusesSettle x s p e
+RefusesCall x s p Trim e = RefusesTrim x p e
 
 -- what a call that isn't refused makes of the past
 abbrev pub Makes : Setting → Past → StoreCall → Past → Type 0
@@ -99,13 +100,15 @@ Makes s p (Apply l r) q = IsLegal s ((l.0, r) ∷ applied p) × (q ≡ after_app
 Makes s p Log q = q ≡ after_log p
 Makes s p HomeStep q = (home : Home) × AnswersHome s p home × (q ≡ after_home_step p home)
 Makes s p Settle q = (cut : ℕ → ℕ) × IsClean s p × IsStable (actions p.logged) cut × (q ≡ after_settle p cut)
+Makes s p Trim q = q ≡ after_trim p
 
--- The call doesn't touch the device: a record is told, or nothing is there to be logged or to be written home.
+-- The call doesn't touch the device: a record is told, or nothing is there to be logged, to be written home or to be trimmed.
 abbrev pub IsQuiet : Setting → Past → StoreCall → Type 0
 IsQuiet s p (Apply l r) = Unit {0}
 IsQuiet s p Log = p.fresh ≡ []
 IsQuiet s p HomeStep = IsClean s p
 IsQuiet s p Settle = ⊥
+IsQuiet s p Trim = IsTrimmed p
 
 -- so is each of these calls, after those before it
 abbrev pub AreQuiet : Setting → Past → List StoreCall → Type 0

@@ -18,7 +18,7 @@ use Rattle.store_image.specs.declared.committed.Committed.{Committed}
 use Rattle.durable.specs.declared.doubt.Doubt.{Doubt}
 use Rattle.durable.specs.declared.doubt.Doubt.TheVariants.{Nothing, Logging, Settling, Trimming}
 use Rattle.durable.specs.declared.store_call.StoreCall.{StoreCall}
-use Rattle.durable.specs.declared.store_call.StoreCall.TheVariants.{Apply, Log, Home as HomeStep, Settle}
+use Rattle.durable.specs.declared.store_call.StoreCall.TheVariants.{Apply, Log, Home as HomeStep, Settle, Trim}
 
 -- what a store knows beside its device: the layout of the image, the control that counts, what was applied, what was
 -- logged, and whether the device has failed, and what is in doubt since
@@ -60,6 +60,7 @@ doubt_in (Some (Apply l r)) = Nothing
 doubt_in (Some Log) = Logging
 doubt_in (Some HomeStep) = Nothing
 doubt_in (Some Settle) = Settling
+doubt_in (Some Trim) = Trimming
 
 -- The image shows the past; or, where the logging is in doubt, what that makes of it; or, where a settling or a trim is, what that does.
 pub data ShowsStep (l : Layout) (s : Setting) (p : Past) (w : Doubt) (image : List ℕ) : Type 0 where

@@ -76,6 +76,7 @@ impl<D: Disk> Store<D> {
                 Err(reason) => Err(reason),
             },
             StoreCall::Settle => self.settle(),
+            StoreCall::Trim => self.trim(),
         }
     }
 }

@@ -12,4 +12,6 @@ pub enum StoreCall {
     Home,
     /// [`Store::settle`](crate::Store::settle).
     Settle,
+    /// [`Store::trim`](crate::Store::trim).
+    Trim,
 }

@@ -17,7 +17,7 @@ use Rattle.script_lines.proofs.WordLemmas.{words_in-found, words_in-every}
 use Rattle.script_lines.specs.Cutting.{words_in}
 use Rattle.script_lines.specs.Orders as order
 use Rattle.script_lines.specs.Orders.{Action, Order}
-use Rattle.script_lines.specs.Grammar.{is_name, IsName, IsNumber, IsThread, IsFill, AreActing, AreAsking, Says}
+use Rattle.script_lines.specs.Grammar.{is_name, IsName, IsNumber, IsThread, IsFill, AreActing, AreAsking, Asks}
 use Rattle.script_lines.specs.Reading.{name_in, number_in, lane_in, thread_in, hex_in, byte_in, fill_in, action_in, one_word, two_words, three_words, four_words, five_words, order_in}
 
 -- what was found has P
@@ -350,14 +350,14 @@ at_some words order e = subst (λ o. IfSome o (λ a. AreAsking words a)) e (orde
 
 -- the command that was read, and the line
 pub says_iff : (line : List ℕ) (words : List (List ℕ)) (found : Option Order) → words_in 5 line ≡ Some words → found ≡ order_in words
-    → (order : Order) → (found ≡ Some order → Says order line) × (Says order line → found ≡ Some order)
+    → (order : Order) → (found ≡ Some order → Asks order line) × (Asks order line → found ≡ Some order)
 says_iff line words found e f order = (
   (λ g. (words, words_in-found 5 line words e, at_some words order (sym f ∙ g))),
   (λ h. f ∙ ap order_in (same_words _ _ (sym e ∙ words_in-every 5 h.0 line (asking-few h.0 order h.2) h.1)) ∙ order_in-every h.0 order h.2),
 )
 
 pub says_none : (line : List ℕ) (found : Option Order) → words_in 5 line ≡ None → found ≡ None
-    → (order : Order) → (found ≡ Some order → Says order line) × (Says order line → found ≡ Some order)
+    → (order : Order) → (found ≡ Some order → Asks order line) × (Asks order line → found ≡ Some order)
 says_none line found e f order = (
   (λ g. missing _ order (sym f ∙ g)),
   (λ h. missing _ h.0 (sym e ∙ words_in-every 5 h.0 line (asking-few h.0 order h.2) h.1)),

@@ -70,5 +70,5 @@ AreAsking words order.Show = words ≡ codes "show" ∷ []
 AreAsking words order.Recover = words ≡ codes "recover" ∷ []
 
 -- a line asks for this
-abbrev pub Says : Order → List ℕ → Type 0
-Says order line = (words : List (List ℕ)) × AreWords words line × AreAsking words order
+abbrev pub Asks : Order → List ℕ → Type 0
+Asks order line = (words : List (List ℕ)) × AreWords words line × AreAsking words order

@@ -1,13 +1,13 @@
 -- The lines of a text, and what is wrong with one (docs/SCRIPTS.md, "Text" and "Errors").
-use Rattle.std.specs.Prelude.{◌≡◌, ◌≢◌, ◌⊎◌, ℕ, ◌-◌, ◌<◌, ◌≤◌, Bool, false, ◌&&◌, ◌==◌, IsTrue, List, [], ◌∷◌, length, slice_index, if◌then◌else◌}
+use Rattle.std.specs.Prelude.{◌≡◌, ◌≢◌, ◌⊎◌, ℕ, ◌-◌, ◌<◌, ◌≤◌, Bool, false, ◌&&◌, ◌==◌, List, [], ◌∷◌, length, slice_index, if◌then◌else◌}
 use Rattle.std.specs.List.{onto_first}
 use Rattle.std.specs.Str.{IsAscii}
 use Rattle.script_lines.specs.declared.error.ScriptErrorKind.{ScriptErrorKind}
 use Rattle.script_lines.specs.declared.error.ScriptErrorKind.TheVariants as kinds
 use Rattle.script_lines.specs.declared.line.TheConstants.{LONGEST_LINE, COMMENT}
 use Rattle.script_lines.specs.declared.lines.TheConstants.{LINE_FEED, CARRIAGE_RETURN}
-use Rattle.script_lines.specs.Grammar.{Says}
-use Rattle.script_lines.specs.Orders.{Order, plays}
+use Rattle.script_lines.specs.Grammar.{Asks}
+use Rattle.script_lines.specs.Orders.{Order}
 
 abbrev pub begins_with_line_feed : List ℕ → Bool
 begins_with_line_feed [] = false
@@ -35,13 +35,9 @@ IsText line = (length line ≤ LONGEST_LINE) × IsAscii line
 abbrev pub IsSkipped : List ℕ → Type 0
 IsSkipped line = (length line ≡ 0) ⊎ (slice_index line 0 ≡ COMMENT)
 
--- a line asks for this, and may by now
-abbrev pub Asks : Order → List ℕ → Type 0
-Asks order line = Says order line × IsTrue (plays order)
-
 -- a line asks for nothing but this
 abbrev pub AsksOnly : Order → List ℕ → Type 0
-AsksOnly order line = (other : Order) → Says other line → other ≡ order
+AsksOnly order line = (other : Order) → Asks other line → other ≡ order
 
 -- a line with nothing wrong
 abbrev pub IsFit : List ℕ → Type 0

@@ -1,5 +1,5 @@
 -- What a line asks for, apart from where its names lie in memory (docs/SCRIPTS.md, "Lines").
-use Rattle.std.specs.Prelude.{ℕ, List, Bool, true, false}
+use Rattle.std.specs.Prelude.{ℕ, List}
 use Rattle.block_disk.specs.declared.crash.Fill.{Fill}
 use Rattle.heap_model.specs.declared.ids.Lane.{Lane}
 use Rattle.script_lines.specs.declared.command.Command.{Command}
@@ -59,8 +59,3 @@ order_of command.Heap = Heap
 order_of (command.Crash fill back) = Crash fill back
 order_of command.Show = Show
 order_of command.Recover = Recover
-
--- whether scripts may have this by now; the rest is read, and ends the run as a line of no form does
-abbrev pub plays : Order → Bool
-plays Trim = false
-plays _ = true

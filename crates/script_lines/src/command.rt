@@ -1,7 +1,4 @@
 //! What a line asks for.
-ghost use Rattle.std.specs.Prelude.{◌≡◌};
-ghost use Rattle.script_lines.specs.Orders.{order_of, plays};
-
 use block_disk::Fill;
 use heap_model::Lane;
 
@@ -69,14 +66,4 @@ pub enum Step<'a> {
     Notify(&'a str),
     /// Wakes all threads of the object's wait set.
     NotifyAll(&'a str),
-}
-
-/// Whether scripts may have this command by now. Another is read, and ends the run as a line of no form does.
-pub fn is_played(command: &Command<'_>) -> bool
-    ensures { result ≡ plays (order_of command.now) }
-{
-    match command {
-        Command::Trim => false,
-        _ => true,
-    }
 }

@@ -2,7 +2,7 @@
 ghost use Rattle.std.specs.Prelude.{◌≡◌, ◌↔◌, ◌∷◌, [], Some};
 ghost use Rattle.std.specs.Option.{option_map};
 ghost use Rattle.script_lines.specs.Orders.{Order, order_of, step_of};
-ghost use Rattle.script_lines.specs.Grammar.{Says};
+ghost use Rattle.script_lines.specs.Grammar.{Asks};
 ghost use Rattle.script_lines.specs.Cutting.{list_of};
 ghost use Rattle.script_lines.specs.Reading.{order_in, one_word, two_words, three_words, four_words, five_words, action_in};
 
@@ -12,7 +12,7 @@ use crate::words::{Words, split_words};
 
 /// What a line asks for, if it has a form.
 pub fn parse(line: &[u8]) -> Option<Command<'_>>
-    ensures { (order : Order) → (option_map order_of result ≡ Some order) ↔ Says order line.now }
+    ensures { (order : Order) → (option_map order_of result ≡ Some order) ↔ Asks order line.now }
 {
     command(split_words(line)?)
 }

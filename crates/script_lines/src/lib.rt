@@ -13,7 +13,7 @@ mod reader;
 mod terms;
 mod words;
 
-pub use command::{Command, Step, is_played};
+pub use command::{Command, Step};
 pub use error::{ScriptError, ScriptErrorKind};
 pub use grammar::parse;
 pub use line::{LONGEST_LINE, read_line};

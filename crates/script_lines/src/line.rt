@@ -1,9 +1,10 @@
 //! From a line to its command, or to its fault.
 ghost use Rattle.std.specs.Prelude.{◌≡◌, IfOk, IfErr, IfSome, MatchOption};
+ghost use Rattle.script_lines.specs.Grammar.{Asks};
 ghost use Rattle.script_lines.specs.Orders.{order_of};
-ghost use Rattle.script_lines.specs.Lines.{IsText, IsSkipped, Asks, AsksOnly, HasFault};
+ghost use Rattle.script_lines.specs.Lines.{IsText, IsSkipped, AsksOnly, HasFault};
 
-use crate::command::{Command, is_played};
+use crate::command::Command;
 use crate::error::ScriptErrorKind;
 use crate::grammar::parse;
 
@@ -33,8 +34,5 @@ pub fn read_line(line: &[u8]) -> Result<Option<Command<'_>>, ScriptErrorKind>
     let Some(command) = parse(line) else {
         return Err(ScriptErrorKind::Syntax);
     };
-    if !is_played(&command) {
-        return Err(ScriptErrorKind::Syntax);
-    }
     Ok(Some(command))
 }

@@ -18,7 +18,7 @@ use Rattle.heap_model.specs.Laws.{LogLaw}
 use Rattle.heap_model.specs.Log.{IsLegal}
 use Rattle.block_disk.specs.Memory.{Memory}
 use Rattle.store_past.specs.Past.{Past, applied, no_past, after_apply, after_home}
-use Rattle.durable.specs.Calls.{RefusesLog, RefusesSettle}
+use Rattle.durable.specs.Calls.{RefusesLog, RefusesSettle, RefusesTrim}
 use Rattle.durable.specs.Store.{Known, Parts}
 use Rattle.store_past.specs.declared.error.StoreError.{StoreError}
 use Rattle.store_past.specs.declared.error.StoreError.TheVariants.{Failed, BadLane, BadId, Worn, NotNext, TooLong, LogFull, Unwritten, Fault, Unfinished}
@@ -211,6 +211,19 @@ refused-settle x s p LogFull running refused = elim refused [ ]
 refused-settle x s p Unwritten running refused = tt
 refused-settle x s p Fault running refused = tt
 refused-settle x s p Unfinished running refused = elim refused [ ]
+
+-- and to trim
+pub refused-trim : (x : Known) (p : Past) (why : StoreError) → x.has_failed ≡ false → RefusesTrim x p why → IsForCall why
+refused-trim x p Failed running refused = absurd (let both : true ≡ false = sym refused ∙ running in cc)
+refused-trim x p BadLane running refused = elim refused [ ]
+refused-trim x p BadId running refused = elim refused [ ]
+refused-trim x p Worn running refused = tt
+refused-trim x p NotNext running refused = elim refused [ ]
+refused-trim x p TooLong running refused = elim refused [ ]
+refused-trim x p LogFull running refused = elim refused [ ]
+refused-trim x p Unwritten running refused = tt
+refused-trim x p Fault running refused = tt
+refused-trim x p Unfinished running refused = elim refused [ ]
 
 -- the settings of a table of this schema and this bound
 pub table-from : (d : Declarations) (last : ℕ) (a : Table) (first : ℕ → ℕ) → a.schema ≡ d → a.last ≡ last → record (setting_in d last) { first = first } ≡ setting_from a first

@@ -51,7 +51,7 @@ IsForRecord store.TooLong = Unit {0}
 IsForRecord store.LogFull = Unit {0}
 IsForRecord _ = ⊥
 
--- why it may refuse to log or to settle
+-- why it may refuse to log, to settle or to trim
 abbrev pub IsForCall : StoreError → Type 0
 IsForCall store.Worn = Unit {0}
 IsForCall store.Unwritten = Unit {0}

@@ -24,13 +24,13 @@ use Rattle.block_disk.specs.Memory.{Memory, fresh, device_of, moment_after}
 use Rattle.block_disk.specs.declared.crash.Fill.{Fill}
 use Rattle.image.specs.Layout.{size_of}
 use Rattle.store_memory.specs.Apply.{Answers}
-use Rattle.durable.specs.Calls.{IsClean, RefusesApply, RefusesLog, RefusesSettle}
+use Rattle.durable.specs.Calls.{IsClean, RefusesApply, RefusesLog, RefusesSettle, RefusesTrim}
 use Rattle.store_image.specs.Formatting.{layout_with}
 use Rattle.store_image.specs.KeptHeap.{StandsForCut, StandsForEither}
-use Rattle.store_past.specs.Past.{Past, applied, no_past, after_apply, after_log, after_settle}
+use Rattle.store_past.specs.Past.{Past, IsTrimmed, applied, no_past, after_apply, after_log, after_settle, after_trim}
 use Rattle.durable.specs.Store.{Parts, ShowsStep}
 use Rattle.durable.specs.declared.doubt.Doubt.{Doubt}
-use Rattle.durable.specs.declared.doubt.Doubt.TheVariants.{Nothing, Logging, Settling}
+use Rattle.durable.specs.declared.doubt.Doubt.TheVariants.{Nothing, Logging, Settling, Trimming}
 use Rattle.store_past.specs.declared.error.StoreError.{StoreError}
 use Rattle.recover.specs.Reading as reading
 use Rattle.recover.specs.Study.{IsStudyOf}
@@ -287,6 +287,18 @@ module _ (old : MachineState) (answer : Answer) (new : MachineState) where
   abbrev pub Settles : Live → Type 0
   Settles m = Acknowledges m ⊎ IsRefusedByStore m (λ s p reason. RefusesSettle m.store.known s p reason)
 
+  -- What is acknowledged is trimmed, so that its places are free; where nothing is to be trimmed nothing changes. That acknowledges nothing
+  pub record Trims (m : Live) : Type 0 where
+    pub store : Parts Memory
+    pub call : Calls m Done store Trimming
+    pub stands : KeepsAcknowledged m store
+    pub after : (s : Setting) (p : Past) → Tells m.store s p → Tells store s (after_trim p)
+    pub none : (s : Setting) (p : Past) → Tells m.store s p → IsTrimmed p → store ≡ m.store
+
+  -- unless the control is worn
+  abbrev pub TrimsLogs : Live → Type 0
+  TrimsLogs m = Trims m ⊎ IsRefusedByStore m (λ s p reason. RefusesTrim m.store.known p reason)
+
   -- the values of all fields after all stores are told
   pub record TellsHeap (m : Live) : Type 0 where
     pub values : List ℕ
@@ -387,7 +399,7 @@ Steps old (order.Act l asked) answer new = WhileRunning old (λ m. StepsAs old a
 Steps old order.Log answer new = WhileRunning old (LogsRecords old answer new) (Refuses old answer new why.State)
 Steps old order.Home answer new = WhileRunning old (WritesHome old answer new) (Refuses old answer new why.State)
 Steps old order.Settle answer new = WhileRunning old (Settles old answer new) (Refuses old answer new why.State)
-Steps old order.Trim answer new = Refuses old answer new why.State
+Steps old order.Trim answer new = WhileRunning old (TrimsLogs old answer new) (Refuses old answer new why.State)
 Steps old order.Heap answer new = WhileRunning old (TellsHeap old answer new) (Refuses old answer new why.State)
 Steps old (order.Crash fill back) answer new = WhileRunning old (λ m. Crashes old answer new m fill back) (Refuses old answer new why.State)
 Steps old order.Show answer new = WhileDown old (ShowsImage old answer new) (Refuses old answer new why.State)

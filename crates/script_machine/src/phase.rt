@@ -63,12 +63,11 @@ impl Phase {
             Command::Log => self.log(),
             Command::Home => self.home(),
             Command::Settle => self.settle(alloc),
+            Command::Trim => self.trim(),
             Command::Heap => self.heap(alloc),
             Command::Crash { fill, back } => self.crash(*fill, *back),
             Command::Show => self.show(alloc),
             Command::Recover => self.recover(alloc),
-            // Scripts have no such line yet: it ends a run before it comes here.
-            Command::Trim => Ok(self.refuse()),
         }
     }
 
@@ -165,6 +164,18 @@ impl Phase {
         match self {
             Phase::Running(running) => {
                 let (running, answer) = running.settle(alloc)?;
+                Ok((Phase::Running(running), answer))
+            }
+            other => Ok(other.refuse()),
+        }
+    }
+
+    fn trim(self) -> Result<(Phase, Answer), AllocError>
+        ensures { IfOk result (λ r. machine.Steps (shown self) order.Trim r.1 (shown r.0)) }
+    {
+        match self {
+            Phase::Running(running) => {
+                let (running, answer) = running.trim()?;
                 Ok((Phase::Running(running), answer))
             }
             other => Ok(other.refuse()),

@@ -43,7 +43,7 @@ pub(crate) fn refused_record(why: StoreError) -> Refusal
     }
 }
 
-/// Why the store refuses to log or to settle. A fault of the device in memory is want of memory, which is no refusal.
+/// Why the store refuses to log, to settle or to trim. A fault of the device in memory is want of memory, which is no refusal.
 pub(crate) fn refused_call(why: StoreError) -> Result<Refusal, AllocError>
     requires { IsForCall why }
     ensures { result ≡ told_of_store why }

@@ -282,6 +282,21 @@ impl Running {
         Ok((Running { monitors, store }, answer))
     }
 
+    /// Trims what is acknowledged, so that its places are free again.
+    pub(crate) fn trim(self) -> Result<(Running, Answer), AllocError>
+        ensures { IfOk result (λ r. machine.TrimsLogs (machine.Running self) r.1 (machine.Running r.0) self) }
+    {
+        let Running {
+            monitors,
+            mut store,
+        } = self;
+        let answer = match store.trim() {
+            Ok(()) => Answer::Done,
+            Err(why) => Answer::Refused(refused_call(why)?),
+        };
+        Ok((Running { monitors, store }, answer))
+    }
+
     /// The applied values of all fields.
     pub(crate) fn heap(&self, alloc: Global) -> Result<Answer, AllocError>
         ensures { IfOk result (λ answer. machine.TellsHeap (machine.Running self.now) answer (machine.Running self.now) self.now) }

@@ -3,3 +3,4 @@ mod PlayLemmas
 mod CrashLemmas
 mod StepLemmas
 mod PlayingLemmas
+mod TrimLemmas

@@ -31,15 +31,15 @@ use Rattle.undo_log.specs.StandsFor.{row_of, StandsFor}
 use Rattle.undo_log.proofs.OneHeap.{one_heap}
 use Rattle.store_image.specs.KeptHeap.{StandsForCut, StandsForEither, kept_heap}
 use Rattle.store_image.proofs.Stands.{stands_always}
-use Rattle.store_past.specs.Past.{Past, applied, no_past, after_home, after_log, after_settle}
+use Rattle.store_past.specs.Past.{Past, applied, no_past, after_home, after_log, after_settle, after_trim}
 use Rattle.durable.specs.Store.{Parts, ShowsStep}
 use Rattle.durable.specs.declared.doubt.Doubt.{Doubt}
-use Rattle.durable.specs.declared.doubt.Doubt.TheVariants.{Nothing, Logging, Settling}
+use Rattle.durable.specs.declared.doubt.Doubt.TheVariants.{Nothing, Logging, Settling, Trimming}
 use Rattle.recover.specs.Study.{held_by}
 use Rattle.survival.specs.WholeRun.{MayBeLeft}
 use Rattle.plain_monitors.specs.Logged.{logged}
 use Rattle.plain_monitors.specs.Table.{Table, setting_in, state_of}
-use Rattle.script_lines.specs.Lines.{Asks}
+use Rattle.script_lines.specs.Grammar.{Asks}
 use Rattle.script_lines.specs.Orders.{Action, Order}
 use Rattle.script_lines.specs.Orders as order
 use Rattle.script_machine.specs.declared.answer.Answer.{Answer}
@@ -47,13 +47,13 @@ use Rattle.script_machine.specs.declared.answer.Answer.TheVariants.{Crashed}
 use Rattle.script_machine.specs.declared.answer.Report.{Report}
 use Rattle.script_machine.specs.Agreement.{setting_from}
 use Rattle.script_machine.specs.Homes.{WriteHomes}
-use Rattle.script_machine.specs.Machine.{MachineState, Running, Down, Crashes, IsRestored, Keeps, LogsRecords, Recovers, Settles, Steps, WritesHome}
+use Rattle.script_machine.specs.Machine.{MachineState, Running, Down, Crashes, IsRestored, Keeps, LogsRecords, Recovers, Settles, Steps, TrimsLogs, WritesHome}
 use Rattle.script_machine.specs.Reports.{Found}
 use Rattle.script_machine.specs.States.{Live, Tells, begun_at, crash_back}
 use Rattle.script_machine.proofs.AgreementLemmas.{event-from, homes-told, logged-from, may-from, same-from, table-from}
 use Rattle.scripts.specs.Crashing.{IsAtItsEnd, IsSince, Survives}
 use Rattle.scripts.specs.Playing.{Events, FormattedLaw, IsBegun, IsSettlingFirst, LeadsTo, LineMakes, PlayLaw, PlaysOn, RecoveredLaw, Story, SurvivesLines, told_record}
-use Rattle.scripts.specs.Playing.LineMakes.{AddsEvent, LogsAll, WritesHome as HomeWritten, Settles as HasSettled, Leaves}
+use Rattle.scripts.specs.Playing.LineMakes.{AddsEvent, LogsAll, WritesHome as HomeWritten, Settles as HasSettled, Trims as HasTrimmed, Leaves}
 use Rattle.scripts.specs.Runs.{PlaysLine}
 use Rattle.scripts.proofs.CrashLemmas.{at_its_end, layout_of, one_live, since, told_of, went_down, wreck_of}
 use Rattle.scripts.proofs.StepLemmas.{Moved, moves}
@@ -233,6 +233,12 @@ module _ (first : ℕ → ℕ) (s : Setting) (events : Events) (p : Past) (line 
       now settles.runs (HasSettled stable.0 asks refl (settles.clean s p was.leads.tells) stable.1 refl)
   settling now said asks (inr refused) = stayed now refused.refuses.1
 
+  trimming : (now : Live) (said : Answer) → Asks order.Trim line → TrimsLogs (Running m) said (Running now) m → Goes now
+  trimming now said asks (inl trims) =
+      called trims.store (after_trim p) refl (trims.after s p was.leads.tells) trims.call.layout trims.call.running (λ lane. omega arith)
+      (keeps Trimming trims.store (trims.call.shown s p was.leads.tells) (trims.stands s p was.leads.tells)) now trims.call.runs (HasTrimmed asks refl refl)
+  trimming now said asks (inr refused) = stayed now refused.refuses.1
+
   -- a crash stops the machine
   crashing : (now : Live) (said : Answer) (fill : Fill) (back : ℕ) → Crashes (Running m) said (Running now) m fill back → Goes now
   crashing now said fill back tests = elim (cases_lt (length m.store.disk.stops) back) [
@@ -251,7 +257,7 @@ module _ (first : ℕ → ℕ) (s : Setting) (events : Events) (p : Past) (line 
   stepped now said order.Log asks steps = logging now said asks steps
   stepped now said order.Home asks steps = homing now said asks steps
   stepped now said order.Settle asks steps = settling now said asks steps
-  stepped now said order.Trim asks steps = stayed now steps.1
+  stepped now said order.Trim asks steps = trimming now said asks steps
   stepped now said order.Heap asks steps = stayed now steps.same
   stepped now said (order.Crash fill back) asks steps = crashing now said fill back steps
   stepped now said order.Show asks steps = stayed now steps.1
@@ -389,7 +395,7 @@ no_fault : (x : Slot × Control) → (let a : Result (Slot × Control) ImageErro
 no_fault x is = cc
 
 -- an image shows one control
-one_shown : (l : Layout) (image : List ℕ) (a b : Slot) (c d : Control) → Shows l image a c → Shows l image b d → d ≡ c
+pub one_shown : (l : Layout) (image : List ℕ) (a b : Slot) (c d : Control) → Shows l image a c → Shows l image b d → d ≡ c
 one_shown l image a b c d p q = elim (control_is_chosen l image a c (Ok (b, d)) p q) as (λ _. d ≡ c) [
   | inl is ↦ ap (λ (x : Slot × Control). x.1) (same_answer (b, d) (a, c) is)
   | inr bad ↦ absurd (no_fault (b, d) bad)

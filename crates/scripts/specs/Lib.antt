@@ -3,3 +3,4 @@ pub mod Runs
 pub mod Texts
 pub mod Crashing
 pub mod Playing
+pub mod Trimming

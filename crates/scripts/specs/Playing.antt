@@ -12,8 +12,8 @@ use Rattle.block_disk.specs.declared.crash.Fill.{Fill}
 use Rattle.durable.specs.Calls.{IsClean}
 use Rattle.plain_monitors.specs.Logged.{logged}
 use Rattle.plain_monitors.specs.Table.{state_of}
-use Rattle.store_past.specs.Past.{Past, applied, no_past, after_apply, after_log, after_settle}
-use Rattle.script_lines.specs.Lines.{Asks}
+use Rattle.store_past.specs.Past.{Past, applied, no_past, after_apply, after_log, after_settle, after_trim}
+use Rattle.script_lines.specs.Grammar.{Asks}
 use Rattle.script_lines.specs.Orders.{Action}
 use Rattle.script_lines.specs.Orders as order
 use Rattle.script_machine.specs.Agreement.{Agrees, setting_from}
@@ -37,7 +37,7 @@ told_record p t None = p
 told_record p t (Some r) = after_apply p t r
 
 -- What a line makes of the events and of the store's past: a thread's step adds its event and the event's record; `log`,
--- `home` and `settle` add no event; and any other line, or one that is refused, leaves both as they were.
+-- `home`, `settle` and `trim` add no event; and any other line, or one that is refused, leaves both as they were.
 pub data LineMakes (s : Setting) (line : List ℕ) (events : Events) (p : Past) (after : Events) (then : Past) : Type 0 where
   AddsEvent : (lane : Lane) (asked : Action) (event : Event) → Asks (order.Act lane asked) line → after ≡ (lane.0, event) ∷ events
       → then ≡ told_record p lane.0 (logged event) → LineMakes s line events p after then
@@ -45,6 +45,7 @@ pub data LineMakes (s : Setting) (line : List ℕ) (events : Events) (p : Past) 
   WritesHome : (cells : ℕ) → Asks order.Home line → after ≡ events → WriteHomes s p cells then → LineMakes s line events p after then
   Settles : (cut : ℕ → ℕ) → Asks order.Settle line → after ≡ events → IsClean s p → IsStable (actions p.logged) cut → then ≡ after_settle p cut
       → LineMakes s line events p after then
+  Trims : Asks order.Trim line → after ≡ events → then ≡ after_trim p → LineMakes s line events p after then
   Leaves : after ≡ events → then ≡ p → LineMakes s line events p after then
 
 -- The events lead to this machine: they are a legal history, the monitors are in the state after it, and the store, which has

@@ -9,7 +9,8 @@ use Rattle.script_lines.specs.declared.error.ScriptErrorKind.{ScriptErrorKind}
 use Rattle.script_lines.specs.declared.error.ScriptErrorKind.TheVariants as kinds
 use Rattle.script_lines.specs.declared.reader.Ending.{Ending}
 use Rattle.script_lines.specs.declared.reader.Ending.TheVariants as endings
-use Rattle.script_lines.specs.Lines.{IsText, IsSkipped, Asks, IsFit, HasFault}
+use Rattle.script_lines.specs.Grammar.{Asks}
+use Rattle.script_lines.specs.Lines.{IsText, IsSkipped, IsFit, HasFault}
 use Rattle.script_machine.specs.Machine.{MachineState, IsStart, Steps}
 use Rattle.script_lines.specs.Orders.{Order}
 use Rattle.scripts.specs.Texts.{text_of}

@@ -18,7 +18,7 @@ use Rattle.heap_model.proofs.Next.{freed_past, legal_before}
 use Rattle.heap_model.proofs.Stores.{ended_rises}
 use Rattle.durable.specs.Calls.{MakeAll, Makes}
 use Rattle.durable.specs.declared.store_call.StoreCall.{StoreCall}
-use Rattle.durable.specs.declared.store_call.StoreCall.TheVariants.{Apply, Log, Home as HomeStep, Settle}
+use Rattle.durable.specs.declared.store_call.StoreCall.TheVariants.{Apply, Log, Home as HomeStep, Settle, Trim}
 use Rattle.store_image.specs.declared.home.Home.TheVariants.{Wrote, Done}
 use Rattle.store_image.proofs.Stands.{same_heap}
 use Rattle.store_past.specs.Past.{Past, applied}
@@ -128,6 +128,7 @@ applied_all (Apply l r ∷ calls) before =
 applied_all (Log ∷ calls) before = applied_all calls before
 applied_all (HomeStep ∷ calls) before = applied_all calls before
 applied_all (Settle ∷ calls) before = applied_all calls before
+applied_all (Trim ∷ calls) before = applied_all calls before
 
 applied_more : (n : ℕ) (calls : List StoreCall) (before : List (ℕ × Record)) → (newer : List (ℕ × Record)) × (applied_by calls before ≡ newer ++ applied_by (take n calls) before)
 applied_more zero calls before = applied_all calls before
@@ -136,6 +137,7 @@ applied_more (suc n) (Apply l r ∷ calls) before = applied_more n calls ((l.0, 
 applied_more (suc n) (Log ∷ calls) before = applied_more n calls before
 applied_more (suc n) (HomeStep ∷ calls) before = applied_more n calls before
 applied_more (suc n) (Settle ∷ calls) before = applied_more n calls before
+applied_more (suc n) (Trim ∷ calls) before = applied_more n calls before
 
 made_one : (s : Setting) (p q : Past) (call : StoreCall) (calls : List StoreCall) → Makes s p call q → applied_by calls (applied q) ≡ applied_by (call ∷ calls) (applied p)
 made_one s p q (Apply l r) calls made = ap (λ (x : Past). applied_by calls (applied x)) made.1
@@ -143,6 +145,7 @@ made_one s p q Log calls made = ap (λ (x : Past). applied_by calls (applied x))
 made_one s p q HomeStep calls (Wrote f, answers, same) = ap (λ (x : Past). applied_by calls (applied x)) same
 made_one s p q HomeStep calls (Done, answers, same) = ap (λ (x : Past). applied_by calls (applied x)) same
 made_one s p q Settle calls made = ap (λ (x : Past). applied_by calls (applied x)) made.3
+made_one s p q Trim calls made = ap (λ (x : Past). applied_by calls (applied x)) made
 
 made_all : (s : Setting) (p q : Past) (calls : List StoreCall) → MakeAll s p calls q → applied q ≡ applied_by calls (applied p)
 made_all s p q [] made = ap applied made

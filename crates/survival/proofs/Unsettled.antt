@@ -9,7 +9,7 @@ use Rattle.durable.specs.Calls.{MakeAll, Makes}
 use Rattle.durable.specs.Store.{Known}
 use Rattle.durable.specs.declared.doubt.Doubt.TheVariants.{Settling}
 use Rattle.durable.specs.declared.store_call.StoreCall.{StoreCall}
-use Rattle.durable.specs.declared.store_call.StoreCall.TheVariants.{Apply, Log, Settle}
+use Rattle.durable.specs.declared.store_call.StoreCall.TheVariants.{Apply, Log, Settle, Trim}
 use Rattle.durable.specs.declared.store_call.StoreCall.TheVariants.{Home as HomeStep}
 use Rattle.durable.proofs.Showing.{logged_heap}
 use Rattle.survival.specs.Unsettled.{HasNoSettling, UnsettledLaw}
@@ -27,6 +27,7 @@ one_call l s p q Log is other same = subst (Same l s p) (sym same) (record { cut
 one_call l s p q HomeStep is other (Wrote f, answers, same) = subst (Same l s p) (sym same) (record { cut = refl; heap = refl })
 one_call l s p q HomeStep is other (Done, answers, same) = subst (Same l s p) (sym same) (record { cut = refl; heap = refl })
 one_call l s p q Settle is other made = absurd (other refl)
+one_call l s p q Trim is other same = subst (Same l s p) (sym same) (record { cut = refl; heap = refl })
 
 all_calls : (l : Layout) (s : Setting) (p q : Past) (calls : List StoreCall) → IsPast s p → HasNoSettling calls → MakeAll s p calls q → Same l s p q
 all_calls l s p q [] is none same = subst (Same l s p) (sym same) (record { cut = refl; heap = refl })

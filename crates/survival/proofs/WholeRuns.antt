@@ -20,7 +20,7 @@ use Rattle.store_image.proofs.Stands.{shows_always}
 use Rattle.durable.specs.Store.ShowsStep.{Shows, ShowsLogged, ShowsSettled, ShowsTrimmed}
 use Rattle.store_image.specs.declared.home.Home.TheVariants.{Wrote, Done}
 use Rattle.durable.specs.declared.store_call.StoreCall.{StoreCall}
-use Rattle.durable.specs.declared.store_call.StoreCall.TheVariants.{Apply, Log, Settle}
+use Rattle.durable.specs.declared.store_call.StoreCall.TheVariants.{Apply, Log, Settle, Trim}
 use Rattle.durable.specs.declared.store_call.StoreCall.TheVariants.{Home as HomeStep}
 use Rattle.durable.proofs.Pasts.{past_apply, past_home, past_log}
 use Rattle.heap_model.proofs.Stays.{cut_stays}
@@ -44,6 +44,7 @@ settles (Some (Apply l r)) is = absurd cc
 settles (Some Log) is = absurd cc
 settles (Some HomeStep) is = absurd cc
 settles (Some Settle) is = refl
+settles (Some Trim) is = absurd cc
 
 -- the image shows what the first n calls make of the past, or what is in doubt then; only a settling that was cut off leaves a settling in doubt
 record ShowsSome (x : Known) (s : Setting) (p : Past) (calls : List StoreCall) (image : List ℕ) : Type 0 where
@@ -150,6 +151,7 @@ grows_by s p q Log is same = subst (λ (x : Past). IsPast s x × ((l : ℕ) → 
 grows_by s p q HomeStep is (Wrote f, answers, same) = subst (λ (x : Past). IsPast s x × ((l : ℕ) → p.cut l ≤ x.cut l)) (sym same) (past_home s p f.0 is, λ l. omega arith)
 grows_by s p q HomeStep is (Done, answers, same) = subst (λ (x : Past). IsPast s x × ((l : ℕ) → p.cut l ≤ x.cut l)) (sym same) (is, λ l. omega arith)
 grows_by s p q Settle is (cut, clean, stable, same) = subst (λ (x : Past). IsPast s x × ((l : ℕ) → p.cut l ≤ x.cut l)) (sym same) (past_settle s p cut is stable, stable.greatest p.cut is.whole is.closed)
+grows_by s p q Trim is same = subst (λ (x : Past). IsPast s x × ((l : ℕ) → p.cut l ≤ x.cut l)) (sym same) (past_trim s p is, λ l. omega arith)
 
 grows : (s : Setting) (p q : Past) (calls : List StoreCall) → IsPast s p → MakeAll s p calls q → (l : ℕ) → p.cut l ≤ q.cut l
 grows s p q [] is same l = subst (λ (x : Past). p.cut l ≤ x.cut l) (sym same) (omega arith)

@@ -10,7 +10,7 @@ use Rattle.heap_model.specs.Cuts.{IsWhole, IsClosed}
 use Rattle.image.specs.declared.layout.Layout.{Layout}
 use Rattle.durable.specs.Store.{Known}
 use Rattle.durable.specs.declared.store_call.StoreCall.{StoreCall}
-use Rattle.durable.specs.declared.store_call.StoreCall.TheVariants.{Apply, Log, Home as HomeStep, Settle}
+use Rattle.durable.specs.declared.store_call.StoreCall.TheVariants.{Apply, Log, Home as HomeStep, Settle, Trim}
 use Rattle.store_image.specs.KeptHeap.{kept_heap}
 use Rattle.store_past.specs.Past.{Past, applied}
 use Rattle.survival.specs.WholeRun.{Survives}
@@ -22,6 +22,7 @@ applied_by (Apply l r ∷ calls) before = applied_by calls ((l.0, r) ∷ before)
 applied_by (Log ∷ calls) before = applied_by calls before
 applied_by (HomeStep ∷ calls) before = applied_by calls before
 applied_by (Settle ∷ calls) before = applied_by calls before
+applied_by (Trim ∷ calls) before = applied_by calls before
 
 -- What was applied before the calls and is by them is, thread by thread, the beginning of what the history logs. The threads'
 -- records may come in any order among one another, and some of them not yet.

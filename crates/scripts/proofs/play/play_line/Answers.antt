@@ -1,5 +1,5 @@
 use Rattle.std.proofs.Common.{◌≡◌, ◌∙◌, inr}
-use Rattle.script_lines.specs.Lines.{Asks}
+use Rattle.script_lines.specs.Grammar.{Asks}
 use Rattle.script_lines.specs.Orders.{order_of}
 use Rattle.scripts.specs.Texts.{text_of}
 use Rattle.scripts.proofs.PlayLemmas.{IfErr_from}

@@ -9,7 +9,7 @@ use Rattle.block_disk.specs.Images.{LeavesOnly}
 use Rattle.block_disk.proofs.Images.{begin}
 use Rattle.durable.specs.Store.{ShowsStep, doubt_in}
 use Rattle.durable.proofs.Storing.{shows_then}
-use Rattle.durable.proofs.Playing.{apply_made, apply_refused, settle_made, settle_refused, no_cause}
+use Rattle.durable.proofs.Playing.{apply_made, apply_refused, settle_made, settle_refused, trim_made, trim_refused, no_cause}
 use Rattle.durable.proofs.store.Store.make.Goals as goal
 
 pub returns-in-Apply-clause-ok : goal.returns-in-Apply-clause-ok
@@ -100,3 +100,19 @@ returns-in-Err-home_step-clause-in_doubt g c = λ is. let same : c.in-Err-home_s
 
 pub returns-in-Settle-clause-in_doubt : goal.returns-in-Settle-clause-in_doubt
 returns-in-Settle-clause-in_doubt g c = λ is. c.settle.ensures.in_doubt is ∙ ap (λ (call : StoreCall). doubt_in (Some call)) (sym c.in-Settle.is)
+
+pub returns-in-Trim-clause-ok : goal.returns-in-Trim-clause-ok
+returns-in-Trim-clause-ok g c = λ s p has. trim_made s p c.args.call c.trim.result _ _ c.in-Trim.is (c.trim.ensures.ok s p has)
+
+pub returns-in-Trim-clause-refused : goal.returns-in-Trim-clause-refused
+returns-in-Trim-clause-refused g c = λ s p has. trim_refused s p c.args.call c.trim.result c.args.self.now.known _ c.in-Trim.is (c.trim.ensures.answer s p has)
+
+pub returns-in-Trim-clause-quiet : goal.returns-in-Trim-clause-quiet
+returns-in-Trim-clause-quiet g c = λ s p has quiet. ap (λ z. g.D.Disk.device z.disk) (c.trim.ensures.none s p has (subst (λ (call : StoreCall). IsQuiet s p call) c.in-Trim.is quiet))
+
+pub returns-in-Trim-clause-shown : goal.returns-in-Trim-clause-shown
+returns-in-Trim-clause-shown g c = λ s p has.
+    subst (λ (call : StoreCall). LeavesOnly (g.D.Disk.device c.args.self.now.disk) (g.D.Disk.device c.trim.new.self.disk) (ShowsStep c.args.self.now.known.layout s p (doubt_in (Some call)))) (sym c.in-Trim.is) (c.trim.ensures.shown s p has)
+
+pub returns-in-Trim-clause-in_doubt : goal.returns-in-Trim-clause-in_doubt
+returns-in-Trim-clause-in_doubt g c = λ is. c.trim.ensures.in_doubt is ∙ ap (λ (call : StoreCall). doubt_in (Some call)) (sym c.in-Trim.is)

@@ -1,0 +1,53 @@
+use Rattle.std.proofs.Common.{◌≡◌, ◌∙◌, sym, inl, inr, refl, subst}
+use Rattle.block_disk.specs.Memory.{Memory}
+use Rattle.durable.specs.Calls.{RefusesTrim}
+use Rattle.store_past.specs.Past.{after_trim}
+use Rattle.durable.specs.Store.{Parts}
+use Rattle.script_machine.specs.Agreement.{Agrees, setting_from}
+use Rattle.script_machine.specs.States.{Live}
+use Rattle.script_machine.specs.Machine.{Running, TrimsLogs}
+use Rattle.script_machine.proofs.AgreementLemmas.{refused-trim, same-told}
+use Rattle.script_machine.proofs.StoreLemmas.{live, told-unchanged, refused-line}
+use Rattle.script_machine.proofs.running.Running.trim.Goals as goal
+use Rattle.script_machine.proofs.running.Running.trim.Goals.{in-Ok, in-Err+in_ok-refused_call-in-Err}
+
+pub refused_call-requires : goal.refused_call-requires
+refused_call-requires c =
+    let g = c.self.invariant in
+    refused-trim c.self.inside.store.known g.past c.in-Err.why g.running (c.in-Err.ensures.answer (setting_from c.self.inside.monitors g.first) g.past g.tells)
+
+pub invariant_of-result : goal.invariant_of-result
+invariant_of-result c =
+    let a = c.self.inside.monitors in
+    let x = c.self.inside.store in
+    let y = c.trim.new.self in
+    let g = c.self.invariant in
+    let step = c.trim.ensures in
+    elim c.match-trim.branch [
+      | in-Ok w ↦ same-told a x y g (after_trim g.past) refl (rw w.in-Ok.is at step.ok (setting_from a g.first) g.past g.tells) step.layout (rw w.in-Ok.is at step.running).1
+      | in-Err+in_ok-refused_call-in-Err w ↦
+          let told = sym w.refused_call.ensures ∙ w.in_ok-refused_call-in-Err.was in
+          let same : y ≡ x = told-unchanged x y w.in-Err.why w.in_ok-refused_call-in-Err.field-0 told (rw w.in-Err.is at step.refused) in
+          subst (λ (z : Parts Memory). Agrees a z) (sym same) g
+    ]
+
+pub returns : goal.returns
+returns c =
+    let a = c.self.inside.monitors in
+    let x = c.self.inside.store in
+    let y = c.trim.new.self in
+    let step = c.trim.ensures in
+    subst (λ (m : Live). TrimsLogs (Running m) c.match-trim.answer (Running (live a y)) m) c.self.view_is
+    (elim c.match-trim.branch [
+      | in-Ok w ↦ rw w.answer-is (inl (record {
+        store = y;
+        call = record { answers = refl; runs = refl; layout = step.layout; running = (rw w.in-Ok.is at step.running).1; shown = step.shown };
+        stands = step.any_moment;
+        after = λ s p t. rw w.in-Ok.is at step.ok s p t;
+        none = step.none;
+      }))
+      | in-Err+in_ok-refused_call-in-Err w ↦
+          let told = sym w.refused_call.ensures ∙ w.in_ok-refused_call-in-Err.was in
+          rw w.answer-is (inr (refused-line a x y (λ s p reason. RefusesTrim x.known p reason) w.in-Err.why w.in_ok-refused_call-in-Err.field-0 told
+          (told-unchanged x y w.in-Err.why w.in_ok-refused_call-in-Err.field-0 told (rw w.in-Err.is at step.refused)) (λ s p t. rw w.in-Err.is at step.answer s p t)))
+    ])
