@@ -136,7 +136,7 @@ module _ (x y : Known) (d e : Device) (s : Setting) (p : Past) where
           now = after_settle (dirtied (after_log p) was.dirty) cut;
           has = has;
           same = refl;
-                cut = λ l. stable.greatest p.cut stays.0 stays.1 l;
+          cut = λ l. stable.greatest p.cut stays.0 stays.1 l;
           places = λ l. omega (arith, places_grown (p.base l) p.fresh p.logged l (had.base_whole l));
         },
         record { logged = refl; clean = was.clean; stable = stable },
