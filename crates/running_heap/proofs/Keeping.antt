@@ -1,5 +1,5 @@
 -- A session stays joined to its helper, and a helper goes on.
-use Rattle.std.proofs.Common.{ℕ, zero, suc, ◌≡◌, List, [], ◌∷◌, length, sym, ap, ◌∙◌, subst}
+use Rattle.std.proofs.Common.{ℕ, zero, suc, ◌≡◌, true, List, [], ◌∷◌, length, sym, ap, ◌∙◌, subst}
 use Rattle.rtrb.specs.declared.consumer.Consumer.{Consumer}
 use Rattle.rtrb.specs.declared.producer.Producer.{Producer}
 use Rattle.rtrb.specs.Ring.{SameProducer}
@@ -12,10 +12,12 @@ use Rattle.session.specs.declared.waiting.Waiting.{Waiting}
 use Rattle.session.specs.Sessions.{ring_of, view_of}
 use Rattle.steps.specs.Views.{plan}
 use Rattle.store_past.specs.Past.{Past}
+use Rattle.trim_helper.specs.Helping.{IsHelper, count_published, place_published, taken_in}
 use Rattle.trim_helper.specs.Moves.{IsEndOf}
-use Rattle.trim_helper.specs.Parts.{Parts, HasServed}
+use Rattle.trim_helper.specs.Parts.{Parts, HasDrained, HasServed}
+use Rattle.trim_helper.proofs.Rounds.{drains_same, drains_served, moved_seat}
 use Rattle.running_heap.specs.Joined.{IsJoined, IsHelping, HasGoneOn}
-use Rattle.running_heap.specs.Laws.{CallLaw, WaitLaw, RingsLaw}
+use Rattle.running_heap.specs.Laws.{CallLaw, DrainLaw, EndedLaw, RingsLaw, RoundLaw, WaitLaw}
 
 -- another value of the same end
 pub same_end : {A P : Type 0} (p q : Producer Record A P) (cs : List (Consumer Record A P)) (l : ℕ) → SameProducer p q → IsEndOf p cs l → IsEndOf q cs l
@@ -36,7 +38,17 @@ over_wait x w y begun back = (((back.0.0.0 ∙ begun.0.0.0, back.0.0.1 ∙ begun
 pub over_rings : RingsLaw
 over_rings h c rings later x joined same = record { of = joined.of; holds = joined.holds; ring = same.ends (ring_of x) (view_of x).lane.0 joined.ring }
 
-pub goes_on : {D : Type 0} (device : D → Device) (h : Home) (x y : Parts D) (n : ℕ) (p : Past) → IsHelping device h x → HasGoneOn h x y → HasServed device x y (plan h) p n → IsHelping device h y
+pub over_ended : EndedLaw
+over_ended h c rings later e ended same = record {
+  seat = ended.seat;
+  lane = ended.lane;
+  all_sent = ended.all_sent;
+  limits = ended.limits;
+  held = ended.held;
+  ring = same.ends e.producer e.lane.0 ended.ring;
+}
+
+pub goes_on : {D : Type 0} (device : D → Device) → RoundLaw device
 goes_on device h x y n p was on served = record {
   seat = on.seat;
   lanes = was.lanes ∙ ap (λ l. l.lanes) (sym on.layout);
@@ -45,3 +57,15 @@ goes_on device h x y n p was on served = record {
   past = served.now;
   serving = served.serves;
 }
+
+pub drains_on : {D : Type 0} (device : D → Device) → DrainLaw device
+drains_on device h x y n was seat drained quiet =
+    let on : HasGoneOn h x y = record {
+      seat = subst (λ s. IsHelper h s) (sym seat) was.seat;
+      taken = ap taken_in seat;
+      rings = drains_same _ _ _ _ _ _ _ _ n drained;
+      layout = drained.advances.layout;
+    } in
+    let served = moved_seat count_published place_published _ _ _ _ _ y.is_settled (plan h) was.past n x.seat y.seat seat
+    (drains_served _ _ _ _ _ _ _ _ n x.is_settled y.is_settled (count_published x.seat) (place_published x.seat) (plan h) was.past drained quiet was.serving) in
+    (on, goes_on device h x y n was.past was on served)

@@ -114,14 +114,13 @@ stops_settle x s p Unfinished clean h = elim h [ ]
 -- the stable cut has what was acknowledged
 module _ (x y : Known) (d e : Device) (s : Setting) (p : Past) where
   pub same_stay : HasPast y s p e → HasSame y e s p
-  same_stay has = record { now = p; has = has; same = refl; base = refl; cut = λ l. omega arith; places = λ l. omega arith }
+  same_stay has = record { now = p; has = has; same = refl; cut = λ l. omega arith; places = λ l. omega arith }
 
   pub same_dirtied : (dirty : ℕ → Bool) → IsPast s p → HasPast y s (dirtied (after_log p) dirty) e → HasSame y e s p
   same_dirtied dirty was has = record {
     now = dirtied (after_log p) dirty;
     has = has;
     same = refl;
-    base = refl;
     cut = λ l. omega arith;
     places = λ l. omega (arith, places_grown (p.base l) p.fresh p.logged l (was.base_whole l));
   }
@@ -137,7 +136,6 @@ module _ (x y : Known) (d e : Device) (s : Setting) (p : Past) where
           now = after_settle (dirtied (after_log p) was.dirty) cut;
           has = has;
           same = refl;
-          base = refl;
           cut = λ l. stable.greatest p.cut stays.0 stays.1 l;
           places = λ l. omega (arith, places_grown (p.base l) p.fresh p.logged l (had.base_whole l));
         },

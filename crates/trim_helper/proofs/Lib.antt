@@ -3,6 +3,7 @@ pub mod Refusing
 pub mod RingMoves
 pub mod Advancing
 pub mod Homes
+pub mod Trims
 pub mod Rounds
 pub mod Closing
 pub mod Drained

@@ -1,5 +1,5 @@
 -- A round of the helper.
-use Rattle.std.proofs.Common.{ℕ, zero, suc, ◌≡◌, ◌≢◌, ◌+◌, ◌<◌, ◌≤◌, ◌==◌, if◌then◌else◌, Bool, true, false, List, [], ◌∷◌, ◌++◌, length, replicate, Result, Ok, Err, IfOk, OnErr, Option, None, refl, sym, ap, ◌∙◌, subst, inl, inr, arith}
+use Rattle.std.proofs.Common.{ℕ, zero, suc, ◌≡◌, ◌≢◌, ◌+◌, ◌<◌, ◌≤◌, ◌==◌, if◌then◌else◌, Bool, true, false, List, [], ◌∷◌, ◌++◌, length, replicate, Result, Ok, Err, IfOk, OnErr, Option, MatchOption, None, refl, sym, ap, ◌∙◌, subst, inl, inr, arith}
 use Rattle.std.proofs.lemmas.Bool.Decides.{eqb_tells}
 use Rattle.std.proofs.lemmas.List.{append_assoc}
 use Rattle.rtrb.specs.declared.consumer.Consumer.{Consumer}
@@ -9,12 +9,12 @@ use Rattle.block_disk.specs.Device.{Device}
 use Rattle.block_disk.specs.Images.{LeavesOnly}
 use Rattle.block_disk.proofs.Images.{begin}
 use Rattle.image.specs.declared.layout.Layout.{Layout}
-use Rattle.store_past.specs.Past.{Past, applied}
+use Rattle.store_past.specs.Past.{Past, IsTrimmed, applied}
 use Rattle.durable.specs.Store.{Known, HasPast}
 use Rattle.trim_helper.specs.declared.rings.TheConstants.{RING_RECORDS}
 use Rattle.trim_helper.specs.Rings.{received_of, known_of, held_back, waiting_in, stream}
 use Rattle.trim_helper.specs.Moves.{Looks, SameRings, most_room}
-use Rattle.trim_helper.specs.Taken.{HasTaken, Advances, applied_more, trimmed_of}
+use Rattle.trim_helper.specs.Taken.{HasTaken, Advances, IsLaneStuck, IsRefused, applied_more, trimmed_of}
 use Rattle.trim_helper.specs.Settled.{HasSame, IsSettled, StandsForRound}
 use Rattle.heap_model.specs.Log.{IsLegal}
 use Rattle.trim_helper.specs.Closed.{AreSent, Stood}
@@ -68,6 +68,7 @@ module _ {A P : Type 0} where
           counts = λ l lt. was.counts l (omega arith);
           places = λ l lt. was.places l (omega arith);
           settled = λ is. let q = quiet is in subst (λ xs. IsSettled s (applied_more xs p)) (sym (none_of now.0 (now.1 ∙ q.1))) (was.settled q.0);
+          trimmed = λ is. was.trimmed (quiet is).0;
           published = λ is l lt. was.published (quiet is).0 l (omega arith);
         };
         moments = moment_drained d d' x'.layout s (now.0 ++ applied p) p.cut drains.advances.device;
@@ -94,15 +95,16 @@ module _ {A P : Type 0} where
           counts = λ l lt. omega (arith, was.serves.counts l (omega arith), h.cut l);
           places = λ l lt. omega (arith, was.serves.places l (omega arith), h.places l);
           settled = λ is. absurd (let no : false ≡ true = is in cc);
+          trimmed = λ is. absurd (let no : false ≡ true = is in cc);
           published = λ is l lt. absurd (let no : false ≡ true = is in cc);
         };
         moments = subst (λ l. LeavesOnly d0 d' (StandsForRound l s (was.newer ++ applied p) p.cut)) (sym layout) moments;
       }
 
   pub published_served : (d0 : Device) (x x' : Known) (d d' : Device) (r : List (Consumer Record A P)) (w : List (Option Record)) (b : Bool) (count place count' place' : ℕ → ℕ) (s : Setting) (p : Past) (n : ℕ) → x'.layout ≡ x.layout →
-      (was : Served d0 x d r w b count place s p n) → (h : HasSame x' d' s was.now) → IsSettled s h.now →
+      (was : Served d0 x d r w b count place s p n) → (h : HasSame x' d' s was.now) → IsSettled s h.now → IsTrimmed h.now →
       ((l : ℕ) → l < x'.layout.lanes → (count' l ≡ h.now.cut l) × (place' l ≡ trimmed_of h.now l)) → LeavesOnly d0 d' (StandsForRound x.layout s (was.newer ++ applied p) p.cut) → Served d0 x' d' r w true count' place' s p n
-  published_served d0 x x' d d' r w b count place count' place' s p n layout was h settled published moments = record {
+  published_served d0 x x' d d' r w b count place count' place' s p n layout was h settled trimmed published moments = record {
     newer = was.newer;
     long = was.long;
     now = h.now;
@@ -112,6 +114,7 @@ module _ {A P : Type 0} where
       counts = λ l lt. omega (arith, (published l lt).0);
       places = λ l lt. omega (arith, (published l lt).1);
       settled = λ is. settled;
+      trimmed = λ is. trimmed;
       published = λ is l lt. published l lt;
     };
     moments = subst (λ l. LeavesOnly d0 d' (StandsForRound l s (was.newer ++ applied p) p.cut)) (sym layout) moments;
@@ -182,6 +185,7 @@ serves_new x d r w s p count place none has empty taken counts places = record {
   counts = λ l lt. omega (arith, counts l);
   places = λ l lt. omega (arith, places l);
   settled = λ is. absurd (let no : false ≡ true = is in cc);
+  trimmed = λ is. absurd (let no : false ≡ true = is in cc);
   published = λ is l lt. absurd (let no : false ≡ true = is in cc);
 }
 
@@ -200,3 +204,7 @@ looks_drains x x' d d' r0 r1 r2 w0 w1 n have looks on = record {
       let e : length (received_of r1 l) ≡ length (received_of r0 l) = ap (λ (xs : List Record). length xs) (looks.received l) in
       omega (arith, e, taken_most r1 r2 RING_RECORDS l (omega (arith, looks.same.rooms)) (on.whole l));
 }
+
+-- where no record waits, none is known to be left
+pub emptied_of : {A P : Type 0} (x : Known) (r : List (Consumer Record A P)) (w : List (Option Record)) (s : Setting) (p : Past) (l : ℕ) → IsLaneStuck x r w s p l → waiting_in w l ≡ None → known_of r l ≡ []
+emptied_of x r w s p l stuck none = subst (λ (v : Option Record). MatchOption v (known_of r l ≡ []) (λ k. IsRefused x s p l k)) none stuck

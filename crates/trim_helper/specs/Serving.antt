@@ -8,7 +8,7 @@ use Rattle.heap_model.specs.History.{IsLegalHistory}
 use Rattle.heap_model.specs.Log.{lane}
 use Rattle.block_disk.specs.Device.{Device}
 use Rattle.block_disk.specs.Images.{LeavesOnly}
-use Rattle.store_past.specs.Past.{Past, applied}
+use Rattle.store_past.specs.Past.{Past, IsTrimmed, applied}
 use Rattle.durable.specs.Store.{Known}
 use Rattle.heap_model.specs.Own.{own_log, sent_of}
 use Rattle.image.specs.declared.layout.Layout.{Layout}
@@ -20,12 +20,13 @@ use Rattle.trim_helper.specs.Taken.{HasTaken, Advances, trimmed_of}
 use Rattle.trim_helper.specs.Settled.{IsSettled, StandsForRound}
 
 -- By lane, a published count is at most what is acknowledged, and a published place at most what is trimmed.
--- Where nothing was applied since all was settled, they are equal.
+-- Where nothing was applied since all was settled, they are equal, and all that is acknowledged is trimmed.
 pub record Serves {A P : Type 0} (x : Known) (d : Device) (rings : List (Consumer Record A P)) (waiting : List (Option Record)) (is_settled : Bool) (count place : ℕ → ℕ) (s : Setting) (p : Past) : Type 0 where
   pub taken : HasTaken x d rings waiting s p
   pub counts : (l : ℕ) → l < x.layout.lanes → count l ≤ p.cut l
   pub places : (l : ℕ) → l < x.layout.lanes → place l ≤ trimmed_of p l
   pub settled : is_settled ≡ true → IsSettled s p
+  pub trimmed : is_settled ≡ true → IsTrimmed p
   pub published : is_settled ≡ true → (l : ℕ) → l < x.layout.lanes → (count l ≡ p.cut l) × (place l ≡ trimmed_of p l)
 
 -- The rings were looked at, and then so many records were applied. Of each lane at most a ring's records were taken.

@@ -19,12 +19,11 @@ pub record HasClean (x : Known) (d : Device) (s : Setting) (p : Past) (fields : 
   pub has : HasPast x s (record p { is_dirty = dirty }) d
   pub clean : (f : ℕ) → f < fields → dirty f ≡ false
 
--- The same records were applied, the same sections trimmed, and what was acknowledged still is.
+-- The same records were applied; what was acknowledged still is, and what was trimmed stays so.
 pub record HasSame (x : Known) (d : Device) (s : Setting) (p : Past) : Type 0 where
   pub now : Past
   pub has : HasPast x s now d
   pub same : applied now ≡ applied p
-  pub base : now.base ≡ p.base
   pub cut : (l : ℕ) → p.cut l ≤ now.cut l
   pub places : (l : ℕ) → trimmed_of p l ≤ trimmed_of now l
 

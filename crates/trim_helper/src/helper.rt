@@ -1,5 +1,5 @@
 //! The helper.
-ghost use Rattle.std.specs.Prelude.{◌≡◌, ◌<◌, ◌≤◌, [], ℕ, List, true, false, vec_len, length, IfErr, IfOk, OnErr, OnOk};
+ghost use Rattle.std.specs.Prelude.{◌≡◌, ◌<◌, ◌≤◌, [], ℕ, List, None, true, false, vec_len, length, IfErr, IfOk, OnErr, OnOk};
 ghost use Rattle.block_disk.specs.Device.{HasCause};
 ghost use Rattle.durable.specs.Store.{HasPast};
 ghost use Rattle.heap_model.specs.declared.event.Event.{Event};
@@ -11,7 +11,7 @@ ghost use Rattle.store_past.specs.declared.error.StoreError.TheVariants.{Failed,
 ghost use Rattle.trim_helper.specs.Helping.{IsHelper, count_published, place_published, taken_in};
 ghost use Rattle.trim_helper.specs.Moves.{SameRings, most_room};
 ghost use Rattle.trim_helper.specs.Parts.{HasDrained, HasServed, IsServing};
-ghost use Rattle.trim_helper.specs.Rings.{received_of};
+ghost use Rattle.trim_helper.specs.Rings.{known_of, received_of, waiting_in};
 ghost use Rattle.trim_helper.specs.Serving.{HoldHistory};
 ghost use Rattle.trim_helper.specs.Settled.{IsStop, IsWhy};
 ghost use Rattle.trim_helper.specs.Taken.{HasTaken, IsLaneStuck};
@@ -27,7 +27,7 @@ use rtrb::Consumer;
 use std::marker::Model;
 
 /// The helper: it owns the store, applies to it what the sessions send through their rings, makes that durable, and publishes
-/// how many sections of each lane are acknowledged.
+/// how many sections of each lane are acknowledged and how many of its records are forgotten.
 ///
 /// After a `Fault` each call that applies or writes answers `Failed`, as the store's do; what there is to read stays. Contracts
 /// see it as its `Parts`.
@@ -83,14 +83,16 @@ impl<D: Disk> Helper<D> {
         ensures failed { IfErr result (λ e. (e ≡ Failed) × (self.old.store.known.has_failed ≡ true)) }
         ensures err { OnErr result ((n : ℕ) × HasDrained D.device self.old self.new n) }
         ensures settled { IfOk result (λ n. self.new.is_settled ≡ true → (self.old.is_settled ≡ true) × (n ≡ 0)) }
+        ensures unsettled { OnErr result (self.new.is_settled ≡ false) }
         ensures seat { self.new.seat ≡ self.old.seat }
         ensures layout { self.new.store.known.layout ≡ self.old.store.known.layout }
     {
         self.serving.drain()
     }
 
-    /// Drains the rings, logs what was applied, writes it home, acknowledges its stable cut, and then publishes that. It answers
-    /// how many records it applied. With nothing applied since the last round that answered Ok it makes no device call.
+    /// Drains the rings, logs what was applied, writes it home, acknowledges its stable cut, forgets what is acknowledged, and
+    /// then publishes both. So each lane has its area but for the records that aren't acknowledged. It answers how many records
+    /// it applied. With nothing applied since the last round that answered Ok it makes no device call.
     ///
     /// Refusals: `Failed`; `Worn`: the control's sequence is at its last value; `Fault`: a call of the device failed now. What was
     /// done before one stands, and nothing is published.
@@ -98,6 +100,7 @@ impl<D: Disk> Helper<D> {
         requires seat { IsHelper shared.now self.old.seat }
         requires lanes { shared.now.plan.lanes ≡ self.old.store.known.layout.lanes }
         ensures ok { (s : Setting) (p : Past) → IsServing D.device self.old s p → IfOk result (λ n. HasServed D.device self.old self.new s p n) }
+        ensures emptied { OnOk result ((l : ℕ) → l < length self.new.rings → waiting_in self.new.waiting l ≡ None → known_of self.new.rings l ≡ []) }
         ensures settled { OnOk result (self.new.is_settled ≡ true) }
         ensures quiet { self.old.is_settled ≡ true → IfOk result (λ n. n ≡ 0 → D.device self.new.store.disk ≡ D.device self.old.store.disk) }
         ensures stop { IfErr result IsStop }

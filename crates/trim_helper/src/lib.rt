@@ -2,8 +2,8 @@
 //!
 //! [`open_heap`] opens a recovered heap for threads: the words that they share and the store begin with its values.
 //! [`Helper::drain`] applies what the rings hold, in memory alone, in whatever order the lanes come; [`Helper::round`] then makes it
-//! durable, acknowledges its stable cut and publishes that. [`close_down`] is where both ends meet: what was received and what is
-//! left is what was sent, and the device holds the heap of all of it. Logs aren't trimmed yet.
+//! durable, acknowledges its stable cut, forgets what is acknowledged, so that the lanes never fill, and publishes both. [`close_down`]
+//! is where both ends meet: what was received and what is left is what was sent, and the device holds the heap of all of it.
 #![tactic(auto)]
 
 mod close_error;

@@ -1,5 +1,5 @@
 //! The parts of a helper, and what they do together.
-ghost use Rattle.std.specs.Prelude.{◌≡◌, ◌+◌, ◌<◌, ◌≤◌, ◌++◌, [], ℕ, List, true, false, vec_len, length, IfErr, IfOk, OnErr, OnOk};
+ghost use Rattle.std.specs.Prelude.{◌≡◌, ◌+◌, ◌<◌, ◌≤◌, ◌++◌, [], ℕ, List, None, true, false, vec_len, length, IfErr, IfOk, OnErr, OnOk};
 ghost use Rattle.heap_model.specs.Setting.{Setting};
 ghost use Rattle.heap_model.specs.declared.record.Record.{Record};
 ghost use Rattle.store_past.specs.Past.{Past, applied};
@@ -12,7 +12,7 @@ ghost use Rattle.heap_model.specs.declared.event.Event.{Event};
 ghost use Rattle.heap_model.specs.History.{log_of};
 ghost use Rattle.heap_model.specs.Log.{lane as lane_of};
 ghost use Rattle.trim_helper.specs.declared.rings.TheConstants.{RING_RECORDS};
-ghost use Rattle.trim_helper.specs.Rings.{received_of};
+ghost use Rattle.trim_helper.specs.Rings.{known_of, received_of, waiting_in};
 ghost use Rattle.block_disk.specs.Device.{HasCause};
 ghost use Rattle.store_past.specs.declared.error.StoreError.TheVariants.{Fault};
 ghost use Rattle.trim_helper.specs.Helping.{IsHelper, count_published, place_published, taken_in};
@@ -21,7 +21,7 @@ ghost use Rattle.trim_helper.specs.Settled.{IsStop, IsWhy};
 use crate::draining::drain_rings;
 use crate::published::publish;
 use crate::rings::RING_RECORDS;
-use crate::settling::settle_applied;
+use crate::settling::settle_and_trim;
 use block_disk::Disk;
 use durable::{Store, StoreError};
 use heap_model::{LANES, Lane, Record};
@@ -97,7 +97,7 @@ impl<D: Disk> Serving<D> {
         }
     }
 
-    /// Drains the rings, makes what was applied durable, acknowledges its stable cut, and publishes that.
+    /// Drains the rings, makes what was applied durable, acknowledges its stable cut, forgets that, and publishes both.
     pub fn round(&mut self, shared: &Shared) -> Result<u64, StoreError>
         requires seat { IsHelper shared.now self.old.seat }
         requires lanes { shared.now.plan.lanes ≡ self.old.store.known.layout.lanes }
@@ -106,6 +106,7 @@ impl<D: Disk> Serving<D> {
             → IfOk result (λ n. Served (D.device self.old.store.disk) self.new.store.known (D.device self.new.store.disk) self.new.rings.items self.new.waiting true (count_published self.new.seat) (place_published self.new.seat) s p n) }
         ensures err { (s : Setting) (p : Past) → Serves self.old.store.known (D.device self.old.store.disk) self.old.rings.items self.old.waiting self.old.is_settled (count_published self.old.seat) (place_published self.old.seat) s p
             → OnErr result ((n : ℕ) × Served (D.device self.old.store.disk) self.new.store.known (D.device self.new.store.disk) self.new.rings.items self.new.waiting false (count_published self.new.seat) (place_published self.new.seat) s p n) }
+        ensures emptied { OnOk result ((l : ℕ) → l < length self.new.rings.items → waiting_in self.new.waiting l ≡ None → known_of self.new.rings.items l ≡ []) }
         ensures settled { OnOk result (self.new.is_settled ≡ true) }
         ensures unsettled { OnErr result (self.new.is_settled ≡ false) }
         ensures quiet { self.old.is_settled ≡ true → IfOk result (λ n. n ≡ 0 → D.device self.new.store.disk ≡ D.device self.old.store.disk) }
@@ -125,7 +126,7 @@ impl<D: Disk> Serving<D> {
         if self.is_settled {
             return Ok(count);
         }
-        if let Err(reason) = settle_applied(&mut self.store) {
+        if let Err(reason) = settle_and_trim(&mut self.store) {
             return Err(reason);
         }
         publish_all(&self.store, shared, &mut self.seat);

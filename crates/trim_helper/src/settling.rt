@@ -1,11 +1,11 @@
-//! What was applied is made durable, and its stable cut acknowledged.
+//! What was applied is made durable, its stable cut is acknowledged, and what is acknowledged is forgotten.
 ghost use Rattle.std.specs.Prelude.{◌≡◌, ◌≢◌, ◌<◌, ℕ, IfErr, OnErr, OnOk, true, false};
 ghost use Rattle.heap_model.specs.Setting.{Setting};
 ghost use Rattle.block_disk.specs.Device.{HasCause};
 ghost use Rattle.block_disk.specs.Images.{LeavesOnly};
 ghost use Rattle.store_image.specs.KeptHeap.{StandsForCut};
 ghost use Rattle.store_past.specs.declared.error.StoreError.TheVariants.{Failed, Fault, Worn};
-ghost use Rattle.store_past.specs.Past.{Past, applied};
+ghost use Rattle.store_past.specs.Past.{Past, IsTrimmed, applied};
 ghost use Rattle.durable.specs.Store.{HasPast};
 ghost use Rattle.trim_helper.specs.Settled.{HasClean, HasSame, IsSettled, IsStop, IsWhy, StandsForRound};
 
@@ -55,4 +55,21 @@ pub fn settle_applied<D: Disk>(store: &mut Store<D>) -> Result<(), StoreError>
         return Err(reason);
     }
     store.settle()
+}
+
+/// Logs what was applied, writes it home, acknowledges its stable cut, and then forgets what is acknowledged.
+pub fn settle_and_trim<D: Disk>(store: &mut Store<D>) -> Result<(), StoreError>
+    ensures settled { (s : Setting) (p : Past) → HasPast store.old.known s p (D.device store.old.disk) → OnOk result ((h : HasSame store.new.known (D.device store.new.disk) s p) × IsSettled s h.now × IsTrimmed h.now) }
+    ensures kept { (s : Setting) (p : Past) → HasPast store.old.known s p (D.device store.old.disk) → OnErr result (HasSame store.new.known (D.device store.new.disk) s p) }
+    ensures stop { (s : Setting) (p : Past) → HasPast store.old.known s p (D.device store.old.disk) → IfErr result IsStop }
+    ensures why { (s : Setting) (p : Past) → HasPast store.old.known s p (D.device store.old.disk) → IfErr result (λ e. IsWhy store.old.known store.new.known e) }
+    ensures layout { store.new.known.layout ≡ store.old.known.layout }
+    ensures any_moment { (s : Setting) (p : Past) → HasPast store.old.known s p (D.device store.old.disk) → LeavesOnly (D.device store.old.disk) (D.device store.new.disk) (StandsForRound store.old.known.layout s (applied p) p.cut) }
+    ensures cause { HasCause (D.device store.old.disk).failures (D.device store.new.disk).failures Fault result }
+{
+    if let Err(reason) = settle_applied(store) {
+        return Err(reason);
+    }
+    // Not before: what isn't acknowledged is still needed to undo it.
+    store.trim()
 }
