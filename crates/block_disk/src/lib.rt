@@ -21,6 +21,3 @@ pub use error::{DiskError, Fault, fail};
 pub use laws::{image_but_law, image_law, sync_law};
 pub use memory::MemDisk;
 pub use place::{copy_out, lies_within, overwrite};
-
-#[cfg(test)]
-mod tests;

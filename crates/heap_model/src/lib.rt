@@ -34,6 +34,3 @@ pub use own_laws::{
 pub use part_trim::part_trim_law;
 pub use record::{LaneRecord, Record, UndoRecord};
 pub use section_laws::{all_kept_law, earliest_law, holder_law, limits_law};
-
-#[cfg(test)]
-mod tests;

@@ -16,6 +16,3 @@ pub use laws::{mask_law, members_law, one_word_law, sight_law};
 pub use lock_word::{FAT_SLOTS, LockWord, Shape, THIN_THREADS};
 pub use number::{LAST_NUMBER, is_release_number};
 pub use wait_mask::{WaitMask, is_lane};
-
-#[cfg(test)]
-mod tests;

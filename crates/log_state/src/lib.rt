@@ -7,8 +7,6 @@
 
 mod lane_count;
 mod monitors;
-#[cfg(test)]
-mod tests;
 
 pub use lane_count::{LaneCount, count_all};
 pub use monitors::{Monitors, OBJECTS};

@@ -1,6 +1,6 @@
 use Rattle.std.proofs.Common.{arith}
 use Rattle.dependence.proofs.Trimming.{at_most_stable}
-use Rattle.dependence.proofs.tests.what_is_forgotten_still_counts.Goals as goal
+use Rattle.dependence.proofs.tests.told_of_forgotten.Goals as goal
 
 pub forget_to-requires : goal.forget_to-requires
 forget_to-requires g c = record {

@@ -1,5 +1,5 @@
 use Rattle.dependence.proofs.Trimming.{at_most_stable}
-use Rattle.dependence.proofs.tests.a_part_of_a_circle_is_forgotten.Goals as goal
+use Rattle.dependence.proofs.tests.told_of_part.Goals as goal
 
 pub forget_to-requires : goal.forget_to-requires
 forget_to-requires g c = record {

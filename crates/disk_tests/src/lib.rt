@@ -1,0 +1,8 @@
+//! Tests of disks, by public calls.
+//!
+//! They stand in a crate of their own, since a crate with tests is proved twice. A scenario is a function that answers
+//! plain words, which its test compares once.
+#![tactic(auto)]
+
+#[cfg(test)]
+mod memory;

@@ -1,0 +1,12 @@
+//! Tests of the words that every room speaks by, by public calls: what the definitions mean, and how words are spelt.
+//!
+//! They stand in one crate, since a crate with tests is proved twice. A scenario is a function that answers plain words,
+//! which its test compares once.
+#![tactic(auto)]
+
+#[cfg(test)]
+mod histories;
+#[cfg(test)]
+mod lane_counts;
+#[cfg(test)]
+mod lock_words;
