@@ -6,7 +6,7 @@ ghost use Rattle.heap_model.specs.declared.limits.TheConstants.{MOST_OBJECTS, MO
 
 use crate::error::SchemaError;
 use crate::field_row::FieldRow;
-use crate::fields::{add_field, has_field};
+use crate::fields::{add_field, field_name_at, has_field};
 use crate::names::{add_name, has_name, number_named};
 use crate::schema::Schema;
 use heap_model::{FieldId, MOST_FIELDS, MOST_OBJECTS, ObjectId};
@@ -133,6 +133,27 @@ impl SchemaBuilder {
     {
         let number = number_named(&self.objects, name)?;
         Some(ObjectId(number as u32))
+    }
+
+    /// How many fields are declared. They are numbered from 0.
+    pub fn fields(&self) -> u32
+        ensures count { result ≡ field_count self.now }
+        ensures limit { field_count self.now ≤ MOST_FIELDS }
+    {
+        self.fields.len() as u32
+    }
+
+    /// The name of the field.
+    pub fn field_name(&self, field: FieldId) -> &str
+        requires { field.0 < field_count self.now }
+        ensures { slice_get (names_of self.now.fields) field.0 ≡ Some result.now }
+    {
+        field_name_at(&self.fields, field.0 as usize)
+    }
+
+    /// The allocator that the declarations use.
+    pub fn allocator(&self) -> Global {
+        *self.objects.allocator()
     }
 
     /// Closes the declarations. It takes no memory, so its one refusal is `Empty`, where there is

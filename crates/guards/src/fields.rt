@@ -5,7 +5,7 @@ ghost use Rattle.guards.specs.Schema.{field_of, names_of, owners_of, guards_of, 
 ghost use Rattle.guards.specs.Tables.{fields_in};
 
 use crate::field_row::FieldRow;
-use crate::names::{add_name, has_name, number_named, value_at};
+use crate::names::{add_name, has_name, name_at, number_named, value_at};
 use indexmap::IndexMap;
 use std::alloc::AllocError;
 
@@ -39,6 +39,14 @@ pub(crate) fn field_number(fields: &IndexMap<String, FieldRow>, name: &str) -> O
         → result ≡ Some k }
 {
     number_named(fields, name)
+}
+
+/// The name of the field of this number.
+pub(crate) fn field_name_at(fields: &IndexMap<String, FieldRow>, number: usize) -> &str
+    requires { number < length fields.now.entries }
+    ensures { slice_get (names_of (fields_in fields.now.entries)) number ≡ Some result.now }
+{
+    name_at(fields, number)
 }
 
 /// What is declared of the field of this number, beside its name.

@@ -1,2 +1,6 @@
 mod Lists
 mod Answering
+mod NameLemmas
+mod DeclaringLemmas
+mod FirstLists
+mod LayingOut

@@ -2,5 +2,8 @@
 pub mod Knowledge
 pub mod FreeList
 pub mod Calls
--- The scaffold: the cells of the tests.
+pub mod LaidOut
+-- The scaffold: one name, the parts of laying out, and the cells of the tests.
+pub mod Names
+pub mod Declaring
 pub mod Rows

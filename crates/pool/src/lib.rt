@@ -1,12 +1,14 @@
 //! An object pool: numbered slots, of which some are taken and the others stand in a free list, kept in guarded fields.
 //!
 //! [`Pool::take`] and [`Pool::give`] work over any [`Cells`] that hold these fields, whose `store_two` does both stores or
-//! neither: so whatever ends a section, each slot is taken or stands in the list once. A call that declares the fields, and
-//! so makes a pool, isn't written yet.
+//! neither: so whatever ends a section, each slot is taken or stands in the list once. [`Pool::lay_out`] declares
+//! these fields in a schema, and makes the pool.
 #![tactic(auto)]
 
 mod cells;
 mod error;
+mod laying_out;
+mod names;
 mod pool;
 
 pub use cells::Cells;
