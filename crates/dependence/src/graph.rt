@@ -151,8 +151,9 @@ impl Graph {
     /// A section that is left out keeps a dependence that keeps it out, by lane. Where that one is still
     /// out, the lane's sections are not taken up: so with a section open all the time the answer takes as
     /// long as what is new. The time is linear in the records of the sections that are taken up, in
-    /// whatever order they depend on one another, and after each the lanes are looked through at most
-    /// once. Where nothing was pushed or forgotten since the last call, the answer is at hand.
+    /// whatever order they depend on one another, and in those of the sections that these lanes have open;
+    /// after each record the lanes are looked through at most once. Where nothing was pushed or forgotten
+    /// since the last call, the answer is at hand.
     pub fn stable_cut(&mut self) -> Cut
         ensures stable { IsStableOf self.old (counts_of result) }
         ensures answered { (l : ℕ) → answered_of self.new l ≡ counts_of result l }
