@@ -48,6 +48,7 @@ use Rattle.script_machine.specs.declared.answer.Report.{Report}
 use Rattle.script_machine.specs.Agreement.{setting_from}
 use Rattle.script_machine.specs.Homes.{WriteHomes}
 use Rattle.script_machine.specs.Machine.{MachineState, Running, Down, Crashes, IsRestored, Keeps, LogsRecords, Recovers, Settles, Steps, WritesHome}
+use Rattle.script_machine.specs.OfSchema.{IsDiskOf}
 use Rattle.script_machine.specs.Reports.{Found}
 use Rattle.script_machine.specs.States.{Live, Tells, begun_at, crash_back}
 use Rattle.script_machine.proofs.AgreementLemmas.{event-from, homes-told, logged-from, may-from, same-from, table-from}
@@ -537,6 +538,7 @@ formatted d lanes capacity said m steps =
         tells = subst (λ (s : Setting). Tells x s no_past) (table-from d LAST_NUMBER a (first_of d) fresh_ones.schema_is fresh_ones.last) declared;
         lanes = ap (λ (l : Layout). l.lanes) f.layout ∙ sym fresh_ones.lanes_are;
         running = f.running;
+        of_schema = subst (λ (k : Declarations). IsDiskOf k x.disk) (sym fresh_ones.schema_is) f.of_schema;
       };
       no_event = refl;
       nothing = refl;
@@ -561,6 +563,7 @@ recovered w report m (inl r) =
         tells = subst (λ (s : Setting). Tells r.live.store s no_past) (table-from w.schema LAST_NUMBER a first fresh_ones.schema_is fresh_ones.last) (r.begins.tells first r.restored.values);
         lanes = sym fresh_ones.lanes_are;
         running = r.begins.running;
+        of_schema = subst (λ (k : Declarations). IsDiskOf k r.live.store.disk) (sym fresh_ones.schema_is) r.begins.of_schema;
       };
       no_event = refl;
       nothing = refl;
