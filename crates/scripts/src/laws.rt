@@ -4,7 +4,8 @@ ghost use Rattle.scripts.specs.Playing.{FormattedLaw, PlayLaw, RecoveredLaw};
 
 /// What is acknowledged survives, from script to script: what `recover` gives and tells after a crash with any fill. With
 /// nothing under way it is the heap of the acknowledged sections, of those of the threads' own legal history; at any write
-/// or sync of a `log` or `settle`, that of the sections acknowledged before or of those that this line acknowledges.
+/// or sync of a `log` or `home`, that of exactly the sections acknowledged before; of a `settle`, of these or of those that it
+/// acknowledges.
 pub fn crash_law()
     ensures rest { RestLaw }
     ensures history { HistoryLaw }
