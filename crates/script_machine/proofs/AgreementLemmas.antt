@@ -22,9 +22,10 @@ use Rattle.durable.specs.Calls.{RefusesLog, RefusesSettle, RefusesTrim}
 use Rattle.durable.specs.Store.{Known, Parts}
 use Rattle.store_past.specs.declared.error.StoreError.{StoreError}
 use Rattle.store_past.specs.declared.error.StoreError.TheVariants.{Failed, BadLane, BadId, Worn, NotNext, TooLong, LogFull, Unwritten, Fault, Unfinished}
-use Rattle.script_machine.specs.Agreement.{Agrees, BeginsWith, FitsSchema, IsForCall, IsForRecord, setting_from}
+use Rattle.script_machine.specs.Agreement.{Agrees, BeginsWith, IsForCall, IsForRecord, setting_from}
 use Rattle.script_machine.specs.Homes.{WriteHomes}
 use Rattle.script_machine.specs.Machine.{Keeps, RefusesRecord}
+use Rattle.script_machine.specs.OfSchema.{FitsSchema, IsDiskOf}
 use Rattle.script_machine.specs.States.{Tells}
 use Rattle.plain_monitors.specs.Table.{Table, lanes_of, setting_in, setting_of, state_of, IsStepOf, IsAfter, SameSetting}
 
@@ -99,10 +100,11 @@ pub record Kept (s : Setting) (p : Past) (t : ℕ) (r : Option Record) (x y : Pa
   pub tells : Tells y s then
   pub told : applied then ≡ with_record t r (applied p)
   pub layout : y.known.layout ≡ x.known.layout
+  pub disk : y.disk ≡ x.disk
 
 kept : (s : Setting) (p : Past) (t : ℕ) (r : Option Record) (x y : Parts Memory) → Tells x s p → Keeps x t r y → Kept s p t r x y
-kept s p t None x y tells same = record { then = p; tells = subst (λ z. Tells z s p) (sym same) tells; told = refl; layout = ap (λ z. z.known.layout) same }
-kept s p t (Some next) x y tells took = record { then = after_apply p t next; tells = took.after s p tells; told = refl; layout = took.layout }
+kept s p t None x y tells same = record { then = p; tells = subst (λ z. Tells z s p) (sym same) tells; told = refl; layout = ap (λ z. z.known.layout) same; disk = ap (λ z. z.disk) same }
+kept s p t (Some next) x y tells took = record { then = after_apply p t next; tells = took.after s p tells; told = refl; layout = took.layout; disk = took.disk }
 
 -- they agree after the thread's event, once the store has kept its record
 pub goes-on : (a b : Table) (x y : Parts Memory) (t : ℕ) (e : Event) (g : Agrees a x) → MayDo (setting_of a) (state_of a) t e → IsEventOf (setting_of a) e
@@ -122,12 +124,13 @@ goes-on a b x y t e g may is keeps running after =
       tells = subst (λ s. Tells y s k.then) same k.tells;
       lanes = ap (λ l. l.lanes) k.layout ∙ g.lanes ∙ sym after.setting.lanes;
       running = running;
+      of_schema = subst (λ d. IsDiskOf d y.disk) (sym after.setting.schema) (subst (IsDiskOf a.schema) (sym k.disk) g.of_schema);
     }
 
 -- they agree at first
 pub at-first : (a : Table) (x : Parts Memory) (first : ℕ → ℕ) → state_of a ≡ initial_state first → Tells x (setting_from a first) no_past
-    → x.known.layout.lanes ≡ lanes_of a → x.known.has_failed ≡ false → Agrees a x
-at-first a x first state tells lanes running = record {
+    → x.known.layout.lanes ≡ lanes_of a → x.known.has_failed ≡ false → IsDiskOf a.schema x.disk → Agrees a x
+at-first a x first state tells lanes running of = record {
   first = first;
   history = [];
   past = no_past;
@@ -137,12 +140,13 @@ at-first a x first state tells lanes running = record {
   tells = tells;
   lanes = lanes;
   running = running;
+  of_schema = of;
 }
 
 -- they agree after a call that tells the store nothing
 pub same-told : (a : Table) (x y : Parts Memory) (g : Agrees a x) (q : Past) → applied q ≡ applied g.past → Tells y (setting_from a g.first) q
-    → y.known.layout ≡ x.known.layout → y.known.has_failed ≡ false → Agrees a y
-same-told a x y g q told tells layout running = record {
+    → y.known.layout ≡ x.known.layout → y.known.has_failed ≡ false → IsDiskOf a.schema y.disk → Agrees a y
+same-told a x y g q told tells layout running of = record {
   first = g.first;
   history = g.history;
   past = q;
@@ -152,6 +156,7 @@ same-told a x y g q told tells layout running = record {
   tells = tells;
   lanes = ap (λ l. l.lanes) layout ∙ g.lanes;
   running = running;
+  of_schema = of;
 }
 
 -- home writes tell it nothing
@@ -231,9 +236,10 @@ table-from d last a first schema bound = λ i. record (setting_in (sym schema i)
 
 -- free monitors agree with the store of an image just made
 pub agree-formatted : (d : Declarations) (a : Table) (x : Parts Memory) → a.schema ≡ d → a.last ≡ LAST_NUMBER → state_of a ≡ initial_state (first_of d)
-    → Tells x (setting_in d LAST_NUMBER) no_past → x.known.layout.lanes ≡ lanes_of a → x.known.has_failed ≡ false → Agrees a x
-agree-formatted d a x schema last state tells lanes running =
+    → Tells x (setting_in d LAST_NUMBER) no_past → x.known.layout.lanes ≡ lanes_of a → x.known.has_failed ≡ false → IsDiskOf d x.disk → Agrees a x
+agree-formatted d a x schema last state tells lanes running of =
     at-first a x (first_of d) state (subst (λ s. Tells x s no_past) (table-from d LAST_NUMBER a (first_of d) schema last) tells) lanes running
+    (subst (λ k. IsDiskOf k x.disk) (sym schema) of)
 
 -- and free monitors with the values of a heap with the store that begins with it
 pub agree-restored : (d : Declarations) (heap : List ℕ) (a : Table) (x : Parts Memory) → a.schema ≡ d → a.last ≡ LAST_NUMBER
@@ -242,11 +248,12 @@ pub agree-restored : (d : Declarations) (heap : List ℕ) (a : Table) (x : Parts
 agree-restored d heap a x schema last state values begins lanes =
     at-first a x (slice_index a.values) state
     (subst (λ s. Tells x s no_past) (table-from d LAST_NUMBER a (slice_index a.values) schema last) (begins.tells (slice_index a.values) values)) lanes begins.running
+    (subst (λ k. IsDiskOf k x.disk) (sym schema) begins.of_schema)
 
 -- a store that was adopted from an image of the schema begins with its heap
 pub begins-with : (d : Declarations) (l : Layout) (guards : List GuardRow) (heap told : List ℕ) (x : Parts Memory) → FitsSchema d l guards → told ≡ heap
-    → ((s : Setting) → IsSettingOf l guards heap LAST_NUMBER s → Tells x s no_past) → x.known.has_failed ≡ false → BeginsWith d told x
-begins-with d l guards heap told x fits same adopted running = record {
+    → ((s : Setting) → IsSettingOf l guards heap LAST_NUMBER s → Tells x s no_past) → x.known.has_failed ≡ false → IsDiskOf d x.disk → BeginsWith d told x
+begins-with d l guards heap told x fits same adopted running of = record {
   tells = λ first values. adopted (record (setting_in d LAST_NUMBER) { first = first }) (record {
     objects = sym fits.objects;
     fields = sym fits.fields;
@@ -255,4 +262,5 @@ begins-with d l guards heap told x fits same adopted running = record {
     last_is = refl;
   });
   running = running;
+  of_schema = of;
 }

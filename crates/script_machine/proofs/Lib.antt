@@ -3,3 +3,5 @@ mod StoreLemmas
 mod ListLemmas
 mod HomeLemmas
 pub mod AgreementLemmas
+mod MakingLemmas
+mod SchemaLemmas

@@ -1,8 +1,6 @@
 -- The monitors and the store of a machine that runs agree (this project's own).
-use Rattle.std.specs.Prelude.{ℕ, ◌≡◌, ◌<◌, false, List, slice_index, slice_index_or}
-use Rattle.guards.specs.Schema.{Declarations, object_count, field_count, guard_of}
-use Rattle.image.specs.declared.guard_row.GuardRow.{GuardRow}
-use Rattle.image.specs.declared.layout.Layout.{Layout}
+use Rattle.std.specs.Prelude.{ℕ, ◌≡◌, ◌<◌, false, List, slice_index}
+use Rattle.guards.specs.Schema.{Declarations, field_count}
 use Rattle.heap_model.specs.declared.limits.TheConstants.{LAST_NUMBER}
 use Rattle.heap_model.specs.declared.event.Event.{Event}
 use Rattle.heap_model.specs.Setting.{Setting}
@@ -12,6 +10,7 @@ use Rattle.store_past.specs.Past.{Past, applied, no_past}
 use Rattle.durable.specs.Store.{Parts}
 use Rattle.store_past.specs.declared.error.StoreError.{StoreError}
 use Rattle.store_past.specs.declared.error.StoreError.TheVariants as store
+use Rattle.script_machine.specs.OfSchema.{IsDiskOf}
 use Rattle.script_machine.specs.States.{Tells}
 use Rattle.plain_monitors.specs.Table.{Table, lanes_of, setting_in, setting_of, state_of}
 
@@ -20,7 +19,8 @@ abbrev pub setting_from : Table → (first : ℕ → ℕ) → Setting
 setting_from table first = record (setting_of table) { first = first }
 
 -- Both stand where one legal history of the threads' events leads: the monitors are in the state after it, and the store
--- was told its logged events. The store has the threads' lanes, and its device hasn't failed.
+-- was told its logged events. The store has the threads' lanes, its device hasn't failed, and no crash leaves an image of
+-- another schema.
 pub record Agrees (table : Table) (store : Parts Memory) : Type 0 where
   pub first : ℕ → ℕ
   pub history : List (ℕ × Event)
@@ -31,18 +31,14 @@ pub record Agrees (table : Table) (store : Parts Memory) : Type 0 where
   pub tells : Tells store (setting_from table first) past
   pub lanes : store.known.layout.lanes ≡ lanes_of table
   pub running : store.known.has_failed ≡ false
-
--- the image has the schema's objects and fields, and each field the schema's guard
-pub record FitsSchema (schema : Declarations) (layout : Layout) (guards : List GuardRow) : Type 0 where
-  pub objects : layout.objects ≡ object_count schema
-  pub fields : layout.fields ≡ field_count schema
-  pub guarded : (f : ℕ) (d : GuardRow) → f < field_count schema → (slice_index_or guards f d).guard.0 ≡ guard_of schema f
+  pub of_schema : IsDiskOf table.schema store.disk
 
 -- the store was told nothing, in a heap of this schema whose fields begin with the values of this heap
 pub record BeginsWith (schema : Declarations) (heap : List ℕ) (store : Parts Memory) : Type 0 where
   pub tells : (first : ℕ → ℕ) → ((f : ℕ) → f < field_count schema → first f ≡ slice_index heap f)
       → Tells store (record (setting_in schema LAST_NUMBER) { first = first }) no_past
   pub running : store.known.has_failed ≡ false
+  pub of_schema : IsDiskOf schema store.disk
 
 -- why the store may refuse the record of an event that the monitors allow
 abbrev pub IsForRecord : StoreError → Type 0

@@ -9,5 +9,6 @@ pub mod Lookups
 pub mod Limits
 pub mod Homes
 pub mod Agreement
+pub mod OfSchema
 -- The scaffold: how the machine's own phases are seen.
 pub mod Phases

@@ -47,6 +47,7 @@ use Rattle.script_machine.specs.Answers.{heap_in, acknowledged_in, woken_in}
 use Rattle.script_machine.specs.Homes.{BringsHome}
 use Rattle.script_machine.specs.Limits.{IsFormattable}
 use Rattle.script_machine.specs.Lookups.{object_of, field_of}
+use Rattle.script_machine.specs.OfSchema.{IsDiskOf, IsOfSchema}
 use Rattle.script_lines.specs.Orders.{Order, Action}
 use Rattle.script_lines.specs.Orders as order
 use Rattle.script_machine.specs.Refusals.{told_of_declared, told_of_recovery, told_of_store}
@@ -123,6 +124,7 @@ module _ (old : MachineState) (answer : Answer) (new : MachineState) where
     pub fresh_monitors : IsFresh d lanes (first_of d) live.monitors
     pub tells : Tells live.store (setting_of live.monitors) no_past
     pub running : live.store.known.has_failed ≡ false
+    pub of_schema : IsDiskOf d live.store.disk
 
   -- an image is formatted where there is an object and a field, and lanes and capacity are within their limits
   abbrev pub FormatsImage : Declarations → (lanes capacity : ℕ) → Type 0
@@ -229,11 +231,13 @@ module _ (old : MachineState) (answer : Answer) (new : MachineState) where
   StepsAs m t (order.Notify name) = WhileAwake m t m.monitors.schema.objects name (λ o. Notifies m t (object_of o))
   StepsAs m t (order.NotifyAll name) = WhileAwake m t m.monitors.schema.objects name (λ o. NotifiesAll m t (object_of o))
 
-  -- a call of the store after which the monitors are as they were. A crash inside it leaves the image before or after it
+  -- a call of a store that hadn't failed, after which the monitors are as they were. A crash inside it leaves the image before
+  -- or after it
   pub record Calls (m : Live) (said : Answer) (store : Parts Memory) (w : Doubt) : Type 0 where
     pub answers : answer ≡ said
     pub runs : new ≡ Running (record m { store = store })
     pub layout : store.known.layout ≡ m.store.known.layout
+    pub ran : m.store.known.has_failed ≡ false
     pub running : store.known.has_failed ≡ false
     pub shown : (s : Setting) (p : Past) → Tells m.store s p
         → LeavesOnly (device_of m.store.disk) (device_of store.disk) (ShowsStep m.store.known.layout s p w)
@@ -271,6 +275,7 @@ module _ (old : MachineState) (answer : Answer) (new : MachineState) where
     pub answers : acknowledged_in answer ≡ Some sections
     pub runs : new ≡ Running (record m { store = store })
     pub layout : store.known.layout ≡ m.store.known.layout
+    pub ran : m.store.known.has_failed ≡ false
     pub running : store.known.has_failed ≡ false
     pub shown : (s : Setting) (p : Past) → Tells m.store s p
         → LeavesOnly (device_of m.store.disk) (device_of store.disk) (ShowsStep m.store.known.layout s p Settling)
@@ -309,13 +314,15 @@ module _ (old : MachineState) (answer : Answer) (new : MachineState) where
         → slice_index values f ≡ value s.first f (applied p)
 
   -- the machine goes down with the disk that a crash leaves, all but the last so many writes and syncs ended and the next
-  -- begun: such bytes as the device may hold after a crash at that very moment. Until then the monitors and the store agreed
+  -- begun: such bytes as the device may hold after a crash at that very moment. Until then the monitors and the store agreed,
+  -- and so the image, if it is one, is of the machine's schema
   pub record GoesDown (m : Live) (fill : Fill) (back : ℕ) : Type 0 where
     pub answers : answer ≡ Crashed
     pub agrees : Agrees m.monitors m.store
     pub down : new ≡ Down (record { schema = m.monitors.schema; disk = fresh (crash_back fill back m.store.disk) })
     pub possible : Image (moment_after m.store.disk.first (done_at (begun_at back m.store.disk) m.store.disk.stops)) (crash_back fill back m.store.disk)
     pub any_moment : LeftSinceStop (begun_at back m.store.disk) m.store.disk (crash_back fill back m.store.disk)
+    pub of_schema : IsOfSchema m.monitors.schema (crash_back fill back m.store.disk)
 
   -- unless there were fewer writes and syncs
   abbrev pub Crashes : Live → Fill → (back : ℕ) → Type 0

@@ -1,6 +1,7 @@
 //! The machine between a crash and a recovery.
 ghost use Rattle.std.specs.Prelude.{◌≡◌, IfOk};
 ghost use Rattle.script_machine.specs.Machine as machine;
+ghost use Rattle.script_machine.specs.OfSchema.{IsDiskOf};
 
 use crate::answer::Answer;
 use crate::image_study::ImageStudy;
@@ -11,7 +12,7 @@ use recover::study;
 use std::alloc::{AllocError, Global};
 use std::marker::Model;
 
-/// The schema, and what the crash left of the device.
+/// The schema, and what the crash left of the device: an image of this schema, if it is one.
 #[derive(Drop)]
 pub(crate) struct Down {
     schema: Schema,
@@ -20,15 +21,19 @@ pub(crate) struct Down {
 
 impl Model for Down {
     ghost use Rattle.script_machine.specs.States.{Wreck};
+    ghost use Rattle.script_machine.specs.OfSchema.{IsDiskOf};
 
     ghost Value = { Wreck };
 
     ghost view = { λ d. record { schema = d.schema; disk = d.disk } };
+
+    ghost invariant = { λ d. IsDiskOf d.schema d.disk };
 }
 
 impl Down {
     /// The machine after a crash that left this device.
     pub(crate) fn new(schema: Schema, disk: MemDisk) -> Down
+        requires { IsDiskOf schema disk }
         ensures { result ≡ record { schema = schema; disk = disk } }
     {
         Down { schema, disk }
@@ -46,7 +51,8 @@ impl Down {
 
     /// The schema and the device.
     pub(crate) fn into_parts(self) -> (Schema, MemDisk)
-        ensures { result ≡ (self.schema, self.disk) }
+        ensures parts { result ≡ (self.schema, self.disk) }
+        ensures of_schema { IsDiskOf self.schema self.disk }
     {
         (self.schema, self.disk)
     }

@@ -266,7 +266,7 @@ fn recover_down(alloc: Global, down: Down) -> Result<(Phase, Answer), AllocError
     ensures { IfOk result (λ r. machine.RecoversDevice (machine.Down down) r.1 (shown r.0) down) }
 {
     let (schema, disk) = down.into_parts();
-    match restore(alloc, &schema, disk)? {
+    match restore(alloc, disk)? {
         Ok((store, report)) => {
             let lanes = store.layout().lanes;
             let monitors = Monitors::with_values(alloc, schema, LAST_NUMBER, lanes, &report.heap)?;

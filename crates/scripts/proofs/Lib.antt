@@ -3,4 +3,3 @@ mod PlayLemmas
 mod CrashLemmas
 mod StepLemmas
 mod PlayingLemmas
-mod TrimLemmas

@@ -1,5 +1,5 @@
 -- What a crash leaves of lines that were played, and what recovery makes of it.
-use Rattle.std.proofs.Common.{◌≡◌, ◌⊎◌, inl, inr, ⊎_elim, ℕ, zero, suc, ◌-◌, ◌<◌, ◌≤◌, List, [], ◌∷◌, ◌++◌, Option, Some, None, Result, Ok, Err, length, slice_index, refl, sym, ap, ◌∙◌, subst, arith, true, false}
+use Rattle.std.proofs.Common.{◌≡◌, ◌⊎◌, inl, inr, ⊎_elim, ℕ, zero, suc, ◌-◌, ◌<◌, ◌≤◌, List, [], ◌∷◌, ◌++◌, Option, Some, None, length, slice_index, refl, sym, ap, ◌∙◌, subst, arith, false}
 use Rattle.std.proofs.lemmas.Bool.{cases_lt}
 use Rattle.guards.specs.Schema.{Declarations, field_count, first_of}
 use Rattle.heap_model.specs.declared.event.Event.{Event}
@@ -10,32 +10,22 @@ use Rattle.heap_model.specs.Setting.{Setting}
 use Rattle.heap_model.specs.State.{State}
 use Rattle.heap_model.specs.Events.{MayDo, IsEventOf, after_event}
 use Rattle.heap_model.specs.History as history
-use Rattle.heap_model.specs.History.{state_after, IsLegalHistory, with_record, log_of}
+use Rattle.heap_model.specs.History.{state_after, with_record, log_of}
 use Rattle.heap_model.specs.Sections.{actions}
-use Rattle.heap_model.specs.Cuts.{IsStable, counts_of}
+use Rattle.heap_model.specs.Cuts.{IsStable}
 use Rattle.heap_model.proofs.Existence.{stable_exists}
 use Rattle.block_disk.specs.Crash.{first_stops}
 use Rattle.block_disk.specs.Device.{Device, Image}
 use Rattle.block_disk.specs.Images.{LeavesOnly}
-use Rattle.block_disk.specs.Memory.{Memory, device_of, fresh, moments_before}
+use Rattle.block_disk.specs.Memory.{Memory, device_of, moments_before}
 use Rattle.block_disk.specs.declared.crash.Fill.{Fill}
-use Rattle.block_disk.proofs.Images.{and_then, begin, image_now, left_now, left_since, only_now, weaker}
-use Rattle.image.specs.declared.control.Control.{Control}
-use Rattle.image.specs.declared.error.ImageError.{ImageError}
-use Rattle.image.specs.declared.error.ImageError.TheVariants as image_error
+use Rattle.block_disk.proofs.Images.{and_then, begin, left_now, weaker}
 use Rattle.image.specs.declared.layout.Layout.{Layout}
-use Rattle.image.proofs.Reading.{control_is_chosen}
-use Rattle.image.specs.declared.slot.Slot.{Slot}
-use Rattle.image.specs.Slots.{Shows}
-use Rattle.undo_log.specs.StandsFor.{row_of, StandsFor}
-use Rattle.undo_log.proofs.OneHeap.{one_heap}
-use Rattle.store_image.specs.KeptHeap.{StandsForCut, StandsForEither, kept_heap}
-use Rattle.store_image.proofs.Stands.{stands_always}
+use Rattle.store_image.specs.KeptHeap.{StandsForCut, kept_heap}
 use Rattle.store_past.specs.Past.{Past, applied, no_past, after_home, after_log, after_settle, after_trim}
 use Rattle.durable.specs.Store.{Parts, ShowsStep}
 use Rattle.durable.specs.declared.doubt.Doubt.{Doubt}
-use Rattle.durable.specs.declared.doubt.Doubt.TheVariants.{Nothing, Logging, Settling, Trimming}
-use Rattle.recover.specs.Study.{held_by}
+use Rattle.durable.specs.declared.doubt.Doubt.TheVariants.{Nothing, Logging, Trimming}
 use Rattle.survival.specs.WholeRun.{MayBeLeft}
 use Rattle.plain_monitors.specs.Logged.{logged}
 use Rattle.plain_monitors.specs.Table.{Table, setting_in, state_of}
@@ -47,29 +37,21 @@ use Rattle.script_machine.specs.declared.answer.Answer.TheVariants.{Crashed}
 use Rattle.script_machine.specs.declared.answer.Report.{Report}
 use Rattle.script_machine.specs.Agreement.{setting_from}
 use Rattle.script_machine.specs.Homes.{WriteHomes}
-use Rattle.script_machine.specs.Machine.{MachineState, Running, Down, Crashes, IsRestored, Keeps, LogsRecords, Recovers, Settles, Steps, TrimsLogs, WritesHome}
-use Rattle.script_machine.specs.Reports.{Found}
+use Rattle.script_machine.specs.Machine.{MachineState, Running, Down, Crashes, IsRestored, Keeps, LogsRecords, Settles, Steps, TrimsLogs, WritesHome}
+use Rattle.script_machine.specs.OfSchema.{IsDiskOf}
 use Rattle.script_machine.specs.States.{Live, Tells, begun_at, crash_back}
 use Rattle.script_machine.proofs.AgreementLemmas.{event-from, homes-told, logged-from, may-from, same-from, table-from}
 use Rattle.scripts.specs.Crashing.{IsAtItsEnd, IsSince, Survives}
 use Rattle.scripts.specs.Playing.{Events, FormattedLaw, IsBegun, IsSettlingFirst, LeadsTo, LineMakes, PlayLaw, PlaysOn, RecoveredLaw, Story, SurvivesLines, told_record}
 use Rattle.scripts.specs.Playing.LineMakes.{AddsEvent, LogsAll, WritesHome as HomeWritten, Settles as HasSettled, Trims as HasTrimmed, Leaves}
 use Rattle.scripts.specs.Runs.{PlaysLine}
-use Rattle.scripts.proofs.CrashLemmas.{at_its_end, layout_of, one_live, since, told_of, went_down, wreck_of}
+use Rattle.scripts.proofs.CrashLemmas.{one_live, since, went_down, wreck_of, LeftInCall, in_keeping, in_settling, recovered_as, stands_before}
 use Rattle.scripts.proofs.StepLemmas.{Moved, moves}
 
 -- home writes leave the acknowledged cut
 homes_cut : (s : Setting) (p : Past) (n : ℕ) (q : Past) → WriteHomes s p n q → (lane : ℕ) → p.cut lane ≤ q.cut lane
 homes_cut s p zero q written lane = let same : q.cut lane ≡ p.cut lane = ap (λ (x : Past). x.cut lane) written in omega (arith, same)
 homes_cut s p (suc n) q written lane = homes_cut s (after_home p written.0) n q written.2 lane
-
--- two things that hold of each image that calls leave hold of it together
-leaves_both : (old new : Device) (P Q : List ℕ → Type 0) → LeavesOnly old new P → LeavesOnly old new Q → LeavesOnly old new (λ image. P image × Q image)
-leaves_both old new P Q a b = record {
-  later = a.later;
-  each = λ t image le left. ⊎_elim (λ was. inl was) (λ p. ⊎_elim (λ was. inl was) (λ q. inr (p, q)) (b.each t image le left)) (a.each t image le left);
-  keeps = a.keeps;
-}
 
 -- what a crash in a line leaves: an image that stands for the acknowledged cut, or for the one that the line acknowledges
 pub record LeftInLine (l : Layout) (s : Setting) (p : Past) (line image : List ℕ) : Type 0 where
@@ -78,6 +60,16 @@ pub record LeftInLine (l : Layout) (s : Setting) (p : Past) (line image : List �
   pub cut : ℕ → ℕ
   pub acknowledged : (cut ≡ p.cut) ⊎ (Asks order.Settle line × IsStable (actions p.logged) cut)
   pub stands : StandsForCut l s p.logged cut image
+
+-- so it is of a crash in the call that the line asks for
+in_line : (l : Layout) (s : Setting) (p : Past) (line : List ℕ) (asked : Order) (image : List ℕ) → Asks asked line → LeftInCall l s p asked image → LeftInLine l s p line image
+in_line l s p line asked image asks left = record {
+  doubt = left.doubt;
+  shows = left.shows;
+  cut = left.cut;
+  acknowledged = ⊎_elim (λ same. inl same) (λ settled. inr (subst (λ (o : Order). Asks o line) settled.0 asks, settled.2)) left.kept;
+  stands = left.stands;
+}
 
 -- the setting of a machine is this one, where its fields began with these values, and the events lead to it
 pub record Standing (first : ℕ → ℕ) (s : Setting) (events : Events) (p : Past) (m : Live) : Type 0 where
@@ -184,21 +176,16 @@ module _ (first : ℕ → ℕ) (s : Setting) (events : Events) (p : Past) (line 
       leaves = leaves;
     })
 
-  -- a call that acknowledges nothing
-  keeps : (w : Doubt) (x : Parts Memory) → LeavesOnly (device_of m.store.disk) (device_of x.disk) (ShowsStep m.store.known.layout s p w)
-      → LeavesOnly (device_of m.store.disk) (device_of x.disk) (StandsForCut m.store.known.layout s p.logged p.cut)
+  -- what a crash in the line's call leaves
+  asked_for : (asked : Order) (x : Parts Memory) → Asks asked line → LeavesOnly (device_of m.store.disk) (device_of x.disk) (LeftInCall m.store.known.layout s p asked)
       → LeavesOnly (device_of m.store.disk) (device_of x.disk) (LeftInLine m.store.known.layout s p line)
-  keeps w x shown stands =
+  asked_for asked x asks leaves =
       let l : Layout = m.store.known.layout in
-      let a : Device = device_of m.store.disk in
-      let b : Device = device_of x.disk in
-      weaker a b (λ image. ShowsStep l s p w image × StandsForCut l s p.logged p.cut image) (LeftInLine l s p line)
-      (λ image both. record { doubt = w; shows = both.0; cut = p.cut; acknowledged = inl refl; stands = both.1 })
-      (leaves_both a b (ShowsStep l s p w) (StandsForCut l s p.logged p.cut) shown stands)
+      weaker (device_of m.store.disk) (device_of x.disk) (LeftInCall l s p asked) (LeftInLine l s p line) (λ image left. in_line l s p line asked image asks left) leaves
 
   logging : (now : Live) (said : Answer) → Asks order.Log line → LogsRecords (Running m) said (Running now) m → Goes now
   logging now said asks (inl logs) =
-      called logs.store (after_log p) refl (logs.after s p was.leads.tells) logs.call.layout logs.call.running (λ lane. omega arith) (keeps Logging logs.store (logs.call.shown s p was.leads.tells) (logs.stands s p was.leads.tells))
+      called logs.store (after_log p) refl (logs.after s p was.leads.tells) logs.call.layout logs.call.running (λ lane. omega arith) (asked_for order.Log logs.store asks (in_keeping m s p order.Log Logging logs.store (logs.call.shown s p was.leads.tells) (logs.stands s p was.leads.tells)))
       now logs.call.runs (LogsAll asks refl refl)
   logging now said asks (inr refused) = stayed now refused.refuses.1
 
@@ -206,37 +193,21 @@ module _ (first : ℕ → ℕ) (s : Setting) (events : Events) (p : Past) (line 
   homing now said asks homes =
       let brings = homes.after s p was.leads.tells in
       called homes.store brings.then (homes-told s p homes.cells brings.then brings.written) brings.tells homes.call.layout homes.call.running (homes_cut s p homes.cells brings.then brings.written)
-      (keeps Nothing homes.store (homes.call.shown s p was.leads.tells) (homes.stands s p was.leads.tells)) now homes.call.runs (HomeWritten homes.cells asks refl brings.written)
-
-  -- a settling leaves what stands for the one cut or for the other
-  acknowledges : (x : Parts Memory) (cut : ℕ → ℕ) → Asks order.Settle line → IsStable (actions p.logged) cut
-      → LeavesOnly (device_of m.store.disk) (device_of x.disk) (ShowsStep m.store.known.layout s p Settling)
-      → LeavesOnly (device_of m.store.disk) (device_of x.disk) (StandsForEither m.store.known.layout s p.logged p.cut cut)
-      → LeavesOnly (device_of m.store.disk) (device_of x.disk) (LeftInLine m.store.known.layout s p line)
-  acknowledges x cut asks stable shown stands =
-      let l : Layout = m.store.known.layout in
-      let a : Device = device_of m.store.disk in
-      let b : Device = device_of x.disk in
-      weaker a b (λ image. ShowsStep l s p Settling image × StandsForEither l s p.logged p.cut cut image) (LeftInLine l s p line)
-      (λ image both. ⊎_elim
-      (λ one. record { doubt = Settling; shows = both.0; cut = p.cut; acknowledged = inl refl; stands = one })
-      (λ other. record { doubt = Settling; shows = both.0; cut = cut; acknowledged = inr (asks, stable); stands = other })
-      both.1)
-      (leaves_both a b (ShowsStep l s p Settling) (StandsForEither l s p.logged p.cut cut) shown stands)
+      (asked_for order.Home homes.store asks (in_keeping m s p order.Home Nothing homes.store (homes.call.shown s p was.leads.tells) (homes.stands s p was.leads.tells))) now homes.call.runs (HomeWritten homes.cells asks refl brings.written)
 
   settling : (now : Live) (said : Answer) → Asks order.Settle line → Settles (Running m) said (Running now) m → Goes now
   settling now said asks (inl settles) =
       let stable = stable_exists (actions p.logged) in
       called settles.store (after_settle p stable.0) refl (settles.after s p stable.0 was.leads.tells stable.1) settles.layout settles.running
       (stable.1.greatest p.cut was.leads.tells.past.whole was.leads.tells.past.closed)
-      (acknowledges settles.store stable.0 asks stable.1 (settles.shown s p was.leads.tells) (settles.stands s p stable.0 was.leads.tells stable.1))
+      (asked_for order.Settle settles.store asks (in_settling m s p was.leads.tells said (Running now) settles))
       now settles.runs (HasSettled stable.0 asks refl (settles.clean s p was.leads.tells) stable.1 refl)
   settling now said asks (inr refused) = stayed now refused.refuses.1
 
   trimming : (now : Live) (said : Answer) → Asks order.Trim line → TrimsLogs (Running m) said (Running now) m → Goes now
   trimming now said asks (inl trims) =
       called trims.store (after_trim p) refl (trims.after s p was.leads.tells) trims.call.layout trims.call.running (λ lane. omega arith)
-      (keeps Trimming trims.store (trims.call.shown s p was.leads.tells) (trims.stands s p was.leads.tells)) now trims.call.runs (HasTrimmed asks refl refl)
+      (asked_for order.Trim trims.store asks (in_keeping m s p order.Trim Trimming trims.store (trims.call.shown s p was.leads.tells) (trims.stands s p was.leads.tells))) now trims.call.runs (HasTrimmed asks refl refl)
   trimming now said asks (inr refused) = stayed now refused.refuses.1
 
   -- a crash stops the machine
@@ -385,80 +356,21 @@ left_before first s events p m lines was image left =
       cut = p.cut;
       acknowledged = inl refl;
       stays = λ lane. omega arith;
-      stands = stands_always m.store.known.layout s p m.store.known.committed (device_of m.store.disk) (has.agrees was.running) image left;
+      stands = stands_before m s p has was.running image left;
     }
-
-same_answer : (x y : Slot × Control) → (let a : Result (Slot × Control) ImageError = Ok x in a ≡ Ok y) → x ≡ y
-same_answer x y is = cc
-
-no_fault : (x : Slot × Control) → (let a : Result (Slot × Control) ImageError = Ok x in a ≡ Err image_error.Fault) → ⊥
-no_fault x is = cc
-
--- an image shows one control
-pub one_shown : (l : Layout) (image : List ℕ) (a b : Slot) (c d : Control) → Shows l image a c → Shows l image b d → d ≡ c
-one_shown l image a b c d p q = elim (control_is_chosen l image a c (Ok (b, d)) p q) as (λ _. d ≡ c) [
-  | inl is ↦ ap (λ (x : Slot × Control). x.1) (same_answer (b, d) (a, c) is)
-  | inr bad ↦ absurd (no_fault (b, d) bad)
-]
 
 -- recovery of such an image, of a machine with this schema
 module _ (l : Layout) (s : Setting) (events : Events) (p : Past) (m crashed : Live) (lines : List (List ℕ)) (image : List ℕ) (left : LeftInLines l s events p m lines image)
     (told : Answer) (new : MachineState) where
-  -- as of a store of that past whose device holds the image, and of which nothing more is known
-  abbrev after_crash : Live
-  after_crash = record { monitors = crashed.monitors; store = record { disk = fresh image; known = record left.now.store.known { has_failed = true; doubt = left.doubt } } }
-
-  abbrev disk : Device
-  disk = device_of (fresh image)
-
-  abbrev own : Layout
-  own = left.now.store.known.layout
-
-  shows_own : ShowsStep own s left.then left.doubt image
-  shows_own = subst (λ (k : Layout). ShowsStep k s left.then left.doubt image) (sym left.layout) left.shows
-
-  stands_own : StandsForCut own s left.then.logged left.cut image
-  stands_own = subst (λ (k : Layout). StandsForCut k s left.then.logged left.cut image) (sym left.layout) left.stands
-
-  has : Tells after_crash.store s left.then
-  has =
-      let h = left.leads.tells in
-      record {
-        layout = record { limits = h.layout.limits; lanes = h.layout.lanes; capacity = h.layout.capacity; logged_lanes = h.layout.logged_lanes; logged_capacity = h.layout.logged_capacity };
-        setting = h.setting;
-        past = h.past;
-        remembers = h.remembers;
-        sections = h.sections;
-        starts = h.starts;
-        tells = h.tells;
-        agrees = λ bad. absurd (let both : true ≡ false = bad in cc);
-        images = λ other is. subst (ShowsStep own s left.then left.doubt) (sym (only_now disk other refl is)) shows_own;
-      }
-
-  is_left : MayBeLeft disk disk image
-  is_left = left_since (length disk.past) disk image (omega arith) (image_now disk)
-
-  nothing_done : LeavesOnly disk disk (ShowsStep own s left.then left.doubt)
-  nothing_done = begin disk (ShowsStep own s left.then left.doubt)
-
-  survived : Recovers (Down (wreck_of after_crash image)) told new (wreck_of after_crash image) → Survives after_crash s left.then.logged left.cut told new
-  survived r =
-      let recovery = r.restores.recovery in
-      let of = recovery.of in
-      let found = held_by recovery.study in
-      let layout : found.layout ≡ own = layout_of after_crash s left.then has left.doubt disk nothing_done image is_left told new found of.holds in
-      let shown = subst (λ (k : Layout). Shows k image found.slot found.control) layout of.holds.control.shows in
-      let control : found.control ≡ stands_own.sections.control =
-      one_shown own image stands_own.sections.slot found.slot stands_own.sections.control found.control stands_own.sections.shows shown in
-      told_of after_crash s left.then has left.doubt disk nothing_done image is_left told new left.then.logged left.cut r
-      (recovery.heap_is ∙ one_heap own image recovery.study.heap.items (kept_heap own s left.then.logged left.cut) (subst (λ (k : Layout). StandsFor k image recovery.study.heap.items) layout of.stands) stands_own.heap)
-      (λ lane below. ap (λ (report : Found). counts_of report.kept lane) recovery.report_is ∙ of.reports.kept_are lane ∙ ap (λ (c : Control). (row_of c.rows lane).kept) control ∙ stands_own.sections.kept lane below)
+  -- the machine that crashed, with the store that the first part of the lines left
+  abbrev then_live : Live
+  then_live = record { monitors = crashed.monitors; store = left.now.store }
 
   -- by the layout and the schema that the machine had before the lines
-  over_start : (schema : crashed.monitors.schema ≡ m.monitors.schema) → m.store.known.layout ≡ l → Survives after_crash s left.then.logged left.cut told new
+  over_start : (schema : crashed.monitors.schema ≡ m.monitors.schema) → m.store.known.layout ≡ l → Survives then_live s left.then.logged left.cut told new
       → Survives m s left.then.logged left.cut told new
   over_start schema layout x =
-      let same : own ≡ m.store.known.layout = left.layout ∙ sym layout in
+      let same : left.now.store.known.layout ≡ m.store.known.layout = left.layout ∙ sym layout in
       record {
         live = x.live;
         report = x.report;
@@ -474,21 +386,25 @@ module _ (l : Layout) (s : Setting) (events : Events) (p : Past) (m crashed : Li
 
   pub recovers : (schema : crashed.monitors.schema ≡ m.monitors.schema) → m.store.known.layout ≡ l → Steps (Down (wreck_of crashed image)) order.Recover told new
       → SurvivesLines m s events p lines told new ⊎ IsAtItsEnd (Down (wreck_of crashed image)) told
-  recovers schema layout (inl r) = inl (record {
-    before = left.before;
-    rest = left.rest;
-    split = left.split;
-    now = left.now;
-    after = left.after;
-    then = left.then;
-    story = left.story;
-    leads = left.leads;
-    cut = left.cut;
-    acknowledged = left.acknowledged;
-    stays = left.stays;
-    survives = over_start schema layout (survived r);
-  })
-  recovers schema layout (inr refused) = inr (at_its_end after_crash s left.then has left.doubt disk nothing_done image is_left told new refused)
+  recovers schema layout steps =
+      ⊎_elim
+      (λ survives. inl (record {
+        before = left.before;
+        rest = left.rest;
+        split = left.split;
+        now = left.now;
+        after = left.after;
+        then = left.then;
+        story = left.story;
+        leads = left.leads;
+        cut = left.cut;
+        acknowledged = left.acknowledged;
+        stays = left.stays;
+        survives = over_start schema layout survives;
+      }))
+      (λ end. inr end)
+      (recovered_as then_live s left.then left.leads.tells left.doubt image (subst (λ (k : Layout). ShowsStep k s left.then left.doubt image) (sym left.layout) left.shows) told new
+      left.cut (subst (λ (k : Layout). StandsForCut k s left.then.logged left.cut image) (sym left.layout) left.stands) steps)
 
 -- lines from a machine to which events lead
 module _ (first : ℕ → ℕ) (s : Setting) (events : Events) (p : Past) (m : Live) (was : Standing first s events p m) where
@@ -543,6 +459,7 @@ formatted d lanes capacity said m steps =
         tells = subst (λ (s : Setting). Tells x s no_past) (table-from d LAST_NUMBER a (first_of d) fresh_ones.schema_is fresh_ones.last) declared;
         lanes = ap (λ (l : Layout). l.lanes) f.layout ∙ sym fresh_ones.lanes_are;
         running = f.running;
+        of_schema = subst (λ (k : Declarations). IsDiskOf k x.disk) (sym fresh_ones.schema_is) f.of_schema;
       };
       no_event = refl;
       nothing = refl;
@@ -567,6 +484,7 @@ recovered w report m (inl r) =
         tells = subst (λ (s : Setting). Tells r.live.store s no_past) (table-from w.schema LAST_NUMBER a first fresh_ones.schema_is fresh_ones.last) (r.begins.tells first r.restored.values);
         lanes = sym fresh_ones.lanes_are;
         running = r.begins.running;
+        of_schema = subst (λ (k : Declarations). IsDiskOf k r.live.store.disk) (sym fresh_ones.schema_is) r.begins.of_schema;
       };
       no_event = refl;
       nothing = refl;

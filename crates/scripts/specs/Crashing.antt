@@ -7,10 +7,10 @@ use Rattle.heap_model.specs.declared.record.Record.{Record}
 use Rattle.heap_model.specs.Setting.{Setting}
 use Rattle.heap_model.specs.Sections.{actions}
 use Rattle.heap_model.specs.Cuts.{IsStable, counts_of}
+use Rattle.durable.specs.Calls.{IsClean}
 use Rattle.store_image.specs.KeptHeap.{kept_heap}
 use Rattle.store_past.specs.Past.{Past}
 use Rattle.recover.specs.Recovery.{IsWorn}
-use Rattle.survival.specs.WholeRun.{IsAcknowledged}
 use Rattle.script_machine.specs.declared.answer.Answer.{Answer}
 use Rattle.script_machine.specs.declared.answer.Answer.TheVariants.{Crashed, Recovered, Refused}
 use Rattle.script_machine.specs.declared.answer.Refusal.TheVariants.{Worn}
@@ -61,17 +61,21 @@ HistoryLaw = (m : Live) (fill : Fill) (down new : MachineState) (told : Answer)
 abbrev pub IsSince : (before now : Memory) → (back : ℕ) → Type 0
 IsSince before now back = length (device_of before).past ≤ length (moments_before now.first (first_stops (begun_at back now - 1) now.stops))
 
--- a line that calls the device, and may acknowledge
+-- a line that calls the device
 abbrev pub IsCall : Order → Type 0
-IsCall asked = (asked ≡ order.Log) ⊎ (asked ≡ order.Settle)
+IsCall asked = (asked ≡ order.Log) ⊎ (asked ≡ order.Home) ⊎ (asked ≡ order.Trim) ⊎ (asked ≡ order.Settle)
 
--- At any write or sync of a log or a settling, and after its last, a crash leaves what is recovered to the heap of the
--- sections that were acknowledged before, or of those that this settling acknowledges.
+-- The cut is the acknowledged one. Only where the line is the one that settles, with no field dirty, may it be the stable one.
+abbrev pub KeepsCut : Order → Setting → Past → (cut : ℕ → ℕ) → Type 0
+KeepsCut asked s p cut = (cut ≡ p.cut) ⊎ ((asked ≡ order.Settle) × IsClean s p × IsStable (actions p.logged) cut)
+
+-- At any write or sync of a log, of home writes or of a trim, and after the last, a crash leaves what is recovered to the heap of
+-- exactly the sections that were acknowledged before; of a settling, to that of these or of those that it acknowledges.
 abbrev pub CallLaw : Type 0
 CallLaw = (m now : Live) (s : Setting) (p : Past) (asked : Order) (said : Answer) (fill : Fill) (back : ℕ) (down new : MachineState) (told : Answer) → Tells m.store s p
     → IsCall asked → Steps (Running m) asked said (Running now)
     → IsSince m.store.disk now.store.disk back → Steps (Running now) (order.Crash fill back) Crashed down → Steps down order.Recover told new
-    → ((cut : ℕ → ℕ) × IsAcknowledged p cut × Survives m s p.logged cut told new) ⊎ IsAtItsEnd down told
+    → ((cut : ℕ → ℕ) × KeepsCut asked s p cut × Survives m s p.logged cut told new) ⊎ IsAtItsEnd down told
 
 -- the machine runs again with the sections of the stable cut, and tells as kept, lane by lane, what was told as acknowledged
 pub record KeepsTold (m : Live) (s : Setting) (p : Past) (acknowledged : List ℕ) (told : Answer) (new : MachineState) : Type 0 where

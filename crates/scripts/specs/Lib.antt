@@ -3,4 +3,3 @@ pub mod Runs
 pub mod Texts
 pub mod Crashing
 pub mod Playing
-pub mod Trimming

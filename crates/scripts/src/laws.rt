@@ -1,11 +1,11 @@
 //! Laws of crashes and recoveries in a script: contracts of functions that do nothing.
 ghost use Rattle.scripts.specs.Crashing.{CallLaw, HistoryLaw, RestLaw, ToldLaw};
 ghost use Rattle.scripts.specs.Playing.{FormattedLaw, PlayLaw, RecoveredLaw};
-ghost use Rattle.scripts.specs.Trimming.{TrimLaw};
 
 /// What is acknowledged survives, from script to script: what `recover` gives and tells after a crash with any fill. With
 /// nothing under way it is the heap of the acknowledged sections, of those of the threads' own legal history; at any write
-/// or sync of a `log` or `settle`, that of the sections acknowledged before or of those that this line acknowledges.
+/// or sync of a `log`, `home` or `trim`, that of exactly the sections acknowledged before; of a `settle`, of these or of those
+/// that it acknowledges.
 pub fn crash_law()
     ensures rest { RestLaw }
     ensures history { HistoryLaw }
@@ -22,9 +22,4 @@ pub fn play_law()
     ensures formatted { FormattedLaw }
     ensures recovered { RecoveredLaw }
     ensures played { PlayLaw }
-{}
-
-/// A crash at any write or sync of a `trim` keeps exactly what was acknowledged before it.
-pub fn trim_law()
-    ensures { TrimLaw }
 {}

@@ -2,7 +2,7 @@
 //!
 //! [`run_script`] reads a text, plays it line by line on a [`Machine`](script_machine::Machine), and writes what each
 //! line prints; [`text`] makes it of the machine's answer. What a script's `settle` acknowledges, a `recover` after a
-//! crash keeps ([`crash_law`], [`play_law`], [`trim_law`]).
+//! crash keeps ([`crash_law`], [`play_law`]).
 #![tactic(auto)]
 
 mod laws;
@@ -10,7 +10,7 @@ mod play;
 mod texts;
 mod writer;
 
-pub use laws::{crash_law, play_law, trim_law};
+pub use laws::{crash_law, play_law};
 pub use play::run_script;
 pub use script_lines::{ScriptError, ScriptErrorKind};
 pub use texts::text;

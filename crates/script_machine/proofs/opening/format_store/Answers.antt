@@ -1,8 +1,14 @@
-use Rattle.std.proofs.Common.{◌<◌, refl, sym, ap, subst}
+use Rattle.std.proofs.Common.{◌≡◌, ◌<◌, refl, sym, ◌∙◌, ap, subst, arith}
+use Rattle.block_disk.specs.Memory.{Memory, device_of}
+use Rattle.image.specs.Calls.{after}
+use Rattle.image.specs.Format.{format_calls}
+use Rattle.image.specs.Layout.{IsLayoutOf}
 use Rattle.image.specs.declared.layout.Layout.{Layout}
 use Rattle.image.specs.declared.guard_row.GuardRow.{GuardRow}
 use Rattle.heap_model.specs.declared.limits.TheConstants.{LAST_NUMBER}
 use Rattle.plain_monitors.specs.Table.{setting_in}
+use Rattle.script_machine.specs.OfSchema.{IsDiskOf}
+use Rattle.script_machine.proofs.SchemaLemmas.{made_of}
 use Rattle.script_machine.proofs.opening.format_store.Goals as goal
 
 pub returns-in-Ok-clause-tells : goal.returns-in-Ok-clause-tells
@@ -15,3 +21,14 @@ returns-in-Ok-clause-tells c =
       values = λ f below. c.in-Ok.ensures.heap f (subst (λ n. f < n) (ap (λ (l : Layout). l.fields) made) below);
       last_is = refl;
     })
+
+pub returns-in-Ok-clause-of_schema : goal.returns-in-Ok-clause-of_schema
+returns-in-Ok-clause-of_schema c =
+    let l : Layout = c.in-Some.layout in
+    let is : IsLayoutOf c.args.schema.now l = c.in-Some.ensures.schema in
+    let made : c.in-Ok.made.layout ≡ l = c.in-Ok.ensures.layout
+    ∙ (λ i. record { objects = sym is.objects i; fields = sym is.fields i; lanes = sym c.in-Some.ensures.lanes i; capacity = sym c.in-Some.ensures.capacity i }) in
+    let calls = subst (λ (k : Layout). device_of c.in-Ok.made.disk ≡ after (format_calls k c.args.schema.now) (device_of c.in_ok-disk.disk)) made c.in-Ok.ensures.calls in
+    subst (IsDiskOf c.args.schema.now) (sym c.in_ok-adopt-in-Ok.ensures.disk)
+    (made_of c.args.schema.now l c.size-size.result c.in-Ok.made.disk is (omega (arith, c.size-size.ensures))
+    (calls ∙ ap (λ (m : Memory). after (format_calls l c.args.schema.now) (device_of m)) c.in_ok-disk.ensures))

@@ -7,6 +7,7 @@ use Rattle.heap_model.specs.Setting.{Setting}
 use Rattle.image.specs.Layout.{size_of}
 use Rattle.script_machine.specs.declared.answer.Answer.TheVariants.{Formatted}
 use Rattle.script_machine.specs.Machine as machine
+use Rattle.script_machine.specs.OfSchema.{IsDiskOf}
 use Rattle.script_machine.specs.States.{Tells}
 use Rattle.plain_monitors.specs.Table.{setting_in}
 use Rattle.image.specs.declared.layout.Layout.{Layout}
@@ -38,6 +39,7 @@ returns c =
           };
           tells = subst (λ (s : Setting). Tells c.in_ok-store.store s no_past) (λ i. setting_in (sym schema i) (sym c.in_ok-monitors.ensures.last i)) c.in_ok-store.ensures.tells;
           running = c.in_ok-store.ensures.running;
+          of_schema = subst (λ (d : Declarations). IsDiskOf d c.in_ok-store.store.disk) c.build-schema.ensures c.in_ok-store.ensures.of_schema;
         };
       };
     }
@@ -53,4 +55,4 @@ new-running-requires c =
     let monitors = c.in_ok-monitors.ensures in
     let store = c.in_ok-store.ensures in
     agree-formatted c.build-schema.result c.in_ok-monitors.monitors c.in_ok-store.store monitors.schema monitors.last monitors.state store.tells
-    (ap (λ (l : Layout). l.lanes) store.layout ∙ sym monitors.lanes) store.running
+    (ap (λ (l : Layout). l.lanes) store.layout ∙ sym monitors.lanes) store.running store.of_schema

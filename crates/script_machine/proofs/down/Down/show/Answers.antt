@@ -2,6 +2,7 @@ use Rattle.std.proofs.Common.{◌∙◌, sym, inl, inr, refl, subst, IfOk, ap}
 use Rattle.script_machine.specs.States.{Wreck}
 use Rattle.script_machine.specs.Machine.{Down, ShowsImage}
 use Rattle.script_machine.specs.declared.answer.Answer.TheVariants.{Shown}
+use Rattle.script_machine.proofs.SchemaLemmas.{same_of}
 use Rattle.script_machine.proofs.down.Down.show.Goals as goal
 use Rattle.script_machine.proofs.down.Down.show.Goals.{in-Ok, in-Err+in_ok-refused_recovery-in-Err}
 
@@ -32,3 +33,6 @@ returns c =
         same = c.study.ensures.same;
       }))
     ])
+
+pub invariant_of-self-2 : goal.invariant_of-self-2
+invariant_of-self-2 c = same_of c.self.inside.schema c.self.inside.disk c.study.new.disk c.study.ensures.same c.self.invariant

@@ -3,10 +3,12 @@ use Rattle.block_disk.specs.Memory.{Memory}
 use Rattle.durable.specs.Calls.{RefusesLog}
 use Rattle.store_past.specs.Past.{after_log}
 use Rattle.durable.specs.Store.{Parts}
+use Rattle.durable.specs.declared.doubt.Doubt.TheVariants.{Logging}
 use Rattle.script_machine.specs.Agreement.{Agrees, setting_from}
 use Rattle.script_machine.specs.States.{Live}
 use Rattle.script_machine.specs.Machine.{Running, LogsRecords}
 use Rattle.script_machine.proofs.AgreementLemmas.{refused-log, same-told}
+use Rattle.script_machine.proofs.SchemaLemmas.{called_of}
 use Rattle.script_machine.proofs.StoreLemmas.{live, told-unchanged, refused-line}
 use Rattle.script_machine.proofs.running.Running.log.Goals as goal
 use Rattle.script_machine.proofs.running.Running.log.Goals.{in-Ok, in-Err+in_ok-refused_call-in-Err}
@@ -25,6 +27,7 @@ invariant_of-result c =
     let step = c.log_step.ensures in
     elim c.match-log_step.branch [
       | in-Ok w ↦ same-told a x y g (after_log g.past) refl (rw w.in-Ok.is at step.ok (setting_from a g.first) g.past g.tells) step.layout (rw w.in-Ok.is at step.running).1
+          (called_of a g.first x.known.layout g.past Logging x.disk y.disk g.tells.setting (step.shown (setting_from a g.first) g.past g.tells) g.of_schema)
       | in-Err+in_ok-refused_call-in-Err w ↦
           let told = sym w.refused_call.ensures ∙ w.in_ok-refused_call-in-Err.was in
           let same : y ≡ x = told-unchanged x y w.in-Err.why w.in_ok-refused_call-in-Err.field-0 told (rw w.in-Err.is at step.refused) in
@@ -42,7 +45,7 @@ returns c =
       | in-Ok w ↦ rw w.answer-is (inl (record {
         store = y;
         records = w.in-Ok.records;
-        call = record { answers = refl; runs = refl; layout = step.layout; running = (rw w.in-Ok.is at step.running).1; shown = step.shown };
+        call = record { answers = refl; runs = refl; layout = step.layout; ran = c.self.invariant.running; running = (rw w.in-Ok.is at step.running).1; shown = step.shown };
         stands = step.any_moment;
         count = λ s p t. (rw w.in-Ok.is at step.answer s p t).1;
         after = λ s p t. rw w.in-Ok.is at step.ok s p t;

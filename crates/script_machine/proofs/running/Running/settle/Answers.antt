@@ -5,10 +5,12 @@ use Rattle.image.specs.declared.layout.Layout.{Layout}
 use Rattle.durable.specs.Calls.{RefusesSettle}
 use Rattle.store_past.specs.Past.{after_settle}
 use Rattle.durable.specs.Store.{Parts}
+use Rattle.durable.specs.declared.doubt.Doubt.TheVariants.{Settling}
 use Rattle.script_machine.specs.Agreement.{Agrees, setting_from}
 use Rattle.script_machine.specs.States.{Live}
 use Rattle.script_machine.specs.Machine.{Running, Settles}
 use Rattle.script_machine.proofs.AgreementLemmas.{refused-settle, same-told}
+use Rattle.script_machine.proofs.SchemaLemmas.{called_of}
 use Rattle.script_machine.proofs.StoreLemmas.{live, told-unchanged, refused-line}
 use Rattle.script_machine.proofs.running.Running.settle.Goals as goal
 use Rattle.script_machine.proofs.running.Running.settle.Goals.{in-Ok+in_ok-acknowledged_counts-in-Ok, in-Err+in_ok-refused_call-in-Err}
@@ -31,6 +33,7 @@ invariant_of-result c =
           let stable = c.stable_law.ensures.exists (actions g.past.logged) in
           same-told a x y g (after_settle g.past stable.0) refl (rw w.in-Ok.is at step.ok (setting_from a g.first) g.past stable.0 g.tells stable.1) step.layout
           (rw w.in-Ok.is at step.running).1
+          (called_of a g.first x.known.layout g.past Settling x.disk y.disk g.tells.setting (step.shown (setting_from a g.first) g.past g.tells) g.of_schema)
       | in-Err+in_ok-refused_call-in-Err w ↦
           let told = sym w.refused_call.ensures ∙ w.in_ok-refused_call-in-Err.was in
           let same : y ≡ x = told-unchanged x y w.in-Err.why w.in_ok-refused_call-in-Err.field-0 told (rw w.in-Err.is at step.refused) in
@@ -54,6 +57,7 @@ returns c =
             answers = refl;
             runs = refl;
             layout = step.layout;
+            ran = c.self.invariant.running;
             running = (rw w.in-Ok.is at step.running).1;
             shown = step.shown;
             stands = step.any_moment;

@@ -1,0 +1,22 @@
+-- Images of a schema (this project's own).
+use Rattle.std.specs.Prelude.{ℕ, ◌≡◌, ◌<◌, List, slice_index_or}
+use Rattle.guards.specs.Schema.{Declarations, object_count, field_count, guard_of}
+use Rattle.block_disk.specs.Device.{LeftSince}
+use Rattle.block_disk.specs.Memory.{Memory, device_of}
+use Rattle.image.specs.declared.guard_row.GuardRow.{GuardRow}
+use Rattle.image.specs.declared.layout.Layout.{Layout}
+use Rattle.recover.specs.Reading.{HasFront}
+
+-- the image has the schema's objects and fields, and each field the schema's guard
+pub record FitsSchema (schema : Declarations) (layout : Layout) (guards : List GuardRow) : Type 0 where
+  pub objects : layout.objects ≡ object_count schema
+  pub fields : layout.fields ≡ field_count schema
+  pub guarded : (f : ℕ) (d : GuardRow) → f < field_count schema → (slice_index_or guards f d).guard.0 ≡ guard_of schema f
+
+-- if a header and guard rows can be read of these bytes, they are those of the schema
+abbrev pub IsOfSchema : Declarations → List ℕ → Type 0
+IsOfSchema schema image = (l : Layout) (guards : List GuardRow) → HasFront image l guards → FitsSchema schema l guards
+
+-- so it is of whatever a crash leaves of the disk, at any moment since it was made
+abbrev pub IsDiskOf : Declarations → Memory → Type 0
+IsDiskOf schema disk = (image : List ℕ) → LeftSince 0 (device_of disk) image → IsOfSchema schema image
