@@ -21,7 +21,7 @@ use Rattle.store_image.specs.KeptHeap.{kept_heap, StandsForCut, StandsForEither}
 use Rattle.durable.specs.Store.{Parts, ShowsStep}
 use Rattle.durable.specs.Store.ShowsStep.{Shows, ShowsLogged, ShowsSettled, ShowsTrimmed}
 use Rattle.durable.specs.declared.doubt.Doubt.{Doubt}
-use Rattle.durable.specs.declared.doubt.Doubt.TheVariants.{Nothing, Logging, Settling}
+use Rattle.durable.specs.declared.doubt.Doubt.TheVariants.{Nothing, Logging, Settling, Trimming}
 use Rattle.recover.specs.Reading.{Holds}
 use Rattle.recover.specs.Recovery.{IsRecovery, IsWorn, RefusesRecovery}
 use Rattle.recover.specs.Study.{held_by}
