@@ -180,7 +180,7 @@ fn section(store: &mut Store<MemDisk>, number: u64) -> bool {
     taken && store.apply(Lane(0), rel(0, number)) == Ok(())
 }
 
-// An area of 4,000 records takes four sections of 1,000.
+// An area of 4,000 records takes four sections of 1,000, and a fifth once they are trimmed.
 #[test]
 fn a_fifth_section_is_too_much(rt: HostRuntime) -> Result<(), Fail> {
     let mut store = fresh(rt.alloc(), 1, 9)?;
@@ -189,6 +189,13 @@ fn a_fifth_section_is_too_much(rt: HostRuntime) -> Result<(), Fail> {
     }
     assert_eq!(rt; store.apply(Lane(0), acq(0, 4)), Err(StoreError::LogFull));
     assert_eq!(rt; store.log_step(), Ok(4000));
+    let calls = [
+        StoreCall::Home,
+        StoreCall::Settle,
+        StoreCall::Trim,
+        one(acq(0, 4)),
+    ];
+    assert_eq!(rt; store.play(&calls), Ok(()));
     Ok(())
 }
 
@@ -271,7 +278,10 @@ fn sections_by_trim(
 ) -> Result<(u64, Option<u64>, u64, Result<(), StoreError>), Fail> {
     let mut store = fresh(alloc, 1, 9000)?;
     let before = short_sections(&mut store, 0, 2000);
-    if store.play(&[StoreCall::Log, StoreCall::Settle]).is_err() || store.trim().is_err() {
+    if store
+        .play(&[StoreCall::Log, StoreCall::Settle, StoreCall::Trim])
+        .is_err()
+    {
         return Err(Fail::new("not trimmed"));
     }
     let acknowledged = kept(&store, 0);
@@ -519,6 +529,7 @@ fn a_dependent_section_waits(rt: HostRuntime) -> Result<(), Fail> {
         one(rel(1, 0)),
         StoreCall::Log,
         StoreCall::Settle,
+        StoreCall::Trim,
     ];
     let first = check_all(&rt, rt.alloc(), &calls[..10])?;
     assert_eq!(rt; first, [0, 0]);
@@ -566,6 +577,7 @@ fn a_wait_ends_a_section(rt: HostRuntime) -> Result<(), Fail> {
         one(rel(0, 2)),
         StoreCall::Log,
         StoreCall::Settle,
+        StoreCall::Trim,
     ];
     assert_eq!(rt; check_all(&rt, rt.alloc(), &calls[..6])?, [1, 0]);
     assert_eq!(rt; check_all(&rt, rt.alloc(), &calls)?, [2, 1]);
