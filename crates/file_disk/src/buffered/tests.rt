@@ -74,74 +74,128 @@ impl BackingFile for CountedFile {
     }
 }
 
-fn disk_of(alloc: Global, size: u64) -> Result<BufferedDisk<CountedFile>, Fail> {
-    match BufferedDisk::filled(alloc, CountedFile::new(alloc), size) {
-        Ok(disk) => Ok(disk),
-        Err(_) => Err(Fail::new("no disk")),
-    }
+type Answer = Result<(), DiskError>;
+
+fn disk_of(
+    alloc: Global,
+    fails_in: u64,
+    size: u64,
+) -> Result<BufferedDisk<CountedFile>, FileError> {
+    let mut file = CountedFile::new(alloc);
+    file.fails_in = fails_in;
+    BufferedDisk::filled(alloc, file, size)
 }
 
-fn put(disk: &mut BufferedDisk<CountedFile>, at: u64, bytes: &[u8]) -> Result<(), Fail> {
-    match disk.write_at(at, bytes) {
-        Ok(()) => Ok(()),
-        Err(_) => Err(Fail::new("not written")),
-    }
+// The calls without their contracts: what a test's proof doesn't need, it doesn't carry.
+fn write<D: Disk>(disk: &mut D, at: u64, bytes: &[u8]) -> Answer {
+    disk.write_at(at, bytes)
+}
+
+fn sync<D: Disk>(disk: &mut D) -> Answer {
+    disk.sync()
+}
+
+// Two bytes from this place on; none where the read fails.
+fn read_two<D: Disk>(disk: &mut D, at: u64) -> Option<[u8; 2]> {
+    let mut out = [0; 2];
+    disk.read_at(at, &mut out).ok()?;
+    Some(out)
+}
+
+// The calls of the file that wrote, and those that settled.
+fn calls(disk: &BufferedDisk<CountedFile>) -> (u64, u64) {
+    (disk.file.writes, disk.file.settles)
+}
+
+// Four writes that follow one another, one apart from them, a sync, and another: what each answers.
+fn follow(disk: &mut BufferedDisk<CountedFile>) -> ([Answer; 7], [(u64, u64); 3]) {
+    let first = write(disk, 16, &[1, 2, 3, 4]);
+    let second = write(disk, 20, &[1, 2, 3, 4]);
+    let third = write(disk, 24, &[1, 2, 3, 4]);
+    let fourth = write(disk, 28, &[1, 2, 3, 4]);
+    let apart = write(disk, 40, &[9]);
+    let before = calls(disk);
+    let synced = sync(disk);
+    let after = calls(disk);
+    let again = sync(disk);
+    (
+        [first, second, third, fourth, apart, synced, again],
+        [before, after, calls(disk)],
+    )
+}
+
+fn ends_with(disk: &BufferedDisk<CountedFile>, bytes: &[u8]) -> bool {
+    disk.file.bytes.ends_with(bytes)
 }
 
 #[test]
-fn writes_that_follow_one_another_reach_the_file_as_one(rt: HostRuntime) -> Result<(), Fail> {
-    let mut disk = disk_of(rt.alloc(), 41)?;
-    for k in 0..4u64 {
-        put(&mut disk, 16 + 4 * k, &[1, 2, 3, 4])?;
-    }
-    put(&mut disk, 40, &[9])?;
-    assert_eq!(rt; disk.file.writes, 1);
-    assert_eq!(rt; disk.sync(), Ok(()));
-    assert_eq!(rt; (disk.file.writes, disk.file.settles), (3, 2));
-    assert!(rt;
-        disk.file
-            .bytes
-            .ends_with(&[3, 4, 0, 0, 0, 0, 0, 0, 0, 0, 9])
-    );
-    assert_eq!(rt; disk.sync(), Ok(()));
-    assert_eq!(rt; (disk.file.writes, disk.file.settles), (3, 3));
-    Ok(())
-}
-
-#[test]
-fn a_sync_that_failed_is_made_good_by_the_next(rt: HostRuntime) -> Result<(), Fail> {
-    let mut file = CountedFile::new(rt.alloc());
-    // The first write is that of the zero bytes.
-    file.fails_in = 3;
-    let Ok(mut disk) = BufferedDisk::filled(rt.alloc(), file, 16) else {
-        return Err(Fail::new("no disk"));
+fn writes_that_follow_one_another_reach_the_file_as_one(rt: HostRuntime) {
+    let found = match disk_of(rt.alloc(), 0, 41) {
+        Ok(mut disk) => Some((
+            follow(&mut disk),
+            ends_with(&disk, &[3, 4, 0, 0, 0, 0, 0, 0, 0, 0, 9]),
+        )),
+        Err(_) => None,
     };
-    put(&mut disk, 0, &[1, 2])?;
-    put(&mut disk, 8, &[3, 4])?;
-    assert_eq!(rt; disk.sync(), Err(DiskError::Fault));
-    assert_eq!(rt; disk.failures(), 1);
-    assert!(rt; disk.file.bytes.starts_with(&[1, 2, 0, 0, 0, 0, 0, 0, 3, 0]));
-    let mut out = [0; 2];
-    assert_eq!(rt; disk.read_at(8, &mut out), Ok(()));
-    assert_eq!(rt; out, [3, 4]);
-    assert_eq!(rt; disk.sync(), Ok(()));
-    assert!(rt; disk.file.bytes.starts_with(&[1, 2, 0, 0, 0, 0, 0, 0, 3, 4]));
-    Ok(())
+    assert!(rt; found == Some((([Ok(()); 7], [(1, 1), (3, 2), (3, 3)]), true)));
+}
+
+fn begins_with(disk: &BufferedDisk<CountedFile>, bytes: &[u8]) -> bool {
+    disk.file.bytes.starts_with(bytes)
+}
+
+// What two writes, a sync that fails and the next one answer, the failures, whether the file begins as it is to after each
+// sync, and what is read in between.
+fn fail_a_sync(
+    disk: &mut BufferedDisk<CountedFile>,
+) -> ([Answer; 4], u64, [bool; 2], Option<[u8; 2]>) {
+    let first = write(disk, 0, &[1, 2]);
+    let second = write(disk, 8, &[3, 4]);
+    let failed = sync(disk);
+    let failures = disk.failures();
+    let torn = begins_with(disk, &[1, 2, 0, 0, 0, 0, 0, 0, 3, 0]);
+    let read = read_two(disk, 8);
+    let synced = sync(disk);
+    let mended = begins_with(disk, &[1, 2, 0, 0, 0, 0, 0, 0, 3, 4]);
+    (
+        [first, second, failed, synced],
+        failures,
+        [torn, mended],
+        read,
+    )
+}
+
+// The first write is that of the zero bytes.
+#[test]
+fn a_sync_that_failed_is_made_good_by_the_next(rt: HostRuntime) {
+    let found = match disk_of(rt.alloc(), 3, 16) {
+        Ok(mut disk) => Some(fail_a_sync(&mut disk)),
+        Err(_) => None,
+    };
+    let answers = [Ok(()), Ok(()), Err(DiskError::Fault), Ok(())];
+    assert!(rt; found == Some((answers, 1, [true; 2], Some([3, 4]))));
+}
+
+// What a write past the end answers, one at the end and a sync, and what is then read there.
+fn write_at_the_end<D: Disk>(disk: &mut D) -> ([Answer; 3], Option<[u8; 2]>) {
+    let past = write(disk, 15, &[1, 2]);
+    let within = write(disk, 14, &[1, 2]);
+    ([past, within, sync(disk)], read_two(disk, 14))
 }
 
 #[test]
-fn what_lies_past_the_end_is_refused(rt: HostRuntime) -> Result<(), Fail> {
-    let mut disk = disk_of(rt.alloc(), 16)?;
-    assert_eq!(rt; disk.write_at(15, &[1, 2]), Err(DiskError::OutOfRange));
-    let mut volatile = VolatileDisk::new(rt.alloc(), 16)?;
-    assert_eq!(rt; volatile.size(), 16);
-    assert_eq!(rt; volatile.write_at(15, &[1, 2]), Err(DiskError::OutOfRange));
-    assert_eq!(rt; volatile.write_at(14, &[1, 2]), Ok(()));
-    assert_eq!(rt; volatile.sync(), Ok(()));
-    let mut out = [0; 2];
-    assert_eq!(rt; volatile.read_at(14, &mut out), Ok(()));
-    assert_eq!(rt; out, [1, 2]);
-    Ok(())
+fn what_lies_past_the_end_is_refused(rt: HostRuntime) {
+    let wanted = Some(([Err(DiskError::OutOfRange), Ok(()), Ok(())], Some([1, 2])));
+    let buffered = match disk_of(rt.alloc(), 0, 16) {
+        Ok(mut disk) => Some(write_at_the_end(&mut disk)),
+        Err(_) => None,
+    };
+    assert!(rt; buffered == wanted);
+    let volatile = match VolatileDisk::new(rt.alloc(), 16) {
+        Ok(mut disk) if disk.size() == 16 => Some(write_at_the_end(&mut disk)),
+        _ => None,
+    };
+    assert!(rt; volatile == wanted);
 }
 
 fn cross<T: Send>(_value: &T) {}
@@ -209,19 +263,27 @@ fn a_fault_at_each_call_makes_no_buffered_disk(rt: HostRuntime) -> Result<(), Fa
     Ok(())
 }
 
+// What was not synced is lost with the disk, as in a crash.
+fn write_twice<D: Disk>(disk: &mut D) -> [Answer; 3] {
+    let first = write(disk, 1, &[5, 6]);
+    let synced = sync(disk);
+    [first, synced, write(disk, 0, &[7])]
+}
+
+fn written_to_a_file(rt: &HostRuntime) -> Option<[Answer; 3]> {
+    let mut disk = BufferedDisk::create(rt, rt.alloc(), "buffered", 4).ok()?;
+    Some(write_twice(&mut disk))
+}
+
+fn read_of_a_file(rt: &HostRuntime) -> Option<[Option<[u8; 2]>; 2]> {
+    let mut disk = BufferedDisk::attach(rt, rt.alloc(), "buffered").ok()?;
+    let first = read_two(&mut disk, 0);
+    Some([first, read_two(&mut disk, 2)])
+}
+
 #[test]
-fn a_file_is_attached_with_what_was_synced(rt: HostRuntime) -> Result<(), Fail> {
-    let alloc = rt.alloc();
-    fs::write(&rt, "buffered", "longer than the disk")?;
-    let mut disk = BufferedDisk::create(&rt, alloc, "buffered", 4)?;
-    disk.write_at(1, &[5, 6])?;
-    disk.sync()?;
-    // What was not synced is lost with the disk, as in a crash.
-    disk.write_at(0, &[7])?;
-    drop(disk);
-    let mut disk = BufferedDisk::attach(&rt, alloc, "buffered")?;
-    let mut out = [0; 4];
-    assert_eq!(rt; disk.read_at(0, &mut out), Ok(()));
-    assert_eq!(rt; out, [0, 5, 6, 0]);
-    Ok(())
+fn a_file_is_attached_with_what_was_synced(rt: HostRuntime) {
+    assert!(rt; fs::write(&rt, "buffered", "longer than the disk").is_ok());
+    assert!(rt; written_to_a_file(&rt) == Some([Ok(()); 3]));
+    assert!(rt; read_of_a_file(&rt) == Some([Some([0, 5]), Some([6, 0])]));
 }
