@@ -1,6 +1,10 @@
-//! Pools in a plain row of cells.
+//! Pools as a schema declares them, and pools in a plain row of cells.
+
+ghost use Rattle.std.specs.Prelude.{◌<◌, ◌≤◌};
+ghost use Rattle.pool.specs.declared.pool.TheConstants.{MOST_SLOTS};
 
 use super::*;
+use guards::{SchemaBuilder, SchemaError};
 use heap_model::FieldId;
 use std::alloc::{AllocError, Global};
 use std::test::Fail;
@@ -57,19 +61,24 @@ impl Cells for Row {
 // No cell is broken.
 const WHOLE: u32 = u32::MAX;
 
-// A row in which all slots of a pool are free, in their order.
-fn free_row(alloc: Global, slots: u32) -> Result<Row, AllocError> {
+// A pool that a schema declares with nothing else, and a row of the values with which its fields begin.
+fn laid_out(alloc: Global, slots: u32) -> Option<(Pool, Row)>
+    requires some { 0 < slots }
+    requires few { slots ≤ MOST_SLOTS }
+{
+    let mut builder = SchemaBuilder::new(alloc);
+    let pool = Pool::lay_out(&mut builder, "p", slots).ok()?;
+    let schema = builder.build().ok()?;
     let mut values = Vec::new(alloc);
-    values.push(1)?;
-    for slot in 1..slots {
-        values.push(u64::from(slot) + 1)?;
+    for field in 0..schema.fields() {
+        values.push(schema.first(FieldId(field))).ok()?;
     }
-    values.push(0)?;
-    Ok(Row {
+    let row = Row {
         values,
         broken: WHOLE,
         stuck: false,
-    })
+    };
+    Some((pool, row))
 }
 
 #[derive(Clone, Copy, Debug, PartialEq, Eq)]
@@ -103,25 +112,70 @@ fn make(pool: &Pool, row: &mut Row, call: Call) -> Answer {
     }
 }
 
-// What a pool of two slots answers to these calls, in a row that holds these values at first.
+// What the pool answers to these calls.
 fn answers(
+    alloc: Global,
+    pool: &Pool,
+    row: &mut Row,
+    calls: &[Call],
+) -> Result<Vec<Answer>, AllocError> {
+    let mut answers = Vec::new(alloc);
+    for next in calls {
+        answers.push(make(pool, row, *next))?;
+    }
+    Ok(answers)
+}
+
+// The same of a pool of two slots, in a row that holds these values at first.
+fn answers_in(
     alloc: Global,
     values: [u64; 3],
     broken: u32,
     stuck: bool,
     calls: &[Call],
 ) -> Result<Vec<Answer>, AllocError> {
-    let pool = Pool::at(FieldId(0), 2);
     let mut row = Row {
         values: Vec::from_array(alloc, values)?,
         broken,
         stuck,
     };
-    let mut answers = Vec::new(alloc);
-    for next in calls {
-        answers.push(make(&pool, &mut row, *next))?;
+    answers(alloc, &Pool::at(FieldId(0), 2), &mut row, calls)
+}
+
+// The number, guard and first value of each field of a pool that is declared behind an object and a field.
+fn declared(alloc: Global) -> Option<[(u32, u32, u64); 3]> {
+    let mut builder = SchemaBuilder::new(alloc);
+    let other = builder.object("other").ok()?;
+    builder.field(other, "x", other, 5).ok()?;
+    Pool::lay_out(&mut builder, "p", 2).ok()?;
+    let schema = builder.build().ok()?;
+    let mut found = [(0, 0, 0); 3];
+    let mut place = 0;
+    for name in ["p.head", "p.0", "p.1"] {
+        let field = schema.field_named(name)?;
+        if field.0 >= schema.fields() || place >= found.len() {
+            return None;
+        }
+        found[place] = (field.0, schema.guard(field).0, schema.first(field));
+        place += 1;
     }
-    Ok(answers)
+    Some(found)
+}
+
+// Why pools are refused, where `p` is declared with two slots and a field is named `q.1`; and how many fields there are then.
+fn refusals(alloc: Global) -> Option<([Option<SchemaError>; 5], u32)> {
+    let mut builder = SchemaBuilder::new(alloc);
+    let other = builder.object("other").ok()?;
+    builder.field(other, "q.1", other, 5).ok()?;
+    Pool::lay_out(&mut builder, "p", 2).ok()?;
+    let why = [
+        Pool::lay_out(&mut builder, "", 1).err(),
+        Pool::lay_out(&mut builder, "p", 1).err(),
+        Pool::lay_out(&mut builder, "q", 2).err(),
+        Pool::lay_out(&mut builder, "r", 16_380).err(),
+        Pool::lay_out(&mut builder, "q", 1).err(),
+    ];
+    Some((why, builder.fields()))
 }
 
 #[test]
@@ -142,8 +196,29 @@ fn takes_and_gives(rt: HostRuntime) -> Result<(), Fail> {
         Answer::Refused(PoolError::NotTaken),
         Answer::Took(0),
     ];
-    let given = answers(rt.alloc(), [1, 2, 0], WHOLE, false, &calls)?;
+    let (pool, mut row) = laid_out(rt.alloc(), 2).ok_or(AllocError)?;
+    let given = answers(rt.alloc(), &pool, &mut row, &calls)?;
     assert!(rt; given.as_slice() == expected.as_slice());
+    Ok(())
+}
+
+#[test]
+fn fields_are_named_guarded_and_begun(rt: HostRuntime) -> Result<(), Fail> {
+    let expected = [(1, 1, 1), (2, 1, 2), (3, 1, 0)];
+    assert!(rt; declared(rt.alloc()) == Some(expected));
+    Ok(())
+}
+
+#[test]
+fn pools_are_refused(rt: HostRuntime) -> Result<(), Fail> {
+    let why = [
+        Some(SchemaError::Empty),
+        Some(SchemaError::DoubleName),
+        Some(SchemaError::DoubleName),
+        Some(SchemaError::TooMany),
+        None,
+    ];
+    assert!(rt; refusals(rt.alloc()) == Some((why, 6)));
     Ok(())
 }
 
@@ -151,8 +226,8 @@ fn takes_and_gives(rt: HostRuntime) -> Result<(), Fail> {
 #[test]
 fn damaged_links_are_refused(rt: HostRuntime) -> Result<(), Fail> {
     let calls = [Call::Take, Call::Give(1)];
-    let by_head = answers(rt.alloc(), [3, 2, TAKEN], WHOLE, false, &calls)?;
-    let by_link = answers(rt.alloc(), [1, 3, TAKEN], WHOLE, false, &calls)?;
+    let by_head = answers_in(rt.alloc(), [3, 2, TAKEN], WHOLE, false, &calls)?;
+    let by_link = answers_in(rt.alloc(), [1, 3, TAKEN], WHOLE, false, &calls)?;
     let damaged = Answer::Refused(PoolError::Damaged);
     assert!(rt; by_head.as_slice() == [damaged, damaged].as_slice());
     assert!(rt; by_link.as_slice() == [damaged, Answer::Gave].as_slice());
@@ -163,10 +238,10 @@ fn damaged_links_are_refused(rt: HostRuntime) -> Result<(), Fail> {
 #[test]
 fn faults_are_handed_on(rt: HostRuntime) -> Result<(), Fail> {
     let calls = [Call::Take, Call::Give(1)];
-    let at_head = answers(rt.alloc(), [1, 0, TAKEN], 0, false, &calls)?;
-    let at_first = answers(rt.alloc(), [1, 0, TAKEN], 1, false, &calls)?;
-    let at_second = answers(rt.alloc(), [1, 0, TAKEN], 2, false, &calls)?;
-    let at_store = answers(rt.alloc(), [1, 0, TAKEN], WHOLE, true, &calls)?;
+    let at_head = answers_in(rt.alloc(), [1, 0, TAKEN], 0, false, &calls)?;
+    let at_first = answers_in(rt.alloc(), [1, 0, TAKEN], 1, false, &calls)?;
+    let at_second = answers_in(rt.alloc(), [1, 0, TAKEN], 2, false, &calls)?;
+    let at_store = answers_in(rt.alloc(), [1, 0, TAKEN], WHOLE, true, &calls)?;
     let fault = Answer::Refused(PoolError::Cells(()));
     assert!(rt; at_head.as_slice() == [fault, fault].as_slice());
     assert!(rt; at_first.as_slice() == [fault, Answer::Gave].as_slice());
@@ -195,8 +270,7 @@ fn give_all(pool: &Pool, row: &mut Row) -> bool {
 
 #[test]
 fn the_greatest_pool(rt: HostRuntime) -> Result<(), Fail> {
-    let pool = Pool::at(FieldId(0), MOST_SLOTS);
-    let mut row = free_row(rt.alloc(), MOST_SLOTS)?;
+    let (pool, mut row) = laid_out(rt.alloc(), MOST_SLOTS).ok_or(AllocError)?;
     let first = take_all(&pool, &mut row);
     let empty = pool.take(&mut row) == Err(PoolError::Empty);
     let given = give_all(&pool, &mut row);
