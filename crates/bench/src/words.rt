@@ -23,6 +23,8 @@ pub enum Words<'a> {
     File { plan: Plan, path: &'a str },
     /// To tell, after each group on a new file, how many sections are acknowledged.
     Tell { plan: Plan, path: &'a str },
+    /// To measure settling in memory while a section stays open that all others depend on.
+    Open { plan: Plan },
     /// To recover the image in a file, and to print its heap.
     Recover { path: &'a str },
 }
@@ -43,6 +45,9 @@ pub fn read_words(texts: &[String]) -> Option<Words<'_>>
     let word = word.as_str();
     if texts.len() == 4 && word == "memory" {
         return Some(Words::Memory { plan });
+    }
+    if texts.len() == 4 && word == "open" {
+        return Some(Words::Open { plan });
     }
     let path = texts.get(4)?.as_str();
     if texts.len() == 5 && word == "file" {
