@@ -41,4 +41,12 @@ impl Spent {
             cpu: self.cpu.wrapping_add(to.cpu.wrapping_sub(from.cpu)),
         }
     }
+
+    /// With the time of another.
+    pub fn and(self, other: Spent) -> Spent {
+        Spent {
+            wall: self.wall.wrapping_add(other.wall),
+            cpu: self.cpu.wrapping_add(other.cpu),
+        }
+    }
 }

@@ -17,10 +17,8 @@ pub struct Figures {
     pub home: Spent,
     /// Acknowledging.
     pub settle: Spent,
-    /// Trimming what is acknowledged.
+    /// Trimming, where a lane's log was full.
     pub trim: Spent,
-    /// Recovering the image and opening it again, where a lane's log was full.
-    pub reopen: Spent,
 }
 
 /// The figures of nothing.
@@ -31,11 +29,15 @@ pub const START: Figures = Figures {
     home: NOTHING,
     settle: NOTHING,
     trim: NOTHING,
-    reopen: NOTHING,
 };
 
-// Prints what a step took for a section, in nanoseconds.
-fn print_step<R: Print>(rt: &R, step: &str, spent: Spent, sections: u64) -> Result<(), Stopped> {
+/// Prints what a step took for a section, in nanoseconds.
+pub fn print_step<R: Print>(
+    rt: &R,
+    step: &str,
+    spent: Spent,
+    sections: u64,
+) -> Result<(), Stopped> {
     let wall = spent.wall / sections.max(1);
     let cpu = spent.cpu / sections.max(1);
     println!(rt; "{step} {wall} ns a section, of them {cpu} of processor time").map_err(
@@ -48,7 +50,7 @@ fn rate(sections: u64, wall: u64) -> u64 {
     sections.saturating_mul(1_000_000) / (wall / 1000).max(1)
 }
 
-/// Prints sections a second without and with the reopening, and what each step took.
+/// Prints what each step took, and sections a second.
 pub fn print_figures<R: Print>(rt: &R, figures: &Figures) -> Result<(), Stopped> {
     let sections = figures.sections;
     print_step(rt, "apply", figures.apply, sections)?;
@@ -56,17 +58,13 @@ pub fn print_figures<R: Print>(rt: &R, figures: &Figures) -> Result<(), Stopped>
     print_step(rt, "home", figures.home, sections)?;
     print_step(rt, "settle", figures.settle, sections)?;
     print_step(rt, "trim", figures.trim, sections)?;
-    print_step(rt, "reopen", figures.reopen, sections)?;
-    let steady = figures
+    let all = figures
         .apply
-        .wall
-        .saturating_add(figures.log.wall)
-        .saturating_add(figures.home.wall)
-        .saturating_add(figures.settle.wall)
-        .saturating_add(figures.trim.wall);
-    let steady_rate = rate(sections, steady);
-    let whole_rate = rate(sections, steady.saturating_add(figures.reopen.wall));
-    println!(rt;
-        "{sections} sections, {steady_rate} a second, {whole_rate} with the reopening"
-    ).map_err(|_| Stopped::Telling)
+        .and(figures.log)
+        .and(figures.home)
+        .and(figures.settle)
+        .and(figures.trim);
+    print_step(rt, "all", all, sections)?;
+    let rate = rate(sections, all.wall);
+    println!(rt; "{sections} sections, {rate} a second").map_err(|_| Stopped::Telling)
 }

@@ -5,7 +5,7 @@ ghost use Rattle.bench.specs.declared.life.Room.TheVariants.{More};
 use crate::acknowledged::acknowledged;
 use crate::clock::read_clocks;
 use crate::figures::Figures;
-use crate::load::{LANES, Load};
+use crate::load::Load;
 use crate::stopped::Stopped;
 use crate::words::Plan;
 use block_disk::Disk;
@@ -22,11 +22,11 @@ pub enum Room {
     Full,
 }
 
-// Applies a lane's section. Its first record is refused where the lane's log is full.
-fn apply_section<D: Disk>(
+/// Applies a lane's records. The first of a section is refused where the lane's log is full.
+pub fn apply_records<D: Disk>(
     store: &mut Store<D>,
     lane: u8,
-    records: &[Record; 6],
+    records: &[Record],
 ) -> Result<Room, Stopped>
     ensures layout { store.new.known.layout ≡ store.old.known.layout }
 {
@@ -45,9 +45,9 @@ fn apply_group<D: Disk>(store: &mut Store<D>, load: &mut Load, group: u64) -> Re
     ensures layout { store.new.known.layout ≡ store.old.known.layout }
 {
     for turn in 0..group {
-        let lane = (turn % u64::from(LANES)) as u8;
+        let lane = load.lane(turn);
         let records = load.section(lane);
-        if apply_section(store, lane, &records)? == Room::Full {
+        if apply_records(store, lane, &records)? == Room::Full {
             return Ok(Room::Full);
         }
         load.done(lane);
@@ -69,19 +69,19 @@ fn write_home<D: Disk>(store: &mut Store<D>) -> Result<(), Stopped>
     Ok(())
 }
 
-// Applies a group, makes it durable, writes it home and acknowledges it, and trims if the plan says so.
-fn round<R: Clock + CpuClock, D: Disk>(
+/// Applies a group, makes it durable, writes it home and acknowledges it.
+pub fn round<R: Clock + CpuClock, D: Disk>(
     rt: &R,
     store: &mut Store<D>,
     load: &mut Load,
-    plan: &Plan,
+    group: u64,
     figures: &mut Figures,
 ) -> Result<Room, Stopped>
     ensures layout { store.new.known.layout ≡ store.old.known.layout }
     ensures sections { figures.new.sections ≡ figures.old.sections }
 {
     let begun = read_clocks(rt);
-    let room = apply_group(store, load, plan.group)?;
+    let room = apply_group(store, load, group)?;
     let applied = read_clocks(rt);
     if store.log_step().is_err() {
         return Err(Stopped::Store);
@@ -93,15 +93,10 @@ fn round<R: Clock + CpuClock, D: Disk>(
         return Err(Stopped::Store);
     }
     let settled = read_clocks(rt);
-    if plan.is_trimming && store.trim().is_err() {
-        return Err(Stopped::Store);
-    }
-    let trimmed = read_clocks(rt);
     figures.apply = figures.apply.with(begun, applied);
     figures.log = figures.log.with(applied, logged);
     figures.home = figures.home.with(logged, home);
     figures.settle = figures.settle.with(home, settled);
-    figures.trim = figures.trim.with(settled, trimmed);
     Ok(room)
 }
 
@@ -119,13 +114,12 @@ pub fn live<R: Clock + CpuClock + Print, D: Disk>(
     ensures layout { store.new.known.layout ≡ store.old.known.layout }
     ensures more { IfOk result (λ room. room ≡ More → plan.now.sections ≤ figures.new.sections) }
 {
-    let before = figures.sections;
     for _ in 0..u64::MAX {
         if plan.sections <= figures.sections {
             return Ok(Room::More);
         }
-        let room = round(rt, store, load, plan, figures)?;
-        figures.sections = before.saturating_add(acknowledged(store));
+        let room = round(rt, store, load, plan.group, figures)?;
+        figures.sections = acknowledged(store);
         if is_telling {
             tell(rt, figures.sections)?;
         }

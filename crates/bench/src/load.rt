@@ -28,6 +28,8 @@ pub fn schema_of(alloc: Global) -> Option<Schema> {
 pub struct Load {
     numbers: [u64; 5],
     values: [u64; 5],
+    // Lane 0 has no turn.
+    is_without_lane_0: bool,
 }
 
 impl Load {
@@ -36,12 +38,27 @@ impl Load {
         Load {
             numbers: [0; 5],
             values: [0; 5],
+            is_without_lane_0: false,
         }
     }
 
-    /// The store was opened again: each object has become free no time yet.
-    pub fn open_again(&mut self) {
-        self.numbers = [0; 5];
+    /// Lane 0 has no more turns.
+    pub fn without_lane_0(self) -> Load {
+        Load {
+            is_without_lane_0: true,
+            ..self
+        }
+    }
+
+    /// The lane whose turn this is.
+    pub fn lane(&self, turn: u64) -> u8
+        ensures { result < 4 }
+    {
+        if self.is_without_lane_0 {
+            1 + (turn % 3) as u8
+        } else {
+            (turn % 4) as u8
+        }
     }
 
     /// The lane's next section: it takes its own object and the shared one, counts in a field of each, and frees them.

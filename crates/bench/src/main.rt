@@ -9,6 +9,7 @@
 mod acknowledged;
 mod clock;
 mod figures;
+mod holding_back;
 mod life;
 mod load;
 mod measuring;
@@ -19,7 +20,8 @@ mod words;
 
 use figures::{Figures, print_figures};
 use file_disk::{BackingFile, BufferedDisk, FileError, VolatileDisk};
-use measuring::{image_size, measure};
+use holding_back::{HeldBack, MOST, hold_back, print_held_back};
+use measuring::{CAPACITY, image_size, measure};
 use memory::print_memory;
 use recovering::{print_heap, recovered_heap};
 use std::alloc::Global;
@@ -32,8 +34,8 @@ use words::{Plan, Words, read_words};
 
 const HELP: &str = "\
 bench memory SECTIONS GROUP      measures the store over bytes in memory
-bench trim SECTIONS GROUP        the same of one store that is never opened again: it trims after each group
 bench file SECTIONS GROUP PATH   the same over a new file; one that is there is emptied
+bench open SECTIONS GROUP        measures settling in memory, with so many left out: they depend on a section that stays open
 bench tell SECTIONS GROUP PATH   on a new file, tells after each group how many sections are acknowledged
 bench recover PATH               recovers that file, and prints the sections that each lane counted, and all of them
 SECTIONS are acknowledged at least, GROUP of them at a time, 1 or more; a section is six records of one of 4 lanes
@@ -45,18 +47,30 @@ const WRONG_WORDS: u8 = 2;
 /// The measuring stopped.
 const FAULT: u8 = 1;
 
+// A disk in memory, for lanes' logs of so many records.
+fn disk_in_memory(alloc: Global, capacity: u32) -> Result<VolatileDisk, Stopped> {
+    let size = image_size(alloc, capacity)?;
+    VolatileDisk::new(alloc, size).map_err(|_| Stopped::Memory)
+}
+
 // Measures over a disk in memory.
 fn over_memory<R: Print + Clock + CpuClock>(
     rt: &R,
     alloc: Global,
     plan: &Plan,
 ) -> Result<Figures, Stopped> {
-    let size = image_size(alloc)?;
-    let Ok(disk) = VolatileDisk::new(alloc, size) else {
-        return Err(Stopped::Memory);
-    };
+    let disk = disk_in_memory(alloc, CAPACITY)?;
     let (_disk, figures) = measure(rt, alloc, disk, plan, false)?;
     Ok(figures)
+}
+
+// Measures settling with sections left out.
+fn with_one_open<R: Clock + CpuClock>(
+    rt: &R,
+    alloc: Global,
+    plan: &Plan,
+) -> Result<HeldBack, Stopped> {
+    hold_back(rt, alloc, disk_in_memory(alloc, MOST)?, plan)
 }
 
 // There is no disk over the file.
@@ -79,7 +93,7 @@ where
     F: BackingFile + Drop,
     R: Files<File = F> + Print + Clock + CpuClock,
 {
-    let size = image_size(alloc)?;
+    let size = image_size(alloc, CAPACITY)?;
     let disk = BufferedDisk::create(rt, alloc, path, size).map_err(no_disk)?;
     let (_disk, figures) = measure(rt, alloc, disk, plan, is_telling)?;
     Ok(figures)
@@ -94,7 +108,7 @@ where
     let alloc = rt.alloc();
     match words {
         Words::Help => print!(rt; "{HELP}").map_err(|_| Stopped::Telling),
-        Words::Memory { plan } | Words::Trim { plan } => {
+        Words::Memory { plan } => {
             print_memory(rt, "before");
             let figures = over_memory(rt, alloc, &plan)?;
             print_memory(rt, "after");
@@ -106,6 +120,7 @@ where
             print_memory(rt, "after");
             print_figures(rt, &figures)
         }
+        Words::Open { plan } => print_held_back(rt, &plan, &with_one_open(rt, alloc, &plan)?),
         Words::Tell { plan, path } => {
             over_file(rt, alloc, &plan, path, true)?;
             Ok(())

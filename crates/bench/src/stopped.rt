@@ -16,6 +16,9 @@ pub enum Stopped {
     /// The store refused a call.
     #[error("the store refused a call")]
     Store,
+    /// A lane's log is full of sections that are left out.
+    #[error("a lane's log is full")]
+    Full,
     /// The image could not be recovered.
     #[error("the image could not be recovered")]
     Recovery,

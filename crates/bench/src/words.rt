@@ -10,8 +10,6 @@ pub struct Plan {
     pub sections: u64,
     /// So many sections are logged, written home and acknowledged together: 1 or more.
     pub group: u64,
-    /// What is acknowledged is trimmed at once, so that no log is ever full.
-    pub is_trimming: bool,
 }
 
 /// What the words ask for.
@@ -21,12 +19,12 @@ pub enum Words<'a> {
     Help,
     /// To measure the store over bytes in memory.
     Memory { plan: Plan },
-    /// The same of one store, which trims after each group.
-    Trim { plan: Plan },
     /// To measure the store over a new file.
     File { plan: Plan, path: &'a str },
     /// To tell, after each group on a new file, how many sections are acknowledged.
     Tell { plan: Plan, path: &'a str },
+    /// To measure settling in memory while a section stays open that all others depend on.
+    Open { plan: Plan },
     /// To recover the image in a file, and to print its heap.
     Recover { path: &'a str },
 }
@@ -48,13 +46,8 @@ pub fn read_words(texts: &[String]) -> Option<Words<'_>>
     if texts.len() == 4 && word == "memory" {
         return Some(Words::Memory { plan });
     }
-    if texts.len() == 4 && word == "trim" {
-        return Some(Words::Trim {
-            plan: Plan {
-                is_trimming: true,
-                ..plan
-            },
-        });
+    if texts.len() == 4 && word == "open" {
+        return Some(Words::Open { plan });
     }
     let path = texts.get(4)?.as_str();
     if texts.len() == 5 && word == "file" {
@@ -74,11 +67,7 @@ fn read_plan(sections: &str, group: &str) -> Option<Plan>
     let sections = sections.parse::<u64>().ok()?;
     let group = group.parse::<u64>().ok()?;
     if group > 0 {
-        Some(Plan {
-            sections,
-            group,
-            is_trimming: false,
-        })
+        Some(Plan { sections, group })
     } else {
         None
     }
