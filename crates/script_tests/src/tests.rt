@@ -3,6 +3,7 @@ mod answers;
 mod crashes;
 mod forms;
 mod plays;
+mod trims;
 
 use script_lines::{ScriptError, ScriptErrorKind};
 use scripts::run_script;
@@ -110,9 +111,7 @@ fn lines_end_as_documented(rt: HostRuntime) {
     expect_run(&rt, alloc, b" \n", b"", inside);
     let later = stops(2, ScriptErrorKind::NotText);
     expect_run(&rt, alloc, b"heap\n# \xC3\xA9\nheap\n", REFUSED, later);
-    // Read, but not played yet.
-    let unplayed = stops(2, ScriptErrorKind::Syntax);
-    expect_run(&rt, alloc, b"heap\ntrim\n", REFUSED, unplayed);
+    expect_run(&rt, alloc, b"trim\n", REFUSED, Ok(()));
     let twice = b"refused double name\n";
     expect_run(&rt, alloc, b"object a\nobject a\n", twice, Ok(()));
 }

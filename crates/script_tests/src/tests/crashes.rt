@@ -32,6 +32,38 @@ acknowledged 1 0\n\
 ",
 );
 
+// The same with a trim, and one that finds nothing to trim.
+const TRIMMED: (&[u8], &[u8]) = (
+    b"\
+object o0\n\
+object o1\n\
+object o2\n\
+object o3\n\
+field f0 o0 o0 10\n\
+field f1 o1 o1 20\n\
+format 2 4000\n\
+t1 enter o0\n\
+t1 store f0 5\n\
+t1 exit o0\n\
+log\n\
+home\n\
+settle\n\
+trim\n\
+trim\n\
+",
+    b"\
+formatted 130208\n\
+ok\n\
+ok\n\
+ok\n\
+logged 3\n\
+wrote 1\n\
+acknowledged 1 0\n\
+ok\n\
+ok\n\
+",
+);
+
 // Two sections, of which the second took what the first freed. Both are acknowledged once the first has ended.
 const BOTH: (&[u8], &[u8]) = (
     b"\
@@ -139,7 +171,7 @@ fn expect_recovery(
     Ok(())
 }
 
-// The last calls of a settling, from the end: a sync, the gate's opening, a sync, the body, a sync, the gate's closing.
+// The last calls of a settling or of a trim, from the end: a sync, the gate's opening, a sync, the body, a sync, the gate's closing.
 #[test]
 fn crashes_are_recovered(rt: HostRuntime) -> Result<(), Fail> {
     let cases = [
@@ -148,6 +180,10 @@ fn crashes_are_recovered(rt: HostRuntime) -> Result<(), Fail> {
         (ACKNOWLEDGED, b"crash lost back 2\n", SECTION_DROPPED),
         (ACKNOWLEDGED, b"crash a5 back 3\n", SECTION_DROPPED),
         (ACKNOWLEDGED, b"crash a5 back 6\n", SECTION_DROPPED),
+        (TRIMMED, b"crash lost\n", SECTION_KEPT),
+        (TRIMMED, b"crash kept back 2\n", SECTION_KEPT),
+        (TRIMMED, b"crash a5 back 4\n", SECTION_KEPT),
+        (TRIMMED, b"crash lost back 8\n", SECTION_DROPPED),
         (BOTH, b"crash lost back 1\n", BOTH_DROPPED),
         (BOTH, b"crash kept back 1\n", BOTH_KEPT),
     ];
