@@ -38,6 +38,3 @@ pub use laws::{
 pub use layout::Layout;
 pub use recovered::{Recovered, RecoveredParts};
 pub use slot::Slot;
-
-#[cfg(test)]
-mod tests;

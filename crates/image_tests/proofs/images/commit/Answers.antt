@@ -1,10 +1,9 @@
 use Rattle.std.proofs.Common.{refl}
 use Rattle.image.specs.Control.{empty_control}
-use Rattle.image.proofs.Fresh.{empty_rows}
-use Rattle.image.proofs.tests.commit.Goals as goal
+use Rattle.image_tests.proofs.images.commit.Goals as goal
 
 pub commit_control-requires-clause-rows : goal.commit_control-requires-clause-rows
-commit_control-requires-clause-rows c = empty_rows c.args.layout.now
+commit_control-requires-clause-rows c = c.empty_rows_law.ensures c.args.layout.now
 
 pub commit_control-requires-clause-steady : goal.commit_control-requires-clause-steady
 commit_control-requires-clause-steady c = (empty_control c.args.sequence, c.requires.steady, refl)

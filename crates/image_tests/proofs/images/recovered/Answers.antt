@@ -8,7 +8,7 @@ use Rattle.image.specs.Image.{IsImageOf}
 use Rattle.image.specs.Slots.{Shows}
 use Rattle.image.specs.declared.layout.Layout.{Layout}
 use Rattle.image.specs.declared.slot.Slot.TheVariants.{A}
-use Rattle.image.proofs.tests.recovered.Goals as goal
+use Rattle.image_tests.proofs.images.recovered.Goals as goal
 
 two_cells : (l : Layout) (b : List ℕ) (v w : ℕ) → l.fields ≡ 2 → HasCell l 0 b v → HasCell l 1 b w → HasCells l b (v ∷ w ∷ [])
 two_cells l b v w two p q = record {
@@ -28,7 +28,7 @@ of-requires c =
     let now : (device_of c.get_cell-2.new.disk).now ≡ m0 = c.in-Ok-get_cell-2.ensures.same.now ∙ two ∙ one in
     let first = subst (λ (m : Moment). HasCell l 0 m.bytes c.in-Ok-get_cell.first) one c.in-Ok-get_cell.ensures.ok in
     let second = subst (λ (m : Moment). HasCell l 1 m.bytes c.in-Ok-get_cell-2.second) (two ∙ one) c.in-Ok-get_cell-2.ensures.ok in
-    let cells = subst (HasCells l m0.bytes) (sym c.in_ok-heap.ensures.items) (two_cells l m0.bytes c.in-Ok-get_cell.first c.in-Ok-get_cell-2.second c.if-layout-ne2.false first second) in
+    let cells = subst (HasCells l m0.bytes) (sym c.in_ok-heap.ensures) (two_cells l m0.bytes c.in-Ok-get_cell.first c.in-Ok-get_cell-2.second c.if-layout-ne2.false first second) in
     let fresh = c.in_ok-disk.ensures.fresh in
     let image : IsImageOf l c.in-Ok.guards.items m0.bytes = record { room = c.in_ok-disk.ensures.size; header = fresh.header; guards = c.in-Ok.ensures.exact } in
     record {

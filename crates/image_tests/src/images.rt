@@ -1,0 +1,659 @@
+//! The image of the common schema, by its bytes; refusals; and a commit at each of its stops.
+ghost use Rattle.std.specs.Prelude.{◌≡◌, ◌≤◌, ◌<◌, ◌+◌, [], ◌∷◌, length, IfSome, OnOk};
+ghost use Rattle.block_disk.specs.Memory.{device_of};
+ghost use Rattle.image.specs.Commit.{IsSteady};
+ghost use Rattle.image.specs.Control.{empty_control};
+ghost use Rattle.image.specs.Format.{IsFresh};
+ghost use Rattle.image.specs.Layout.{IsLayout, IsLayoutOf, size_of};
+ghost use Rattle.image.specs.Slots.{other};
+ghost use Rattle.image.specs.declared.slot.Slot.TheVariants.{A};
+
+use crate::schemas::{field, object};
+use block_disk::{Disk, Fill, MemDisk};
+use guards::{Schema, SchemaBuilder};
+use heap_model::{FieldId, ObjectId};
+use image::{
+    Control, ImageError, LaneRow, Layout, Recovered, Slot, choose_control, commit_control,
+    empty_rows_law, get_cell, put_cell, read_guards, read_header, steady_law, write_header,
+};
+use std::alloc::Global;
+
+// Four objects, and a field of each of the first two, which guards it.
+fn declare(builder: &mut SchemaBuilder) -> Option<()> {
+    object(builder, "o0").ok()?;
+    object(builder, "o1").ok()?;
+    object(builder, "o2").ok()?;
+    object(builder, "o3").ok()?;
+    field(builder, ObjectId(0), "f0", ObjectId(0), 10).ok()?;
+    field(builder, ObjectId(1), "f1", ObjectId(1), 20).ok()?;
+    Some(())
+}
+
+fn common_schema(alloc: Global) -> Option<Schema> {
+    let mut builder = SchemaBuilder::new(alloc);
+    declare(&mut builder)?;
+    builder.build().ok()
+}
+
+// The image of the schema with two lanes of 4,000 records, on a disk that ends with it.
+fn fresh(alloc: Global, schema: &Schema) -> Option<(MemDisk, Layout)>
+    ensures layout { IfSome result (λ made. IsLayoutOf schema.now made.1) }
+    ensures size { IfSome result (λ made. size_of made.1 ≤ length (device_of made.0).now.bytes) }
+    ensures fresh { IfSome result (λ made. IsFresh schema.now made.1 (device_of made.0).now.bytes) }
+    ensures durable { IfSome result (λ made. (device_of made.0).now.pending ≡ []) }
+{
+    let layout = Layout::of(schema, 2, 4000)?;
+    let mut disk = MemDisk::new(alloc, layout.size()).ok()?;
+    let Ok(()) = write_header(&mut disk, &layout, schema) else {
+        return None;
+    };
+    if disk.size() < layout.size() {
+        return None;
+    }
+    Some((disk, layout))
+}
+
+// The same, for a test that asks nothing of the schema.
+fn steady(alloc: Global) -> Option<(MemDisk, Layout)>
+    ensures layout { IfSome result (λ made. IsLayout made.1) }
+    ensures size { IfSome result (λ made. size_of made.1 ≤ length (device_of made.0).now.bytes) }
+    ensures steady { IfSome result (λ made. IsSteady made.1 (device_of made.0) A (empty_control 1)) }
+{
+    let schema = common_schema(alloc)?;
+    let (disk, layout) = fresh(alloc, &schema)?;
+    steady_law();
+    Some((disk, layout))
+}
+
+// The same, for a test that asks nothing more of it.
+fn fresh_disk(alloc: Global) -> Option<MemDisk> {
+    let (disk, _) = steady(alloc)?;
+    Some(disk)
+}
+
+// The size of the schema's image with so many lanes of so many records.
+fn size_with(schema: &Schema, lanes: u8, capacity: u32) -> Option<u64> {
+    let layout = Layout::of(schema, lanes, capacity)?;
+    Some(layout.size())
+}
+
+fn sizes(alloc: Global) -> Option<[Option<u64>; 5]> {
+    let schema = common_schema(alloc)?;
+    Some([
+        size_with(&schema, 0, 4000),
+        size_with(&schema, 33, 4000),
+        size_with(&schema, 2, 1999),
+        size_with(&schema, 2, 1_048_577),
+        size_with(&schema, 2, 4000),
+    ])
+}
+
+#[test]
+fn layouts_have_limits(rt: HostRuntime) {
+    assert!(rt; sizes(rt.alloc()) == Some([None, None, None, None, Some(130_208)]));
+}
+
+// The first 32 bytes. The next 32 are zeros.
+const HEADER: [u8; 32] = [
+    0x4d, 0x4f, 0x4e, 0x49, 0x48, 0x45, 0x41, 0x50, 0xa5, 0x02, 0, 0, 0, 0, 0, 0x04, 0, 0, 0, 0x02,
+    0, 0, 0x0f, 0xa0, 0, 0, 0, 0, 0, 0x01, 0xfc, 0xa0,
+];
+
+// The second field's guard row.
+const ROW: [u8; 16] = [0, 0, 0, 1, 0, 0, 0, 1, 0, 0, 0, 0, 0, 0, 0, 20];
+
+// Whether the disk has these bytes there.
+fn has(disk: &MemDisk, at: usize, bytes: &[u8]) -> bool {
+    let end = at.saturating_add(bytes.len());
+    disk.bytes().get(at..end) == Some(bytes)
+}
+
+// Its size and its calls, and whether header and guard row are as documented.
+fn fresh_found(alloc: Global) -> Option<(u64, u64, [bool; 3])> {
+    let disk = fresh_disk(alloc)?;
+    let as_documented = [
+        has(&disk, 0, &HEADER),
+        has(&disk, 32, &[0; 32]),
+        has(&disk, 2176, &ROW),
+    ];
+    Some((disk.size(), disk.stops(), as_documented))
+}
+
+#[test]
+fn a_fresh_image_is_as_documented(rt: HostRuntime) {
+    assert!(rt; fresh_found(rt.alloc()) == Some((130_208, 13, [true; 3])));
+}
+
+// What the readers say of the image, one after the other.
+fn study(alloc: Global, disk: &mut MemDisk) -> Result<(Slot, u64), ImageError> {
+    let layout = read_header(disk)?;
+    read_guards(alloc, disk, &layout)?;
+    let (slot, control) = choose_control(disk, &layout)?;
+    Ok((slot, control.sequence))
+}
+
+fn put(disk: &mut MemDisk, at: u64, bytes: &[u8]) -> Option<()> {
+    disk.write_at(at, bytes).ok()
+}
+
+// What the readers say of a fresh image with this byte altered.
+fn study_altered(alloc: Global, at: u64, byte: u8) -> Option<Result<(Slot, u64), ImageError>> {
+    let mut disk = fresh_disk(alloc)?;
+    put(&mut disk, at, &[byte])?;
+    Some(study(alloc, &mut disk))
+}
+
+// Whether the image with any one of these bytes altered, each at its place, is refused so.
+fn are_refused(alloc: Global, alterations: &[(u64, u8)], refusal: ImageError) -> bool {
+    alterations.iter().all(|(at, byte)| study_altered(alloc, *at, *byte) == Some(Err(refusal)))
+}
+
+#[test]
+fn another_name_is_no_image(rt: HostRuntime) {
+    let alterations = [(0, 0x4e), (7, 0x51), (8, 0), (8, 0xff)];
+    assert!(rt; are_refused(rt.alloc(), &alterations, ImageError::NotFormatted));
+}
+
+// The last two are of guard rows.
+#[test]
+fn altered_headers_are_refused(rt: HostRuntime) {
+    let alterations = [
+        (9, 0),
+        (9, 33),
+        (10, 1),
+        (15, 0),
+        (14, 0x10),
+        (19, 0),
+        (22, 0x07),
+        (31, 0xa1),
+        (32, 1),
+        (63, 1),
+        (2163, 4),
+        (2183, 4),
+    ];
+    assert!(rt; are_refused(rt.alloc(), &alterations, ImageError::BadHeader));
+}
+
+#[test]
+fn a_closed_gate_shows_no_control(rt: HostRuntime) {
+    assert!(rt; are_refused(rt.alloc(), &[(64, 0), (64, 0xa4)], ImageError::NoControl));
+}
+
+#[test]
+fn altered_controls_are_refused(rt: HostRuntime) {
+    let alterations = [
+        (79, 0),
+        (83, 2),
+        (84, 1),
+        (95, 1),
+        (119, 1),
+        (110, 0x10),
+        (175, 1),
+        (1111, 1),
+    ];
+    assert!(rt; are_refused(rt.alloc(), &alterations, ImageError::BadControl));
+}
+
+// The rows of a control with records in two lanes.
+fn two_rows() -> [LaneRow; 32] {
+    let mut rows = [LaneRow::EMPTY; 32];
+    rows[0] = LaneRow {
+        start: 1,
+        settled: 2,
+        logged: 5,
+        kept: 1,
+    };
+    rows[1] = LaneRow {
+        start: 0,
+        settled: 0,
+        logged: 258,
+        kept: 0,
+    };
+    rows
+}
+
+// The control's body with this sequence, worked out by hand.
+fn documented_body(sequence: u8) -> [u8; 1040] {
+    let mut body = [0; 1040];
+    body[7] = sequence;
+    body[11] = 1;
+    body[23] = 1;
+    body[31] = 2;
+    body[39] = 5;
+    body[47] = 1;
+    body[70] = 1;
+    body[71] = 2;
+    body
+}
+
+// A fresh image with another body in its first slot, the gate of which is open.
+fn disk_with(alloc: Global, body: &[u8]) -> Option<MemDisk> {
+    let mut disk = fresh_disk(alloc)?;
+    put(&mut disk, 72, body)?;
+    Some(disk)
+}
+
+// What the readers say where this byte of the documented body is altered.
+fn study_body(alloc: Global, at: usize, byte: u8) -> Option<Result<(Slot, u64), ImageError>> {
+    let mut body = documented_body(3);
+    *body.get_mut(at)? = byte;
+    let mut disk = disk_with(alloc, &body)?;
+    Some(study(alloc, &mut disk))
+}
+
+#[test]
+fn altered_bodies_are_refused(rt: HostRuntime) {
+    let alterations = [
+        (7, 0),
+        (11, 2),
+        (12, 1),
+        (15, 1),
+        (23, 3),
+        (47, 3),
+        (38, 16),
+        (71 + 32, 1),
+    ];
+    let refused = Some(Err(ImageError::BadControl));
+    assert!(rt;
+        alterations
+            .iter()
+            .all(|(at, byte)| study_body(rt.alloc(), *at, *byte) == refused)
+    );
+}
+
+// The control that is read of one disk, and the slot into which one with its rows is committed on the other.
+fn read_and_commit(
+    documented: &mut MemDisk,
+    disk: &mut MemDisk,
+    layout: &Layout,
+) -> Option<(Control, Slot)>
+    requires limits { IsLayout layout.now }
+    requires steady { IsSteady layout.now (device_of disk.old) A (empty_control 1) }
+{
+    if documented.size() < 2160 {
+        return None;
+    }
+    let Ok((Slot::A, control)) = choose_control(documented, layout) else {
+        return None;
+    };
+    let Ok(slot) = commit_control(disk, layout, Slot::A, 1, &control.rows) else {
+        return None;
+    };
+    Some((control, slot))
+}
+
+// The control of two rows is read of its documented body. Committed over a fresh image, its rows are spelt so again.
+fn read_and_committed(alloc: Global) -> Option<(Control, Slot, bool)> {
+    let mut documented = disk_with(alloc, &documented_body(3))?;
+    let (mut disk, layout) = steady(alloc)?;
+    let (control, slot) = read_and_commit(&mut documented, &mut disk, &layout)?;
+    Some((control, slot, has(&disk, 1120, &documented_body(2))))
+}
+
+#[test]
+fn a_control_has_the_documented_bytes(rt: HostRuntime) {
+    let control = Control {
+        sequence: 3,
+        version: 1,
+        rows: two_rows(),
+    };
+    assert!(rt; read_and_committed(rt.alloc()) == Some((control, Slot::B, true)));
+}
+
+// What the readers say where the gates of both slots are open, with this sequence in slot B.
+fn study_both_open(alloc: Global, sequence: u8) -> Option<Result<(Slot, u64), ImageError>> {
+    let mut disk = fresh_disk(alloc)?;
+    put(&mut disk, 1112, &[0xa5])?;
+    put(&mut disk, 1120, &documented_body(sequence))?;
+    Some(study(alloc, &mut disk))
+}
+
+// The greater sequence counts, and two equal ones are refused.
+#[test]
+fn the_greater_sequence_counts(rt: HostRuntime) {
+    let found = [
+        study_both_open(rt.alloc(), 0),
+        study_both_open(rt.alloc(), 1),
+        study_both_open(rt.alloc(), 2),
+    ];
+    assert!(rt;
+        found
+            == [
+                Some(Ok((Slot::A, 1))),
+                Some(Err(ImageError::BadControl)),
+                Some(Ok((Slot::B, 2)))
+            ]
+    );
+}
+
+// What is said of devices that are too small: one without the image's last byte, which has a bad guard row too, and one
+// without a whole header.
+fn small_devices(alloc: Global) -> Option<[Result<Layout, ImageError>; 2]> {
+    let disk = fresh_disk(alloc)?;
+    let mut short = MemDisk::from_bytes(alloc, disk.bytes().get(..130_207)?).ok()?;
+    put(&mut short, 2163, &[9])?;
+    let mut none = MemDisk::new(alloc, 63).ok()?;
+    Some([read_header(&mut short), read_header(&mut none)])
+}
+
+#[test]
+fn a_small_device_is_told_of_before_its_guard_rows(rt: HostRuntime) {
+    let refused = [Err(ImageError::TooSmall), Err(ImageError::NotFormatted)];
+    assert!(rt; small_devices(rt.alloc()) == Some(refused));
+}
+
+// Commits a control with empty logs over one with this sequence.
+fn commit(
+    disk: &mut MemDisk,
+    layout: &Layout,
+    chosen: Slot,
+    sequence: u64,
+) -> Result<Slot, ImageError>
+    requires limits { IsLayout layout.now }
+    requires steady { IsSteady layout.now (device_of disk.old) chosen (empty_control sequence) }
+    ensures steady { OnOk result (IsSteady layout.now (device_of disk.new) (other chosen) (empty_control (sequence + 1))) }
+{
+    empty_rows_law();
+    commit_control(disk, layout, chosen, sequence, &[LaneRow::EMPTY; 32])
+}
+
+// The same, where the call of this number fails.
+fn failed_commit(
+    disk: &mut MemDisk,
+    layout: &Layout,
+    chosen: Slot,
+    sequence: u64,
+    call: u64,
+) -> Result<Slot, ImageError>
+    requires limits { IsLayout layout.now }
+    requires steady { IsSteady layout.now (device_of disk.old) chosen (empty_control sequence) }
+    requires call { 1 ≤ call }
+{
+    disk.fail_call(call);
+    commit(disk, layout, chosen, sequence)
+}
+
+// Two commits over a fresh image, and its stops after each.
+fn commit_twice(disk: &mut MemDisk, layout: &Layout) -> Option<[u64; 2]>
+    requires limits { IsLayout layout.now }
+    requires steady { IsSteady layout.now (device_of disk.old) A (empty_control 1) }
+{
+    let Ok(Slot::B) = commit(disk, layout, Slot::A, 1) else {
+        return None;
+    };
+    let first = disk.stops();
+    let Ok(Slot::A) = commit(disk, layout, Slot::B, 2) else {
+        return None;
+    };
+    Some([first, disk.stops()])
+}
+
+// What a crash at this stop shows.
+fn shown(
+    alloc: Global,
+    disk: &MemDisk,
+    stop: u64,
+    fill: Fill,
+) -> Option<Result<(Slot, u64), ImageError>> {
+    let mut image = disk.crash_image(stop, fill).ok()??;
+    Some(study(alloc, &mut image))
+}
+
+// Whether a crash at each stop from 14 to 24 shows the first control before the stop `second`, then the second control, and
+// the third from the stop `third`.
+fn are_shown(alloc: Global, disk: &MemDisk, fill: Fill, second: u64, third: u64) -> bool {
+    (14..25).all(|stop| {
+        let expected = if stop < second {
+            (Slot::A, 1)
+        } else if stop < third {
+            (Slot::B, 2)
+        } else {
+            (Slot::A, 3)
+        };
+        shown(alloc, disk, stop, fill) == Some(Ok(expected))
+    })
+}
+
+// The stops of two commits, and whether their crashes show what they are to, for each fill. Four calls go into slot B, whose
+// gate is closed, and six into slot A, whose gate is open.
+fn crashed_commits(alloc: Global) -> Option<([u64; 2], [bool; 5])> {
+    let (mut disk, layout) = steady(alloc)?;
+    let stops = commit_twice(&mut disk, &layout)?;
+    let are_shown = [
+        are_shown(alloc, &disk, Fill::Lost, 18, 24),
+        are_shown(alloc, &disk, Fill::Kept, 16, 22),
+        are_shown(alloc, &disk, Fill::Byte(0), 18, 24),
+        are_shown(alloc, &disk, Fill::Byte(0xff), 18, 24),
+        are_shown(alloc, &disk, Fill::Byte(0xa5), 16, 22),
+    ];
+    Some((stops, are_shown))
+}
+
+// The image is made by 13 writes and syncs.
+#[test]
+fn a_crash_in_a_commit_leaves_the_old_control_or_the_new_one(rt: HostRuntime) {
+    assert!(rt; crashed_commits(rt.alloc()) == Some(([17, 23], [true; 5])));
+}
+
+// Two commits over a fresh image, the call of this number in the second of which is a fault.
+fn fail_second_commit(disk: &mut MemDisk, layout: &Layout, call: u64) -> Option<()>
+    requires limits { IsLayout layout.now }
+    requires steady { IsSteady layout.now (device_of disk.old) A (empty_control 1) }
+    requires call { 1 ≤ call }
+{
+    let Ok(Slot::B) = commit(disk, layout, Slot::A, 1) else {
+        return None;
+    };
+    match failed_commit(disk, layout, Slot::B, 2, call) {
+        Err(ImageError::Fault) => Some(()),
+        _ => None,
+    }
+}
+
+// What the readers say then.
+fn study_failed_commit(alloc: Global, call: u64) -> Option<Result<(Slot, u64), ImageError>>
+    requires { 1 ≤ call }
+{
+    let (mut disk, layout) = steady(alloc)?;
+    fail_second_commit(&mut disk, &layout, call)?;
+    Some(study(alloc, &mut disk))
+}
+
+// A read and six writes and syncs, each of which fails in turn. At the last of them the new control shows already.
+#[test]
+fn a_fault_in_a_commit_leaves_the_old_control_or_the_new_one(rt: HostRuntime) {
+    for call in 1..8 {
+        let shown = if call < 7 { (Slot::B, 2) } else { (Slot::A, 3) };
+        assert!(rt;
+            study_failed_commit(rt.alloc(), call) == Some(Ok(shown)),
+            "call {call}"
+        );
+    }
+}
+
+// What a commit over a fresh image answers where the sixth call fails.
+fn committed_in_five(alloc: Global) -> Option<Result<Slot, ImageError>> {
+    let (mut disk, layout) = steady(alloc)?;
+    Some(failed_commit(&mut disk, &layout, Slot::A, 1, 6))
+}
+
+// Into a slot whose gate is closed there are a read and four writes and syncs.
+#[test]
+fn a_commit_over_a_closed_gate_makes_five_calls(rt: HostRuntime) {
+    assert!(rt; committed_in_five(rt.alloc()) == Some(Ok(Slot::B)));
+}
+
+// Whether the header can be read of an image, the call of this number in the making of which is a fault. None where it is
+// answered otherwise.
+fn fail_image(disk: &mut MemDisk, layout: &Layout, schema: &Schema, call: u64) -> Option<bool>
+    requires schema { IsLayoutOf schema.now layout.now }
+    requires fits { size_of layout.now ≤ length (device_of disk.old).now.bytes }
+    requires call { 1 ≤ call }
+{
+    disk.fail_call(call);
+    match write_header(disk, layout, schema) {
+        Err(ImageError::Fault) => Some(read_header(disk) == Ok(*layout)),
+        _ => None,
+    }
+}
+
+fn is_header_of_failed_image(alloc: Global, schema: &Schema, call: u64) -> Option<bool>
+    requires { 1 ≤ call }
+{
+    let layout = Layout::of(schema, 2, 4000)?;
+    let mut disk = MemDisk::new(alloc, layout.size()).ok()?;
+    fail_image(&mut disk, &layout, schema, call)
+}
+
+// Whether each of the 13 calls fails so, and the header is whole before the last alone.
+fn images_fail(alloc: Global) -> Option<bool> {
+    let schema = common_schema(alloc)?;
+    Some((1..14).all(|call| is_header_of_failed_image(alloc, &schema, call) == Some(call == 13)))
+}
+
+// Each of the calls that make an image fails in turn. The header is whole before the last.
+#[test]
+fn a_fault_in_the_making_is_answered_as_one(rt: HostRuntime) {
+    assert!(rt; images_fail(rt.alloc()) == Some(true));
+}
+
+// What the readers say of a fresh image, where the call of this number is a fault.
+fn study_with_fault(alloc: Global, call: u64) -> Option<Result<(Slot, u64), ImageError>>
+    requires { 1 ≤ call }
+{
+    let mut disk = fresh_disk(alloc)?;
+    disk.fail_call(call);
+    Some(study(alloc, &mut disk))
+}
+
+#[test]
+fn a_fault_in_the_reading_is_answered_as_one(rt: HostRuntime) {
+    for call in 1..6 {
+        assert!(rt;
+            study_with_fault(rt.alloc(), call) == Some(Err(ImageError::Fault)),
+            "call {call}"
+        );
+    }
+}
+
+// What is answered where a cell's write is a fault, where its read is one, and then.
+fn answer_cells(
+    disk: &mut MemDisk,
+    layout: &Layout,
+) -> (Result<(), ImageError>, [Result<u64, ImageError>; 2])
+    requires fits { size_of layout.now ≤ length (device_of disk.old).now.bytes }
+    requires field { 1 < layout.now.fields }
+{
+    disk.fail_call(1);
+    let put = put_cell(disk, layout, FieldId(1), 7);
+    disk.fail_call(1);
+    let got = get_cell(disk, layout, FieldId(1));
+    (put, [got, get_cell(disk, layout, FieldId(1))])
+}
+
+fn cells_answered(alloc: Global) -> Option<(Result<(), ImageError>, [Result<u64, ImageError>; 2])> {
+    let (mut disk, layout) = steady(alloc)?;
+    if layout.fields < 2 {
+        return None;
+    }
+    Some(answer_cells(&mut disk, &layout))
+}
+
+#[test]
+fn a_fault_at_a_cell_is_answered_as_one(rt: HostRuntime) {
+    let fault = ImageError::Fault;
+    assert!(rt; cells_answered(rt.alloc()) == Some((Err(fault), [Err(fault), Ok(20)])));
+}
+
+fn pair(alloc: Global, first: u64, second: u64) -> Option<Vec<u64>>
+    ensures { IfSome result (λ heap. heap.items ≡ first ∷ second ∷ []) }
+{
+    vec![in alloc; first, second].ok()
+}
+
+// A fresh image with what was read of it.
+fn recovered(alloc: Global, schema: &Schema) -> Option<Recovered<MemDisk>> {
+    let (mut disk, layout) = fresh(alloc, schema)?;
+    let Ok(guards) = read_guards(alloc, &mut disk, &layout) else {
+        return None;
+    };
+    if layout.fields != 2 {
+        return None;
+    }
+    let Ok(first) = get_cell(&mut disk, &layout, FieldId(0)) else {
+        return None;
+    };
+    let Ok(second) = get_cell(&mut disk, &layout, FieldId(1)) else {
+        return None;
+    };
+    let heap = pair(alloc, first, second)?;
+    Some(Recovered::of(disk, layout, guards, Slot::A, 1, heap))
+}
+
+// Its heap's two values, its slot, and its sequence, size and stops. Put together again, it is read as before.
+fn taken_apart(
+    alloc: Global,
+) -> Option<([u64; 2], Slot, [u64; 3], Result<(Slot, u64), ImageError>)> {
+    let schema = common_schema(alloc)?;
+    let made = recovered(alloc, &schema)?;
+    let heap = *made.heap().as_array::<2>()?;
+    let parts = made.into_parts();
+    let (slot, sequence) = (parts.slot, parts.sequence);
+    let numbers = [sequence, parts.layout.size(), parts.disk.stops()];
+    let made = Recovered::of(
+        parts.disk,
+        parts.layout,
+        parts.guards,
+        parts.slot,
+        parts.sequence,
+        parts.heap,
+    );
+    let mut disk = made.into_disk();
+    Some((heap, slot, numbers, study(alloc, &mut disk)))
+}
+
+#[test]
+fn a_fresh_image_is_taken_apart(rt: HostRuntime) {
+    assert!(rt;
+        taken_apart(rt.alloc()) == Some(([10, 20], Slot::A, [1, 130_208, 13], Ok((Slot::A, 1))))
+    );
+}
+
+fn count_guards(
+    alloc: Global,
+    disk: &mut MemDisk,
+    layout: &Layout,
+) -> Option<Result<usize, ImageError>>
+    requires { IsLayout layout.now }
+{
+    if disk.size() < layout.size() {
+        return None;
+    }
+    match read_guards(alloc, disk, layout) {
+        Ok(rows) => Some(Ok(rows.len())),
+        Err(error) => Some(Err(error)),
+    }
+}
+
+// How many guard rows are read of a fresh image, and of it with a row that names no object.
+fn guards_read(alloc: Global) -> Option<[Result<usize, ImageError>; 2]> {
+    let (mut disk, layout) = steady(alloc)?;
+    let good = count_guards(alloc, &mut disk, &layout)?;
+    put(&mut disk, 2163, &[4])?;
+    Some([good, count_guards(alloc, &mut disk, &layout)?])
+}
+
+// Whether a bad row is told of, whether or not there is memory. Without the memory for a disk there is nothing to tell.
+fn tells_of_memory_last(alloc: Global) -> bool {
+    match guards_read(alloc) {
+        Some(found) => (found[0] == Ok(2) || found[0] == Err(ImageError::NoMemory))
+            && found[1] == Err(ImageError::BadHeader),
+        None => true,
+    }
+}
+
+// Passes with any one of its allocations refused (`rt try --test --fail-alloc N`), and with none.
+#[test]
+fn want_of_memory_is_the_last_refusal(rt: HostRuntime) {
+    assert!(rt; tells_of_memory_last(rt.alloc()));
+}
