@@ -10,6 +10,7 @@ use block_disk::MemDisk;
 use durable::Store;
 use guards::{Schema, SchemaBuilder};
 use monitor::Shared;
+use recover::recover;
 use running_heap::{RunningHeap, open};
 use session::Session;
 use std::alloc::Global;
@@ -66,5 +67,33 @@ pub fn open_one(alloc: Global) -> Option<(Shared, Session, Helper<MemDisk>)>
     match sessions.pop() {
         Some(session) => Some((shared, session, helper)),
         None => None,
+    }
+}
+
+/// The same with two lanes: the shared words, their sessions, and the helper.
+pub fn open_two(alloc: Global) -> Option<(Shared, Session, Session, Helper<MemDisk>)>
+    ensures first { IfSome result (λ o. IsJoined o.0 o.3.store.known.layout.capacity o.3.rings o.1) }
+    ensures second { IfSome result (λ o. IsJoined o.0 o.3.store.known.layout.capacity o.3.rings o.2) }
+    ensures helping { IfSome result (λ o. IsHelping device_of o.0 o.3) }
+{
+    let RunningHeap {
+        shared,
+        mut sessions,
+        helper,
+    } = open_lanes(alloc, 2)?;
+    let Some(second) = sessions.pop() else {
+        return None;
+    };
+    match sessions.pop() {
+        Some(first) => Some((shared, first, second, helper)),
+        None => None,
+    }
+}
+
+/// The values that recovery gives the heap on the device. `None` is a refusal.
+pub fn values_on(alloc: Global, disk: MemDisk) -> Option<Vec<u64>> {
+    match recover(alloc, disk) {
+        Ok((recovered, _report)) => recovered.heap().to_vec(alloc).ok(),
+        Err(_) => None,
     }
 }
