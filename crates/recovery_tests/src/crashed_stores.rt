@@ -1,6 +1,7 @@
 //! Runs of a store that end in a crash, and what recovery makes of what is left.
 mod altered;
 mod crashes;
+mod faults;
 mod runs;
 
 use crate::crashed_stores::runs::{

@@ -1,4 +1,6 @@
 //! Cut-off and altered images of a store, and what recovery answers of them. Each byte's place follows from docs/FORMAT.md.
+ghost use Rattle.std.specs.Prelude.{◌<◌};
+
 use super::runs::{
     Outcome, acq, crashed, cut, dropped, one, outcome_of, recovery_of, rel, stored, two,
 };
@@ -7,7 +9,7 @@ use durable::StoreCall;
 use heap_model::Lane;
 use recover::{RecoverError, Why, study};
 use std::alloc::Global;
-use std::process::Abort;
+use std::ops::Range;
 use std::test::Fail;
 
 // A byte of an image by its place, and its new value.
@@ -44,97 +46,100 @@ fn refusal(
     Ok(recovery_of(alloc, disk)?.err())
 }
 
-// Why recovery of the first bytes of the image is refused, if it is.
-fn refusal_of_first(
+// Which of these changes isn't refused for its reason, if one isn't.
+fn other_refusal(
+    alloc: Global,
+    image: &MemDisk,
+    altered: &[(&[Change], RecoverError)],
+) -> Result<Option<usize>, Fail> {
+    for (row, (changes, why)) in altered.iter().enumerate() {
+        if refusal(alloc, image, changes)? != Some(*why) {
+            return Ok(Some(row));
+        }
+    }
+    Ok(None)
+}
+
+// Whether the first bytes of the image, so many, are refused for this reason.
+fn is_cut_off_so(
     alloc: Global,
     image: &MemDisk,
     length: usize,
-) -> Result<Option<RecoverError>, Fail> {
+    why: RecoverError,
+) -> Result<bool, Fail> {
     let bytes = image.bytes().get(..length).ok_or("no such byte")?;
     let disk = MemDisk::from_bytes(alloc, bytes)?;
-    Ok(recovery_of(alloc, disk)?.err())
+    Ok(recovery_of(alloc, disk)?.err() == Some(why))
 }
 
-// Checks that the images of these lengths are refused for this reason.
-fn check_lengths(
-    rt: &impl Abort,
+// The first of these lengths of which a beginning of the image isn't refused for this reason, if there is one.
+fn other_length(
     alloc: Global,
     image: &MemDisk,
-    lengths: &[usize],
+    lengths: Range<usize>,
+    step: usize,
     why: RecoverError,
-) -> Result<(), Fail> {
-    for length in lengths {
-        assert_eq!(rt;
-            refusal_of_first(alloc, image, *length)?,
-            Some(why),
-            "{length} bytes"
-        );
+) -> Result<Option<usize>, Fail>
+    requires { 0 < step }
+{
+    for length in lengths.step_by(step) {
+        if !is_cut_off_so(alloc, image, length, why)? {
+            return Ok(Some(length));
+        }
     }
-    Ok(())
+    Ok(None)
 }
 
-fn bad_record(lane: u8, place: u64) -> Option<RecoverError> {
-    Some(RecoverError::BadRecord {
+fn bad_record(lane: u8, place: u64) -> RecoverError {
+    RecoverError::BadRecord {
         lane: Lane(lane),
         place,
-    })
+    }
 }
 
-fn illegal(lane: u8, place: u64) -> Option<RecoverError> {
-    Some(RecoverError::IllegalLog {
+fn illegal(lane: u8, place: u64) -> RecoverError {
+    RecoverError::IllegalLog {
         lane: Lane(lane),
         place,
-    })
+    }
 }
 
+// Each beginning that is shorter than a header's first part, and every 1,833rd of the others, the shortest and the longest among them.
 #[test]
 fn a_part_of_an_image_is_refused(rt: HostRuntime) -> Result<(), Fail> {
     let image = crashed(rt.alloc(), &stored(), Fill::Lost)?;
-    check_lengths(
-        &rt,
+    let none = other_length(rt.alloc(), &image, 0..64, 1, RecoverError::NotFormatted)?;
+    assert_eq!(rt; none, None);
+    let none = other_length(
         rt.alloc(),
         &image,
-        &[0, 1, 7, 8, 9, 63],
-        RecoverError::NotFormatted,
-    )?;
-    check_lengths(
-        &rt,
-        rt.alloc(),
-        &image,
-        &[64, 65, 1112, 2160, 2208, 66_208, 130_207],
+        64..130_208,
+        1_833,
         RecoverError::TooSmall,
-    )
-}
-
-#[test]
-fn an_altered_header_is_refused(rt: HostRuntime) -> Result<(), Fail> {
-    let alloc = rt.alloc();
-    let image = crashed(alloc, &stored(), Fill::Lost)?;
-    let bad = Some(RecoverError::BadHeader);
-    assert_eq!(rt;
-        refusal(alloc, &image, &[(8, 0)])?,
-        Some(RecoverError::NotFormatted)
-    );
-    assert_eq!(rt; refusal(alloc, &image, &[(9, 0)])?, bad);
-    assert_eq!(rt; refusal(alloc, &image, &[(9, 33)])?, bad);
-    assert_eq!(rt; refusal(alloc, &image, &[(31, 161)])?, bad);
-    assert_eq!(rt; refusal(alloc, &image, &[(2163, 4)])?, bad);
+    )?;
+    assert_eq!(rt; none, None);
     Ok(())
 }
 
 #[test]
-fn an_altered_control_is_refused(rt: HostRuntime) -> Result<(), Fail> {
-    let alloc = rt.alloc();
-    let image = crashed(alloc, &stored(), Fill::Lost)?;
-    let bad = Some(RecoverError::BadControl);
-    assert_eq!(rt;
-        refusal(alloc, &image, &[(64, 0), (1112, 0)])?,
-        Some(RecoverError::NoControl)
-    );
-    assert_eq!(rt; refusal(alloc, &image, &[(79, 2)])?, bad);
-    assert_eq!(rt; refusal(alloc, &image, &[(83, 2)])?, bad);
-    assert_eq!(rt; refusal(alloc, &image, &[(103, 4)])?, bad);
-    assert_eq!(rt; refusal(alloc, &image, &[(119, 4)])?, bad);
+fn an_altered_image_is_refused(rt: HostRuntime) -> Result<(), Fail> {
+    let image = crashed(rt.alloc(), &stored(), Fill::Lost)?;
+    let altered: [(&[Change], RecoverError); 13] = [
+        (&[(8, 0)], RecoverError::NotFormatted),
+        (&[(9, 0)], RecoverError::BadHeader),
+        (&[(9, 33)], RecoverError::BadHeader),
+        (&[(31, 161)], RecoverError::BadHeader),
+        (&[(2163, 4)], RecoverError::BadHeader),
+        (&[(64, 0), (1112, 0)], RecoverError::NoControl),
+        (&[(79, 2)], RecoverError::BadControl),
+        (&[(83, 2)], RecoverError::BadControl),
+        (&[(103, 4)], RecoverError::BadControl),
+        (&[(119, 4)], RecoverError::BadControl),
+        (&[(2208, 9)], bad_record(0, 0)),
+        (&[(103, 1)], illegal(0, 1)),
+        (&[(119, 0)], illegal(0, 3)),
+    ];
+    assert_eq!(rt; other_refusal(rt.alloc(), &image, &altered)?, None);
     Ok(())
 }
 
@@ -172,16 +177,6 @@ fn a_worn_control_is_studied_but_not_recovered(rt: HostRuntime) -> Result<(), Fa
     Ok(())
 }
 
-#[test]
-fn an_altered_log_is_refused(rt: HostRuntime) -> Result<(), Fail> {
-    let alloc = rt.alloc();
-    let image = crashed(alloc, &stored(), Fill::Lost)?;
-    assert_eq!(rt; refusal(alloc, &image, &[(2208, 9)])?, bad_record(0, 0));
-    assert_eq!(rt; refusal(alloc, &image, &[(103, 1)])?, illegal(0, 1));
-    assert_eq!(rt; refusal(alloc, &image, &[(119, 0)])?, illegal(0, 3));
-    Ok(())
-}
-
 // The second lane's section is acknowledged, and took what the first lane's freed, which isn't.
 #[test]
 fn an_acknowledged_section_that_depends_on_none_such_is_refused(
@@ -198,7 +193,7 @@ fn an_acknowledged_section_that_depends_on_none_such_is_refused(
     let image = crashed(rt.alloc(), &calls, Fill::Lost)?;
     assert_eq!(rt;
         refusal(rt.alloc(), &image, &[(103, 0), (119, 0)])?,
-        illegal(1, 0)
+        Some(illegal(1, 0))
     );
     Ok(())
 }
@@ -214,7 +209,10 @@ fn a_number_that_is_not_the_next_one_is_refused(rt: HostRuntime) -> Result<(), F
     ];
     let image = crashed(rt.alloc(), &calls, Fill::Lost)?;
     // The last byte of the third record.
-    assert_eq!(rt; refusal(rt.alloc(), &image, &[(2255, 2)])?, illegal(0, 2));
+    assert_eq!(rt;
+        refusal(rt.alloc(), &image, &[(2255, 2)])?,
+        Some(illegal(0, 2))
+    );
     Ok(())
 }
 
