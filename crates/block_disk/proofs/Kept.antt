@@ -1,12 +1,12 @@
 -- The calls that a disk in memory keeps, and the stops that they are.
-use Rattle.std.proofs.Common.{◌≡◌, Bool, true, false, nat_le, if◌then◌else◌, ℕ, suc, ◌+◌, ◌-◌, ◌<◌, ◌≤◌, List, [], ◌∷◌, ◌++◌, length, get_or, take, drop, refl, sym, ◌∙◌, ap, subst, arith, fold, length-append, length-drop}
+use Rattle.std.proofs.Common.{◌≡◌, inl, inr, Bool, true, false, nat_le, if◌then◌else◌, ℕ, suc, ◌+◌, ◌-◌, ◌<◌, ◌≤◌, List, [], ◌∷◌, ◌++◌, length, get_or, take, drop, refl, sym, ◌∙◌, ap, subst, arith, fold, length-append, length-drop}
 use Rattle.std.proofs.lemmas.List.{take_more, take_all, take-take, take-append-le, take-append-drop, drop-drop}
 use Rattle.std.proofs.lemmas.Bool.{le-leb, lt-leb}
 use Rattle.std.proofs.lemmas.List.Sums.{fold-append}
 use Rattle.std.proofs.lemmas.List.Elements.{All-take}
-use Rattle.block_disk.specs.Calls.{stop_of, stops_of, AllFit, IsKept}
+use Rattle.block_disk.specs.Calls.{stop_of, stops_of, AllFit, IsKept, HasSpare}
 use Rattle.block_disk.specs.Crash.{first_stops, cut_short, done_at, filled}
-use Rattle.block_disk.specs.Memory.{Stop, Wrote, WriteFailed, Synced, SyncFailed, Fits, bytes_after, pending_after, durable_after}
+use Rattle.block_disk.specs.Memory.{Stop, Wrote, WriteFailed, Synced, SyncFailed, Fits, HasJustFailed, bytes_after, pending_after, durable_after}
 use Rattle.block_disk.specs.declared.call.Call.{Call}
 use Rattle.block_disk.proofs.Bytes.{length_spliced}
 
@@ -159,3 +159,21 @@ front_is all rest older later is within split =
           ∙ ap (take (length older)) (sym split ∙ is) ∙ take-take (length older) (length rest) all low;
       within = omega (arith, low, within);
     }
+
+-- room stays spare over a call that is kept with more of it, or isn't kept
+pub spare_kept : (stops now : List Stop) (len room later more : ℕ) (s : Stop) (is_kept : Bool) → HasSpare stops len room
+    → now ≡ (if is_kept then s ∷ stops else stops) → (is_kept ≡ true → later < more) → ((is_kept ≡ true → ⊥) → later ≡ len) → room ≤ more → HasSpare now later more
+spare_kept stops now len room later more s true spare is kept other wider = inr (kept refl)
+spare_kept stops now len room later more s false spare is kept other wider = elim spare [
+  | inl has ↦ inl (subst HasJustFailed (sym is) has)
+  | inr less ↦ let same : later ≡ len = other (λ e. cc) in inr (omega (arith, same))
+]
+
+-- over a call that has failed, which takes it
+pub spare_taken : (stops now : List Stop) (len room later more : ℕ) (s : Stop) (is_kept : Bool) → HasJustFailed (s ∷ stops) → HasSpare stops len room
+    → now ≡ (if is_kept then s ∷ stops else stops) → (len < room → is_kept ≡ true) → HasSpare now later more
+spare_taken stops now len room later more s true fails spare is kept = inl (subst HasJustFailed (sym is) fails)
+spare_taken stops now len room later more s false fails spare is kept = elim spare [
+  | inl has ↦ inl (subst HasJustFailed (sym is) has)
+  | inr less ↦ absurd (let yes = kept less in cc)
+]

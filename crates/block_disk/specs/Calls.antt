@@ -1,6 +1,6 @@
 -- The record that a disk in memory keeps of its writes and syncs.
-use Rattle.std.specs.Prelude.{◌≡◌, ℕ, List, [], ◌∷◌, length, fold, All}
-use Rattle.block_disk.specs.Memory.{Stop, Wrote, WriteFailed, Synced, SyncFailed, Fits, bytes_after}
+use Rattle.std.specs.Prelude.{◌≡◌, ◌⊎◌, ℕ, ◌<◌, List, [], ◌∷◌, length, fold, All}
+use Rattle.block_disk.specs.Memory.{Stop, Wrote, WriteFailed, Synced, SyncFailed, Fits, HasJustFailed, bytes_after}
 use Rattle.block_disk.specs.declared.call.Call.{Call}
 use Rattle.block_disk.specs.declared.call.Call.TheVariants.{Write, FailedWrite, Sync, FailedSync}
 
@@ -23,3 +23,7 @@ AllFit size calls = All (λ call. Fits size (stop_of call)) calls
 pub record IsKept (first bytes : List ℕ) (calls : List Call) : Type 0 where
   pub reads : bytes ≡ bytes_after first (stops_of calls)
   pub fits : AllFit (length first) calls
+
+-- there is room for one call more, unless the newest one has failed and took it
+abbrev pub HasSpare : List Stop → ℕ → ℕ → Type 0
+HasSpare stops len capacity = HasJustFailed stops ⊎ (len < capacity)

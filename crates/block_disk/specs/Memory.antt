@@ -82,13 +82,21 @@ failed m = record m { failures = min (m.failures + 1) (2 ^ 64 - 1); fails_in = n
 abbrev pub stopped : Stop → Memory → Memory
 stopped stop m = record m { stops = stop ∷ m.stops }
 
+-- the newest stop has failed
+abbrev pub HasJustFailed : List Stop → Type 0
+HasJustFailed [] = ⊥
+HasJustFailed (Wrote at bytes ∷ older) = ⊥
+HasJustFailed (WriteFailed at len ∷ older) = Unit {0}
+HasJustFailed (Synced ∷ older) = ⊥
+HasJustFailed (SyncFailed ∷ older) = Unit {0}
+
 -- the disk once a call that was chosen to fail couldn't be kept: it has failed, and the next call is the one to fail
 abbrev pub put_off : Memory → Memory
 put_off m = record m { failures = min (m.failures + 1) (2 ^ 64 - 1) }
 
--- a call that was chosen to fail has failed: it is this stop; where that can't be kept, the next call is chosen
+-- a call that was chosen to fail has failed: it is this stop; right behind another stop that failed it may be none, and the next call is chosen
 abbrev pub FailsAsChosen : Stop → Memory → Memory → Type 0
-FailsAsChosen stop old new = (new ≡ stopped stop (failed old)) ⊎ (new ≡ put_off old)
+FailsAsChosen stop old new = (new ≡ stopped stop (failed old)) ⊎ (HasJustFailed old.stops × (new ≡ put_off old))
 
 -- a write of n bytes fails: as it was chosen to, or because it can't be kept; beyond the disk it is no stop
 pub record FailsWrite (at n : ℕ) (old new : Memory) : Type 0 where

@@ -26,8 +26,25 @@ pub fn is_sync(call: &Call) -> bool
     }
 }
 
-/// Keeps the call, if there is memory for it.
+/// Keeps the call, if there is memory for it and for one more.
 pub fn keep(calls: &mut Vec<Call>, call: Call) -> bool
+    ensures spare { IsTrue result → vec_len calls.new < vec_capacity calls.new }
+    ensures len { ¬ IsTrue result → vec_len calls.new ≡ vec_len calls.old }
+    ensures capacity { vec_capacity calls.old ≤ vec_capacity calls.new }
+    ensures kept { stops_of calls.new.items ≡ (if result then stop_of call ∷ stops_of calls.old.items else stops_of calls.old.items) }
+    ensures fits { (size : ℕ) → Fits size (stop_of call) → AllFit size calls.old.items → AllFit size calls.new.items }
+{
+    match calls.reserve(2) {
+        Ok(()) => {
+            calls.push_reserved(call);
+            true
+        }
+        Err(_) => false,
+    }
+}
+
+/// Keeps a call that was chosen to fail, in the room that is spare.
+pub fn keep_failed(calls: &mut Vec<Call>, call: Call) -> bool
     ensures room { vec_len calls.old < vec_capacity calls.old → IsTrue result }
     ensures kept { stops_of calls.new.items ≡ (if result then stop_of call ∷ stops_of calls.old.items else stops_of calls.old.items) }
     ensures fits { (size : ℕ) → Fits size (stop_of call) → AllFit size calls.old.items → AllFit size calls.new.items }
@@ -38,8 +55,11 @@ pub fn keep(calls: &mut Vec<Call>, call: Call) -> bool
     }
 }
 
-/// Keeps a write of these bytes, if there is memory for it.
+/// Keeps a write of these bytes, if there is memory for it and for one call more.
 pub fn keep_write(alloc: Global, calls: &mut Vec<Call>, at: u64, bytes: &[u8]) -> bool
+    ensures spare { IsTrue result → vec_len calls.new < vec_capacity calls.new }
+    ensures len { ¬ IsTrue result → vec_len calls.new ≡ vec_len calls.old }
+    ensures capacity { vec_capacity calls.old ≤ vec_capacity calls.new }
     ensures kept { stops_of calls.new.items ≡ (if result then Wrote at bytes.now ∷ stops_of calls.old.items else stops_of calls.old.items) }
     ensures fits { (size : ℕ) → at + length bytes.now ≤ size → AllFit size calls.old.items → AllFit size calls.new.items }
 {

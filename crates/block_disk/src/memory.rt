@@ -7,7 +7,7 @@ ghost use Rattle.block_disk.specs.Device.{Image, written, synced, HasFailed, Sam
 ghost use Rattle.block_disk.specs.Memory.{Wrote, Synced, fresh, bytes_after, moment_after, device_of, IsDue, next_failure, called, failed, stopped, FailsWrite, FailsSync};
 ghost use Rattle.block_disk.specs.declared.error.DiskError.TheVariants.{Fault, OutOfRange};
 
-use crate::call::{Call, keep, keep_write};
+use crate::call::{Call, keep, keep_failed, keep_write};
 use crate::crash::{Fill, image_at};
 use crate::error::fail;
 use crate::place::{copy_out, lies_within, overwrite};
@@ -18,8 +18,9 @@ use std::marker::Model;
 /// A disk in memory, which shows each crash that might have come since it was made.
 ///
 /// It keeps its first bytes and each write and sync, so its memory grows with the bytes that are written. Where there is
-/// no memory for one more call, that call answers `Fault`, has done nothing, and is no stop; if it was chosen to fail, the
-/// call after it is chosen.
+/// no memory for one more call, that call answers `Fault`, has done nothing, and is no stop. Room for a call that is
+/// chosen to fail is kept ready: only right behind another stop that failed may there be none, and then the call after it
+/// is chosen.
 #[derive(Drop)]
 pub struct MemDisk {
     alloc: Global,
@@ -32,13 +33,14 @@ pub struct MemDisk {
 
 impl Model for MemDisk {
     ghost use Rattle.block_disk.specs.Memory.{Memory};
-    ghost use Rattle.block_disk.specs.Calls.{stops_of, IsKept};
+    ghost use Rattle.std.specs.Prelude.{vec_len, vec_capacity};
+    ghost use Rattle.block_disk.specs.Calls.{stops_of, IsKept, HasSpare};
 
     ghost Value = { Memory };
 
     ghost view = { λ d. record { first = d.first.items; stops = stops_of d.calls.items; failures = d.failures; fails_in = d.fails_in } };
 
-    ghost invariant = { λ d. IsKept d.first.items d.bytes.items d.calls.items };
+    ghost invariant = { λ d. IsKept d.first.items d.bytes.items d.calls.items × HasSpare (stops_of d.calls.items) (vec_len d.calls) (vec_capacity d.calls) };
 }
 
 impl MemDisk {
@@ -64,7 +66,7 @@ impl MemDisk {
         Ok(MemDisk {
             alloc,
             first,
-            calls: Vec::new(alloc),
+            calls: Vec::with_capacity(alloc, 1)?,
             bytes,
             failures: 0,
             fails_in: None,
@@ -101,8 +103,8 @@ impl MemDisk {
     }
 
     /// Makes the `k`-th call from now on answer `Fault`, once, in place of any call chosen before. Reads, writes and
-    /// syncs count, and so does one out of range. A write within the disk and a sync that fail so are stops, always: one
-    /// for which there is no memory fails too, and leaves the choice to the call after it.
+    /// syncs count, and so does one out of range. A write within the disk and a sync that fail so are stops. Right behind
+    /// another stop that failed, one for which there is no memory fails too, and leaves the choice to the call after it.
     pub fn fail_call(&mut self, k: u64)
         requires { 1 ≤ k }
         ensures { self.new ≡ record self.old { fails_in = Some k } }
@@ -143,8 +145,8 @@ impl Disk for MemDisk {
     }
 
     /// Answers `Fault` where this call was chosen to fail, and where it lies within the disk and can't be kept. Nothing
-    /// is stored then; if the call was chosen to fail and lies within the disk, it is a stop, or the call after it is
-    /// chosen.
+    /// is stored then; if the call was chosen to fail and lies within the disk, it is a stop, or, right behind another one
+    /// that failed, the call after it may be chosen.
     fn write_at(&mut self, at: u64, bytes: &[u8]) -> Result<(), DiskError>
         ensures in_range { OnOk result (at + length bytes.now ≤ length (device_of self.old).now.bytes) }
         ensures ok { OnOk result (device_of self.new ≡ written at bytes.now (device_of self.old)) }
@@ -168,7 +170,7 @@ impl Disk for MemDisk {
         }
         if due {
             let len = bytes.len() as u64;
-            let kept = keep(&mut self.calls, Call::FailedWrite { at, len });
+            let kept = keep_failed(&mut self.calls, Call::FailedWrite { at, len });
             put_off_unless(kept, &mut self.fails_in);
             return Err(fail(&mut self.failures));
         }
@@ -179,8 +181,8 @@ impl Disk for MemDisk {
         Ok(())
     }
 
-    /// Answers `Fault` where this call was chosen to fail, and where it can't be kept; in the first case it is a stop, or
-    /// the call after it is chosen.
+    /// Answers `Fault` where this call was chosen to fail, and where it can't be kept; in the first case it is a stop, or,
+    /// right behind another one that failed, the call after it may be chosen.
     fn sync(&mut self) -> Result<(), DiskError>
         ensures ok { OnOk result (device_of self.new ≡ synced (device_of self.old)) }
         ensures in_range { ¬ IsErrOf result OutOfRange }
@@ -191,7 +193,7 @@ impl Disk for MemDisk {
         ensures failed { IsErrOf result Fault → FailsSync self.old self.new }
     {
         if is_due(&mut self.fails_in) {
-            let kept = keep(&mut self.calls, Call::FailedSync);
+            let kept = keep_failed(&mut self.calls, Call::FailedSync);
             put_off_unless(kept, &mut self.fails_in);
             return Err(fail(&mut self.failures));
         }

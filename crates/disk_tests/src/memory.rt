@@ -292,6 +292,39 @@ fn a_refused_allocation_changes_nothing(rt: HostRuntime) {
     assert!(rt; made_again(rt.alloc()) == Some(([40, 40], [true; 2])));
 }
 
+// Whether a write or a sync that is chosen to fail, behind a call that was kept, is a stop.
+fn is_stop_as_chosen(disk: &mut MemDisk, call: u8) -> bool {
+    let stops = disk.stops();
+    fail(disk, 1);
+    one_call(disk, call) == Err(DiskError::Fault) && disk.stops() == stops.saturating_add(1)
+}
+
+// Of 40 calls, how many are behind one that was kept and are stops, each chosen to fail.
+fn stops_as_chosen(disk: &mut MemDisk) -> Option<u8> {
+    let mut found = 0u8;
+    for call in 0u8..40 {
+        call_twice(disk, call)?;
+        if is_stop_as_chosen(disk, call) {
+            found = found.saturating_add(1);
+        }
+    }
+    Some(found)
+}
+
+fn chosen_again(alloc: Global) -> Option<u8> {
+    let mut disk = match three_bytes(alloc) {
+        Some(disk) => disk,
+        None => three_bytes(alloc)?,
+    };
+    stops_as_chosen(&mut disk)
+}
+
+// Whichever allocation is refused: room for the call that is chosen to fail was kept by the one before it.
+#[test]
+fn a_chosen_failure_is_a_stop(rt: HostRuntime) {
+    assert!(rt; chosen_again(rt.alloc()) == Some(40));
+}
+
 fn has_two_zeros(alloc: Global) -> bool {
     match MemDisk::new(alloc, 2) {
         Ok(disk) => disk.bytes() == [0, 0].as_slice(),

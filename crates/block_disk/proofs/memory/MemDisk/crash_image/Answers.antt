@@ -18,7 +18,7 @@ pub returns-clause-possible : goal.returns-clause-possible
 returns-clause-possible c =
     let m = c.args.self.now in
     let d = c.self.inside in
-    let each : EachFits (length m.first) m.stops = subst (λ (x : Memory). EachFits (length x.first) x.stops) c.self.view_is (each_fits (length d.first.items) d.calls.items c.self.invariant.fits) in
+    let each : EachFits (length m.first) m.stops = subst (λ (x : Memory). EachFits (length x.first) x.stops) c.self.view_is (each_fits (length d.first.items) d.calls.items c.self.invariant.0.fits) in
     let done = done_at c.args.k m.stops in
     let is : c.in_ok-holding.field-0 ≡ fresh (crash_bytes c.args.fill m.first done) = search rules in
     subst (λ (x : Memory). Image (moment_after m.first done) x.first) (sym is) (possible c.args.fill m.first done (each_done (length m.first) c.args.k m.stops each))
@@ -27,7 +27,7 @@ pub returns-clause-any_moment : goal.returns-clause-any_moment
 returns-clause-any_moment c =
     let m = c.args.self.now in
     let d = c.self.inside in
-    let each : EachFits (length m.first) m.stops = subst (λ (x : Memory). EachFits (length x.first) x.stops) c.self.view_is (each_fits (length d.first.items) d.calls.items c.self.invariant.fits) in
+    let each : EachFits (length m.first) m.stops = subst (λ (x : Memory). EachFits (length x.first) x.stops) c.self.view_is (each_fits (length d.first.items) d.calls.items c.self.invariant.0.fits) in
     let done = done_at c.args.k m.stops in
     let is : c.in_ok-holding.field-0 ≡ fresh (crash_bytes c.args.fill m.first done) = search rules in
     let low : 1 ≤ c.args.k = search rules in
