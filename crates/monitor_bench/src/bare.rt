@@ -24,6 +24,23 @@ pub fn take_often(word: &AtomicU64, rounds: u64) -> u64 {
     word.load(Ordering::SeqCst)
 }
 
+/// A compare-exchange at the number that the last store left, and a store, so many times. Answers the word at last.
+pub fn take_again(word: &AtomicU64, rounds: u64) -> u64 {
+    let mut free = word.load(Ordering::SeqCst);
+    for _ in 0..rounds {
+        let taken = free | OWNED;
+        if word
+            .compare_exchange(free, taken, Ordering::SeqCst, Ordering::SeqCst)
+            .is_err()
+        {
+            break;
+        }
+        free = free.wrapping_add(NUMBER);
+        word.store(free, Ordering::SeqCst);
+    }
+    word.load(Ordering::SeqCst)
+}
+
 /// So many loads. Answers their sum.
 pub fn read_again(word: &AtomicU64, rounds: u64) -> u64 {
     let mut sum = 0u64;

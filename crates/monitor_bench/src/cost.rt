@@ -8,7 +8,7 @@ ghost use Rattle.one_monitor.specs.Held.{HasOne};
 use crate::bare;
 use heap_model::{FieldId, ObjectId};
 use monitor::{Seat, Shared};
-use one_monitor::{deal, is_guard, nine_objects, read, take_often, try_enter, write};
+use one_monitor::{deal, is_guard, nine_objects, read, take_again, take_often, try_enter, write};
 use std::io;
 use std::rt::Clock;
 use std::sync::atomic::{AtomicU64, Ordering};
@@ -46,6 +46,28 @@ impl Best {
             self.least = each;
         }
         Ok(())
+    }
+}
+
+// What each kind of step costs.
+#[derive(Clone, Copy)]
+struct Costs {
+    // A look, a take and a release.
+    takes: Best,
+    // A take and a release.
+    tries: Best,
+    reads: Best,
+    writes: Best,
+}
+
+impl Costs {
+    fn new() -> Costs {
+        Costs {
+            takes: Best::new(),
+            tries: Best::new(),
+            reads: Best::new(),
+            writes: Best::new(),
+        }
     }
 }
 
@@ -102,6 +124,21 @@ fn best_takes<R: Clock>(rt: &R, shared: &Shared, seat: &mut Seat) -> io::Result<
     Ok(best)
 }
 
+// Without a look but one.
+fn best_tries<R: Clock>(rt: &R, shared: &Shared, seat: &mut Seat) -> io::Result<Best>
+    requires idle { IsIdle shared.now seat.old }
+    requires objects { 0 < (plan shared.now).objects }
+    ensures idle { IsIdle shared.now seat.new }
+{
+    let mut best = Best::new();
+    for _ in 0..RUNS {
+        let start = Instant::now(rt)?;
+        best.sum = take_again(shared, seat, OBJECT, ROUNDS);
+        best.note(rt, start)?;
+    }
+    Ok(best)
+}
+
 fn best_reads<R: Clock>(rt: &R, shared: &Shared, seat: &mut Seat, grip: Grip) -> io::Result<Best>
     requires one { HasOne shared.now seat.old grip }
     requires field { 0 < (plan shared.now).fields }
@@ -137,23 +174,25 @@ fn best_writes<R: Clock>(rt: &R, shared: &Shared, seat: &mut Seat, grip: Grip) -
 }
 
 // The same on one bare word.
-fn best_bare<R: Clock>(rt: &R, word: &AtomicU64) -> io::Result<(Best, Best, Best)> {
-    let mut takes = Best::new();
-    let mut reads = Best::new();
-    let mut writes = Best::new();
+fn best_bare<R: Clock>(rt: &R, word: &AtomicU64) -> io::Result<Costs> {
+    let mut costs = Costs::new();
     for _ in 0..RUNS {
         word.store(0, Ordering::SeqCst);
         let start = Instant::now(rt)?;
-        takes.sum ^= bare::take_often(word, ROUNDS);
-        takes.note(rt, start)?;
+        costs.takes.sum ^= bare::take_often(word, ROUNDS);
+        costs.takes.note(rt, start)?;
+        word.store(0, Ordering::SeqCst);
         let start = Instant::now(rt)?;
-        reads.sum ^= bare::read_again(word, ROUNDS);
-        reads.note(rt, start)?;
+        costs.tries.sum ^= bare::take_again(word, ROUNDS);
+        costs.tries.note(rt, start)?;
         let start = Instant::now(rt)?;
-        writes.sum ^= bare::write_again(word, ROUNDS);
-        writes.note(rt, start)?;
+        costs.reads.sum ^= bare::read_again(word, ROUNDS);
+        costs.reads.note(rt, start)?;
+        let start = Instant::now(rt)?;
+        costs.writes.sum ^= bare::write_again(word, ROUNDS);
+        costs.writes.note(rt, start)?;
     }
-    Ok((takes, reads, writes))
+    Ok(costs)
 }
 
 // Of loads and of stores, by a thread that holds the guard.
@@ -176,20 +215,47 @@ fn best_of_fields<R: Clock>(
     Ok(Some((reads, writes)))
 }
 
-/// Prints what a take with the look before it and its release, a load and a store cost.
-pub fn print_costs<R: Clock + Print + AllocGlobal>(rt: &R) -> io::Result<()> {
+// All by one seat, one after the other. `None` where the monitor wasn't free.
+fn best_of_seat<R: Clock>(rt: &R, shared: &Shared, seat: &mut Seat) -> io::Result<Option<Costs>>
+    requires idle { IsIdle shared.now seat.old }
+    requires heap { (0 < (plan shared.now).objects) × (0 < (plan shared.now).fields) × (0 < (plan shared.now).last) }
+{
+    let takes = best_takes(rt, shared, seat)?;
+    let tries = best_tries(rt, shared, seat)?;
+    let fields = best_of_fields(rt, shared, seat)?;
+    match fields {
+        None => Ok(None),
+        Some((reads, writes)) => Ok(Some(Costs {
+            takes,
+            tries,
+            reads,
+            writes,
+        })),
+    }
+}
+
+// By the steps, on a heap of their own.
+fn best_of_steps<R: Clock + AllocGlobal>(rt: &R) -> io::Result<Option<Costs>> {
     let Some((shared, mut helper)) = nine_objects(rt.alloc()) else {
-        return println!(rt; "no memory");
+        return Ok(None);
     };
     let mut seat = deal(&shared, &mut helper);
+    best_of_seat(rt, &shared, &mut seat)
+}
+
+fn print_all<R: Print>(rt: &R, steps: Costs, bare: Costs) -> io::Result<()> {
+    print_one(rt, "look, take and release", steps.takes, bare.takes)?;
+    print_one(rt, "take and release", steps.tries, bare.tries)?;
+    print_one(rt, "load", steps.reads, bare.reads)?;
+    print_one(rt, "store", steps.writes, bare.writes)
+}
+
+/// Prints what a take and its release cost, with the look before it and without, a load and a store.
+pub fn print_costs<R: Clock + Print + AllocGlobal>(rt: &R) -> io::Result<()> {
     let word = AtomicU64::new(0);
-    let (bare_takes, bare_reads, bare_writes) = best_bare(rt, &word)?;
-    let takes = best_takes(rt, &shared, &mut seat)?;
-    let fields = best_of_fields(rt, &shared, &mut seat)?;
-    print_one(rt, "look, take and release", takes, bare_takes)?;
-    let Some((reads, writes)) = fields else {
-        return println!(rt; "not free");
-    };
-    print_one(rt, "load", reads, bare_reads)?;
-    print_one(rt, "store", writes, bare_writes)
+    let bare = best_bare(rt, &word)?;
+    match best_of_steps(rt)? {
+        None => println!(rt; "no memory, or not free"),
+        Some(steps) => print_all(rt, steps, bare),
+    }
 }

@@ -1,12 +1,12 @@
 -- The grips of a session as its view grows.
-use Rattle.std.proofs.Common.{MatchOption, ℕ, ◌≡◌, ◌≢◌, if◌then◌else◌, List, ◌∷◌, length, Option, Some, None, sym, ap, ◌∙◌, subst, inl, inr}
+use Rattle.std.proofs.Common.{MatchOption, IfSome, ℕ, ◌≡◌, ◌≢◌, if◌then◌else◌, List, ◌∷◌, length, Option, Some, None, sym, ap, ◌∙◌, subst, inl, inr}
 use Rattle.std.proofs.lemmas.Bool.Decides.{eqb_tells}
 use Rattle.heap_model.specs.Sections.{without}
 use Rattle.heap_model.specs.Own.{Hold}
 use Rattle.steps.specs.Views.{View}
 use Rattle.steps.specs.declared.grip.Grip.{Grip}
 use Rattle.steps.specs.Views.{hold, Keeps, KeepsEach, KeepsOthers}
-use Rattle.session.specs.Grips.{grip_in, with_grip, without_grip, objects_of, are_apart}
+use Rattle.session.specs.Grips.{grip_in, place_in, with_grip, without_grip, objects_of, are_apart}
 use Rattle.session.specs.Logs.{held_objects, held_count}
 use Rattle.session.specs.Sits.{Holds, Finds, FindsNone}
 use Rattle.heap_model.specs.declared.ids.ObjectId.{ObjectId}
@@ -103,9 +103,15 @@ hold_clash {x} {h} some none = let clash : ◌≡◌ {A = Option Hold} (Some h) 
 pub hold_one : {x : Option Hold} {h k : Hold} → x ≡ Some h → x ≡ Some k → h ≡ k
 hold_one {x} {h} {k} e f = let out : Option Hold → Hold = λ y. elim y [ None ↦ h | Some z ↦ z ] in ap out (sym e ∙ f)
 
-pub looked_up : (v : View) (gs : List Grip) (o : ObjectId) (x : Option Grip) → Holds v gs → x ≡ grip_in o.0 gs → MatchOption x (FindsNone v gs o) (Finds v gs o)
-looked_up v gs o None h e = finds_none v gs o h (sym e)
-looked_up v gs o (Some g) h e = finds v gs o g h (sym e)
+pub looked_up : (v : View) (gs slice : List Grip) (o : ObjectId) (x : Option (ℕ × Grip)) → Holds v gs → slice ≡ gs →
+    MatchOption x (grip_in o.0 slice ≡ None) (λ r. (r.0 ≡ place_in o.0 slice) × (grip_in o.0 slice ≡ Some r.1)) → MatchOption x (FindsNone v gs o) (λ r. Finds v gs o r.1)
+looked_up v gs slice o None h same e = finds_none v gs o h (ap (grip_in o.0) (sym same) ∙ e)
+looked_up v gs slice o (Some r) h same e = finds v gs o r.1 h (ap (grip_in o.0) (sym same) ∙ e.1)
+
+pub placed : (gs slice : List Grip) (o : ℕ) (x : Option (ℕ × Grip)) → slice ≡ gs →
+    MatchOption x (grip_in o slice ≡ None) (λ r. (r.0 ≡ place_in o slice) × (grip_in o slice ≡ Some r.1)) → IfSome x (λ r. r.0 ≡ place_in o gs)
+placed gs slice o None same e = tt
+placed gs slice o (Some r) same e = e.0 ∙ ap (place_in o) same
 
 -- a changed grip is found
 pub found_changed : (w : View) (gs held : List Grip) (g n : Grip) (o : ObjectId) → held ≡ with_grip n gs → n.object ≡ o → Keeps w n → grip_in o.0 gs ≡ Some g → Finds w held o n

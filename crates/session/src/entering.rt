@@ -1,7 +1,7 @@
 //! First and further locks of a session (JLS 17.1).
 
 use crate::error::SessionError;
-use crate::grips::put;
+use crate::grips::{put, put_first};
 use crate::limits::{FAT_LOCKS, LAST_PLACE, MOST_HELD, THIN_LOCKS};
 use crate::room::{lane_has_room, ring_has_room};
 use crate::session::Session;
@@ -114,6 +114,7 @@ impl Session {
     }
 
     // A monitor that isn't held: a section's first, or one more.
+    #[inline(always)]
     pub(crate) fn enter_first(
         &mut self,
         shared: &Shared,
@@ -143,6 +144,7 @@ impl Session {
     }
 
     // A section's first monitor.
+    #[inline(always)]
     fn begin(&mut self, shared: &Shared, object: ObjectId) -> Result<(), SessionError>
         requires seat { IsSessionOf shared.now self.old }
         requires object { object.0 < (plan shared.now).objects }
@@ -174,6 +176,7 @@ impl Session {
     }
 
     // A look, and a try where that showed the monitor free.
+    #[inline(always)]
     fn take(&mut self, shared: &Shared, object: ObjectId) -> Result<(), SessionError>
         requires seat { IsSessionOf shared.now self.old }
         requires object { object.0 < (plan shared.now).objects }
@@ -196,7 +199,7 @@ impl Session {
         }
         match steps::try_take(shared, &mut self.seat, object, free.slot, free.number) {
             Ok(grip) => {
-                self.held.insert(0, grip);
+                put_first(&mut self.held, grip);
                 self.records += 1;
                 self.place += 1;
                 self.ring.push_reserved(Record::Acq {

@@ -73,6 +73,7 @@ impl Session {
     }
 
     // Writes a field whose guard is held, and pushes its record. Answers the value before.
+    #[inline(always)]
     pub(crate) fn write(&mut self, shared: &Shared, field: FieldId, value: u64) -> u64
         requires seat { IsSessionOf shared.now self.old }
         requires field { field.0 < (plan shared.now).fields }

@@ -1,6 +1,7 @@
 //! The monitors that a thread holds, in an array.
 
-ghost use Rattle.std.specs.Prelude.{◌≡◌, ◌+◌, ◌<◌, ◌^◌, ◌==◌, if◌then◌else◌};
+ghost use Rattle.std.specs.Prelude.{◌≡◌, ◌+◌, ◌<◌, ◌^◌, ◌==◌, ◌∷◌, Some, None, MatchOption, length, if◌then◌else◌};
+ghost use Rattle.session.specs.declared.limits.TheConstants.{MOST_HELD};
 ghost use Rattle.session.specs.Grips.{grip_in, place_in, with_grip, without_grip};
 
 use crate::limits::MOST_HELD;
@@ -10,6 +11,7 @@ use heap_model::ObjectId;
 use steps::Grip;
 
 // The place of the grip on the object, or the length.
+#[inline(always)]
 fn place_of(held: &[Grip], object: ObjectId) -> usize
     ensures { result ≡ place_in object.0 held.now }
 {
@@ -21,16 +23,36 @@ fn place_of(held: &[Grip], object: ObjectId) -> usize
     held.len()
 }
 
-/// The grip on the object.
+/// The grip on the object, with its place.
+#[inline(always)]
 #[tactic(auto, using(crate::proofs::GripLists::place_grip, crate::proofs::GripLists::place_none))]
-pub fn grip_for(held: &[Grip], object: ObjectId) -> Option<Grip>
-    ensures { result ≡ grip_in object.0 held.now }
+pub fn grip_for(held: &[Grip], object: ObjectId) -> Option<(usize, Grip)>
+    ensures { MatchOption result (grip_in object.0 held.now ≡ None) (λ r. (r.0 ≡ place_in object.0 held.now) × (grip_in object.0 held.now ≡ Some r.1)) }
 {
     let place = place_of(held, object);
     if place < held.len() {
-        Some(held[place])
+        Some((place, held[place]))
     } else {
         None
+    }
+}
+
+/// Puts a grip before the others. One or two are put down without turning the array.
+#[inline(always)]
+pub fn put_first(held: &mut ArrayVec<Grip, MOST_HELD>, grip: Grip)
+    requires { length held.old.items < MOST_HELD }
+    ensures { held.new.items ≡ grip ∷ held.old.items }
+{
+    if held.len() > 1 {
+        held.insert(0, grip);
+        return;
+    }
+    match held.pop() {
+        None => held.push(grip),
+        Some(second) => {
+            held.push(grip);
+            held.push(second);
+        }
     }
 }
 
@@ -45,18 +67,38 @@ pub fn put(held: &mut ArrayVec<Grip, MOST_HELD>, grip: Grip)
     }
 }
 
+/// Takes the grip on the object out, which is at this place. Of one or two it goes without turning the array.
+#[inline(always)]
+pub fn take_at(held: &mut ArrayVec<Grip, MOST_HELD>, _object: ObjectId, place: usize)
+    requires { (place ≡ place_in _object.0 held.old.items) × (place < length held.old.items) }
+    ensures { held.new.items ≡ without_grip _object.0 held.old.items }
+{
+    if held.len() > 2 {
+        held.remove(place);
+        return;
+    }
+    let Some(last) = held.pop() else {
+        return;
+    };
+    if place < held.len() {
+        held.pop();
+        held.push(last);
+    }
+}
+
 /// Takes the grip on the object out, if there is one.
-#[tactic(auto, using(crate::proofs::GripLists::place_remove, crate::proofs::GripLists::without_absent))]
+#[tactic(auto, using(crate::proofs::GripLists::without_absent))]
 pub fn take_out(held: &mut ArrayVec<Grip, MOST_HELD>, object: ObjectId)
     ensures { held.new.items ≡ without_grip object.0 held.old.items }
 {
     let place = place_of(held.as_slice(), object);
     if place < held.len() {
-        held.remove(place);
+        take_at(held, object, place);
     }
 }
 
 /// The records of the open section and the sections that have ended, once a release was logged that leaves so many monitors.
+#[inline(always)]
 pub fn after_release(left: usize, records: u64, sections: u64) -> (u64, u64)
     requires { (records + 1 < 2 ^ 64) × (sections + 1 < 2 ^ 64) }
     ensures records { result.0 ≡ if left == 0 then 0 else records + 1 }
@@ -70,16 +112,32 @@ pub fn after_release(left: usize, records: u64, sections: u64) -> (u64, u64)
 }
 
 impl Session {
-    ghost use Rattle.std.specs.Prelude.{MatchOption};
+    ghost use Rattle.std.specs.Prelude.{◌≡◌, IfSome, MatchOption};
+    ghost use Rattle.session.specs.Grips.{place_in};
     ghost use Rattle.session.specs.Sits.{Finds, FindsNone};
     ghost use Rattle.session.specs.Sessions.{view_of};
 
+    // The grip on the object, if there is one, with its place.
+    #[inline(always)]
+    pub(crate) fn find(&self, object: ObjectId) -> Option<(usize, Grip)>
+        ensures found { MatchOption result
+            (FindsNone (view_of self.now) self.now.held.items object)
+            (λ r. Finds (view_of self.now) self.now.held.items object r.1) }
+        ensures place { IfSome result (λ r. r.0 ≡ place_in object.0 self.now.held.items) }
+    {
+        grip_for(self.held.as_slice(), object)
+    }
+
     // The grip on the object, if there is one.
+    #[inline(always)]
     pub(crate) fn grip_on(&self, object: ObjectId) -> Option<Grip>
         ensures { MatchOption result
             (FindsNone (view_of self.now) self.now.held.items object)
             (Finds (view_of self.now) self.now.held.items object) }
     {
-        grip_for(self.held.as_slice(), object)
+        match self.find(object) {
+            None => None,
+            Some((_place, grip)) => Some(grip),
+        }
     }
 }

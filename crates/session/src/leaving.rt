@@ -1,7 +1,7 @@
 //! Exits of a session (JLS 17.1).
 
 use crate::error::SessionError;
-use crate::grips::{after_release, put, take_out};
+use crate::grips::{after_release, put, take_at};
 use crate::session::Session;
 use heap_model::{ObjectId, Record};
 use monitor::Shared;
@@ -13,6 +13,7 @@ impl Session {
     ghost use Rattle.heap_model.specs.declared.event.Event.TheVariants as event;
     ghost use Rattle.session.specs.declared.error.SessionError.TheVariants as error;
     ghost use Rattle.steps.specs.Views.{plan, Lengthens, hold};
+    ghost use Rattle.session.specs.Grips.{place_in};
     ghost use Rattle.session.specs.Sits.{Finds};
     ghost use Rattle.session.specs.Calls.{IsQuiet};
     ghost use Rattle.session.specs.Sessions.{SameRing, IsSessionOf, view_of};
@@ -35,29 +36,31 @@ impl Session {
         if u64::from(object.0) >= steps::objects(shared) {
             return Err(SessionError::UnknownObject);
         }
-        let Some(grip) = self.grip_on(object) else {
+        let Some((place, grip)) = self.find(object) else {
             return Err(SessionError::NotHeld);
         };
         if grip.count > 1 {
             let less = steps::unnest(shared, &mut self.seat, grip);
             put(&mut self.held, less);
         } else {
-            self.release(shared, grip);
+            self.release(shared, grip, place);
         }
         Ok(())
     }
 
-    // The last exit.
-    fn release(&mut self, shared: &Shared, grip: Grip)
+    // The last exit. The grip is at this place.
+    #[inline(always)]
+    fn release(&mut self, shared: &Shared, grip: Grip, place: usize)
         requires seat { IsSessionOf shared.now self.old }
         requires found { Finds (view_of self.old) self.old.held.items grip.object grip }
+        requires place { place ≡ place_in grip.object.0 self.old.held.items }
         requires last { grip.count ≡ 1 }
         ensures seat { IsSessionOf shared.now self.new }
         ensures ring { SameRing self.old self.new }
         ensures told { Lengthens (view_of self.old) (view_of self.new) (event.Exit grip.object grip.number ∷ []) }
     {
         steps::release(shared, &mut self.seat, grip);
-        take_out(&mut self.held, grip.object);
+        take_at(&mut self.held, grip.object, place);
         let (records, sections) = after_release(self.held.len(), self.records, self.sections);
         self.records = records;
         self.sections = sections;

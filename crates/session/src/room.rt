@@ -10,6 +10,7 @@ use rtrb::Producer;
 use std::alloc::Global;
 
 /// Whether so many slots of the ring are known to be free.
+#[inline(always)]
 pub fn ring_has_room(ring: &mut Producer<Record, Global>, needed: usize) -> bool
     ensures looked { ProducerLooked ring.old ring.new }
     ensures room { MatchBool result (needed ≤ known_free ring.new) (producer_capacity ring.old < length (sent ring.old) + needed) }
@@ -21,6 +22,7 @@ pub fn ring_has_room(ring: &mut Producer<Record, Global>, needed: usize) -> bool
 }
 
 // Whether so many records since the trimmed place fit the lane.
+#[inline(always)]
 fn is_lane_wide(trimmed: u64, place: u64, capacity: u64, needed: u64) -> bool
     requires small { place + needed < 2 ^ 64 }
     requires needed { needed ≤ capacity }
@@ -30,6 +32,7 @@ fn is_lane_wide(trimmed: u64, place: u64, capacity: u64, needed: u64) -> bool
 }
 
 /// Whether so many records fit the lane, by the trimmed place that was read last, or else by the one that is published.
+#[inline(always)]
 pub fn lane_has_room(
     shared: &Shared,
     seat: &mut Seat,

@@ -19,6 +19,7 @@ pub struct Free {
 }
 
 /// Whether the monitor is free.
+#[inline(always)]
 pub fn free_at(found: &Sighted) -> Option<Free>
     requires { IsPaired found.now.lock found.now.fat }
     ensures { MatchOption result

@@ -50,6 +50,7 @@ pub fn look(shared: &Shared, seat: &mut Seat, object: ObjectId) -> Sighted
 
 /// Takes the monitor by one lock, if it is still free at this release number. `slot` is its fat slot, if the seat knows of
 /// one. Answers the grip, or the word that was found. One compare-exchange.
+#[inline(always)]
 pub fn try_take(
     shared: &Shared,
     seat: &mut Seat,
