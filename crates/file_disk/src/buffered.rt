@@ -80,12 +80,8 @@ impl<F: BackingFile + Drop> BufferedDisk<F> {
         BufferedDisk::found(alloc, find_file(rt, path)?)
     }
 
-    // A disk of `size` zero bytes in this file, whatever it had.
-    pub(crate) fn filled(
-        alloc: Global,
-        mut file: F,
-        size: u64,
-    ) -> Result<BufferedDisk<F>, FileError>
+    /// A disk of `size` zero bytes in this file, which is open and whatever it had. Refused as of [`create`](BufferedDisk::create).
+    pub fn filled(alloc: Global, mut file: F, size: u64) -> Result<BufferedDisk<F>, FileError>
         ensures ok { IfOk result (λ disk. disk.device ≡ new_device (replicate size 0)) }
         ensures durable { IfOk result (λ disk. ReadsForGood (replicate size 0) disk.file) }
     {
@@ -101,8 +97,8 @@ impl<F: BackingFile + Drop> BufferedDisk<F> {
         })
     }
 
-    // The disk of the bytes in this file.
-    pub(crate) fn found(alloc: Global, mut file: F) -> Result<BufferedDisk<F>, FileError>
+    /// The disk of the bytes in this file, which is open. Refused as of [`attach`](BufferedDisk::attach).
+    pub fn found(alloc: Global, mut file: F) -> Result<BufferedDisk<F>, FileError>
         ensures ok { IfOk result (λ disk. disk.device ≡ new_device disk.device.now.bytes) }
         ensures durable { IfOk result (λ disk. ReadsForGood disk.device.now.bytes disk.file) }
         ensures given { IfOk result (λ disk. IfSome (F.holds file) (λ h. disk.device.now.bytes ≡ h.reads)) }

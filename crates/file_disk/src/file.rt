@@ -86,8 +86,8 @@ impl<F: BackingFile + Drop> FileDisk<F> {
         FileDisk::found(alloc, find_file(rt, path)?)
     }
 
-    // A disk of `size` zero bytes in this file, whatever it had.
-    pub(crate) fn filled(alloc: Global, mut file: F, size: u64) -> Result<FileDisk<F>, FileError>
+    /// A disk of `size` zero bytes in this file, which is open and whatever it had. Refused as of [`create`](FileDisk::create).
+    pub fn filled(alloc: Global, mut file: F, size: u64) -> Result<FileDisk<F>, FileError>
         ensures ok { IfOk result (λ disk. disk.device ≡ new_device (replicate size 0)) }
         ensures durable { IfOk result (λ disk. ReadsForGood (replicate size 0) disk.file) }
     {
@@ -104,8 +104,8 @@ impl<F: BackingFile + Drop> FileDisk<F> {
         })
     }
 
-    // The disk of the bytes in this file.
-    pub(crate) fn found(alloc: Global, mut file: F) -> Result<FileDisk<F>, FileError>
+    /// The disk of the bytes in this file, which is open. Refused as of [`attach`](FileDisk::attach).
+    pub fn found(alloc: Global, mut file: F) -> Result<FileDisk<F>, FileError>
         ensures ok { IfOk result (λ disk. disk.device ≡ new_device disk.device.now.bytes) }
         ensures durable { IfOk result (λ disk. ReadsForGood disk.device.now.bytes disk.file) }
         ensures given { IfOk result (λ disk. IfSome (F.holds file) (λ h. disk.device.now.bytes ≡ h.reads)) }
