@@ -583,3 +583,53 @@ fn a_wait_ends_a_section(rt: HostRuntime) -> Result<(), Fail> {
     assert_eq!(rt; check_all(&rt, rt.alloc(), &calls)?, [2, 1]);
     Ok(())
 }
+
+// By lane the first place that isn't trimmed and those behind what is settled and what is logged; and how many records are
+// live in all.
+fn places(alloc: Global, calls: &[StoreCall]) -> Result<[u64; 7], Fail> {
+    let (mut disk, layout) = played(alloc, calls)?;
+    let found = shown(alloc, &mut disk, &layout)?;
+    let [first, second] = [found.control.rows[0], found.control.rows[1]];
+    Ok([
+        first.start,
+        first.settled,
+        first.logged,
+        second.start,
+        second.settled,
+        second.logged,
+        found.records.len() as u64,
+    ])
+}
+
+// The second thread's section stays open, and the first one's second section depends on it. A trim goes up to what is settled,
+// and what is live behind that stays, until the open section has ended and is settled too.
+#[test]
+fn a_trim_beside_an_open_section_keeps_what_depends_on_it(rt: HostRuntime) -> Result<(), Fail> {
+    let calls = [
+        two(acq(1, 0)),
+        two(acq(2, 0)),
+        two(rel(2, 0)),
+        one(acq(0, 0)),
+        one(put(0, 10, 5)),
+        one(rel(0, 0)),
+        one(acq(2, 1)),
+        one(rel(2, 1)),
+        StoreCall::Log,
+        StoreCall::Home,
+        StoreCall::Settle,
+        StoreCall::Trim,
+        two(rel(1, 0)),
+        StoreCall::Log,
+        StoreCall::Settle,
+        StoreCall::Trim,
+    ];
+    let open = places(rt.alloc(), &calls[..12])?;
+    let ended = places(rt.alloc(), &calls)?;
+    assert_eq!(rt;
+        [open, ended],
+        [[3, 3, 5, 0, 0, 3, 5], [5, 5, 5, 4, 4, 4, 0]]
+    );
+    check_last(&rt, rt.alloc(), &calls[..12])?;
+    check_last(&rt, rt.alloc(), &calls)?;
+    Ok(())
+}
