@@ -21,7 +21,6 @@ impl Session {
     /// Gives one lock back, and with the last one the monitor (JLS 17.1). One store. The section ends with the last monitor.
     ///
     /// Refused, in this order: [`UnknownObject`](SessionError::UnknownObject); [`NotHeld`](SessionError::NotHeld).
-    #[inline]
     pub fn exit(&mut self, shared: &Shared, object: ObjectId) -> Result<(), SessionError>
         requires seat { IsSessionOf shared.now self.old }
         ensures seat { IsSessionOf shared.now self.new }
