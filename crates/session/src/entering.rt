@@ -5,7 +5,7 @@ use crate::grips::{put, put_first};
 use crate::limits::{FAT_LOCKS, LAST_PLACE, MOST_HELD, THIN_LOCKS};
 use crate::room::{lane_has_room, ring_has_room};
 use crate::session::Session;
-use crate::sights::{free_at, shown};
+use crate::sights::{first_grip, free_at, shown};
 use heap_model::{ObjectId, Record, SECTION_RECORDS};
 use monitor::Shared;
 use steps::Grip;
@@ -61,6 +61,7 @@ impl Session {
     }
 
     // One lock more, of a monitor that is held.
+    #[inline(never)]
     pub(crate) fn enter_again(&mut self, shared: &Shared, grip: Grip) -> Result<(), SessionError>
         requires seat { IsSessionOf shared.now self.old }
         requires found { Finds (view_of self.old) self.old.held.items grip.object grip }
@@ -96,6 +97,7 @@ impl Session {
     }
 
     // Makes a thin monitor fat, if a slot is left.
+    #[inline(never)]
     pub(crate) fn fatten(&mut self, shared: &Shared, grip: Grip) -> Option<Grip>
         requires seat { IsSessionOf shared.now self.old }
         requires found { Finds (view_of self.old) self.old.held.items grip.object grip }
@@ -197,9 +199,10 @@ impl Session {
         if free.number >= steps::last(shared) {
             return Err(SessionError::Worn);
         }
+        // The grip is made anew from what is known here, so that nothing of the answer but its kind is looked at.
         match steps::try_take(shared, &mut self.seat, object, free.slot, free.number) {
-            Ok(grip) => {
-                put_first(&mut self.held, grip);
+            Ok(_grip) => {
+                put_first(&mut self.held, first_grip(object, free));
                 self.records += 1;
                 self.place += 1;
                 self.ring.push_reserved(Record::Acq {

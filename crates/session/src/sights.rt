@@ -8,8 +8,9 @@ ghost use Rattle.steps.specs.Views.{View, IsLasting, IsLastingSeen};
 ghost use Rattle.heap_model.specs.declared.ids.ObjectId.{ObjectId};
 ghost use Rattle.session.specs.Calls.{sight_in};
 
+use heap_model::ObjectId;
 use lock_word::{FatShape, Shape};
-use steps::{Seen, Sighted};
+use steps::{Grip, Seen, Sighted};
 
 /// A monitor that nobody owns: its release number, and its fat slot.
 #[derive(Clone, Copy, Debug, PartialEq, Eq)]
@@ -37,6 +38,19 @@ pub fn free_at(found: &Sighted) -> Option<Free>
             slot: Some(index),
         }),
         FatShape::Held { .. } => None,
+    }
+}
+
+/// The grip on a monitor that was taken as it was found.
+#[inline(always)]
+pub fn first_grip(object: ObjectId, free: Free) -> Grip
+    ensures { result ≡ record { object = object; count = 1; number = free.number; slot = free.slot } }
+{
+    Grip {
+        object,
+        count: 1,
+        number: free.number,
+        slot: free.slot,
     }
 }
 
