@@ -1,0 +1,3 @@
+pub mod Served
+pub mod Jobs
+pub mod Later

@@ -1,0 +1,6 @@
+use Rattle.session.specs.Sessions.{IsSessionOf, SameRing}
+use Rattle.drive.proofs.working.work_round.Given as goal
+
+abbrev pub invariant-loop : goal.invariant-loop
+invariant-loop g l =
+    (goal.iterator-loop g).can_next l.iterator' × (goal.iterator-loop g).is_finite l.iterator' × IsSessionOf l.shared l.session × SameRing l.initial.session l.session

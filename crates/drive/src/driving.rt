@@ -1,0 +1,152 @@
+//! Workers on a heap, from its opening to its end.
+ghost use Rattle.std.specs.Prelude.{◌≡◌, All, IfOk, take};
+ghost use Rattle.drive.specs.Driven.{IsDriven, IsRunBy, IsTold};
+ghost use Rattle.drive.specs.Workers.{AreWorked};
+ghost use Rattle.running_heap.specs.Joined.{IsHelping, IsJoined};
+ghost use Rattle.trim_helper.specs.Endings.{IsEnded};
+ghost use Rattle.trim_helper.specs.Opening.{FitsSchema};
+
+use crate::driven::Driven;
+use crate::error::DriveError;
+use crate::meet::Meet;
+use crate::racing::race;
+use crate::serving::Served;
+use crate::workers::{Worked, number_all, part};
+use block_disk::Disk;
+use guards::Schema;
+use heap_model::LAST_NUMBER;
+use image::Recovered;
+use monitor::Shared;
+use recover::recover;
+use running_heap::{RunningHeap, close, joined_law, open};
+use std::alloc::Global;
+use std::sync::Wait;
+use std::thread::Threads;
+use trim_helper::{Ended, Helper};
+
+/// Lets a worker for each lane work so many rounds on a heap of this schema that was recovered, closes the heap, and recovers the
+/// device: what is told is what recovery finds there.
+///
+/// Refusals, in this order, each with the device as a stop leaves it; it may be recovered:
+/// - `NoMemory`: there was no room for what the threads share;
+/// - `Helper`: a round of the helper was refused, by `Failed`, `Worn` or `Fault`. `NoMemory` where no thread could be made;
+/// - `NoMemory`: there was no room for what the workers leave;
+/// - `Session`: a worker's call was refused;
+/// - `Close`: the heap wasn't closed;
+/// - `Recover`: the device wasn't recovered;
+/// - `NoMemory`: there was no room for what is told. The device is recovered.
+pub fn drive_heap<D: Disk + Drop, M: Meet + Sync, R: Threads + Wait + Sync>(
+    rt: &R,
+    alloc: Global,
+    meet: &M,
+    schema: Schema,
+    recovered: Recovered<D>,
+    rounds: u32,
+) -> Result<(Recovered<D>, Driven), (D, DriveError)>
+    requires schema { FitsSchema schema recovered.layout recovered.guards }
+    ensures ok { IfOk result (λ r. IsDriven D.device schema recovered r.0 r.1) }
+{
+    match open(alloc, schema, recovered, LAST_NUMBER) {
+        Ok(heap) => run(rt, alloc, meet, heap, rounds),
+        Err((disk, _)) => Err((disk, DriveError::NoMemory)),
+    }
+}
+
+// The workers work beside the helper, and then all is closed.
+fn run<D: Disk + Drop, M: Meet + Sync, R: Threads + Wait + Sync>(
+    rt: &R,
+    alloc: Global,
+    meet: &M,
+    heap: RunningHeap<D>,
+    rounds: u32,
+) -> Result<(Recovered<D>, Driven), (D, DriveError)>
+    requires joined { All (IsJoined heap.shared heap.helper.store.known.layout.capacity heap.helper.rings) heap.sessions.items }
+    requires helping { IsHelping D.device heap.shared heap.helper }
+    ensures ok { IfOk result (λ r. IsRunBy D.device heap.shared heap.helper.store.known.layout r.0 r.1) }
+{
+    joined_law();
+    let RunningHeap {
+        shared,
+        sessions,
+        helper,
+    } = heap;
+    let Ok(workers) = number_all(alloc, sessions) else {
+        return Err((disk_of(helper), DriveError::NoMemory));
+    };
+    let (worked, served) = race(rt, meet, &shared, workers, helper, rounds);
+    let Served { helper, answer } = served;
+    if let Err(refusal) = answer {
+        return Err((disk_of(helper), refusal));
+    }
+    match worked {
+        Ok(worked) => end_all(alloc, shared, worked, helper),
+        Err(_) => Err((disk_of(helper), DriveError::NoMemory)),
+    }
+}
+
+// The helper's device.
+fn disk_of<D: Disk>(helper: Helper<D>) -> D {
+    helper.into_store().into_disk()
+}
+
+// Closes with what the workers leave, where all have worked to their end.
+fn end_all<D: Disk>(
+    alloc: Global,
+    shared: Shared,
+    worked: Vec<Worked>,
+    helper: Helper<D>,
+) -> Result<(Recovered<D>, Driven), (D, DriveError)>
+    requires helper { IsHelping D.device shared helper }
+    requires worked { AreWorked shared helper.store.known.layout.capacity helper.rings worked.items }
+    ensures ok { IfOk result (λ r. IsRunBy D.device shared helper.store.known.layout r.0 r.1) }
+{
+    let Ok((ended, refusal)) = part(alloc, worked) else {
+        return Err((disk_of(helper), DriveError::NoMemory));
+    };
+    match refusal {
+        None => close_all(alloc, shared, ended, helper),
+        Some(refusal) => Err((disk_of(helper), DriveError::Session(refusal))),
+    }
+}
+
+// Closes, and recovers the device.
+fn close_all<D: Disk>(
+    alloc: Global,
+    shared: Shared,
+    ended: Vec<Ended>,
+    helper: Helper<D>,
+) -> Result<(Recovered<D>, Driven), (D, DriveError)>
+    requires helper { IsHelping D.device shared helper }
+    requires ended { All (IsEnded shared helper.store.known.layout.capacity helper.rings) ended.items }
+    ensures ok { IfOk result (λ r. IsRunBy D.device shared helper.store.known.layout r.0 r.1) }
+{
+    match close(shared, ended, helper) {
+        Ok(disk) => tell(alloc, disk),
+        Err((disk, refusal)) => Err((disk, DriveError::Close(refusal))),
+    }
+}
+
+// Recovers the device, and tells what is there.
+fn tell<D: Disk>(alloc: Global, disk: D) -> Result<(Recovered<D>, Driven), (D, DriveError)>
+    ensures ok { IfOk result (λ r. IsTold D.device (D.device disk) r.0 r.1) }
+{
+    let (recovered, report) = match recover(alloc, disk) {
+        Ok(found) => found,
+        Err((disk, refusal)) => return Err((disk, DriveError::Recover(refusal))),
+    };
+    let counts = first_counts(&report.kept.counts, recovered.layout().lanes);
+    let Ok(acknowledged) = counts.to_vec(alloc) else {
+        return Err((recovered.into_disk(), DriveError::NoMemory));
+    };
+    let Ok(heap) = recovered.heap().to_vec(alloc) else {
+        return Err((recovered.into_disk(), DriveError::NoMemory));
+    };
+    Ok((recovered, Driven { acknowledged, heap }))
+}
+
+// The counts of the first lanes, so many.
+fn first_counts(counts: &[u64], lanes: u8) -> &[u64]
+    ensures { result.now ≡ take lanes counts.now }
+{
+    &counts[..counts.len().min(usize::from(lanes))]
+}
