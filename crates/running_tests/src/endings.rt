@@ -8,15 +8,15 @@ ghost use Rattle.trim_helper.specs.Endings.{IsEnded, Rings};
 
 use crate::heap::{open_two, values_on};
 use block_disk::MemDisk;
-use heap_model::{Lane, ObjectId};
+use heap_model::{FieldId, Lane, ObjectId};
 use monitor::Shared;
 use running_heap::{close, end, joined_law};
-use session::Session;
+use session::{Session, Waiting};
 use std::alloc::Global;
 use trim_helper::{CloseError, Ended, Helper};
 
-// The list of one session that has ended.
-fn one_of(alloc: Global, only: Ended) -> Option<Vec<Ended>>
+/// The list of one session that has ended.
+pub fn one_of(alloc: Global, only: Ended) -> Option<Vec<Ended>>
     ensures items { IfSome result (λ l. l.items ≡ only ∷ []) }
 {
     vec![in alloc; only].ok()
@@ -64,17 +64,17 @@ fn end_holding(shared: &Shared, session: Session) -> Ended
     end(session)
 }
 
-// Closes with the first session alone.
-fn close_without_second(
+// Closes with this session alone.
+fn close_with(
     alloc: Global,
     shared: Shared,
-    first: Session,
+    only: Session,
     helper: Helper<MemDisk>,
 ) -> Option<(CloseError, bool)>
     requires helper { IsHelping device_of shared helper }
-    requires first { IsJoined shared helper.store.known.layout.capacity helper.rings first }
+    requires only { IsJoined shared helper.store.known.layout.capacity helper.rings only }
 {
-    match one_of(alloc, end(first)) {
+    match one_of(alloc, end(only)) {
         Some(ended) => refusal(alloc, shared, ended, helper),
         None => None,
     }
@@ -102,13 +102,37 @@ fn close_holding(
 // The second lane's session hasn't come.
 fn one_is_missing(alloc: Global) -> Option<(CloseError, bool)> {
     let (shared, first, _second, helper) = open_two(alloc)?;
-    close_without_second(alloc, shared, first, helper)
+    close_with(alloc, shared, first, helper)
 }
 
 // The first lane's session holds a monitor.
 fn one_holds(alloc: Global) -> Option<(CloseError, bool)> {
     let (shared, first, second, helper) = open_two(alloc)?;
     close_holding(alloc, shared, first, second, helper)
+}
+
+// Enters a monitor, stores, and begins to wait.
+fn begin_wait(shared: &Shared, session: Session) -> Option<Waiting>
+    requires seat { IsSessionOf shared.now session }
+{
+    let mut session = session;
+    let _ = session.try_enter(shared, ObjectId(0));
+    let _ = session.store(shared, FieldId(0), 7);
+    session.begin_wait(shared, ObjectId(0)).ok()
+}
+
+// The first lane's session waits.
+fn one_waits(alloc: Global) -> Option<(bool, Option<(CloseError, bool)>)> {
+    let (shared, first, second, helper) = open_two(alloc)?;
+    let waiting = begin_wait(&shared, first);
+    let refused = close_with(alloc, shared, second, helper);
+    Some((waiting.is_some(), refused))
+}
+
+#[test]
+fn a_session_that_waits_has_not_ended(rt: HostRuntime) {
+    let missing = CloseError::Missing { lane: Lane(0) };
+    assert!(rt; one_waits(rt.alloc()) == Some((true, Some((missing, true)))));
 }
 
 #[test]

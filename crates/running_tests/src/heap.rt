@@ -70,6 +70,22 @@ pub fn open_one(alloc: Global) -> Option<(Shared, Session, Helper<MemDisk>)>
     }
 }
 
+/// The same on this disk.
+pub fn open_one_on(alloc: Global, disk: MemDisk) -> Option<(Shared, Session, Helper<MemDisk>)>
+    ensures joined { IfSome result (λ o. IsJoined o.0 o.2.store.known.layout.capacity o.2.rings o.1) }
+    ensures helping { IfSome result (λ o. IsHelping device_of o.0 o.2) }
+{
+    let RunningHeap {
+        shared,
+        mut sessions,
+        helper,
+    } = open_on(alloc, disk, 1)?;
+    match sessions.pop() {
+        Some(session) => Some((shared, session, helper)),
+        None => None,
+    }
+}
+
 /// The same with two lanes: the shared words, their sessions, and the helper.
 pub fn open_two(alloc: Global) -> Option<(Shared, Session, Session, Helper<MemDisk>)>
     ensures first { IfSome result (λ o. IsJoined o.0 o.3.store.known.layout.capacity o.3.rings o.1) }
@@ -96,4 +112,10 @@ pub fn values_on(alloc: Global, disk: MemDisk) -> Option<Vec<u64>> {
         Ok((recovered, _report)) => recovered.heap().to_vec(alloc).ok(),
         Err(_) => None,
     }
+}
+
+/// The value that recovery gives the field for all. `None` is a refusal.
+pub fn first_value(alloc: Global, disk: MemDisk) -> Option<u64> {
+    let values = values_on(alloc, disk)?;
+    values.first().copied()
 }

@@ -1,9 +1,11 @@
-//! Tests of heaps that run, by their public calls alone: how far a session comes ahead of its helper, and what
-//! closing answers.
+//! Tests of heaps that run, by their public calls alone: how far a session comes ahead of its helper, what
+//! closing answers, and what a device that fails leaves.
 #![tactic(auto)]
 
 #[cfg(test)]
 mod endings;
+#[cfg(test)]
+mod faults;
 #[cfg(test)]
 mod heap;
 #[cfg(test)]
