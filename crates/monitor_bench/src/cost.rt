@@ -83,6 +83,7 @@ fn print_one<R: Print>(rt: &R, name: &str, steps: Best, bare: Best) -> io::Resul
 }
 
 /// So many loads of a field. Answers their sum.
+#[inline(always)]
 fn read_again(shared: &Shared, seat: &mut Seat, grip: Grip, rounds: u64) -> u64
     requires one { HasOne shared.now seat.old grip }
     requires field { 0 < (plan shared.now).fields }
@@ -139,6 +140,7 @@ fn best_tries<R: Clock>(rt: &R, shared: &Shared, seat: &mut Seat) -> io::Result<
     Ok(best)
 }
 
+#[inline(always)]
 fn best_reads<R: Clock>(rt: &R, shared: &Shared, seat: &mut Seat, grip: Grip) -> io::Result<Best>
     requires one { HasOne shared.now seat.old grip }
     requires field { 0 < (plan shared.now).fields }
@@ -196,6 +198,7 @@ fn best_bare<R: Clock>(rt: &R, word: &AtomicU64) -> io::Result<Costs> {
 }
 
 // Of loads and of stores, by a thread that holds the guard.
+#[inline(always)]
 fn best_of_fields<R: Clock>(
     rt: &R,
     shared: &Shared,
@@ -216,6 +219,7 @@ fn best_of_fields<R: Clock>(
 }
 
 // All by one seat, one after the other. `None` where the monitor wasn't free.
+#[inline(always)]
 fn best_of_seat<R: Clock>(rt: &R, shared: &Shared, seat: &mut Seat) -> io::Result<Option<Costs>>
     requires idle { IsIdle shared.now seat.old }
     requires heap { (0 < (plan shared.now).objects) × (0 < (plan shared.now).fields) × (0 < (plan shared.now).last) }
