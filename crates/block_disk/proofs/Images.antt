@@ -1,9 +1,9 @@
 -- How the images that a crash may leave follow the calls. What stands here as a law of specs/Laws.antt is for crates
 -- above too: one that speaks of any P is of a size that no clause may have, so it is cited from here.
-use Rattle.std.proofs.Common.{◌≡◌, ◌⊎◌, inl, inr, ⊎_elim, ℕ, ◌+◌, ◌<◌, ◌≤◌, List, [], ◌∷◌, ◌++◌, length, Result, Ok, Err, OnOk, IsErrOf, refl, sym, ◌∙◌, ap, subst, arith}
+use Rattle.std.proofs.Common.{◌≡◌, ◌⊎◌, inl, inr, ⊎_elim, ℕ, ◌+◌, ◌<◌, ◌≤◌, List, [], ◌∷◌, ◌++◌, length, Result, Ok, Err, OnOk, IsErrOf, refl, sym, ◌∙◌, ap, subst, append_assoc, arith}
 use Rattle.block_disk.specs.Bytes.{spliced}
 use Rattle.block_disk.specs.Device.{Range, Moment, Device, range_of, SameOutside, Image, LeftIn, LeftSince, written, synced, SameMoments, TornWrite}
-use Rattle.block_disk.specs.Images.{LeavesOnly, Always, ImageBut}
+use Rattle.block_disk.specs.Images.{Continues, LeavesOnly, Always, ImageBut}
 use Rattle.block_disk.specs.Laws.{AgainLaw, AlwaysLaw, BeginLaw, ButLaw, FollowsLaw, KeptLaw, NoChangeLaw, NoneLaw, NowLaw, NowTooLaw, OnlyLaw, ReadsLaw, StaysLaw, SurvivesLaw, SyncLaw, ThenLaw, WeakerLaw, WiderLaw}
 use Rattle.block_disk.specs.declared.error.DiskError.{DiskError}
 use Rattle.block_disk.specs.declared.error.DiskError.TheVariants.{Fault, OutOfRange}
@@ -72,12 +72,20 @@ survives_none P xs ys p same = subst P (sym (outside_none xs ys same)) p
 
 -- no call
 pub begin : BeginLaw
-begin d P = record { later = omega arith; each = λ t image le left. inl left; keeps = λ t image le left. left }
+begin d P = record { later = omega arith; grows = record { since = []; moments = refl }; each = λ t image le left. inl left; keeps = λ t image le left. left }
+
+-- the moments of calls, and then of others
+pub grows_then : (old mid new : Device) → Continues old mid → Continues mid new → Continues old new
+grows_then old mid new a b = record {
+  since = b.since ++ a.since;
+  moments = b.moments ∙ ap (λ (ms : List Moment). b.since ++ ms) a.moments ∙ sym (append_assoc b.since a.since (old.now ∷ old.past));
+}
 
 -- calls, and then others
 pub and_then : ThenLaw
 and_then old mid new P a b = record {
   later = omega (arith, a.later, b.later);
+  grows = grows_then old mid new a.grows b.grows;
   each = λ t image le left. ⊎_elim (λ was. a.each t image le was) (λ p. inr p) (b.each t image (omega (arith, le, a.later)) left);
   keeps = λ t image le left. b.keeps t image (omega (arith, le, a.later)) (a.keeps t image le left);
 }
@@ -86,6 +94,7 @@ and_then old mid new P a b = record {
 pub weaker : WeakerLaw
 weaker old new P Q to a = record {
   later = a.later;
+  grows = a.grows;
   each = λ t image le left. ⊎_elim (λ was. inl was) (λ p. inr (to image p)) (a.each t image le left);
   keeps = a.keeps;
 }
@@ -98,6 +107,7 @@ follows old mid new P rs a b to = and_then old mid new P a (weaker mid new (Imag
 pub passes : (old new : Device) (P : List ℕ → Type 0) → new.past ≡ old.now ∷ old.past → Always new P → LeavesOnly old new P
 passes old new P is always = record {
   later = omega (arith, ap length is);
+  grows = record { since = new.now ∷ []; moments = λ i. new.now ∷ is i };
   each = λ t image le left. ⊎_elim (λ now. inr (always image now.1)) (λ was. inl (subst (λ (ms : List Moment). LeftIn t ms image) is was)) left;
   keeps = λ t image le left. inr (subst (λ (ms : List Moment). LeftIn t ms image) (sym is) left);
 }
@@ -106,6 +116,7 @@ passes old new P is always = record {
 pub stays : StaysLaw
 stays old new P same = record {
   later = omega (arith, ap length same.past);
+  grows = record { since = []; moments = λ i. same.now i ∷ same.past i };
   each = λ t image le left. inl (subst (λ (ms : List Moment). LeftIn t ms image) (λ i. same.now i ∷ same.past i) left);
   keeps = λ t image le left. subst (λ (ms : List Moment). LeftIn t ms image) (λ i. sym same.now i ∷ sym same.past i) left;
 }

@@ -1,10 +1,16 @@
 -- What may be said of the images that calls leave, with no look at what is pending (this project's own).
-use Rattle.std.specs.Prelude.{◌⊎◌, ℕ, ◌+◌, ◌≤◌, List, [], ◌∷◌, length}
-use Rattle.block_disk.specs.Device.{Range, Device, Image, LeftSince, SameOutside}
+use Rattle.std.specs.Prelude.{◌≡◌, ◌⊎◌, ℕ, ◌+◌, ◌≤◌, List, [], ◌∷◌, ◌++◌, length}
+use Rattle.block_disk.specs.Device.{Range, Moment, Device, Image, LeftSince, SameOutside}
+
+-- the moments of the one are those of the other, with these since
+pub record Continues (old new : Device) : Type 0 where
+  pub since : List Moment
+  pub moments : new.now ∷ new.past ≡ since ++ (old.now ∷ old.past)
 
 -- calls after which a crash may leave the images that it might have left before them, and else only those that have P
 pub record LeavesOnly (old new : Device) (P : List ℕ → Type 0) : Type 0 where
   pub later : length old.past ≤ length new.past
+  pub grows : Continues old new
   pub each : (t : ℕ) (image : List ℕ) → t ≤ length old.past → LeftSince t new image → LeftSince t old image ⊎ P image
   pub keeps : (t : ℕ) (image : List ℕ) → t ≤ length old.past → LeftSince t old image → LeftSince t new image
 

@@ -62,7 +62,7 @@ closes d0 d1 new at same was_open leaves =
     let is : d1 ≡ d = λ i. record { now = same.now i; past = same.past i; failures = d1.failures } in
     let moved : LeavesOnly d0 new (ImageBut d0 (record { start = at; len = 1 } ∷ [])) =
     let m = subst (λ (e : Device). LeavesOnly e new (ImageBut e (record { start = at; len = 1 } ∷ []))) is leaves in
-    record { later = m.later; each = m.each; keeps = m.keeps } in
+    record { later = m.later; grows = record { since = m.grows.since; moments = m.grows.moments }; each = m.each; keeps = m.keeps } in
     weaker d0 new (ImageBut d0 (record { start = at; len = 1 } ∷ [])) (ClosedOrSame d0 at)
     (λ image from. record { from = from; closed = ⊎_elim (λ here. inr (here ∙ sym was_open)) (λ shut. inl shut) (cases_eq (get_or image at 0) 165) })
     moved

@@ -196,6 +196,7 @@ one_live a b same = cc
 leaves_both : (old new : Device) (P Q : List ℕ → Type 0) → LeavesOnly old new P → LeavesOnly old new Q → LeavesOnly old new (λ image. P image × Q image)
 leaves_both old new P Q a b = record {
   later = a.later;
+  grows = a.grows;
   each = λ t image le left. ⊎_elim (λ was. inl was) (λ p. ⊎_elim (λ was. inl was) (λ q. inr (p, q)) (b.each t image le left)) (a.each t image le left);
   keeps = a.keeps;
 }
