@@ -1,6 +1,8 @@
 use Rattle.std.proofs.Common.{inr, subst}
 use Rattle.std.proofs.lemmas.Result.{err_from_is_err_and}
-use Rattle.block_disk.specs.Device.{Device}
+use Rattle.block_disk.specs.Device.{Device, SameMoments, synced}
+use Rattle.block_disk.proofs.Images.{stays}
+use Rattle.recover.specs.Recovery.{IsOnTheWay}
 use Rattle.recover.specs.Study.{IsStudyOf}
 use Rattle.recover.proofs.RecoveryLemmas.{made_by, since_synced}
 use Rattle.recover.proofs.recovering.recover_in_place.Goals as goal
@@ -43,3 +45,11 @@ returns-clause-any_moment g c = λ t of.
     let d2 = g.D.Disk.device c.find_recoverable.new.disk in
     let d3 = g.D.Disk.device c.finish.new.disk in
     since_synced s d0 d1 d2 d3 c.in_ok-sync.ensures.ok c.find_recoverable.ensures.same c.in_ok-found.ensures.exact c.finish.ensures.any_moment t of
+
+pub returns-in_err-found-clause-interrupted : goal.returns-in_err-found-clause-interrupted
+returns-in_err-found-clause-interrupted g c =
+    let p = err_from_is_err_and c.from_residual-in_err-found.result c.from_residual-in_err-found.ensures.1 in
+    let d0 = g.D.Disk.device c.args.disk.now in
+    let d2 = g.D.Disk.device c.find_recoverable.new.disk in
+    let read = subst (λ (d : Device). SameMoments d d2) c.in_ok-sync.ensures.ok c.find_recoverable.ensures.same in
+    rw p.1 (λ t of. inr (stays (synced d0) d2 (IsOnTheWay t) read))
