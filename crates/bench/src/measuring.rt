@@ -9,7 +9,7 @@ use crate::stopped::Stopped;
 use crate::words::Plan;
 use block_disk::Disk;
 use durable::Store;
-use image::Layout;
+use image::{Layout, Recovered};
 use std::alloc::Global;
 use std::time::{Clock, CpuClock};
 
@@ -26,17 +26,29 @@ pub fn image_size(alloc: Global, capacity: u32) -> Result<u64, Stopped> {
     Ok(layout.size())
 }
 
+// Makes an empty image on the device.
+fn format<D: Disk + Drop>(alloc: Global, disk: D, capacity: u32) -> Result<Recovered<D>, Stopped> {
+    let schema = schema_of(alloc).ok_or(Stopped::Memory)?;
+    match Store::format(alloc, disk, &schema, LANES, capacity) {
+        Ok(made) => Ok(made),
+        Err(_) => Err(Stopped::Format),
+    }
+}
+
+// The store of what was made.
+fn adopt<D: Disk + Drop>(alloc: Global, made: Recovered<D>) -> Result<Store<D>, Stopped> {
+    match Store::adopt(alloc, made, LAST) {
+        Ok(store) => Ok(store),
+        Err(_) => Err(Stopped::Memory),
+    }
+}
+
 /// The store of an empty image on the device, whose lanes' logs have so many records.
 pub fn open<D: Disk + Drop>(alloc: Global, disk: D, capacity: u32) -> Result<Store<D>, Stopped>
     ensures { IfOk result (λ store. 4 ≤ store.known.layout.lanes) }
 {
-    let schema = schema_of(alloc).ok_or(Stopped::Memory)?;
-    let Ok(made) = Store::format(alloc, disk, &schema, LANES, capacity) else {
-        return Err(Stopped::Format);
-    };
-    let Ok(store) = Store::adopt(alloc, made, LAST) else {
-        return Err(Stopped::Memory);
-    };
+    let made = format(alloc, disk, capacity)?;
+    let store = adopt(alloc, made)?;
     if store.layout().lanes < LANES {
         return Err(Stopped::Format);
     }

@@ -24,6 +24,3 @@ pub use format::{format_file, format_image};
 pub use new_file::NewFile;
 pub use recovering::{recover_file, recover_image};
 pub use showing::{show_file, show_image};
-
-#[cfg(test)]
-mod tests;

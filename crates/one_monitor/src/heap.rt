@@ -1,17 +1,47 @@
 //! A heap of nine objects and one field.
 
-ghost use Rattle.std.specs.Prelude.{◌≡◌, ◌+◌, ◌<◌, IfSome};
+ghost use Rattle.std.specs.Prelude.{◌≡◌, ◌+◌, ◌<◌, true, IfSome};
 ghost use Rattle.monitor.specs.Words.{objects, fields, setting_of};
 ghost use Rattle.monitor.specs.Seats.{IsHelperOf};
 ghost use Rattle.one_monitor.specs.Idle.{IsIdle};
 
-use guards::SchemaBuilder;
-use heap_model::FieldId;
+use guards::{Schema, SchemaBuilder};
+use heap_model::{FieldId, ObjectId};
 use monitor::{HelperSeat, Seat, Shared};
 use std::alloc::Global;
 
 /// The bound on release numbers.
 const LAST: u64 = 1_000_000_000_000;
+
+// Declares the objects, and gives the first.
+fn declare_objects(builder: &mut SchemaBuilder) -> Option<ObjectId> {
+    let first = builder.object("o0").ok()?;
+    for name in ["o1", "o2", "o3", "o4", "o5", "o6", "o7", "o8"] {
+        builder.object(name).ok()?;
+    }
+    Some(first)
+}
+
+// Nine objects, and the field of the first.
+fn schema_of_nine(alloc: Global) -> Option<Schema> {
+    let mut builder = SchemaBuilder::new(alloc);
+    let first = declare_objects(&mut builder)?;
+    builder.field(first, "f0", first, 10).ok()?;
+    builder.build().ok()
+}
+
+// Whether these are the words of that heap.
+fn is_of_nine(shared: &Shared) -> bool
+    ensures nine { result ≡ true → objects shared.now.plan ≡ 9 }
+    ensures one { result ≡ true → fields shared.now.plan ≡ 1 }
+    ensures guard { result ≡ true → (setting_of shared.now.plan).guard 0 ≡ 0 }
+    ensures last { result ≡ true → shared.now.plan.last ≡ 1000000000000 }
+{
+    shared.objects() == 9
+        && shared.fields() == 1
+        && shared.guard(FieldId(0)).0 == 0
+        && shared.last() == LAST
+}
 
 /// The shared words of a heap of nine objects and one field, which is 10 and guarded by the first object. `None` is
 /// want of memory.
@@ -22,30 +52,12 @@ pub fn nine_objects(alloc: Global) -> Option<(Shared, HelperSeat)>
     ensures guard { IfSome result (λ r. (setting_of r.0.plan).guard 0 ≡ 0) }
     ensures last { IfSome result (λ r. 1000 < r.0.plan.last) }
 {
-    let mut builder = SchemaBuilder::new(alloc);
-    let object = builder.object("o0").ok()?;
-    for name in ["o1", "o2", "o3", "o4", "o5", "o6", "o7", "o8"] {
-        builder.object(name).ok()?;
-    }
-    builder.field(object, "f0", object, 10).ok()?;
-    let schema = builder.build().ok()?;
+    let schema = schema_of_nine(alloc)?;
     if schema.fields() != 1 {
         return None;
     }
     let (shared, helper) = Shared::open(alloc, schema, &[10], 9, LAST).ok()?;
-    if shared.objects() != 9 {
-        return None;
-    }
-    if shared.fields() != 1 {
-        return None;
-    }
-    if shared.guard(FieldId(0)).0 != 0 {
-        return None;
-    }
-    if shared.last() != LAST {
-        return None;
-    }
-    Some((shared, helper))
+    is_of_nine(&shared).then_some((shared, helper))
 }
 
 /// Gives out the seat of the next lane, which is idle.

@@ -1,8 +1,8 @@
 //! Image files in a folder that the tests share.
-mod files;
+mod recovered;
 
-use super::*;
 use declarations::{SchemaFault, SchemaFaultKind};
+use image_file::{FormatError, format_file};
 use std::fs;
 use std::test::Fail;
 

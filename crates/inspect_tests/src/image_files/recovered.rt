@@ -1,10 +1,10 @@
 //! Image files recovered, shown and drawn. Lines and bytes follow from docs/SCRIPTS.md and docs/FORMAT.md.
 use super::{SCHEMA, format_there};
-use crate::{draw_file, recover_file, show_file};
 use block_disk::{Fill, MemDisk};
 use declarations::read_schema;
 use durable::{Store, StoreCall};
 use heap_model::{FieldId, Lane, ObjectId, Record};
+use image_file::{draw_file, recover_file, show_file};
 use recover::RecoverError;
 use std::io::Write;
 use std::test::Fail;
