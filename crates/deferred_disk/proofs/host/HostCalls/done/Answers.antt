@@ -1,0 +1,27 @@
+use Rattle.std.proofs.Common.{◌≡◌, ◌∷◌, ◌++◌, refl, sym, ◌∙◌, ap, subst, List, length, drop, true, Option, Some, None, option_to_list, is_some, arith}
+use Rattle.deferred_disk.specs.Deferred.{stop_of}
+use Rattle.deferred_disk.specs.Host.{Host, made_of, IsInOrder}
+use Rattle.deferred_disk.specs.declared.call.DeviceCall.{DeviceCall}
+use Rattle.rtrb.specs.Ring.{received}
+use Rattle.deferred_disk.proofs.Onto.{made_more, order_popped}
+use Rattle.deferred_disk.proofs.host.HostCalls.done.Goals as goal
+
+pub invariant_of-self : goal.invariant_of-self
+invariant_of-self c = order_popped (received c.self.inside.ring) c.pop_front.result c.self.inside.left.items c.pop_front.new.self.items c.pop_front.ensures.items c.self.invariant
+
+-- there was one
+some : (o : Option DeviceCall) (call : DeviceCall) (later rest : List DeviceCall) → call ∷ later ≡ option_to_list o ++ rest → rest ≡ later → is_some o ≡ true
+some None call later rest is same = absurd (let n : length (call ∷ later) ≡ length rest = ap length is in let m : length rest ≡ length later = ap length same in omega (arith, n, m))
+some (Some x) call later rest is same = refl
+
+pub returns-clause-one : goal.returns-clause-one
+returns-clause-one c = λ call later is.
+    let handed = received c.self.inside.ring in
+    let was : c.self.inside.left.items ≡ call ∷ later = ap (λ (h : Host). h.left) c.self.view_is ∙ is in
+    let rest : c.pop_front.new.self.items ≡ later = c.pop_front.ensures.rest ∙ ap (drop 1) was in
+    let order = subst (IsInOrder handed) was c.self.invariant in (
+      c.is_some.ensures ∙ some c.pop_front.result call later c.pop_front.new.self.items (sym was ∙ c.pop_front.ensures.items) rest,
+      rest,
+      ap (made_of handed) rest ∙ made_more handed call later order ∙ ap (λ (l : List DeviceCall). stop_of call ∷ made_of handed l) (sym was)
+          ∙ ap (λ (h : Host). stop_of call ∷ h.made) c.self.view_is,
+    )

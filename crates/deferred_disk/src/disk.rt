@@ -1,0 +1,194 @@
+//! A disk in memory that hands its calls over.
+ghost use Rattle.std.specs.Prelude.{◌≡◌, ◌⊎◌, ◌+◌, ◌<◌, ◌≤◌, List, [], ◌∷◌, ◌++◌, length, replicate, OnOk, OnErr, IfOk, IsErrOf, if◌then◌else◌};
+ghost use Rattle.block_disk.specs.Bytes.{part, spliced};
+ghost use Rattle.block_disk.specs.Device.{HasFailed, SameMoments, TornWrite, synced, written};
+ghost use Rattle.block_disk.specs.Memory.{Stop, Synced, Wrote, bytes_after, device_of, failed, fresh, stopped};
+ghost use Rattle.block_disk.specs.declared.error.DiskError.TheVariants.{Fault, OutOfRange};
+ghost use Rattle.deferred_disk.specs.Deferred.{onto, stop_of, stops_in, first_in};
+ghost use Rattle.deferred_disk.specs.Host.{IsHostOf};
+ghost use Rattle.deferred_disk.specs.declared.call.DeviceCall.TheVariants as calls;
+ghost use Rattle.deferred_disk.specs.declared.call.Handed.TheVariants as handed;
+ghost use Rattle.rtrb.specs.Ring.{SameProducer, known_free, sent};
+
+use crate::call::{DeviceCall, Handed};
+use crate::host::HostCalls;
+use block_disk::{Disk, DiskError, copy_out, fail, lies_within, overwrite};
+use rtrb::{Producer, RingBuffer};
+use std::alloc::{AllocError, Global};
+use std::marker::Model;
+
+/// How many syncs may be handed over and not yet be taken by the host.
+pub const SYNCS: usize = 64;
+
+/// A disk in memory, whose calls the host makes on a device of its own.
+///
+/// It takes its bytes and the calls that the host hasn't taken yet, and no more, however long it runs. `Fault` is want of
+/// memory for one more call, or, at a sync, [`SYNCS`] syncs that the host hasn't taken; the call has done nothing then, and the
+/// disk goes on to work.
+///
+/// Contracts see it as the memory of a [`MemDisk`](block_disk::MemDisk) that keeps all stops.
+#[derive(Drop)]
+pub struct DeferredDisk {
+    alloc: Global,
+    bytes: Vec<u8>,
+    // The calls since the last sync.
+    unsent: Vec<DeviceCall>,
+    pub(crate) ring: Producer<Handed>,
+    failures: u64,
+}
+
+impl Model for DeferredDisk {
+    ghost use Rattle.deferred_disk.specs.Deferred.{Deferred, IsDeferring, memory_of};
+    ghost use Rattle.rtrb.specs.Ring.{sent};
+
+    ghost Value = { Deferred };
+
+    ghost view = { λ d. record { memory = memory_of (sent d.ring) d.unsent.items d.failures; ring = d.ring } };
+
+    ghost invariant = { λ d. IsDeferring (sent d.ring) d.unsent.items d.bytes.items };
+}
+
+impl DeferredDisk {
+    /// A disk of `size` zero bytes, and the calls that the host of a device of such bytes has to make.
+    pub fn new(alloc: Global, size: u64) -> Result<(DeferredDisk, HostCalls), AllocError>
+        ensures disk { IfOk result (λ r. r.0.memory ≡ fresh (replicate size 0)) }
+        ensures host { IfOk result (λ r. (r.1.made ≡ []) × (r.1.left ≡ []) × IsHostOf r.0 r.1) }
+    {
+        DeferredDisk::holding(alloc, vec![in alloc; 0u8; size as usize]?)
+    }
+
+    /// The disk of these bytes, which the host's device has, durably, and the calls that the host has to make from then on.
+    pub fn from_bytes(alloc: Global, bytes: &[u8]) -> Result<(DeferredDisk, HostCalls), AllocError>
+        ensures disk { IfOk result (λ r. r.0.memory ≡ fresh bytes.now) }
+        ensures host { IfOk result (λ r. (r.1.made ≡ []) × (r.1.left ≡ []) × IsHostOf r.0 r.1) }
+    {
+        DeferredDisk::holding(alloc, bytes.to_vec(alloc)?)
+    }
+
+    // The disk of these bytes.
+    fn holding(alloc: Global, first: Vec<u8>) -> Result<(DeferredDisk, HostCalls), AllocError>
+        ensures disk { IfOk result (λ r. r.0.memory ≡ fresh first.items) }
+        ensures host { IfOk result (λ r. (r.1.made ≡ []) × (r.1.left ≡ []) × IsHostOf r.0 r.1) }
+    {
+        let bytes = first.to_vec(alloc)?;
+        let (mut ring, mut other) = RingBuffer::new(alloc, SYNCS)?;
+        ring.push_reserved(Handed::Begun(first));
+        other.slots_beside(&mut ring);
+        let _ = other.pop_known();
+        let disk = DeferredDisk {
+            alloc,
+            bytes,
+            unsent: Vec::new(alloc),
+            ring,
+            failures: 0,
+        };
+        Ok((disk, HostCalls::of(alloc, other)))
+    }
+}
+
+impl Disk for DeferredDisk {
+    ghost device = { λ d. device_of d.memory };
+
+    fn size(&self) -> u64 {
+        self.bytes.len() as u64
+    }
+
+    /// Reads the memory, and never answers `Fault`.
+    fn read_at(&mut self, at: u64, out: &mut [u8]) -> Result<(), DiskError>
+        ensures in_range { OnOk result (at + length out.old ≤ length (device_of self.old.memory).now.bytes) }
+        ensures ok { OnOk result (out.new ≡ part at (length out.old) (device_of self.old.memory).now.bytes) }
+        ensures same { OnOk result (device_of self.new.memory ≡ device_of self.old.memory) }
+        ensures out_of_range { IsErrOf result OutOfRange → (length (device_of self.old.memory).now.bytes < at + length out.old)
+            × (out.new ≡ out.old) × (device_of self.new.memory ≡ device_of self.old.memory) }
+        ensures fault { IsErrOf result Fault → SameMoments (device_of self.old.memory) (device_of self.new.memory) }
+        ensures cause { IsErrOf result Fault → HasFailed (device_of self.old.memory).failures (device_of self.new.memory).failures }
+        ensures no_fault { ¬ IsErrOf result Fault }
+        ensures untouched { self.new ≡ self.old }
+    {
+        if !lies_within(at, out.len(), self.bytes.len()) {
+            return Err(DiskError::OutOfRange);
+        }
+        copy_out(&self.bytes, at, out);
+        Ok(())
+    }
+
+    /// `Fault` is want of memory for the call; nothing is written then.
+    fn write_at(&mut self, at: u64, bytes: &[u8]) -> Result<(), DiskError>
+        ensures in_range { OnOk result (at + length bytes.now ≤ length (device_of self.old.memory).now.bytes) }
+        ensures ok { OnOk result (device_of self.new.memory ≡ written at bytes.now (device_of self.old.memory)) }
+        ensures out_of_range { IsErrOf result OutOfRange → (length (device_of self.old.memory).now.bytes < at + length bytes.now)
+            × (device_of self.new.memory ≡ device_of self.old.memory) }
+        ensures fault { IsErrOf result Fault → SameMoments (device_of self.old.memory) (device_of self.new.memory)
+            ⊎ TornWrite at (length bytes.now) (device_of self.old.memory) (device_of self.new.memory) }
+        ensures cause { IsErrOf result Fault → HasFailed (device_of self.old.memory).failures (device_of self.new.memory).failures }
+        ensures beyond { length (device_of self.old.memory).now.bytes < at + length bytes.now → IsErrOf result OutOfRange }
+        ensures stopped { OnOk result (self.new.memory ≡ stopped (Wrote at bytes.now) self.old.memory) }
+        ensures failed { IsErrOf result Fault → self.new.memory ≡ failed self.old.memory }
+        ensures untouched { IsErrOf result OutOfRange → self.new ≡ self.old }
+        ensures ring { SameProducer self.old.ring self.new.ring }
+    {
+        if !lies_within(at, bytes.len(), self.bytes.len()) {
+            return Err(DiskError::OutOfRange);
+        }
+        if !keep_write(self.alloc, &mut self.unsent, at, bytes) {
+            return Err(fail(&mut self.failures));
+        }
+        put(&mut self.bytes, at, bytes);
+        Ok(())
+    }
+
+    /// Hands over the calls since the last sync, and the sync. `Fault` is want of memory, or of room in the ring; what was
+    /// written then waits for the next sync.
+    fn sync(&mut self) -> Result<(), DiskError>
+        ensures ok { OnOk result (device_of self.new.memory ≡ synced (device_of self.old.memory)) }
+        ensures in_range { ¬ IsErrOf result OutOfRange }
+        ensures fault { IsErrOf result Fault → SameMoments (device_of self.old.memory) (device_of self.new.memory) }
+        ensures cause { IsErrOf result Fault → HasFailed (device_of self.old.memory).failures (device_of self.new.memory).failures }
+        ensures stopped { OnOk result (self.new.memory ≡ stopped Synced self.old.memory) }
+        ensures failed { IsErrOf result Fault → self.new.memory ≡ failed self.old.memory }
+        ensures handed { OnOk result (self.new.memory.stops ≡ stops_in (sent self.new.ring)) }
+        ensures ring { SameProducer self.old.ring self.new.ring }
+    {
+        if self.ring.slots() == 0 || !keep(&mut self.unsent, DeviceCall::Sync) {
+            return Err(fail(&mut self.failures));
+        }
+        let batch = std::mem::replace(&mut self.unsent, Vec::new(self.alloc));
+        self.ring.push_reserved(Handed::Calls(batch));
+        Ok(())
+    }
+
+    fn failures(&self) -> u64 {
+        self.failures
+    }
+}
+
+// Keeps the call, if there is memory for it.
+fn keep(calls: &mut Vec<DeviceCall>, call: DeviceCall) -> bool
+    ensures { calls.new.items ≡ (if result then calls.old.items ++ call ∷ [] else calls.old.items) }
+{
+    match calls.reserve(1) {
+        Ok(()) => {
+            calls.push_reserved(call);
+            true
+        }
+        Err(_) => false,
+    }
+}
+
+// Keeps a write of these bytes, if there is memory for it.
+fn keep_write(alloc: Global, calls: &mut Vec<DeviceCall>, at: u64, bytes: &[u8]) -> bool
+    ensures { (before : List Stop) → onto before calls.new.items ≡ (if result then Wrote at bytes.now ∷ onto before calls.old.items else onto before calls.old.items) }
+{
+    match bytes.to_vec(alloc) {
+        Ok(bytes) => keep(calls, DeviceCall::Write { at, bytes }),
+        Err(_) => false,
+    }
+}
+
+// Puts these bytes at `at`.
+fn put(bytes: &mut Vec<u8>, at: u64, content: &[u8])
+    requires { at + length content.now ≤ length bytes.old.items }
+    ensures { bytes.new.items ≡ spliced bytes.old.items at content.now }
+{
+    overwrite(bytes, at, content);
+}

@@ -1,0 +1,103 @@
+//! The host's end of a deferred disk.
+ghost use Rattle.std.specs.Prelude.{◌≡◌, [], ◌∷◌, ◌++◌, List, ℕ, true, false, MatchOption};
+ghost use Rattle.block_disk.specs.Device.{Image, LeftSince};
+ghost use Rattle.block_disk.specs.Memory.{Stop, device_of, moment_after};
+ghost use Rattle.deferred_disk.specs.Deferred.{onto, stop_of, stops_in};
+ghost use Rattle.deferred_disk.specs.Host.{IsHostOf};
+ghost use Rattle.rtrb.specs.Ring.{SameConsumer, SameProducer, received, known_items};
+
+use crate::call::{DeviceCall, Handed};
+use crate::disk::DeferredDisk;
+use rtrb::Consumer;
+use std::alloc::Global;
+use std::collections::VecDeque;
+use std::marker::Model;
+
+/// The calls that the host has to make on its device, in the order in which the disk was called.
+///
+/// The host fetches calls, looks at the next one, makes it, says that it has, and goes on. Before it has said so, a crash of its device may
+/// leave what a crash of the disk might have left before that call or in it.
+#[derive(Drop)]
+pub struct HostCalls {
+    ring: Consumer<Handed>,
+    // The calls of the batch that was taken last, but for those that were made.
+    left: VecDeque<DeviceCall>,
+}
+
+impl Model for HostCalls {
+    ghost use Rattle.deferred_disk.specs.Host.{Host, IsInOrder, made_of};
+    ghost use Rattle.rtrb.specs.Ring.{received};
+
+    ghost Value = { Host };
+
+    ghost view = { λ h. record { made = made_of (received h.ring) h.left.items; left = h.left.items; ring = h.ring } };
+
+    ghost invariant = { λ h. IsInOrder (received h.ring) h.left.items };
+}
+
+impl HostCalls {
+    // The host's end, from which the beginning was taken.
+    pub(crate) fn of(alloc: Global, ring: Consumer<Handed>) -> HostCalls
+        requires { stops_in (received ring) ≡ [] }
+        ensures { (result.made ≡ []) × (result.left ≡ []) × (result.ring ≡ ring) }
+    {
+        HostCalls {
+            ring,
+            left: VecDeque::new(alloc),
+        }
+    }
+
+    /// Where none is left, takes the calls up to the next sync, if they were handed over.
+    pub fn fetch(&mut self)
+        ensures made { self.new.made ≡ self.old.made }
+        ensures left { ¬ (self.old.left ≡ []) → self.new ≡ self.old }
+        ensures ring { SameConsumer self.old.ring self.new.ring }
+    {
+        if !self.left.is_empty() {
+            return;
+        }
+        if let Some(calls) = next_batch(&mut self.ring) {
+            self.left = VecDeque::from(calls);
+        }
+    }
+
+    /// The call that the host has to make next, of those that it fetched.
+    pub fn next_call(&self) -> Option<&DeviceCall>
+        ensures { MatchOption result (self.now.left ≡ []) (λ call. (later : List DeviceCall) × (self.now.left ≡ call.now ∷ later)) }
+    {
+        self.left.front()
+    }
+
+    /// The host has made the call that [`next_call`](HostCalls::next_call) gave. Answers whether there was one.
+    pub fn done(&mut self) -> bool
+        ensures ring { SameConsumer self.old.ring self.new.ring }
+        ensures none { self.old.left ≡ [] → (result ≡ false) × (self.new ≡ self.old) }
+        ensures one { (call : DeviceCall) (later : List DeviceCall) → self.old.left ≡ call ∷ later
+            → (result ≡ true) × (self.new.left ≡ later) × (self.new.made ≡ stop_of call ∷ self.old.made) }
+    {
+        self.left.pop_front().is_some()
+    }
+
+    /// Beside its disk: the host has made the first of the disk's calls, and those that are left come next.
+    pub fn meet(&mut self, disk: &mut DeferredDisk)
+        requires { IsHostOf disk.old self.old }
+        ensures made { (self.new.made ≡ self.old.made) × (self.new.left ≡ self.old.left) }
+        ensures disk { disk.new.memory ≡ disk.old.memory }
+        ensures pair { IsHostOf disk.new self.new }
+        ensures order { (later : List DeviceCall) × (disk.new.memory.stops ≡ onto (onto self.new.made self.new.left) later) }
+        ensures earlier { (image : List ℕ) → Image (moment_after disk.new.memory.first self.new.made) image → LeftSince 0 (device_of disk.new.memory) image }
+    {
+        self.ring.slots_beside(&mut disk.ring);
+    }
+}
+
+// Takes what was handed over next, if it is known to be there. The beginning has no calls.
+fn next_batch(ring: &mut Consumer<Handed>) -> Option<Vec<DeviceCall>>
+    ensures taken { MatchOption result (stops_in (received ring.new) ≡ stops_in (received ring.old)) (λ calls. stops_in (received ring.new) ≡ onto (stops_in (received ring.old)) calls.items) }
+    ensures ring { SameConsumer ring.old ring.new }
+{
+    match ring.pop() {
+        Ok(Handed::Calls(calls)) => Some(calls),
+        Ok(Handed::Begun(_)) | Err(_) => None,
+    }
+}
