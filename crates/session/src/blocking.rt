@@ -23,6 +23,7 @@ impl Session {
     /// the monitor fat, if it is thin and a slot is left.
     ///
     /// Refused as [`try_enter`](Session::try_enter) refuses, but never as held.
+    #[inline(always)]
     pub fn enter<R: Wait>(
         &mut self,
         rt: &R,
@@ -46,11 +47,37 @@ impl Session {
         }
         match self.grip_on(object) {
             Some(grip) => self.enter_again(shared, grip),
-            None => self.enter_waiting(rt, shared, object),
+            None => self.enter_anew(rt, shared, object),
         }
     }
 
-    // A monitor that isn't held: it tries until the answer is another than that the monitor is held.
+    // A monitor that isn't held: it tries once, and waits where another thread was seen to hold it.
+    #[inline(always)]
+    fn enter_anew<R: Wait>(
+        &mut self,
+        rt: &R,
+        shared: &Shared,
+        object: ObjectId,
+    ) -> Result<(), SessionError>
+        requires seat { IsSessionOf shared.now self.old }
+        requires object { object.0 < (plan shared.now).objects }
+        requires free { FindsNone (view_of self.old) self.old.held.items object }
+        ensures seat { IsSessionOf shared.now self.new }
+        ensures ring { SameRing self.old self.new }
+        ensures settled { IsSettled result }
+        ensures first { (u : View) × OnlyLooks (view_of self.old) u object × EntersFirst (capacity_of self.old) u (view_of self.new) object result }
+        ensures ring_room { held_count (view_of self.old) ≡ 0 → MatchResult result (λ _. SECTION_RECORDS ≤ free_of self.new + 1) (HasRing SECTION_RECORDS (free_of self.new)) }
+    {
+        match self.enter_first(shared, object) {
+            Ok(()) => Ok(()),
+            Err(SessionError::Held(_)) => self.enter_waiting(rt, shared, object),
+            Err(error) => Err(error),
+        }
+    }
+
+    // A monitor that isn't held, and that another thread was seen to want: it tries until the answer is another than that the
+    // monitor is held, and then makes it fat.
+    #[inline(never)]
     fn enter_waiting<R: Wait>(
         &mut self,
         rt: &R,
@@ -66,14 +93,13 @@ impl Session {
         ensures first { (u : View) × OnlyLooks (view_of self.old) u object × EntersFirst (capacity_of self.old) u (view_of self.new) object result }
         ensures ring_room { held_count (view_of self.old) ≡ 0 → MatchResult result (λ _. SECTION_RECORDS ≤ free_of self.new + 1) (HasRing SECTION_RECORDS (free_of self.new)) }
     {
-        let mut contended = false;
         for _ in rt.forever() {
             match self.enter_first(shared, object) {
                 Ok(()) => {
-                    self.make_fat_if(shared, object, contended);
+                    self.make_fat(shared, object);
                     return Ok(());
                 }
-                Err(SessionError::Held(_)) => contended = true,
+                Err(SessionError::Held(_)) => {}
                 Err(error) => return Err(error),
             }
             thread::yield_now();
@@ -81,17 +107,14 @@ impl Session {
         unreachable!()
     }
 
-    // Makes the monitor fat where another thread was seen to want it, if a slot is left.
-    fn make_fat_if(&mut self, shared: &Shared, object: ObjectId, contended: bool)
+    // Makes the monitor, if it is thin, fat where a slot is left.
+    fn make_fat(&mut self, shared: &Shared, object: ObjectId)
         requires seat { IsSessionOf shared.now self.old }
         ensures seat { IsSessionOf shared.now self.new }
         ensures ring { SameRing self.old self.new }
         ensures quiet { IsQuiet (view_of self.old) (view_of self.new) }
         ensures free { free_of self.new ≡ free_of self.old }
     {
-        if !contended {
-            return;
-        }
         let Some(grip) = self.grip_on(object) else {
             return;
         };

@@ -20,6 +20,7 @@ impl Session {
     ///
     /// Refused, in this order: [`UnknownField`](SessionError::UnknownField); [`NotHeld`](SessionError::NotHeld) where the
     /// session doesn't hold the monitor of the field's guard.
+    #[inline(always)]
     pub fn load(&mut self, shared: &Shared, field: FieldId) -> Result<u64, SessionError>
         requires seat { IsSessionOf shared.now self.old }
         ensures seat { IsSessionOf shared.now self.new }
@@ -48,6 +49,7 @@ impl Session {
     ///
     /// Refused, in this order: [`UnknownField`](SessionError::UnknownField); [`NotHeld`](SessionError::NotHeld) where the
     /// session doesn't hold the monitor of the field's guard; [`SectionFull`](SessionError::SectionFull).
+    #[inline(always)]
     pub fn store(&mut self, shared: &Shared, field: FieldId, value: u64) -> Result<(), SessionError>
         requires seat { IsSessionOf shared.now self.old }
         ensures seat { IsSessionOf shared.now self.new }

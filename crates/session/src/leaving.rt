@@ -21,6 +21,7 @@ impl Session {
     /// Gives one lock back, and with the last one the monitor (JLS 17.1). One store. The section ends with the last monitor.
     ///
     /// Refused, in this order: [`UnknownObject`](SessionError::UnknownObject); [`NotHeld`](SessionError::NotHeld).
+    #[inline(always)]
     pub fn exit(&mut self, shared: &Shared, object: ObjectId) -> Result<(), SessionError>
         requires seat { IsSessionOf shared.now self.old }
         ensures seat { IsSessionOf shared.now self.new }
@@ -40,12 +41,25 @@ impl Session {
             return Err(SessionError::NotHeld);
         };
         if grip.count > 1 {
-            let less = steps::unnest(shared, &mut self.seat, grip);
-            put(&mut self.held, less);
+            self.unnest(shared, grip);
         } else {
             self.release(shared, grip, place);
         }
         Ok(())
+    }
+
+    // One lock less, which isn't the last.
+    #[inline(never)]
+    fn unnest(&mut self, shared: &Shared, grip: Grip)
+        requires seat { IsSessionOf shared.now self.old }
+        requires found { Finds (view_of self.old) self.old.held.items grip.object grip }
+        requires several { 1 < grip.count }
+        ensures seat { IsSessionOf shared.now self.new }
+        ensures ring { SameRing self.old self.new }
+        ensures told { Lengthens (view_of self.old) (view_of self.new) (event.NestedExit grip.object ∷ []) }
+    {
+        let less = steps::unnest(shared, &mut self.seat, grip);
+        put(&mut self.held, less);
     }
 
     // The last exit. The grip is at this place.
