@@ -1,6 +1,7 @@
 //! The calls that may wait. How long, and whether another thread comes first, is not said.
 
 use crate::error::SessionError;
+use crate::grips::like;
 use crate::session::Session;
 use crate::waiting::Waiting;
 use heap_model::ObjectId;
@@ -46,7 +47,7 @@ impl Session {
             return Err(SessionError::UnknownObject);
         }
         match self.grip_on(object) {
-            Some(grip) => self.enter_again(shared, grip),
+            Some(grip) => self.enter_again(shared, like(grip)),
             None => self.enter_anew(rt, shared, object),
         }
     }

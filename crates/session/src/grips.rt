@@ -77,12 +77,27 @@ pub fn take_at(held: &mut ArrayVec<Grip, MOST_HELD>, _object: ObjectId, place: u
         held.remove(place);
         return;
     }
-    let Some(last) = held.pop() else {
-        return;
-    };
-    if place < held.len() {
+    if place + 1 < held.len() {
+        let Some(second) = held.pop() else {
+            return;
+        };
         held.pop();
-        held.push(last);
+        held.push(second);
+    } else {
+        held.pop();
+    }
+}
+
+/// A grip like it. What is called out of line gets one of its own, so that the grip that was found stays in registers.
+#[inline(always)]
+pub fn like(grip: Grip) -> Grip
+    ensures { result ≡ grip }
+{
+    Grip {
+        object: grip.object,
+        count: grip.count,
+        number: grip.number,
+        slot: grip.slot,
     }
 }
 

@@ -1,7 +1,7 @@
 //! Exits of a session (JLS 17.1).
 
 use crate::error::SessionError;
-use crate::grips::{after_release, put, take_at};
+use crate::grips::{after_release, like, put, take_at};
 use crate::session::Session;
 use heap_model::{ObjectId, Record};
 use monitor::Shared;
@@ -41,7 +41,7 @@ impl Session {
             return Err(SessionError::NotHeld);
         };
         if grip.count > 1 {
-            self.unnest(shared, grip);
+            self.unnest(shared, like(grip));
         } else {
             self.release(shared, grip, place);
         }
