@@ -155,6 +155,13 @@ went_down m fill back down tests = elim (cases_lt (length m.store.disk.stops) ba
   | inr enough ↦ tests.passed (λ few. omega (arith, few, enough))
 ]
 
+-- and the writes and syncs are counted from 1
+pub one_begun : (m : Live) (fill : Fill) (back : ℕ) (down : MachineState) → Crashes (Running m) Crashed down m fill back → 1 ≤ begun_at back m.store.disk
+one_begun m fill back down tests = elim (cases_lt (length m.store.disk.stops) back) as (λ _. 1 ≤ begun_at back m.store.disk) [
+  | inl few ↦ absurd (let told = (tests.refused few).0 in cc)
+  | inr enough ↦ omega (arith, enough)
+]
+
 -- a crash now leaves an image of a store that hasn't failed that stands for the acknowledged cut
 pub stands_before : (m : Live) (s : Setting) (p : Past) → Tells m.store s p → m.store.known.has_failed ≡ false → Always (device_of m.store.disk) (StandsForCut m.store.known.layout s p.logged p.cut)
 stands_before m s p has ran = stands_always m.store.known.layout s p m.store.known.committed (device_of m.store.disk) (has.agrees ran)

@@ -1,5 +1,6 @@
 mod FrontLemmas
 mod PlayLemmas
+mod MomentLemmas
 mod CrashLemmas
 mod StepLemmas
 mod PlayingLemmas

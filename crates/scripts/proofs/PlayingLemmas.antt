@@ -16,17 +16,16 @@ use Rattle.heap_model.specs.Cuts.{IsStable}
 use Rattle.heap_model.proofs.Existence.{stable_exists}
 use Rattle.block_disk.specs.Crash.{first_stops}
 use Rattle.block_disk.specs.Device.{Device, Image}
-use Rattle.block_disk.specs.Images.{LeavesOnly}
+use Rattle.block_disk.specs.Images.{Continues, LeavesOnly}
 use Rattle.block_disk.specs.Memory.{Memory, device_of, moments_before}
 use Rattle.block_disk.specs.declared.crash.Fill.{Fill}
-use Rattle.block_disk.proofs.Images.{and_then, begin, left_now, weaker}
+use Rattle.block_disk.proofs.Images.{begin, grows_then, left_now, weaker}
 use Rattle.image.specs.declared.layout.Layout.{Layout}
 use Rattle.store_image.specs.KeptHeap.{StandsForCut, kept_heap}
 use Rattle.store_past.specs.Past.{Past, applied, no_past, after_home, after_log, after_settle, after_trim}
 use Rattle.durable.specs.Store.{Parts, ShowsStep}
 use Rattle.durable.specs.declared.doubt.Doubt.{Doubt}
 use Rattle.durable.specs.declared.doubt.Doubt.TheVariants.{Nothing, Logging, Trimming}
-use Rattle.survival.specs.WholeRun.{MayBeLeft}
 use Rattle.plain_monitors.specs.Logged.{logged}
 use Rattle.plain_monitors.specs.Table.{Table, setting_in, state_of}
 use Rattle.script_lines.specs.Grammar.{Asks}
@@ -42,10 +41,11 @@ use Rattle.script_machine.specs.OfSchema.{IsDiskOf}
 use Rattle.script_machine.specs.States.{Live, Tells, begun_at, crash_back}
 use Rattle.script_machine.proofs.AgreementLemmas.{event-from, homes-told, logged-from, may-from, same-from, table-from}
 use Rattle.scripts.specs.Crashing.{IsAtItsEnd, IsSince, Survives}
-use Rattle.scripts.specs.Playing.{Events, FormattedLaw, IsBegun, IsSettlingFirst, LeadsTo, LineMakes, PlayLaw, PlaysOn, RecoveredLaw, Story, SurvivesLines, told_record}
+use Rattle.scripts.specs.Playing.{CutsOff, Events, FormattedLaw, IsBegun, IsSettlingFirst, LeadsTo, LineMakes, PlayLaw, PlaysOn, RecoveredLaw, Story, SurvivesLines, told_record}
 use Rattle.scripts.specs.Playing.LineMakes.{AddsEvent, LogsAll, WritesHome as HomeWritten, Settles as HasSettled, Trims as HasTrimmed, Leaves}
 use Rattle.scripts.specs.Runs.{PlaysLine}
-use Rattle.scripts.proofs.CrashLemmas.{one_live, since, went_down, wreck_of, LeftInCall, in_keeping, in_settling, recovered_as, stands_before}
+use Rattle.scripts.proofs.CrashLemmas.{one_begun, one_live, went_down, wreck_of, LeftInCall, in_keeping, in_settling, recovered_as, stands_before}
+use Rattle.scripts.proofs.MomentLemmas.{Came, came, came_before, came_now, came_since}
 use Rattle.scripts.proofs.StepLemmas.{Moved, moves}
 
 -- home writes leave the acknowledged cut
@@ -238,12 +238,18 @@ module _ (first : ℕ → ℕ) (s : Setting) (events : Events) (p : Past) (line 
   went now output (text, inl skips) = stayed now skips.same
   went now output (text, inr obeys) = stepped now obeys.answer obeys.order obeys.asks obeys.steps
 
--- what a crash in lines leaves, by the first part of them that had been played
-pub record LeftInLines (l : Layout) (s : Setting) (events : Events) (p : Past) (m : Live) (lines : List (List ℕ)) (image : List ℕ) : Type 0 where
+-- what a crash in lines leaves, by the first part of them that had ended
+pub record LeftInLines (l : Layout) (s : Setting) (events : Events) (p : Past) (m : Live) (lines outputs : List (List ℕ)) (last : Live) (back : ℕ) (image : List ℕ) : Type 0 where
   pub before : List (List ℕ)
   pub rest : List (List ℕ)
   pub split : lines ≡ before ++ rest
+  pub printed : List (List ℕ)
+  pub later : List (List ℕ)
+  pub prints : outputs ≡ printed ++ later
   pub now : Live
+  pub plays : PlaysOn m before printed now
+  pub ended : IsSince now.store.disk last.store.disk back
+  pub cut_off : CutsOff now rest later last back
   pub after : Events
   pub then : Past
   pub story : Story s m events p before now after then
@@ -256,14 +262,51 @@ pub record LeftInLines (l : Layout) (s : Setting) (events : Events) (p : Past) (
   pub stays : (lane : ℕ) → p.cut lane ≤ cut lane
   pub stands : StandsForCut l s then.logged cut image
 
--- one in the first line
-left_first : (l : Layout) (s : Setting) (events : Events) (p : Past) (m : Live) (line : List ℕ) (lines : List (List ℕ)) (image : List ℕ) → LeadsTo s events p m
-    → m.store.known.layout ≡ l → LeftInLine l s p line image → LeftInLines l s events p m (line ∷ lines) image
-left_first l s events p m line lines image leads layout left = record {
+-- one that was there before the first of them had changed it
+left_before : (l : Layout) (first : ℕ → ℕ) (s : Setting) (events : Events) (p : Past) (m : Live) (lines outputs : List (List ℕ)) (last : Live) (back : ℕ) (was : Standing first s events p m)
+    (image : List ℕ) → m.store.known.layout ≡ l → IsSince m.store.disk last.store.disk back → CutsOff m lines outputs last back → Image (device_of m.store.disk).now image
+    → LeftInLines l s events p m lines outputs last back image
+left_before l first s events p m lines outputs last back was image layout ended cut_off left =
+    let has = was.leads.tells in
+    record {
+      before = [];
+      rest = lines;
+      split = refl;
+      printed = [];
+      later = outputs;
+      prints = refl;
+      now = m;
+      plays = (refl, refl);
+      ended = ended;
+      cut_off = cut_off;
+      after = events;
+      then = p;
+      story = (refl, refl, refl);
+      leads = was.leads;
+      layout = layout;
+      doubt = m.store.known.doubt;
+      shows = subst (λ (k : Layout). ShowsStep k s p m.store.known.doubt image) layout (has.images image left);
+      cut = p.cut;
+      acknowledged = inl refl;
+      stays = λ lane. omega arith;
+      stands = subst (λ (k : Layout). StandsForCut k s p.logged p.cut image) layout (stands_before m s p has was.running image left);
+    }
+
+-- one in the first of them, which was cut off
+left_first : (l : Layout) (s : Setting) (events : Events) (p : Past) (m : Live) (line : List ℕ) (lines outputs : List (List ℕ)) (last : Live) (back : ℕ) (image : List ℕ) → LeadsTo s events p m
+    → m.store.known.layout ≡ l → IsSince m.store.disk last.store.disk back → CutsOff m (line ∷ lines) outputs last back → LeftInLine l s p line image
+    → LeftInLines l s events p m (line ∷ lines) outputs last back image
+left_first l s events p m line lines outputs last back image leads layout ended cut_off left = record {
   before = [];
   rest = line ∷ lines;
   split = refl;
+  printed = [];
+  later = outputs;
+  prints = refl;
   now = m;
+  plays = (refl, refl);
+  ended = ended;
+  cut_off = cut_off;
   after = events;
   then = p;
   story = (refl, refl, refl);
@@ -280,15 +323,22 @@ left_first l s events p m line lines image leads layout left = record {
   stands = left.stands;
 }
 
--- one in a later line
-left_later : (l : Layout) (s : Setting) (events added : Events) (p told : Past) (m middle : Live) (line output : List ℕ) (lines : List (List ℕ)) (image : List ℕ)
+-- one in a later line, when the first had ended
+left_later : (l : Layout) (s : Setting) (events added : Events) (p told : Past) (m middle : Live) (line output : List ℕ) (lines outputs : List (List ℕ)) (last : Live) (back : ℕ) (image : List ℕ)
     → PlaysLine (Running m) line output (Running middle) → LineMakes s line events p added told → LeadsTo s added told middle
-    → ((lane : ℕ) → p.cut lane ≤ told.cut lane) → LeftInLines l s added told middle lines image → LeftInLines l s events p m (line ∷ lines) image
-left_later l s events added p told m middle line output lines image plays makes leads grows left = record {
+    → ((lane : ℕ) → p.cut lane ≤ told.cut lane) → LeftInLines l s added told middle lines outputs last back image
+    → LeftInLines l s events p m (line ∷ lines) (output ∷ outputs) last back image
+left_later l s events added p told m middle line output lines outputs last back image plays makes leads grows left = record {
   before = line ∷ left.before;
   rest = left.rest;
   split = ap (λ (xs : List (List ℕ)). line ∷ xs) left.split;
+  printed = output ∷ left.printed;
+  later = left.later;
+  prints = ap (λ (xs : List (List ℕ)). output ∷ xs) left.prints;
   now = left.now;
+  plays = (middle, plays, left.plays);
+  ended = left.ended;
+  cut_off = left.cut_off;
   after = left.after;
   then = left.then;
   story = (middle, added, told, output, plays, makes, leads, left.story);
@@ -302,7 +352,7 @@ left_later l s events added p told m middle line output lines image plays makes 
   stands = left.stands;
 }
 
--- what lines make of the machine, and what a crash in them leaves
+-- what lines make of the machine: of its device, more moments
 pub record Ran (l : Layout) (first : ℕ → ℕ) (s : Setting) (events : Events) (p : Past) (lines : List (List ℕ)) (m now : Live) : Type 0 where
   pub after : Events
   pub then : Past
@@ -310,16 +360,14 @@ pub record Ran (l : Layout) (first : ℕ → ℕ) (s : Setting) (events : Events
   pub stands : Standing first s after then now
   pub layout : now.store.known.layout ≡ l
   pub schema : now.monitors.schema ≡ m.monitors.schema
-  pub leaves : LeavesOnly (device_of m.store.disk) (device_of now.store.disk) (LeftInLines l s events p m lines)
+  pub grows : Continues (device_of m.store.disk) (device_of now.store.disk)
 
 runs : (l : Layout) (first : ℕ → ℕ) (s : Setting) (events : Events) (p : Past) (lines outputs : List (List ℕ)) (m now : Live) → Standing first s events p m
     → m.store.known.layout ≡ l → PlaysOn m lines outputs now → Ran l first s events p lines m now
 runs l first s events p [] outputs m now was layout plays = subst (Ran l first s events p [] m) (sym plays.1)
-    (record { after = events; then = p; story = (refl, refl, refl); stands = was; layout = layout; schema = refl; leaves = begin (device_of m.store.disk) (LeftInLines l s events p m []) })
+    (record { after = events; then = p; story = (refl, refl, refl); stands = was; layout = layout; schema = refl; grows = record { since = []; moments = refl } })
 runs l first s events p (line ∷ lines) [] m now was layout plays = absurd plays
 runs l first s events p (line ∷ lines) (output ∷ outputs) m now was layout (middle, line_plays, plays) =
-    let a : Device = device_of m.store.disk in
-    let b : Device = device_of middle.store.disk in
     let w = went first s events p line m was middle output line_plays in
     let r = runs l first s w.after w.then lines outputs middle now w.stands (w.layout ∙ layout) plays in
     record {
@@ -329,39 +377,45 @@ runs l first s events p (line ∷ lines) (output ∷ outputs) m now was layout (
       stands = r.stands;
       layout = r.layout;
       schema = r.schema ∙ w.schema;
-      leaves = and_then a b (device_of now.store.disk) (LeftInLines l s events p m (line ∷ lines))
-          (weaker a b (LeftInLine l s p line) (LeftInLines l s events p m (line ∷ lines)) (λ image left. left_first l s events p m line lines image was.leads layout left)
-          (subst (λ (k : Layout). LeavesOnly a b (LeftInLine k s p line)) layout w.leaves))
-          (weaker b (device_of now.store.disk) (LeftInLines l s w.after w.then middle lines) (LeftInLines l s events p m (line ∷ lines))
-          (λ image left. left_later l s events w.after p w.then m middle line output lines image line_plays w.makes w.stands.leads w.grows left) r.leaves);
+      grows = grows_then (device_of m.store.disk) (device_of middle.store.disk) (device_of now.store.disk) w.leaves.grows r.grows;
     }
 
--- a crash before the first of them
-left_before : (first : ℕ → ℕ) (s : Setting) (events : Events) (p : Past) (m : Live) (lines : List (List ℕ)) (was : Standing first s events p m)
-    (image : List ℕ) → Image (device_of m.store.disk).now image → LeftInLines m.store.known.layout s events p m lines image
-left_before first s events p m lines was image left =
-    let has = was.leads.tells in
-    record {
-      before = [];
-      rest = lines;
-      split = refl;
-      now = m;
-      after = events;
-      then = p;
-      story = (refl, refl, refl);
-      leads = was.leads;
-      layout = refl;
-      doubt = m.store.known.doubt;
-      shows = has.images image left;
-      cut = p.cut;
-      acknowledged = inl refl;
-      stays = λ lane. omega arith;
-      stands = stands_before m s p has was.running image left;
-    }
+-- how many moments were over when the crash came that ends a play
+abbrev over_at : (back : ℕ) (last : Live) → ℕ
+over_at back last = length (moments_before last.store.disk.first (first_stops (begun_at back last.store.disk - 1) last.store.disk.stops))
+
+-- an image of the moment of the crash, line by line
+found : (l : Layout) (first : ℕ → ℕ) (s : Setting) (events : Events) (p : Past) (lines outputs : List (List ℕ)) (m last : Live) (back : ℕ) (image : List ℕ) → Standing first s events p m
+    → m.store.known.layout ≡ l → PlaysOn m lines outputs last → IsSince m.store.disk last.store.disk back
+    → Came (over_at back last) ((device_of last.store.disk).now ∷ (device_of last.store.disk).past) image → LeftInLines l s events p m lines outputs last back image
+found l first s events p [] outputs m last back image was layout plays ended came =
+    let here : Image (device_of m.store.disk).now image =
+    subst (λ (x : Live). Image (device_of x.store.disk).now image) plays.1
+    (came_now (over_at back last) (device_of last.store.disk) image (subst (λ (x : Live). IsSince x.store.disk last.store.disk back) (sym plays.1) ended) came) in
+    left_before l first s events p m [] outputs last back was image layout ended plays here
+found l first s events p (line ∷ lines) [] m last back image was layout plays ended came = absurd plays
+found l first s events p (line ∷ lines) (output ∷ outputs) m last back image was layout (middle, line_plays, plays) ended came =
+    let t : ℕ = over_at back last in
+    let a : Device = device_of m.store.disk in
+    let b : Device = device_of middle.store.disk in
+    let w = went first s events p line m was middle output line_plays in
+    elim (cases_lt t (length b.past)) as (λ _. LeftInLines l s events p m (line ∷ lines) (output ∷ outputs) last back image) [
+      | inl within ↦
+          let r = runs l first s w.after w.then lines outputs middle last w.stands (w.layout ∙ layout) plays in
+          let cut_off : CutsOff m (line ∷ lines) (output ∷ outputs) last back = (middle, line_plays, (λ since. omega (arith, within, since)), plays) in
+          let left = came_since t (length a.past) (b.now ∷ b.past) image ended (came_before t b (device_of last.store.disk) image r.grows within came) in
+          ⊎_elim
+          (λ old. left_before l first s events p m (line ∷ lines) (output ∷ outputs) last back was image layout ended cut_off (left_now a image old))
+          (λ new. left_first l s events p m line lines (output ∷ outputs) last back image was.leads layout ended cut_off (subst (λ (k : Layout). LeftInLine k s p line image) layout new))
+          (w.leaves.each (length a.past) image (omega arith) left)
+      | inr over ↦
+          left_later l s events w.after p w.then m middle line output lines outputs last back image line_plays w.makes w.stands.leads w.grows
+          (found l first s w.after w.then lines outputs middle last back image w.stands (w.layout ∙ layout) plays over came)
+    ]
 
 -- recovery of such an image, of a machine with this schema
-module _ (l : Layout) (s : Setting) (events : Events) (p : Past) (m crashed : Live) (lines : List (List ℕ)) (image : List ℕ) (left : LeftInLines l s events p m lines image)
-    (told : Answer) (new : MachineState) where
+module _ (l : Layout) (s : Setting) (events : Events) (p : Past) (m crashed : Live) (lines outputs : List (List ℕ)) (last : Live) (back : ℕ) (image : List ℕ)
+    (left : LeftInLines l s events p m lines outputs last back image) (told : Answer) (new : MachineState) where
   -- the machine that crashed, with the store that the first part of the lines left
   abbrev then_live : Live
   then_live = record { monitors = crashed.monitors; store = left.now.store }
@@ -385,14 +439,20 @@ module _ (l : Layout) (s : Setting) (events : Events) (p : Past) (m crashed : Li
       }
 
   pub recovers : (schema : crashed.monitors.schema ≡ m.monitors.schema) → m.store.known.layout ≡ l → Steps (Down (wreck_of crashed image)) order.Recover told new
-      → SurvivesLines m s events p lines told new ⊎ IsAtItsEnd (Down (wreck_of crashed image)) told
+      → SurvivesLines m s events p lines outputs last back told new ⊎ IsAtItsEnd (Down (wreck_of crashed image)) told
   recovers schema layout steps =
       ⊎_elim
       (λ survives. inl (record {
         before = left.before;
         rest = left.rest;
         split = left.split;
+        printed = left.printed;
+        later = left.later;
+        prints = left.prints;
         now = left.now;
+        plays = left.plays;
+        ended = left.ended;
+        cut_off = left.cut_off;
         after = left.after;
         then = left.then;
         story = left.story;
@@ -410,20 +470,17 @@ module _ (l : Layout) (s : Setting) (events : Events) (p : Past) (m crashed : Li
 module _ (first : ℕ → ℕ) (s : Setting) (events : Events) (p : Past) (m : Live) (was : Standing first s events p m) where
   crashed_in : (now : Live) (lines outputs : List (List ℕ)) (fill : Fill) (back : ℕ) (down new : MachineState) (told : Answer) → PlaysOn m lines outputs now
       → IsSince m.store.disk now.store.disk back → Steps (Running now) (order.Crash fill back) Crashed down → Steps down order.Recover told new
-      → SurvivesLines m s events p lines told new ⊎ IsAtItsEnd down told
+      → SurvivesLines m s events p lines outputs now back told new ⊎ IsAtItsEnd down told
   crashed_in now lines outputs fill back down new told plays ended crash recover =
       let l : Layout = m.store.known.layout in
-      let a : Device = device_of m.store.disk in
-      let d : Device = device_of now.store.disk in
       let ran = runs l first s events p lines outputs m now was refl plays in
       let goes = went_down now fill back down crash in
       let image = crash_back fill back now.store.disk in
-      let left : MayBeLeft a d image =
-      since (length (moments_before now.store.disk.first (first_stops (begun_at back now.store.disk - 1) now.store.disk.stops))) (length a.past) (d.now ∷ d.past) image ended goes.any_moment in
-      let found : LeftInLines l s events p m lines image =
-      ⊎_elim (λ before. left_before first s events p m lines was image (left_now a image before)) (λ is. is) (ran.leaves.each (length a.past) image (omega arith) left) in
-      subst (λ (y : MachineState). SurvivesLines m s events p lines told new ⊎ IsAtItsEnd y told) (sym goes.down)
-      (recovers l s events p m now lines image found told new ran.schema refl (subst (λ (y : MachineState). Steps y order.Recover told new) goes.down recover))
+      let left : LeftInLines l s events p m lines outputs now back image =
+      found l first s events p lines outputs m now back image was refl plays ended
+      (came now.store.disk (begun_at back now.store.disk) image (one_begun now fill back down crash) goes.possible) in
+      subst (λ (y : MachineState). SurvivesLines m s events p lines outputs now back told new ⊎ IsAtItsEnd y told) (sym goes.down)
+      (recovers l s events p m now lines outputs now back image left told new ran.schema refl (subst (λ (y : MachineState). Steps y order.Recover told new) goes.down recover))
 
 pub play : PlayLaw
 play m middle now agrees done lines printed outputs fill back down new told first_plays plays ended crash recover =

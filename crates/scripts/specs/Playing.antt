@@ -74,13 +74,30 @@ abbrev pub IsSettlingFirst : List (List ℕ) → Type 0
 IsSettlingFirst [] = ⊥
 IsSettlingFirst (line ∷ lines) = Asks order.Settle line
 
--- What is recovered is the heap of a cut of what some first part of the lines had logged: of the cut that was acknowledged then, or of the
--- stable one, where the line behind that part is the one that settles. What was acknowledged before the lines is part of it.
-pub record SurvivesLines (m : Live) (s : Setting) (events : Events) (p : Past) (lines : List (List ℕ)) (told : Answer) (new : MachineState) : Type 0 where
+-- The play goes on from here, and the crash, with all but the last so many writes and syncs ended, came before the first of these
+-- lines had ended. With no line left, the play is over.
+abbrev pub CutsOff : Live → (lines outputs : List (List ℕ)) → (last : Live) → (back : ℕ) → Type 0
+CutsOff now [] outputs last back = (outputs ≡ []) × (last ≡ now)
+CutsOff now (line ∷ lines) [] last back = ⊥
+CutsOff now (line ∷ lines) (output ∷ outputs) last back = (next : Live) × PlaysLine (Running now) line output (Running next)
+    × (IsSince next.store.disk last.store.disk back → ⊥) × PlaysOn next lines outputs last
+
+-- The lines before were the ones that had ended when the crash came: all their writes and syncs had, and of the line behind them, if there
+-- is one, the last hadn't. So they are the longest such part: a line that calls no device has ended with those before it.
+-- What is recovered is the heap of a cut of what they had logged: of the cut that was acknowledged then, or of the stable one, where the
+-- line that was cut off is the one that settles. What was acknowledged before the lines is part of it.
+pub record SurvivesLines (m : Live) (s : Setting) (events : Events) (p : Past) (lines outputs : List (List ℕ)) (last : Live) (back : ℕ) (told : Answer)
+    (new : MachineState) : Type 0 where
   pub before : List (List ℕ)
   pub rest : List (List ℕ)
   pub split : lines ≡ before ++ rest
+  pub printed : List (List ℕ)
+  pub later : List (List ℕ)
+  pub prints : outputs ≡ printed ++ later
   pub now : Live
+  pub plays : PlaysOn m before printed now
+  pub ended : IsSince now.store.disk last.store.disk back
+  pub cut_off : CutsOff now rest later last back
   pub after : Events
   pub then : Past
   pub story : Story s m events p before now after then
@@ -91,21 +108,22 @@ pub record SurvivesLines (m : Live) (s : Setting) (events : Events) (p : Past) (
   pub survives : Survives m s then.logged cut told new
 
 -- Lines that had been played when the crash came have their events and their past, and what is recovered survives the lines behind them.
-pub record SurvivesPlay (m : Live) (s : Setting) (events : Events) (p : Past) (done : List (List ℕ)) (middle : Live) (lines : List (List ℕ)) (told : Answer) (new : MachineState) : Type 0 where
+pub record SurvivesPlay (m : Live) (s : Setting) (events : Events) (p : Past) (done : List (List ℕ)) (middle : Live) (lines outputs : List (List ℕ)) (last : Live)
+    (back : ℕ) (told : Answer) (new : MachineState) : Type 0 where
   pub after : Events
   pub then : Past
   pub story : Story s m events p done middle after then
   pub leads : LeadsTo s after then middle
-  pub survives : SurvivesLines middle s after then lines told new
+  pub survives : SurvivesLines middle s after then lines outputs last back told new
 
 -- Lines are played, and then others, at any write or sync of which, or after the last, a crash comes. What is recovered is the heap
--- of the sections that were acknowledged by the lines up to some one of the others, or that this one was about to acknowledge, and
--- never of fewer than the first lines had acknowledged. However the lines are cut in two, it is so.
+-- of the sections that were acknowledged by the lines which had ended by then, or that the settling which the crash cut off was about to
+-- acknowledge, and never of fewer than the first lines had acknowledged. However the lines are cut in two, it is so.
 abbrev pub PlayLaw : Type 0
 PlayLaw = (m middle now : Live) (agrees : Agrees m.monitors m.store) (done lines printed outputs : List (List ℕ)) (fill : Fill) (back : ℕ) (down new : MachineState) (told : Answer)
     → PlaysOn m done printed middle → PlaysOn middle lines outputs now → IsSince middle.store.disk now.store.disk back
     → Steps (Running now) (order.Crash fill back) Crashed down → Steps down order.Recover told new
-    → SurvivesPlay m (setting_from m.monitors agrees.first) agrees.history agrees.past done middle lines told new ⊎ IsAtItsEnd down told
+    → SurvivesPlay m (setting_from m.monitors agrees.first) agrees.history agrees.past done middle lines outputs now back told new ⊎ IsAtItsEnd down told
 
 -- the lines begin here: there was no event, the store was told nothing, and the fields have these values
 pub record IsBegun (m : Live) (count : ℕ) (first : ℕ → ℕ) : Type 0 where

@@ -15,9 +15,9 @@ pub fn crash_law()
 
 /// What is acknowledged survives, over any lines since `format` or `recover`, by the history of the threads' events in them.
 ///
-/// At whichever write or sync of the lines a crash comes, what is recovered is the heap of the sections that some first part
-/// of the lines had acknowledged, or that the `settle` right behind it was about to acknowledge. However the lines that had ended
-/// by then are told apart from the rest, none of the sections that they had acknowledged is lost.
+/// At whichever write or sync of the lines a crash comes, what is recovered is the heap of the sections that were acknowledged by the
+/// lines which had ended when it came, or that the `settle` which it cut off was about to acknowledge. However these lines are
+/// told apart from the rest, none of the sections that they had acknowledged is lost.
 pub fn play_law()
     ensures formatted { FormattedLaw }
     ensures recovered { RecoveredLaw }
