@@ -1,6 +1,6 @@
 //! The calls that may wait. How long, and whether another thread comes first, is not said.
 
-use crate::error::SessionError;
+use crate::error::{SessionError, seldom};
 use crate::grips::like;
 use crate::session::Session;
 use crate::waiting::Waiting;
@@ -44,6 +44,7 @@ impl Session {
             → MatchResult result (λ _. SECTION_RECORDS ≤ free_of self.new + 1) (HasRing SECTION_RECORDS (free_of self.new)) }
     {
         if u64::from(object.0) >= steps::objects(shared) {
+            seldom();
             return Err(SessionError::UnknownObject);
         }
         match self.grip_on(object) {

@@ -1,6 +1,6 @@
 //! First and further locks of a session (JLS 17.1).
 
-use crate::error::SessionError;
+use crate::error::{SessionError, seldom};
 use crate::grips::{put, put_first};
 use crate::limits::{FAT_LOCKS, LAST_PLACE, MOST_HELD, THIN_LOCKS};
 use crate::room::{lane_has_room, ring_has_room};
@@ -52,6 +52,7 @@ impl Session {
         ensures lasting { IfErr result (IsLastingHeld (view_of self.new) object) }
     {
         if u64::from(object.0) >= steps::objects(shared) {
+            seldom();
             return Err(SessionError::UnknownObject);
         }
         match self.grip_on(object) {
@@ -137,9 +138,11 @@ impl Session {
             return self.begin(shared, object);
         }
         if self.records + count as u64 + 2 > SECTION_RECORDS {
+            seldom();
             return Err(SessionError::SectionFull);
         }
         if count >= MOST_HELD {
+            seldom();
             return Err(SessionError::TooMany);
         }
         self.take(shared, object)
@@ -159,6 +162,7 @@ impl Session {
         ensures lasting { IfErr result (IsLastingHeld (view_of self.new) object) }
     {
         if !ring_has_room(&mut self.ring, SECTION_RECORDS as usize) {
+            seldom();
             return Err(SessionError::Behind);
         }
         if !lane_has_room(
@@ -169,9 +173,11 @@ impl Session {
             self.capacity,
             SECTION_RECORDS,
         ) {
+            seldom();
             return Err(SessionError::Behind);
         }
         if self.place >= LAST_PLACE {
+            seldom();
             return Err(SessionError::Worn);
         }
         self.take(shared, object)
@@ -194,9 +200,11 @@ impl Session {
     {
         let found = steps::look(shared, &mut self.seat, object);
         let Some(free) = free_at(&found) else {
+            seldom();
             return Err(SessionError::Held(shown(&found)));
         };
         if free.number >= steps::last(shared) {
+            seldom();
             return Err(SessionError::Worn);
         }
         // The grip is made anew from what is known here, so that nothing of the answer but its kind is looked at.
@@ -211,7 +219,10 @@ impl Session {
                 });
                 Ok(())
             }
-            Err(seen) => Err(SessionError::Held(seen)),
+            Err(seen) => {
+                seldom();
+                Err(SessionError::Held(seen))
+            }
         }
     }
 }

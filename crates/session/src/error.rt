@@ -1,5 +1,6 @@
 //! Why a session refuses a call.
 
+use std::hint;
 use steps::Seen;
 use thiserror::Error;
 
@@ -47,4 +48,12 @@ pub enum Still {
     InSet,
     /// It is out of the wait set, but the monitor wasn't free, or has the last number. This is its word.
     Held(Seen),
+}
+
+/// Tells the compiler that a refusal is the seldom case, so that the way without one is laid out straight. It pauses for a moment,
+/// since a thread that is refused mostly tries again.
+#[cold]
+#[inline(never)]
+pub fn seldom() {
+    hint::spin_loop();
 }

@@ -1,6 +1,6 @@
 //! Loads and stores of a session.
 
-use crate::error::SessionError;
+use crate::error::{SessionError, seldom};
 use crate::session::Session;
 use heap_model::{FieldId, Record, SECTION_RECORDS};
 use monitor::Shared;
@@ -33,10 +33,12 @@ impl Session {
         ensures known { (value : _) → field.0 < (plan shared.now).fields → IsHeld (view_of self.old) ((plan shared.now).guard field.0) → known_value (plan shared.now) (view_of self.old).events field.0 ≡ Some value → result ≡ Ok value }
     {
         if u64::from(field.0) >= steps::fields(shared) {
+            seldom();
             return Err(SessionError::UnknownField);
         }
         let guard = steps::guard(shared, field);
         let Some(_grip) = self.grip_on(guard) else {
+            seldom();
             return Err(SessionError::NotHeld);
         };
         let value = steps::read_field(shared, &mut self.seat, field);
@@ -61,13 +63,16 @@ impl Session {
             → Stores (view_of self.old) (view_of self.new) field value result }
     {
         if u64::from(field.0) >= steps::fields(shared) {
+            seldom();
             return Err(SessionError::UnknownField);
         }
         let guard = steps::guard(shared, field);
         let Some(_grip) = self.grip_on(guard) else {
+            seldom();
             return Err(SessionError::NotHeld);
         };
         if self.records + self.held.len() as u64 + 1 > SECTION_RECORDS {
+            seldom();
             return Err(SessionError::SectionFull);
         }
         self.write(shared, field, value);

@@ -1,6 +1,6 @@
 //! Exits of a session (JLS 17.1).
 
-use crate::error::SessionError;
+use crate::error::{SessionError, seldom};
 use crate::grips::{after_release, like, put, take_at};
 use crate::session::Session;
 use heap_model::{ObjectId, Record};
@@ -35,9 +35,11 @@ impl Session {
             → IsOk result × Lengthens (view_of self.old) (view_of self.new) (event.Exit object h.number ∷ []) }
     {
         if u64::from(object.0) >= steps::objects(shared) {
+            seldom();
             return Err(SessionError::UnknownObject);
         }
         let Some((place, grip)) = self.find(object) else {
+            seldom();
             return Err(SessionError::NotHeld);
         };
         if grip.count > 1 {
