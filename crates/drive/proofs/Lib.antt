@@ -1,3 +1,6 @@
 pub mod Served
 pub mod Jobs
 pub mod Later
+pub mod SchemaLemmas
+pub mod Theirs
+pub mod Refused

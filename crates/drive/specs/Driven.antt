@@ -11,7 +11,7 @@ use Rattle.recover.specs.declared.report.Report.{Report}
 use Rattle.running_heap.specs.Closed.{IsClosed}
 use Rattle.trim_helper.specs.declared.ended.Ended.{Ended}
 use Rattle.trim_helper.specs.Endings.{HoldNone, IsComplete}
-use Rattle.trim_helper.specs.Opening.{FitsSchema}
+use Rattle.drive.specs.Schemas.{IsOfWorkers, schema_of}
 use Rattle.drive.specs.declared.driven.Driven.{Driven}
 
 module _ {D : Type 0} (device : D → Device) where
@@ -38,11 +38,9 @@ module _ {D : Type 0} (device : D → Device) where
     pub plan : shared.plan ≡ record { schema = schema; first = was.heap; last = LAST_NUMBER; lanes = was.layout.lanes }
     pub run : IsRunBy shared was.layout now driven
 
-  -- A heap of so many lanes ran.
-  pub record HasDriven (lanes : ℕ) (driven : Driven) : Type 0 where
-    pub schema : Declarations
+  -- A heap of so many workers ran.
+  pub record HasDriven (workers : ℕ) (driven : Driven) : Type 0 where
     pub was : Parts D
     pub now : Parts D
-    pub lanes_are : was.layout.lanes ≡ lanes
-    pub fits : FitsSchema schema was.layout was.guards
-    pub driven_so : IsDriven schema was now driven
+    pub theirs : IsOfWorkers workers was.layout was.guards
+    pub driven_so : IsDriven (schema_of workers) was now driven

@@ -1,5 +1,8 @@
 -- The promise: what workers leave of a heap.
 pub mod Driven
+-- Their schema and image, and which refusal comes when.
+pub mod Schemas
+pub mod Refusals
 -- What workers and helper keep.
 pub mod Workers
 pub mod Serving

@@ -1,7 +1,12 @@
 //! Workers on a device: one in memory, one on which an image is made, and one that has an image of theirs.
-ghost use Rattle.std.specs.Prelude.{◌≡◌, IfOk, IsTrue};
+ghost use Rattle.std.specs.Prelude.{◌≡◌, ◌↔◌, IfErr, IfOk, IsTrue, OnOk, length};
+ghost use Rattle.block_disk.specs.Device.{SameMoments};
 ghost use Rattle.block_disk.specs.Memory.{device_of};
 ghost use Rattle.drive.specs.Driven.{HasDriven};
+ghost use Rattle.drive.specs.Refusals.{IsLater, IsMakingRefused, RefusesLook, RefusesNew, RefusesOn, RefusesSize, RefusesWith};
+ghost use Rattle.drive.specs.Schemas.{HoldsWorkers, IsOfWorkers, MayHaveImage, schema_of};
+ghost use Rattle.image.specs.Layout.{size_of};
+ghost use Rattle.store_image.specs.Formatting.{layout_with};
 ghost use Rattle.trim_helper.specs.Opening.{FitsSchema};
 
 use crate::declaring::declare;
@@ -14,7 +19,7 @@ use block_disk::{Disk, MemDisk};
 use durable::Store;
 use guards::Schema;
 use image::{ImageError, Layout, Recovered};
-use recover::recover;
+use recover::{RecoverError, Study, one_study_law, recover, study};
 use std::alloc::Global;
 use std::sync::Wait;
 use std::thread::Threads;
@@ -25,7 +30,7 @@ const CAPACITY: u32 = 4_000;
 /// Lets so many workers work so many rounds each on a heap of their own on a disk in memory. There are 1 to 32 workers, which each
 /// have an object, a field and a lane.
 ///
-/// Refused as [`drive_new`] refuses.
+/// Refused as [`drive_new`] refuses; the disk isn't too small for the image.
 pub fn drive_with<M: Meet + Sync, R: Threads + Wait + Sync>(
     rt: &R,
     alloc: Global,
@@ -34,6 +39,8 @@ pub fn drive_with<M: Meet + Sync, R: Threads + Wait + Sync>(
     rounds: u32,
 ) -> Result<Driven, DriveError>
     ensures ok { IfOk result (HasDriven device_of workers) }
+    ensures workers { IfOk result (λ d. MayHaveImage workers) }
+    ensures refused { IfErr result (RefusesWith workers) }
 {
     let size = image_size(alloc, workers)?;
     let Ok(disk) = MemDisk::new(alloc, size) else {
@@ -54,7 +61,9 @@ fn driven_of<D: Disk + Drop>(done: (Recovered<D>, Driven)) -> Driven
 }
 
 // The refusal, without the device.
-fn refusal_of<D: Disk + Drop>(back: (D, DriveError)) -> DriveError {
+fn refusal_of<D: Disk + Drop>(back: (D, DriveError)) -> DriveError
+    ensures { result ≡ back.1 }
+{
     let (_disk, refusal) = back;
     refusal
 }
@@ -62,7 +71,11 @@ fn refusal_of<D: Disk + Drop>(back: (D, DriveError)) -> DriveError {
 /// How many bytes the image of so many workers has.
 ///
 /// Refused: `Schema` for want of memory; `Image`, by `BadHeader`, where there aren't 1 to 32 workers.
-pub fn image_size(alloc: Global, workers: u8) -> Result<u64, DriveError> {
+pub fn image_size(alloc: Global, workers: u8) -> Result<u64, DriveError>
+    ensures ok { IfOk result (λ size. size ≡ size_of (layout_with (schema_of workers) workers 4000)) }
+    ensures workers { IfOk result (λ size. MayHaveImage workers) }
+    ensures refused { IfErr result (RefusesSize workers) }
+{
     let schema = match declare(alloc, workers) {
         Ok(schema) => schema,
         Err(refusal) => return Err(DriveError::Schema(refusal)),
@@ -86,6 +99,8 @@ pub fn drive_new<D: Disk + Drop, M: Meet + Sync, R: Threads + Wait + Sync>(
     rounds: u32,
 ) -> Result<(Recovered<D>, Driven), (D, DriveError)>
     ensures ok { IfOk result (λ r. HasDriven D.device workers r.1) }
+    ensures workers { IfOk result (λ r. MayHaveImage workers) }
+    ensures refused { IfErr result (λ back. RefusesNew workers (D.device disk) (D.device back.0) back.1) }
 {
     let schema = match declare(alloc, workers) {
         Ok(schema) => schema,
@@ -106,6 +121,8 @@ fn make<D: Disk>(
 ) -> Result<Recovered<D>, (D, DriveError)>
     ensures fits { IfOk result (λ made. FitsSchema schema.now made.layout made.guards) }
     ensures lanes { IfOk result (λ made. made.layout.lanes ≡ workers) }
+    ensures workers { IfOk result (λ made. MayHaveImage workers) }
+    ensures refused { IfErr result (λ back. IsMakingRefused schema.now workers (D.device disk) (D.device back.0) back.1) }
 {
     match Store::format(alloc, disk, schema, workers, CAPACITY) {
         Ok(made) => Ok(made),
@@ -116,8 +133,12 @@ fn make<D: Disk>(
 /// Recovers the image that earlier workers, as many, have left on the device, maybe in a crash, and lets workers go on with it as
 /// [`drive_heap`] says.
 ///
-/// Refusals, in this order, each with the device: `Schema` for want of memory; `Recover`: the image wasn't recovered;
-/// `OtherSchema`: it isn't one of so many workers. It is recovered then; those of [`drive_heap`].
+/// Refusals, in this order, each with the device; but for the last two it is as it was:
+/// - `Schema`: for want of memory;
+/// - `Recover`: the image is refused by [`study`];
+/// - `OtherSchema`: it isn't one of so many workers;
+/// - `Recover`: it wasn't recovered, for want of memory, by a fault, or since its control is worn;
+/// - those of [`drive_heap`].
 pub fn drive_on<D: Disk + Drop, M: Meet + Sync, R: Threads + Wait + Sync>(
     rt: &R,
     alloc: Global,
@@ -127,36 +148,83 @@ pub fn drive_on<D: Disk + Drop, M: Meet + Sync, R: Threads + Wait + Sync>(
     rounds: u32,
 ) -> Result<(Recovered<D>, Driven), (D, DriveError)>
     ensures ok { IfOk result (λ r. HasDriven D.device workers r.1) }
+    ensures theirs { IfOk result (λ r. HoldsWorkers workers (D.device disk).now.bytes) }
+    ensures refused { IfErr result (λ back. RefusesOn workers (D.device disk) (D.device back.0) back.1) }
 {
     let schema = match declare(alloc, workers) {
         Ok(schema) => schema,
         Err(refusal) => return Err((disk, DriveError::Schema(refusal))),
     };
-    match find(alloc, disk, &schema, workers) {
-        Ok(found) => drive_made(rt, alloc, meet, schema, found, workers, rounds),
-        Err(refusal) => Err(refusal),
+    let mut disk = disk;
+    match look(alloc, &mut disk, &schema, workers) {
+        Ok(()) => go_on(rt, alloc, meet, disk, schema, workers, rounds),
+        Err(refusal) => Err((disk, refusal)),
     }
 }
 
-// Recovers the image.
-fn find<D: Disk>(
+// Whether the image is one of so many workers. The device is only read.
+fn look<D: Disk>(
     alloc: Global,
-    disk: D,
+    disk: &mut D,
     schema: &Schema,
     workers: u8,
-) -> Result<Recovered<D>, (D, DriveError)>
-    ensures fits { IfOk result (λ found. FitsSchema schema.now found.layout found.guards) }
-    ensures lanes { IfOk result (λ found. found.layout.lanes ≡ workers) }
+) -> Result<(), DriveError>
+    requires { schema.now ≡ schema_of workers }
+    ensures ok { OnOk result (HoldsWorkers workers (D.device disk.old).now.bytes) }
+    ensures refused { IfErr result (RefusesLook workers (D.device disk.old).now.bytes) }
+    ensures same { SameMoments (D.device disk.old) (D.device disk.new) }
 {
-    let (found, _report) = match recover(alloc, disk) {
-        Ok(found) => found,
-        Err((disk, refusal)) => return Err((disk, DriveError::Recover(refusal))),
+    let study = match study(alloc, disk) {
+        Ok(study) => study,
+        Err(refusal) => return Err(DriveError::Recover(refusal)),
     };
-    let layout = found.layout();
-    if layout.lanes == workers && is_of(schema, &layout, found.guards()) {
-        return Ok(found);
+    if is_theirs(schema, &study, workers) {
+        return Ok(());
     }
-    Err((found.into_disk(), DriveError::OtherSchema))
+    Err(DriveError::OtherSchema)
+}
+
+// Whether an image with this study is one of so many workers.
+fn is_theirs(schema: &Schema, study: &Study, workers: u8) -> bool
+    requires schema { schema.now ≡ schema_of workers }
+    requires rows { length study.now.guards.items ≡ study.now.layout.fields }
+    ensures { IsTrue result ↔ IsOfWorkers workers study.now.layout study.now.guards.items }
+{
+    study.layout.lanes == workers && is_of(schema, &study.layout, &study.guards)
+}
+
+// Recovers an image of so many workers, and lets workers go on with it.
+fn go_on<D: Disk + Drop, M: Meet + Sync, R: Threads + Wait + Sync>(
+    rt: &R,
+    alloc: Global,
+    meet: &M,
+    disk: D,
+    schema: Schema,
+    workers: u8,
+    rounds: u32,
+) -> Result<(Recovered<D>, Driven), (D, DriveError)>
+    requires schema { schema ≡ schema_of workers }
+    requires theirs { HoldsWorkers workers (D.device disk).now.bytes }
+    ensures ok { IfOk result (λ r. HasDriven D.device workers r.1) }
+    ensures refused { IfErr result (λ back. IsLater back.1) }
+{
+    match find(alloc, disk, workers) {
+        Ok(found) => drive_made(rt, alloc, meet, schema, found, workers, rounds),
+        Err((disk, refusal)) => Err((disk, DriveError::Recover(refusal))),
+    }
+}
+
+// Recovers an image of so many workers: it stays one.
+fn find<D: Disk>(alloc: Global, disk: D, workers: u8) -> Result<Recovered<D>, (D, RecoverError)>
+    requires { HoldsWorkers workers (D.device disk).now.bytes }
+    ensures { IfOk result (λ found. IsOfWorkers workers found.layout found.guards) }
+{
+    one_study_law();
+    let _workers = workers;
+    match recover(alloc, disk) {
+        Ok((found, _report)) => Ok(found),
+        Err(back) => Err(back),
+    }
 }
 
 // Lets workers work on an image of theirs.
@@ -169,9 +237,10 @@ fn drive_made<D: Disk + Drop, M: Meet + Sync, R: Threads + Wait + Sync>(
     workers: u8,
     rounds: u32,
 ) -> Result<(Recovered<D>, Driven), (D, DriveError)>
-    requires fits { FitsSchema schema made.layout made.guards }
-    requires lanes { made.layout.lanes ≡ workers }
+    requires schema { schema ≡ schema_of workers }
+    requires theirs { IsOfWorkers workers made.layout made.guards }
     ensures ok { IfOk result (λ r. HasDriven D.device workers r.1) }
+    ensures refused { IfErr result (λ back. IsLater back.1) }
 {
     let _workers = workers;
     drive_heap(rt, alloc, meet, schema, made, rounds)

@@ -1,6 +1,7 @@
 //! Workers on a heap, from its opening to its end.
-ghost use Rattle.std.specs.Prelude.{◌≡◌, All, IfOk, take};
+ghost use Rattle.std.specs.Prelude.{◌≡◌, All, IfErr, IfOk, take};
 ghost use Rattle.drive.specs.Driven.{IsDriven, IsRunBy, IsTold};
+ghost use Rattle.drive.specs.Refusals.{IsLater};
 ghost use Rattle.drive.specs.Workers.{AreWorked};
 ghost use Rattle.running_heap.specs.Joined.{IsHelping, IsJoined};
 ghost use Rattle.trim_helper.specs.Endings.{IsEnded};
@@ -45,6 +46,7 @@ pub fn drive_heap<D: Disk + Drop, M: Meet + Sync, R: Threads + Wait + Sync>(
 ) -> Result<(Recovered<D>, Driven), (D, DriveError)>
     requires schema { FitsSchema schema recovered.layout recovered.guards }
     ensures ok { IfOk result (λ r. IsDriven D.device schema recovered r.0 r.1) }
+    ensures refused { IfErr result (λ back. IsLater back.1) }
 {
     match open(alloc, schema, recovered, LAST_NUMBER) {
         Ok(heap) => run(rt, alloc, meet, heap, rounds),
@@ -63,6 +65,7 @@ fn run<D: Disk + Drop, M: Meet + Sync, R: Threads + Wait + Sync>(
     requires joined { All (IsJoined heap.shared heap.helper.store.known.layout.capacity heap.helper.rings) heap.sessions.items }
     requires helping { IsHelping D.device heap.shared heap.helper }
     ensures ok { IfOk result (λ r. IsRunBy D.device heap.shared heap.helper.store.known.layout r.0 r.1) }
+    ensures refused { IfErr result (λ back. IsLater back.1) }
 {
     joined_law();
     let RunningHeap {
@@ -99,6 +102,7 @@ fn end_all<D: Disk>(
     requires helper { IsHelping D.device shared helper }
     requires worked { AreWorked shared helper.store.known.layout.capacity helper.rings worked.items }
     ensures ok { IfOk result (λ r. IsRunBy D.device shared helper.store.known.layout r.0 r.1) }
+    ensures refused { IfErr result (λ back. IsLater back.1) }
 {
     let Ok((ended, refusal)) = part(alloc, worked) else {
         return Err((disk_of(helper), DriveError::NoMemory));
@@ -119,6 +123,7 @@ fn close_all<D: Disk>(
     requires helper { IsHelping D.device shared helper }
     requires ended { All (IsEnded shared helper.store.known.layout.capacity helper.rings) ended.items }
     ensures ok { IfOk result (λ r. IsRunBy D.device shared helper.store.known.layout r.0 r.1) }
+    ensures refused { IfErr result (λ back. IsLater back.1) }
 {
     match close(shared, ended, helper) {
         Ok(disk) => tell(alloc, disk),
@@ -129,6 +134,7 @@ fn close_all<D: Disk>(
 // Recovers the device, and tells what is there.
 fn tell<D: Disk>(alloc: Global, disk: D) -> Result<(Recovered<D>, Driven), (D, DriveError)>
     ensures ok { IfOk result (λ r. IsTold D.device (D.device disk) r.0 r.1) }
+    ensures refused { IfErr result (λ back. IsLater back.1) }
 {
     let (recovered, report) = match recover(alloc, disk) {
         Ok(found) => found,

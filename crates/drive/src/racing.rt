@@ -1,5 +1,6 @@
 //! Workers and helper side by side.
-ghost use Rattle.std.specs.Prelude.{ℕ, IfOk};
+ghost use Rattle.std.specs.Prelude.{ℕ, IfErr, IfOk};
+ghost use Rattle.drive.specs.Refusals.{IsLater};
 ghost use Rattle.drive.specs.Serving.{HasStayed};
 ghost use Rattle.drive.specs.Workers.{AreJoined, AreOf, AreWorked};
 ghost use Rattle.running_heap.specs.Joined.{IsHelping};
@@ -31,6 +32,7 @@ pub fn race<D: Disk + Drop, M: Meet + Sync, R: Threads + Wait + Sync>(
     ensures worked { IfOk result.0 (λ w. AreWorked shared.now helper.store.known.layout.capacity helper.rings w.items) }
     ensures helping { IsHelping D.device shared.now result.1.helper }
     ensures stayed { HasStayed helper result.1.helper }
+    ensures refused { IfErr result.1.answer IsLater }
 {
     let signals = Signals::new();
     let flags = &signals;
@@ -42,7 +44,7 @@ pub fn race<D: Disk + Drop, M: Meet + Sync, R: Threads + Wait + Sync>(
         { work_all(rt, shared, flags, meet, workers, rounds) },
         || -> Served<D>
             requires { IsHelping D.device shared.now helper }
-            ensures { IsHelping D.device shared.entry.now result.helper × HasStayed helper result.helper }
+            ensures { IsHelping D.device shared.entry.now result.helper × HasStayed helper result.helper × IfErr result.answer IsLater }
         { serve(rt, shared, flags, helper) },
     )
 }

@@ -1,5 +1,8 @@
 //! What the helper does beside the workers.
+ghost use Rattle.std.specs.Prelude.{IfErr};
+ghost use Rattle.drive.specs.Refusals.{IsLater};
 ghost use Rattle.drive.specs.Serving.{HasStayed};
+ghost use Rattle.trim_helper.specs.Settled.{IsStop};
 ghost use Rattle.running_heap.specs.Joined.{IsHelping};
 
 use crate::error::DriveError;
@@ -32,6 +35,7 @@ pub fn serve<D: Disk, R: Wait>(
     requires helping { IsHelping D.device shared.now helper }
     ensures helping { IsHelping D.device shared.now result.helper }
     ensures stayed { HasStayed helper result.helper }
+    ensures refused { IfErr result.answer IsLater }
 {
     let mut helper = helper;
     let answer = make_rounds(rt, shared, signals, &mut helper);
@@ -50,6 +54,7 @@ fn make_rounds<D: Disk, R: Wait>(
     requires helping { IsHelping D.device shared.now helper.old }
     ensures helping { IsHelping D.device shared.now helper.new }
     ensures stayed { HasStayed helper.old helper.new }
+    ensures refused { IfErr result IsLater }
 {
     let mut made = 0u32;
     for _ in rt.forever() {
@@ -73,13 +78,17 @@ fn make_round<D: Disk>(shared: &Shared, helper: &mut Helper<D>) -> Result<(), Dr
     requires helping { IsHelping D.device shared.now helper.old }
     ensures helping { IsHelping D.device shared.now helper.new }
     ensures stayed { HasStayed helper.old helper.new }
+    ensures refused { IfErr result IsLater }
 {
     helping_law::<D>();
     told(helper.round(shared))
 }
 
 // How a round ended.
-fn told(answer: Result<u64, StoreError>) -> Result<(), DriveError> {
+fn told(answer: Result<u64, StoreError>) -> Result<(), DriveError>
+    requires { IfErr answer IsStop }
+    ensures { IfErr result IsLater }
+{
     match answer {
         Ok(_) => Ok(()),
         Err(reason) => Err(DriveError::Helper(reason)),

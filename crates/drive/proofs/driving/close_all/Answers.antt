@@ -1,9 +1,8 @@
 use Rattle.std.proofs.lemmas.Result.{IfOk-weaker}
 use Rattle.drive.proofs.driving.close_all.Goals as goal
 
-pub returns-in-Ok : goal.returns-in-Ok
-returns-in-Ok g c = record {
-  ok = IfOk-weaker c.tell.result _ _
-      (λ r told. record { ended = c.args.ended.items; none = c.in-Ok.ensures.refused.0; complete = c.in-Ok.ensures.refused.1; disk = c.in-Ok.disk; closed = c.in-Ok.ensures.ok; told = told })
-      c.tell.ensures.ok;
-}
+pub returns-in-Ok-clause-ok : goal.returns-in-Ok-clause-ok
+returns-in-Ok-clause-ok g c =
+    IfOk-weaker c.tell.result _ _
+    (λ r told. record { ended = c.args.ended.items; none = c.in-Ok.ensures.refused.0; complete = c.in-Ok.ensures.refused.1; disk = c.in-Ok.disk; closed = c.in-Ok.ensures.ok; told = told })
+    c.tell.ensures.ok

@@ -15,7 +15,6 @@ end_all-requires-clause-worked g c =
     worked_later heap.shared heap.helper c.race-worked.result.1.helper c.in-Ok-worked.worked.items c.joined_law.ensures.ended c.race-worked.ensures.stayed
     (subst (λ r. IfOk r (λ w. AreWorked heap.shared heap.helper.store.known.layout.capacity heap.helper.rings w.items)) c.in-Ok-worked.is c.race-worked.ensures.worked)
 
-pub returns-in-Ok-worked : goal.returns-in-Ok-worked
-returns-in-Ok-worked g c = record {
-  ok = run_before g.D.Disk.device c.args.heap.shared c.args.heap.helper c.race-worked.result.1.helper c.end_all.result c.race-worked.ensures.stayed c.end_all.ensures.ok;
-}
+pub returns-in-Ok-worked-clause-ok : goal.returns-in-Ok-worked-clause-ok
+returns-in-Ok-worked-clause-ok g c =
+    run_before g.D.Disk.device c.args.heap.shared c.args.heap.helper c.race-worked.result.1.helper c.end_all.result c.race-worked.ensures.stayed c.end_all.ensures.ok

@@ -2,13 +2,11 @@ use Rattle.std.proofs.Common.{take, ap, ◌∙◌}
 use Rattle.image.specs.declared.layout.Layout.{Layout}
 use Rattle.drive.proofs.driving.tell.Goals as goal
 
-pub returns : goal.returns
-returns g c = record {
-  ok = record {
-    report = c.in-Ok.found.1;
-    recovery = c.in-Ok.ensures.ok;
-    acknowledged = c.in-Ok-to_vec.ensures.items_if_clones_equal (λ x y same. same) ∙ c.first_counts-counts.ensures
-        ∙ ap (λ (l : Layout). take l.lanes c.in-Ok.found.1.kept.counts) c.layout.ensures.layout;
-    heap = c.in-Ok-to_vec-2.ensures.items_if_clones_equal (λ x y same. same) ∙ c.heap.ensures.heap;
-  };
+pub returns-clause-ok : goal.returns-clause-ok
+returns-clause-ok g c = record {
+  report = c.in-Ok.found.1;
+  recovery = c.in-Ok.ensures.ok;
+  acknowledged = c.in-Ok-to_vec.ensures.items_if_clones_equal (λ x y same. same) ∙ c.first_counts-counts.ensures
+      ∙ ap (λ (l : Layout). take l.lanes c.in-Ok.found.1.kept.counts) c.layout.ensures.layout;
+  heap = c.in-Ok-to_vec-2.ensures.items_if_clones_equal (λ x y same. same) ∙ c.heap.ensures.heap;
 }

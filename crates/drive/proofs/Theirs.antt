@@ -1,0 +1,18 @@
+-- An image of workers stays one.
+use Rattle.std.proofs.Common.{◌≡◌, ℕ, List, sym, ◌∙◌, subst}
+use Rattle.block_disk.specs.Device.{Device}
+use Rattle.image.specs.Recovered.{Parts}
+use Rattle.image.specs.declared.guard_row.GuardRow.{GuardRow}
+use Rattle.image.specs.declared.layout.Layout.{Layout}
+use Rattle.recover.specs.Recovery.{IsRecovery, OneStudyLaw}
+use Rattle.recover.specs.declared.report.Report.{Report}
+use Rattle.drive.specs.Schemas.{HoldsWorkers, IsOfWorkers}
+
+stays_theirs : (workers : ℕ) (a b : Layout) (xs ys : List GuardRow) → a ≡ b → xs ≡ ys → IsOfWorkers workers a xs → IsOfWorkers workers b ys
+stays_theirs workers a b xs ys layouts rows theirs = subst (λ (guards : List GuardRow). IsOfWorkers workers b guards) rows (subst (λ (l : Layout). IsOfWorkers workers l xs) layouts theirs)
+
+-- what is recovered is of the layout and the guard rows that every study of the image finds
+pub found_theirs : {D : Type 0} (d now : Device) (r : Parts D) (report : Report) (workers : ℕ) → OneStudyLaw → HoldsWorkers workers d.now.bytes → IsRecovery d now r report → IsOfWorkers workers r.layout r.guards
+found_theirs d now r report workers law holds recovery =
+    let alike = law d.now.bytes holds.0 recovery.study holds.1 recovery.of in
+    stays_theirs workers holds.0.layout r.layout holds.0.guards.items r.guards (alike.layouts ∙ sym recovery.layout_is) (alike.guards_same ∙ sym recovery.guards_are) holds.2

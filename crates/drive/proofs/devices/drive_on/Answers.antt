@@ -1,0 +1,18 @@
+use Rattle.std.proofs.Common.{sym, subst}
+use Rattle.block_disk.specs.Device.{Moment}
+use Rattle.drive.specs.Refusals.{IsLater, RefusesOn}
+use Rattle.drive.specs.Schemas.{HoldsWorkers}
+use Rattle.drive.proofs.Refused.{anyway, later_on, weaker}
+use Rattle.drive.proofs.devices.drive_on.Goals as goal
+
+pub go_on-requires-clause-theirs : goal.go_on-requires-clause-theirs
+go_on-requires-clause-theirs g c κs within = subst (λ (m : Moment). HoldsWorkers c.args.workers m.bytes) (sym c.look.ensures.same.now) c.in-Ok-look.ensures.ok
+
+pub returns-in-Ok-look-clause-theirs : goal.returns-in-Ok-look-clause-theirs
+returns-in-Ok-look-clause-theirs g c = anyway c.go_on.result c.in-Ok-look.ensures.ok
+
+pub returns-in-Ok-look-clause-refused : goal.returns-in-Ok-look-clause-refused
+returns-in-Ok-look-clause-refused g c =
+    let old = g.D.Disk.device c.args.disk in
+    weaker c.go_on.result (λ back. IsLater back.1) (λ back. RefusesOn c.args.workers old (g.D.Disk.device back.0) back.1)
+    (λ back later. later_on c.args.workers old (g.D.Disk.device back.0) back.1 c.in-Ok-look.ensures.ok later) c.go_on.ensures.refused
