@@ -23,6 +23,7 @@ use Rattle.store_past.specs.Past.{Past, applied, after_apply, after_settle, afte
 use Rattle.durable.specs.Store.{Known, HasPast, ShowsStep, StandsForStep, doubt_in}
 use Rattle.durable.specs.declared.doubt.Doubt.{Doubt}
 use Rattle.durable.proofs.Showing.{past_stands}
+use Rattle.durable.proofs.Early.{early, first_of_more, within_more, next_of_more, some_of_more}
 
 module _ {T : Type 0} (s : Setting) (p : Past) (call : StoreCall) (result : Result T StoreError) where
   -- a record that was applied is legal after those before it
@@ -185,23 +186,30 @@ pub fault_leaves : {T : Type 0} (calls : List StoreCall) (n : ℕ) (call : Store
     (IsErrOf result Fault → w ≡ doubt_in (Some call)) → result ≡ Err reason → reason ≡ Fault → w ≡ doubt_in (slice_get calls n)
 fault_leaves {T} calls n call result reason w at leaves is fault = leaves (is ∙ ap (λ e. Err e) fault) ∙ sym (ap (λ (o : Option StoreCall). doubt_in o) at)
 
+-- each image that they left shows what some of the first n calls made of the past
+abbrev pub ShowsFirst : (old : Known) (d0 d1 : Device) (calls : List StoreCall) (n : ℕ) → Type 0
+ShowsFirst old d0 d1 calls n = (s : Setting) (p : Past) → HasPast old s p d0 → LeavesOnly d0 d1 (ShowsAfterSome old.layout s p (take n calls))
+
 -- the run as it stood after the first k calls, and as it went on
 pub record Split (old new : Known) (d0 d1 : Device) (calls : List StoreCall) (n k : ℕ) : Type 0 where
   known : Known
   device : Device
   before : Played old known d0 device calls k
+  first : ShowsFirst old d0 device calls k
   after : Played known new device d1 (drop k calls) (n - k)
 
 -- so many calls were made, and after each of them the others went on from there
 pub record PlayedOn (old new : Known) (d0 d1 : Device) (calls : List StoreCall) (n : ℕ) : Type 0 where
   pub played : Played old new d0 d1 calls n
+  pub first : ShowsFirst old d0 d1 calls n
   pub splits : (k : ℕ) → k ≤ n → Split old new d0 d1 calls n k
 
 pub begins_on : (old : Known) (d : Device) (calls : List StoreCall) → PlayedOn old old d d calls 0
 begins_on old d calls = record {
   played = played_none old d calls;
+  first = λ s p has. begin d (ShowsAfterSome old.layout s p (take 0 calls));
   splits = λ k le. subst (λ (j : ℕ). Split old old d d calls 0 j) (let none : 0 ≡ k = omega (arith, le) in none)
-      (record { known = old; device = d; before = played_none old d calls; after = played_none old d (drop 0 calls) });
+      (record { known = old; device = d; before = played_none old d calls; first = λ s p has. begin d (ShowsAfterSome old.layout s p (take 0 calls)); after = played_none old d (drop 0 calls) });
 }
 
 -- a call behind the first k
@@ -216,6 +224,25 @@ module _ (old mid : Known) (d0 d1 d2 : Device) (calls : List StoreCall) (n : ℕ
   behind_lt : (k : ℕ) → k ≤ n → n - k < length (drop k calls)
   behind_lt k le = omega (arith, length-drop k calls, le, lt)
 
+  -- with one call more
+  first_on : ShowsFirst old d0 d2 calls (n + 1)
+  first_on s p has =
+      let made = was.played.made s p has in
+      let longer : take (n + 1) calls ≡ take n calls ++ call ∷ [] = take_more calls n call lt ∙ ap (λ c. take n calls ++ c ∷ []) (get_or_from_slice_get calls n call call is) in
+      let more : List ℕ → Type 0 = ShowsAfterSome old.layout s p (take n calls ++ call ∷ []) in
+      subst (λ (cs : List StoreCall). LeavesOnly d0 d2 (ShowsAfterSome old.layout s p cs)) (sym longer)
+      (and_then d0 d1 d2 more (weaker d0 d1 (ShowsAfterSome old.layout s p (take n calls)) more (some_of_more old.layout s p (take n calls) call) (was.first s p has))
+      (weaker d1 d2 (ShowsStep mid.layout s made.0 (doubt_in (Some call))) more (λ image shown. record {
+        n = n;
+        within = within_more calls n call lt;
+        then = made.0;
+        made = subst (λ cs. MakeAll s p cs made.0) (sym (first_of_more calls n call lt)) made.1;
+        is = made.2.past;
+        of_lanes = subst (λ l. IsOfLanes l.lanes (applied made.0)) was.played.layout (subst (λ n. IsOfLanes n (applied made.0)) made.2.layout.lanes made.2.remembers.of_lanes);
+        shows = subst (λ (o : Option StoreCall). ShowsStep old.layout s made.0 (doubt_in o) image) (sym (next_of_more calls n call lt))
+            (subst (λ l. ShowsStep l s made.0 (doubt_in (Some call)) image) was.played.layout shown);
+      }) (makes_shown s made.0 made.2)))
+
   -- one call more
   pub played_on : (new : Known) → new.layout ≡ mid.layout → (mid.has_failed ≡ false) × (new.has_failed ≡ false) → d1.failures ≤ d2.failures →
       ((s : Setting) (p : Past) → HasPast mid s p d1 → (q : Past) × Makes s p call q × HasPast new s q d2) →
@@ -224,6 +251,7 @@ module _ (old mid : Known) (d0 d1 d2 : Device) (calls : List StoreCall) (n : ℕ
       let more : Played old new d0 d2 calls (n + 1) = played_more old mid d0 d1 d2 calls n was.played lt call is makes_shown new layout running later makes quiet in
       record {
         played = more;
+        first = first_on;
         splits = λ k le. elim (cases_lt n k) [
           | inl all ↦
               let same : n + 1 ≡ k = omega (arith, all, le) in
@@ -232,6 +260,7 @@ module _ (old mid : Known) (d0 d1 d2 : Device) (calls : List StoreCall) (n : ℕ
                 known = new;
                 device = d2;
                 before = subst (Played old new d0 d2 calls) same more;
+                first = subst (ShowsFirst old d0 d2 calls) same first_on;
                 after = subst (Played new new d2 d2 (drop k calls)) none (played_none new d2 (drop k calls));
               }
           | inr some ↦
@@ -241,6 +270,7 @@ module _ (old mid : Known) (d0 d1 d2 : Device) (calls : List StoreCall) (n : ℕ
                 known = split.known;
                 device = split.device;
                 before = split.before;
+                first = split.first;
                 after = subst (Played split.known new split.device d2 (drop k calls)) place
                     (played_more split.known mid split.device d1 d2 (drop k calls) (n - k) split.after (behind_lt k some) call (call_behind calls n k call some lt is) makes_shown new layout running later makes quiet);
               }
@@ -252,6 +282,7 @@ module _ (old mid : Known) (d0 d1 d2 : Device) (calls : List StoreCall) (n : ℕ
   reached_on s p has k le =
       let split = was.splits k le in
       let made = split.before.made s p has in
+      let rest = shown_on split.known mid split.device d1 d2 (drop k calls) (n - k) split.after (behind_lt k le) call (call_behind calls n k call le lt is) makes_shown s made.0 made.2 in
       record {
         then = made.0;
         made = made.1;
@@ -261,8 +292,8 @@ module _ (old mid : Known) (d0 d1 d2 : Device) (calls : List StoreCall) (n : ℕ
         layout = split.before.layout;
         running = split.before.running;
         since = (split.before.shown s p has).later;
-        rest = subst (λ l. LeavesOnly split.device d2 (ShowsAfterSome l s made.0 (drop k calls))) split.before.layout
-            (shown_on split.known mid split.device d1 d2 (drop k calls) (n - k) split.after (behind_lt k le) call (call_behind calls n k call le lt is) makes_shown s made.0 made.2);
+        rest = subst (λ l. LeavesOnly split.device d2 (ShowsAfterSome l s made.0 (drop k calls))) split.before.layout rest;
+        before = early d0 split.device d2 (ShowsAfterSome old.layout s p (take k calls)) (split.first s p has) rest.grows;
       }
 
 -- and when all were made
@@ -271,6 +302,7 @@ pub reached_all : (old new : Known) (d0 d1 : Device) (calls : List StoreCall) (n
 reached_all old new d0 d1 calls n was le s p has k low =
     let split = was.splits k (omega (arith, low, le)) in
     let made = split.before.made s p has in
+    let rest = split.after.shown s made.0 made.2 in
     record {
       then = made.0;
       made = made.1;
@@ -280,5 +312,6 @@ reached_all old new d0 d1 calls n was le s p has k low =
       layout = split.before.layout;
       running = split.before.running;
       since = (split.before.shown s p has).later;
-      rest = subst (λ l. LeavesOnly split.device d1 (ShowsAfterSome l s made.0 (drop k calls))) split.before.layout (split.after.shown s made.0 made.2);
+      rest = subst (λ l. LeavesOnly split.device d1 (ShowsAfterSome l s made.0 (drop k calls))) split.before.layout rest;
+      before = early d0 split.device d1 (ShowsAfterSome old.layout s p (take k calls)) (split.first s p has) rest.grows;
     }

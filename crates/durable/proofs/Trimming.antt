@@ -1,17 +1,16 @@
 -- What a store has after a trim.
-use Rattle.std.proofs.Common.{◌≡◌, ◌≢◌, ℕ, ◌-◌, ◌<◌, ◌≤◌, ◌^◌, Bool, true, false, List, length, map, refl, sym, ◌∙◌, ap, subst, inl, inr, arith}
+use Rattle.std.proofs.Common.{◌≡◌, ℕ, ◌-◌, ◌<◌, ◌^◌, Bool, true, false, List, length, sym, ◌∙◌, ap, subst, inl, inr, arith}
 use Rattle.std.specs.Prelude.{slice_index}
 use Rattle.std.proofs.lemmas.Bool.{cases_lt}
 use Rattle.std.proofs.lemmas.List.{get_or_past}
 use Rattle.heap_model.specs.declared.cut.Cut.{Cut}
 use Rattle.heap_model.specs.Setting.{Setting}
 use Rattle.heap_model.specs.Log.{lane}
-use Rattle.heap_model.specs.Sections.{actions, ended}
 use Rattle.heap_model.specs.Cuts.{counts_of}
 use Rattle.block_disk.specs.Device.{Device}
 use Rattle.block_disk.proofs.Images.{image_now}
 use Rattle.image.specs.declared.lane_row.LaneRow.{LaneRow}
-use Rattle.undo_log.specs.Dropped.{undo_logs, records_in}
+use Rattle.undo_log.specs.Dropped.{undo_logs}
 use Rattle.undo_log.specs.StandsFor.{row_of}
 use Rattle.undo_log.proofs.Back.{length_undo}
 use Rattle.store_past.specs.Past.{Past, IsTrimmed, after_trim}

@@ -5,8 +5,9 @@ use Rattle.heap_model.specs.Setting.{Setting}
 use Rattle.heap_model.specs.Log.{lane, IsLegal}
 use Rattle.heap_model.specs.Sections.{actions, ended}
 use Rattle.heap_model.specs.Cuts.{IsStable}
-use Rattle.block_disk.specs.Device.{Device}
+use Rattle.block_disk.specs.Device.{Device, LeftSince}
 use Rattle.block_disk.specs.Images.{LeavesOnly}
+use Rattle.durable.specs.Moments.{LeftUpTo}
 use Rattle.image.specs.declared.layout.Layout.{Layout}
 use Rattle.store_past.specs.declared.error.StoreError.{StoreError}
 use Rattle.store_past.specs.declared.error.StoreError.TheVariants.{Failed, Worn, Unwritten, Fault, Unfinished}
@@ -144,8 +145,9 @@ abbrev pub made_of : List StoreCall → Result (Unit {0}) (ℕ × StoreError) �
 made_of calls (Ok done) = length calls
 made_of calls (Err e) = e.0
 
--- Right after the first n calls the store and its device were these, and what a crash left at any moment since shows what
--- some of the other calls make of the past that was reached.
+-- Right after the first n calls the store and its device were these. What a crash left at any moment since shows what some of
+-- the other calls make of the past that was reached; what one left at any moment up to then shows what some of the first n calls
+-- make of the past before them, or is left of the time before them, and shows nothing of the other calls.
 pub record Reached (s : Setting) (p : Past) (calls : List StoreCall) (old : Known) (first last : Device) (n : ℕ) : Type 0 where
   pub then : Past
   pub made : MakeAll s p (take n calls) then
@@ -156,6 +158,7 @@ pub record Reached (s : Setting) (p : Past) (calls : List StoreCall) (old : Know
   pub running : known.has_failed ≡ old.has_failed
   pub since : length first.past ≤ length device.past
   pub rest : LeavesOnly device last (ShowsAfterSome old.layout s then (drop n calls))
+  pub before : (image : List ℕ) → LeftUpTo first device last image → LeftSince (length first.past) first image ⊎ ShowsAfterSome old.layout s p (take n calls) image
 
 -- So many calls were made, none with a fault, and the next was refused for this reason: but for a fault it left the store and its
 -- device as they were.

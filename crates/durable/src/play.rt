@@ -18,7 +18,8 @@ impl<D: Disk> Store<D> {
     /// done before it stands. Where no call has anything to write the device isn't called.
     ///
     /// Whatever a crash leaves at any moment stands for the heap that was acknowledged after some of the calls, or that the
-    /// next settling acknowledges; after each call that was made, of that call and later ones alone.
+    /// next settling acknowledges. At the moment when a call had been made that changes sides: from then on it is of that call
+    /// and later ones alone, and up to then of that call and earlier ones alone.
     pub fn play(&mut self, calls: &[StoreCall]) -> Result<(), (usize, StoreError)>
         ensures ok { (s : Setting) (p : Past) → HasPast self.old.known s p (D.device self.old.disk)
             → OnOk result ((q : Past) × MakeAll s p calls.now q × HasPast self.new.known s q (D.device self.new.disk)) }

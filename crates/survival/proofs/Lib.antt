@@ -11,5 +11,6 @@ pub mod Reports
 pub mod Studies
 pub mod WholeRuns
 pub mod Unsettled
+pub mod Earlier
 pub mod RunAgain
 pub mod Histories

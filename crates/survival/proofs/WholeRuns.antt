@@ -3,13 +3,14 @@ use Rattle.std.proofs.Common.{◌≡◌, ◌⊎◌, inl, inr, ⊎_elim, ℕ, ◌
 use Rattle.heap_model.specs.Setting.{Setting}
 use Rattle.heap_model.specs.Sections.{actions}
 use Rattle.heap_model.specs.Cuts.{IsWhole, IsClosed, IsStable, counts_of}
-use Rattle.block_disk.specs.Device.{Device}
+use Rattle.block_disk.specs.Device.{Device, LeftSince}
 use Rattle.block_disk.specs.Images.{LeavesOnly}
 use Rattle.block_disk.proofs.Images.{left_now}
 use Rattle.image.specs.Recovered.{Parts}
 use Rattle.image.specs.declared.layout.Layout.{Layout}
 use Rattle.std.specs.Prelude.{drop}
 use Rattle.durable.specs.Calls.{IsClean, MakeAll, Makes, Reached, ShowsAfterSome}
+use Rattle.durable.specs.Moments.{LeftUpTo}
 use Rattle.store_memory.specs.Fresh.{IsOfLanes}
 use Rattle.store_image.specs.KeptHeap.{kept_heap}
 use Rattle.store_past.specs.Past.{Past, IsPast, applied, after_log, after_settle, after_trim}
@@ -73,10 +74,10 @@ shows_first x s p calls old image has w settling shown = record {
   shows = shown;
 }
 
--- what a crash leaves of a run shows what some of its calls made of the past
-shows_some : (x : Known) (s : Setting) (p : Past) (calls : List StoreCall) (old new : Device) (image : List ℕ) → HasPast x s p old → LeavesOnly old new (ShowsAfterSome x.layout s p calls) → MayBeLeft old new image →
+-- what a crash left of the device before the calls, or what shows what some of them made of the past
+shows_either : (x : Known) (s : Setting) (p : Past) (calls : List StoreCall) (old : Device) (image : List ℕ) → HasPast x s p old → LeftSince (length old.past) old image ⊎ ShowsAfterSome x.layout s p calls image →
     ShowsSome x s p calls image
-shows_some x s p calls old new image has leaves left = ⊎_elim
+shows_either x s p calls old image has = ⊎_elim
     (λ before. elim x.has_failed as (λ (b : Bool). x.has_failed ≡ b → ShowsSome x s p calls image) [
       | true ↦ λ failed. shows_first x s p calls old image has x.doubt (λ w. Before refl failed w) (has.images image (left_now old image before))
       | false ↦ λ serves. shows_first x s p calls old image has Nothing (λ w. absurd cc) (Shows (shows_always x.layout s p x.committed old (has.agrees serves) image (left_now old image before)))
@@ -92,7 +93,11 @@ shows_some x s p calls old new image has leaves left = ⊎_elim
       settling = λ w. Next (settles (slice_get calls shown.n) w);
       shows = shown.shows;
     })
-    (leaves.each (length old.past) image (omega arith) left)
+
+-- what a crash leaves of a run shows what some of its calls made of the past
+shows_some : (x : Known) (s : Setting) (p : Past) (calls : List StoreCall) (old new : Device) (image : List ℕ) → HasPast x s p old → LeavesOnly old new (ShowsAfterSome x.layout s p calls) → MayBeLeft old new image →
+    ShowsSome x s p calls image
+shows_some x s p calls old new image has leaves left = shows_either x s p calls old image has (leaves.each (length old.past) image (omega arith) left)
 
 -- the cut is the acknowledged one, or where a settling is in doubt the stable one
 abbrev pub KeepsEither : Setting → Past → Doubt → (ℕ → ℕ) → Type 0
@@ -153,7 +158,7 @@ grows_by s p q HomeStep is (Done, answers, same) = subst (λ (x : Past). IsPast 
 grows_by s p q Settle is (cut, clean, stable, same) = subst (λ (x : Past). IsPast s x × ((l : ℕ) → p.cut l ≤ x.cut l)) (sym same) (past_settle s p cut is stable, stable.greatest p.cut is.whole is.closed)
 grows_by s p q Trim is same = subst (λ (x : Past). IsPast s x × ((l : ℕ) → p.cut l ≤ x.cut l)) (sym same) (past_trim s p is, λ l. omega arith)
 
-grows : (s : Setting) (p q : Past) (calls : List StoreCall) → IsPast s p → MakeAll s p calls q → (l : ℕ) → p.cut l ≤ q.cut l
+pub grows : (s : Setting) (p q : Past) (calls : List StoreCall) → IsPast s p → MakeAll s p calls q → (l : ℕ) → p.cut l ≤ q.cut l
 grows s p q [] is same l = subst (λ (x : Past). p.cut l ≤ x.cut l) (sym same) (omega arith)
 grows s p q (call ∷ calls) is (mid, one, rest) l =
     let next = grows_by s p mid call is one in
@@ -225,17 +230,22 @@ of_run x s p calls image heap kept was some keeps =
       kept_are = keeps.kept_are;
     }
 
+survives_some : {E : Type 0} (x : Known) (s : Setting) (p : Past) (calls : List StoreCall) (device : E → Device) (image : Device) → IsPast s p → ShowsSome x s p calls image.now.bytes →
+    (answer : Result (Parts E × Report) (E × RecoverError)) → IfOk answer (λ r. IsRecovery image (device r.0.disk) r.0 r.1) → IfErr answer (λ back. RefusesRecovery image.now.bytes back.1) →
+    MatchResult answer (λ r. Survives x s p calls r.0.heap (counts_of r.1.kept)) (λ back. CannotRecover image.now.bytes back.1)
+survives_some x s p calls device image was some answer done refused =
+    elim answer as (λ a. MatchResult a (λ r. Keeps x.layout s some.then some.doubt r.0.heap (counts_of r.1.kept)) (λ back. CannotRecover image.now.bytes back.1) →
+    MatchResult a (λ r. Survives x s p calls r.0.heap (counts_of r.1.kept)) (λ back. CannotRecover image.now.bytes back.1)) [
+      | Ok r ↦ λ keeps. of_run x s p calls image.now.bytes r.0.heap (counts_of r.1.kept) was some keeps
+      | Err back ↦ λ cannot. cannot
+    ] (keeps x.layout s some.then some.doubt device image some.is some.of_lanes some.shows answer done refused)
+
 pub survives : {E : Type 0} (x : Known) (s : Setting) (p : Past) (calls : List StoreCall) (old new : Device) (device : E → Device) (image : Device) → HasPast x s p old →
     LeavesOnly old new (ShowsAfterSome x.layout s p calls) → MayBeLeft old new image.now.bytes → (answer : Result (Parts E × Report) (E × RecoverError)) →
     IfOk answer (λ r. IsRecovery image (device r.0.disk) r.0 r.1) → IfErr answer (λ back. RefusesRecovery image.now.bytes back.1) →
     MatchResult answer (λ r. Survives x s p calls r.0.heap (counts_of r.1.kept)) (λ back. CannotRecover image.now.bytes back.1)
 survives x s p calls old new device image has leaves left answer done refused =
-    let some = shows_some x s p calls old new image.now.bytes has leaves left in
-    elim answer as (λ a. MatchResult a (λ r. Keeps x.layout s some.then some.doubt r.0.heap (counts_of r.1.kept)) (λ back. CannotRecover image.now.bytes back.1) →
-    MatchResult a (λ r. Survives x s p calls r.0.heap (counts_of r.1.kept)) (λ back. CannotRecover image.now.bytes back.1)) [
-      | Ok r ↦ λ keeps. of_run x s p calls image.now.bytes r.0.heap (counts_of r.1.kept) has.past some keeps
-      | Err back ↦ λ cannot. cannot
-    ] (keeps x.layout s some.then some.doubt device image some.is some.of_lanes some.shows answer done refused)
+    survives_some x s p calls device image has.past (shows_some x s p calls old new image.now.bytes has leaves left) answer done refused
 
 -- and of what a crash left since the first n calls
 pub survives_since : {E : Type 0} (x : Known) (s : Setting) (p : Past) (calls : List StoreCall) (old new : Device) (device : E → Device) (image : Device) (n : ℕ) →
@@ -245,6 +255,14 @@ pub survives_since : {E : Type 0} (x : Known) (s : Setting) (p : Past) (calls : 
 survives_since x s p calls old new device image n was answer done refused left =
     survives was.known s was.then (drop n calls) was.device new device image was.has
     (subst (λ l. LeavesOnly was.device new (ShowsAfterSome l s was.then (drop n calls))) (sym was.layout) was.rest) left answer done refused
+
+-- and of what a crash left up to then
+pub survives_up_to : {E : Type 0} (x : Known) (s : Setting) (p : Past) (calls : List StoreCall) (old new : Device) (device : E → Device) (image : Device) (n : ℕ) → HasPast x s p old →
+    (was : Reached s p calls x old new n) → (answer : Result (Parts E × Report) (E × RecoverError)) →
+    IfOk answer (λ r. IsRecovery image (device r.0.disk) r.0 r.1) → IfErr answer (λ back. RefusesRecovery image.now.bytes back.1) → LeftUpTo old was.device new image.now.bytes →
+    MatchResult answer (λ r. Survives x s p (take n calls) r.0.heap (counts_of r.1.kept)) (λ back. CannotRecover image.now.bytes back.1)
+survives_up_to x s p calls old new device image n has was answer done refused left =
+    survives_some x s p (take n calls) device image has.past (shows_either x s p (take n calls) old image.now.bytes has (was.before image.now.bytes left)) answer done refused
 
 -- and where recovery was tried before
 survived_again : (x : Known) (s : Setting) (p : Past) (calls : List StoreCall) (image last : List ℕ) (study : Study) → IsPast s p → (some : ShowsSome x s p calls image) → (by : Left x.layout s some.then some.doubt image) →

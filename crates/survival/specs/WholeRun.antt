@@ -1,5 +1,5 @@
 -- A whole run: calls of a store, a crash at some moment, and recovery of what that left (this project's own).
-use Rattle.std.specs.Prelude.{ℕ, ◌≡◌, ◌⊎◌, ◌<◌, ◌≤◌, true, Some, List, length, take, slice_get}
+use Rattle.std.specs.Prelude.{ℕ, ◌≡◌, ◌⊎◌, ◌<◌, ◌≤◌, true, false, Some, List, length, take, slice_get}
 use Rattle.heap_model.specs.Setting.{Setting}
 use Rattle.heap_model.specs.Sections.{actions}
 use Rattle.heap_model.specs.Cuts.{IsWhole, IsClosed, IsStable}
@@ -48,6 +48,12 @@ pub record Survives (x : Known) (s : Setting) (p : Past) (calls : List StoreCall
   pub stays : (lane : ℕ) → p.cut lane ≤ cut lane
   pub heap_is : heap ≡ kept_heap x.layout s then.logged cut
   pub kept_are : (lane : ℕ) → lane < x.layout.lanes → kept lane ≡ cut lane
+
+-- What survives of a crash that came by the time when the first n calls had made this of the past: what was acknowledged after some of
+-- these calls. Unless the store had failed before, no section is kept that wasn't acknowledged by then.
+pub record SurvivesBy (x : Known) (s : Setting) (p : Past) (calls : List StoreCall) (n : ℕ) (then : Past) (heap : List ℕ) (kept : ℕ → ℕ) : Type 0 where
+  pub survives : Survives x s p (take n calls) heap kept
+  pub at_most : x.has_failed ≡ false → (lane : ℕ) → lane < x.layout.lanes → kept lane ≤ then.cut lane
 
 -- why there is nothing to survive: only the device can fail, memory be wanting, and the sequence of controls be at its end
 abbrev pub CannotRecover : (image : List ℕ) → RecoverError → Type 0

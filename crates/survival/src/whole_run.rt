@@ -5,13 +5,14 @@ ghost use Rattle.block_disk.specs.Images.{LeavesOnly};
 ghost use Rattle.heap_model.specs.Cuts.{counts_of};
 ghost use Rattle.heap_model.specs.Setting.{Setting};
 ghost use Rattle.durable.specs.Calls.{MakeAll, Reached, StoppedAt, made_of};
+ghost use Rattle.durable.specs.Moments.{LeftUpTo};
 ghost use Rattle.store_past.specs.Past.{Past};
 ghost use Rattle.durable.specs.Store.{HasPast};
 ghost use Rattle.store_past.specs.declared.error.StoreError.TheVariants.{Fault as StoreFault};
 ghost use Rattle.recover.specs.Recovery.{IsCutOff, IsOnTheWay, IsRecovery, LeavesOnTheWay, RefusesRecovery};
 ghost use Rattle.recover.specs.Study.{IsStudyOf};
 ghost use Rattle.survival.specs.Again.{AreCutOff, Attempt, SurvivesAgain, TellsAgain};
-ghost use Rattle.survival.specs.WholeRun.{CannotRecover, MayBeLeft, Survives};
+ghost use Rattle.survival.specs.WholeRun.{CannotRecover, MayBeLeft, Survives, SurvivesBy};
 ghost use Rattle.recover.specs.declared.error.RecoverError.TheVariants.{Fault};
 ghost use Rattle.recover.specs.declared.studied.Study.{Study as Shape};
 
@@ -38,8 +39,9 @@ pub struct WholeRun<E: Disk> {
 /// depends on. Only in a settling that the crash cuts off may it be the heap that this settling acknowledges: calls with no
 /// settling never give what wasn't acknowledged before them ([`unsettled_law`](crate::unsettled_law)).
 ///
-/// **The moment.** After each of the calls that were made there is a moment since which the same holds of the calls that
-/// came behind it: a crash from then on keeps each section that was acknowledged by then.
+/// **The moment.** After each of the calls that were made there is a moment that parts them from those that came behind it. Of a
+/// crash from then on the same holds of the calls behind: it keeps each section that was acknowledged by then. Of a crash up to
+/// then it holds of the calls before: it keeps none that was acknowledged later.
 ///
 /// **Again and again.** The same holds where recovery was tried before, any number of times, and each time a crash cut it off or
 /// the device failed: the heap is that of the first try. So is the report, with each reason, until the last commit of a try
@@ -61,7 +63,9 @@ pub fn play_and_recover<D: Disk, E: Disk>(
     ensures moments { (s : Setting) (p : Past) → HasPast store.old.known s p (D.device store.old.disk) → (n : ℕ) → n ≤ made_of calls.now result.played
         → (was : Reached s p calls.now store.old.known (D.device store.old.disk) (D.device store.new.disk) n)
         × (MayBeLeft was.device (D.device store.new.disk) (E.device left).now.bytes
-        → MatchResult result.recovered (λ r. Survives was.known s was.then (drop n calls.now) r.0.heap (counts_of r.1.kept)) (λ back. CannotRecover (E.device left).now.bytes back.1)) }
+        → MatchResult result.recovered (λ r. Survives was.known s was.then (drop n calls.now) r.0.heap (counts_of r.1.kept)) (λ back. CannotRecover (E.device left).now.bytes back.1))
+        × (LeftUpTo (D.device store.old.disk) was.device (D.device store.new.disk) (E.device left).now.bytes
+        → MatchResult result.recovered (λ r. SurvivesBy store.old.known s p calls.now n was.then r.0.heap (counts_of r.1.kept)) (λ back. CannotRecover (E.device left).now.bytes back.1)) }
     ensures again { (s : Setting) (p : Past) → HasPast store.old.known s p (D.device store.old.disk)
         → (image : List ℕ) (attempts : List Attempt) → MayBeLeft (D.device store.old.disk) (D.device store.new.disk) image → AreCutOff attempts image (E.device left).now.bytes
         → MatchResult result.recovered (λ r. SurvivesAgain store.old.known s p calls.now r.0.heap r.1) (λ back. CannotRecover (E.device left).now.bytes back.1) }

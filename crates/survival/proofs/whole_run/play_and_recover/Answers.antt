@@ -1,5 +1,6 @@
 use Rattle.survival.proofs.RunAgain.{always_cut_off}
-use Rattle.survival.proofs.WholeRuns.{studied_again, survives, survives_again, survives_since, tried_again}
+use Rattle.survival.proofs.WholeRuns.{studied_again, survives, survives_again, survives_since, survives_up_to, tried_again}
+use Rattle.survival.proofs.Earlier.{answers_by}
 use Rattle.survival.proofs.whole_run.play_and_recover.Goals as goal
 
 pub returns-clause-survives : goal.returns-clause-survives
@@ -13,6 +14,9 @@ returns-clause-moments g c = λ s p has n made.
       was,
       survives_since c.args.store.now.known s p c.args.calls.now (g.D.Disk.device c.args.store.now.disk) (g.D.Disk.device c.play.new.self.disk) g.E.Disk.device (g.E.Disk.device c.args.left) n was
           c.recover.result c.recover.ensures.ok c.recover.ensures.refused,
+      λ left. answers_by c.args.store.now.known s p was.then c.args.calls.now n (g.E.Disk.device c.args.left).now.bytes has.past was.made c.recover.result
+          (survives_up_to c.args.store.now.known s p c.args.calls.now (g.D.Disk.device c.args.store.now.disk) (g.D.Disk.device c.play.new.self.disk) g.E.Disk.device (g.E.Disk.device c.args.left) n has was
+          c.recover.result c.recover.ensures.ok c.recover.ensures.refused left),
     )
 
 pub returns-clause-again : goal.returns-clause-again
