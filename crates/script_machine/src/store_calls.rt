@@ -1,5 +1,6 @@
 //! Calls of the store for all fields, or for all lanes.
-ghost use Rattle.std.specs.Prelude.{◌≡◌, ◌<◌, ℕ, false, length, slice_index, IfOk, IfErr, OnOk, OnErr};
+ghost use Rattle.std.specs.Prelude.{◌≡◌, ◌⊎◌, ◌<◌, ℕ, true, false, length, slice_index, IfOk, IfErr, IsErrOf, OnOk, OnErr};
+ghost use Rattle.block_disk.specs.Device.{HasCause};
 ghost use Rattle.heap_model.specs.Setting.{Setting};
 ghost use Rattle.heap_model.specs.Log.{value};
 ghost use Rattle.plain_monitors.specs.Logged.{logged};
@@ -9,6 +10,7 @@ ghost use Rattle.block_disk.specs.Memory.{device_of};
 ghost use Rattle.store_image.specs.Consistent.{ShowsPast};
 ghost use Rattle.store_image.specs.KeptHeap.{StandsForCut};
 ghost use Rattle.durable.specs.Calls.{RefusesHome};
+ghost use Rattle.store_past.specs.declared.error.StoreError.TheVariants.{Fault};
 ghost use Rattle.script_machine.specs.States.{Tells};
 ghost use Rattle.script_machine.specs.Homes.{BringsHome};
 ghost use Rattle.script_machine.specs.Machine.{Keeps, RefusesRecord};
@@ -38,8 +40,9 @@ pub(crate) fn keep_record(
 
 /// Takes home steps until no field is dirty, and answers how many cells were written.
 ///
-/// Refusals: `Failed` where the device had failed before, after which nothing has changed; `Fault`. A crash at any moment of
-/// it leaves what stands for the acknowledged sections, as a crash before it does.
+/// Refusals: `Failed` where the device had failed before, after which nothing has changed; `Fault` where it fails now, after
+/// which the store has failed. A crash at any moment of it leaves what stands for the acknowledged sections, as a crash
+/// before it does.
 pub(crate) fn write_homes(store: &mut Store<MemDisk>) -> Result<u64, StoreError>
     ensures homes { (s : Setting) (p : Past) → Tells store.old s p → IfOk result (BringsHome store.new s p) }
     ensures running { store.old.known.has_failed ≡ false → OnOk result (store.new.known.has_failed ≡ false) }
@@ -49,6 +52,9 @@ pub(crate) fn write_homes(store: &mut Store<MemDisk>) -> Result<u64, StoreError>
     ensures any_moment { (s : Setting) (p : Past) → Tells store.old s p
         → OnOk result (LeavesOnly (device_of store.old.disk) (device_of store.new.disk) (StandsForCut store.old.known.layout s p.logged p.cut)) }
     ensures refused { (s : Setting) (p : Past) → Tells store.old s p → IfErr result (RefusesHome store.old.known) }
+    ensures err { (s : Setting) (p : Past) → Tells store.old s p → IfErr result (λ e. (e ≡ Fault) ⊎ (store.new ≡ store.old)) }
+    ensures failed { IsErrOf result Fault → store.new.known.has_failed ≡ true }
+    ensures cause { HasCause (device_of store.old.disk).failures (device_of store.new.disk).failures Fault result }
 {
     let fields = store.layout().fields;
     // A step writes a greater field than the one before it, so no field is dirty after as many steps as there are fields.

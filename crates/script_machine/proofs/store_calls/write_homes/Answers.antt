@@ -1,4 +1,4 @@
-use Rattle.std.proofs.Common.{◌≡◌, ℕ, suc, ◌+◌, ◌∙◌, refl, sym, subst, ap, arith, rules}
+use Rattle.std.proofs.Common.{◌≡◌, inl, inr, ⊎_elim, ℕ, suc, ◌+◌, ◌∙◌, true, false, Result, Err, refl, sym, subst, ap, arith, rules}
 use Rattle.std.proofs.Math.Numerals.{add-one}
 use Rattle.block_disk.proofs.Images.{and_then, begin, weaker}
 use Rattle.block_disk.specs.Images.{LeavesOnly}
@@ -8,6 +8,7 @@ use Rattle.heap_model.specs.Setting.{Setting}
 use Rattle.store_image.specs.KeptHeap.{StandsForCut}
 use Rattle.store_past.specs.Past.{Past, after_home}
 use Rattle.durable.specs.Calls.{AnswersHome, RefusesHome, after_home_step}
+use Rattle.durable.proofs.Playing.{fault_since}
 use Rattle.store_image.specs.Consistent.{ShowsPast}
 use Rattle.durable.specs.Store.{Known, Parts}
 use Rattle.store_past.specs.declared.error.StoreError.{StoreError}
@@ -66,6 +67,8 @@ loop-written-init c = (
   },
   refl,
   refl,
+  omega arith,
+  inl refl,
 )
 
 pub returns-in-Err-clause-refused : goal.returns-in-Err-clause-refused
@@ -98,6 +101,8 @@ loop-written-preserved c = (
       },
   c.home_step.ensures.layout ∙ c.loop-written.invariant.1,
   (let running = rw c.in-Ok-Wrote.is at c.home_step.ensures.running in running.1 ∙ sym running.0 ∙ c.loop-written.invariant.2),
+  (let was = c.loop-written.invariant.3 in let later = c.home_step.ensures.cause.later in omega (arith, was, later)),
+  inr (rw c.in-Ok-Wrote.is at c.home_step.ensures.running).1,
 )
 
 pub returns-in-Ok-Done-clause-homes : goal.returns-in-Ok-Done-clause-homes
@@ -148,3 +153,49 @@ returns-clause-shown c = λ s p t. (c.loop-written.invariant.0 s p t).shown
 
 pub returns-clause-any_moment : goal.returns-clause-any_moment
 returns-clause-any_moment c = λ s p t. (c.loop-written.invariant.0 s p t).stands
+
+-- an error of this call is that of the step
+same_error : (a b : StoreError) (x : Result ℕ StoreError) → x ≡ Err a → x ≡ Err b → a ≡ b
+same_error a b x of_a of_b = let same : Err a ≡ Err b = sym of_a ∙ of_b in cc
+
+-- a store that hasn't failed refuses by a fault alone
+only_fault : (x : Known) (e : StoreError) → x.has_failed ≡ false → RefusesHome x e → e ≡ Fault
+only_fault x Failed serves refused = absurd (let both : true ≡ false = sym refused ∙ serves in cc)
+only_fault x BadLane serves refused = absurd refused
+only_fault x BadId serves refused = absurd refused
+only_fault x Worn serves refused = absurd refused
+only_fault x NotNext serves refused = absurd refused
+only_fault x TooLong serves refused = absurd refused
+only_fault x LogFull serves refused = absurd refused
+only_fault x Unwritten serves refused = absurd refused
+only_fault x Fault serves refused = refl
+only_fault x Unfinished serves refused = absurd refused
+
+pub returns-in-Err-clause-err : goal.returns-in-Err-clause-err
+returns-in-Err-clause-err c = λ s p t.
+    let so = c.loop-written.invariant.0 s p t in
+    let answer = rw c.in-Err.is at c.home_step.ensures.answer s so.now so.tells in
+    ⊎_elim (λ fault. inl fault) (λ same. ⊎_elim (λ start. inr (same ∙ start)) (λ serves. inl (only_fault c.loop-written.store.known c.in-Err.why serves answer)) c.loop-written.invariant.4)
+    (rw c.in-Err.is at c.home_step.ensures.refused)
+
+pub returns-in-Err-clause-cause : goal.returns-in-Err-clause-cause
+returns-in-Err-clause-cause c =
+    let was = c.loop-written.invariant.3 in
+    let later = c.home_step.ensures.cause.later in
+    record {
+      later = omega (arith, was, later);
+      failed = λ is. fault_since (device_of c.args.store.now.disk).failures (device_of c.loop-written.store.disk).failures (device_of c.home_step.new.self.disk).failures c.home_step.result c.in-Err.why
+          was c.home_step.ensures.cause c.in-Err.is (same_error c.in-Err.why Fault (Err c.in-Err.why) refl is);
+    }
+
+pub returns-in-Err-clause-failed : goal.returns-in-Err-clause-failed
+returns-in-Err-clause-failed c = λ is. c.home_step.ensures.failed (c.in-Err.is ∙ ap (λ (e : StoreError). Err e) (same_error c.in-Err.why Fault (Err c.in-Err.why) refl is))
+
+pub returns-in-Ok-Done-clause-cause : goal.returns-in-Ok-Done-clause-cause
+returns-in-Ok-Done-clause-cause c =
+    let was = c.loop-written.invariant.3 in
+    let later = c.home_step.ensures.cause.later in
+    record { later = omega (arith, was, later); failed = λ is. absurd cc }
+
+pub returns-clause-cause : goal.returns-clause-cause
+returns-clause-cause c = record { later = c.loop-written.invariant.3; failed = λ is. absurd cc }

@@ -1,4 +1,4 @@
-use Rattle.std.proofs.Common.{◌≡◌, ◌<◌, ◌+◌, ℕ, List, false}
+use Rattle.std.proofs.Common.{◌≡◌, ◌⊎◌, ◌<◌, ◌≤◌, ◌+◌, ℕ, List, false}
 use Rattle.heap_model.specs.Setting.{Setting}
 use Rattle.block_disk.specs.Images.{LeavesOnly}
 use Rattle.block_disk.specs.Memory.{device_of}
@@ -30,3 +30,5 @@ abbrev pub invariant-loop-written : goal.invariant-loop-written
 invariant-loop-written l = ((s : Setting) (p : Past) → Tells l.initial.store s p → HasWritten l.initial.store l.store s p l.written)
     × (l.store.known.layout ≡ l.initial.store.known.layout)
     × (l.store.known.has_failed ≡ l.initial.store.known.has_failed)
+    × ((device_of l.initial.store.disk).failures ≤ (device_of l.store.disk).failures)
+    × ((l.store ≡ l.initial.store) ⊎ (l.store.known.has_failed ≡ false))
