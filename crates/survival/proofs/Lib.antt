@@ -12,5 +12,6 @@ pub mod Studies
 pub mod WholeRuns
 pub mod Unsettled
 pub mod Earlier
+pub mod SideLemmas
 pub mod RunAgain
 pub mod Histories

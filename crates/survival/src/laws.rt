@@ -2,6 +2,7 @@
 ghost use Rattle.survival.specs.Accepted.{AcceptedLaw, FoundHeapLaw, FoundLaw, LeftLaw};
 ghost use Rattle.survival.specs.History.{HistoryLaw};
 ghost use Rattle.survival.specs.Unsettled.{UnsettledLaw};
+ghost use Rattle.survival.specs.Sides.{SidesLaw};
 ghost use Rattle.survival.specs.Again.{HasStudyLaw, KeptAcceptedLaw, KeptAgainLaw, KeptHeapLaw, KeptOnLaw, KeptReportLaw, TriedLaw};
 
 use heap_model::{log_law, order_law};
@@ -22,6 +23,11 @@ pub fn found_law()
 /// Calls with no settling leave nothing but what was acknowledged before the first of them: neither less nor more.
 pub fn unsettled_law()
     ensures { UnsettledLaw }
+{}
+
+/// The moment at which a call of a run had been made parts the run in two: each crash came by then, or since.
+pub fn sides_law()
+    ensures { SidesLaw }
 {}
 
 /// What survives is of the threads' history: where the calls apply what a legal history logs, each thread's records in their

@@ -11,5 +11,7 @@
 mod laws;
 mod whole_run;
 
-pub use laws::{accepted_law, again_law, found_law, has_study_law, history_law, unsettled_law};
+pub use laws::{
+    accepted_law, again_law, found_law, has_study_law, history_law, sides_law, unsettled_law,
+};
 pub use whole_run::{WholeRun, play_and_recover};

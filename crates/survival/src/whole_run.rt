@@ -39,9 +39,9 @@ pub struct WholeRun<E: Disk> {
 /// depends on. Only in a settling that the crash cuts off may it be the heap that this settling acknowledges: calls with no
 /// settling never give what wasn't acknowledged before them ([`unsettled_law`](crate::unsettled_law)).
 ///
-/// **The moment.** After each of the calls that were made there is a moment that parts them from those that came behind it. Of a
-/// crash from then on the same holds of the calls behind: it keeps each section that was acknowledged by then. Of a crash up to
-/// then it holds of the calls before: it keeps none that was acknowledged later.
+/// **The moment.** Behind each of the calls that were made there is a moment that parts the run in two
+/// ([`sides_law`](crate::sides_law)). Of a crash from then on the same holds of the calls behind: it keeps each section that was
+/// acknowledged by then. Of a crash up to then it holds of the calls before: it keeps none that was acknowledged later.
 ///
 /// **Again and again.** The same holds where recovery was tried before, any number of times, and each time a crash cut it off or
 /// the device failed: the heap is that of the first try. So is the report, with each reason, until the last commit of a try
