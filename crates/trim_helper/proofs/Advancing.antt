@@ -121,26 +121,24 @@ module _ {A P : Type 0} where
     slots = two.slots ∙ one.slots;
   }
 
--- The lanes below this one had their turn, and so many went on.
+-- The lanes below this one had their turn, and so many records were applied.
 pub record Turned {A P : Type 0} (x : Known) (d : Device) (r0 : List (Consumer Record A P)) (w0 : List (Option Record)) (x' : Known) (d' : Device) (r1 : List (Consumer Record A P)) (w1 : List (Option Record)) (went lane : ℕ) : Type 0 where
   pub advances : Advances x d r0 w0 x' d' r1 w1 went
-  pub few : went ≤ lane
   pub stuck : went ≡ 0 → (l : ℕ) (s : Setting) (p : Past) → l < lane → HasPast x' s p d' → IsLaneStuck x' r1 w1 s p l
 
 module _ {A P : Type 0} where
   pub turned_none : (x : Known) (d : Device) (r : List (Consumer Record A P)) (w : List (Option Record)) → Turned x d r w x d r w 0 0
-  turned_none x d r w = record { advances = advances_start x d r w; few = omega arith; stuck = λ none l s p lt has. absurd (omega arith) }
+  turned_none x d r w = record { advances = advances_start x d r w; stuck = λ none l s p lt has. absurd (omega arith) }
 
-  pub turned_more : (x y z : Known) (d e f : Device) (r0 r1 r2 : List (Consumer Record A P)) (w0 w1 w2 : List (Option Record)) (went lane : ℕ) (b : Bool) → Turned x d r0 w0 y e r1 w1 went lane →
-      Advances y e r1 w1 z f r2 w2 (if b then 1 else 0) → (b ≡ false → (y ≡ z) × (e ≡ f)) → (b ≡ false → (s : Setting) (p : Past) → HasPast z s p f → IsLaneStuck z r2 w2 s p lane) →
-      ((l : ℕ) (s : Setting) (p : Past) → b ≡ false → lane ≢ l → IsLaneStuck y r1 w1 s p l → IsLaneStuck z r2 w2 s p l) → Turned x d r0 w0 z f r2 w2 (went + (if b then 1 else 0)) (lane + 1)
-  turned_more x y z d e f r0 r1 r2 w0 w1 w2 went lane b was on same here others = record {
-    advances = advances_then x y z d e f r0 r1 r2 w0 w1 w2 went (if b then 1 else 0) was.advances on;
-    few = let low = was.few in elim b as (λ (t : Bool). went + (if t then 1 else 0) ≤ lane + 1) [ true ↦ omega arith | false ↦ omega arith ];
+  pub turned_more : (x y z : Known) (d e f : Device) (r0 r1 r2 : List (Consumer Record A P)) (w0 w1 w2 : List (Option Record)) (went n lane : ℕ) → Turned x d r0 w0 y e r1 w1 went lane →
+      Advances y e r1 w1 z f r2 w2 n → (n ≡ 0 → (y ≡ z) × (e ≡ f)) → ((s : Setting) (p : Past) → HasPast z s p f → IsLaneStuck z r2 w2 s p lane) →
+      ((l : ℕ) (s : Setting) (p : Past) → n ≡ 0 → lane ≢ l → IsLaneStuck y r1 w1 s p l → IsLaneStuck z r2 w2 s p l) → Turned x d r0 w0 z f r2 w2 (went + n) (lane + 1)
+  turned_more x y z d e f r0 r1 r2 w0 w1 w2 went n lane was on same here others = record {
+    advances = advances_then x y z d e f r0 r1 r2 w0 w1 w2 went n was.advances on;
     stuck = λ none l s p lt has.
-        let not : b ≡ false = elim b as (λ (t : Bool). went + (if t then 1 else 0) ≡ 0 → t ≡ false) [ true ↦ λ no. absurd (omega arith) | false ↦ λ no. refl ] none in
+        let not : n ≡ 0 = omega arith in
         elim (cases_eq lane l) [
-          | inl at ↦ subst (λ k. IsLaneStuck z r2 w2 s p k) at (here not s p has)
+          | inl at ↦ subst (λ k. IsLaneStuck z r2 w2 s p k) at (here s p has)
           | inr other ↦ others l s p not other (was.stuck (omega arith) l s p (omega arith) (subst (λ k. HasPast y s p k) (sym (same not).1) (subst (λ k. HasPast k s p f) (sym (same not).0) has)))
         ];
   }
@@ -160,6 +158,30 @@ module _ {A P : Type 0} where
       let most : known_sum r0 ≤ length r0 * 4096 = known_most 4096 r0 room in
       let held : held_sum w0 ≤ length w0 = held_most w0 in
       omega arith
+
+-- how many records that is
+abbrev went_of : Bool → ℕ
+went_of b = if b then 1 else 0
+
+one_is : (b : Bool) → b ≡ true → went_of b ≡ 1
+one_is true is = refl
+one_is false is = absurd (let no : false ≡ true = is in cc)
+
+none_is : (b : Bool) → b ≡ false → went_of b ≡ 0
+none_is true is = absurd (let no : true ≡ false = is in cc)
+none_is false is = refl
+
+module _ {A P : Type 0} where
+  -- one record more was applied, or none
+  pub advances_by_one : (x y z : Known) (d e f : Device) (r0 r1 r2 : List (Consumer Record A P)) (w0 w1 w2 : List (Option Record)) (n : ℕ) (b : Bool) → b ≡ true → Advances x d r0 w0 y e r1 w1 n → Advances y e r1 w1 z f r2 w2 (if b then 1 else 0) → Advances x d r0 w0 z f r2 w2 (n + 1)
+  advances_by_one x y z d e f r0 r1 r2 w0 w1 w2 n b is one two = subst (λ k. Advances x d r0 w0 z f r2 w2 (n + k)) (one_is b is) (advances_then x y z d e f r0 r1 r2 w0 w1 w2 n (if b then 1 else 0) one two)
+
+  pub advances_by_none : (x y z : Known) (d e f : Device) (r0 r1 r2 : List (Consumer Record A P)) (w0 w1 w2 : List (Option Record)) (n : ℕ) (b : Bool) → b ≡ false → Advances x d r0 w0 y e r1 w1 n → Advances y e r1 w1 z f r2 w2 (if b then 1 else 0) → Advances x d r0 w0 z f r2 w2 n
+  advances_by_none x y z d e f r0 r1 r2 w0 w1 w2 n b is one two = advances_done x y z d e f r0 r1 r2 w0 w1 w2 n (if b then 1 else 0) one two (none_is b is)
+
+  pub count_one_more : (x y z : Known) (d e f : Device) (r0 r1 r2 : List (Consumer Record A P)) (w0 w1 w2 : List (Option Record)) (n : ℕ) (b : Bool) → b ≡ true → Advances x d r0 w0 y e r1 w1 n → Advances y e r1 w1 z f r2 w2 (if b then 1 else 0) →
+      most_room r0 ≤ 4096 → length r0 ≤ 32 → length w0 ≡ 32 → n + 1 < 2 ^ 64
+  count_one_more x y z d e f r0 r1 r2 w0 w1 w2 n b is one two room few slots = subst (λ k. n + k < 2 ^ 64) (one_is b is) (count_most x y z d e f r0 r1 r2 w0 w1 w2 n (if b then 1 else 0) one two room few slots)
 
 pub longer : (k n m : ℕ) → m ≡ n → k < n → k < m
 longer k n m e lt = omega arith

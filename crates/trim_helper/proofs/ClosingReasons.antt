@@ -1,5 +1,5 @@
 -- Why the store stops the closing.
-use Rattle.std.proofs.Common.{ℕ, ◌≡◌, true, ◌∙◌, sym}
+use Rattle.std.proofs.Common.{◌≡◌, true, ◌∙◌, sym}
 use Rattle.block_disk.specs.Device.{Device, HasFailed}
 use Rattle.heap_model.specs.Setting.{Setting}
 use Rattle.durable.specs.Store.{Known, HasPast}

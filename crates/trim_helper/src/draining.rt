@@ -51,15 +51,40 @@ pub fn go_on<D: Disk>(
     }
 }
 
-// The count with one more, if there is one.
-fn one_more(count: u64, more: bool) -> u64
-    requires { count + 1 < 2 ^ 64 }
-    ensures { result ≡ count + (if more then 1 else 0) }
+/// Lets the lane go on as long as it can, and answers by how many records it did.
+pub fn run_on<D: Disk>(
+    store: &mut Store<D>,
+    rings: &mut [Consumer<Record>],
+    waiting: &mut [Option<Record>],
+    lane: usize,
+) -> Result<u64, StoreError>
+    requires lane { lane < length rings.old }
+    requires slots { length waiting.old ≡ 32 }
+    requires few { length rings.old ≤ 32 }
+    requires room { most_room rings.old ≤ RING_RECORDS }
+    ensures went { IfOk result (λ n. Advances store.old.known (D.device store.old.disk) rings.old waiting.old store.new.known (D.device store.new.disk) rings.new waiting.new n) }
+    ensures failed { IfErr result (λ e. e ≡ Failed) }
+    ensures why { (s : Setting) (p : Past) → HasTaken store.old.known (D.device store.old.disk) rings.old waiting.old s p → OnErr result (store.old.known.has_failed ≡ true) }
+    ensures kept { OnErr result ((n : ℕ) × Advances store.old.known (D.device store.old.disk) rings.old waiting.old store.new.known (D.device store.new.disk) rings.new waiting.new n) }
+    ensures stuck { OnOk result ((s : Setting) (p : Past) → HasPast store.new.known s p (D.device store.new.disk) → IsLaneStuck store.new.known rings.new waiting.new s p lane) }
+    ensures still { IfOk result (λ n. n ≡ 0 → store.new ≡ store.old) }
+    ensures others { IfOk result (λ n. (l : ℕ) (s : Setting) (p : Past) → n ≡ 0 → lane ≢ l → IsLaneStuck store.old.known rings.old waiting.old s p l → IsLaneStuck store.new.known rings.new waiting.new s p l) }
 {
-    if more { count + 1 } else { count }
+    let mut count = 0u64;
+    'records: loop {
+        match go_on(store, rings, waiting, lane) {
+            Ok(gone) => {
+                if !gone {
+                    return Ok(count);
+                }
+                count += 1;
+            }
+            Err(reason) => return Err(reason),
+        }
+    }
 }
 
-/// Lets each lane go on by one record, in turn. Answers how many did.
+/// Lets each lane go on as long as it can, in turn. Answers by how many records they did.
 pub fn turn<D: Disk>(
     store: &mut Store<D>,
     rings: &mut [Consumer<Record>],
@@ -67,17 +92,17 @@ pub fn turn<D: Disk>(
 ) -> Result<u64, StoreError>
     requires slots { length waiting.old ≡ 32 }
     requires few { length rings.old ≤ 32 }
+    requires room { most_room rings.old ≤ RING_RECORDS }
     ensures advances { IfOk result (λ n. Advances store.old.known (D.device store.old.disk) rings.old waiting.old store.new.known (D.device store.new.disk) rings.new waiting.new n) }
     ensures stuck { IfOk result (λ n. n ≡ 0 → (l : ℕ) (s : Setting) (p : Past) → l < length rings.new → HasPast store.new.known s p (D.device store.new.disk) → IsLaneStuck store.new.known rings.new waiting.new s p l) }
-    ensures few { IfOk result (λ n. n ≤ 32) }
     ensures failed { IfErr result (λ e. e ≡ Failed) }
     ensures why { (s : Setting) (p : Past) → HasTaken store.old.known (D.device store.old.disk) rings.old waiting.old s p → OnErr result (store.old.known.has_failed ≡ true) }
     ensures kept { OnErr result ((n : ℕ) × Advances store.old.known (D.device store.old.disk) rings.old waiting.old store.new.known (D.device store.new.disk) rings.new waiting.new n) }
 {
     let mut went = 0u64;
     for lane in 0..rings.len() {
-        match go_on(store, rings, waiting, lane) {
-            Ok(gone) => went = one_more(went, gone),
+        match run_on(store, rings, waiting, lane) {
+            Ok(gone) => went += gone,
             Err(reason) => return Err(reason),
         }
     }

@@ -1,4 +1,4 @@
-use Rattle.std.proofs.Common.{[], ◌++◌, ap, sym, subst}
+use Rattle.std.proofs.Common.{ap, sym, subst}
 use Rattle.trim_helper.proofs.Rounds.{stood_still}
 use Rattle.trim_helper.proofs.Sent.{never_refused}
 use Rattle.trim_helper.specs.Closed.{IsClosedDown, Stood}

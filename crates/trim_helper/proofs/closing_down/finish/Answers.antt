@@ -1,4 +1,4 @@
-use Rattle.std.proofs.Common.{ℕ, Err, inl, [], ◌≡◌, ◌<◌, length, ap, refl, sym, subst, ◌∙◌, arith}
+use Rattle.std.proofs.Common.{ℕ, Err, inl, ◌≡◌, ◌<◌, length, ap, refl, sym, subst, ◌∙◌, arith}
 use Rattle.trim_helper.specs.Closed.{HasSpelled}
 use Rattle.monitor.specs.Words.{setting_of}
 use Rattle.trim_helper.specs.Helping.{place_published, taken_in}

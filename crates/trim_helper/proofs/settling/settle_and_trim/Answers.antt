@@ -1,9 +1,9 @@
-use Rattle.std.proofs.Common.{◌∙◌, ◌≡◌, refl, ap, inl, inr, ⊎_elim, arith}
+use Rattle.std.proofs.Common.{◌∙◌, ap, inl, inr, ⊎_elim}
 use Rattle.block_disk.proofs.Failures.{cause_since}
 use Rattle.store_past.specs.Past.{IsTrimmed}
 use Rattle.durable.specs.Calls.{RefusesTrim}
 use Rattle.trim_helper.specs.Settled.{HasSame, IsSettled, IsStop}
-use Rattle.trim_helper.proofs.Homes.{err_weaker, if_err_match, if_err_more, ok_weaker, passed_on}
+use Rattle.trim_helper.proofs.Homes.{err_weaker, if_err_match, if_err_more, ok_weaker}
 use Rattle.trim_helper.proofs.Trims.{round_trims, same_kept, settled_trimmed, stops_trim, why_trim}
 use Rattle.trim_helper.proofs.settling.settle_and_trim.Goals as goal
 

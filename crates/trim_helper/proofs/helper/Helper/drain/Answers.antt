@@ -1,4 +1,4 @@
-use Rattle.std.proofs.Common.{ℕ, ◌≡◌, true, IfErr, OnErr, sym, subst, arith}
+use Rattle.std.proofs.Common.{ℕ, ◌≡◌, true, IfErr, OnErr, subst, arith}
 use Rattle.trim_helper.specs.Helping.{count_published, place_published}
 use Rattle.trim_helper.specs.Parts.{HasDrained}
 use Rattle.store_past.specs.declared.error.StoreError.TheVariants.{Failed}

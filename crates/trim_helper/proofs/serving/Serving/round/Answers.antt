@@ -1,4 +1,4 @@
-use Rattle.std.proofs.Common.{[], ◌≡◌, true, false, ◌∙◌, sym, ap, arith}
+use Rattle.std.proofs.Common.{◌≡◌, true, false, ◌∙◌, sym, ap, arith}
 use Rattle.trim_helper.specs.Helping.{count_published, place_published}
 use Rattle.store_past.specs.declared.error.StoreError.TheVariants.{Failed, Worn}
 use Rattle.trim_helper.proofs.Rounds.{emptied_of, moment_round, known_settled, drains_served, same_served, published_served, moved_seat}
