@@ -60,7 +60,7 @@ pub record Least (P : ℕ → Type 0) : Type 0 where
   pub is : P at
   pub least : (k : ℕ) → k < at → P k → ⊥
 
-search : (P : ℕ → Type 0) → ((k : ℕ) → Decided (P k)) → (n : ℕ) → Least P ⊎ ((k : ℕ) → k < n → P k → ⊥)
+pub search : (P : ℕ → Type 0) → ((k : ℕ) → Decided (P k)) → (n : ℕ) → Least P ⊎ ((k : ℕ) → k < n → P k → ⊥)
 search P decide zero = inr (λ k lt h. omega (arith, lt))
 search P decide (suc n) = elim (search P decide n) [
   | inl found ↦ inl found

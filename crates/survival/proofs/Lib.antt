@@ -9,6 +9,9 @@ pub mod Reasons
 pub mod Vecs
 pub mod Reports
 pub mod Studies
+pub mod Held
+pub mod Greedy
+pub mod EachImage
 pub mod WholeRuns
 pub mod Unsettled
 pub mod Earlier

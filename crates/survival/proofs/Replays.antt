@@ -13,7 +13,7 @@ use Rattle.survival.proofs.LaneParts.{lane_own, lane_other, same_end}
 use Rattle.survival.proofs.Unstuck.{Earliest, IsGuarded, begins_had, earliest, goes_on, of_lane, part}
 
 -- how many records of so many lanes
-abbrev total : List (ℕ × UndoRecord) → (count : ℕ) → ℕ
+abbrev pub total : List (ℕ × UndoRecord) → (count : ℕ) → ℕ
 total xs zero = 0
 total xs (suc n) = total xs n + length (lane n xs)
 
@@ -23,7 +23,7 @@ total_same m r xs (suc n) le =
     let apart : length (lane n ((m, r) ∷ xs)) ≡ length (lane n xs) = ap (λ (ys : List UndoRecord). length ys) (lane_other n m r xs (ne_eqb m n (λ e. omega (arith, e, le)))) in
     omega (arith, total_same m r xs n (omega (arith, le)), apart)
 
-total_more : (m : ℕ) (r : UndoRecord) (xs : List (ℕ × UndoRecord)) (n : ℕ) → m < n → total ((m, r) ∷ xs) n ≡ total xs n + 1
+pub total_more : (m : ℕ) (r : UndoRecord) (xs : List (ℕ × UndoRecord)) (n : ℕ) → m < n → total ((m, r) ∷ xs) n ≡ total xs n + 1
 total_more m r xs zero lt = absurd (omega (arith, lt))
 total_more m r xs (suc n) lt = elim (cases_eq m n) [
   | inl e ↦

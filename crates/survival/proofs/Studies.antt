@@ -28,7 +28,7 @@ use Rattle.survival.proofs.Reports.{Drops, drops_few, drops_there, fields_there}
 use Rattle.survival.proofs.Vecs.{lanes_are, logs_long, logs_to, vec_of}
 
 -- the counts of the rows
-kept_at : (rs : List LaneRow) (lane : ℕ) → slice_index (map (λ (r : LaneRow). r.kept) rs) lane ≡ (row_of rs lane).kept
+pub kept_at : (rs : List LaneRow) (lane : ℕ) → slice_index (map (λ (r : LaneRow). r.kept) rs) lane ≡ (row_of rs lane).kept
 kept_at [] lane = refl
 kept_at (r ∷ rs) zero = refl
 kept_at (r ∷ rs) (suc lane) = kept_at rs lane

@@ -4,4 +4,5 @@ pub mod WholeRun
 pub mod Sides
 pub mod Unsettled
 pub mod Again
+pub mod EachImage
 pub mod History

@@ -1,5 +1,6 @@
 //! Laws of what a store leaves, each the contract of a function that does nothing.
 ghost use Rattle.survival.specs.Accepted.{AcceptedLaw, FoundHeapLaw, FoundLaw, LeftLaw};
+ghost use Rattle.survival.specs.EachImage.{EachImageLaw, HeldStudyLaw};
 ghost use Rattle.survival.specs.History.{HistoryLaw};
 ghost use Rattle.survival.specs.Unsettled.{UnsettledLaw};
 ghost use Rattle.survival.specs.Sides.{SidesLaw};
@@ -61,3 +62,10 @@ pub fn again_law()
     one_study_law();
     studied_law();
 }
+
+/// Any bytes have a study, or are refused by a reason of their own, which neither a fault nor want of memory is: there are none
+/// with neither. An image that nothing is wrong with has a study.
+pub fn each_image_law()
+    ensures held { HeldStudyLaw }
+    ensures each { EachImageLaw }
+{}
