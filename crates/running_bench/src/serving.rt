@@ -1,0 +1,39 @@
+//! What the helper does beside the workers.
+
+ghost use Rattle.std.specs.Prelude.{OnOk};
+ghost use Rattle.running_heap.specs.Joined.{IsHelping};
+
+use crate::signals::Signals;
+use block_disk::Disk;
+use durable::StoreError;
+use monitor::Shared;
+use running_heap::helping_law;
+use std::sync::Wait;
+use std::thread;
+use trim_helper::Helper;
+
+/// Makes rounds until the workers have ended, or one is refused: then they are told to stop.
+pub fn serve<D: Disk + Drop, R: Wait>(rt: &R, shared: &Shared, signals: &Signals, helper: Helper<D>)
+    requires helping { IsHelping D.device shared.now helper }
+{
+    let mut helper = helper;
+    for _ in rt.forever() {
+        if signals.has_ended() {
+            return;
+        }
+        if let Err(_) = make_round(shared, &mut helper) {
+            signals.stop();
+            return;
+        }
+        thread::yield_now();
+    }
+}
+
+// One round.
+fn make_round<D: Disk>(shared: &Shared, helper: &mut Helper<D>) -> Result<u64, StoreError>
+    requires helping { IsHelping D.device shared.now helper.old }
+    ensures helping { OnOk result (IsHelping D.device shared.now helper.new) }
+{
+    helping_law::<D>();
+    helper.round(shared)
+}

@@ -1,0 +1,98 @@
+//! Workers beside those who serve them.
+
+ghost use Rattle.std.specs.Prelude.{◌≤◌, All};
+ghost use Rattle.running_heap.specs.Joined.{IsHelping};
+ghost use Rattle.session.specs.Sessions.{IsSessionOf};
+
+use crate::heap::{Unserved, open_on, open_unserved};
+use crate::serving::serve;
+use crate::signals::Signals;
+use crate::throwing::throw_away;
+use crate::workers::work_all;
+use block_disk::Disk;
+use heap_model::Record;
+use monitor::Shared;
+use rtrb::Consumer;
+use running_heap::RunningHeap;
+use session::Session;
+use std::alloc::Global;
+use std::sync::Wait;
+use std::thread::{Threads, join};
+use std::time::Clock;
+use trim_helper::Helper;
+
+/// How many nanoseconds so many workers took beside a helper over this disk.
+pub fn time_with_helper<D: Disk + Drop, R: Threads + Wait + Sync + Clock>(
+    rt: &R,
+    alloc: Global,
+    disk: D,
+    workers: u8,
+) -> Option<u64> {
+    let RunningHeap {
+        shared,
+        sessions,
+        helper,
+    } = open_on(alloc, disk, workers)?;
+    beside_helper(rt, &shared, sessions, helper)
+}
+
+// The workers, and the helper in this thread.
+fn beside_helper<D: Disk + Drop, R: Threads + Wait + Sync + Clock>(
+    rt: &R,
+    shared: &Shared,
+    sessions: Vec<Session>,
+    helper: Helper<D>,
+) -> Option<u64>
+    requires of { All (IsSessionOf shared.now) sessions.items }
+    requires helping { IsHelping D.device shared.now helper }
+{
+    let signals = Signals::new();
+    let flags = &signals;
+    let (took, ()) = join(
+        rt,
+        || -> Option<u64>
+            requires { All (IsSessionOf shared.now) sessions.items }
+        { work_all(rt, shared, flags, sessions) },
+        || -> ()
+            requires { IsHelping D.device shared.now helper }
+        { serve(rt, shared, flags, helper) },
+    );
+    took
+}
+
+/// How many nanoseconds they took beside a thread that throws their records away.
+pub fn time_without<R: Threads + Wait + Sync + Clock>(
+    rt: &R,
+    alloc: Global,
+    workers: u8,
+) -> Option<u64>
+    requires workers { workers ≤ 32 }
+{
+    let Unserved {
+        shared,
+        sessions,
+        rings,
+    } = open_unserved(alloc, workers)?;
+    beside_thrower(rt, &shared, sessions, rings)
+}
+
+// The workers, and in this thread what empties their rings.
+fn beside_thrower<R: Threads + Wait + Sync + Clock>(
+    rt: &R,
+    shared: &Shared,
+    sessions: Vec<Session>,
+    rings: Vec<Consumer<Record>>,
+) -> Option<u64>
+    requires of { All (IsSessionOf shared.now) sessions.items }
+{
+    let signals = Signals::new();
+    let flags = &signals;
+    let (took, ()) = join(
+        rt,
+        || -> Option<u64>
+            requires { All (IsSessionOf shared.now) sessions.items }
+        { work_all(rt, shared, flags, sessions) },
+        || -> () { throw_away(rt, flags, rings) },
+    );
+    took
+}
