@@ -13,6 +13,7 @@ one_file texts (words.Format image schema lanes capacity) (options, found, asks)
 one_file texts (words.Show image) asks same = elim same [ ]
 one_file texts (words.Draw image) asks same = elim same [ ]
 one_file texts (words.Recover image) asks same = elim same [ ]
+one_file texts (words.Drive workers rounds image) asks same = elim same [ ]
 
 -- the word that was met, and what stands behind it
 abbrev word_in : Option (Text × List Row) → Text
@@ -28,6 +29,9 @@ longer n is lengths = omega (arith, is, lengths)
 
 shorter : (n : ℕ) → n ≡ 7 → n ≡ 6 → ⊥
 shorter n is lengths = omega (arith, is, lengths)
+
+five : (n : ℕ) → n ≡ 5 → n ≡ 6 → ⊥
+five n is lengths = omega (arith, is, lengths)
 
 none : (n : ℕ) → n ≡ 0 → n ≡ 6 → ⊥
 none n is lengths = omega (arith, is, lengths)
@@ -48,6 +52,9 @@ not_show texts options is one = longer (length (word_in (subcommand_of program t
 not_recover : (texts : List Text) (options : List Row) → subcommand_of program texts ≡ Some (codes "recover", options) → NamesOneFile texts → ⊥
 not_recover texts options is one = shorter (length (word_in (subcommand_of program texts))) (ap (λ found. length (word_in found)) is) (ap (λ found. length (word_in found)) one.found)
 
+not_drive : (texts : List Text) (options : List Row) → subcommand_of program texts ≡ Some (codes "drive", options) → NamesOneFile texts → ⊥
+not_drive texts options is one = five (length (word_in (subcommand_of program texts))) (ap (λ found. length (word_in found)) is) (ap (λ found. length (word_in found)) one.found)
+
 pub two_files : (texts : List Text) (asked : Words) → AsksFor (subcommand_of program texts) asked → (HasOnePath asked → ⊥) → NamesOneFile texts → ⊥
 two_files texts words.Run asks two one = (asks one.options).0 one.found
 two_files texts (words.Format image schema lanes capacity) (options, found, asks) two one =
@@ -56,3 +63,4 @@ two_files texts (words.Format image schema lanes capacity) (options, found, asks
 two_files texts (words.Show image) (options, found, path, rest) two one = not_show texts options found one
 two_files texts (words.Draw image) (options, found, path, rest) two one = not_show texts options found one
 two_files texts (words.Recover image) (options, found, path) two one = not_recover texts options found one
+two_files texts (words.Drive workers rounds image) (options, found, asks) two one = not_drive texts options found one

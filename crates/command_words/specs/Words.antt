@@ -1,5 +1,5 @@
 -- Which words the program takes, and what they ask for (this project's own; read as clap 4 reads them).
-use Rattle.std.specs.Prelude.{◌≡◌, ◌≢◌, ◌⊎◌, ℕ, ◌^◌, ◌<◌, List, [], ◌∷◌, true, codes, pos, Option, None, Some, Result, Ok, Err, unwrap_or}
+use Rattle.std.specs.Prelude.{◌≡◌, ◌≢◌, ◌⊎◌, ℕ, ◌^◌, ◌<◌, List, [], ◌∷◌, true, codes, pos, Option, None, Some, Result, Ok, Err, option_map, unwrap_or}
 use Rattle.std.specs.Str.Parse.{IsNumeral, digits_value, without_leading_plus}
 use Rattle.clap.specs.Simple.{App, Shape, new_app, new_shape, new_rule, subcommand_of, with_rule, with_subcommand}
 use Rattle.clap.specs.Faults.{fault_of}
@@ -16,6 +16,10 @@ use Rattle.command_words.specs.declared.words.Words.TheVariants as words
 -- an option that has to be there, with a path
 abbrev pub path_option : Text → Rule
 path_option name = record (new_rule name) { long = Some name; value_names = 1; required = true }
+
+-- an option with a path, which may be missing
+abbrev pub file_option : Text → Rule
+file_option name = record (new_rule name) { long = Some name; value_names = 1 }
 
 -- the number of lanes, 1 to 32, and 4 where nothing is said
 abbrev pub lanes_option : Rule
@@ -35,6 +39,24 @@ capacity_option = record (new_rule (codes "capacity")) {
   parser = Some (Signed (pos 2000) (pos 1048576));
 }
 
+-- the number of workers, 1 to 32, and 2 where nothing is said
+abbrev pub workers_option : Rule
+workers_option = record (new_rule (codes "workers")) {
+  long = Some (codes "workers");
+  value_names = 1;
+  defaults = codes "2" ∷ [];
+  parser = Some (Signed (pos 1) (pos 32));
+}
+
+-- the sections that each works, 1 to 10,000, and 1,000 where nothing is said
+abbrev pub rounds_option : Rule
+rounds_option = record (new_rule (codes "rounds")) {
+  long = Some (codes "rounds");
+  value_names = 1;
+  defaults = codes "1000" ∷ [];
+  parser = Some (Signed (pos 1) (pos 10000));
+}
+
 -- the flag that asks for a graph
 abbrev pub dot_flag : Rule
 dot_flag = record (new_rule (codes "dot")) { long = Some (codes "dot"); action = Some SetTrue }
@@ -52,6 +74,10 @@ show_words = with_rule (with_rule (new_app (codes "show")) (path_option (codes "
 abbrev pub recover_words : App
 recover_words = with_rule (new_app (codes "recover")) (path_option (codes "image"))
 
+-- the word `drive` with its options
+abbrev pub drive_words : App
+drive_words = with_rule (with_rule (with_rule (new_app (codes "drive")) workers_option) rounds_option) (file_option (codes "image"))
+
 -- `heapctl` alone, with a version and no word `help`
 abbrev pub top : App
 top = record {
@@ -65,7 +91,7 @@ play_words = with_subcommand top (new_shape (codes "run"))
 
 -- with all its words
 abbrev pub program : App
-program = with_subcommand (with_subcommand (with_subcommand play_words format_words.top) show_words.top) recover_words.top
+program = with_subcommand (with_subcommand (with_subcommand (with_subcommand play_words format_words.top) show_words.top) recover_words.top) drive_words.top
 
 -- the number that an option's text spells, where it spells one that fits
 abbrev pub Reads : (bits : ℕ) → Option Text → ℕ → Type 0
@@ -92,10 +118,16 @@ pub record AsksToFormat (options : List Row) (image schema : Text) (lanes capaci
   pub lanes_are : Reads 8 (one_of (codes "lanes") options) lanes
   pub capacity_is : Reads 32 (one_of (codes "capacity") options) capacity
 
+-- workers are to work, as the options behind the word say
+pub record AsksToDrive (options : List Row) (workers rounds : ℕ) (image : Option Text) : Type 0 where
+  pub workers_are : Reads 8 (one_of (codes "workers") options) workers
+  pub rounds_are : Reads 32 (one_of (codes "rounds") options) rounds
+  pub image_is : image ≡ first_of (codes "image") options
+
 -- the word that was met with its options, if one was, asks for this
 abbrev pub AsksFor : Option (Text × List Row) → Words → Type 0
 AsksFor found words.Run = (options : List Row) → (found ≢ Some (codes "format", options))
-    × (found ≢ Some (codes "show", options)) × (found ≢ Some (codes "recover", options))
+    × (found ≢ Some (codes "show", options)) × (found ≢ Some (codes "recover", options)) × (found ≢ Some (codes "drive", options))
 AsksFor found (words.Format image schema lanes capacity) =
     (options : List Row) × (found ≡ Some (codes "format", options)) × AsksToFormat options image.now schema.now lanes capacity
 AsksFor found (words.Show image) =
@@ -104,6 +136,8 @@ AsksFor found (words.Draw image) =
     (options : List Row) × (found ≡ Some (codes "show", options)) × (image.now ≡ image_of options) × IsSet (codes "dot") options
 AsksFor found (words.Recover image) =
     (options : List Row) × (found ≡ Some (codes "recover", options)) × (image.now ≡ image_of options)
+AsksFor found (words.Drive workers rounds image) =
+    (options : List Row) × (found ≡ Some (codes "drive", options)) × AsksToDrive options workers rounds (option_map (λ path. path.now) image)
 
 -- an image file is to be made in the place of its own schema file
 abbrev pub HasOnePath : Words → Type 0

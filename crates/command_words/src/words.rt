@@ -1,11 +1,11 @@
 //! The program's words.
-ghost use Rattle.std.specs.Prelude.{◌≡◌, ◌↔◌, ◌∷◌, [], List, ℕ, codes, false, map, string_bytes, unwrap_or, IfErr, IfOk, IsTrue};
+ghost use Rattle.std.specs.Prelude.{◌≡◌, ◌↔◌, ◌∷◌, [], List, ℕ, codes, false, map, option_map, string_bytes, unwrap_or, IfErr, IfOk, IsTrue};
 ghost use Rattle.clap.specs.Simple.{app_of, subcommand_of, subcommand_rows_of};
 ghost use Rattle.clap.specs.Values.{kind_of};
 ghost use Rattle.clap.specs.Walk.{first_of, one_of, rows_of, rule_of};
 ghost use Rattle.clap.specs.Matches.{found_of};
 ghost use Rattle.clap.specs.declared.error.kind.ErrorKind.TheVariants.{ArgumentConflict, OutOfMemory};
-ghost use Rattle.command_words.specs.Words.{AsksFor, HasOnePath, IsAnsweredBy, IsSet, Reads, capacity_option, dot_flag, format_words, lanes_option, path_option, play_words, program, recover_words, show_words};
+ghost use Rattle.command_words.specs.Words.{AsksFor, HasOnePath, IsAnsweredBy, IsSet, Reads, capacity_option, dot_flag, drive_words, file_option, format_words, lanes_option, path_option, play_words, program, recover_words, rounds_option, show_words, workers_option};
 
 use clap::error::ErrorKind;
 use clap::{Arg, ArgAction, ArgMatches, Command, Error, value_parser};
@@ -41,6 +41,15 @@ pub enum Words<'a> {
     Recover {
         /// The image file's path.
         image: &'a str,
+    },
+    /// To let threads work on one heap, and to print what is acknowledged of them at the end.
+    Drive {
+        /// The number of workers, each a thread of its own, 1 to 32.
+        workers: u8,
+        /// How many sections each of them works, 1 to 10,000.
+        rounds: u32,
+        /// The path of the image file on which they work; in memory where there is none.
+        image: Option<&'a str>,
     },
 }
 
@@ -78,6 +87,41 @@ fn capacity<'a>(alloc: Global) -> Arg<'a>
         .help("The records that a thread's log holds, 2000 to 1048576")
         .value_parser(value_parser!(u32).range(2000..=1_048_576))
         .default_value("4000")
+}
+
+// An option that takes the path of a file, and may be missing.
+fn file<'a>(alloc: Global, name: &'a str, about: &'a str) -> Arg<'a>
+    ensures rule { rule_of result ≡ file_option name.entry.now }
+    ensures own { result.global ≡ false }
+{
+    Arg::new(alloc, name)
+        .long(name)
+        .value_name("FILE")
+        .help(about)
+}
+
+fn workers<'a>(alloc: Global) -> Arg<'a>
+    ensures rule { rule_of result ≡ workers_option }
+    ensures own { result.global ≡ false }
+{
+    Arg::new(alloc, "workers")
+        .long("workers")
+        .value_name("N")
+        .help("The number of threads, 1 to 32")
+        .value_parser(value_parser!(u8).range(1..=32))
+        .default_value("2")
+}
+
+fn rounds<'a>(alloc: Global) -> Arg<'a>
+    ensures rule { rule_of result ≡ rounds_option }
+    ensures own { result.global ≡ false }
+{
+    Arg::new(alloc, "rounds")
+        .long("rounds")
+        .value_name("N")
+        .help("The sections that each thread works, 1 to 10000")
+        .value_parser(value_parser!(u32).range(1..=10_000))
+        .default_value("1000")
 }
 
 fn dot<'a>(alloc: Global) -> Arg<'a>
@@ -126,6 +170,22 @@ fn recover<'a>(alloc: Global) -> Result<Command<'a>, AllocError>
         .arg(path(alloc, "image", "The image file to recover"))
 }
 
+fn drive<'a>(alloc: Global) -> Result<Command<'a>, AllocError>
+    ensures { IfOk result (λ command. app_of command ≡ drive_words) }
+{
+    Command::new(alloc, "drive")
+        .about(
+            "Lets threads count on one heap, and prints how many sections of each are acknowledged, and what they have counted",
+        )
+        .arg(workers(alloc))?
+        .arg(rounds(alloc))?
+        .arg(file(
+            alloc,
+            "image",
+            "The image file on which they work: made where it is missing or empty, and else gone on with. In memory without this",
+        ))
+}
+
 // `heapctl` with the word that there was first.
 fn play<'a>(alloc: Global) -> Result<Command<'a>, AllocError>
     ensures { IfOk result (λ command. app_of command ≡ play_words) }
@@ -146,9 +206,11 @@ fn command<'a>(alloc: Global) -> Result<Command<'a>, AllocError>
     let format = format(alloc)?;
     let show = show(alloc)?;
     let recover = recover(alloc)?;
+    let drive = drive(alloc)?;
     play.subcommand(format)?
         .subcommand(show)?
-        .subcommand(recover)
+        .subcommand(recover)?
+        .subcommand(drive)
 }
 
 /// Reads the words; the program's name comes first.
@@ -202,8 +264,8 @@ fn asked_by<'a>(matches: &ArgMatches<'a>) -> Words<'a>
         Some(("format", found)) => Words::Format {
             image: text_of(found, "image"),
             schema: text_of(found, "schema"),
-            lanes: lanes_of(found),
-            capacity: capacity_of(found),
+            lanes: byte_of(found, "lanes"),
+            capacity: number_of(found, "capacity"),
         },
         Some(("show", found)) => {
             let image = text_of(found, "image");
@@ -215,6 +277,11 @@ fn asked_by<'a>(matches: &ArgMatches<'a>) -> Words<'a>
         }
         Some(("recover", found)) => Words::Recover {
             image: text_of(found, "image"),
+        },
+        Some(("drive", found)) => Words::Drive {
+            workers: byte_of(found, "workers"),
+            rounds: number_of(found, "rounds"),
+            image: found_text(found, "image"),
         },
         // No words mean the only other word too.
         _ => Words::Run,
@@ -231,16 +298,25 @@ fn text_of<'a>(found: &ArgMatches<'a>, name: &str) -> &'a str
     }
 }
 
-fn lanes_of(found: &ArgMatches<'_>) -> u8
-    ensures { Reads 8 (one_of (codes "lanes") (rows_of (found_of found.now))) result }
+// The option's text, where it was met.
+fn found_text<'a>(found: &ArgMatches<'a>, name: &str) -> Option<&'a str>
+    ensures { option_map (λ text. text.now) result ≡ first_of name.now (rows_of (found_of found.now)) }
 {
-    found.get_one::<u8>("lanes").unwrap_or(0)
+    found.get_str(name)
 }
 
-fn capacity_of(found: &ArgMatches<'_>) -> u32
-    ensures { Reads 32 (one_of (codes "capacity") (rows_of (found_of found.now))) result }
+// The option's number, which fits a byte. Each option that is asked for by it has one.
+fn byte_of(found: &ArgMatches<'_>, name: &str) -> u8
+    ensures { Reads 8 (one_of name.now (rows_of (found_of found.now))) result }
 {
-    found.get_one::<u32>("capacity").unwrap_or(0)
+    found.get_one::<u8>(name).unwrap_or(0)
+}
+
+// The option's number.
+fn number_of(found: &ArgMatches<'_>, name: &str) -> u32
+    ensures { Reads 32 (one_of name.now (rows_of (found_of found.now))) result }
+{
+    found.get_one::<u32>(name).unwrap_or(0)
 }
 
 // The flag was met.

@@ -17,6 +17,7 @@ pub returns : goal.returns
 returns c =
     let with_format = word_added _ _ _ _ _ c.in_ok-play.ensures c.in_ok-format.ensures refl c.in_ok-subcommand.ensures in
     let with_show = word_added _ _ _ _ _ with_format c.in_ok-show.ensures refl c.in_ok-subcommand-2.ensures in
-    IfOk-weaker c.subcommand-3.result _ _
-    (λ made adds. word_added _ _ made _ _ with_show c.in_ok-recover.ensures refl adds)
-    c.subcommand-3.ensures
+    let with_recover = word_added _ _ _ _ _ with_show c.in_ok-recover.ensures refl c.in_ok-subcommand-3.ensures in
+    IfOk-weaker c.subcommand-4.result _ _
+    (λ made adds. word_added _ _ made _ _ with_recover c.in_ok-drive.ensures refl adds)
+    c.subcommand-4.ensures
