@@ -48,8 +48,8 @@ fn put_piece<W: Write>(writer: &mut W, piece: &Piece<'_>) -> Result<(), WriteErr
     }
 }
 
-/// Writes a line of a word and numbers, each behind a space.
-pub(crate) fn put_list<W: Write>(
+/// Writes a line of a word and numbers, each behind a space. After an error a beginning of it is written.
+pub fn put_list<W: Write>(
     writer: &mut W,
     word: &str,
     numbers: &[u64],
