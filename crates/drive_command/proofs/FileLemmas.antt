@@ -1,0 +1,24 @@
+-- What is known of a file whose image was read.
+use Rattle.std.proofs.Common.{ℕ, ◌≡◌, ◌⊎◌, List, [], ◌∷◌, Option, None, Some, inl, length, refl, sym, subst, ◌∙◌}
+use Rattle.std.specs.Prelude.{IfSome}
+use Rattle.drive.specs.Schemas.{HoldsWorkers}
+use Rattle.file_disk.specs.Backing.{Held, Reads}
+
+pub reads_image : (image : List ℕ) (file : Option Held) → IfSome file (λ h. image ≡ h.reads) → Reads image file
+reads_image image None given = tt
+reads_image image (Some h) given = sym given
+
+pub reads_theirs : (workers : ℕ) (image : List ℕ) (file : Option Held) → IfSome file (λ h. image ≡ h.reads) → HoldsWorkers workers image
+    → IfSome file (λ h. HoldsWorkers workers h.reads)
+reads_theirs workers image None given holds = tt
+reads_theirs workers image (Some h) given holds = subst (HoldsWorkers workers) given holds
+
+no_bytes : (bytes : List ℕ) → 0 ≡ length bytes → bytes ≡ []
+no_bytes [] none = refl
+no_bytes (b ∷ bytes) none = absurd cc
+
+-- it was measured as empty
+pub empty_file : (workers size : ℕ) (file : Option Held) → size ≡ 0 → IfSome file (λ h. size ≡ length h.reads)
+    → IfSome file (λ h. (h.reads ≡ []) ⊎ HoldsWorkers workers h.reads)
+empty_file workers size None none measured = tt
+empty_file workers size (Some h) none measured = inl (no_bytes h.reads (sym none ∙ measured))
