@@ -49,6 +49,11 @@ TellsOf text (Ok done) written now = Tells text written now
 TellsOf text (Err (fault.Image error)) written now = TellsLess text written now
 TellsOf text (Err _) written now = ⊥
 
+-- the words ask for workers in threads of their own
+abbrev pub NeedsThreads : Words → Type 0
+NeedsThreads (words.Drive workers rounds image) = Unit {0}
+NeedsThreads _ = ⊥
+
 -- what the words ask for is done, with this result: by what the reader had before and has now, and what was written before and is now
 abbrev pub Obeys : Words → Result (Unit {0}) WorkFault → (read unread written now : Option (List ℕ)) → Type 0
 Obeys words.Run result read unread written now = PlaysScript result read unread written now
@@ -56,3 +61,4 @@ Obeys (words.Format image schema lanes capacity) result read unread written now 
 Obeys (words.Show image) result read unread written now = TellsOf study_text result written now
 Obeys (words.Draw image) result read unread written now = TellsOf graph_text result written now
 Obeys (words.Recover image) result read unread written now = TellsOf report_of result written now
+Obeys (words.Drive workers rounds image) result read unread written now = ⊥

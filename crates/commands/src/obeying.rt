@@ -1,6 +1,6 @@
 //! What the program's words do.
 ghost use Rattle.std.specs.Prelude.{◌≡◌};
-ghost use Rattle.commands.specs.Obeying.{Obeys, told_of_format, told_of_image, told_of_script};
+ghost use Rattle.commands.specs.Obeying.{NeedsThreads, Obeys, told_of_format, told_of_image, told_of_script};
 
 use crate::fault::WorkFault;
 use command_words::Words;
@@ -12,7 +12,8 @@ use scripts::run_script;
 use std::io::{Read, Write};
 use std::rt::Files;
 
-/// Does what the words ask for: plays the script that `reader` has, or works on an image file, and writes what that prints.
+/// Does what the words ask for: plays the script that `reader` has, or works on an image file, and writes what that prints. They
+/// don't ask for workers, who have threads of their own.
 pub fn obey<F, R, S, W>(
     rt: &R,
     words: Words<'_>,
@@ -24,6 +25,7 @@ where
     R: Files<File = F> + AllocGlobal,
     S: Read,
     W: Write,
+    requires one_thread { NeedsThreads words → ⊥ }
     ensures { Obeys words.entry result (S.remaining reader.old) (S.remaining reader.new) (W.contents writer.old) (W.contents writer.new) }
 {
     let alloc = rt.alloc();
@@ -38,6 +40,7 @@ where
         Words::Show { image } => on_image(show_file(rt, alloc, image, writer)),
         Words::Draw { image } => on_image(draw_file(rt, alloc, image, writer)),
         Words::Recover { image } => on_image(recover_file(rt, alloc, image, writer)),
+        Words::Drive { .. } => unreachable!(),
     }
 }
 

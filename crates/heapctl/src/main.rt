@@ -1,4 +1,5 @@
-//! `heapctl`: plays a script of threads, crashes and recoveries; makes, shows and recovers image files (`docs/SCRIPTS.md`).
+//! `heapctl`: plays a script of threads, crashes and recoveries; makes, shows and recovers image files; lets real threads work on a
+//! heap (`docs/SCRIPTS.md`).
 //!
 //! Reads the program's words, does what they ask for, and tells the caller by the exit status how it went. Faults go to
 //! standard error, and all else to standard output.
@@ -7,21 +8,53 @@
 #[cfg(test)]
 mod tests;
 
+ghost use Rattle.commands.specs.Obeying.{NeedsThreads};
+
 use clap::Error;
 use clap::error::ErrorKind;
 use command_words::{Words, read_words};
 use commands::{FAULT, WRONG_INPUT, obey, status_of_fault};
+use drive_command::{DriveFault, Progress, drive};
 use file_disk::BackingFile;
-use std::io::Read;
+use std::io::{IsTerminal, Read};
 use std::process::ExitCode;
 use std::rt::{Env, Files};
+use std::sync::Wait;
+use std::thread::Threads;
 use std::{env, io};
+
+// Lets workers work, and tells how it went.
+fn work_in_threads<F, R>(
+    rt: &R,
+    is_telling: bool,
+    workers: u8,
+    rounds: u32,
+    image: Option<&str>,
+) -> ExitCode
+where
+    F: BackingFile + Drop,
+    R: Files<File = F> + Print + Eprint + AllocGlobal + Threads + Wait + Sync,
+{
+    let progress = Progress::new(rt, is_telling, workers, rounds);
+    let mut writer = io::writer(rt);
+    match drive(rt, &progress, workers, rounds, image, &mut writer) {
+        Ok(()) => ExitCode::SUCCESS,
+        Err(fault) => no_work(rt, &fault),
+    }
+}
+
+// Why workers haven't worked. That is never a fault of the words.
+fn no_work<R: Eprint>(rt: &R, fault: &DriveFault) -> ExitCode {
+    let _ = eprintln!(rt; "heapctl: {fault}");
+    ExitCode::from(FAULT)
+}
 
 // Does what the words ask for, with the script on standard input, and tells how it went.
 fn work<F, R>(rt: &R, words: Words<'_>) -> ExitCode
 where
     F: BackingFile + Read + Drop,
     R: Files<File = F> + Input + Print + Eprint + AllocGlobal,
+    requires { NeedsThreads words → ⊥ }
 {
     let mut reader = rt.reader();
     let mut writer = io::writer(rt);
@@ -64,10 +97,28 @@ fn no_words<R: Eprint>(rt: &R, error: &io::Error) -> ExitCode {
     ExitCode::from(WRONG_INPUT)
 }
 
-fn run<F, R>(rt: &R) -> ExitCode
+// What the words ask for, by one thread or by several.
+fn work_as_asked<F, R>(rt: &R, is_telling: bool, words: Words<'_>) -> ExitCode
 where
     F: BackingFile + Read + Drop,
-    R: Env + Files<File = F> + Input + Print + Eprint + AllocGlobal,
+    R: Files<File = F> + Input + Print + Eprint + AllocGlobal + Threads + Wait + Sync,
+{
+    if let Words::Drive {
+        workers,
+        rounds,
+        image,
+    } = words
+    {
+        return work_in_threads(rt, is_telling, workers, rounds, image);
+    }
+    work(rt, words)
+}
+
+// `is_telling`: how far workers are is told on standard error.
+fn run<F, R>(rt: &R, is_telling: bool) -> ExitCode
+where
+    F: BackingFile + Read + Drop,
+    R: Env + Files<File = F> + Input + Print + Eprint + AllocGlobal + Threads + Wait + Sync,
 {
     let alloc = rt.alloc();
     let arguments = match env::args(rt) {
@@ -78,11 +129,12 @@ where
         return out_of_memory(rt);
     };
     match read_words(alloc, texts.as_slice()) {
-        Ok(words) => work(rt, words),
+        Ok(words) => work_as_asked(rt, is_telling, words),
         Err(answer) => print_answer(rt, &answer),
     }
 }
 
 fn main(rt: HostRuntime) -> ExitCode {
-    run(&rt)
+    let is_telling = rt.stderr().is_terminal();
+    run(&rt, is_telling)
 }

@@ -1,0 +1,12 @@
+//! Tests of the program's words, each read and obeyed as the program does it, over files of the system: one word's work is told
+//! from another's.
+//!
+//! What a word does is proved where it stands; that the program gives each word its own work is shown here.
+#![tactic(auto)]
+
+#[cfg(test)]
+mod driving;
+#[cfg(test)]
+mod image_words;
+#[cfg(test)]
+mod playing;
