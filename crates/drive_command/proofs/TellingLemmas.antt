@@ -1,5 +1,5 @@
 -- What is told at the end of a run.
-use Rattle.std.proofs.Common.{ℕ, ◌≡◌, List, Option, None, Some, Result, Ok, Err, inl, inr, sym, subst}
+use Rattle.std.proofs.Common.{ℕ, ◌≡◌, List, Option, None, Some, Result, Ok, Err, inl, inr}
 use Rattle.std.specs.Prelude.{IfErr, OnErr, OnOk}
 use Rattle.std.specs.Io.KnownBytes.{Appends}
 use Rattle.std.proofs.KnownBytes.{Appends-nil}
@@ -27,5 +27,5 @@ silent None workers (File e) written refused = elim refused [ ]
 silent None workers Write written refused = elim refused [ ]
 silent (Some path) workers (Drive e) written refused = (refused, Appends-nil written)
 silent (Some path) workers (File e) written refused = (refused, Appends-nil written)
-silent (Some path) workers Write written (file, inl (empty, no)) = elim no [ ]
-silent (Some path) workers Write written (file, inr no) = elim no [ ]
+silent (Some path) workers Write written (file, inl (empty, never)) = elim never [ ]
+silent (Some path) workers Write written (file, inr never) = elim never [ ]

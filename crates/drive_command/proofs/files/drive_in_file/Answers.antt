@@ -1,7 +1,9 @@
+use Rattle.std.proofs.Common.{◌≡◌}
 use Rattle.drive.proofs.Refused.{anyway}
 use Rattle.drive_command.proofs.FileLemmas.{empty_file}
 use Rattle.drive_command.proofs.files.drive_in_file.Goals as goal
 
 pub returns-in-Ok-eq0-clause-theirs : goal.returns-in-Ok-eq0-clause-theirs
 returns-in-Ok-eq0-clause-theirs g c =
-    anyway c.drive_new_file.result (empty_file c.args.workers c.in-Ok-eq0.field-0 (g.F.BackingFile.holds c.args.file) c.in-Ok-eq0.field-0-is c.in-Ok-eq0.ensures)
+    let none : c.in-Ok-eq0.field-0 ≡ 0 = c.in-Ok-eq0.field-0-test in
+    anyway c.drive_new_file.result (empty_file c.args.workers c.in-Ok-eq0.field-0 (g.F.BackingFile.holds c.args.file) none c.in-Ok-eq0.ensures)
