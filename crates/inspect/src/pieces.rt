@@ -49,11 +49,7 @@ fn put_piece<W: Write>(writer: &mut W, piece: &Piece<'_>) -> Result<(), WriteErr
 }
 
 /// Writes a line of a word and numbers, each behind a space. After an error a beginning of it is written.
-pub fn put_list<W: Write>(
-    writer: &mut W,
-    word: &str,
-    numbers: &[u64],
-) -> Result<(), WriteError>
+pub fn put_list<W: Write>(writer: &mut W, word: &str, numbers: &[u64]) -> Result<(), WriteError>
     ensures ok { OnOk result (Appends (W.contents writer.old) (W.contents writer.new) (list_line word.now numbers.now)) }
     ensures part { OnErr result (AppendsPart (W.contents writer.old) (W.contents writer.new) (list_line word.now numbers.now)) }
 {
