@@ -3,6 +3,7 @@
 ghost use Rattle.std.specs.Prelude.{OnOk};
 ghost use Rattle.running_heap.specs.Joined.{IsHelping};
 
+use crate::clock::read_processor;
 use crate::signals::Signals;
 use block_disk::Disk;
 use durable::StoreError;
@@ -10,10 +11,31 @@ use monitor::Shared;
 use running_heap::helping_law;
 use std::sync::Wait;
 use std::thread;
+use std::time::CpuClock;
 use trim_helper::Helper;
 
-/// Makes rounds until the workers have ended, or one is refused: then they are told to stop.
-pub fn serve<D: Disk + Drop, R: Wait>(rt: &R, shared: &Shared, signals: &Signals, helper: Helper<D>)
+/// Makes rounds until the workers have ended, or one is refused: then they are told to stop. Answers how much processor time
+/// that took, in nanoseconds.
+pub fn serve<D: Disk + Drop, R: Wait + CpuClock>(
+    rt: &R,
+    shared: &Shared,
+    signals: &Signals,
+    helper: Helper<D>,
+) -> u64
+    requires helping { IsHelping D.device shared.now helper }
+{
+    let begun = read_processor(rt);
+    make_rounds(rt, shared, signals, helper);
+    read_processor(rt).wrapping_sub(begun)
+}
+
+// Rounds until the workers have ended, or one is refused.
+fn make_rounds<D: Disk + Drop, R: Wait>(
+    rt: &R,
+    shared: &Shared,
+    signals: &Signals,
+    helper: Helper<D>,
+)
     requires helping { IsHelping D.device shared.now helper }
 {
     let mut helper = helper;

@@ -8,6 +8,7 @@ use crate::heap::{Unserved, open_on, open_unserved};
 use crate::serving::serve;
 use crate::signals::Signals;
 use crate::throwing::throw_away;
+use crate::took::Took;
 use crate::workers::work_all;
 use block_disk::Disk;
 use heap_model::Record;
@@ -18,16 +19,16 @@ use session::Session;
 use std::alloc::Global;
 use std::sync::Wait;
 use std::thread::{Threads, join};
-use std::time::Clock;
+use std::time::{Clock, CpuClock};
 use trim_helper::Helper;
 
-/// How many nanoseconds so many workers took beside a helper over this disk.
-pub fn time_with_helper<D: Disk + Drop, R: Threads + Wait + Sync + Clock>(
+/// What so many workers took beside a helper over this disk.
+pub fn time_with_helper<D: Disk + Drop, R: Threads + Wait + Sync + Clock + CpuClock>(
     rt: &R,
     alloc: Global,
     disk: D,
     workers: u8,
-) -> Option<u64> {
+) -> Option<Took> {
     let RunningHeap {
         shared,
         sessions,
@@ -37,35 +38,38 @@ pub fn time_with_helper<D: Disk + Drop, R: Threads + Wait + Sync + Clock>(
 }
 
 // The workers, and the helper in this thread.
-fn beside_helper<D: Disk + Drop, R: Threads + Wait + Sync + Clock>(
+fn beside_helper<D: Disk + Drop, R: Threads + Wait + Sync + Clock + CpuClock>(
     rt: &R,
     shared: &Shared,
     sessions: Vec<Session>,
     helper: Helper<D>,
-) -> Option<u64>
+) -> Option<Took>
     requires of { All (IsSessionOf shared.now) sessions.items }
     requires helping { IsHelping D.device shared.now helper }
 {
     let signals = Signals::new();
     let flags = &signals;
-    let (took, ()) = join(
+    let (took, serving) = join(
         rt,
         || -> Option<u64>
             requires { All (IsSessionOf shared.now) sessions.items }
         { work_all(rt, shared, flags, sessions) },
-        || -> ()
+        || -> u64
             requires { IsHelping D.device shared.now helper }
         { serve(rt, shared, flags, helper) },
     );
-    took
+    match took {
+        Some(workers) => Some(Took { workers, serving }),
+        None => None,
+    }
 }
 
-/// How many nanoseconds they took beside a thread that throws their records away.
-pub fn time_without<R: Threads + Wait + Sync + Clock>(
+/// What they took beside a thread that throws their records away.
+pub fn time_without<R: Threads + Wait + Sync + Clock + CpuClock>(
     rt: &R,
     alloc: Global,
     workers: u8,
-) -> Option<u64>
+) -> Option<Took>
     requires workers { workers ≤ 32 }
 {
     let Unserved {
@@ -77,22 +81,25 @@ pub fn time_without<R: Threads + Wait + Sync + Clock>(
 }
 
 // The workers, and in this thread what empties their rings.
-fn beside_thrower<R: Threads + Wait + Sync + Clock>(
+fn beside_thrower<R: Threads + Wait + Sync + Clock + CpuClock>(
     rt: &R,
     shared: &Shared,
     sessions: Vec<Session>,
     rings: Vec<Consumer<Record>>,
-) -> Option<u64>
+) -> Option<Took>
     requires of { All (IsSessionOf shared.now) sessions.items }
 {
     let signals = Signals::new();
     let flags = &signals;
-    let (took, ()) = join(
+    let (took, serving) = join(
         rt,
         || -> Option<u64>
             requires { All (IsSessionOf shared.now) sessions.items }
         { work_all(rt, shared, flags, sessions) },
-        || -> () { throw_away(rt, flags, rings) },
+        || -> u64 { throw_away(rt, flags, rings) },
     );
-    took
+    match took {
+        Some(workers) => Some(Took { workers, serving }),
+        None => None,
+    }
 }

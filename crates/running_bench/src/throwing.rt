@@ -1,10 +1,12 @@
 //! A thread that throws the records away.
 
+use crate::clock::read_processor;
 use crate::signals::Signals;
 use heap_model::Record;
 use rtrb::Consumer;
 use std::sync::Wait;
 use std::thread;
+use std::time::CpuClock;
 
 // Takes all records that wait in the ring.
 fn empty(ring: &mut Consumer<Record>) {
@@ -20,8 +22,19 @@ fn empty_all(rings: &mut [Consumer<Record>]) {
     }
 }
 
-/// Takes records until the workers have ended.
-pub fn throw_away<R: Wait>(rt: &R, signals: &Signals, rings: Vec<Consumer<Record>>) {
+/// Takes records until the workers have ended. Answers how much processor time that took, in nanoseconds.
+pub fn throw_away<R: Wait + CpuClock>(
+    rt: &R,
+    signals: &Signals,
+    rings: Vec<Consumer<Record>>,
+) -> u64 {
+    let begun = read_processor(rt);
+    empty_until_end(rt, signals, rings);
+    read_processor(rt).wrapping_sub(begun)
+}
+
+// Takes records until the workers have ended.
+fn empty_until_end<R: Wait>(rt: &R, signals: &Signals, rings: Vec<Consumer<Record>>) {
     let mut rings = rings;
     for _ in rt.forever() {
         if signals.has_ended() {
