@@ -15,11 +15,11 @@ use steps::Seen;
 
 const OBJECT: ObjectId = ObjectId(0);
 
-// An object's lock word, and its fat word where it has one.
-type Words = (u64, Option<u64>);
+/// An object's lock word, and its fat word where it has one.
+pub type Words = (u64, Option<u64>);
 
-// What the session finds of the object.
-fn words_of(shared: &Shared, session: &mut Session) -> Words
+/// What the session finds of the object.
+pub fn words_of(shared: &Shared, session: &mut Session) -> Words
     requires seat { IsSessionOf shared.now session.old }
     ensures seat { IsSessionOf shared.now session.new }
 {
