@@ -1,0 +1,80 @@
+-- A session stays one that may come back, over each of its calls.
+use Rattle.std.proofs.Common.{ℕ, ◌≡◌, ◌<◌, List, [], ◌∷◌, ◌++◌, All, Option, Some, None, IfSome, ap, sym, ◌∙◌, subst}
+use Rattle.monitor.specs.Seats.{Home}
+use Rattle.monitor.specs.Words.{setting_of}
+use Rattle.monitor.specs.declared.view.Plan.{Plan}
+use Rattle.session.specs.declared.session.Session.{Session}
+use Rattle.session.specs.declared.waiting.Waiting.{Waiting}
+use Rattle.session.specs.Sessions.{IsSessionOf, IsWaitingOf, SameRing, SameRingResumed, SameRingStill, SameRingWaiting}
+use Rattle.std.proofs.lemmas.List.Elements.{All-weaker}
+use Rattle.running_heap.specs.Joined.{IsJoined}
+use Rattle.running_heap.specs.Laws.{CallLaw, RingsLaw}
+use Rattle.trim_helper.specs.Endings.{Rings}
+use Rattle.trim_helper.specs.Moves.{SameRings}
+use Rattle.hosted_heap.specs.Lanes.{BeginsJoined, IsLaneEnd}
+use Rattle.hosted_heap.specs.Returning.{IsLater, MayReturn, MayReturnWaiting}
+use Rattle.hosted_heap.specs.declared.lane_end.LaneEnd.{LaneEnd}
+
+pub after_call : (h : Home) (before : List Session) (x y : Session) → IsSessionOf h x → IsSessionOf h y → SameRing x y → MayReturn before x → MayReturn before y
+after_call h before x y of now same may = λ s more is.
+    let was = may s more is in
+    let ends = same.0.0 in
+    let earlier = was.1.0.0 in (
+      (now.0 ∙ sym of.0 ∙ was.0.0, now.2 ∙ sym of.2 ∙ was.0.1, now.3),
+      (((ends.0 ∙ earlier.0, ends.1 ∙ earlier.1, ends.2 ∙ earlier.2, ends.3 ∙ earlier.3), same.0.1 ∙ was.1.0.1), same.1 ∙ was.1.1, same.2 ∙ was.1.2),
+    )
+
+pub after_join : (h : Home) (before : List Session) (x : Session) (w : Waiting) → IsSessionOf h x → IsWaitingOf h w → SameRingWaiting x w → MayReturn before x → MayReturnWaiting before w
+after_join h before x w of now same may = λ s more is.
+    let was = may s more is in
+    let ends = same.0.0 in
+    let earlier = was.1.0.0 in (
+      (now.0 ∙ sym of.0 ∙ was.0.0, now.2 ∙ sym of.2 ∙ was.0.1, now.3),
+      (((ends.0 ∙ earlier.0, ends.1 ∙ earlier.1, ends.2 ∙ earlier.2, ends.3 ∙ earlier.3), same.0.1 ∙ was.1.0.1), same.1 ∙ was.1.1, same.2 ∙ was.1.2),
+    )
+
+pub after_still : (h : Home) (before : List Session) (x w : Waiting) → IsWaitingOf h x → IsWaitingOf h w → SameRingStill x w → MayReturnWaiting before x → MayReturnWaiting before w
+after_still h before x w of now same may = λ s more is.
+    let was = may s more is in
+    let ends = same.0.0 in
+    let earlier = was.1.0.0 in (
+      (now.0 ∙ sym of.0 ∙ was.0.0, now.2 ∙ sym of.2 ∙ was.0.1, now.3),
+      (((ends.0 ∙ earlier.0, ends.1 ∙ earlier.1, ends.2 ∙ earlier.2, ends.3 ∙ earlier.3), same.0.1 ∙ was.1.0.1), same.1 ∙ was.1.1, same.2 ∙ was.1.2),
+    )
+
+pub after_resume : (h : Home) (before : List Session) (x : Waiting) (y : Session) → IsWaitingOf h x → IsSessionOf h y → SameRingResumed x y → MayReturnWaiting before x → MayReturn before y
+after_resume h before x y of now same may = λ s more is.
+    let was = may s more is in
+    let ends = same.0.0 in
+    let earlier = was.1.0.0 in (
+      (now.0 ∙ sym of.0 ∙ was.0.0, now.2 ∙ sym of.2 ∙ was.0.1, now.3),
+      (((ends.0 ∙ earlier.0, ends.1 ∙ earlier.1, ends.2 ∙ earlier.2, ends.3 ∙ earlier.3), same.0.1 ∙ was.1.0.1), same.1 ∙ was.1.1, same.2 ∙ was.1.2),
+    )
+
+-- what comes back is joined to the helper as it was when it was handed out
+pub joined_later : CallLaw → (h : Home) (c : ℕ) (rings : Rings) (s x : Session) → IsJoined h c rings s → IsLater s x → IsJoined h c rings x
+joined_later law h c rings s x joined later =
+    let of = joined.of in
+    let beside = later.0 in
+    law h c rings s x joined (beside.0 ∙ of.0, ap (λ (k : Plan). setting_of k) (beside.1 ∙ of.2), beside.1 ∙ of.2, beside.2) later.1
+
+pub joined_back : CallLaw → (h : Home) (c : ℕ) (rings : Rings) (before : List Session) (x : Session) → BeginsJoined h c rings before → MayReturn before x → IsJoined h c rings x
+joined_back law h c rings before x begins may = joined_later law h c rings begins.0 x begins.3 (may begins.0 begins.1 begins.2)
+
+pub begins_more : (h : Home) (c : ℕ) (rings : Rings) (before now : List Session) (x : Session) → now ≡ before ++ x ∷ [] → BeginsJoined h c rings before → BeginsJoined h c rings now
+begins_more h c rings before now x is begins = (begins.0, begins.1 ++ x ∷ [], is ∙ ap (λ (items : List Session). items ++ x ∷ []) begins.2, begins.3)
+
+some_on : RingsLaw → (h : Home) (c : ℕ) (rings later : Rings) (o : Option Session) → SameRings rings later → IfSome o (IsJoined h c rings) → IfSome o (IsJoined h c later)
+some_on law h c rings later (Some s) same is = law h c rings later s is same
+some_on law h c rings later None same is = tt
+
+-- and so over a round of the helper
+pub end_on : RingsLaw → (h : Home) (c : ℕ) (rings later : Rings) (l : LaneEnd) → SameRings rings later → IsLaneEnd h c rings l → IsLaneEnd h c later l
+end_on law h c rings later l same is = record {
+  first = (is.first.0, is.first.1, is.first.2, law h c rings later is.first.0 is.first.3 same);
+  came = some_on law h c rings later l.came same is.came;
+}
+
+pub ends_on : RingsLaw → (h : Home) (c d : ℕ) (rings later : Rings) (ls : List LaneEnd) → d ≡ c → SameRings rings later → All (IsLaneEnd h c rings) ls → All (IsLaneEnd h d later) ls
+ends_on law h c d rings later ls same_capacity same all =
+    subst (λ (n : ℕ). All (IsLaneEnd h n later) ls) (sym same_capacity) (All-weaker (IsLaneEnd h c rings) (IsLaneEnd h c later) (λ l is. end_on law h c rings later l same is) ls all)

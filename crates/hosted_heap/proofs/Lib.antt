@@ -1,0 +1,4 @@
+mod Later
+mod Makings
+mod Numbered
+mod Rounds

@@ -1,0 +1,9 @@
+use Rattle.std.proofs.Common.{ap, ◌∙◌, ◌∷◌}
+use Rattle.deferred_disk.specs.Deferred.{stop_of}
+use Rattle.hosted_heap.specs.Hosting.{Hosting}
+use Rattle.hosted_heap.proofs.heap.HostedHeap.done.Goals as goal
+
+pub returns-clause-one : goal.returns-clause-one
+returns-clause-one c = λ call later is.
+    let one = c.done.ensures.one call later (ap (λ (x : Hosting). x.calls.left) c.self.view_is ∙ is) in
+    (one.0, one.1, one.2 ∙ ap (λ (x : Hosting). stop_of call ∷ x.calls.made) c.self.view_is)

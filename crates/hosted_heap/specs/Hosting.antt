@@ -1,0 +1,36 @@
+-- A hosted heap, as contracts see it, and what its calls keep (this project's own).
+use Rattle.std.specs.Prelude.{ℕ, ◌≡◌, List, All}
+use Rattle.block_disk.specs.Device.{Device}
+use Rattle.block_disk.specs.Memory.{device_of}
+use Rattle.deferred_disk.specs.Deferred.{Deferred}
+use Rattle.deferred_disk.specs.Host.{Host}
+use Rattle.image.specs.declared.layout.Layout.{Layout}
+use Rattle.monitor.specs.Seats.{Home}
+use Rattle.running_heap.specs.Closed.{IsClosed}
+use Rattle.running_heap.specs.Joined.{IsHelping}
+use Rattle.trim_helper.specs.Endings.{HoldNone, IsComplete}
+use Rattle.trim_helper.specs.Parts.{Parts}
+use Rattle.trim_helper.specs.declared.ended.Ended.{Ended}
+
+-- the device that a deferred disk is
+abbrev pub hosted_device : Deferred → Device
+hosted_device d = device_of d.memory
+
+-- its words, its helper, and the calls that its host has made and is yet to make
+pub record Hosting : Type 0 where
+  pub home : Home
+  pub helper : Parts Deferred
+  pub calls : Host
+
+-- nothing of it has changed but for the calls of its host
+pub record SameHeap (x y : Hosting) : Type 0 where
+  pub home : y.home ≡ x.home
+  pub helper : y.helper ≡ x.helper
+
+-- Sessions have ended, one a lane, and none of them held a monitor. One legal history has what each was told as its part, and the
+-- device stands for its heap.
+pub record IsClosedWith (h : Home) (l : Layout) (d : Device) : Type 0 where
+  pub ended : List Ended
+  pub none : HoldNone ended
+  pub complete : IsComplete l.lanes ended
+  pub closed : IsClosed h l ended d

@@ -1,0 +1,20 @@
+-- What is true of a hosted heap between its calls (this project's own).
+use Rattle.std.specs.Prelude.{◌≡◌, List, All}
+use Rattle.deferred_disk.specs.Deferred.{Deferred}
+use Rattle.image.specs.Layout.{IsLayout}
+use Rattle.image.specs.declared.layout.Layout.{Layout}
+use Rattle.monitor.specs.Seats.{Home}
+use Rattle.running_heap.specs.Joined.{IsHelping}
+use Rattle.trim_helper.specs.Parts.{Parts}
+use Rattle.hosted_heap.specs.Hosting.{hosted_device}
+use Rattle.hosted_heap.specs.Lanes.{AreNewHere, IsLaneEnd}
+use Rattle.hosted_heap.specs.Sessions.{Seated}
+use Rattle.hosted_heap.specs.declared.lane_end.LaneEnd.{LaneEnd}
+
+-- the helper is of these words, the sessions that weren't handed out too, and what comes back meets the helper
+pub record IsHosting (h : Home) (x : Parts Deferred) (l : Layout) (unused : List Seated) (lanes : List LaneEnd) : Type 0 where
+  pub helping : IsHelping hosted_device h x
+  pub layout_is : l ≡ x.store.known.layout
+  pub within : IsLayout l
+  pub unused_are : AreNewHere h unused
+  pub lanes_are : All (IsLaneEnd h x.store.known.layout.capacity x.rings) lanes

@@ -1,0 +1,11 @@
+-- The promise: what public clauses state.
+pub mod Hosting
+pub mod Opening
+pub mod Closing
+pub mod Sessions
+pub mod Calls
+pub mod Rows
+-- How sessions come back, and what is true between calls.
+pub mod Returning
+pub mod Lanes
+pub mod Keeping

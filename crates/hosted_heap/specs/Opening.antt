@@ -1,0 +1,59 @@
+-- What a hosted heap begins with, and which refusal comes when (this project's own).
+use Rattle.std.specs.Prelude.{ℕ, ◌≡◌, ◌<◌, List, slice_index}
+use Rattle.std.specs.List.{slice_index_or}
+use Rattle.block_disk.specs.Device.{Device}
+use Rattle.block_disk.specs.Memory.{device_of, fresh}
+use Rattle.deferred_disk.specs.Deferred.{Deferred}
+use Rattle.guards.specs.Schema.{Declarations}
+use Rattle.guards.specs.declared.error.SchemaError.TheVariants as schemas
+use Rattle.heap_model.specs.declared.limits.TheConstants.{LAST_NUMBER}
+use Rattle.image.specs.Recovered.{Parts}
+use Rattle.image.specs.declared.error.ImageError.TheVariants as images
+use Rattle.image.specs.declared.guard_row.GuardRow.{GuardRow}
+use Rattle.recover.specs.Recovery.{IsRecovery, RefusesRecovery}
+use Rattle.recover.specs.declared.report.Report.{Report}
+use Rattle.steps.specs.Views.{plan}
+use Rattle.store_image.specs.Formatting.{AreLimits, layout_with}
+use Rattle.store_past.specs.Past.{no_past}
+use Rattle.trim_helper.specs.Parts.{IsServing}
+use Rattle.hosted_heap.specs.Hosting.{Hosting, hosted_device}
+use Rattle.hosted_heap.specs.Rows.{RefusesRows, numbered}
+use Rattle.hosted_heap.specs.declared.error.HostError.{HostError}
+use Rattle.hosted_heap.specs.declared.error.HostError.TheVariants.{NoMemory, Schema, Image, Recover}
+
+-- It runs with what was recovered: with its values, its lanes and its device, and nothing was told to it.
+pub record HasBegun (schema : Declarations) (r : Parts Deferred) (x : Hosting) : Type 0 where
+  pub plan_is : x.home.plan ≡ record { schema = schema; first = r.heap; last = LAST_NUMBER; lanes = r.layout.lanes }
+  pub layout_is : x.helper.store.known.layout ≡ r.layout
+  pub disk_is : x.helper.store.disk ≡ r.disk
+  pub untold : IsServing hosted_device x.helper (plan x.home) no_past
+
+-- It was made of so many objects and of these fields, with so many lanes of so many records, and begins with their first values.
+pub record IsMade (objects : ℕ) (rows : List GuardRow) (lanes capacity : ℕ) (x : Hosting) : Type 0 where
+  pub limits : AreLimits lanes capacity
+  pub made : Parts Deferred
+  pub layout_is : made.layout ≡ layout_with (numbered objects rows) lanes capacity
+  pub values : (f : ℕ) (d : GuardRow) → f < made.layout.fields → slice_index made.heap f ≡ (slice_index_or rows f d).first
+  pub begun : HasBegun (numbered objects rows) made x
+
+-- It runs with what recovery finds in these bytes, which it reports.
+pub record IsFound (bytes : List ℕ) (x : Hosting) (report : Report) : Type 0 where
+  pub found : Parts Deferred
+  pub recovery : IsRecovery (device_of (fresh bytes)) (hosted_device found.disk) found report
+  pub begun : HasBegun (numbered found.layout.objects found.guards) found x
+
+-- why no heap is made
+abbrev pub RefusesMaking : (objects : ℕ) (rows : List GuardRow) (lanes capacity : ℕ) → HostError → Type 0
+RefusesMaking objects rows lanes capacity NoMemory = AreLimits lanes capacity
+RefusesMaking objects rows lanes capacity (Schema e) = RefusesRows objects rows e
+RefusesMaking objects rows lanes capacity (Image images.BadHeader) = AreLimits lanes capacity → ⊥
+RefusesMaking objects rows lanes capacity (Image images.NoMemory) = AreLimits lanes capacity
+RefusesMaking objects rows lanes capacity (Image images.Fault) = AreLimits lanes capacity
+RefusesMaking objects rows lanes capacity _ = ⊥
+
+-- why none is opened
+abbrev pub RefusesOpening : (bytes : List ℕ) → HostError → Type 0
+RefusesOpening bytes NoMemory = Unit {0}
+RefusesOpening bytes (Recover e) = RefusesRecovery bytes e
+RefusesOpening bytes (Schema e) = e ≡ schemas.NoMemory
+RefusesOpening bytes (Image e) = ⊥

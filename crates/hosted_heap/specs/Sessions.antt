@@ -1,0 +1,38 @@
+-- A session with the words of its heap, as contracts see it (this project's own).
+use Rattle.std.specs.Prelude.{ℕ, ◌<◌, ◌≡◌, List, Result, Ok, Err}
+use Rattle.monitor.specs.Seats.{Home}
+use Rattle.session.specs.declared.session.Session.{Session}
+use Rattle.session.specs.declared.waiting.Waiting.{Waiting}
+use Rattle.session.specs.Sessions.{IsSessionOf, IsWaitingOf}
+use Rattle.hosted_heap.specs.Returning.{MayReturn, MayReturnWaiting}
+
+-- the words of its heap, its session, and what went through the ring by which it comes back
+pub record Seated : Type 0 where
+  pub home : Home
+  pub session : Session
+  pub before : List Session
+
+pub record SeatedWaiting : Type 0 where
+  pub home : Home
+  pub waiting : Waiting
+  pub before : List Session
+
+-- the session is of these words and may come back, and its ring has room for it
+pub record IsSeated (h : Home) (s : Session) (before : List Session) (free : ℕ) : Type 0 where
+  pub of : IsSessionOf h s
+  pub may : MayReturn before s
+  pub room : 0 < free
+
+pub record IsSeatedWaiting (h : Home) (w : Waiting) (before : List Session) (free : ℕ) : Type 0 where
+  pub of : IsWaitingOf h w
+  pub may : MayReturnWaiting before w
+  pub room : 0 < free
+
+-- what a wait answers of the session itself
+abbrev pub inner_wait : {E : Type 0} → Result SeatedWaiting (Seated × E) → Result Waiting (Session × E)
+inner_wait (Ok w) = Ok w.waiting
+inner_wait (Err e) = Err (e.0.session, e.1)
+
+abbrev pub inner_resume : {E : Type 0} → Result Seated (SeatedWaiting × E) → Result Session (Waiting × E)
+inner_resume (Ok s) = Ok s.session
+inner_resume (Err e) = Err (e.0.waiting, e.1)

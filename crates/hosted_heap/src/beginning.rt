@@ -1,0 +1,62 @@
+//! The sessions of a heap that begins to run, and where they come back.
+ghost use Rattle.std.specs.Prelude.{◌≡◌, ◌∷◌, [], ℕ, All, IfOk, None};
+ghost use Rattle.std.specs.Arc.{arc_value};
+ghost use Rattle.hosted_heap.specs.Lanes.{AreNewHere, IsLaneEnd};
+ghost use Rattle.monitor.specs.Seats.{Home};
+ghost use Rattle.rtrb.specs.Ring.{received};
+ghost use Rattle.running_heap.specs.Joined.{IsJoined};
+ghost use Rattle.session.specs.Sessions.{IsSessionOf};
+ghost use Rattle.trim_helper.specs.Endings.{Rings};
+
+use crate::lane_end::LaneEnd;
+use crate::returning::Returning;
+use crate::seated::HostedSession;
+use monitor::Shared;
+use rtrb::RingBuffer;
+use session::Session;
+use std::alloc::{AllocError, Global};
+use std::sync::Arc;
+
+/// The sessions with their words, and where each comes back.
+pub fn begin_all(
+    alloc: Global,
+    shared: &Arc<Shared>,
+    sessions: Vec<Session>,
+) -> Result<(Vec<HostedSession>, Vec<LaneEnd>), AllocError>
+    requires of { All (IsSessionOf (arc_value shared.now)) sessions.items }
+    ensures homes { IfOk result (λ r. AreNewHere (arc_value shared.now) r.0.items) }
+    ensures lanes { (capacity : ℕ) (rings : Rings) → All (IsJoined (arc_value shared.now) capacity rings) sessions.items
+        → IfOk result (λ r. All (IsLaneEnd (arc_value shared.now) capacity rings) r.1.items) }
+{
+    let mut left = sessions;
+    let mut unused = Vec::new(alloc);
+    let mut lanes = Vec::new(alloc);
+    'sessions: while let Some(session) = left.pop() {
+        let (session, end) = begin(alloc, Arc::try_clone(shared)?, session)?;
+        unused.push(session)?;
+        lanes.push(end)?;
+    }
+    Ok((unused, lanes))
+}
+
+// One session with the words.
+fn begin(
+    alloc: Global,
+    shared: Arc<Shared>,
+    session: Session,
+) -> Result<(HostedSession, LaneEnd), AllocError>
+    requires of { IsSessionOf (arc_value shared) session }
+    ensures session { IfOk result (λ r. (r.0.home ≡ arc_value shared) × (r.0.session ≡ session)) }
+    ensures end { IfOk result (λ r. (received r.1.back ≡ session ∷ []) × (r.1.came ≡ None)) }
+{
+    let (mut producer, mut back) = RingBuffer::with_protocol::<Global, Returning>(alloc, 2)?;
+    producer.push_reserved(session);
+    back.slots_beside(&mut producer);
+    let session = back.pop_known();
+    let session = HostedSession {
+        shared,
+        session,
+        back: producer,
+    };
+    Ok((session, LaneEnd { back, came: None }))
+}

@@ -1,0 +1,48 @@
+//! The heap's end of a lane.
+ghost use Rattle.std.specs.Prelude.{◌≡◌, ◌↔◌, ◌∷◌, [], ℕ, None, IfSome, IsSome, IsTrue};
+ghost use Rattle.std.specs.Arc.{arc_value};
+ghost use Rattle.hosted_heap.specs.Lanes.{BeginsJoined, IsLaneEnd};
+ghost use Rattle.monitor.specs.Seats.{Home};
+ghost use Rattle.rtrb.specs.Ring.{received};
+ghost use Rattle.running_heap.specs.Joined.{IsJoined};
+ghost use Rattle.session.specs.Sessions.{IsSessionOf};
+ghost use Rattle.trim_helper.specs.Endings.{Rings};
+
+use crate::returning::Returning;
+use rtrb::Consumer;
+use running_heap::joined_law;
+use session::Session;
+use std::alloc::Global;
+
+/// Where a lane's session comes back, and the session once it has.
+#[derive(Drop)]
+pub struct LaneEnd {
+    pub back: Consumer<Session, Global, Returning>,
+    pub came: Option<Session>,
+}
+
+impl LaneEnd {
+    /// Whether the lane's session has come back.
+    pub fn has_come(&mut self) -> bool
+        ensures kept { (h : Home) (capacity : ℕ) (rings : Rings) → IsLaneEnd h capacity rings self.old → IsLaneEnd h capacity rings self.new }
+        ensures came { IsTrue result ↔ IsSome self.new.came }
+    {
+        if self.came.is_some() {
+            return true;
+        }
+        self.came = take_one(&mut self.back);
+        self.came.is_some()
+    }
+}
+
+// The session that has come through, if one has.
+fn take_one(back: &mut Consumer<Session, Global, Returning>) -> Option<Session>
+    ensures first { (h : Home) (capacity : ℕ) (rings : Rings) → BeginsJoined h capacity rings (received back.old) → BeginsJoined h capacity rings (received back.new) }
+    ensures joined { (h : Home) (capacity : ℕ) (rings : Rings) → BeginsJoined h capacity rings (received back.old) → IfSome result (IsJoined h capacity rings) }
+{
+    joined_law();
+    match back.pop() {
+        Ok(session) => Some(session),
+        Err(_) => None,
+    }
+}

@@ -1,0 +1,30 @@
+//! A running heap for a host that isn't written in Rattle, and that makes the device's calls itself.
+//!
+//! [`format`] and [`open`] make of objects and fields, or of the bytes that the host's device has, a [`HostedHeap`] on a
+//! [`DeferredDisk`](deferred_disk::DeferredDisk). It hands out a [`HostedSession`] for each lane, which may go to a thread of the
+//! host's. What has to be written and synced the host asks of [`HostedHeap::next_call`]. No call waits, and no two values that
+//! belong to different heaps are ever passed to one call.
+#![tactic(auto)]
+
+mod beginning;
+mod closing;
+mod error;
+mod heap;
+mod lane_end;
+mod opening;
+mod returning;
+mod rows;
+mod seated;
+mod waiting;
+
+pub use closing::{Closed, NotClosed};
+pub use error::{AcknowledgedError, CloseRefusal, HostError};
+pub use heap::HostedHeap;
+pub use opening::{format, open};
+pub use returning::Returning;
+pub use rows::declare;
+pub use seated::HostedSession;
+pub use waiting::HostedWaiting;
+
+#[cfg(test)]
+mod tests;

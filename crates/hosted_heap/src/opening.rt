@@ -1,0 +1,115 @@
+//! A hosted heap is made, or opened.
+ghost use Rattle.std.specs.Prelude.{◌≡◌, IfErr, IfOk};
+ghost use Rattle.hosted_heap.specs.Opening.{HasBegun, IsFound, IsMade, RefusesMaking, RefusesOpening};
+ghost use Rattle.trim_helper.specs.Opening.{FitsSchema};
+
+use crate::beginning::begin_all;
+use crate::error::HostError;
+use crate::heap::HostedHeap;
+use crate::rows::declare;
+use deferred_disk::{DeferredDisk, HostCalls};
+use durable::Store;
+use guards::Schema;
+use heap_model::LAST_NUMBER;
+use image::{GuardRow, ImageError, Layout, Recovered};
+use recover::{Report, recover};
+use running_heap::RunningHeap;
+use std::alloc::{AllocError, Global};
+use std::sync::Arc;
+
+/// Makes a heap of so many objects and of these fields, and opens it. The host's device has as many zero bytes as
+/// [`HostedHeap::layout`] says that the image has, durably, before the host makes the first call.
+///
+/// Refusals, in this order:
+/// - `Schema`: as [`declare`] refuses;
+/// - `Image`: by `BadHeader`, where `lanes` isn't 1 to 32 or `capacity` isn't 2,000 to 1,048,576;
+/// - `NoMemory`, and `Image` by `NoMemory` and `Fault`, for want of memory.
+pub fn format(
+    alloc: Global,
+    objects: u32,
+    rows: &[GuardRow],
+    lanes: u8,
+    capacity: u32,
+) -> Result<HostedHeap, HostError>
+    ensures ok { IfOk result (IsMade objects rows.now lanes capacity) }
+    ensures refused { IfErr result (RefusesMaking objects rows.now lanes capacity) }
+{
+    let schema = match declare(alloc, objects, rows) {
+        Ok(schema) => schema,
+        Err(refusal) => return Err(HostError::Schema(refusal)),
+    };
+    let Some(layout) = Layout::of(&schema, lanes, capacity) else {
+        return Err(HostError::Image(ImageError::BadHeader));
+    };
+    let Ok((disk, calls)) = DeferredDisk::new(alloc, layout.size()) else {
+        return Err(HostError::NoMemory);
+    };
+    let made = match Store::format(alloc, disk, &schema, lanes, capacity) {
+        Ok(made) => made,
+        Err((_disk, refusal)) => return Err(HostError::Image(refusal)),
+    };
+    match begin(alloc, schema, made, calls) {
+        Ok(heap) => Ok(heap),
+        Err(_) => Err(HostError::NoMemory),
+    }
+}
+
+/// Opens the heap of the image that the host's device has, durably; these are its bytes, all of them. It is recovered first, in
+/// memory: the calls of that are the first that the host makes.
+///
+/// Refusals, in this order: `NoMemory` for the bytes; `Recover`, as [`recover`](recover::recover) refuses; `Schema` and `NoMemory`,
+/// for want of memory.
+pub fn open(alloc: Global, bytes: &[u8]) -> Result<(HostedHeap, Report), HostError>
+    ensures ok { IfOk result (λ r. IsFound bytes.now r.0 r.1) }
+    ensures refused { IfErr result (RefusesOpening bytes.now) }
+{
+    let Ok((disk, calls)) = DeferredDisk::from_bytes(alloc, bytes) else {
+        return Err(HostError::NoMemory);
+    };
+    let (recovered, report) = match recover(alloc, disk) {
+        Ok(found) => found,
+        Err((_disk, refusal)) => return Err(HostError::Recover(refusal)),
+    };
+    let schema = match declare(alloc, recovered.layout().objects, recovered.guards()) {
+        Ok(schema) => schema,
+        Err(refusal) => return Err(HostError::Schema(refusal)),
+    };
+    match begin(alloc, schema, recovered, calls) {
+        Ok(heap) => Ok((heap, report)),
+        Err(_) => Err(HostError::NoMemory),
+    }
+}
+
+// Lets a heap of this schema that was recovered run.
+fn begin(
+    alloc: Global,
+    schema: Schema,
+    recovered: Recovered<DeferredDisk>,
+    calls: HostCalls,
+) -> Result<HostedHeap, AllocError>
+    requires schema { FitsSchema schema recovered.layout recovered.guards }
+    ensures begun { IfOk result (HasBegun schema recovered) }
+    ensures calls { IfOk result (λ x. x.calls ≡ calls) }
+{
+    let layout = recovered.layout();
+    let heap = match running_heap::open(alloc, schema, recovered, LAST_NUMBER) {
+        Ok(heap) => heap,
+        Err((_disk, error)) => return Err(error),
+    };
+    let RunningHeap {
+        shared,
+        sessions,
+        helper,
+    } = heap;
+    let shared = Arc::new(alloc, shared)?;
+    let (unused, lanes) = begin_all(alloc, &shared, sessions)?;
+    Ok(HostedHeap {
+        alloc,
+        shared,
+        helper,
+        calls,
+        layout,
+        unused,
+        lanes,
+    })
+}

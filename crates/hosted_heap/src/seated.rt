@@ -1,0 +1,174 @@
+//! A session, with the words of its heap.
+ghost use Rattle.std.specs.Prelude.{◌≡◌, ◌<◌, IfSome};
+ghost use Rattle.std.specs.Arc.{arc_value};
+ghost use Rattle.rtrb.specs.Ring.{known_free, sent};
+ghost use Rattle.session.specs.Sessions.{IsSessionOf};
+ghost use Rattle.hosted_heap.specs.Returning.{MayReturn};
+
+use crate::returning::Returning;
+use crate::waiting::HostedWaiting;
+use heap_model::{FieldId, Lane, ObjectId};
+use lock_word::{FatWord, LockWord, WaitMask};
+use monitor::Shared;
+use rtrb::Producer;
+use session::{Session, SessionError};
+use std::alloc::Global;
+use std::marker::Model;
+use std::sync::Arc;
+
+/// A session, with the words of its heap: a host can't use it with another heap's. It may go to another thread.
+///
+/// Its calls answer as those of a [`Session`]. Contracts see it as its words, its session, and what went through the ring by which
+/// it comes back.
+#[derive(Drop)]
+pub struct HostedSession {
+    pub(crate) shared: Arc<Shared>,
+    pub(crate) session: Session,
+    pub(crate) back: Producer<Session, Global, Returning>,
+}
+
+impl Model for HostedSession {
+    ghost use Rattle.std.specs.Arc.{arc_value};
+    ghost use Rattle.rtrb.specs.Ring.{known_free, sent};
+    ghost use Rattle.hosted_heap.specs.Sessions.{Seated, IsSeated};
+    ghost use Rattle.session.specs.contracts.session.Session as sessions;
+    ghost use Rattle.std.specs.Coded.{codes};
+
+    ghost Value = { Seated };
+
+    ghost coded = { Prim.hlevel (codes, sessions.the_row.coded) };
+
+    ghost view = { λ s. record { home = arc_value s.shared; session = s.session; before = sent s.back } };
+
+    ghost invariant = { λ s. IsSeated (arc_value s.shared) s.session (sent s.back) (known_free s.back) };
+}
+
+impl HostedSession {
+    ghost use Rattle.std.specs.Prelude.{◌≡◌, ◌<◌, ◌≤◌, ◌↔◌, List, [], ◌∷◌, None, Ok, Err, true, Contains, IfOk, MatchResult};
+    ghost use Rattle.std.specs.FinSet as set;
+    ghost use Rattle.heap_model.specs.declared.event.Event.TheVariants as event;
+    ghost use Rattle.heap_model.specs.declared.ids.Lane.{Lane};
+    ghost use Rattle.hosted_heap.specs.Sessions.{inner_wait};
+    ghost use Rattle.hosted_heap.specs.Calls.{AsksToWait, Enters, Exits, Loads, Notifies, StoresAs};
+    ghost use Rattle.lock_word.specs.Spelling.{sight_of};
+    ghost use Rattle.session.specs.Calls.{IsQuiet};
+    ghost use Rattle.session.specs.Sessions.{view_of};
+    ghost use Rattle.session.specs.declared.error.SessionError.TheVariants as error;
+    ghost use Rattle.steps.specs.Views.{IsHeld, IsLasting, IsPaired, Lengthens, hold, plan};
+
+    /// Takes the monitor, or one lock more of it ([`Session::try_enter`]).
+    pub fn try_enter(&mut self, object: ObjectId) -> Result<(), SessionError>
+        ensures home { self.new.home ≡ self.old.home }
+        ensures told { Enters self.old.home self.old.session self.new.session object result }
+    {
+        self.session.try_enter(&self.shared, object)
+    }
+
+    /// Gives one lock back, and with the last one the monitor ([`Session::exit`]).
+    pub fn exit(&mut self, object: ObjectId) -> Result<(), SessionError>
+        ensures home { self.new.home ≡ self.old.home }
+        ensures told { Exits self.old.home self.old.session self.new.session object result }
+    {
+        self.session.exit(&self.shared, object)
+    }
+
+    /// Loads a field ([`Session::load`]).
+    pub fn load(&mut self, field: FieldId) -> Result<u64, SessionError>
+        ensures home { self.new.home ≡ self.old.home }
+        ensures told { Loads self.old.home self.old.session self.new.session field result }
+    {
+        self.session.load(&self.shared, field)
+    }
+
+    /// Stores a field ([`Session::store`]).
+    pub fn store(&mut self, field: FieldId, value: u64) -> Result<(), SessionError>
+        ensures home { self.new.home ≡ self.old.home }
+        ensures told { StoresAs self.old.home self.old.session self.new.session field value result }
+    {
+        self.session.store(&self.shared, field, value)
+    }
+
+    /// Takes one lane out of the monitor's wait set ([`Session::notify`]).
+    pub fn notify(&mut self, object: ObjectId) -> Result<Option<Lane>, SessionError>
+        ensures home { self.new.home ≡ self.old.home }
+        ensures told { Notifies self.old.home self.old.session self.new.session object result }
+    {
+        self.session.notify(&self.shared, object)
+    }
+
+    /// Takes all lanes out of the monitor's wait set ([`Session::notify_all`]).
+    pub fn notify_all(&mut self, object: ObjectId) -> Result<WaitMask, SessionError>
+        ensures home { self.new.home ≡ self.old.home }
+        ensures unknown { (plan self.old.home).objects ≤ object.0 → (result ≡ Err error.UnknownObject) × IsQuiet (view_of self.old.session) (view_of self.new.session) }
+        ensures not_held { object.0 < (plan self.old.home).objects → hold (view_of self.old.session) object.0 ≡ None
+            → (result ≡ Err error.NotHeld) × IsQuiet (view_of self.old.session) (view_of self.new.session) }
+        ensures held { object.0 < (plan self.old.home).objects → IsHeld (view_of self.old.session) object.0
+            → (mask : _) × (woken : List Lane) × (result ≡ Ok mask) × Lengthens (view_of self.old.session) (view_of self.new.session) (event.NotifyAll object woken ∷ [])
+            × ((l : Lane) → Contains woken l ↔ (set.contains mask l.0 ≡ true)) }
+    {
+        self.session.notify_all(&self.shared, object)
+    }
+
+    /// What the monitor's words say ([`Session::look`]).
+    pub fn look(&mut self, object: ObjectId) -> Result<(LockWord, Option<FatWord>), SessionError>
+        ensures home { self.new.home ≡ self.old.home }
+        ensures unknown { (plan self.old.home).objects ≤ object.0 → (result ≡ Err error.UnknownObject) × IsQuiet (view_of self.old.session) (view_of self.new.session) }
+        ensures known { object.0 < (plan self.old.home).objects → (lock : _) × (fat : _) × (result ≡ Ok (lock, fat)) × IsPaired lock fat
+            × Lengthens (view_of self.old.session) (view_of self.new.session) (event.Look object (sight_of lock fat) ∷ []) }
+    {
+        self.session.look(&self.shared, object)
+    }
+
+    /// How many sections of the lane the helper's last round acknowledged ([`Session::stable`]). They are on the host's device once
+    /// the host has made the calls of that round.
+    pub fn stable(&mut self) -> u64
+        ensures home { self.new.home ≡ self.old.home }
+        ensures quiet { IsQuiet (view_of self.old.session) (view_of self.new.session) }
+        ensures read { (view_of self.new.session).stable ≡ result }
+    {
+        self.session.stable(&self.shared)
+    }
+
+    /// Joins the monitor's wait set and frees the monitor ([`Session::begin_wait`]).
+    pub fn begin_wait(
+        self,
+        object: ObjectId,
+    ) -> Result<HostedWaiting, (HostedSession, SessionError)>
+        ensures home { MatchResult result (λ w. w.home ≡ self.home) (λ e. e.0.home ≡ self.home) }
+        ensures told { AsksToWait self.home self.session object (inner_wait result) }
+    {
+        let HostedSession {
+            shared,
+            session,
+            back,
+        } = self;
+        match session.begin_wait(&shared, object) {
+            Ok(waiting) => Ok(HostedWaiting {
+                shared,
+                waiting,
+                back,
+            }),
+            Err((session, refusal)) => {
+                let session = HostedSession {
+                    shared,
+                    session,
+                    back,
+                };
+                Err((session, refusal))
+            }
+        }
+    }
+
+    /// Ends the session, and lets it come back to its heap. It may still hold monitors: then its heap isn't closed.
+    pub fn end(self) {
+        let HostedSession {
+            shared,
+            session,
+            back,
+        } = self;
+        // The words first: when the session has come back nobody else has them.
+        drop(shared);
+        let mut back = back;
+        back.push_reserved(session);
+    }
+}

@@ -1,0 +1,69 @@
+//! A session that waits, with the words of its heap.
+ghost use Rattle.std.specs.Prelude.{◌≡◌, MatchResult};
+
+use crate::returning::Returning;
+use crate::seated::HostedSession;
+use monitor::Shared;
+use rtrb::Producer;
+use session::{Session, Still, Waiting};
+use std::alloc::Global;
+use std::marker::Model;
+use std::sync::Arc;
+
+/// A session that waits for a monitor, with the words of its heap. It can do nothing but resume.
+#[derive(Drop)]
+pub struct HostedWaiting {
+    pub(crate) shared: Arc<Shared>,
+    pub(crate) waiting: Waiting,
+    pub(crate) back: Producer<Session, Global, Returning>,
+}
+
+impl Model for HostedWaiting {
+    ghost use Rattle.std.specs.Arc.{arc_value};
+    ghost use Rattle.rtrb.specs.Ring.{known_free, sent};
+    ghost use Rattle.hosted_heap.specs.Sessions.{SeatedWaiting, IsSeatedWaiting};
+    ghost use Rattle.session.specs.contracts.session.Session as sessions;
+    ghost use Rattle.session.specs.contracts.waiting.Waiting as waits;
+    ghost use Rattle.std.specs.Coded.{codes};
+
+    ghost Value = { SeatedWaiting };
+
+    ghost coded = { Prim.hlevel (codes, sessions.the_row.coded, waits.the_row.coded) };
+
+    ghost view = { λ w. record { home = arc_value w.shared; waiting = w.waiting; before = sent w.back } };
+
+    ghost invariant = { λ w. IsSeatedWaiting (arc_value w.shared) w.waiting (sent w.back) (known_free w.back) };
+}
+
+impl HostedWaiting {
+    ghost use Rattle.std.specs.Prelude.{◌≡◌, MatchResult};
+    ghost use Rattle.hosted_heap.specs.Calls.{AsksToResume};
+    ghost use Rattle.hosted_heap.specs.Sessions.{inner_resume};
+
+    /// Takes the monitor again, if the thread was removed from its wait set and the monitor is free ([`Waiting::try_resume`]).
+    pub fn try_resume(self) -> Result<HostedSession, (HostedWaiting, Still)>
+        ensures home { MatchResult result (λ s. s.home ≡ self.home) (λ e. e.0.home ≡ self.home) }
+        ensures told { AsksToResume self.waiting (inner_resume result) }
+    {
+        let HostedWaiting {
+            shared,
+            waiting,
+            back,
+        } = self;
+        match waiting.try_resume(&shared) {
+            Ok(session) => Ok(HostedSession {
+                shared,
+                session,
+                back,
+            }),
+            Err((waiting, still)) => {
+                let waiting = HostedWaiting {
+                    shared,
+                    waiting,
+                    back,
+                };
+                Err((waiting, still))
+            }
+        }
+    }
+}
