@@ -44,6 +44,12 @@ fn two_workers_count(rt: HostRuntime) {
 }
 
 #[test]
+fn workers_are_8(rt: HostRuntime) {
+    let left = left_by(&rt, rt.alloc(), 8, 100);
+    assert_eq!(rt; left, Ok((8, 100, 800, 100)));
+}
+
+#[test]
 fn workers_are_32(rt: HostRuntime) {
     let left = left_by(&rt, rt.alloc(), 32, 10);
     assert_eq!(rt; left, Ok((32, 10, 320, 10)));
