@@ -16,7 +16,7 @@ use std::thread;
 use trim_helper::Helper;
 
 // How many rounds the helper makes while the thread of the workers hasn't begun. It begins at once, or there is no such thread.
-const MOST_ROUNDS: u32 = 10_000_000;
+const MOST_ROUNDS: u32 = 1_000_000;
 
 /// The helper, and why it has stopped.
 #[derive(Drop)]
