@@ -1,0 +1,224 @@
+/* Zelamiku: a failure-atomic object heap for threads that synchronize by monitors.
+ *
+ * A heap has objects, which are monitors, and fields of 64 bits, each guarded by an object. A thread enters monitors, loads and
+ * stores the fields that they guard, and exits. What it does from its first enter to its last exit is a section: after a crash
+ * each section is there whole or not at all, and with it each section that it has seen.
+ *
+ * Build and link:
+ *     cc program.c -I bindings/c crates/zelamiku/out/libzelamiku.a liblibc_c.a -pthread
+ *
+ * What the caller upholds, for each call:
+ *  - a handle begins as ZELAMIKU_NONE, isn't copied, and is changed by these calls alone. A handle may go to another thread;
+ *  - one call at a time has a handle: the threads order their calls by a mutex, a start or join, or sequentially consistent atomics;
+ *  - pointers are valid for the call, point to initialized memory that nothing else reads or writes meanwhile, and don't overlap;
+ *  - the device is changed by the calls of zelamiku_next_call alone, in their order, one at a time.
+ * Everything else is answered by a status. No call waits, blocks, starts a thread or panics; each out-parameter is always set.
+ *
+ * The device. The library has no file: it works in memory, and asks the host to write and sync. zelamiku_next_call tells the next
+ * call, the host makes it on a device of its own (a file, a block device, a volume), and zelamiku_call_done says that it has:
+ *     for (;;) {
+ *         zelamiku_next_call(&heap, &call, buffer, sizeof buffer);
+ *         if (call.kind == ZELAMIKU_NO_CALL) break;
+ *         if (call.kind == ZELAMIKU_WRITE) pwrite(fd, buffer, call.size, call.at); else fdatasync(fd);
+ *         zelamiku_call_done(&heap);
+ *     }
+ * A write or a sync that fails is made again, or the host frees its handles and opens the heap again from what the device has.
+ *
+ * Waiting is the host's. Where a call answers ZELAMIKU_HELD, ZELAMIKU_BEHIND or ZELAMIKU_IN_SET, try again later:
+ *     for (unsigned spins = 0; (answer = zelamiku_try_enter(&session, object)) == ZELAMIKU_HELD || answer == ZELAMIKU_BEHIND; spins++)
+ *         if (spins > 100) sched_yield();
+ * With a condition variable of the host's own, an exit or a notification is told to those that wait:
+ *     pthread_mutex_lock(&m);
+ *     while ((answer = zelamiku_try_resume(&session)) != ZELAMIKU_OK) pthread_cond_wait(&changed, &m);
+ *     pthread_mutex_unlock(&m);
+ *     ...
+ *     zelamiku_exit(&session, object); pthread_mutex_lock(&m); pthread_cond_broadcast(&changed); pthread_mutex_unlock(&m);
+ */
+#ifndef ZELAMIKU_H
+#define ZELAMIKU_H
+#include <stdbool.h>
+#include <stddef.h>
+#include <stdint.h>
+#ifdef __cplusplus
+extern "C" {
+#endif
+
+/* A handle: of a heap, or of a session. */
+typedef struct {
+    void *at;
+    bool is_open;
+} zelamiku_handle;
+#define ZELAMIKU_NONE {NULL, false}
+
+typedef enum {
+    ZELAMIKU_OK = 0,
+    ZELAMIKU_CLOSED = 1,          /* nothing is behind the handle */
+    ZELAMIKU_OPEN = 2,            /* the handle that is to be opened has something behind it */
+    ZELAMIKU_WRONG_KIND = 3,      /* a session where a heap is wanted, or a heap where a session is */
+    ZELAMIKU_NO_MEMORY = 4,
+    ZELAMIKU_WAITING = 5,         /* the session waits for a monitor: it can do nothing but resume */
+    ZELAMIKU_NONE_LEFT = 6,       /* no session, or no call, is left */
+    ZELAMIKU_CALLS_LEFT = 7,      /* the host has yet to make calls of the device */
+    ZELAMIKU_BAD_LANE = 8,        /* there is no such lane */
+    ZELAMIKU_RUNNING = 9,         /* a session of the heap hasn't ended */
+    ZELAMIKU_UNKNOWN_OBJECT = 10, /* there is no such object */
+    ZELAMIKU_UNKNOWN_FIELD = 11,  /* there is no such field */
+    ZELAMIKU_NOT_HELD = 12,       /* the session doesn't hold the monitor, or that of the field's guard */
+    ZELAMIKU_BEHIND = 13,         /* the helper is behind: make rounds, and try again */
+    ZELAMIKU_SECTION_FULL = 14,   /* the section would have more than 1,000 records */
+    ZELAMIKU_TOO_MANY = 15,       /* too many monitors are held, or too many objects or fields declared */
+    ZELAMIKU_TOO_DEEP = 16,       /* the monitor is held by as many locks as can be counted */
+    ZELAMIKU_NO_FAT = 17,         /* no room is left for a monitor that is waited for, or locked so often */
+    ZELAMIKU_WORN = 18,           /* numbers have come to their end */
+    ZELAMIKU_HELD = 19,           /* another session has the monitor */
+    ZELAMIKU_IN_SET = 20,         /* nobody has notified the session */
+    ZELAMIKU_FAULT = 21,          /* want of memory, or of calls that the host makes: the heap has stopped */
+    ZELAMIKU_FAILED = 22,         /* the heap has stopped in an earlier call */
+    ZELAMIKU_UNFINISHED = 23,     /* a session was ended while it held a monitor */
+    ZELAMIKU_EMPTY = 24,          /* there is no object, or no field */
+    ZELAMIKU_NOT_FORMATTED = 25,  /* the bytes are no image of a heap */
+    ZELAMIKU_BAD_HEADER = 26,     /* a number of the image, or of the heap to be made, is out of its limits */
+    ZELAMIKU_TOO_SMALL = 27,      /* the bytes are fewer than the image has */
+    ZELAMIKU_NO_CONTROL = 28,     /* the image has no control */
+    ZELAMIKU_BAD_CONTROL = 29,    /* the image's control can't be read */
+    ZELAMIKU_BAD_RECORD = 30,     /* the image has a record that can't be read */
+    ZELAMIKU_ILLEGAL_LOG = 31     /* no threads can have left the image's log */
+} zelamiku_status;
+
+/* A field of a heap that is to be made. */
+typedef struct {
+    uint32_t owner; /* the object that has it */
+    uint32_t guard; /* the object whose monitor guards it */
+    uint64_t first; /* the value with which it begins */
+} zelamiku_field;
+
+/* What a heap has, and what recovery found. */
+typedef struct {
+    uint64_t size; /* the bytes of the image */
+    uint32_t objects, fields, lanes;
+    uint32_t capacity; /* the records that a lane's area holds */
+    uint64_t dropped;  /* the sections that recovery dropped; none of them was acknowledged */
+    uint64_t undone;   /* the fields that took an old value back */
+} zelamiku_found;
+
+enum { ZELAMIKU_NO_CALL = 0, ZELAMIKU_WRITE = 1, ZELAMIKU_SYNC = 2 };
+
+/* A call of the device. */
+typedef struct {
+    uint32_t kind;
+    uint64_t at;   /* where to write, in bytes from the device's start */
+    uint64_t size; /* how many bytes */
+} zelamiku_call;
+
+/* No call writes more bytes than this. */
+#define ZELAMIKU_MOST_BYTES 4096
+
+/* What a look shows of a monitor. */
+typedef struct {
+    uint32_t owner; /* its owner's lane; ZELAMIKU_NOBODY where it is free */
+    uint32_t locks; /* by how many locks */
+    uint64_t number; /* how often it has become free */
+} zelamiku_sight;
+
+#define ZELAMIKU_NOBODY 64
+
+/* ---- the heap ---- */
+
+/* Makes a heap of so many objects and of these fields, with `lanes` (1 to 32) sessions of `capacity` (2,000 to 1,048,576) records
+ * each, and opens it. `size` gets the bytes of its image.
+ * Needs: before the first call of zelamiku_next_call is made, the device has `size` zero bytes, durably.
+ * OPEN, EMPTY, UNKNOWN_OBJECT, TOO_MANY, BAD_HEADER, NO_MEMORY: the handle is as it was, and `size` is 0. */
+uint32_t zelamiku_format(zelamiku_handle *heap, uint32_t objects, const zelamiku_field *fields, size_t count, uint32_t lanes,
+                         uint32_t capacity, uint64_t *size);
+
+/* Recovers the heap of these bytes, and opens it.
+ * Needs: the device has these bytes, all of them, durably.
+ * OPEN, NOT_FORMATTED, BAD_HEADER, TOO_SMALL, NO_CONTROL, BAD_CONTROL, WORN, BAD_RECORD, ILLEGAL_LOG, NO_MEMORY: the handle is as
+ * it was, and `found` is all 0. Nothing was asked of the device. */
+uint32_t zelamiku_open(zelamiku_handle *heap, const uint8_t *image, size_t size, zelamiku_found *found);
+
+/* Hands out the session of the next lane, from 0 on.
+ * OPEN: `session` has something behind it. CLOSED, WRONG_KIND: of `heap`. NONE_LEFT: each lane's was handed out. NO_MEMORY: the
+ * session has ended. But for that the handles are as they were. */
+uint32_t zelamiku_session(zelamiku_handle *heap, zelamiku_handle *session);
+
+/* Tells the call of the device that the host makes next, and copies its bytes, as many as `size` allows. It tells the same call
+ * until zelamiku_call_done. `call->kind` is ZELAMIKU_NO_CALL where none is left; another round may leave more.
+ * CLOSED, WRONG_KIND: `call` is ZELAMIKU_NO_CALL. */
+uint32_t zelamiku_next_call(zelamiku_handle *heap, zelamiku_call *call, uint8_t *bytes, size_t size);
+
+/* Says that the host has made the call that zelamiku_next_call told.
+ * CLOSED, WRONG_KIND. NONE_LEFT: no call was told. */
+uint32_t zelamiku_call_done(zelamiku_handle *heap);
+
+/* Takes what the sessions have done, makes it durable as far as each section that it depends on has ended, and leaves the calls of
+ * that to zelamiku_next_call. `applied` gets how many records were taken. With none there is no call.
+ * CLOSED, WRONG_KIND, NONE_LEFT (the heap is closed): nothing was done. FAULT, FAILED, WORN: the heap has stopped; what was
+ * acknowledged stays: free the handles, and open it again. FAULT comes too where the host makes no calls for 64 syncs. */
+uint32_t zelamiku_round(zelamiku_handle *heap, uint64_t *applied);
+
+/* How many sections of the lane are acknowledged since the heap was opened: no crash of the device loses them.
+ * CLOSED, WRONG_KIND, NONE_LEFT, BAD_LANE. CALLS_LEFT: make the calls that are left, and ask again. `sections` is 0 then. */
+uint32_t zelamiku_acknowledged(zelamiku_handle *heap, uint32_t lane, uint64_t *sections);
+
+/* Closes the heap, once each session that was handed out has ended: the last round. Make the calls that are left, and then free it.
+ * RUNNING: a session hasn't ended; the heap goes on. UNFINISHED, NO_MEMORY, FAULT, FAILED, WORN: the heap has stopped; what was
+ * acknowledged stays. CLOSED, WRONG_KIND, NONE_LEFT: nothing was done. */
+uint32_t zelamiku_close(zelamiku_handle *heap);
+
+/* Lets go of what is behind a handle. A heap stops, as if the process had: what was acknowledged stays. A session that is freed
+ * never ends, so that its heap isn't closed any more. The handle is as at the beginning. */
+void zelamiku_free(zelamiku_handle *handle);
+
+/* ---- a session: one thread's use of the heap ---- */
+
+/* Each call of a session also answers CLOSED, WRONG_KIND and WAITING; nothing was done then. */
+
+/* Takes the object's monitor, or one lock more of it. The first of a section needs room for a whole one.
+ * UNKNOWN_OBJECT, BEHIND, SECTION_FULL, TOO_MANY, TOO_DEEP, NO_FAT, WORN, HELD: what is held stays as it was. */
+uint32_t zelamiku_try_enter(zelamiku_handle *session, uint32_t object);
+
+/* Gives one lock back, and with the last one the monitor. With the last monitor the section ends.
+ * UNKNOWN_OBJECT, NOT_HELD: nothing was done. */
+uint32_t zelamiku_exit(zelamiku_handle *session, uint32_t object);
+
+/* Loads a field whose guard is held.
+ * UNKNOWN_FIELD, NOT_HELD: `value` is 0. */
+uint32_t zelamiku_load(zelamiku_handle *session, uint32_t field, uint64_t *value);
+
+/* Stores a field whose guard is held.
+ * UNKNOWN_FIELD, NOT_HELD, SECTION_FULL: nothing was stored. */
+uint32_t zelamiku_store(zelamiku_handle *session, uint32_t field, uint64_t value);
+
+/* Joins the wait set of a monitor that is held, and frees it, whatever the count of its locks. Resume it then.
+ * UNKNOWN_OBJECT, NOT_HELD, BEHIND, SECTION_FULL, NO_FAT, WORN: the monitor is held as before. */
+uint32_t zelamiku_begin_wait(zelamiku_handle *session, uint32_t object);
+
+/* Takes the monitor again, by as many locks as before, if the session was notified and the monitor is free.
+ * IN_SET: nobody has notified it. HELD: another session has the monitor. It waits on. WRONG_KIND: the session doesn't wait. */
+uint32_t zelamiku_try_resume(zelamiku_handle *session);
+
+/* Takes one session out of the wait set of a monitor that is held; `lane` gets its lane, or ZELAMIKU_NOBODY.
+ * UNKNOWN_OBJECT, NOT_HELD: `lane` is ZELAMIKU_NOBODY. */
+uint32_t zelamiku_notify(zelamiku_handle *session, uint32_t object, uint32_t *lane);
+
+/* Takes all sessions out of the wait set of a monitor that is held; `lanes` gets a bit for each, 1 << its lane.
+ * UNKNOWN_OBJECT, NOT_HELD: `lanes` is 0. */
+uint32_t zelamiku_notify_all(zelamiku_handle *session, uint32_t object, uint64_t *lanes);
+
+/* Looks at a monitor, which needn't be held.
+ * UNKNOWN_OBJECT: `sight` is that of a free monitor. */
+uint32_t zelamiku_look(zelamiku_handle *session, uint32_t object, zelamiku_sight *sight);
+
+/* How many sections of the session's lane the last round acknowledged. They are durable once the host has made that round's calls;
+ * zelamiku_acknowledged tells only of such. */
+uint32_t zelamiku_stable(zelamiku_handle *session, uint64_t *sections);
+
+/* Ends the session. Its handle has nothing behind it then. Exit all monitors first: else its heap can't be closed.
+ * WAITING, WRONG_KIND: the handle is as it was. */
+uint32_t zelamiku_end(zelamiku_handle *session);
+
+#ifdef __cplusplus
+}
+#endif
+#endif

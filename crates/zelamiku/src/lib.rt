@@ -1,0 +1,29 @@
+//! The heap for C, and for what calls as C does: a static library, with `zelamiku.h`.
+//!
+//! A host keeps a handle for a heap, and one for each session. A call takes what is behind a handle out of it, works on that, and puts
+//! it back; a handle with nothing behind it is answered `CLOSED`. No call takes two heaps, and none waits.
+#![tactic(auto)]
+
+mod handle;
+mod heap_calls;
+mod heap_exports;
+mod loose;
+mod session_calls;
+mod session_exports;
+mod slot;
+mod state;
+mod status;
+mod words;
+
+pub use heap_exports::{
+    zelamiku_acknowledged, zelamiku_call_done, zelamiku_close, zelamiku_format, zelamiku_free,
+    zelamiku_next_call, zelamiku_open, zelamiku_round, zelamiku_session,
+};
+pub use session_exports::{
+    zelamiku_begin_wait, zelamiku_end, zelamiku_exit, zelamiku_load, zelamiku_look,
+    zelamiku_notify, zelamiku_notify_all, zelamiku_stable, zelamiku_store, zelamiku_try_enter,
+    zelamiku_try_resume,
+};
+
+#[cfg(test)]
+mod tests;

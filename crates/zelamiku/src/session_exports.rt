@@ -1,0 +1,160 @@
+//! What C calls of a session. Each export is one call of `session_calls` on what is behind the handle.
+use crate::slot::{Slot, put, take};
+use crate::state::Open;
+use crate::words::Sight;
+use crate::{session_calls, status};
+use std::alloc::Global;
+
+/// Takes the monitor, or one lock more of it.
+#[unsafe(no_mangle)]
+pub extern "C" fn zelamiku_try_enter(alloc: Global, place: &mut Slot, object: u32) -> u32 {
+    let Some(mut state) = take(alloc, place) else {
+        return status::CLOSED;
+    };
+    let answer = session_calls::try_enter(&mut state, object);
+    put(place, state);
+    answer
+}
+
+/// Gives one lock back, and with the last one the monitor.
+#[unsafe(no_mangle)]
+pub extern "C" fn zelamiku_exit(alloc: Global, place: &mut Slot, object: u32) -> u32 {
+    let Some(mut state) = take(alloc, place) else {
+        return status::CLOSED;
+    };
+    let answer = session_calls::exit(&mut state, object);
+    put(place, state);
+    answer
+}
+
+/// Loads a field.
+#[unsafe(no_mangle)]
+pub extern "C" fn zelamiku_load(
+    alloc: Global,
+    place: &mut Slot,
+    field: u32,
+    value: &mut u64,
+) -> u32 {
+    *value = 0;
+    let Some(mut state) = take(alloc, place) else {
+        return status::CLOSED;
+    };
+    let (found, answer) = session_calls::load(&mut state, field);
+    *value = found;
+    put(place, state);
+    answer
+}
+
+/// Stores a field.
+#[unsafe(no_mangle)]
+pub extern "C" fn zelamiku_store(alloc: Global, place: &mut Slot, field: u32, value: u64) -> u32 {
+    let Some(mut state) = take(alloc, place) else {
+        return status::CLOSED;
+    };
+    let answer = session_calls::store(&mut state, field, value);
+    put(place, state);
+    answer
+}
+
+/// Joins the monitor's wait set and frees the monitor.
+#[unsafe(no_mangle)]
+pub extern "C" fn zelamiku_begin_wait(alloc: Global, place: &mut Slot, object: u32) -> u32 {
+    let Some(mut state) = take(alloc, place) else {
+        return status::CLOSED;
+    };
+    let answer = session_calls::begin_wait(&mut state, object);
+    put(place, state);
+    answer
+}
+
+/// Takes the monitor again, once the thread is out of the wait set.
+#[unsafe(no_mangle)]
+pub extern "C" fn zelamiku_try_resume(alloc: Global, place: &mut Slot) -> u32 {
+    let Some(mut state) = take(alloc, place) else {
+        return status::CLOSED;
+    };
+    let answer = session_calls::try_resume(&mut state);
+    put(place, state);
+    answer
+}
+
+/// Takes one lane out of the monitor's wait set.
+#[unsafe(no_mangle)]
+pub extern "C" fn zelamiku_notify(
+    alloc: Global,
+    place: &mut Slot,
+    object: u32,
+    lane: &mut u32,
+) -> u32 {
+    *lane = session_calls::NOBODY;
+    let Some(mut state) = take(alloc, place) else {
+        return status::CLOSED;
+    };
+    let (woken, answer) = session_calls::notify(&mut state, object);
+    *lane = woken;
+    put(place, state);
+    answer
+}
+
+/// Takes all lanes out of the monitor's wait set.
+#[unsafe(no_mangle)]
+pub extern "C" fn zelamiku_notify_all(
+    alloc: Global,
+    place: &mut Slot,
+    object: u32,
+    lanes: &mut u64,
+) -> u32 {
+    *lanes = 0;
+    let Some(mut state) = take(alloc, place) else {
+        return status::CLOSED;
+    };
+    let (woken, answer) = session_calls::notify_all(&mut state, object);
+    *lanes = woken;
+    put(place, state);
+    answer
+}
+
+/// What the monitor's words say.
+#[unsafe(no_mangle)]
+pub extern "C" fn zelamiku_look(
+    alloc: Global,
+    place: &mut Slot,
+    object: u32,
+    sight: &mut Sight,
+) -> u32 {
+    *sight = session_calls::nobodys(0);
+    let Some(mut state) = take(alloc, place) else {
+        return status::CLOSED;
+    };
+    let (found, answer) = session_calls::look(&mut state, object);
+    *sight = found;
+    put(place, state);
+    answer
+}
+
+/// How many sections of the session's lane the last round acknowledged.
+#[unsafe(no_mangle)]
+pub extern "C" fn zelamiku_stable(alloc: Global, place: &mut Slot, sections: &mut u64) -> u32 {
+    *sections = 0;
+    let Some(mut state) = take(alloc, place) else {
+        return status::CLOSED;
+    };
+    let (found, answer) = session_calls::stable(&mut state);
+    *sections = found;
+    put(place, state);
+    answer
+}
+
+/// Ends the session. Its handle has nothing behind it then.
+#[unsafe(no_mangle)]
+pub extern "C" fn zelamiku_end(alloc: Global, place: &mut Slot) -> u32 {
+    let Some(mut state) = take(alloc, place) else {
+        return status::CLOSED;
+    };
+    let answer = session_calls::end(&mut state);
+    if let Open::Nothing = state.open {
+        return answer;
+    }
+    put(place, state);
+    answer
+}

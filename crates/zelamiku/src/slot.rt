@@ -1,0 +1,93 @@
+//! A place for a handle.
+ghost use Rattle.std.specs.Prelude.{◌≡◌, ◌↔◌, None, Some, Option, IsTrue, IsSome, MatchOption};
+
+use crate::handle::Handle;
+use crate::loose::Loose;
+use crate::state::{Inner, Open};
+use crate::status;
+use std::alloc::Global;
+
+/// A handle, as C keeps it: the pointer, and whether something is behind it.
+#[repr(C)]
+pub struct Slot {
+    handle: Handle,
+    is_open: bool,
+    ghost agrees: { IsTrue is_open ↔ IsSome handle.state },
+}
+
+impl Slot {
+    /// Nothing is behind it.
+    pub fn none(alloc: Global) -> Slot
+        ensures { result.handle.state ≡ None }
+    {
+        Slot {
+            handle: Handle::none(alloc),
+            is_open: false,
+        }
+    }
+
+    /// This is behind it.
+    pub fn of(state: Box<Inner>) -> Slot
+        ensures { result.handle.state ≡ Some state.value }
+    {
+        Slot {
+            handle: Handle::of(Loose::of(state)),
+            is_open: true,
+        }
+    }
+
+    /// Whether something is behind it.
+    pub fn is_open(&self) -> bool
+        ensures { IsTrue result ↔ IsSome self.now.handle.state }
+    {
+        self.is_open
+    }
+
+    /// What is behind it, if something is.
+    pub fn into_state(self) -> Option<Box<Inner>>
+        ensures { MatchOption result (self.handle.state ≡ None) (λ b. self.handle.state ≡ Some b.value) }
+    {
+        let Slot { handle, is_open } = self;
+        if is_open {
+            return Some(handle.into_loose().into_box());
+        }
+        drop(handle);
+        None
+    }
+}
+
+impl Drop for Slot {
+    fn drop(self) {
+        drop(self.into_state());
+    }
+}
+
+/// What is behind the handle, out of its place.
+pub fn take(alloc: Global, place: &mut Slot) -> Option<Box<Inner>>
+    ensures { MatchOption result (place.old.handle.state ≡ None) (λ b. place.old.handle.state ≡ Some b.value) }
+{
+    std::mem::replace(place, Slot::none(alloc)).into_state()
+}
+
+// What one thread may hand to another.
+fn sendable<T: Send>(value: T) -> T
+    ensures { result ≡ value }
+{
+    value
+}
+
+/// Puts it behind the handle.
+pub fn put(place: &mut Slot, state: Box<Inner>)
+    ensures { place.new.handle.state ≡ Some state.value }
+{
+    *place = Slot::of(sendable(state));
+}
+
+/// Puts something new behind the handle.
+pub fn put_new(alloc: Global, place: &mut Slot, open: Open) -> u32 {
+    let Ok(state) = Box::new(alloc, Inner { open }) else {
+        return status::NO_MEMORY;
+    };
+    put(place, state);
+    status::OK
+}

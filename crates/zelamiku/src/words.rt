@@ -1,0 +1,51 @@
+//! What crosses to C besides handles and numbers.
+
+/// A field as C declares it: the object that has it, the object whose monitor guards it, and the value with which it begins.
+#[repr(C)]
+#[derive(Clone, Copy)]
+pub struct Field {
+    pub owner: u32,
+    pub guard: u32,
+    pub first: u64,
+}
+
+/// What a heap has, and what recovery found.
+#[repr(C)]
+#[derive(Clone, Copy)]
+pub struct Found {
+    /// The bytes of its image.
+    pub size: u64,
+    pub objects: u32,
+    pub fields: u32,
+    pub lanes: u32,
+    /// The records that a lane's area holds.
+    pub capacity: u32,
+    /// The sections that recovery dropped: none of them was acknowledged.
+    pub dropped: u64,
+    /// The fields that took an old value back.
+    pub undone: u64,
+}
+
+/// A call of the device.
+#[repr(C)]
+#[derive(Clone, Copy)]
+pub struct Call {
+    /// 0 none, 1 a write, 2 a sync.
+    pub kind: u32,
+    /// Where the bytes are written, from 0.
+    pub at: u64,
+    /// How many bytes are written.
+    pub size: u64,
+}
+
+/// What a look found of a monitor.
+#[repr(C)]
+#[derive(Clone, Copy)]
+pub struct Sight {
+    /// The lane of its owner, or 64 where nobody has it.
+    pub owner: u32,
+    /// By how many locks it is held.
+    pub locks: u32,
+    /// How often it has become free.
+    pub number: u64,
+}
