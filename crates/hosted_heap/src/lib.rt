@@ -25,6 +25,3 @@ pub use returning::Returning;
 pub use rows::declare;
 pub use seated::HostedSession;
 pub use waiting::HostedWaiting;
-
-#[cfg(test)]
-mod tests;

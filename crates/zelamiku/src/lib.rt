@@ -24,6 +24,3 @@ pub use session_exports::{
     zelamiku_notify, zelamiku_notify_all, zelamiku_stable, zelamiku_store, zelamiku_try_enter,
     zelamiku_try_resume,
 };
-
-#[cfg(test)]
-mod tests;
