@@ -1,4 +1,6 @@
 //! What C calls of a heap. Each export is one call of `heap_calls` on what is behind the handle.
+ghost use Rattle.std.specs.Prelude.{◌≡◌, None, IsSome};
+
 use crate::slot::{Slot, put, put_new, take};
 use crate::state::Open;
 use crate::words::{Call, Field, Found};
@@ -15,7 +17,10 @@ pub extern "C" fn zelamiku_format(
     lanes: u32,
     capacity: u32,
     size: &mut u64,
-) -> u32 {
+) -> u32
+    ensures open { IsSome place.old.handle.state → result ≡ 2 }
+    ensures kept { IsSome place.old.handle.state → place.new.handle.state ≡ place.old.handle.state }
+{
     *size = 0;
     if place.is_open() {
         return status::OPEN;
@@ -36,7 +41,10 @@ pub extern "C" fn zelamiku_open(
     place: &mut Slot,
     image: &[u8],
     found: &mut Found,
-) -> u32 {
+) -> u32
+    ensures open { IsSome place.old.handle.state → result ≡ 2 }
+    ensures kept { IsSome place.old.handle.state → place.new.handle.state ≡ place.old.handle.state }
+{
     *found = heap_calls::nothing_found();
     if place.is_open() {
         return status::OPEN;
@@ -52,7 +60,10 @@ pub extern "C" fn zelamiku_open(
 
 /// Hands out a session.
 #[unsafe(no_mangle)]
-pub extern "C" fn zelamiku_session(alloc: Global, place: &mut Slot, session: &mut Slot) -> u32 {
+pub extern "C" fn zelamiku_session(alloc: Global, place: &mut Slot, session: &mut Slot) -> u32
+    ensures open { IsSome session.old.handle.state → result ≡ 2 }
+    ensures closed { session.old.handle.state ≡ None → place.old.handle.state ≡ None → result ≡ 1 }
+{
     if session.is_open() {
         return status::OPEN;
     }
@@ -74,7 +85,9 @@ pub extern "C" fn zelamiku_next_call(
     place: &mut Slot,
     call: &mut Call,
     bytes: &mut [u8],
-) -> u32 {
+) -> u32
+    ensures closed { place.old.handle.state ≡ None → (result ≡ 1) × (place.new.handle.state ≡ None) }
+{
     *call = heap_calls::no_call();
     let Some(mut state) = take(alloc, place) else {
         return status::CLOSED;
@@ -87,7 +100,9 @@ pub extern "C" fn zelamiku_next_call(
 
 /// The host has made that call.
 #[unsafe(no_mangle)]
-pub extern "C" fn zelamiku_call_done(alloc: Global, place: &mut Slot) -> u32 {
+pub extern "C" fn zelamiku_call_done(alloc: Global, place: &mut Slot) -> u32
+    ensures closed { place.old.handle.state ≡ None → (result ≡ 1) × (place.new.handle.state ≡ None) }
+{
     let Some(mut state) = take(alloc, place) else {
         return status::CLOSED;
     };
@@ -98,7 +113,9 @@ pub extern "C" fn zelamiku_call_done(alloc: Global, place: &mut Slot) -> u32 {
 
 /// A round of the helper.
 #[unsafe(no_mangle)]
-pub extern "C" fn zelamiku_round(alloc: Global, place: &mut Slot, applied: &mut u64) -> u32 {
+pub extern "C" fn zelamiku_round(alloc: Global, place: &mut Slot, applied: &mut u64) -> u32
+    ensures closed { place.old.handle.state ≡ None → (result ≡ 1) × (place.new.handle.state ≡ None) }
+{
     *applied = 0;
     let Some(mut state) = take(alloc, place) else {
         return status::CLOSED;
@@ -116,7 +133,9 @@ pub extern "C" fn zelamiku_acknowledged(
     place: &mut Slot,
     lane: u32,
     sections: &mut u64,
-) -> u32 {
+) -> u32
+    ensures closed { place.old.handle.state ≡ None → (result ≡ 1) × (place.new.handle.state ≡ None) }
+{
     *sections = 0;
     let Some(mut state) = take(alloc, place) else {
         return status::CLOSED;
@@ -129,7 +148,9 @@ pub extern "C" fn zelamiku_acknowledged(
 
 /// Closes a heap.
 #[unsafe(no_mangle)]
-pub extern "C" fn zelamiku_close(alloc: Global, place: &mut Slot) -> u32 {
+pub extern "C" fn zelamiku_close(alloc: Global, place: &mut Slot) -> u32
+    ensures closed { place.old.handle.state ≡ None → (result ≡ 1) × (place.new.handle.state ≡ None) }
+{
     let Some(mut state) = take(alloc, place) else {
         return status::CLOSED;
     };
@@ -140,6 +161,8 @@ pub extern "C" fn zelamiku_close(alloc: Global, place: &mut Slot) -> u32 {
 
 /// Lets go of what is behind a handle. The handle has nothing behind it then.
 #[unsafe(no_mangle)]
-pub extern "C" fn zelamiku_free(alloc: Global, place: &mut Slot) {
+pub extern "C" fn zelamiku_free(alloc: Global, place: &mut Slot)
+    ensures { place.new.handle.state ≡ None }
+{
     *place = Slot::none(alloc);
 }

@@ -1,4 +1,6 @@
 //! What C calls of a session. Each export is one call of `session_calls` on what is behind the handle.
+ghost use Rattle.std.specs.Prelude.{◌≡◌, None};
+
 use crate::slot::{Slot, put, take};
 use crate::state::Open;
 use crate::words::Sight;
@@ -7,7 +9,9 @@ use std::alloc::Global;
 
 /// Takes the monitor, or one lock more of it.
 #[unsafe(no_mangle)]
-pub extern "C" fn zelamiku_try_enter(alloc: Global, place: &mut Slot, object: u32) -> u32 {
+pub extern "C" fn zelamiku_try_enter(alloc: Global, place: &mut Slot, object: u32) -> u32
+    ensures closed { place.old.handle.state ≡ None → (result ≡ 1) × (place.new.handle.state ≡ None) }
+{
     let Some(mut state) = take(alloc, place) else {
         return status::CLOSED;
     };
@@ -18,7 +22,9 @@ pub extern "C" fn zelamiku_try_enter(alloc: Global, place: &mut Slot, object: u3
 
 /// Gives one lock back, and with the last one the monitor.
 #[unsafe(no_mangle)]
-pub extern "C" fn zelamiku_exit(alloc: Global, place: &mut Slot, object: u32) -> u32 {
+pub extern "C" fn zelamiku_exit(alloc: Global, place: &mut Slot, object: u32) -> u32
+    ensures closed { place.old.handle.state ≡ None → (result ≡ 1) × (place.new.handle.state ≡ None) }
+{
     let Some(mut state) = take(alloc, place) else {
         return status::CLOSED;
     };
@@ -29,12 +35,9 @@ pub extern "C" fn zelamiku_exit(alloc: Global, place: &mut Slot, object: u32) ->
 
 /// Loads a field.
 #[unsafe(no_mangle)]
-pub extern "C" fn zelamiku_load(
-    alloc: Global,
-    place: &mut Slot,
-    field: u32,
-    value: &mut u64,
-) -> u32 {
+pub extern "C" fn zelamiku_load(alloc: Global, place: &mut Slot, field: u32, value: &mut u64) -> u32
+    ensures closed { place.old.handle.state ≡ None → (result ≡ 1) × (place.new.handle.state ≡ None) }
+{
     *value = 0;
     let Some(mut state) = take(alloc, place) else {
         return status::CLOSED;
@@ -47,7 +50,9 @@ pub extern "C" fn zelamiku_load(
 
 /// Stores a field.
 #[unsafe(no_mangle)]
-pub extern "C" fn zelamiku_store(alloc: Global, place: &mut Slot, field: u32, value: u64) -> u32 {
+pub extern "C" fn zelamiku_store(alloc: Global, place: &mut Slot, field: u32, value: u64) -> u32
+    ensures closed { place.old.handle.state ≡ None → (result ≡ 1) × (place.new.handle.state ≡ None) }
+{
     let Some(mut state) = take(alloc, place) else {
         return status::CLOSED;
     };
@@ -58,7 +63,9 @@ pub extern "C" fn zelamiku_store(alloc: Global, place: &mut Slot, field: u32, va
 
 /// Joins the monitor's wait set and frees the monitor.
 #[unsafe(no_mangle)]
-pub extern "C" fn zelamiku_begin_wait(alloc: Global, place: &mut Slot, object: u32) -> u32 {
+pub extern "C" fn zelamiku_begin_wait(alloc: Global, place: &mut Slot, object: u32) -> u32
+    ensures closed { place.old.handle.state ≡ None → (result ≡ 1) × (place.new.handle.state ≡ None) }
+{
     let Some(mut state) = take(alloc, place) else {
         return status::CLOSED;
     };
@@ -69,7 +76,9 @@ pub extern "C" fn zelamiku_begin_wait(alloc: Global, place: &mut Slot, object: u
 
 /// Takes the monitor again, once the thread is out of the wait set.
 #[unsafe(no_mangle)]
-pub extern "C" fn zelamiku_try_resume(alloc: Global, place: &mut Slot) -> u32 {
+pub extern "C" fn zelamiku_try_resume(alloc: Global, place: &mut Slot) -> u32
+    ensures closed { place.old.handle.state ≡ None → (result ≡ 1) × (place.new.handle.state ≡ None) }
+{
     let Some(mut state) = take(alloc, place) else {
         return status::CLOSED;
     };
@@ -85,7 +94,9 @@ pub extern "C" fn zelamiku_notify(
     place: &mut Slot,
     object: u32,
     lane: &mut u32,
-) -> u32 {
+) -> u32
+    ensures closed { place.old.handle.state ≡ None → (result ≡ 1) × (place.new.handle.state ≡ None) }
+{
     *lane = session_calls::NOBODY;
     let Some(mut state) = take(alloc, place) else {
         return status::CLOSED;
@@ -103,7 +114,9 @@ pub extern "C" fn zelamiku_notify_all(
     place: &mut Slot,
     object: u32,
     lanes: &mut u64,
-) -> u32 {
+) -> u32
+    ensures closed { place.old.handle.state ≡ None → (result ≡ 1) × (place.new.handle.state ≡ None) }
+{
     *lanes = 0;
     let Some(mut state) = take(alloc, place) else {
         return status::CLOSED;
@@ -121,7 +134,9 @@ pub extern "C" fn zelamiku_look(
     place: &mut Slot,
     object: u32,
     sight: &mut Sight,
-) -> u32 {
+) -> u32
+    ensures closed { place.old.handle.state ≡ None → (result ≡ 1) × (place.new.handle.state ≡ None) }
+{
     *sight = session_calls::nobodys(0);
     let Some(mut state) = take(alloc, place) else {
         return status::CLOSED;
@@ -134,7 +149,9 @@ pub extern "C" fn zelamiku_look(
 
 /// How many sections of the session's lane the last round acknowledged.
 #[unsafe(no_mangle)]
-pub extern "C" fn zelamiku_stable(alloc: Global, place: &mut Slot, sections: &mut u64) -> u32 {
+pub extern "C" fn zelamiku_stable(alloc: Global, place: &mut Slot, sections: &mut u64) -> u32
+    ensures closed { place.old.handle.state ≡ None → (result ≡ 1) × (place.new.handle.state ≡ None) }
+{
     *sections = 0;
     let Some(mut state) = take(alloc, place) else {
         return status::CLOSED;
@@ -147,7 +164,9 @@ pub extern "C" fn zelamiku_stable(alloc: Global, place: &mut Slot, sections: &mu
 
 /// Ends the session. Its handle has nothing behind it then.
 #[unsafe(no_mangle)]
-pub extern "C" fn zelamiku_end(alloc: Global, place: &mut Slot) -> u32 {
+pub extern "C" fn zelamiku_end(alloc: Global, place: &mut Slot) -> u32
+    ensures closed { place.old.handle.state ≡ None → (result ≡ 1) × (place.new.handle.state ≡ None) }
+{
     let Some(mut state) = take(alloc, place) else {
         return status::CLOSED;
     };

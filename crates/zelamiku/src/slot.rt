@@ -64,7 +64,8 @@ impl Drop for Slot {
 
 /// What is behind the handle, out of its place.
 pub fn take(alloc: Global, place: &mut Slot) -> Option<Box<Inner>>
-    ensures { MatchOption result (place.old.handle.state ≡ None) (λ b. place.old.handle.state ≡ Some b.value) }
+    ensures empty { place.new.handle.state ≡ None }
+    ensures taken { MatchOption result (place.old.handle.state ≡ None) (λ b. place.old.handle.state ≡ Some b.value) }
 {
     std::mem::replace(place, Slot::none(alloc)).into_state()
 }
