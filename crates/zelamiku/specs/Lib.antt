@@ -1,2 +1,4 @@
+-- What is behind a handle.
+pub mod Behind
 -- What a handle owns.
 pub mod Own
