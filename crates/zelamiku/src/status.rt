@@ -1,5 +1,6 @@
 //! Answers as C's numbers, which `zelamiku.h` names.
 ghost use Rattle.std.specs.Prelude.{◌≡◌, ◌≢◌, ◌<◌, IfErr, MatchResult};
+ghost use Rattle.zelamiku.specs.HeapStatuses.{acknowledged_status, close_status, host_status, image_status, recover_status, schema_status, store_status};
 
 use guards::SchemaError;
 use heap_model::Lane;
@@ -99,7 +100,9 @@ pub fn of_still(still: Still) -> u32 {
 }
 
 /// The status of a round's refusal.
-pub fn of_store(refusal: StoreError) -> u32 {
+pub fn of_store(refusal: StoreError) -> u32
+    ensures { result ≡ store_status refusal }
+{
     match refusal {
         StoreError::Failed => FAILED,
         StoreError::Worn => WORN,
@@ -110,7 +113,9 @@ pub fn of_store(refusal: StoreError) -> u32 {
 }
 
 /// The status of a heap that isn't made or opened.
-pub fn of_host(refusal: HostError) -> u32 {
+pub fn of_host(refusal: HostError) -> u32
+    ensures { result ≡ host_status refusal }
+{
     match refusal {
         HostError::NoMemory => NO_MEMORY,
         HostError::Schema(refusal) => of_schema(refusal),
@@ -119,7 +124,9 @@ pub fn of_host(refusal: HostError) -> u32 {
     }
 }
 
-fn of_schema(refusal: SchemaError) -> u32 {
+fn of_schema(refusal: SchemaError) -> u32
+    ensures { result ≡ schema_status refusal }
+{
     match refusal {
         SchemaError::NoMemory => NO_MEMORY,
         SchemaError::UnknownObject => UNKNOWN_OBJECT,
@@ -128,7 +135,9 @@ fn of_schema(refusal: SchemaError) -> u32 {
     }
 }
 
-fn of_image(refusal: ImageError) -> u32 {
+fn of_image(refusal: ImageError) -> u32
+    ensures { result ≡ image_status refusal }
+{
     match refusal {
         ImageError::NoMemory => NO_MEMORY,
         ImageError::Fault => FAULT,
@@ -141,7 +150,9 @@ fn of_image(refusal: ImageError) -> u32 {
     }
 }
 
-fn of_recover(refusal: RecoverError) -> u32 {
+fn of_recover(refusal: RecoverError) -> u32
+    ensures { result ≡ recover_status refusal }
+{
     match refusal {
         RecoverError::NoMemory => NO_MEMORY,
         RecoverError::Fault => FAULT,
@@ -157,7 +168,9 @@ fn of_recover(refusal: RecoverError) -> u32 {
 }
 
 /// The status of a lane of which nothing is told.
-pub fn of_acknowledged(refusal: AcknowledgedError) -> u32 {
+pub fn of_acknowledged(refusal: AcknowledgedError) -> u32
+    ensures { result ≡ acknowledged_status refusal }
+{
     match refusal {
         AcknowledgedError::BadLane => BAD_LANE,
         AcknowledgedError::CallsLeft => CALLS_LEFT,
@@ -165,7 +178,9 @@ pub fn of_acknowledged(refusal: AcknowledgedError) -> u32 {
 }
 
 /// The status of a heap that has stopped in place of being closed.
-pub fn of_close(refusal: CloseRefusal) -> u32 {
+pub fn of_close(refusal: CloseRefusal) -> u32
+    ensures { result ≡ close_status refusal }
+{
     match refusal {
         CloseRefusal::NoMemory => NO_MEMORY,
         CloseRefusal::Close(CloseError::Missing { .. }) => BAD_LANE,
