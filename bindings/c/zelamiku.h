@@ -155,7 +155,8 @@ uint32_t zelamiku_call_done(zelamiku_handle *heap);
 /* Takes what the sessions have done, makes it durable as far as each section that it depends on has ended, and leaves the calls of
  * that to zelamiku_next_call. `applied` gets how many records were taken. With none there is no call.
  * CLOSED, WRONG_KIND, NONE_LEFT (the heap is closed): nothing was done. FAULT, FAILED, WORN: the heap has stopped; what was
- * acknowledged stays: free the handles, and open it again. FAULT comes too where the host makes no calls for 64 syncs. */
+ * acknowledged stays: free the handles, and open it again. CALLS_LEFT: nothing was done; make the calls that are left, and
+ * ask again. */
 uint32_t zelamiku_round(zelamiku_handle *heap, uint64_t *applied);
 
 /* How many sections of the lane are acknowledged since the heap was opened: no crash of the device loses them.
@@ -164,8 +165,8 @@ uint32_t zelamiku_round(zelamiku_handle *heap, uint64_t *applied);
 uint32_t zelamiku_acknowledged(zelamiku_handle *heap, uint32_t lane, uint64_t *sections);
 
 /* Closes the heap, once each session that was handed out has ended: the last round. Make the calls that are left, and then free it.
- * RUNNING: a session hasn't ended; the heap goes on. UNFINISHED, NO_MEMORY, FAULT, FAILED, WORN: the heap has stopped; what was
- * acknowledged stays. CLOSED, WRONG_KIND, NONE_LEFT: nothing was done. */
+ * RUNNING: a session hasn't ended; the heap goes on. CALLS_LEFT: the heap goes on; make the calls that are left, and ask again.
+ * UNFINISHED, NO_MEMORY, FAULT, FAILED, WORN: the heap has stopped; what was acknowledged stays. CLOSED, WRONG_KIND, NONE_LEFT: nothing was done. */
 uint32_t zelamiku_close(zelamiku_handle *heap);
 
 /* Lets go of what is behind a handle. A heap stops, as if the process had: what was acknowledged stays. A session that is freed

@@ -233,12 +233,12 @@ impl Heap {
         Ok(sections)
     }
 
-    /// Closes the heap, once each session that was handed out has ended. After `RUNNING` it comes back; after another refusal it has
-    /// stopped, and what was acknowledged stays.
+    /// Closes the heap, once each session that was handed out has ended. After `RUNNING`, and after `CALLS_LEFT`, it comes
+    /// back; after another refusal it has stopped, and what was acknowledged stays.
     pub fn close(mut self) -> Result<Closed, (Option<Heap>, Refusal)> {
         match answer(unsafe { raw::zelamiku_close(&mut self.handle.0) }) {
             Ok(()) => Ok(Closed { handle: self.handle }),
-            Err(Refusal::RUNNING) => Err((Some(self), Refusal::RUNNING)),
+            Err(refusal @ (Refusal::RUNNING | Refusal::CALLS_LEFT)) => Err((Some(self), refusal)),
             Err(refusal) => Err((None, refusal)),
         }
     }

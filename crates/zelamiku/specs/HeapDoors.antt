@@ -1,33 +1,41 @@
 -- What C's calls of a heap do to what is behind its handle, and what they answer, by cases on what is there (this project's own).
-use Rattle.std.specs.Prelude.{ℕ, ◌≡◌, ◌<◌, ◌≤◌, ◌↔◌, ◌⊎◌, List, [], ◌∷◌, ◌++◌, true, Option, Some, None, Result, Ok, Err, IfErr, IfOk, IsErrOf, OnErr, OnOk, drop, length, map, take}
-use Rattle.block_disk.specs.Device.{HasCause}
+use Rattle.std.specs.Prelude.{ℕ, ◌≡◌, ◌<◌, ◌≤◌, ◌↔◌, List, [], ◌∷◌, ◌++◌, ◌+◌, true, false, Option, Some, None, Result, Ok, Err, IfOk, IsErrOf, OnOk, drop, length, map, take}
+use Rattle.block_disk.specs.Device.{HasFailed}
 use Rattle.deferred_disk.specs.Deferred.{stop_of}
-use Rattle.deferred_disk.specs.Host.{Host}
+use Rattle.deferred_disk.specs.Host.{Fetches, HasLooked, Host}
 use Rattle.deferred_disk.specs.declared.call.DeviceCall.{DeviceCall}
 use Rattle.deferred_disk.specs.declared.call.DeviceCall.TheVariants.{Write, Sync}
+use Rattle.deferred_disk.specs.declared.disk.TheConstants.{SYNCS}
 use Rattle.hosted_heap.specs.Closing.{IsNotClosed}
 use Rattle.hosted_heap.specs.Hosting.{Hosting, IsClosedWith, SameHeap, hosted_device}
 use Rattle.hosted_heap.specs.Opening.{IsFound, IsMade, RefusesMaking, RefusesOpening}
+use Rattle.hosted_heap.specs.Rounds.{IfStopped}
 use Rattle.hosted_heap.specs.Sessions.{Seated}
 use Rattle.hosted_heap.specs.declared.closing.Closed.{Closed}
 use Rattle.hosted_heap.specs.declared.closing.NotClosed.{NotClosed}
-use Rattle.hosted_heap.specs.declared.closing.NotClosed.TheVariants.{Running, Stopped}
+use Rattle.hosted_heap.specs.declared.closing.NotClosed.TheVariants as unclosed
 use Rattle.hosted_heap.specs.declared.error.AcknowledgedError.{AcknowledgedError}
 use Rattle.hosted_heap.specs.declared.error.AcknowledgedError.TheVariants.{BadLane, CallsLeft}
 use Rattle.hosted_heap.specs.declared.error.HostError.{HostError}
+use Rattle.hosted_heap.specs.declared.error.RoundError.{RoundError}
+use Rattle.hosted_heap.specs.declared.error.RoundError.TheVariants as rounds
+use Rattle.hosted_heap.specs.declared.lane_end.LaneEnd.{LaneEnd}
+use Rattle.hosted_heap.specs.declared.room.TheConstants.{ROUND_SYNCS}
 use Rattle.image.specs.Layout.{size_of}
 use Rattle.image.specs.declared.guard_row.GuardRow.{GuardRow}
 use Rattle.image.specs.declared.layout.Layout.{Layout}
 use Rattle.recover.specs.declared.report.Report.{Report}
+use Rattle.rtrb.specs.Ring.{known_items}
+use Rattle.session.specs.Sessions.{view_of}
 use Rattle.steps.specs.Views.{plan}
 use Rattle.store_past.specs.Past.{Past}
-use Rattle.store_past.specs.declared.error.StoreError.{StoreError}
 use Rattle.store_past.specs.declared.error.StoreError.TheVariants.{Fault}
 use Rattle.trim_helper.specs.Parts.{HasServed, IsServing}
+use Rattle.trim_helper.specs.Rings.{known_of, waiting_in}
 use Rattle.trim_helper.specs.Settled.{IsStop, IsWhy}
 use Rattle.zelamiku.specs.Own.{Held}
 use Rattle.zelamiku.specs.Behind.{Answers, behind, nothing_behind, heap_behind, closed_behind, session_behind}
-use Rattle.zelamiku.specs.HeapStatuses.{acknowledged_status, host_status, not_closed_status, store_status}
+use Rattle.zelamiku.specs.HeapStatuses.{acknowledged_status, host_status, not_closed_status, round_status}
 use Rattle.zelamiku.specs.declared.state.Open.{Open}
 use Rattle.zelamiku.specs.declared.state.Open.TheVariants as kind
 use Rattle.zelamiku.specs.declared.status.TheConstants.{OK, OPEN, WRONG_KIND, NO_MEMORY, NONE_LEFT, BAD_HEADER}
@@ -88,15 +96,26 @@ pub data OpensAt (bytes : List ℕ) (found : Found) (after : Held) (status : ℕ
   IsOpen : (x : Hosting) → IsOpened bytes x found → after ≡ heap_behind x → status ≡ OK → OpensAt bytes found after status
   NotOpen : RefusesOpen bytes status → after ≡ nothing_behind → OpensAt bytes found after status
 
--- a session of the heap's words, or none is left, or no memory
-pub data HandsOne (x : Hosting) (handed : Held) (status : ℕ) : Type 0 where
-  IsHanded : (s : Seated) → s.home ≡ x.home → handed ≡ session_behind s → status ≡ OK → HandsOne x handed status
-  NoneIsLeft : status ≡ NONE_LEFT → HandsOne x handed status
-  NoRoomForOne : status ≡ NO_MEMORY → HandsOne x handed status
+-- the session of the next lane, which was told nothing, and the heap that handed it out
+pub record IsNext (x y : Hosting) (s : Seated) : Type 0 where
+  pub lane : x.unused ≡ (view_of s.session).lane.0 ∷ y.unused
+  pub untold : (view_of s.session).events ≡ []
+  pub home_is : s.home ≡ x.home
+  pub end : LaneEnd
+  pub out : y.out ≡ end ∷ x.out
+  pub home : y.home ≡ x.home
+  pub helper : y.helper ≡ x.helper
+  pub calls : y.calls ≡ x.calls
+
+-- a heap hands out that session, or none is left, or there is no memory
+pub data HandsOne (x : Hosting) (handed after : Held) (status : ℕ) : Type 0 where
+  IsHanded : (y : Hosting) (s : Seated) → IsNext x y s → handed ≡ session_behind s → after ≡ heap_behind y → status ≡ OK → HandsOne x handed after status
+  NoneIsLeft : x.unused ≡ [] → after ≡ heap_behind x → status ≡ NONE_LEFT → HandsOne x handed after status
+  NoRoomForOne : after ≡ heap_behind x → status ≡ NO_MEMORY → HandsOne x handed after status
 
 -- `zelamiku_session`, of what is behind the heap's handle
 abbrev pub HandsOutAt : (handed : Held) → Open → (after : Held) → (status : ℕ) → Type 0
-HandsOutAt handed (kind.Heap x) after status = HandsOne x handed status × (after ≡ heap_behind x)
+HandsOutAt handed (kind.Heap x) after status = HandsOne x handed after status
 HandsOutAt handed (kind.Closed x) after status = (status ≡ NONE_LEFT) × (after ≡ closed_behind x)
 HandsOutAt handed other after status = (status ≡ WRONG_KIND) × (after ≡ behind other)
 
@@ -122,11 +141,6 @@ filled_of None buffer = buffer
 filled_of (Some (Write at content)) buffer = take (length buffer) content.items ++ drop (length content.items) buffer
 filled_of (Some Sync) buffer = buffer
 
--- calls are fetched only where none is left
-pub record Fetches (x y : Host) : Type 0 where
-  pub made : y.made ≡ x.made
-  pub left : ¬ (x.left ≡ []) → y ≡ x
-
 -- the first of the calls that are left is told, and its bytes are in the buffer
 pub record TellsFirst (left : List DeviceCall) (call : Call) (buffer filled : List ℕ) (status : ℕ) : Type 0 where
   pub told : call ≡ told_of (first_of left)
@@ -151,31 +165,40 @@ MakesCallAt (kind.Closed x) after status = (y : Closed) × (y.disk ≡ x.disk) �
 MakesCallAt other after status = (status ≡ WRONG_KIND) × (after ≡ behind other)
 
 -- a round of the heap, which answers this
-pub record HasRound (x y : Hosting) (answer : Result ℕ StoreError) : Type 0 where
+pub record HasRound (x y : Hosting) (answer : Result ℕ RoundError) : Type 0 where
+  pub calls_left : IsErrOf answer rounds.CallsLeft ↔ (SYNCS < length (known_items y.calls.ring) + ROUND_SYNCS)
+  pub nothing : IsErrOf answer rounds.CallsLeft → SameHeap x y
   pub served : (p : Past) → IsServing hosted_device x.helper (plan x.home) p → IfOk answer (λ n. HasServed hosted_device x.helper y.helper (plan x.home) p n)
-  pub stopped : (p : Past) → IsServing hosted_device x.helper (plan x.home) p → OnErr answer ((n : ℕ) × HasServed hosted_device x.helper y.helper (plan x.home) p n)
+  pub emptied : OnOk answer ((l : ℕ) → l < length y.helper.rings → waiting_in y.helper.waiting l ≡ None → known_of y.helper.rings l ≡ [])
   pub settled : OnOk answer (y.helper.is_settled ≡ true)
-  pub stop : IfErr answer IsStop
-  pub why : IfErr answer (λ e. IsWhy x.helper.store.known y.helper.store.known e)
-  pub cause : HasCause (hosted_device x.helper.store.disk).failures (hosted_device y.helper.store.disk).failures Fault answer
+  pub quiet : x.helper.is_settled ≡ true → IfOk answer (λ n. n ≡ 0 → hosted_device y.helper.store.disk ≡ hosted_device x.helper.store.disk)
+  pub stop : IfStopped answer IsStop
+  pub why : IfStopped answer (λ e. IsWhy x.helper.store.known y.helper.store.known e)
+  pub stopped : (p : Past) → IsServing hosted_device x.helper (plan x.home) p → IfStopped answer (λ e. (n : ℕ) × HasServed hosted_device x.helper y.helper (plan x.home) p n)
+  pub unsettled : IfStopped answer (λ e. y.helper.is_settled ≡ false)
+  pub cause : IfStopped answer (λ e. e ≡ Fault → HasFailed (hosted_device x.helper.store.disk).failures (hosted_device y.helper.store.disk).failures)
+  pub later : (hosted_device x.helper.store.disk).failures ≤ (hosted_device y.helper.store.disk).failures
   pub layout : y.helper.store.known.layout ≡ x.helper.store.known.layout
   pub home : y.home ≡ x.home
-  pub calls : y.calls ≡ x.calls
+  pub unused : y.unused ≡ x.unused
+  pub out : y.out ≡ x.out
+  pub calls : HasLooked x.calls y.calls
 
 -- `zelamiku_round`
 abbrev pub RoundsAt : (applied : ℕ) → Open → (after : Held) → (status : ℕ) → Type 0
-RoundsAt applied (kind.Heap x) after status = (y : Hosting) × (answer : Result ℕ StoreError) × HasRound x y answer × IsSeen store_status answer applied status × (after ≡ heap_behind y)
+RoundsAt applied (kind.Heap x) after status = (y : Hosting) × (answer : Result ℕ RoundError) × HasRound x y answer × IsSeen round_status answer applied status × (after ≡ heap_behind y)
 RoundsAt applied (kind.Closed x) after status = (status ≡ NONE_LEFT) × (after ≡ closed_behind x)
 RoundsAt applied other after status = (status ≡ WRONG_KIND) × (after ≡ behind other)
 
--- how many sections of the lane are acknowledged, where no call is left, or why that isn't told
+-- how many sections of the lane are acknowledged, where each call was made, or why that isn't told
 pub record HasAcknowledged (x y : Hosting) (lane : ℕ) (answer : Result ℕ AcknowledgedError) : Type 0 where
   pub acknowledged : (p : Past) → IsServing hosted_device x.helper (plan x.home) p → IfOk answer (λ n. n ≡ p.cut lane)
-  pub none_left : OnOk answer (y.calls.left ≡ [])
-  pub bad_lane : (answer ≡ Err BadLane) ↔ ((255 < lane) ⊎ (x.helper.store.known.layout.lanes ≤ lane))
-  pub calls_left : IsErrOf answer CallsLeft → ¬ (y.calls.left ≡ [])
+  pub all_made : OnOk answer ((y.calls.left ≡ []) × (known_items y.calls.ring ≡ []))
+  pub bad_lane : (answer ≡ Err BadLane) ↔ (x.helper.store.known.layout.lanes ≤ lane)
+  pub calls_left : IsErrOf answer CallsLeft ↔ (lane < x.helper.store.known.layout.lanes) × (¬ (y.calls.left ≡ []))
+  pub fetches : lane < x.helper.store.known.layout.lanes → Fetches x.calls y.calls
+  pub untouched : x.helper.store.known.layout.lanes ≤ lane → y.calls ≡ x.calls
   pub heap : SameHeap x y
-  pub fetches : Fetches x.calls y.calls
 
 -- `zelamiku_acknowledged`
 abbrev pub AcknowledgesAt : (lane sections : ℕ) → Open → (after : Held) → (status : ℕ) → Type 0
@@ -184,14 +207,16 @@ AcknowledgesAt lane sections (kind.Heap x) after status =
 AcknowledgesAt lane sections (kind.Closed x) after status = (status ≡ NONE_LEFT) × (after ≡ closed_behind x)
 AcknowledgesAt lane sections other after status = (status ≡ WRONG_KIND) × (after ≡ behind other)
 
--- what is behind the handle of a heap that wasn't closed
+-- what is behind the handle of a heap that wasn't closed: the heap, which goes on, or what is left of it
 abbrev pub left_behind : NotClosed → Held
-left_behind (Running y) = heap_behind y
-left_behind (Stopped y e) = closed_behind y
+left_behind (unclosed.Running y) = heap_behind y
+left_behind (unclosed.CallsLeft y) = heap_behind y
+left_behind (unclosed.InUse y) = heap_behind y
+left_behind (unclosed.Stopped y e) = closed_behind y
 
 -- the heap is closed, as one history of what its sessions were told; or it isn't, for this reason
 pub data ClosesOne (x : Hosting) (after : Held) (status : ℕ) : Type 0 where
-  IsNowClosed : (y : Closed) → IsClosedWith x.home x.helper.store.known.layout (hosted_device y.disk) → y.calls ≡ x.calls → after ≡ closed_behind y → status ≡ OK → ClosesOne x after status
+  IsNowClosed : (y : Closed) → IsClosedWith x.home x.helper.store.known.layout (hosted_device y.disk) → HasLooked x.calls y.calls → after ≡ closed_behind y → status ≡ OK → ClosesOne x after status
   IsNotYetClosed : (why : NotClosed) → IsNotClosed x why → after ≡ left_behind why → status ≡ not_closed_status why → ClosesOne x after status
 
 -- `zelamiku_close`

@@ -3,13 +3,15 @@ use Rattle.std.specs.Prelude.{ℕ}
 use Rattle.guards.specs.declared.error.SchemaError.{SchemaError}
 use Rattle.guards.specs.declared.error.SchemaError.TheVariants as schema
 use Rattle.hosted_heap.specs.declared.closing.NotClosed.{NotClosed}
-use Rattle.hosted_heap.specs.declared.closing.NotClosed.TheVariants.{Running, Stopped}
+use Rattle.hosted_heap.specs.declared.closing.NotClosed.TheVariants as unclosed
 use Rattle.hosted_heap.specs.declared.error.AcknowledgedError.{AcknowledgedError}
 use Rattle.hosted_heap.specs.declared.error.AcknowledgedError.TheVariants as acknowledged
 use Rattle.hosted_heap.specs.declared.error.CloseRefusal.{CloseRefusal}
 use Rattle.hosted_heap.specs.declared.error.CloseRefusal.TheVariants as refusal
 use Rattle.hosted_heap.specs.declared.error.HostError.{HostError}
 use Rattle.hosted_heap.specs.declared.error.HostError.TheVariants as host
+use Rattle.hosted_heap.specs.declared.error.RoundError.{RoundError}
+use Rattle.hosted_heap.specs.declared.error.RoundError.TheVariants as rounds
 use Rattle.image.specs.declared.error.ImageError.{ImageError}
 use Rattle.image.specs.declared.error.ImageError.TheVariants as image
 use Rattle.recover.specs.declared.error.RecoverError.{RecoverError}
@@ -58,7 +60,7 @@ host_status (host.Schema e) = schema_status e
 host_status (host.Image e) = image_status e
 host_status (host.Recover e) = recover_status e
 
--- why a round stops; no round is refused by the others
+-- why a round has stopped; none is stopped by the others
 abbrev pub store_status : StoreError → ℕ
 store_status store.Failed = FAILED
 store_status store.Worn = WORN
@@ -70,6 +72,11 @@ store_status store.NotNext = FAILED
 store_status store.TooLong = FAILED
 store_status store.LogFull = FAILED
 store_status store.Unwritten = FAILED
+
+-- why a round isn't made, or has stopped
+abbrev pub round_status : RoundError → ℕ
+round_status rounds.CallsLeft = CALLS_LEFT
+round_status (rounds.Store e) = store_status e
 
 -- why it isn't told how many sections of a lane are acknowledged
 abbrev pub acknowledged_status : AcknowledgedError → ℕ
@@ -87,5 +94,7 @@ close_status (refusal.Close close.Fault) = FAULT
 
 -- why a heap isn't closed
 abbrev pub not_closed_status : NotClosed → ℕ
-not_closed_status (Running y) = RUNNING
-not_closed_status (Stopped y e) = close_status e
+not_closed_status (unclosed.Running y) = RUNNING
+not_closed_status (unclosed.CallsLeft y) = CALLS_LEFT
+not_closed_status (unclosed.InUse y) = RUNNING
+not_closed_status (unclosed.Stopped y e) = close_status e

@@ -2,7 +2,7 @@
 ghost use Rattle.std.specs.Prelude.{◌≡◌, ◌≢◌, Some, None, IfErr, IfOk, if◌then◌else◌};
 ghost use Rattle.std.specs.Option.{option_copied};
 ghost use Rattle.hosted_heap.specs.Opening.{IsMade};
-ghost use Rattle.zelamiku.specs.Behind.{Answers, behind};
+ghost use Rattle.zelamiku.specs.Behind.{Answers, behind, heap_behind};
 ghost use Rattle.zelamiku.specs.HeapDoors.{AcknowledgesAt, ClosesAt, HandsOne, HandsOutAt, HasAcknowledged, IsOpened, MakesCallAt, RefusesFormat, RefusesOpen, RoundsAt, TellsNextAt, filled_of, found_of, nothing_found, rows_of, told_of};
 ghost use Rattle.zelamiku.specs.declared.status.TheConstants.{NONE_LEFT, OK};
 
@@ -97,9 +97,8 @@ pub fn session(alloc: Global, state: &mut Inner, place: &mut Slot) -> u32
 
 // The box comes first: a session that found no room would never come back, and its heap couldn't be closed.
 fn hand_out(alloc: Global, heap: &mut HostedHeap, place: &mut Slot) -> u32
-    ensures handed { HandsOne heap.old place.new.handle.state result }
+    ensures handed { HandsOne heap.old place.new.handle.state (heap_behind heap.new) result }
     ensures refused { result ≢ OK → place.new.handle.state ≡ place.old.handle.state }
-    ensures same { heap.new ≡ heap.old }
 {
     let Ok(mut room) = Box::new(
         alloc,
@@ -199,7 +198,7 @@ pub fn round(state: &mut Inner) -> (u64, u32)
     match &mut state.open {
         Open::Heap(heap) => match heap.round() {
             Ok(applied) => (applied, status::OK),
-            Err(refusal) => (0, status::of_store(refusal)),
+            Err(refusal) => (0, status::of_round(refusal)),
         },
         Open::Closed(_) => (0, status::NONE_LEFT),
         _ => (0, status::WRONG_KIND),
@@ -224,10 +223,10 @@ pub fn acknowledged(state: &mut Inner, lane: u32) -> (u64, u32)
 fn acknowledged_of(heap: &mut HostedHeap, lane: u32) -> Result<u64, AcknowledgedError>
     ensures { HasAcknowledged heap.old heap.new lane result }
 {
-    match u8::try_from(lane) {
-        Ok(lane) => heap.acknowledged(Lane(lane)),
-        Err(_) => Err(AcknowledgedError::BadLane),
+    if lane >= u32::from(heap.layout().lanes) {
+        return Err(AcknowledgedError::BadLane);
     }
+    heap.acknowledged(Lane(lane as u8))
 }
 
 /// Closes the heap.
@@ -247,6 +246,8 @@ fn closed_of(content: Open) -> (Open, u32)
         Open::Heap(heap) => match heap.close() {
             Ok(closed) => (Open::Closed(closed), status::OK),
             Err(NotClosed::Running(heap)) => (Open::Heap(heap), status::RUNNING),
+            Err(NotClosed::CallsLeft(heap)) => (Open::Heap(heap), status::CALLS_LEFT),
+            Err(NotClosed::InUse(heap)) => (Open::Heap(heap), status::RUNNING),
             Err(NotClosed::Stopped(closed, refusal)) => {
                 (Open::Closed(closed), status::of_close(refusal))
             }

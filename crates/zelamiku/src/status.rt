@@ -1,10 +1,10 @@
 //! Answers as C's numbers, which `zelamiku.h` names.
 ghost use Rattle.std.specs.Prelude.{◌≡◌, ◌≢◌, ◌<◌, IfErr, MatchResult};
-ghost use Rattle.zelamiku.specs.HeapStatuses.{acknowledged_status, close_status, host_status, image_status, recover_status, schema_status, store_status};
+ghost use Rattle.zelamiku.specs.HeapStatuses.{acknowledged_status, close_status, host_status, image_status, recover_status, round_status, schema_status, store_status};
 
 use guards::SchemaError;
 use heap_model::Lane;
-use hosted_heap::{AcknowledgedError, CloseRefusal, HostError};
+use hosted_heap::{AcknowledgedError, CloseRefusal, HostError, RoundError};
 use image::ImageError;
 use recover::RecoverError;
 use session::{SessionError, Still};
@@ -100,7 +100,16 @@ pub fn of_still(still: Still) -> u32 {
 }
 
 /// The status of a round's refusal.
-pub fn of_store(refusal: StoreError) -> u32
+pub fn of_round(refusal: RoundError) -> u32
+    ensures { result ≡ round_status refusal }
+{
+    match refusal {
+        RoundError::CallsLeft => CALLS_LEFT,
+        RoundError::Store(refusal) => of_store(refusal),
+    }
+}
+
+fn of_store(refusal: StoreError) -> u32
     ensures { result ≡ store_status refusal }
 {
     match refusal {
