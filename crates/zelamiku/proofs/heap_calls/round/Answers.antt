@@ -7,7 +7,25 @@ returns-in-Ok-clause-told c =
     rw c.in-Heap.is (
       c.round.new.self,
       c.round.result,
-      record { served = told.ok; stopped = told.err; settled = told.settled; stop = told.stop; why = told.why; cause = told.cause; layout = told.layout; home = told.home; calls = told.calls },
+      record {
+        calls_left = told.calls_left;
+        nothing = told.nothing;
+        served = told.ok;
+        emptied = told.emptied;
+        settled = told.settled;
+        quiet = told.quiet;
+        stop = told.stop;
+        why = told.why;
+        stopped = told.err;
+        unsettled = told.unsettled;
+        cause = told.cause;
+        later = told.later;
+        layout = told.layout;
+        home = told.home;
+        unused = told.sessions.0;
+        out = told.sessions.1;
+        calls = told.calls;
+      },
       rw c.in-Ok.is (refl, refl),
       refl,
     )
@@ -18,7 +36,25 @@ returns-in-Err-clause-told c =
     rw c.in-Heap.is (
       c.round.new.self,
       c.round.result,
-      record { served = told.ok; stopped = told.err; settled = told.settled; stop = told.stop; why = told.why; cause = told.cause; layout = told.layout; home = told.home; calls = told.calls },
-      rw c.in-Err.is c.of_store.ensures,
+      record {
+        calls_left = told.calls_left;
+        nothing = told.nothing;
+        served = told.ok;
+        emptied = told.emptied;
+        settled = told.settled;
+        quiet = told.quiet;
+        stop = told.stop;
+        why = told.why;
+        stopped = told.err;
+        unsettled = told.unsettled;
+        cause = told.cause;
+        later = told.later;
+        layout = told.layout;
+        home = told.home;
+        unused = told.sessions.0;
+        out = told.sessions.1;
+        calls = told.calls;
+      },
+      rw c.in-Err.is c.of_round.ensures,
       refl,
     )
