@@ -22,11 +22,8 @@ use Rattle.session.specs.Grips.{grip_in}
 use Rattle.session.specs.Sits.{Holds, FindsNone}
 use Rattle.session.specs.Logs.{held_count}
 use Rattle.session.specs.Calls.{WaitsOn, AreLooks, OnlyLooks, SeesAnother, SeesChange, EntersFirst}
-use Rattle.session.proofs.Lengthening.{after_both, same_view, logs_after}
+use Rattle.session.proofs.Lengthening.{after_both, logs_after}
 use Rattle.session.proofs.Holding.{finds_none, free_found}
-
-pub none_yet : (v : View) (o : ObjectId) → OnlyLooks v v o
-none_yet v o = ([], tt, same_view v)
 
 looks_append : (o : ObjectId) (a b : List Event) → AreLooks o a → AreLooks o b → AreLooks o (a ++ b)
 looks_append o [] b x y = y

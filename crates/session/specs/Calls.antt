@@ -1,5 +1,5 @@
 -- What the calls of a session answer: `v` is the view before a call, and `w` the view after it.
-use Rattle.std.specs.Prelude.{ℕ, ◌≡◌, ◌≢◌, ◌+◌, ◌<◌, ◌≤◌, ◌⊎◌, List, [], ◌∷◌, ◌++◌, Some, None, Result, Ok, Err}
+use Rattle.std.specs.Prelude.{ℕ, ◌≡◌, ◌≢◌, ◌+◌, ◌<◌, ◌≤◌, ◌⊎◌, List, [], ◌∷◌, ◌++◌, Some, None, Result, Ok, Err, IfOk}
 use Rattle.heap_model.specs.declared.limits.TheConstants.{SECTION_RECORDS}
 use Rattle.heap_model.specs.declared.ids.ObjectId.{ObjectId}
 use Rattle.heap_model.specs.declared.ids.FieldId.{FieldId}
@@ -113,9 +113,17 @@ IsWaitWorn v h = (v.plan.last ≤ h.number + 1) ⊎ ((held_count v ≡ 1) × (LA
 abbrev pub LeavesRoom : (capacity : ℕ) → View → View → Type 0
 LeavesRoom c v w = (1 < held_count v → ¬ IsFull v 2) × (held_count v ≡ 1 → Fits c (SECTION_RECORDS + 1) v w)
 
+-- the monitor, which the thread holds, is fat
+abbrev pub IsFat : View → ObjectId → Type 0
+IsFat v o = (i : ℕ) × (slot_in o.0 v.fats ≡ Some i)
+
 -- the monitor is fat, or a slot was left at the last look
 abbrev pub MayBeFat : View → ObjectId → Type 0
-MayBeFat w o = ((i : ℕ) × (slot_in o.0 w.fats ≡ Some i)) ⊎ (w.slots < FAT_SLOTS)
+MayBeFat w o = IsFat w o ⊎ (w.slots < FAT_SLOTS)
+
+-- the monitor is fat, or no slot was left at the last look
+abbrev pub IsFatOrFull : View → ObjectId → Type 0
+IsFatOrFull w o = IsFat w o ⊎ (FAT_SLOTS ≤ w.slots)
 
 -- why a wait on a monitor that is held is refused
 abbrev pub RefusesWait : (capacity : ℕ) → View → View → ObjectId → Hold → SessionError → Type 0
@@ -154,6 +162,17 @@ OnlyLooks v w o = (looks : List Event) × AreLooks o looks × Lengthens v w look
 -- an enter of a monitor that isn't held
 abbrev pub EntersFirst : (capacity : ℕ) → View → View → ObjectId → Result (Unit {0}) SessionError → Type 0
 EntersFirst c v w o x = (held_count v ≡ 0 → Begins c v w o x) × (0 < held_count v → GoesOn v w o x)
+
+-- An enter of a monitor that isn't held, which waits where another thread was seen to have it: looks, and then the enter that
+-- is answered. A monitor that was taken after looks is left fat, where a slot is left.
+pub record EntersWaiting (capacity : ℕ) (v w : View) (o : ObjectId) (x : Result (Unit {0}) SessionError) : Type 0 where
+  -- the looks, the newest first, and the view after them
+  pub looks : List Event
+  pub later : View
+  pub only : AreLooks o looks
+  pub told : Lengthens v later looks
+  pub enters : EntersFirst capacity later w o x
+  pub fat : looks ≢ [] → IfOk x (λ done. IsFatOrFull w o)
 
 -- an answer other than that the monitor is held
 abbrev pub IsSettled : Result (Unit {0}) SessionError → Type 0
