@@ -14,7 +14,7 @@ impl Waiting {
     ghost use Rattle.heap_model.specs.declared.event.Sight.TheVariants.{Found, StillInSet};
     ghost use Rattle.session.specs.declared.error.Still.TheVariants as still;
     ghost use Rattle.steps.specs.Views.{plan, Lengthens};
-    ghost use Rattle.session.specs.Calls.{IsQuiet, Resumes, SeesAnother, SeesLast, WaitsOn};
+    ghost use Rattle.session.specs.Calls.{IsFatSeen, IsQuiet, Resumes, SeesAnother, SeesLast, WaitsOn};
     ghost use Rattle.session.specs.Steps.{MissesResume};
     ghost use Rattle.session.specs.Sessions.{SameRingResumed, SameRingStill, IsSessionOf, IsWaitingOf, view_of, view_waiting, awaited};
 
@@ -68,6 +68,7 @@ impl Waiting {
         ensures told { MatchResult result
             (λ n. (n < (plan shared.now).last) × Lengthens (view_waiting self.old) (view_waiting self.new) (event.Look (awaited self.old) (Found None 0 n) ∷ []))
             (λ x. SeesAnother (view_waiting self.old) (view_waiting self.new) (awaited self.old) x ⊎ SeesLast (view_waiting self.old) (view_waiting self.new) (awaited self.old) x) }
+        ensures fat { IfErr result IsFatSeen }
     {
         let found = steps::look(shared, &mut self.seat, self.object);
         let Some(free) = free_at(&found) else {
