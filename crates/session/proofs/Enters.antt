@@ -1,8 +1,7 @@
 -- The cases of an enter.
-use Rattle.std.proofs.Common.{ℕ, ◌+◌, ◌<◌, ◌≤◌, inl, inr, [], Result, Ok, Err, IfErr, sym, ap, ◌∙◌, arith}
+use Rattle.std.proofs.Common.{ℕ, ◌+◌, ◌<◌, ◌≤◌, inl, inr, [], Result, Ok, Err, MatchResult, sym, ap, ◌∙◌, arith}
 use Rattle.heap_model.specs.declared.ids.ObjectId.{ObjectId}
 use Rattle.steps.specs.Views.{View}
-use Rattle.steps.specs.declared.grip.Grip.{Grip}
 use Rattle.steps.specs.declared.grip.Seen.{Seen}
 use Rattle.steps.specs.declared.grip.Seen.TheVariants as seen
 use Rattle.session.specs.declared.error.SessionError.{SessionError}
@@ -13,22 +12,20 @@ use Rattle.session.specs.Logs.{held_count, place}
 use Rattle.session.specs.Calls.{IsNews, IsQuiet, IsFull, HasRing, Tries, Begins, GoesOn}
 use Rattle.session.proofs.Lengthening.{after_quiet, thin_back}
 
--- where the ring has room, whatever the reason
-pub has_ring : (k r : ℕ) (e : SessionError) → k ≤ r → HasRing k r e
-has_ring k r Behind le = tt
-has_ring k r UnknownObject le = le
-has_ring k r UnknownField le = le
-has_ring k r NotHeld le = le
-has_ring k r SectionFull le = le
-has_ring k r TooMany le = le
-has_ring k r TooDeep le = le
-has_ring k r NoFat le = le
-has_ring k r Worn le = le
-has_ring k r (Held x) le = le
-
-pub ring_for : (k r : ℕ) (x : Result Grip SessionError) → k ≤ r → IfErr x (HasRing k r)
-ring_for k r (Ok g) le = tt
-ring_for k r (Err e) le = has_ring k r e le
+-- where the ring has room, and the reason is what a look or a try showed
+pub ring_tried : (c k f r : ℕ) (v w : View) (o : ObjectId) (x : Result (Unit {0}) SessionError) → k ≤ f → MatchResult x (λ _. f ≤ r + 1) (λ _. f ≤ r) → Tries v w o x →
+    MatchResult x (λ _. k ≤ r + 1) (HasRing c k r w)
+ring_tried c k f r v w o (Ok done) le same t = omega arith
+ring_tried c k f r v w o (Err Worn) le same t = omega arith
+ring_tried c k f r v w o (Err (Held x)) le same t = omega arith
+ring_tried c k f r v w o (Err UnknownObject) le same t = absurd t
+ring_tried c k f r v w o (Err UnknownField) le same t = absurd t
+ring_tried c k f r v w o (Err NotHeld) le same t = absurd t
+ring_tried c k f r v w o (Err Behind) le same t = absurd t
+ring_tried c k f r v w o (Err SectionFull) le same t = absurd t
+ring_tried c k f r v w o (Err TooMany) le same t = absurd t
+ring_tried c k f r v w o (Err TooDeep) le same t = absurd t
+ring_tried c k f r v w o (Err NoFat) le same t = absurd t
 
 -- inside a section, with room
 pub went_on : (v w : View) (o : ObjectId) (x : Result (Unit {0}) SessionError) → (IsFull v 2 → ⊥) → held_count v < MOST_HELD → Tries v w o x → GoesOn v w o x

@@ -1,5 +1,5 @@
 -- What sessions know of a wait.
-use Rattle.std.proofs.Common.{ℕ, ◌≡◌, ◌+◌, ◌<◌, ◌≤◌, inl, inr, [], ◌∷◌, Option, Some, None, Result, Ok, Err, MatchResult, refl, sym, ap, ◌∙◌, subst, arith}
+use Rattle.std.proofs.Common.{ℕ, ◌≡◌, ◌+◌, ◌<◌, ◌≤◌, inl, inr, [], ◌∷◌, Option, Some, None, Result, Ok, Err, IfErr, MatchResult, refl, sym, ap, ◌∙◌, subst, arith}
 use Rattle.heap_model.specs.declared.limits.TheConstants.{SECTION_RECORDS}
 use Rattle.rtrb.specs.Ring.{known_free}
 use Rattle.heap_model.specs.declared.ids.ObjectId.{ObjectId}
@@ -13,11 +13,12 @@ use Rattle.session.specs.declared.error.SessionError.{SessionError}
 use Rattle.session.specs.declared.error.SessionError.TheVariants.{UnknownObject, UnknownField, NotHeld, Behind, SectionFull, TooMany, TooDeep, NoFat, Worn, Held}
 use Rattle.steps.specs.Views.{Lengthens}
 use Rattle.session.specs.Logs.{held_count}
-use Rattle.session.specs.Calls.{IsFull, IsWaitWorn, LeavesRoom, RefusesWait, BeginsWait}
+use Rattle.session.specs.Calls.{IsFull, HasRing, IsWaitWorn, LeavesRoom, RefusesWait, BeginsWait}
 use Rattle.session.specs.Steps.{RefusesFat}
 use Rattle.session.specs.Sessions.{SameRing, SameRingStill, view_of}
 use Rattle.session.specs.Keeping.{SameNumbers, HasRoomToWait, MayWait}
 use Rattle.session.proofs.Holding.{held_length}
+use Rattle.session.proofs.Fattening.{grip_fat}
 use Rattle.session.proofs.Lengthening.{after_quiet, held_stays, records_stay, place_stays, thin_back}
 use Rattle.session.proofs.Sitting.{not_full_by}
 
@@ -68,12 +69,27 @@ wait_answer s t u o h (Err TooMany) c f k same room no_ = absurd no_
 wait_answer s t u o h (Err TooDeep) c f k same room no_ = absurd no_
 wait_answer s t u o h (Err (Held x)) c f k same room no_ = absurd no_
 
+-- where the ring has room for a wait that is refused
+pub ring_for : (c k r : ℕ) (v w : View) (o : ObjectId) (h : Hold) (P : Grip → Type 0) (x : Result Grip SessionError) → k ≤ r → MatchResult x P (RefusesFat v w o h) → IfErr x (HasRing c k r w)
+ring_for c k r v w o h P (Ok g) le why = tt
+ring_for c k r v w o h P (Err NoFat) le why = le
+ring_for c k r v w o h P (Err Worn) le why = le
+ring_for c k r v w o h P (Err UnknownObject) le why = absurd why
+ring_for c k r v w o h P (Err UnknownField) le why = absurd why
+ring_for c k r v w o h P (Err NotHeld) le why = absurd why
+ring_for c k r v w o h P (Err Behind) le why = absurd why
+ring_for c k r v w o h P (Err SectionFull) le why = absurd why
+ring_for c k r v w o h P (Err TooMany) le why = absurd why
+ring_for c k r v w o h P (Err TooDeep) le why = absurd why
+ring_for c k r v w o h P (Err (Held x)) le why = absurd why
+
 -- a wait is begun
 pub begun : (s t : Session) (w : View) (o : ObjectId) (h : Hold) (g : Grip) (c : ℕ) → Lengthens (view_of s) (view_of t) [] → t.capacity ≡ c → MayWait t o h g → Lengthens (view_of t) w (Wait g.object g.number ∷ []) → BeginsWait c (view_of s) w o h
 begun s t w o h g c f same may told = (
   leaves_room (view_of s) t w c f told.trimmed same may.room,
   λ worn. may.fresh (worn_again _ _ h f worn),
   subst (λ z. Lengthens (view_of s) w (Wait z h.number ∷ [])) may.found.object (subst (λ n. Lengthens (view_of s) w (Wait g.object n ∷ [])) may.number (after_quiet _ _ _ _ f told)),
+  (let known = grip_fat (view_of t) o g may.fat.0 may.found.object may.found.keeps may.fat.1 in (known.0, told.fats o.0 known.0 known.1)),
 )
 
 -- the same ring twice

@@ -39,10 +39,10 @@ Fits c k v w = place v + k ≤ w.trimmed + c
 abbrev pub IsFull : View → (more : ℕ) → Type 0
 IsFull v k = SECTION_RECORDS < section_records v + held_count v + k
 
--- so many slots of the ring are known to be free, unless the reason is that the helper is behind
-abbrev pub HasRing : (needed free : ℕ) → SessionError → Type 0
-HasRing k r Behind = Unit {0}
-HasRing k r _ = k ≤ r
+-- so many slots of the ring are known to be free; where the reason is that the helper is behind, they aren't, or the lane lacks the room
+abbrev pub HasRing : (capacity needed free : ℕ) → View → SessionError → Type 0
+HasRing c k r w Behind = (r < k) ⊎ (w.trimmed + c < place w + k)
+HasRing c k r w _ = k ≤ r
 
 -- the monitor isn't fat, as far as the view knows
 abbrev pub IsThin : View → ObjectId → Type 0
@@ -143,9 +143,9 @@ RefusesWait c v w o h NoFat = LeavesRoom c v w × IsThin v o × (FAT_SLOTS ≤ w
 RefusesWait c v w o h Worn = LeavesRoom c v w × MayBeFat w o × IsWaitWorn v h × IsQuiet v w
 RefusesWait c v w o h _ = ⊥
 
--- a wait that is begun
+-- a wait that is begun, on a monitor that is fat from then on
 abbrev pub BeginsWait : (capacity : ℕ) → View → View → ObjectId → Hold → Type 0
-BeginsWait c v w o h = LeavesRoom c v w × (¬ IsWaitWorn v h) × Lengthens v w (Wait o h.number ∷ [])
+BeginsWait c v w o h = LeavesRoom c v w × (¬ IsWaitWorn v h) × Lengthens v w (Wait o h.number ∷ []) × IsFat w o
 
 -- a resume that takes the monitor again
 abbrev pub Resumes : View → View → ObjectId → Type 0
