@@ -11,15 +11,15 @@ use Rattle.session.specs.declared.session.Session.{Session}
 use Rattle.session.specs.declared.waiting.Waiting.{Waiting}
 use Rattle.session.specs.declared.error.SessionError.{SessionError}
 use Rattle.session.specs.declared.error.SessionError.TheVariants.{UnknownObject, UnknownField, NotHeld, Behind, SectionFull, TooMany, TooDeep, NoFat, Worn, Held}
-use Rattle.steps.specs.Views.{Lengthens, slot_in}
+use Rattle.steps.specs.Views.{Lengthens}
 use Rattle.session.specs.Logs.{held_count}
-use Rattle.session.specs.Calls.{IsFull, IsThin, HasRing, IsWaitWorn, LeavesRoom, RefusesWait, BeginsWait}
+use Rattle.session.specs.Calls.{IsFull, HasRing, IsWaitWorn, LeavesRoom, RefusesWait, BeginsWait}
 use Rattle.session.specs.Steps.{RefusesFat}
 use Rattle.session.specs.Sessions.{SameRing, SameRingStill, view_of}
 use Rattle.session.specs.Keeping.{SameNumbers, HasRoomToWait, MayWait}
 use Rattle.session.proofs.Holding.{held_length}
 use Rattle.session.proofs.Fattening.{grip_fat}
-use Rattle.session.proofs.Lengthening.{after_quiet, held_stays, records_stay, place_stays}
+use Rattle.session.proofs.Lengthening.{after_quiet, held_stays, records_stay, place_stays, thin_back}
 use Rattle.session.proofs.Sitting.{not_full_by}
 
 -- the room stays where nothing was pushed
@@ -50,19 +50,11 @@ leaves_room v t u c f rises same room = (
       let e = place_stays v (view_of t) f in omega arith),
 )
 
--- what isn't known to be fat wasn't before
-thin_back : (v w : View) (o : ObjectId) → Lengthens v w [] → IsThin w o → IsThin v o
-thin_back v w o told thin = by_slot (slot_in o.0 v.fats) refl
-  where
-    by_slot : (x : Option ℕ) → slot_in o.0 v.fats ≡ x → slot_in o.0 v.fats ≡ None
-    by_slot None e = e
-    by_slot (Some i) e = absurd (let clash : ◌≡◌ {A = Option ℕ} (Some i) None = sym (told.fats o.0 i e) ∙ thin in cc)
-
 -- the answer of both tests
 pub wait_answer : (s t u : Session) (o : ObjectId) (h : Hold) (x : Result Grip SessionError) (c : ℕ) → Lengthens (view_of s) (view_of t) [] → Lengthens (view_of t) (view_of u) [] → t.capacity ≡ c → HasRoomToWait t →
     MatchResult x (MayWait u o h) (RefusesFat (view_of t) (view_of u) o h) → MatchResult x (MayWait u o h) (RefusesWait c (view_of s) (view_of u) o h)
 wait_answer s t u o h (Ok g) c f k same room may = may
-wait_answer s t u o h (Err NoFat) c f k same room no_ = (leaves_room (view_of s) t (view_of u) c f k.trimmed same room, thin_back _ _ o f no_.0, no_.1, after_quiet _ _ _ [] f k)
+wait_answer s t u o h (Err NoFat) c f k same room no_ = (leaves_room (view_of s) t (view_of u) c f k.trimmed same room, thin_back _ _ [] o f no_.0, no_.1, after_quiet _ _ _ [] f k)
 wait_answer s t u o h (Err Worn) c f k same room worn = (leaves_room (view_of s) t (view_of u) c f k.trimmed same room, worn.0, fresh_back worn.1, after_quiet _ _ _ [] f k)
   where
     fresh_back : IsWaitWorn (view_of t) h → IsWaitWorn (view_of s) h
