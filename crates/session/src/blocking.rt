@@ -41,7 +41,7 @@ impl Session {
         ensures first { object.0 < (plan shared.now).objects → hold (view_of self.old) object.0 ≡ None
             → EntersWaiting (capacity_of self.old) (view_of self.old) (view_of self.new) object result }
         ensures ring_room { object.0 < (plan shared.now).objects → hold (view_of self.old) object.0 ≡ None → held_count (view_of self.old) ≡ 0
-            → MatchResult result (λ _. SECTION_RECORDS ≤ free_of self.new + 1) (HasRing SECTION_RECORDS (free_of self.new)) }
+            → MatchResult result (λ _. SECTION_RECORDS ≤ free_of self.new + 1) (HasRing (capacity_of self.old) SECTION_RECORDS (free_of self.new) (view_of self.new)) }
     {
         if u64::from(object.0) >= steps::objects(shared) {
             seldom();
@@ -68,7 +68,7 @@ impl Session {
         ensures ring { SameRing self.old self.new }
         ensures settled { IsSettled result }
         ensures first { EntersWaiting (capacity_of self.old) (view_of self.old) (view_of self.new) object result }
-        ensures ring_room { held_count (view_of self.old) ≡ 0 → MatchResult result (λ _. SECTION_RECORDS ≤ free_of self.new + 1) (HasRing SECTION_RECORDS (free_of self.new)) }
+        ensures ring_room { held_count (view_of self.old) ≡ 0 → MatchResult result (λ _. SECTION_RECORDS ≤ free_of self.new + 1) (HasRing (capacity_of self.old) SECTION_RECORDS (free_of self.new) (view_of self.new)) }
     {
         match self.enter_first(shared, object) {
             Ok(()) => Ok(()),
@@ -94,7 +94,7 @@ impl Session {
         ensures settled { IsSettled result }
         ensures first { (u : View) × OnlyLooks (view_of self.old) u object × EntersFirst (capacity_of self.old) u (view_of self.new) object result }
         ensures fat { IfOk result (λ done. IsFatOrFull (view_of self.new) object) }
-        ensures ring_room { held_count (view_of self.old) ≡ 0 → MatchResult result (λ _. SECTION_RECORDS ≤ free_of self.new + 1) (HasRing SECTION_RECORDS (free_of self.new)) }
+        ensures ring_room { held_count (view_of self.old) ≡ 0 → MatchResult result (λ _. SECTION_RECORDS ≤ free_of self.new + 1) (HasRing (capacity_of self.old) SECTION_RECORDS (free_of self.new) (view_of self.new)) }
     {
         for _ in rt.forever() {
             match self.enter_first(shared, object) {
@@ -147,7 +147,7 @@ impl Session {
         ensures held { (h : Hold) → object.0 < (plan shared.now).objects → hold (view_of self) object.0 ≡ Some h
             → MatchResult result (λ session. Waits (capacity_of self) (view_of self) (view_of session) object h) (λ e. RefusesWait (capacity_of self) (view_of self) (view_of e.0) object h e.1) }
         ensures ring_room { (h : Hold) → object.0 < (plan shared.now).objects → hold (view_of self) object.0 ≡ Some h → held_count (view_of self) ≡ 1
-            → IfErr result (λ e. HasRing (SECTION_RECORDS + 1) (free_of e.0) e.1) }
+            → IfErr result (λ e. HasRing (capacity_of self) (SECTION_RECORDS + 1) (free_of e.0) (view_of e.0) e.1) }
     {
         match self.begin_wait(shared, object) {
             Ok(waiting) => Ok(waiting.resume(rt, shared)),

@@ -1,6 +1,7 @@
-use Rattle.std.proofs.Common.{Err, ap, ◌∙◌, subst}
-use Rattle.session.specs.Calls.{EntersFirst}
-use Rattle.session.specs.Sessions.{view_of}
+use Rattle.std.proofs.Common.{◌+◌, ◌≤◌, Err, MatchResult, ap, ◌∙◌, subst}
+use Rattle.heap_model.specs.declared.limits.TheConstants.{SECTION_RECORDS}
+use Rattle.session.specs.Calls.{HasRing, EntersFirst}
+use Rattle.session.specs.Sessions.{view_of, free_of}
 use Rattle.session.proofs.Looks.{held_looks, more_looks, looks_hold, looks_count, finds_none_by}
 use Rattle.session.proofs.Fattening.{at_once, waited}
 use Rattle.session.proofs.session.Session.enter_anew.Goals as goal
@@ -36,4 +37,6 @@ returns-in-Err-Held-clause-ring_room g c none =
     let is = c.in-Err-Held.is ∙ ap Err c.in-Err-Held.field-0-is in
     let looks = held_looks s.capacity (view_of s) (view_of t) c.args.object c.in-Err-Held.field-0-0
     (subst (λ x. EntersFirst s.capacity (view_of s) (view_of t) c.args.object x) is (e.begins, e.goes_on)) in
-    c.enter_waiting.ensures.ring_room (looks_count (view_of s) (view_of t) c.args.object looks ∙ none)
+    let u = c.enter_waiting.new.self in
+    subst (λ k. MatchResult c.enter_waiting.result (λ _. SECTION_RECORDS ≤ free_of u + 1) (HasRing k SECTION_RECORDS (free_of u) (view_of u))) e.ring.1
+    (c.enter_waiting.ensures.ring_room (looks_count (view_of s) (view_of t) c.args.object looks ∙ none))
