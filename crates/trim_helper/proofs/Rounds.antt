@@ -63,10 +63,13 @@ module _ {A P : Type 0} where
         long = now.1;
         now = applied_more now.0 p;
         same = append_assoc now.0 p.fresh p.logged;
+        cut = λ l. omega arith;
+        places = λ l. omega arith;
         serves = record {
           taken = now.2;
           counts = λ l lt. was.counts l (omega arith);
           places = λ l lt. was.places l (omega arith);
+          running = λ is. drains.advances.running ∙ was.running (quiet is).0;
           settled = λ is. let q = quiet is in subst (λ xs. IsSettled s (applied_more xs p)) (sym (none_of now.0 (now.1 ∙ q.1))) (was.settled q.0);
           trimmed = λ is. was.trimmed (quiet is).0;
           published = λ is l lt. was.published (quiet is).0 l (omega arith);
@@ -90,10 +93,13 @@ module _ {A P : Type 0} where
         long = was.long;
         now = h.now;
         same = h.same ∙ was.same;
+        cut = λ l. omega (arith, was.cut l, h.cut l);
+        places = λ l. omega (arith, was.places l, h.places l);
         serves = record {
           taken = same_taken x x' d d' r w s was.now was.serves.taken h;
           counts = λ l lt. omega (arith, was.serves.counts l (omega arith), h.cut l);
           places = λ l lt. omega (arith, was.serves.places l (omega arith), h.places l);
+          running = λ is. absurd (let no : false ≡ true = is in cc);
           settled = λ is. absurd (let no : false ≡ true = is in cc);
           trimmed = λ is. absurd (let no : false ≡ true = is in cc);
           published = λ is l lt. absurd (let no : false ≡ true = is in cc);
@@ -102,17 +108,20 @@ module _ {A P : Type 0} where
       }
 
   pub published_served : (d0 : Device) (x x' : Known) (d d' : Device) (r : List (Consumer Record A P)) (w : List (Option Record)) (b : Bool) (count place count' place' : ℕ → ℕ) (s : Setting) (p : Past) (n : ℕ) → x'.layout ≡ x.layout →
-      (was : Served d0 x d r w b count place s p n) → (h : HasSame x' d' s was.now) → IsSettled s h.now → IsTrimmed h.now →
+      (was : Served d0 x d r w b count place s p n) → (h : HasSame x' d' s was.now) → x'.has_failed ≡ false → IsSettled s h.now → IsTrimmed h.now →
       ((l : ℕ) → l < x'.layout.lanes → (count' l ≡ h.now.cut l) × (place' l ≡ trimmed_of h.now l)) → LeavesOnly d0 d' (StandsForRound x.layout s (was.newer ++ applied p) p.cut) → Served d0 x' d' r w true count' place' s p n
-  published_served d0 x x' d d' r w b count place count' place' s p n layout was h settled trimmed published moments = record {
+  published_served d0 x x' d d' r w b count place count' place' s p n layout was h runs settled trimmed published moments = record {
     newer = was.newer;
     long = was.long;
     now = h.now;
     same = h.same ∙ was.same;
+    cut = λ l. omega (arith, was.cut l, h.cut l);
+    places = λ l. omega (arith, was.places l, h.places l);
     serves = record {
       taken = same_taken x x' d d' r w s was.now was.serves.taken h;
       counts = λ l lt. omega (arith, (published l lt).0);
       places = λ l lt. omega (arith, (published l lt).1);
+      running = λ is. runs;
       settled = λ is. settled;
       trimmed = λ is. trimmed;
       published = λ is l lt. published l lt;
@@ -128,6 +137,8 @@ module _ {A P : Type 0} where
     long = was.long;
     now = was.now;
     same = was.same;
+    cut = was.cut;
+    places = was.places;
     serves = subst (λ (k : H). Serves x d r w b (count k) (place k) s was.now) (sym same) was.serves;
     moments = was.moments;
   }
@@ -184,6 +195,7 @@ serves_new x d r w s p count place none has empty taken counts places = record {
   taken = record { has = has; taken = λ l. taken l ∙ sym (ap (λ (xs : List (ℕ × Record)). stream l xs ++ held_back (waiting_in w l)) empty ∙ ap held_back (none l)) };
   counts = λ l lt. omega (arith, counts l);
   places = λ l lt. omega (arith, places l);
+  running = λ is. absurd (let no : false ≡ true = is in cc);
   settled = λ is. absurd (let no : false ≡ true = is in cc);
   trimmed = λ is. absurd (let no : false ≡ true = is in cc);
   published = λ is l lt. absurd (let no : false ≡ true = is in cc);
