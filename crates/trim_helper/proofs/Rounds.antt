@@ -6,9 +6,11 @@ use Rattle.rtrb.specs.declared.consumer.Consumer.{Consumer}
 use Rattle.heap_model.specs.declared.record.Record.{Record}
 use Rattle.heap_model.specs.Setting.{Setting}
 use Rattle.block_disk.specs.Device.{Device}
-use Rattle.block_disk.specs.Images.{LeavesOnly}
+use Rattle.block_disk.specs.Images.{Always, LeavesOnly}
 use Rattle.block_disk.proofs.Images.{begin}
 use Rattle.image.specs.declared.layout.Layout.{Layout}
+use Rattle.store_image.specs.KeptHeap.{StandsForCut}
+use Rattle.store_image.proofs.Stands.{stands_always}
 use Rattle.store_past.specs.Past.{Past, IsTrimmed, applied}
 use Rattle.durable.specs.Store.{Known, HasPast}
 use Rattle.trim_helper.specs.declared.rings.TheConstants.{RING_RECORDS}
@@ -42,6 +44,12 @@ none_of (x ∷ xs) e = absurd (omega arith)
 pub moment_drained : (d e : Device) (l : Layout) (s : Setting) (log : List (ℕ × Record)) (cut : ℕ → ℕ) → e ≡ d → LeavesOnly d e (StandsForRound l s log cut)
 moment_drained d e l s log cut same = subst (λ k. LeavesOnly d k (StandsForRound l s log cut)) (sym same) (begin d (StandsForRound l s log cut))
 
+-- once all is settled, whatever a crash leaves stands for what is acknowledged
+pub rests_by : (x : Known) (d : Device) (s : Setting) (p : Past) (log : List (ℕ × Record)) → HasPast x s p d → x.has_failed ≡ false → IsSettled s p → applied p ≡ log → Always d (StandsForCut x.layout s log p.cut)
+rests_by x d s p log has runs settled same =
+    let logged : p.logged ≡ applied p = ap (λ (xs : List (ℕ × Record)). xs ++ p.logged) (sym settled.logged) in
+    subst (λ (xs : List (ℕ × Record)). Always d (StandsForCut x.layout s xs p.cut)) (logged ∙ same) (stands_always x.layout s p x.committed d (has.agrees runs))
+
 module _ {A P : Type 0} where
   pub looks_taken : (x : Known) (d : Device) (r0 r1 : List (Consumer Record A P)) (w : List (Option Record)) (s : Setting) (p : Past) → Looks r0 r1 → HasTaken x d r0 w s p → HasTaken x d r1 w s p
   looks_taken x d r0 r1 w s p looks was = record { has = was.has; taken = λ l. looks.received l ∙ was.taken l }
@@ -74,6 +82,9 @@ module _ {A P : Type 0} where
           trimmed = λ is. was.trimmed (quiet is).0;
           published = λ is l lt. was.published (quiet is).0 l (omega arith);
         };
+        rests = λ is.
+            let q = quiet is in
+            rests_by x' d' s (applied_more now.0 p) (now.0 ++ applied p) now.2.has (drains.advances.running ∙ was.running q.0) (subst (λ xs. IsSettled s (applied_more xs p)) (sym (none_of now.0 (now.1 ∙ q.1))) (was.settled q.0)) (append_assoc now.0 p.fresh p.logged);
         moments = moment_drained d d' x'.layout s (now.0 ++ applied p) p.cut drains.advances.device;
       }
 
@@ -104,6 +115,7 @@ module _ {A P : Type 0} where
           trimmed = λ is. absurd (let no : false ≡ true = is in cc);
           published = λ is l lt. absurd (let no : false ≡ true = is in cc);
         };
+        rests = λ is. absurd (let no : false ≡ true = is in cc);
         moments = subst (λ l. LeavesOnly d0 d' (StandsForRound l s (was.newer ++ applied p) p.cut)) (sym layout) moments;
       }
 
@@ -126,6 +138,7 @@ module _ {A P : Type 0} where
       trimmed = λ is. trimmed;
       published = λ is l lt. published l lt;
     };
+    rests = λ is. rests_by x' d' s h.now (was.newer ++ applied p) h.has runs settled (h.same ∙ was.same);
     moments = subst (λ l. LeavesOnly d0 d' (StandsForRound l s (was.newer ++ applied p) p.cut)) (sym layout) moments;
   }
 
@@ -140,6 +153,7 @@ module _ {A P : Type 0} where
     cut = was.cut;
     places = was.places;
     serves = subst (λ (k : H). Serves x d r w b (count k) (place k) s was.now) (sym same) was.serves;
+    rests = was.rests;
     moments = was.moments;
   }
 
