@@ -1,12 +1,12 @@
 /* What a section costs through the C door: two monitors are entered, a field of each is stored, and both are exited, while nobody
  * contends for them.
  *
- *     section_cost [BATCHES]
- * prints nanoseconds a section, as the best of so many batches (340) of 500 sections: first with a round after each batch, whose time
- * isn't counted, and then beside a helper thread that makes rounds all the time. The calls of the device are thrown away.
+ *     section_cost [BATCHES [alone]]
+ * prints nanoseconds a section, as the best of so many batches (340) of 500 sections: first alone, with a round after each batch, whose
+ * time isn't counted, and then beside a helper thread that makes rounds all the time. The calls of the device are thrown away.
  *
- *     valgrind --tool=callgrind --toggle-collect=section section_cost 4
- * counts the instructions of 4,000 sections. */
+ *     valgrind --tool=callgrind --toggle-collect=section section_cost 4 alone
+ * counts the instructions of 2,000 sections. */
 #define _GNU_SOURCE
 #include <errno.h>
 #include <inttypes.h>
@@ -95,6 +95,7 @@ int main(int argc, char **argv) {
     throw_calls_away(&heap);
     must(zelamiku_session(&heap, &session), "session");
     printf("alone %.1f\n", best_of(batches, &session, &heap));
+    if (argc > 2) return 0;
     pthread_t helper;
     if ((errno = pthread_create(&helper, NULL, help, &heap)) != 0) {
         perror("pthread_create");
