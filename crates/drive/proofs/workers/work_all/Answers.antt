@@ -7,9 +7,11 @@ use Rattle.drive.proofs.workers.work_all.Goals as goal
 
 pub returns : goal.returns
 returns g c = record {
-  worked = λ k rings joined.
-      let h = c.args.shared.now in
-      ok_both c.map_vec-worked.result c.map_vec-worked.ensures.len c.map_vec-worked.ensures.each (λ v. AreWorked h k rings v.items)
-      (λ v long gives. jobs_done _ _ (λ w. IsJoined h k rings w.session) (λ w. IsEnded h k rings w.ended) c.args.workers.items v.items
-      (sym v.ok.0 ∙ long ∙ c.args.workers.ok.0) gives joined (λ j r p given. given k rings p));
+  worked = record {
+    each = λ k rings joined.
+        let h = c.args.shared.now in
+        ok_both c.map_vec-worked.result c.map_vec-worked.ensures.len c.map_vec-worked.ensures.each (λ v. AreWorked h k rings v.items)
+        (λ v long gives. jobs_done _ _ (λ w. IsJoined h k rings w.session) (λ w. IsEnded h k rings w.ended) c.args.workers.items v.items
+        (sym v.ok.0 ∙ long ∙ c.args.workers.ok.0) gives joined (λ j r p given. given k rings p));
+  };
 }
