@@ -2,7 +2,7 @@
 use Rattle.std.specs.Prelude.{◌≡◌, ◌<◌, List, [], ◌∷◌, length, drop}
 use Rattle.std.specs.Global.{Global}
 use Rattle.rtrb.specs.declared.consumer.Consumer.{Consumer}
-use Rattle.rtrb.specs.Ring.{IsPair, known_items}
+use Rattle.rtrb.specs.Ring.{ConsumerLooked, IsPair, known_items}
 use Rattle.block_disk.specs.Memory.{Stop}
 use Rattle.deferred_disk.specs.declared.call.DeviceCall.{DeviceCall}
 use Rattle.deferred_disk.specs.declared.call.Handed.{Handed}
@@ -30,6 +30,12 @@ IsInOrder handed left = onto (made_of handed left) left ≡ stops_in handed
 pub record IsTaking (handed : List Handed) (left : List DeviceCall) : Type 0 where
   pub order : IsInOrder handed left
   pub begun : 0 < length handed
+
+-- a look at the ring: no call is made or fetched
+pub record HasLooked (x y : Host) : Type 0 where
+  pub made : y.made ≡ x.made
+  pub left : y.left ≡ x.left
+  pub ring : ConsumerLooked x.ring y.ring
 
 -- A fetch makes no call. What is left of the batch before stays; where none is, the calls of the next batch are left, and where none is left
 -- then, none is known to have been handed over.

@@ -3,9 +3,9 @@ ghost use Rattle.std.specs.Prelude.{◌≡◌, ◌<◌, [], ◌∷◌, ◌++◌,
 ghost use Rattle.block_disk.specs.Device.{Image, LeftSince};
 ghost use Rattle.block_disk.specs.Memory.{Stop, device_of, moment_after};
 ghost use Rattle.deferred_disk.specs.Deferred.{calls_in, onto, stop_of, stops_in};
-ghost use Rattle.deferred_disk.specs.Host.{Fetches, IsHostOf};
+ghost use Rattle.deferred_disk.specs.Host.{Fetches, HasLooked, IsHostOf};
 ghost use Rattle.deferred_disk.specs.declared.call.Handed.{Handed as Batch};
-ghost use Rattle.rtrb.specs.Ring.{ConsumerLooked, SameConsumer, SameProducer, received, known_items};
+ghost use Rattle.rtrb.specs.Ring.{SameConsumer, SameProducer, received, known_items};
 
 use crate::call::{DeviceCall, Handed};
 use crate::disk::DeferredDisk;
@@ -66,8 +66,7 @@ impl HostCalls {
     /// Looks how many syncs were handed over with their calls, and aren't fetched yet.
     pub fn waiting(&mut self) -> usize
         ensures count { result ≡ length (known_items self.new.ring) }
-        ensures calls { (self.new.made ≡ self.old.made) × (self.new.left ≡ self.old.left) }
-        ensures ring { ConsumerLooked self.old.ring self.new.ring }
+        ensures looked { HasLooked self.old self.new }
     {
         self.ring.slots()
     }

@@ -5,6 +5,7 @@ ghost use Rattle.rtrb.specs.Ring.{known_free, sent};
 ghost use Rattle.session.specs.Sessions.{IsSessionOf};
 ghost use Rattle.hosted_heap.specs.Returning.{MayReturn};
 
+use crate::returned::Returned;
 use crate::returning::Returning;
 use crate::waiting::HostedWaiting;
 use heap_model::{FieldId, Lane, ObjectId};
@@ -44,7 +45,7 @@ impl Model for HostedSession {
 }
 
 impl HostedSession {
-    ghost use Rattle.std.specs.Prelude.{◌≡◌, ◌<◌, ◌≤◌, ◌↔◌, List, [], ◌∷◌, None, Ok, Err, true, Contains, IfOk, MatchResult};
+    ghost use Rattle.std.specs.Prelude.{◌≡◌, ◌<◌, ◌≤◌, ◌↔◌, List, [], ◌∷◌, ◌++◌, None, Ok, Err, true, Contains, IfOk, MatchResult};
     ghost use Rattle.std.specs.FinSet as set;
     ghost use Rattle.heap_model.specs.declared.event.Event.TheVariants as event;
     ghost use Rattle.heap_model.specs.declared.ids.Lane.{Lane};
@@ -160,8 +161,11 @@ impl HostedSession {
         }
     }
 
-    /// Ends the session, and lets it come back to its heap. It may still hold monitors: then its heap isn't closed.
-    pub fn end(self) {
+    /// Ends the session, and lets it come back to its heap: it is the last that went into the ring by which it comes back. It may still
+    /// hold monitors: then its heap isn't closed.
+    pub fn end(self) -> Returned
+        ensures back { result ≡ self.before ++ self.session ∷ [] }
+    {
         let HostedSession {
             shared,
             session,
@@ -171,5 +175,6 @@ impl HostedSession {
         drop(shared);
         let mut back = back;
         back.push_reserved(session);
+        Returned { back }
     }
 }

@@ -140,7 +140,7 @@ pub fn round(state: &mut Inner) -> (u64, u32) {
     match &mut state.open {
         Open::Heap(heap) => match heap.round() {
             Ok(applied) => (applied, status::OK),
-            Err(refusal) => (0, status::of_store(refusal)),
+            Err(refusal) => (0, status::of_round(refusal)),
         },
         Open::Closed(_) => (0, status::NONE_LEFT),
         _ => (0, status::WRONG_KIND),
@@ -175,6 +175,8 @@ fn closed_of(open: Open) -> (Open, u32) {
         Open::Heap(heap) => match heap.close() {
             Ok(closed) => (Open::Closed(closed), status::OK),
             Err(NotClosed::Running(heap)) => (Open::Heap(heap), status::RUNNING),
+            Err(NotClosed::CallsLeft(heap)) => (Open::Heap(heap), status::CALLS_LEFT),
+            Err(NotClosed::InUse(heap)) => (Open::Heap(heap), status::RUNNING),
             Err(NotClosed::Stopped(closed, refusal)) => {
                 (Open::Closed(closed), status::of_close(refusal))
             }

@@ -198,7 +198,7 @@ pub fn end(state: &mut Inner) -> u32 {
 fn ended_of(open: Open) -> (Open, u32) {
     match open {
         Open::Session(session) => {
-            session.end();
+            let _ = session.end();
             (Open::Nothing, status::OK)
         }
         other => {

@@ -3,7 +3,7 @@ ghost use Rattle.std.specs.Prelude.{◌≡◌, ◌≢◌, ◌<◌, IfErr, MatchR
 
 use guards::SchemaError;
 use heap_model::Lane;
-use hosted_heap::{AcknowledgedError, CloseRefusal, HostError};
+use hosted_heap::{AcknowledgedError, CloseRefusal, HostError, RoundError};
 use image::ImageError;
 use recover::RecoverError;
 use session::{SessionError, Still};
@@ -99,7 +99,14 @@ pub fn of_still(still: Still) -> u32 {
 }
 
 /// The status of a round's refusal.
-pub fn of_store(refusal: StoreError) -> u32 {
+pub fn of_round(refusal: RoundError) -> u32 {
+    match refusal {
+        RoundError::CallsLeft => CALLS_LEFT,
+        RoundError::Store(refusal) => of_store(refusal),
+    }
+}
+
+fn of_store(refusal: StoreError) -> u32 {
     match refusal {
         StoreError::Failed => FAILED,
         StoreError::Worn => WORN,

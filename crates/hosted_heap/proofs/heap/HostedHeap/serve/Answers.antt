@@ -8,7 +8,7 @@ use Rattle.trim_helper.specs.Parts.{HasServed, IsServing}
 use Rattle.hosted_heap.specs.Hosting.{Hosting, hosted_device}
 use Rattle.hosted_heap.proofs.Later.{ends_on}
 use Rattle.hosted_heap.proofs.Rounds.{either_way}
-use Rattle.hosted_heap.proofs.heap.HostedHeap.round.Goals as goal
+use Rattle.hosted_heap.proofs.heap.HostedHeap.serve.Goals as goal
 
 pub invariant_of-self : goal.invariant_of-self
 invariant_of-self c =
@@ -24,6 +24,7 @@ invariant_of-self c =
       layout_is = was.layout_is ∙ sym c.round.ensures.layout;
       within = was.within;
       unused_are = was.unused_are;
+      count = was.count;
       lanes_are = ends_on c.joined_law.ensures.rings h x.store.known.layout.capacity y.store.known.layout.capacity x.rings y.rings c.self.inside.lanes.items
           (ap (λ (l : Layout). l.capacity) c.round.ensures.layout) c.round.ensures.rings was.lanes_are;
     }
