@@ -194,20 +194,20 @@ static inline const char *zelamiku_status_text(uint32_t status) {
 /* Makes a heap of so many objects and of these fields, with `lanes` (1 to 32) sessions of `capacity` (2,000 to 1,048,576) records
  * each, and opens it. `size` gets the bytes of its image.
  * Needs: before the first call of zelamiku_next_call is made, the device has `size` zero bytes, durably.
- * OPEN, EMPTY, UNKNOWN_OBJECT, TOO_MANY, BAD_HEADER (`lanes`, or `capacity`), NO_MEMORY, FAULT: the handle is as it was, and `size`
+ * OPEN, EMPTY, UNKNOWN_OBJECT, TOO_MANY, BAD_HEADER, NO_MEMORY, FAULT (want of memory too): the handle is as it was, and `size`
  * is 0. */
 uint32_t zelamiku_format(zelamiku_handle *heap, uint32_t objects, const zelamiku_field *fields, size_t count, uint32_t lanes,
                          uint32_t capacity, uint64_t *size);
 
 /* Recovers the heap of these bytes, and opens it.
  * Needs: the device has these bytes, all of them, durably.
- * OPEN, NOT_FORMATTED, BAD_HEADER, TOO_SMALL, NO_CONTROL, BAD_CONTROL, WORN, BAD_RECORD, ILLEGAL_LOG, NO_MEMORY, FAULT: the handle
- * is as it was, and `found` is all 0. Nothing was asked of the device. */
+ * OPEN, NOT_FORMATTED, BAD_HEADER, TOO_SMALL, NO_CONTROL, BAD_CONTROL, WORN, BAD_RECORD, ILLEGAL_LOG, NO_MEMORY, FAULT (want of
+ * memory too): the handle is as it was, and `found` is all 0. Nothing was asked of the device. */
 uint32_t zelamiku_open(zelamiku_handle *heap, const uint8_t *image, size_t size, zelamiku_found *found);
 
 /* Hands out the session of the next lane, from 0 on.
- * OPEN: `session` has something behind it. CLOSED, WRONG_KIND: of `heap`. NONE_LEFT: each lane's was handed out. NO_MEMORY: the
- * session has ended. But for that the handles are as they were. */
+ * OPEN: `session` has something behind it. CLOSED, WRONG_KIND: of `heap`. NONE_LEFT: each lane's was handed out, or the heap is
+ * closed. NO_MEMORY: none was handed out, and it may be asked for again. The handles are as they were. */
 uint32_t zelamiku_session(zelamiku_handle *heap, zelamiku_handle *session);
 
 /* Tells the call of the device that the host makes next, and copies its bytes. It tells the same call until zelamiku_call_done.
@@ -230,8 +230,8 @@ uint32_t zelamiku_call_done(zelamiku_handle *heap);
 uint32_t zelamiku_round(zelamiku_handle *heap, uint64_t *applied);
 
 /* How many sections of the lane are acknowledged since the heap was opened: no crash of the device loses them.
- * CLOSED, WRONG_KIND, NONE_LEFT (the heap is closed), BAD_LANE. CALLS_LEFT: make the calls that are left, and ask again. `sections`
- * is 0 then. */
+ * CLOSED, WRONG_KIND, NONE_LEFT (the heap is closed), BAD_LANE. CALLS_LEFT: make the calls that are left, and ask again.
+ * `sections` is 0 then. */
 uint32_t zelamiku_acknowledged(zelamiku_handle *heap, uint32_t lane, uint64_t *sections);
 
 /* Closes the heap, once each session that was handed out has ended: the last round. Make the calls that are left, and then free it.
