@@ -54,7 +54,7 @@ refusals! {
     18 Worn "a number has come to its end"
     19 Held "another session has the monitor"
     20 InSet "nobody has notified the session"
-    21 Fault "there was no room for the calls of the device"
+    21 Fault "there was no memory for the calls of the device"
     22 Failed "the heap has stopped in an earlier call"
     23 Unfinished "a session was ended while it held a monitor"
     24 Empty "there is no object or no field"
