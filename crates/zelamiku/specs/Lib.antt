@@ -1,2 +1,6 @@
--- What a handle owns.
+-- What a handle owns, and what is behind it.
 pub mod Own
+pub mod Behind
+-- What the calls of a session answer.
+pub mod SessionDoors
+pub mod SessionStatuses

@@ -1,0 +1,39 @@
+-- What is behind a handle, by its kind, and what a call of it is answered (this project's own).
+use Rattle.std.specs.Prelude.{ℕ, ◌≡◌, Some, None}
+use Rattle.hosted_heap.specs.Hosting.{Hosting}
+use Rattle.hosted_heap.specs.Sessions.{Seated, SeatedWaiting}
+use Rattle.hosted_heap.specs.declared.closing.Closed.{Closed}
+use Rattle.zelamiku.specs.Own.{Held}
+use Rattle.zelamiku.specs.declared.state.Open.{Open}
+use Rattle.zelamiku.specs.declared.state.Open.TheVariants as kind
+use Rattle.zelamiku.specs.declared.status.TheConstants.{CLOSED}
+
+-- nothing
+abbrev pub nothing_behind : Held
+nothing_behind = None
+
+-- this
+abbrev pub behind : Open → Held
+behind x = Some (record { «open» = x })
+
+-- a heap that runs
+abbrev pub heap_behind : Hosting → Held
+heap_behind x = behind (kind.Heap x)
+
+-- a heap that was closed
+abbrev pub closed_behind : Closed → Held
+closed_behind x = behind (kind.Closed x)
+
+-- a session
+abbrev pub session_behind : Seated → Held
+session_behind s = behind (kind.Session s)
+
+-- a session that waits
+abbrev pub waiting_behind : SeatedWaiting → Held
+waiting_behind w = behind (kind.Waiting w)
+
+-- A call of a handle: before it and after it this is behind the handle, and the status is what C is answered. `p` is the call of what
+-- is there; where nothing is, nothing is done.
+abbrev pub Answers : (p : Open → (after : Held) → (status : ℕ) → Type 0) → (before after : Held) (status : ℕ) → Type 0
+Answers p None after status = (status ≡ CLOSED) × (after ≡ nothing_behind)
+Answers p (Some before) after status = p before.«open» after status
