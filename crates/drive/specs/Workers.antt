@@ -1,5 +1,5 @@
 -- What is known of workers as they begin and as they end.
-use Rattle.std.specs.Prelude.{ℕ, List, All, Vec, Result, IfOk}
+use Rattle.std.specs.Prelude.{ℕ, ◌≡◌, List, length, All, Vec, Result, IfOk}
 use Rattle.std.specs.declared.alloc.Global.{Global}
 use Rattle.std.specs.declared.alloc.AllocError.{AllocError}
 use Rattle.monitor.specs.Seats.{Home}
@@ -23,4 +23,5 @@ AreWorked h capacity rings worked = All (λ w. IsEnded h capacity rings w.ended)
 
 -- What these workers answer: memory was wanting, or each has left what is ready to meet the helper that it was joined to.
 pub record HaveWorked (h : Home) (workers : List Worker) (answer : Result (Vec Worked Global) AllocError) : Type 0 where
+  pub all : IfOk answer (λ w. length w.items ≡ length workers)
   pub each : (capacity : ℕ) (rings : Rings) → AreJoined h capacity rings workers → IfOk answer (λ w. AreWorked h capacity rings w.items)
