@@ -17,7 +17,7 @@ use Rattle.session.specs.Sessions.{view_of}
 use Rattle.session.specs.declared.error.SessionError.{SessionError}
 use Rattle.session.specs.declared.error.SessionError.TheVariants as refusal
 use Rattle.session.specs.declared.session.Session.{Session}
-use Rattle.steps.specs.Views.{IsHeld, IsPaired, Lengthens, hold, plan}
+use Rattle.steps.specs.Views.{IsHeld, IsWhole, Lengthens, hold, plan}
 use Rattle.zelamiku.specs.Behind.{behind, session_behind}
 use Rattle.zelamiku.specs.SessionDoors.{AnswersAs, Looks, NotifiesAll, sight_told}
 use Rattle.zelamiku.specs.SessionStatuses.{status_of}
@@ -65,7 +65,7 @@ module _ (h : Home) (x y : Session) (o : ObjectId) where
   -- a look, from the status of its answer and the sight of its words
   pub looked : (r : Result (Shape × Option FatShape) SessionError) (sight : words.Sight) (status : ℕ)
       → ((plan h).objects ≤ o.0 → (r ≡ Err refusal.UnknownObject) × IsQuiet (view_of x) (view_of y))
-      → (o.0 < (plan h).objects → (lock : Shape) × (fat : Option FatShape) × (r ≡ Ok (lock, fat)) × IsPaired lock fat
+      → (o.0 < (plan h).objects → (lock : Shape) × (fat : Option FatShape) × (r ≡ Ok (lock, fat)) × IsWhole (view_of y) o lock fat
       × Lengthens (view_of x) (view_of y) (event.Look o (sight_of lock fat) ∷ []))
       → status ≡ status_of r → IfOk r (λ found. sight ≡ sight_told (sight_of found.0 found.1)) → Looks h x y o sight status
   looked r sight status unknown known status_is shown = record {
