@@ -1,12 +1,12 @@
 -- A disk in memory whose calls the host makes (this project's own).
 use Rattle.std.specs.Prelude.{ℕ, ◌≡◌, ◌<◌, List, [], ◌∷◌, None, length, fold}
 use Rattle.std.specs.Global.{Global}
-use Rattle.rtrb.specs.declared.AnyItems.{AnyItems}
 use Rattle.rtrb.specs.declared.producer.Producer.{Producer}
 use Rattle.block_disk.specs.Memory.{Memory, Stop, Wrote, Synced, bytes_after}
 use Rattle.deferred_disk.specs.declared.call.DeviceCall.{DeviceCall}
 use Rattle.deferred_disk.specs.declared.call.DeviceCall.TheVariants.{Write, Sync}
 use Rattle.deferred_disk.specs.declared.call.Handed.{Handed}
+use Rattle.deferred_disk.specs.declared.handing.Handing.{Handing}
 use Rattle.deferred_disk.specs.declared.call.Handed.TheVariants.{Begun, Calls}
 
 -- the stop of the disk that the call is
@@ -36,7 +36,7 @@ first_in (Calls calls ∷ later) = []
 -- the disk: the memory that it is, and its end of the ring
 pub record Deferred : Type 0 where
   pub memory : Memory
-  pub ring : Producer Handed Global AnyItems
+  pub ring : Producer Handed Global Handing
 
 -- the memory that was handed over, and then these calls, which are yet to be
 abbrev pub memory_of : List Handed → List DeviceCall → ℕ → Memory

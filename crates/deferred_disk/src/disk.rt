@@ -11,6 +11,7 @@ ghost use Rattle.deferred_disk.specs.declared.call.Handed.TheVariants as handed;
 ghost use Rattle.rtrb.specs.Ring.{SameProducer, known_free, sent};
 
 use crate::call::{DeviceCall, Handed};
+use crate::handing::Handing;
 use crate::host::HostCalls;
 use block_disk::{Disk, DiskError, copy_out, fail, lies_within, overwrite};
 use rtrb::{Producer, RingBuffer};
@@ -33,7 +34,7 @@ pub struct DeferredDisk {
     bytes: Vec<u8>,
     // The calls since the last sync.
     unsent: Vec<DeviceCall>,
-    pub(crate) ring: Producer<Handed>,
+    pub(crate) ring: Producer<Handed, Global, Handing>,
     failures: u64,
 }
 
@@ -71,7 +72,7 @@ impl DeferredDisk {
         ensures host { IfOk result (λ r. (r.1.made ≡ []) × (r.1.left ≡ []) × IsHostOf r.0 r.1) }
     {
         let bytes = first.to_vec(alloc)?;
-        let (mut ring, mut other) = RingBuffer::new(alloc, SYNCS)?;
+        let (mut ring, mut other) = RingBuffer::with_protocol::<Global, Handing>(alloc, SYNCS)?;
         ring.push_reserved(Handed::Begun(first));
         other.slots_beside(&mut ring);
         let _ = other.pop_known();

@@ -1,13 +1,15 @@
 //! The host's end of a deferred disk.
-ghost use Rattle.std.specs.Prelude.{◌≡◌, [], ◌∷◌, ◌++◌, List, ℕ, true, false, MatchOption};
+ghost use Rattle.std.specs.Prelude.{◌≡◌, ◌<◌, [], ◌∷◌, ◌++◌, List, ℕ, true, false, length, IsSomeAnd, MatchOption};
 ghost use Rattle.block_disk.specs.Device.{Image, LeftSince};
 ghost use Rattle.block_disk.specs.Memory.{Stop, device_of, moment_after};
-ghost use Rattle.deferred_disk.specs.Deferred.{onto, stop_of, stops_in};
-ghost use Rattle.deferred_disk.specs.Host.{IsHostOf};
+ghost use Rattle.deferred_disk.specs.Deferred.{calls_in, onto, stop_of, stops_in};
+ghost use Rattle.deferred_disk.specs.Host.{Fetches, HasLooked, IsHostOf};
+ghost use Rattle.deferred_disk.specs.declared.call.Handed.{Handed as Batch};
 ghost use Rattle.rtrb.specs.Ring.{SameConsumer, SameProducer, received, known_items};
 
 use crate::call::{DeviceCall, Handed};
 use crate::disk::DeferredDisk;
+use crate::handing::Handing;
 use rtrb::Consumer;
 use std::alloc::Global;
 use std::collections::VecDeque;
@@ -19,26 +21,27 @@ use std::marker::Model;
 /// leave what a crash of the disk might have left before that call or in it.
 #[derive(Drop)]
 pub struct HostCalls {
-    ring: Consumer<Handed>,
+    ring: Consumer<Handed, Global, Handing>,
     // The calls of the batch that was taken last, but for those that were made.
     left: VecDeque<DeviceCall>,
 }
 
 impl Model for HostCalls {
-    ghost use Rattle.deferred_disk.specs.Host.{Host, IsInOrder, made_of};
+    ghost use Rattle.deferred_disk.specs.Host.{Host, IsTaking, made_of};
     ghost use Rattle.rtrb.specs.Ring.{received};
 
     ghost Value = { Host };
 
     ghost view = { λ h. record { made = made_of (received h.ring) h.left.items; left = h.left.items; ring = h.ring } };
 
-    ghost invariant = { λ h. IsInOrder (received h.ring) h.left.items };
+    ghost invariant = { λ h. IsTaking (received h.ring) h.left.items };
 }
 
 impl HostCalls {
     // The host's end, from which the beginning was taken.
-    pub(crate) fn of(alloc: Global, ring: Consumer<Handed>) -> HostCalls
-        requires { stops_in (received ring) ≡ [] }
+    pub(crate) fn of(alloc: Global, ring: Consumer<Handed, Global, Handing>) -> HostCalls
+        requires none { stops_in (received ring) ≡ [] }
+        requires begun { 0 < length (received ring) }
         ensures { (result.made ≡ []) × (result.left ≡ []) × (result.ring ≡ ring) }
     {
         HostCalls {
@@ -47,10 +50,9 @@ impl HostCalls {
         }
     }
 
-    /// Where none is left, takes the calls up to the next sync, if they were handed over.
+    /// Where none is left, takes the calls up to the next sync, if they were handed over. There is at least one, the sync.
     pub fn fetch(&mut self)
-        ensures made { self.new.made ≡ self.old.made }
-        ensures left { ¬ (self.old.left ≡ []) → self.new ≡ self.old }
+        ensures fetches { Fetches self.old self.new }
         ensures ring { SameConsumer self.old.ring self.new.ring }
     {
         if !self.left.is_empty() {
@@ -59,6 +61,14 @@ impl HostCalls {
         if let Some(calls) = next_batch(&mut self.ring) {
             self.left = VecDeque::from(calls);
         }
+    }
+
+    /// Looks how many syncs were handed over with their calls, and aren't fetched yet.
+    pub fn waiting(&mut self) -> usize
+        ensures count { result ≡ length (known_items self.new.ring) }
+        ensures looked { HasLooked self.old self.new }
+    {
+        self.ring.slots()
     }
 
     /// The call that the host has to make next, of those that it fetched.
@@ -91,9 +101,13 @@ impl HostCalls {
     }
 }
 
-// Takes what was handed over next, if it is known to be there. The beginning has no calls.
-fn next_batch(ring: &mut Consumer<Handed>) -> Option<Vec<DeviceCall>>
+// Takes what was handed over next, if it is there. The beginning, which has no calls, was taken before.
+fn next_batch(ring: &mut Consumer<Handed, Global, Handing>) -> Option<Vec<DeviceCall>>
+    requires begun { 0 < length (received ring.old) }
     ensures taken { MatchOption result (stops_in (received ring.new) ≡ stops_in (received ring.old)) (λ calls. stops_in (received ring.new) ≡ onto (stops_in (received ring.old)) calls.items) }
+    ensures some { MatchOption result (known_items ring.new ≡ []) (λ calls. 0 < length calls.items) }
+    ensures known { (next : Batch) (more : List Batch) → known_items ring.old ≡ next ∷ more → IsSomeAnd result (λ calls. calls.items ≡ calls_in next) }
+    ensures begun { 0 < length (received ring.new) }
     ensures ring { SameConsumer ring.old ring.new }
 {
     match ring.pop() {

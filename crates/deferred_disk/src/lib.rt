@@ -8,6 +8,7 @@
 
 mod call;
 mod disk;
+mod handing;
 mod host;
 
 pub use call::DeviceCall;

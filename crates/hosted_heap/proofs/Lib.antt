@@ -1,4 +1,6 @@
+mod Closings
 mod Later
 mod Makings
 mod Numbered
+mod Orders
 mod Rounds

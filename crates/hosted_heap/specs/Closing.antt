@@ -1,13 +1,55 @@
 -- What is left of a heap that wasn't closed (this project's own).
-use Rattle.std.specs.Prelude.{◌≡◌}
-use Rattle.trim_helper.specs.Endings.{IsCloseWhy, RefusesClosing}
+use Rattle.std.specs.Prelude.{◌≡◌, ◌+◌, ◌<◌, List, [], All, Any, length}
+use Rattle.deferred_disk.specs.Deferred.{Deferred}
+use Rattle.deferred_disk.specs.Host.{HasLooked, Host}
+use Rattle.deferred_disk.specs.declared.disk.TheConstants.{SYNCS}
+use Rattle.monitor.specs.Seats.{Home}
+use Rattle.rtrb.specs.Ring.{known_items}
+use Rattle.trim_helper.specs.Parts.{Parts}
+use Rattle.trim_helper.specs.Endings.{IsCloseWhy, IsEnded, RefusesClosing}
+use Rattle.trim_helper.specs.declared.ended.Ended.{Ended}
 use Rattle.hosted_heap.specs.Hosting.{Hosting, SameHeap, hosted_device}
+use Rattle.hosted_heap.specs.Lanes.{IsAwaited}
 use Rattle.hosted_heap.specs.declared.closing.NotClosed.{NotClosed}
-use Rattle.hosted_heap.specs.declared.closing.NotClosed.TheVariants.{Running, Stopped}
+use Rattle.hosted_heap.specs.declared.closing.NotClosed.TheVariants.{Running, CallsLeft, InUse, Stopped}
+use Rattle.hosted_heap.specs.declared.error.CloseRefusal.{CloseRefusal}
 use Rattle.hosted_heap.specs.declared.error.CloseRefusal.TheVariants.{NoMemory, Close}
+use Rattle.hosted_heap.specs.declared.room.TheConstants.{CLOSE_SYNCS}
 
--- the heap is as it was, or the reason is that of the sessions or of the device
+-- the heap goes on as it was, but for what it saw come back
+pub record GoesOn (x y : Hosting) : Type 0 where
+  pub home : y.home ≡ x.home
+  pub helper : y.helper ≡ x.helper
+  pub unused : y.unused ≡ x.unused
+  pub out : length y.out ≡ length x.out
+
+-- so it does, and its other sessions have ended
+pub record GoesOnWithout (x y : Hosting) : Type 0 where
+  pub home : y.home ≡ x.home
+  pub helper : y.helper ≡ x.helper
+  pub unused : y.unused ≡ []
+
+-- Why the heap has stopped, and its disk then: for want of memory, with the disk as it was; or for a reason of the sessions that came back, or of
+-- the device.
+abbrev pub StopsFor : Home → Parts Deferred → Deferred → CloseRefusal → Type 0
+StopsFor h x disk NoMemory = disk ≡ x.store.disk
+StopsFor h x disk (Close e) = IsCloseWhy x.store.known (hosted_device x.store.disk) (hosted_device disk) e
+    × ((ended : List Ended) × All (IsEnded h x.store.known.layout.capacity x.rings) ended × RefusesClosing x.store.known.layout.lanes ended e)
+
+-- it has stopped, with the calls of its host as they were
+abbrev pub HasStopped : Home → Parts Deferred → Host → NotClosed → Type 0
+HasStopped h x calls (Stopped closed e) = (closed.calls ≡ calls) × StopsFor h x closed.disk e
+HasStopped h x calls other = ⊥
+
+-- it has, or it is as it was, since somebody has the words
+abbrev pub IsNotFinished : Hosting → NotClosed → Type 0
+IsNotFinished x (InUse y) = SameHeap x y × (y.calls ≡ x.calls)
+IsNotFinished x other = HasStopped x.home x.helper x.calls other
+
+-- A session that was handed out hasn't come back; the ring hasn't room for the syncs of a closing; somebody has the words though each session has
+-- come back; or the heap has stopped, with the calls that its host is yet to make.
 abbrev pub IsNotClosed : Hosting → NotClosed → Type 0
-IsNotClosed x (Running y) = SameHeap x y × (y.calls ≡ x.calls)
-IsNotClosed x (Stopped closed NoMemory) = (closed.calls ≡ x.calls) × (closed.disk ≡ x.helper.store.disk)
-IsNotClosed x (Stopped closed (Close e)) = (closed.calls ≡ x.calls) × IsCloseWhy x.helper.store.known (hosted_device x.helper.store.disk) (hosted_device closed.disk) e
+IsNotClosed x (Running y) = GoesOn x y × (y.calls ≡ x.calls) × Any IsAwaited y.out
+IsNotClosed x (CallsLeft y) = GoesOn x y × HasLooked x.calls y.calls × (SYNCS < length (known_items y.calls.ring) + CLOSE_SYNCS)
+IsNotClosed x (InUse y) = GoesOnWithout x y × HasLooked x.calls y.calls
+IsNotClosed x (Stopped closed e) = HasLooked x.calls closed.calls × StopsFor x.home x.helper closed.disk e

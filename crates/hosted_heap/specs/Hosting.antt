@@ -1,5 +1,5 @@
 -- A hosted heap, as contracts see it, and what its calls keep (this project's own).
-use Rattle.std.specs.Prelude.{ℕ, ◌≡◌, List, All}
+use Rattle.std.specs.Prelude.{ℕ, ◌≡◌, List, [], ◌∷◌, drop, fold, length}
 use Rattle.block_disk.specs.Device.{Device}
 use Rattle.block_disk.specs.Memory.{device_of}
 use Rattle.deferred_disk.specs.Deferred.{Deferred}
@@ -7,25 +7,40 @@ use Rattle.deferred_disk.specs.Host.{Host}
 use Rattle.image.specs.declared.layout.Layout.{Layout}
 use Rattle.monitor.specs.Seats.{Home}
 use Rattle.running_heap.specs.Closed.{IsClosed}
-use Rattle.running_heap.specs.Joined.{IsHelping}
+use Rattle.session.specs.Sessions.{view_of}
 use Rattle.trim_helper.specs.Endings.{HoldNone, IsComplete}
 use Rattle.trim_helper.specs.Parts.{Parts}
 use Rattle.trim_helper.specs.declared.ended.Ended.{Ended}
+use Rattle.hosted_heap.specs.Sessions.{Seated}
+use Rattle.hosted_heap.specs.declared.lane_end.LaneEnd.{LaneEnd}
 
 -- the device that a deferred disk is
 abbrev pub hosted_device : Deferred → Device
 hosted_device d = device_of d.memory
 
--- its words, its helper, and the calls that its host has made and is yet to make
+-- Its words, its helper, and the calls that its host has made and is yet to make; the lanes whose session wasn't handed out, the next one
+-- first; and where the sessions that were come back, the last one first.
 pub record Hosting : Type 0 where
   pub home : Home
   pub helper : Parts Deferred
   pub calls : Host
+  pub unused : List ℕ
+  pub out : List LaneEnd
+
+-- the lanes of these sessions, the last one first
+abbrev pub lanes_of : List Seated → List ℕ
+lanes_of sessions = fold (λ later s. (view_of s.session).lane.0 ∷ later) [] sessions
+
+-- of the lanes' ends, the last lane's first, those behind the lanes whose session wasn't handed out
+abbrev pub handed_out : List Seated → List LaneEnd → List LaneEnd
+handed_out unused ends = drop (length unused) ends
 
 -- nothing of it has changed but for the calls of its host
 pub record SameHeap (x y : Hosting) : Type 0 where
   pub home : y.home ≡ x.home
   pub helper : y.helper ≡ x.helper
+  pub unused : y.unused ≡ x.unused
+  pub out : y.out ≡ x.out
 
 -- Sessions have ended, one a lane, and none of them held a monitor. One legal history has what each was told as its part, and the
 -- device stands for its heap.

@@ -1,5 +1,5 @@
 -- What is true of a hosted heap between its calls (this project's own).
-use Rattle.std.specs.Prelude.{◌≡◌, List, All}
+use Rattle.std.specs.Prelude.{◌≡◌, ◌≤◌, List, All, length}
 use Rattle.deferred_disk.specs.Deferred.{Deferred}
 use Rattle.image.specs.Layout.{IsLayout}
 use Rattle.image.specs.declared.layout.Layout.{Layout}
@@ -17,4 +17,5 @@ pub record IsHosting (h : Home) (x : Parts Deferred) (l : Layout) (unused : List
   pub layout_is : l ≡ x.store.known.layout
   pub within : IsLayout l
   pub unused_are : AreNewHere h unused
+  pub count : length unused ≤ length lanes
   pub lanes_are : All (IsLaneEnd h x.store.known.layout.capacity x.rings) lanes

@@ -1,7 +1,7 @@
 -- Where sessions come back (this project's own).
-use Rattle.std.specs.Prelude.{ℕ, ◌≡◌, List, ◌∷◌, [], All, IfSome}
+use Rattle.std.specs.Prelude.{ℕ, ◌≡◌, List, ◌∷◌, [], None, All, IfSome}
 use Rattle.monitor.specs.Seats.{Home}
-use Rattle.rtrb.specs.Ring.{received}
+use Rattle.rtrb.specs.Ring.{known_items, received}
 use Rattle.running_heap.specs.Joined.{IsJoined}
 use Rattle.session.specs.Sessions.{view_of}
 use Rattle.session.specs.declared.session.Session.{Session}
@@ -18,9 +18,15 @@ pub record IsLaneEnd (h : Home) (capacity : ℕ) (rings : Rings) (l : LaneEnd) :
   pub first : BeginsJoined h capacity rings (received l.back)
   pub came : IfSome l.came (IsJoined h capacity rings)
 
+-- after a look its session hasn't come back
+pub record IsAwaited (l : LaneEnd) : Type 0 where
+  pub out : l.came ≡ None
+  pub looked : known_items l.back ≡ []
+
 -- a session of these words that was told nothing
-abbrev pub IsNewHere : Home → Seated → Type 0
-IsNewHere h s = s.home ≡ h
+pub record IsNewHere (h : Home) (s : Seated) : Type 0 where
+  pub home : s.home ≡ h
+  pub untold : (view_of s.session).events ≡ []
 
 abbrev pub AreNewHere : Home → List Seated → Type 0
 AreNewHere h sessions = All (IsNewHere h) sessions

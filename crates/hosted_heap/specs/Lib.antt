@@ -2,6 +2,7 @@
 pub mod Hosting
 pub mod Opening
 pub mod Closing
+pub mod Rounds
 pub mod Sessions
 pub mod Calls
 pub mod Rows

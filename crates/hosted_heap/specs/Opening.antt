@@ -1,6 +1,6 @@
 -- What a hosted heap begins with, and which refusal comes when (this project's own).
-use Rattle.std.specs.Prelude.{ℕ, ◌≡◌, ◌<◌, List, slice_index}
-use Rattle.std.specs.List.{slice_index_or}
+use Rattle.std.specs.Prelude.{ℕ, ◌≡◌, ◌<◌, List, [], slice_index}
+use Rattle.std.specs.List.{range_with_len, slice_index_or}
 use Rattle.block_disk.specs.Device.{Device}
 use Rattle.block_disk.specs.Memory.{device_of, fresh}
 use Rattle.deferred_disk.specs.Deferred.{Deferred}
@@ -21,12 +21,17 @@ use Rattle.hosted_heap.specs.Rows.{RefusesRows, numbered}
 use Rattle.hosted_heap.specs.declared.error.HostError.{HostError}
 use Rattle.hosted_heap.specs.declared.error.HostError.TheVariants.{NoMemory, Schema, Image, Recover}
 
--- It runs with what was recovered: with its values, its lanes and its device, and nothing was told to it.
+-- It runs with what was recovered: with its values, its lanes and its device, and nothing was told to it. Its host has made no call and has fetched
+-- none, and no session was handed out: the lanes' sessions come by number.
 pub record HasBegun (schema : Declarations) (r : Parts Deferred) (x : Hosting) : Type 0 where
   pub plan_is : x.home.plan ≡ record { schema = schema; first = r.heap; last = LAST_NUMBER; lanes = r.layout.lanes }
   pub layout_is : x.helper.store.known.layout ≡ r.layout
   pub disk_is : x.helper.store.disk ≡ r.disk
   pub untold : IsServing hosted_device x.helper (plan x.home) no_past
+  pub unmade : x.calls.made ≡ []
+  pub none_left : x.calls.left ≡ []
+  pub unused : x.unused ≡ range_with_len 0 r.layout.lanes
+  pub none_out : x.out ≡ []
 
 -- It was made of so many objects and of these fields, with so many lanes of so many records, and begins with their first values.
 pub record IsMade (objects : ℕ) (rows : List GuardRow) (lanes capacity : ℕ) (x : Hosting) : Type 0 where

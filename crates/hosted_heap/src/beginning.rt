@@ -1,10 +1,12 @@
 //! The sessions of a heap that begins to run, and where they come back.
-ghost use Rattle.std.specs.Prelude.{◌≡◌, ◌∷◌, [], ℕ, All, IfOk, None};
+ghost use Rattle.std.specs.Prelude.{◌≡◌, ◌∷◌, [], ℕ, All, IfOk, None, length};
+ghost use Rattle.std.specs.List.{range_with_len};
 ghost use Rattle.std.specs.Arc.{arc_value};
+ghost use Rattle.hosted_heap.specs.Hosting.{lanes_of};
 ghost use Rattle.hosted_heap.specs.Lanes.{AreNewHere, IsLaneEnd};
 ghost use Rattle.monitor.specs.Seats.{Home};
 ghost use Rattle.rtrb.specs.Ring.{received};
-ghost use Rattle.running_heap.specs.Joined.{IsJoined};
+ghost use Rattle.running_heap.specs.Joined.{AreNew, IsJoined};
 ghost use Rattle.session.specs.Sessions.{IsSessionOf};
 ghost use Rattle.trim_helper.specs.Endings.{Rings};
 
@@ -24,7 +26,10 @@ pub fn begin_all(
     sessions: Vec<Session>,
 ) -> Result<(Vec<HostedSession>, Vec<LaneEnd>), AllocError>
     requires of { All (IsSessionOf (arc_value shared.now)) sessions.items }
+    requires fresh { AreNew 0 sessions.items }
     ensures homes { IfOk result (λ r. AreNewHere (arc_value shared.now) r.0.items) }
+    ensures in_order { IfOk result (λ r. lanes_of r.0.items ≡ range_with_len 0 (length sessions.items)) }
+    ensures count { IfOk result (λ r. length r.0.items ≡ length r.1.items) }
     ensures lanes { (capacity : ℕ) (rings : Rings) → All (IsJoined (arc_value shared.now) capacity rings) sessions.items
         → IfOk result (λ r. All (IsLaneEnd (arc_value shared.now) capacity rings) r.1.items) }
 {

@@ -1,8 +1,9 @@
 //! A hosted heap is closed.
-ghost use Rattle.std.specs.Prelude.{◌≡◌, ◌<◌, [], ℕ, All, IfErr, IfOk, length};
-ghost use Rattle.hosted_heap.specs.Closing.{IsNotClosed};
+ghost use Rattle.std.specs.Prelude.{◌≡◌, ◌<◌, [], ℕ, All, Any, IfErr, IfOk, false, drop, length, slice_index_or};
+ghost use Rattle.hosted_heap.specs.Closing.{HasStopped};
 ghost use Rattle.hosted_heap.specs.Hosting.{IsClosedWith, hosted_device};
-ghost use Rattle.hosted_heap.specs.Lanes.{IsLaneEnd};
+ghost use Rattle.hosted_heap.specs.Lanes.{IsAwaited, IsLaneEnd};
+ghost use Rattle.hosted_heap.specs.declared.lane_end.LaneEnd.{LaneEnd as End};
 ghost use Rattle.monitor.specs.Seats.{Home};
 ghost use Rattle.running_heap.specs.Joined.{IsHelping};
 ghost use Rattle.trim_helper.specs.Endings.{IsEnded, Rings};
@@ -10,6 +11,7 @@ ghost use Rattle.trim_helper.specs.Endings.{IsEnded, Rings};
 use crate::error::CloseRefusal;
 use crate::heap::HostedHeap;
 use crate::lane_end::LaneEnd;
+use crate::room::CLOSE_SYNCS;
 use crate::seated::HostedSession;
 use deferred_disk::{DeferredDisk, HostCalls};
 use monitor::Shared;
@@ -30,26 +32,39 @@ pub struct Closed {
 pub enum NotClosed {
     /// A session that was handed out hasn't ended. The heap goes on, and may be closed later.
     Running(HostedHeap),
+    /// There is no room to hand over as many syncs as a closing may take, [`CLOSE_SYNCS`](crate::CLOSE_SYNCS), beside those that the
+    /// host hasn't fetched. The heap goes on, and may be closed once the host has made them.
+    CallsLeft(HostedHeap),
+    /// Each session that was handed out has ended, and another thread isn't done with that. The heap goes on, but for the sessions that
+    /// weren't handed out, and may be closed later.
+    InUse(HostedHeap),
     /// The heap has ended as if it had stopped: what was acknowledged stays. It may be opened again.
     Stopped(Closed, CloseRefusal),
 }
 
 impl HostedHeap {
-    ghost use Rattle.std.specs.Prelude.{◌≡◌, IfErr, IfOk};
-    ghost use Rattle.hosted_heap.specs.Closing.{IsNotClosed};
+    ghost use Rattle.std.specs.Prelude.{◌≡◌, [], Any, IfErr, IfOk, false};
+    ghost use Rattle.deferred_disk.specs.Host.{HasLooked};
+    ghost use Rattle.hosted_heap.specs.Closing.{GoesOn, GoesOnWithout, IsNotClosed, IsNotFinished};
     ghost use Rattle.hosted_heap.specs.Hosting.{IsClosedWith, hosted_device};
+    ghost use Rattle.hosted_heap.specs.Lanes.{IsAwaited};
 
     /// Closes the heap, once each session that was handed out has ended: all that the sessions sent is made durable on the disk in
     /// memory and handed over. The host makes the calls that are left, and then its device has the heap of one legal history, in
     /// which each session's part is what its calls told.
+    ///
+    /// Refused in the order of [`NotClosed`].
     pub fn close(self) -> Result<Closed, NotClosed>
         ensures ok { IfOk result (λ closed. IsClosedWith self.home self.helper.store.known.layout (hosted_device closed.disk)) }
-        ensures calls { IfOk result (λ closed. closed.calls ≡ self.calls) }
+        ensures calls { IfOk result (λ closed. HasLooked self.calls closed.calls) }
         ensures refused { IfErr result (IsNotClosed self) }
     {
         let mut heap = self;
         if !heap.has_all() {
             return Err(NotClosed::Running(heap));
+        }
+        if !heap.has_room(CLOSE_SYNCS) {
+            return Err(NotClosed::CallsLeft(heap));
         }
         heap.end_unused();
         heap.finish()
@@ -57,24 +72,26 @@ impl HostedHeap {
 
     // Whether each session that was handed out has come back.
     fn has_all(&mut self) -> bool
-        ensures { self.new ≡ self.old }
+        ensures awaited { result ≡ false → Any IsAwaited self.new.out }
+        ensures same { GoesOn self.old self.new × (self.new.calls ≡ self.old.calls) }
     {
-        count_come(&mut self.lanes) >= self.lanes.len().saturating_sub(self.unused.len())
+        let first = self.unused.len();
+        have_come(&mut self.lanes, first)
     }
 
     // Ends the sessions that weren't handed out.
     fn end_unused(&mut self)
-        ensures { self.new ≡ self.old }
+        ensures { GoesOnWithout self.old self.new × (self.new.calls ≡ self.old.calls) }
     {
         end_sessions(&mut self.unused);
-        let _ = count_come(&mut self.lanes);
+        let _ = have_come(&mut self.lanes, 0);
     }
 
     // Closes with the sessions that have come back, where nobody else has the words.
     fn finish(self) -> Result<Closed, NotClosed>
         ensures ok { IfOk result (λ closed. IsClosedWith self.home self.helper.store.known.layout (hosted_device closed.disk)) }
         ensures calls { IfOk result (λ closed. closed.calls ≡ self.calls) }
-        ensures refused { IfErr result (IsNotClosed self) }
+        ensures refused { IfErr result (IsNotFinished self) }
     {
         let HostedHeap {
             alloc,
@@ -87,7 +104,7 @@ impl HostedHeap {
         } = self;
         match Arc::try_unwrap(shared) {
             Ok(shared) => close_all(alloc, shared, helper, calls, lanes),
-            Err(shared) => Err(NotClosed::Running(HostedHeap {
+            Err(shared) => Err(NotClosed::InUse(HostedHeap {
                 alloc,
                 shared,
                 helper,
@@ -100,17 +117,18 @@ impl HostedHeap {
     }
 }
 
-// How many of the lanes' sessions have come back.
-fn count_come(lanes: &mut Vec<LaneEnd>) -> usize
+// Whether the sessions of the lanes from this place on have come back.
+fn have_come(lanes: &mut Vec<LaneEnd>, first: usize) -> bool
     ensures kept { (h : Home) (capacity : ℕ) (rings : Rings) → All (IsLaneEnd h capacity rings) lanes.old.items → All (IsLaneEnd h capacity rings) lanes.new.items }
+    ensures count { length lanes.new.items ≡ length lanes.old.items }
+    ensures awaited { result ≡ false → Any IsAwaited (drop first lanes.new.items) }
 {
-    let mut count = 0usize;
-    for place in 0..lanes.len() {
-        if has_come_at(lanes, place) {
-            count = count.saturating_add(1);
+    for place in first..lanes.len() {
+        if !has_come_at(lanes, place) {
+            return false;
         }
     }
-    count
+    true
 }
 
 // Whether the session of the lane at this place has come back.
@@ -118,6 +136,7 @@ fn has_come_at(lanes: &mut Vec<LaneEnd>, place: usize) -> bool
     requires { place < length lanes.old.items }
     ensures kept { (h : Home) (capacity : ℕ) (rings : Rings) → All (IsLaneEnd h capacity rings) lanes.old.items → All (IsLaneEnd h capacity rings) lanes.new.items }
     ensures count { length lanes.new.items ≡ length lanes.old.items }
+    ensures awaited { (d : End) → result ≡ false → IsAwaited (slice_index_or lanes.new.items place d) }
 {
     lanes[place].has_come()
 }
@@ -127,7 +146,7 @@ fn end_sessions(sessions: &mut Vec<HostedSession>)
     ensures { sessions.new.items ≡ [] }
 {
     'sessions: while let Some(session) = sessions.pop() {
-        session.end();
+        let _ = session.end();
     }
 }
 
@@ -143,7 +162,7 @@ fn close_all(
     requires lanes { All (IsLaneEnd shared helper.store.known.layout.capacity helper.rings) lanes.items }
     ensures ok { IfOk result (λ closed. IsClosedWith shared helper.store.known.layout (hosted_device closed.disk)) }
     ensures calls { IfOk result (λ closed. closed.calls ≡ calls) }
-    ensures refused { IfErr result (IsNotClosed (record { home = shared; helper = helper; calls = calls })) }
+    ensures refused { IfErr result (HasStopped shared helper calls) }
 {
     let Ok(ended) = end_lanes(alloc, lanes) else {
         let disk = helper.into_store().into_disk();

@@ -1,4 +1,5 @@
 //! Why a hosted heap isn't opened, told of, or closed.
+use durable::StoreError;
 use guards::SchemaError;
 use image::ImageError;
 use recover::RecoverError;
@@ -20,6 +21,17 @@ pub enum HostError {
     /// The image wasn't recovered.
     #[error("{0}")]
     Recover(RecoverError),
+}
+
+/// Why a round of a hosted heap isn't made, or has stopped.
+#[derive(Clone, Copy, Debug, Drop, Error, PartialEq, Eq)]
+pub enum RoundError {
+    /// The host has yet to make calls: there is no room for those of a round. Nothing was done.
+    #[error("calls are left")]
+    CallsLeft,
+    /// The helper has stopped.
+    #[error("{0}")]
+    Store(StoreError),
 }
 
 /// Why it isn't told how many sections of a lane are acknowledged.

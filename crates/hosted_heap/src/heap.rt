@@ -1,8 +1,9 @@
 //! A hosted heap, from its opening to its end.
-use crate::error::AcknowledgedError;
+use crate::error::{AcknowledgedError, RoundError};
 use crate::lane_end::LaneEnd;
+use crate::room::ROUND_SYNCS;
 use crate::seated::HostedSession;
-use deferred_disk::{DeferredDisk, DeviceCall, HostCalls};
+use deferred_disk::{DeferredDisk, DeviceCall, HostCalls, SYNCS};
 use durable::StoreError;
 use heap_model::Lane;
 use image::Layout;
@@ -17,7 +18,8 @@ use trim_helper::Helper;
 /// to do.
 ///
 /// A round writes and syncs a disk in memory, and hands the calls over. What a round acknowledges is on the host's device once the
-/// host has made them. Contracts see it as its words, its helper and the calls.
+/// host has made them. Contracts see it as its words, its helper, the calls, the lanes whose session wasn't handed out, and where the
+/// sessions that were come back.
 #[derive(Drop)]
 pub struct HostedHeap {
     pub(crate) alloc: Global,
@@ -31,21 +33,34 @@ pub struct HostedHeap {
 
 impl Model for HostedHeap {
     ghost use Rattle.std.specs.Arc.{arc_value};
-    ghost use Rattle.hosted_heap.specs.Hosting.{Hosting};
+    ghost use Rattle.hosted_heap.specs.Hosting.{Hosting, handed_out, lanes_of};
     ghost use Rattle.hosted_heap.specs.Keeping.{IsHosting};
+    ghost use Rattle.hosted_heap.specs.contracts.lane_end.LaneEnd as ends;
+    ghost use Rattle.std.specs.Coded.{codes};
 
     ghost Value = { Hosting };
 
-    ghost view = { λ x. record { home = arc_value x.shared; helper = x.helper; calls = x.calls } };
+    ghost coded = { Prim.hlevel (codes, ends.the_row.coded) };
+
+    ghost view = { λ x. record { home = arc_value x.shared; helper = x.helper; calls = x.calls; unused = lanes_of x.unused.items; out = handed_out x.unused.items x.lanes.items } };
 
     ghost invariant = { λ x. IsHosting (arc_value x.shared) x.helper x.layout x.unused.items x.lanes.items };
 }
 
 impl HostedHeap {
-    ghost use Rattle.std.specs.Prelude.{◌≡◌, ◌<◌, ◌≤◌, [], ◌∷◌, ℕ, List, Err, true, false, IfErr, IfOk, IfSome, IsErrOf, OnErr, OnOk, MatchOption};
-    ghost use Rattle.block_disk.specs.Device.{HasCause};
+    ghost use Rattle.std.specs.Prelude.{◌≡◌, ◌<◌, ◌≤◌, ◌+◌, ◌↔◌, [], ◌∷◌, ℕ, List, None, Err, true, false, length, IfErr, IfOk, IfSome, IsErrOf, OnErr, OnOk, MatchOption};
+    ghost use Rattle.block_disk.specs.Device.{HasCause, HasFailed};
     ghost use Rattle.deferred_disk.specs.Deferred.{stop_of};
+    ghost use Rattle.deferred_disk.specs.Host.{Fetches, HasLooked};
     ghost use Rattle.deferred_disk.specs.declared.call.DeviceCall.{DeviceCall};
+    ghost use Rattle.deferred_disk.specs.declared.disk.TheConstants.{SYNCS};
+    ghost use Rattle.rtrb.specs.Ring.{known_items};
+    ghost use Rattle.session.specs.Sessions.{view_of};
+    ghost use Rattle.hosted_heap.specs.Rounds.{IfStopped};
+    ghost use Rattle.hosted_heap.specs.declared.error.RoundError.TheVariants as rounds;
+    ghost use Rattle.hosted_heap.specs.declared.room.TheConstants.{ROUND_SYNCS};
+    ghost use Rattle.hosted_heap.specs.declared.lane_end.LaneEnd.{LaneEnd};
+    ghost use Rattle.trim_helper.specs.Rings.{known_of, waiting_in};
     ghost use Rattle.hosted_heap.specs.Hosting.{SameHeap, hosted_device};
     ghost use Rattle.hosted_heap.specs.declared.error.AcknowledgedError.TheVariants.{BadLane, CallsLeft};
     ghost use Rattle.image.specs.Layout.{size_of};
@@ -69,18 +84,21 @@ impl HostedHeap {
         self.layout.size()
     }
 
-    /// Hands out a session, of a lane of which none was handed out; the lanes' numbers rise. `None` once all were.
+    /// Hands out a session that was told nothing, of the least lane of which none was handed out. `None` once all were.
     pub fn session(&mut self) -> Option<HostedSession>
+        ensures next { MatchOption result (self.old.unused ≡ []) (λ s. self.old.unused ≡ (view_of s.session).lane.0 ∷ self.new.unused) }
+        ensures out { IfSome result (λ s. (end : LaneEnd) × (self.new.out ≡ end ∷ self.old.out)) }
+        ensures untold { IfSome result (λ s. (view_of s.session).events ≡ []) }
         ensures home { IfSome result (λ s. s.home ≡ self.old.home) }
-        ensures same { self.new ≡ self.old }
+        ensures none { result ≡ None → self.new ≡ self.old }
+        ensures same { (self.new.home ≡ self.old.home) × (self.new.helper ≡ self.old.helper) × (self.new.calls ≡ self.old.calls) }
     {
         self.unused.pop()
     }
 
     /// Where the host has made all calls that it was given, takes the calls up to the next sync, if there are some.
     pub fn fetch(&mut self)
-        ensures made { self.new.calls.made ≡ self.old.calls.made }
-        ensures left { ¬ (self.old.calls.left ≡ []) → self.new.calls ≡ self.old.calls }
+        ensures fetches { Fetches self.old.calls self.new.calls }
         ensures heap { SameHeap self.old self.new }
     {
         self.calls.fetch();
@@ -106,19 +124,66 @@ impl HostedHeap {
     /// A round of the helper ([`Helper::round`]): what the sessions sent is made durable and acknowledged on the disk in memory, and
     /// the calls are handed over. It answers how many records it applied.
     ///
-    /// Refused as by [`Helper::round`]. A `Fault` is want of memory, or of room for one more sync, since the host has made no calls
-    /// for long; from then on each round answers `Failed`, and the heap has to be opened again.
-    pub fn round(&mut self) -> Result<u64, StoreError>
+    /// Refused, in this order:
+    /// - `CallsLeft`: there is no room to hand over as many syncs as a round may take, [`ROUND_SYNCS`], beside those that the host hasn't
+    ///   fetched. Nothing was done;
+    /// - `Store`: as by [`Helper::round`]. A `Fault` is want of memory; from then on each round answers `Failed`, and the heap has to be
+    ///   opened again.
+    pub fn round(&mut self) -> Result<u64, RoundError>
+        ensures calls_left { IsErrOf result rounds.CallsLeft ↔ (SYNCS < length (known_items self.new.calls.ring) + ROUND_SYNCS) }
+        ensures nothing { IsErrOf result rounds.CallsLeft → SameHeap self.old self.new }
+        ensures ok { (p : Past) → IsServing hosted_device self.old.helper (plan self.old.home) p
+            → IfOk result (λ n. HasServed hosted_device self.old.helper self.new.helper (plan self.old.home) p n) }
+        ensures emptied { OnOk result ((l : ℕ) → l < length self.new.helper.rings → waiting_in self.new.helper.waiting l ≡ None → known_of self.new.helper.rings l ≡ []) }
+        ensures settled { OnOk result (self.new.helper.is_settled ≡ true) }
+        ensures quiet { self.old.helper.is_settled ≡ true → IfOk result (λ n. n ≡ 0 → hosted_device self.new.helper.store.disk ≡ hosted_device self.old.helper.store.disk) }
+        ensures stop { IfStopped result IsStop }
+        ensures why { IfStopped result (λ e. IsWhy self.old.helper.store.known self.new.helper.store.known e) }
+        ensures err { (p : Past) → IsServing hosted_device self.old.helper (plan self.old.home) p
+            → IfStopped result (λ e. (n : ℕ) × HasServed hosted_device self.old.helper self.new.helper (plan self.old.home) p n) }
+        ensures unsettled { IfStopped result (λ e. self.new.helper.is_settled ≡ false) }
+        ensures cause { IfStopped result (λ e. e ≡ Fault → HasFailed (hosted_device self.old.helper.store.disk).failures (hosted_device self.new.helper.store.disk).failures) }
+        ensures later { (hosted_device self.old.helper.store.disk).failures ≤ (hosted_device self.new.helper.store.disk).failures }
+        ensures layout { self.new.helper.store.known.layout ≡ self.old.helper.store.known.layout }
+        ensures home { self.new.home ≡ self.old.home }
+        ensures sessions { (self.new.unused ≡ self.old.unused) × (self.new.out ≡ self.old.out) }
+        ensures calls { HasLooked self.old.calls self.new.calls }
+    {
+        if !self.has_room(ROUND_SYNCS) {
+            return Err(RoundError::CallsLeft);
+        }
+        match self.serve() {
+            Ok(applied) => Ok(applied),
+            Err(stop) => Err(RoundError::Store(stop)),
+        }
+    }
+
+    // Looks whether so many syncs may be handed over.
+    pub(crate) fn has_room(&mut self, syncs: usize) -> bool
+        requires few { syncs ≤ SYNCS }
+        ensures room { (result ≡ false) ↔ (SYNCS < length (known_items self.new.calls.ring) + syncs) }
+        ensures heap { SameHeap self.old self.new }
+        ensures calls { HasLooked self.old.calls self.new.calls }
+    {
+        self.calls.waiting() <= SYNCS - syncs
+    }
+
+    // The round of the helper.
+    fn serve(&mut self) -> Result<u64, StoreError>
         ensures ok { (p : Past) → IsServing hosted_device self.old.helper (plan self.old.home) p
             → IfOk result (λ n. HasServed hosted_device self.old.helper self.new.helper (plan self.old.home) p n) }
         ensures err { (p : Past) → IsServing hosted_device self.old.helper (plan self.old.home) p
             → OnErr result ((n : ℕ) × HasServed hosted_device self.old.helper self.new.helper (plan self.old.home) p n) }
+        ensures emptied { OnOk result ((l : ℕ) → l < length self.new.helper.rings → waiting_in self.new.helper.waiting l ≡ None → known_of self.new.helper.rings l ≡ []) }
         ensures settled { OnOk result (self.new.helper.is_settled ≡ true) }
+        ensures quiet { self.old.helper.is_settled ≡ true → IfOk result (λ n. n ≡ 0 → hosted_device self.new.helper.store.disk ≡ hosted_device self.old.helper.store.disk) }
+        ensures unsettled { OnErr result (self.new.helper.is_settled ≡ false) }
         ensures stop { IfErr result IsStop }
         ensures why { IfErr result (λ e. IsWhy self.old.helper.store.known self.new.helper.store.known e) }
         ensures cause { HasCause (hosted_device self.old.helper.store.disk).failures (hosted_device self.new.helper.store.disk).failures Fault result }
         ensures layout { self.new.helper.store.known.layout ≡ self.old.helper.store.known.layout }
         ensures home { self.new.home ≡ self.old.home }
+        ensures sessions { (self.new.unused ≡ self.old.unused) × (self.new.out ≡ self.old.out) }
         ensures calls { self.new.calls ≡ self.old.calls }
     {
         joined_law();
@@ -130,19 +195,20 @@ impl HostedHeap {
     ///
     /// Refused, in this order:
     /// - `BadLane`;
-    /// - `CallsLeft`: a call that was handed over isn't made.
+    /// - `CallsLeft`: a call that was handed over isn't made. The calls up to the next sync are fetched then.
     pub fn acknowledged(&mut self, lane: Lane) -> Result<u64, AcknowledgedError>
         ensures ok { (p : Past) → IsServing hosted_device self.old.helper (plan self.old.home) p → IfOk result (λ n. n ≡ p.cut lane.0) }
-        ensures made { OnOk result (self.new.calls.left ≡ []) }
-        ensures bad_lane { self.old.helper.store.known.layout.lanes ≤ lane.0 → result ≡ Err BadLane }
-        ensures calls_left { IsErrOf result CallsLeft → (lane.0 < self.old.helper.store.known.layout.lanes) × (¬ (self.new.calls.left ≡ [])) }
+        ensures all_made { OnOk result ((self.new.calls.left ≡ []) × (known_items self.new.calls.ring ≡ [])) }
+        ensures bad_lane { (result ≡ Err BadLane) ↔ (self.old.helper.store.known.layout.lanes ≤ lane.0) }
+        ensures calls_left { IsErrOf result CallsLeft ↔ (lane.0 < self.old.helper.store.known.layout.lanes) × (¬ (self.new.calls.left ≡ [])) }
+        ensures fetches { lane.0 < self.old.helper.store.known.layout.lanes → Fetches self.old.calls self.new.calls }
+        ensures untouched { self.old.helper.store.known.layout.lanes ≤ lane.0 → self.new.calls ≡ self.old.calls }
         ensures heap { SameHeap self.old self.new }
-        ensures same { self.new.calls.made ≡ self.old.calls.made }
     {
         if lane.0 >= self.layout.lanes {
             return Err(AcknowledgedError::BadLane);
         }
-        self.calls.fetch();
+        self.fetch();
         if self.calls.next_call().is_some() {
             return Err(AcknowledgedError::CallsLeft);
         }

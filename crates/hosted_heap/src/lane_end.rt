@@ -1,9 +1,9 @@
 //! The heap's end of a lane.
-ghost use Rattle.std.specs.Prelude.{◌≡◌, ◌↔◌, ◌∷◌, [], ℕ, None, IfSome, IsSome, IsTrue};
+ghost use Rattle.std.specs.Prelude.{◌≡◌, ◌↔◌, ◌∷◌, [], ℕ, false, None, IfNone, IfSome, IsSome, IsTrue};
 ghost use Rattle.std.specs.Arc.{arc_value};
-ghost use Rattle.hosted_heap.specs.Lanes.{BeginsJoined, IsLaneEnd};
+ghost use Rattle.hosted_heap.specs.Lanes.{BeginsJoined, IsAwaited, IsLaneEnd};
 ghost use Rattle.monitor.specs.Seats.{Home};
-ghost use Rattle.rtrb.specs.Ring.{received};
+ghost use Rattle.rtrb.specs.Ring.{known_items, received};
 ghost use Rattle.running_heap.specs.Joined.{IsJoined};
 ghost use Rattle.session.specs.Sessions.{IsSessionOf};
 ghost use Rattle.trim_helper.specs.Endings.{Rings};
@@ -26,6 +26,7 @@ impl LaneEnd {
     pub fn has_come(&mut self) -> bool
         ensures kept { (h : Home) (capacity : ℕ) (rings : Rings) → IsLaneEnd h capacity rings self.old → IsLaneEnd h capacity rings self.new }
         ensures came { IsTrue result ↔ IsSome self.new.came }
+        ensures awaited { result ≡ false → IsAwaited self.new }
     {
         if self.came.is_some() {
             return true;
@@ -39,6 +40,7 @@ impl LaneEnd {
 fn take_one(back: &mut Consumer<Session, Global, Returning>) -> Option<Session>
     ensures first { (h : Home) (capacity : ℕ) (rings : Rings) → BeginsJoined h capacity rings (received back.old) → BeginsJoined h capacity rings (received back.new) }
     ensures joined { (h : Home) (capacity : ℕ) (rings : Rings) → BeginsJoined h capacity rings (received back.old) → IfSome result (IsJoined h capacity rings) }
+    ensures none { IfNone result (known_items back.new ≡ []) }
 {
     joined_law();
     match back.pop() {

@@ -5,6 +5,7 @@ ghost use Rattle.rtrb.specs.Ring.{known_free, sent};
 ghost use Rattle.session.specs.Sessions.{IsSessionOf};
 ghost use Rattle.hosted_heap.specs.Returning.{MayReturn};
 
+use crate::returned::Returned;
 use crate::returning::Returning;
 use crate::waiting::HostedWaiting;
 use heap_model::{FieldId, Lane, ObjectId};
@@ -44,7 +45,7 @@ impl Model for HostedSession {
 }
 
 impl HostedSession {
-    ghost use Rattle.std.specs.Prelude.{◌≡◌, ◌<◌, ◌≤◌, ◌↔◌, List, [], ◌∷◌, None, Ok, Err, true, Contains, IfOk, MatchResult};
+    ghost use Rattle.std.specs.Prelude.{◌≡◌, ◌<◌, ◌≤◌, ◌↔◌, List, [], ◌∷◌, ◌++◌, None, Ok, Err, true, Contains, IfOk, MatchResult};
     ghost use Rattle.std.specs.FinSet as set;
     ghost use Rattle.heap_model.specs.declared.event.Event.TheVariants as event;
     ghost use Rattle.heap_model.specs.declared.ids.Lane.{Lane};
@@ -54,7 +55,7 @@ impl HostedSession {
     ghost use Rattle.session.specs.Calls.{IsQuiet};
     ghost use Rattle.session.specs.Sessions.{view_of};
     ghost use Rattle.session.specs.declared.error.SessionError.TheVariants as error;
-    ghost use Rattle.steps.specs.Views.{IsHeld, IsLasting, IsPaired, Lengthens, hold, plan};
+    ghost use Rattle.steps.specs.Views.{IsHeld, IsLasting, IsWhole, Lengthens, hold, plan};
 
     /// Takes the monitor, or one lock more of it ([`Session::try_enter`]).
     pub fn try_enter(&mut self, object: ObjectId) -> Result<(), SessionError>
@@ -113,8 +114,9 @@ impl HostedSession {
     pub fn look(&mut self, object: ObjectId) -> Result<(LockWord, Option<FatWord>), SessionError>
         ensures home { self.new.home ≡ self.old.home }
         ensures unknown { (plan self.old.home).objects ≤ object.0 → (result ≡ Err error.UnknownObject) × IsQuiet (view_of self.old.session) (view_of self.new.session) }
-        ensures known { object.0 < (plan self.old.home).objects → (lock : _) × (fat : _) × (result ≡ Ok (lock, fat)) × IsPaired lock fat
+        ensures known { object.0 < (plan self.old.home).objects → (lock : _) × (fat : _) × (result ≡ Ok (lock, fat)) × IsWhole (view_of self.new.session) object lock fat
             × Lengthens (view_of self.old.session) (view_of self.new.session) (event.Look object (sight_of lock fat) ∷ []) }
+        ensures lasting { IfOk result (λ words. IsLasting (view_of self.new.session) object words.0) }
     {
         self.session.look(&self.shared, object)
     }
@@ -159,8 +161,11 @@ impl HostedSession {
         }
     }
 
-    /// Ends the session, and lets it come back to its heap. It may still hold monitors: then its heap isn't closed.
-    pub fn end(self) {
+    /// Ends the session, and lets it come back to its heap: it is the last that went into the ring by which it comes back. It may still
+    /// hold monitors: then its heap isn't closed.
+    pub fn end(self) -> Returned
+        ensures back { result ≡ self.before ++ self.session ∷ [] }
+    {
         let HostedSession {
             shared,
             session,
@@ -170,5 +175,6 @@ impl HostedSession {
         drop(shared);
         let mut back = back;
         back.push_reserved(session);
+        Returned { back }
     }
 }

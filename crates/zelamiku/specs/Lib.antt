@@ -4,3 +4,6 @@ pub mod Behind
 -- What the calls of a session answer.
 pub mod SessionDoors
 pub mod SessionStatuses
+-- What C's calls of a heap answer.
+pub mod HeapStatuses
+pub mod HeapDoors

@@ -19,7 +19,7 @@ use Rattle.session.specs.Sessions.{view_of}
 use Rattle.session.specs.declared.error.SessionError.{SessionError}
 use Rattle.session.specs.declared.error.Still.{Still}
 use Rattle.session.specs.declared.session.Session.{Session}
-use Rattle.steps.specs.Views.{IsHeld, IsPaired, Lengthens, hold, plan}
+use Rattle.steps.specs.Views.{IsHeld, IsLasting, IsWhole, Lengthens, hold, plan}
 use Rattle.zelamiku.specs.Behind.{Answers, behind, nothing_behind, session_behind, waiting_behind}
 use Rattle.zelamiku.specs.Own.{Held}
 use Rattle.zelamiku.specs.SessionStatuses.{refusal_status, status_of, still_status}
@@ -102,7 +102,7 @@ sight_told StillInSet = free_sight 0
 pub record Looks (h : Home) (x y : Session) (o : ObjectId) (sight : words.Sight) (status : ℕ) : Type 0 where
   pub unknown : (plan h).objects ≤ o.0 → (status ≡ UNKNOWN_OBJECT) × IsQuiet (view_of x) (view_of y)
   pub known : o.0 < (plan h).objects → (lock : Shape) × (fat : Option FatShape) × (status ≡ OK) × (sight ≡ sight_told (sight_of lock fat))
-      × IsPaired lock fat × Lengthens (view_of x) (view_of y) (event.Look o (sight_of lock fat) ∷ [])
+      × IsWhole (view_of y) o lock fat × IsLasting (view_of y) o lock × Lengthens (view_of x) (view_of y) (event.Look o (sight_of lock fat) ∷ [])
 
 abbrev pub LooksAt : (object : ℕ) (sight : words.Sight) → Seated → Seated → ℕ → Type 0
 LooksAt object sight s t status = Looks s.home s.session t.session (record { 0 = object }) sight status

@@ -1,10 +1,18 @@
 //! The calls of a heap, on what is behind a handle.
+ghost use Rattle.std.specs.Prelude.{◌≡◌, ◌≢◌, Some, None, IfErr, IfOk, if◌then◌else◌};
+ghost use Rattle.std.specs.Option.{option_copied};
+ghost use Rattle.hosted_heap.specs.Opening.{IsMade};
+ghost use Rattle.zelamiku.specs.Behind.{Answers, behind, heap_behind};
+ghost use Rattle.zelamiku.specs.HeapDoors.{AcknowledgesAt, ClosesAt, HandsOne, HandsOutAt, HasAcknowledged, IsOpened, MakesCallAt, RefusesFormat, RefusesOpen, RoundsAt, TellsNextAt, filled_of, found_of, nothing_found, rows_of, told_of};
+ghost use Rattle.zelamiku.specs.declared.status.TheConstants.{NONE_LEFT, OK};
+
+use crate::slot::{Slot, put};
 use crate::state::{Inner, Open};
 use crate::status;
 use crate::words::{Call, Field, Found};
 use deferred_disk::{DeviceCall, HostCalls};
 use heap_model::{Lane, ObjectId};
-use hosted_heap::{CloseRefusal, HostedHeap, HostedSession, NotClosed};
+use hosted_heap::{AcknowledgedError, HostedHeap, NotClosed};
 use image::GuardRow;
 use recover::Report;
 use std::alloc::{AllocError, Global};
@@ -16,7 +24,10 @@ pub fn format(
     fields: &[Field],
     lanes: u32,
     capacity: u32,
-) -> Result<HostedHeap, u32> {
+) -> Result<HostedHeap, u32>
+    ensures ok { IfOk result (IsMade objects (rows_of fields.now) lanes capacity) }
+    ensures refused { IfErr result (RefusesFormat objects fields.now lanes capacity) }
+{
     let Ok(lanes) = u8::try_from(lanes) else {
         return Err(status::BAD_HEADER);
     };
@@ -29,7 +40,9 @@ pub fn format(
     }
 }
 
-fn rows_of(alloc: Global, fields: &[Field]) -> Result<Vec<GuardRow>, AllocError> {
+fn rows_of(alloc: Global, fields: &[Field]) -> Result<Vec<GuardRow>, AllocError>
+    ensures { IfOk result (λ rows. rows.items ≡ rows_of fields.now) }
+{
     let mut rows = Vec::new(alloc);
     for field in fields.iter().copied() {
         rows.push(GuardRow {
@@ -42,7 +55,10 @@ fn rows_of(alloc: Global, fields: &[Field]) -> Result<Vec<GuardRow>, AllocError>
 }
 
 /// The heap of these bytes, and what recovery found in them.
-pub fn open(alloc: Global, bytes: &[u8]) -> Result<(HostedHeap, Found), u32> {
+pub fn open(alloc: Global, bytes: &[u8]) -> Result<(HostedHeap, Found), u32>
+    ensures ok { IfOk result (λ r. IsOpened bytes.now r.0 r.1) }
+    ensures refused { IfErr result (RefusesOpen bytes.now) }
+{
     match hosted_heap::open(alloc, bytes) {
         Ok((heap, report)) => {
             let found = found_in(&heap, &report);
@@ -52,7 +68,9 @@ pub fn open(alloc: Global, bytes: &[u8]) -> Result<(HostedHeap, Found), u32> {
     }
 }
 
-fn found_in(heap: &HostedHeap, report: &Report) -> Found {
+fn found_in(heap: &HostedHeap, report: &Report) -> Found
+    ensures { result ≡ found_of heap.now.helper.store.known.layout report.now }
+{
     let layout = heap.layout();
     Found {
         size: heap.size(),
@@ -65,20 +83,45 @@ fn found_in(heap: &HostedHeap, report: &Report) -> Found {
     }
 }
 
-/// Hands out a session, or answers why not.
-pub fn session(state: &mut Inner) -> Result<HostedSession, u32> {
+/// Hands out a session, behind the handle `place`.
+pub fn session(alloc: Global, state: &mut Inner, place: &mut Slot) -> u32
+    ensures told { Answers (HandsOutAt place.new.handle.state) (Some state.old) (Some state.new) result }
+    ensures refused { result ≢ OK → place.new.handle.state ≡ place.old.handle.state }
+{
     match &mut state.open {
-        Open::Heap(heap) => match heap.session() {
-            Some(session) => Ok(session),
-            None => Err(status::NONE_LEFT),
-        },
-        Open::Closed(_) => Err(status::NONE_LEFT),
-        _ => Err(status::WRONG_KIND),
+        Open::Heap(heap) => hand_out(alloc, heap, place),
+        Open::Closed(_) => status::NONE_LEFT,
+        _ => status::WRONG_KIND,
     }
 }
 
+// The box comes first: a session that found no room would never come back, and its heap couldn't be closed.
+fn hand_out(alloc: Global, heap: &mut HostedHeap, place: &mut Slot) -> u32
+    ensures handed { HandsOne heap.old place.new.handle.state (heap_behind heap.new) result }
+    ensures refused { result ≢ OK → place.new.handle.state ≡ place.old.handle.state }
+{
+    let Ok(mut room) = Box::new(
+        alloc,
+        Inner {
+            open: Open::Nothing,
+        },
+    ) else {
+        return status::NO_MEMORY;
+    };
+    let Some(session) = heap.session() else {
+        return status::NONE_LEFT;
+    };
+    room.open = Open::Session(session);
+    put(place, room);
+    status::OK
+}
+
 /// The call that the host has to make next, with as many of its bytes as there is room for, and the status.
-pub fn next_call(state: &mut Inner, bytes: &mut [u8]) -> (Call, u32) {
+pub fn next_call(state: &mut Inner, bytes: &mut [u8]) -> (Call, u32)
+    ensures told { Answers (TellsNextAt result.0 bytes.old bytes.new) (Some state.old) (Some state.new) result.1 }
+    ensures refused { result.1 ≢ OK → result.0 ≡ told_of None }
+    ensures kept { result.1 ≢ OK → bytes.new ≡ bytes.old }
+{
     match &mut state.open {
         Open::Heap(heap) => {
             heap.fetch();
@@ -93,7 +136,9 @@ pub fn next_call(state: &mut Inner, bytes: &mut [u8]) -> (Call, u32) {
 }
 
 /// No call.
-pub fn no_call() -> Call {
+pub fn no_call() -> Call
+    ensures { result ≡ told_of None }
+{
     Call {
         kind: 0,
         at: 0,
@@ -101,7 +146,10 @@ pub fn no_call() -> Call {
     }
 }
 
-fn tell(call: Option<&DeviceCall>, bytes: &mut [u8]) -> Call {
+fn tell(call: Option<&DeviceCall>, bytes: &mut [u8]) -> Call
+    ensures call { result ≡ told_of (option_copied call.entry) }
+    ensures bytes { bytes.new ≡ filled_of (option_copied call.entry) bytes.old }
+{
     match call {
         None => no_call(),
         Some(DeviceCall::Sync) => Call {
@@ -122,12 +170,19 @@ fn tell(call: Option<&DeviceCall>, bytes: &mut [u8]) -> Call {
 }
 
 /// The host has made the call.
-pub fn call_done(state: &mut Inner) -> u32 {
-    let is_done = match &mut state.open {
-        Open::Heap(heap) => heap.done(),
-        Open::Closed(closed) => closed.calls.done(),
-        _ => return status::WRONG_KIND,
-    };
+pub fn call_done(state: &mut Inner) -> u32
+    ensures { Answers MakesCallAt (Some state.old) (Some state.new) result }
+{
+    match &mut state.open {
+        Open::Heap(heap) => of_done(heap.done()),
+        Open::Closed(closed) => of_done(closed.calls.done()),
+        _ => status::WRONG_KIND,
+    }
+}
+
+fn of_done(is_done: bool) -> u32
+    ensures { result ≡ (if is_done then OK else NONE_LEFT) }
+{
     if is_done {
         status::OK
     } else {
@@ -136,11 +191,14 @@ pub fn call_done(state: &mut Inner) -> u32 {
 }
 
 /// A round of the helper: how many records it applied, or 0, and the status.
-pub fn round(state: &mut Inner) -> (u64, u32) {
+pub fn round(state: &mut Inner) -> (u64, u32)
+    ensures told { Answers (RoundsAt result.0) (Some state.old) (Some state.new) result.1 }
+    ensures refused { result.1 ≢ OK → result.0 ≡ 0 }
+{
     match &mut state.open {
         Open::Heap(heap) => match heap.round() {
             Ok(applied) => (applied, status::OK),
-            Err(refusal) => (0, status::of_store(refusal)),
+            Err(refusal) => (0, status::of_round(refusal)),
         },
         Open::Closed(_) => (0, status::NONE_LEFT),
         _ => (0, status::WRONG_KIND),
@@ -148,12 +206,12 @@ pub fn round(state: &mut Inner) -> (u64, u32) {
 }
 
 /// How many sections of the lane are acknowledged, or 0, and the status.
-pub fn acknowledged(state: &mut Inner, lane: u32) -> (u64, u32) {
-    let Ok(lane) = u8::try_from(lane) else {
-        return (0, status::BAD_LANE);
-    };
+pub fn acknowledged(state: &mut Inner, lane: u32) -> (u64, u32)
+    ensures told { Answers (AcknowledgesAt lane result.0) (Some state.old) (Some state.new) result.1 }
+    ensures refused { result.1 ≢ OK → result.0 ≡ 0 }
+{
     match &mut state.open {
-        Open::Heap(heap) => match heap.acknowledged(Lane(lane)) {
+        Open::Heap(heap) => match acknowledged_of(heap, lane) {
             Ok(sections) => (sections, status::OK),
             Err(refusal) => (0, status::of_acknowledged(refusal)),
         },
@@ -162,19 +220,34 @@ pub fn acknowledged(state: &mut Inner, lane: u32) -> (u64, u32) {
     }
 }
 
+fn acknowledged_of(heap: &mut HostedHeap, lane: u32) -> Result<u64, AcknowledgedError>
+    ensures { HasAcknowledged heap.old heap.new lane result }
+{
+    if lane >= u32::from(heap.layout().lanes) {
+        return Err(AcknowledgedError::BadLane);
+    }
+    heap.acknowledged(Lane(lane as u8))
+}
+
 /// Closes the heap.
-pub fn close(state: &mut Inner) -> u32 {
-    let open = std::mem::replace(&mut state.open, Open::Nothing);
-    let (open, answer) = closed_of(open);
-    state.open = open;
+pub fn close(state: &mut Inner) -> u32
+    ensures { Answers ClosesAt (Some state.old) (Some state.new) result }
+{
+    let content = std::mem::replace(&mut state.open, Open::Nothing);
+    let (content, answer) = closed_of(content);
+    state.open = content;
     answer
 }
 
-fn closed_of(open: Open) -> (Open, u32) {
-    match open {
+fn closed_of(content: Open) -> (Open, u32)
+    ensures { ClosesAt content (behind result.0) result.1 }
+{
+    match content {
         Open::Heap(heap) => match heap.close() {
             Ok(closed) => (Open::Closed(closed), status::OK),
             Err(NotClosed::Running(heap)) => (Open::Heap(heap), status::RUNNING),
+            Err(NotClosed::CallsLeft(heap)) => (Open::Heap(heap), status::CALLS_LEFT),
+            Err(NotClosed::InUse(heap)) => (Open::Heap(heap), status::RUNNING),
             Err(NotClosed::Stopped(closed, refusal)) => {
                 (Open::Closed(closed), status::of_close(refusal))
             }
@@ -185,7 +258,9 @@ fn closed_of(open: Open) -> (Open, u32) {
 }
 
 /// Nothing was found.
-pub fn nothing_found() -> Found {
+pub fn nothing_found() -> Found
+    ensures { result ≡ nothing_found }
+{
     Found {
         size: 0,
         objects: 0,

@@ -1,5 +1,8 @@
 //! What C calls of a heap. Each export is one call of `heap_calls` on what is behind the handle.
-ghost use Rattle.std.specs.Prelude.{◌≡◌, None, IsSome};
+ghost use Rattle.std.specs.Prelude.{◌≡◌, ◌≢◌, None};
+ghost use Rattle.zelamiku.specs.Behind.{Answers};
+ghost use Rattle.zelamiku.specs.HeapDoors.{AcknowledgesAt, ClosesAt, FormatsAt, HandsOut, MakesCallAt, OpensAt, PutsNew, RoundsAt, TellsNextAt, nothing_found, told_of};
+ghost use Rattle.zelamiku.specs.declared.status.TheConstants.{OK};
 
 use crate::slot::{Slot, put, put_new, take};
 use crate::state::Open;
@@ -18,8 +21,8 @@ pub extern "C" fn zelamiku_format(
     capacity: u32,
     size: &mut u64,
 ) -> u32
-    ensures open { IsSome place.old.handle.state → result ≡ 2 }
-    ensures kept { IsSome place.old.handle.state → place.new.handle.state ≡ place.old.handle.state }
+    ensures told { PutsNew (FormatsAt objects fields.now lanes capacity size.new) place.old.handle.state place.new.handle.state result }
+    ensures refused { result ≢ OK → size.new ≡ 0 }
 {
     *size = 0;
     if place.is_open() {
@@ -27,8 +30,12 @@ pub extern "C" fn zelamiku_format(
     }
     match heap_calls::format(alloc, objects, fields, lanes, capacity) {
         Ok(heap) => {
-            *size = heap.size();
-            put_new(alloc, place, Open::Heap(heap))
+            let bytes = heap.size();
+            let Ok(()) = put_new(alloc, place, Open::Heap(heap)) else {
+                return status::NO_MEMORY;
+            };
+            *size = bytes;
+            status::OK
         }
         Err(answer) => answer,
     }
@@ -42,8 +49,8 @@ pub extern "C" fn zelamiku_open(
     image: &[u8],
     found: &mut Found,
 ) -> u32
-    ensures open { IsSome place.old.handle.state → result ≡ 2 }
-    ensures kept { IsSome place.old.handle.state → place.new.handle.state ≡ place.old.handle.state }
+    ensures told { PutsNew (OpensAt image.now found.new) place.old.handle.state place.new.handle.state result }
+    ensures refused { result ≢ OK → found.new ≡ nothing_found }
 {
     *found = heap_calls::nothing_found();
     if place.is_open() {
@@ -51,8 +58,11 @@ pub extern "C" fn zelamiku_open(
     }
     match heap_calls::open(alloc, image) {
         Ok((heap, opened)) => {
+            let Ok(()) = put_new(alloc, place, Open::Heap(heap)) else {
+                return status::NO_MEMORY;
+            };
             *found = opened;
-            put_new(alloc, place, Open::Heap(heap))
+            status::OK
         }
         Err(answer) => answer,
     }
@@ -61,8 +71,8 @@ pub extern "C" fn zelamiku_open(
 /// Hands out a session.
 #[unsafe(no_mangle)]
 pub extern "C" fn zelamiku_session(alloc: Global, place: &mut Slot, session: &mut Slot) -> u32
-    ensures open { IsSome session.old.handle.state → result ≡ 2 }
-    ensures closed { session.old.handle.state ≡ None → place.old.handle.state ≡ None → result ≡ 1 }
+    ensures told { HandsOut session.old.handle.state session.new.handle.state place.old.handle.state place.new.handle.state result }
+    ensures refused { result ≢ OK → session.new.handle.state ≡ session.old.handle.state }
 {
     if session.is_open() {
         return status::OPEN;
@@ -70,10 +80,7 @@ pub extern "C" fn zelamiku_session(alloc: Global, place: &mut Slot, session: &mu
     let Some(mut state) = take(alloc, place) else {
         return status::CLOSED;
     };
-    let answer = match heap_calls::session(&mut state) {
-        Ok(handed) => put_new(alloc, session, Open::Session(handed)),
-        Err(answer) => answer,
-    };
+    let answer = heap_calls::session(alloc, &mut state, session);
     put(place, state);
     answer
 }
@@ -86,7 +93,9 @@ pub extern "C" fn zelamiku_next_call(
     call: &mut Call,
     bytes: &mut [u8],
 ) -> u32
-    ensures closed { place.old.handle.state ≡ None → (result ≡ 1) × (place.new.handle.state ≡ None) }
+    ensures told { Answers (TellsNextAt call.new bytes.old bytes.new) place.old.handle.state place.new.handle.state result }
+    ensures refused { result ≢ OK → call.new ≡ told_of None }
+    ensures kept { result ≢ OK → bytes.new ≡ bytes.old }
 {
     *call = heap_calls::no_call();
     let Some(mut state) = take(alloc, place) else {
@@ -101,7 +110,7 @@ pub extern "C" fn zelamiku_next_call(
 /// The host has made that call.
 #[unsafe(no_mangle)]
 pub extern "C" fn zelamiku_call_done(alloc: Global, place: &mut Slot) -> u32
-    ensures closed { place.old.handle.state ≡ None → (result ≡ 1) × (place.new.handle.state ≡ None) }
+    ensures { Answers MakesCallAt place.old.handle.state place.new.handle.state result }
 {
     let Some(mut state) = take(alloc, place) else {
         return status::CLOSED;
@@ -114,7 +123,8 @@ pub extern "C" fn zelamiku_call_done(alloc: Global, place: &mut Slot) -> u32
 /// A round of the helper.
 #[unsafe(no_mangle)]
 pub extern "C" fn zelamiku_round(alloc: Global, place: &mut Slot, applied: &mut u64) -> u32
-    ensures closed { place.old.handle.state ≡ None → (result ≡ 1) × (place.new.handle.state ≡ None) }
+    ensures told { Answers (RoundsAt applied.new) place.old.handle.state place.new.handle.state result }
+    ensures refused { result ≢ OK → applied.new ≡ 0 }
 {
     *applied = 0;
     let Some(mut state) = take(alloc, place) else {
@@ -134,7 +144,8 @@ pub extern "C" fn zelamiku_acknowledged(
     lane: u32,
     sections: &mut u64,
 ) -> u32
-    ensures closed { place.old.handle.state ≡ None → (result ≡ 1) × (place.new.handle.state ≡ None) }
+    ensures told { Answers (AcknowledgesAt lane sections.new) place.old.handle.state place.new.handle.state result }
+    ensures refused { result ≢ OK → sections.new ≡ 0 }
 {
     *sections = 0;
     let Some(mut state) = take(alloc, place) else {
@@ -149,7 +160,7 @@ pub extern "C" fn zelamiku_acknowledged(
 /// Closes a heap.
 #[unsafe(no_mangle)]
 pub extern "C" fn zelamiku_close(alloc: Global, place: &mut Slot) -> u32
-    ensures closed { place.old.handle.state ≡ None → (result ≡ 1) × (place.new.handle.state ≡ None) }
+    ensures { Answers ClosesAt place.old.handle.state place.new.handle.state result }
 {
     let Some(mut state) = take(alloc, place) else {
         return status::CLOSED;

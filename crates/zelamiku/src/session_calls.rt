@@ -283,7 +283,7 @@ fn ended_of(found: Open) -> (Open, u32)
 {
     match found {
         Open::Session(session) => {
-            session.end();
+            let _ = session.end();
             (Open::Nothing, status::OK)
         }
         other => {

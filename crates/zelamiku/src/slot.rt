@@ -1,11 +1,11 @@
 //! A place for a handle.
-ghost use Rattle.std.specs.Prelude.{◌≡◌, ◌↔◌, None, Some, Option, IsTrue, IsSome, MatchOption};
+ghost use Rattle.std.specs.Prelude.{◌≡◌, ◌↔◌, None, Some, Option, IsTrue, IsSome, MatchOption, OnErr, OnOk};
+ghost use Rattle.zelamiku.specs.Behind.{behind};
 
 use crate::handle::Handle;
 use crate::loose::Loose;
 use crate::state::{Inner, Open};
-use crate::status;
-use std::alloc::Global;
+use std::alloc::{AllocError, Global};
 
 /// A handle, as C keeps it: the pointer, and whether something is behind it.
 #[repr(C)]
@@ -84,11 +84,14 @@ pub fn put(place: &mut Slot, state: Box<Inner>)
     *place = Slot::of(sendable(state));
 }
 
-/// Puts something new behind the handle.
-pub fn put_new(alloc: Global, place: &mut Slot, open: Open) -> u32 {
-    let Ok(state) = Box::new(alloc, Inner { open }) else {
-        return status::NO_MEMORY;
+/// Puts something new behind the handle, where there is memory for its box.
+pub fn put_new(alloc: Global, place: &mut Slot, content: Open) -> Result<(), AllocError>
+    ensures ok { OnOk result (place.new.handle.state ≡ behind content) }
+    ensures err { OnErr result (place.new.handle.state ≡ place.old.handle.state) }
+{
+    let Ok(state) = Box::new(alloc, Inner { open: content }) else {
+        return Err(AllocError);
     };
     put(place, state);
-    status::OK
+    Ok(())
 }

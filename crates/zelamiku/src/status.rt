@@ -1,10 +1,11 @@
 //! Answers as C's numbers, which `zelamiku.h` names.
 ghost use Rattle.std.specs.Prelude.{◌≡◌};
+ghost use Rattle.zelamiku.specs.HeapStatuses.{acknowledged_status, close_status, host_status, image_status, recover_status, round_status, schema_status, store_status};
 ghost use Rattle.zelamiku.specs.SessionStatuses.{refusal_status, status_of, still_status};
 
 use guards::SchemaError;
 use heap_model::Lane;
-use hosted_heap::{AcknowledgedError, CloseRefusal, HostError};
+use hosted_heap::{AcknowledgedError, CloseRefusal, HostError, RoundError};
 use image::ImageError;
 use recover::RecoverError;
 use session::{SessionError, Still};
@@ -114,7 +115,18 @@ pub fn of_still(still: Still) -> u32
 }
 
 /// The status of a round's refusal.
-pub fn of_store(refusal: StoreError) -> u32 {
+pub fn of_round(refusal: RoundError) -> u32
+    ensures { result ≡ round_status refusal }
+{
+    match refusal {
+        RoundError::CallsLeft => CALLS_LEFT,
+        RoundError::Store(refusal) => of_store(refusal),
+    }
+}
+
+fn of_store(refusal: StoreError) -> u32
+    ensures { result ≡ store_status refusal }
+{
     match refusal {
         StoreError::Failed => FAILED,
         StoreError::Worn => WORN,
@@ -125,7 +137,9 @@ pub fn of_store(refusal: StoreError) -> u32 {
 }
 
 /// The status of a heap that isn't made or opened.
-pub fn of_host(refusal: HostError) -> u32 {
+pub fn of_host(refusal: HostError) -> u32
+    ensures { result ≡ host_status refusal }
+{
     match refusal {
         HostError::NoMemory => NO_MEMORY,
         HostError::Schema(refusal) => of_schema(refusal),
@@ -134,7 +148,9 @@ pub fn of_host(refusal: HostError) -> u32 {
     }
 }
 
-fn of_schema(refusal: SchemaError) -> u32 {
+fn of_schema(refusal: SchemaError) -> u32
+    ensures { result ≡ schema_status refusal }
+{
     match refusal {
         SchemaError::NoMemory => NO_MEMORY,
         SchemaError::UnknownObject => UNKNOWN_OBJECT,
@@ -143,7 +159,9 @@ fn of_schema(refusal: SchemaError) -> u32 {
     }
 }
 
-fn of_image(refusal: ImageError) -> u32 {
+fn of_image(refusal: ImageError) -> u32
+    ensures { result ≡ image_status refusal }
+{
     match refusal {
         ImageError::NoMemory => NO_MEMORY,
         ImageError::Fault => FAULT,
@@ -156,7 +174,9 @@ fn of_image(refusal: ImageError) -> u32 {
     }
 }
 
-fn of_recover(refusal: RecoverError) -> u32 {
+fn of_recover(refusal: RecoverError) -> u32
+    ensures { result ≡ recover_status refusal }
+{
     match refusal {
         RecoverError::NoMemory => NO_MEMORY,
         RecoverError::Fault => FAULT,
@@ -172,7 +192,9 @@ fn of_recover(refusal: RecoverError) -> u32 {
 }
 
 /// The status of a lane of which nothing is told.
-pub fn of_acknowledged(refusal: AcknowledgedError) -> u32 {
+pub fn of_acknowledged(refusal: AcknowledgedError) -> u32
+    ensures { result ≡ acknowledged_status refusal }
+{
     match refusal {
         AcknowledgedError::BadLane => BAD_LANE,
         AcknowledgedError::CallsLeft => CALLS_LEFT,
@@ -180,7 +202,9 @@ pub fn of_acknowledged(refusal: AcknowledgedError) -> u32 {
 }
 
 /// The status of a heap that has stopped in place of being closed.
-pub fn of_close(refusal: CloseRefusal) -> u32 {
+pub fn of_close(refusal: CloseRefusal) -> u32
+    ensures { result ≡ close_status refusal }
+{
     match refusal {
         CloseRefusal::NoMemory => NO_MEMORY,
         CloseRefusal::Close(CloseError::Missing { .. }) => BAD_LANE,

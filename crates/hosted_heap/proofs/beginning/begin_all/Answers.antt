@@ -1,36 +1,69 @@
-use Rattle.std.proofs.Common.{All, IfSome, Option, Some, [], sym, ◌∙◌, subst}
+use Rattle.std.proofs.Common.{ℕ, ◌≡◌, ◌+◌, All, IfSome, List, Option, Some, [], ◌∷◌, ◌++◌, length, ap, refl, sym, ◌∙◌, subst, arith}
+use Rattle.std.proofs.lemmas.List.{length_push}
 use Rattle.std.proofs.lemmas.List.Elements.{All-nil, All-pop, All-push}
 use Rattle.monitor.specs.Seats.{Home}
-use Rattle.running_heap.specs.Joined.{IsJoined}
-use Rattle.session.specs.Sessions.{IsSessionOf}
+use Rattle.running_heap.specs.Joined.{AreNew, IsJoined}
+use Rattle.session.specs.Sessions.{IsSessionOf, view_of}
 use Rattle.session.specs.declared.session.Session.{Session}
 use Rattle.std.specs.Arc.{arc_value}
+use Rattle.std.specs.List.{range_with_len}
+use Rattle.hosted_heap.specs.Hosting.{lanes_of}
 use Rattle.hosted_heap.specs.Lanes.{AreNewHere, IsLaneEnd, IsNewHere}
+use Rattle.hosted_heap.specs.Sessions.{Seated}
+use Rattle.hosted_heap.specs.declared.lane_end.LaneEnd.{LaneEnd}
+use Rattle.hosted_heap.proofs.Orders.{lanes_down, new_popped}
+use Rattle.hosted_heap.proofs.beginning.begin_all.Invariants.{IsDown}
 use Rattle.hosted_heap.proofs.beginning.begin_all.Goals as goal
 
 pub sessions-init : goal.sessions-init
 sessions-init c =
     let h : Home = arc_value c.args.shared.now in
-    (c.requires.of, subst (AreNewHere h) (sym c.new-unused.ensures.items) (All-nil (IsNewHere h)), λ k rings all. (all, subst (All (IsLaneEnd h k rings)) (sym c.new-lanes.ensures.items) (All-nil (IsLaneEnd h k rings))))
+    let all = c.args.sessions.items in
+    let none = c.new-unused.ensures.items in
+    let down : IsDown all [] (length all) = (refl, omega arith) in (
+      c.requires.fresh,
+      subst (λ (u : List Seated). IsDown all u (length all)) (sym none) down,
+      ap (λ (u : List Seated). length u) none ∙ sym (ap (λ (es : List LaneEnd). length es) c.new-lanes.ensures.items),
+      c.requires.of,
+      subst (AreNewHere h) (sym none) (All-nil (IsNewHere h)),
+      λ k rings all. (all, subst (All (IsLaneEnd h k rings)) (sym c.new-lanes.ensures.items) (All-nil (IsLaneEnd h k rings))),
+    )
 
 pub sessions-preserved : goal.sessions-preserved
 sessions-preserved c =
     let h : Home = arc_value c.args.shared.now in
     let s : Session = c.in-Some.session in
-    let was = c.sessions.invariant in (
-      (All-pop (IsSessionOf h) _ _ (Some s) c.in-Some.ensures.items was.0).0,
-      subst (AreNewHere h) (sym c.in_ok-push.ensures.items) (All-push (IsNewHere h) _ _ was.1 (c.in_ok-session.ensures.session.0 ∙ c.in_ok-try_clone.ensures)),
+    let was = c.sessions.invariant in
+    let left = c.pop.new.self.items in
+    let unused = c.sessions.unused.items in
+    let one : Seated = c.in_ok-session.session in
+    let ends = c.in_ok-session.ensures in
+    let popped : c.sessions.left.items ≡ left ++ s ∷ [] = c.in-Some.ensures.items in
+    let new = new_popped 0 left s (subst (AreNew 0) popped was.0) in
+    let fewer : length c.sessions.left.items ≡ length left + 1 = ap (λ (l : List Session). length l) popped ∙ length_push left s in
+    let pushed : c.push.new.self.items ≡ unused ++ one ∷ [] = c.in_ok-push.ensures.items in
+    let down : IsDown left (unused ++ one ∷ []) (length c.args.sessions.items) = (
+      lanes_down unused one left s (length c.sessions.left.items) ends.session.1 new.1 fewer was.1.0,
+      (let count = was.1.1 in let more = length_push unused one in omega (arith, count, more, fewer)),
+    ) in (
+      new.0,
+      subst (λ (u : List Seated). IsDown left u (length c.args.sessions.items)) (sym pushed) down,
+      ap (λ (u : List Seated). length u) pushed ∙ length_push unused one ∙ ap (λ (n : ℕ). n + 1) was.2
+          ∙ sym (ap (λ (es : List LaneEnd). length es) c.in_ok-push-2.ensures.items ∙ length_push c.sessions.lanes.items c.in_ok-session.end),
+      (All-pop (IsSessionOf h) _ _ (Some s) c.in-Some.ensures.items was.3).0,
+      subst (AreNewHere h) (sym pushed)
+          (All-push (IsNewHere h) _ one was.4 (record { home = ends.session.0 ∙ c.in_ok-try_clone.ensures; untold = ap (λ (x : Session). (view_of x).events) ends.session.1 ∙ new.2 })),
       λ k rings all.
-          let each = was.2 k rings all in
+          let each = was.5 k rings all in
           let parts = All-pop (IsJoined h k rings) _ _ (Some s) c.in-Some.ensures.items each.0 in (
             parts.0,
             subst (All (IsLaneEnd h k rings)) (sym c.in_ok-push-2.ensures.items)
                 (All-push (IsLaneEnd h k rings) _ c.in_ok-session.end each.1 (record {
-                  first = (s, [], c.in_ok-session.ensures.end.0, parts.1);
-                  came = subst (λ (o : Option Session). IfSome o (IsJoined h k rings)) (sym c.in_ok-session.ensures.end.1) tt;
+                  first = (s, [], ends.end.0, parts.1);
+                  came = subst (λ (o : Option Session). IfSome o (IsJoined h k rings)) (sym ends.end.1) tt;
                 })),
           ),
     )
 
 pub returns-clause-lanes : goal.returns-clause-lanes
-returns-clause-lanes c = λ k rings all. (c.sessions.invariant.2 k rings all).1
+returns-clause-lanes c = λ k rings all. (c.sessions.invariant.5 k rings all).1

@@ -1,9 +1,11 @@
-use Rattle.std.proofs.Common.{ℕ, All, ap, sym, ◌∙◌, subst}
+use Rattle.std.proofs.Common.{ℕ, All, length, ap, sym, ◌∙◌, subst, arith}
+use Rattle.std.proofs.lemmas.List.{drop_all}
 use Rattle.std.proofs.lemmas.List.Elements.{All-weaker}
 use Rattle.image.specs.declared.layout.Layout.{Layout}
 use Rattle.monitor.specs.Seats.{Home}
 use Rattle.running_heap.specs.Joined.{IsHelping, IsJoined}
 use Rattle.session.specs.Sessions.{IsSessionOf}
+use Rattle.std.specs.List.{range_with_len}
 use Rattle.steps.specs.Views.{plan}
 use Rattle.store_past.specs.Past.{no_past}
 use Rattle.trim_helper.specs.Parts.{IsServing}
@@ -16,6 +18,7 @@ begin_all-requires c =
     record {
       of = subst (λ (h : Home). All (IsSessionOf h) x.sessions.items) (sym c.in_ok-shared.ensures.ok)
           (All-weaker (IsJoined x.shared c.args.recovered.layout.capacity x.helper.rings) (IsSessionOf x.shared) (λ s joined. joined.of) x.sessions.items c.in-Ok.ensures.joined);
+      fresh = c.in-Ok.ensures.fresh;
     }
 
 pub invariant_of-result : goal.invariant_of-result
@@ -27,18 +30,25 @@ invariant_of-result c =
       layout_is = c.layout-layout.ensures.layout ∙ sym c.in-Ok.ensures.layout;
       within = c.layout-layout.ensures.recovered.image.header.limits;
       unused_are = c.in_ok-unused.ensures.homes;
+      count = (let same = c.in_ok-unused.ensures.count in omega (arith, same));
       lanes_are = c.in_ok-unused.ensures.lanes x.helper.store.known.layout.capacity x.helper.rings
           (subst (λ (h : Home). All (IsJoined h x.helper.store.known.layout.capacity x.helper.rings) x.sessions.items) same
           (subst (λ (l : Layout). All (IsJoined x.shared l.capacity x.helper.rings) x.sessions.items) (sym c.in-Ok.ensures.layout) c.in-Ok.ensures.joined));
     }
 
-pub returns-clause-begun : goal.returns-clause-begun
-returns-clause-begun c =
+pub returns : goal.returns
+returns c =
     let x = c.in-Ok.heap in
     let same = c.in_ok-shared.ensures.ok in
     record {
-      plan_is = ap (λ (h : Home). h.plan) same ∙ c.in-Ok.ensures.plan;
-      layout_is = c.in-Ok.ensures.layout;
-      disk_is = c.in-Ok.ensures.disk;
-      untold = subst (λ (h : Home). IsServing hosted_device x.helper (plan h) no_past) (sym same) c.in-Ok.ensures.past;
+      begun = record {
+        plan_is = ap (λ (h : Home). h.plan) same ∙ c.in-Ok.ensures.plan;
+        layout_is = c.in-Ok.ensures.layout;
+        disk_is = c.in-Ok.ensures.disk;
+        untold = subst (λ (h : Home). IsServing hosted_device x.helper (plan h) no_past) (sym same) c.in-Ok.ensures.past;
+        unmade = c.requires.calls.0;
+        none_left = c.requires.calls.1;
+        unused = c.in_ok-unused.ensures.in_order ∙ ap (λ (n : ℕ). range_with_len 0 n) c.in-Ok.ensures.count;
+        none_out = drop_all (length c.in_ok-unused.unused.items) c.in_ok-unused.lanes.items (let same = c.in_ok-unused.ensures.count in omega (arith, same));
+      };
     }

@@ -21,6 +21,7 @@ begin-requires c =
         fields = ap (λ (l : Layout). l.fields) told.layout;
         guarded = λ f d low. ap (λ (r : GuardRow). r.guard.0) (told.guards f d low);
       };
+      calls = (c.in-Ok-new.ensures.host.0, c.in-Ok-new.ensures.host.1);
     }
 
 pub returns-in-Ok-begin-clause-ok : goal.returns-in-Ok-begin-clause-ok

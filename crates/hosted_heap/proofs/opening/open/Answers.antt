@@ -31,7 +31,7 @@ begin-requires c =
     let schema : c.in-Ok-declare.schema ≡ numbered found.layout.objects found.guards =
     c.in-Ok-declare.ensures.ok ∙ ap (λ (l : Layout). numbered l.objects c.guards.result.now) c.layout.ensures.layout ∙ ap (λ (r : List GuardRow). numbered found.layout.objects r) c.guards.ensures.guards in
     let size : length found.guards ≡ found.layout.fields = c.layout.ensures.recovered.image.guards.size ∙ ap (λ (l : Layout). l.fields) c.layout.ensures.layout in
-    record { schema = subst (λ (s : Declarations). FitsSchema s found.layout found.guards) (sym schema) (fits_numbered found.layout found.guards size) }
+    record { schema = subst (λ (s : Declarations). FitsSchema s found.layout found.guards) (sym schema) (fits_numbered found.layout found.guards size); calls = (c.in-Ok.ensures.host.0, c.in-Ok.ensures.host.1) }
 
 pub returns-in-Ok-begin-clause-ok : goal.returns-in-Ok-begin-clause-ok
 returns-in-Ok-begin-clause-ok c =

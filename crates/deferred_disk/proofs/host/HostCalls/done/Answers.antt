@@ -7,7 +7,10 @@ use Rattle.deferred_disk.proofs.Onto.{made_more, order_popped}
 use Rattle.deferred_disk.proofs.host.HostCalls.done.Goals as goal
 
 pub invariant_of-self : goal.invariant_of-self
-invariant_of-self c = order_popped (received c.self.inside.ring) c.pop_front.result c.self.inside.left.items c.pop_front.new.self.items c.pop_front.ensures.items c.self.invariant
+invariant_of-self c = record {
+  order = order_popped (received c.self.inside.ring) c.pop_front.result c.self.inside.left.items c.pop_front.new.self.items c.pop_front.ensures.items c.self.invariant.order;
+  begun = c.self.invariant.begun;
+}
 
 -- there was one
 some : (o : Option DeviceCall) (call : DeviceCall) (later rest : List DeviceCall) → call ∷ later ≡ option_to_list o ++ rest → rest ≡ later → is_some o ≡ true
@@ -19,7 +22,7 @@ returns-clause-one c = λ call later is.
     let handed = received c.self.inside.ring in
     let was : c.self.inside.left.items ≡ call ∷ later = ap (λ (h : Host). h.left) c.self.view_is ∙ is in
     let rest : c.pop_front.new.self.items ≡ later = c.pop_front.ensures.rest ∙ ap (drop 1) was in
-    let order = subst (IsInOrder handed) was c.self.invariant in (
+    let order = subst (IsInOrder handed) was c.self.invariant.order in (
       c.is_some.ensures ∙ some c.pop_front.result call later c.pop_front.new.self.items (sym was ∙ c.pop_front.ensures.items) rest,
       rest,
       ap (made_of handed) rest ∙ made_more handed call later order ∙ ap (λ (l : List DeviceCall). stop_of call ∷ made_of handed l) (sym was)

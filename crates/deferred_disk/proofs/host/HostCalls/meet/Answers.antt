@@ -20,7 +20,7 @@ pub returns-clause-order : goal.returns-clause-order
 returns-clause-order c =
     let now = c.slots_beside.new.self in
     let left = c.self.inside.left.items in
-    let order : IsInOrder (received now) left = subst (λ (h : List Handed). IsInOrder h left) (sym c.slots_beside.ensures.looked.1) c.self.invariant in (
+    let order : IsInOrder (received now) left = subst (λ (h : List Handed). IsInOrder h left) (sym c.slots_beside.ensures.looked.1) c.self.invariant.order in (
       all_in (known_items now) ++ c.disk.inside.unsent.items,
       told (sent c.slots_beside.new.producer) (received now) (known_items now) left c.disk.inside.unsent.items c.slots_beside.ensures.fifo order,
     )
@@ -32,7 +32,7 @@ returns-clause-earlier c = λ image is.
     let unsent = c.disk.inside.unsent.items in
     let first = first_in (sent c.slots_beside.new.producer) in
     let made = made_of (received now) left in
-    let order : IsInOrder (received now) left = subst (λ (h : List Handed). IsInOrder h left) (sym c.slots_beside.ensures.looked.1) c.self.invariant in
+    let order : IsInOrder (received now) left = subst (λ (h : List Handed). IsInOrder h left) (sym c.slots_beside.ensures.looked.1) c.self.invariant.order in
     subst (λ (s : List Stop). LeftIn 0 (moment_after first s ∷ moments_before first s) image)
     (sym (told (sent c.slots_beside.new.producer) (received now) (known_items now) left unsent c.slots_beside.ensures.fifo order))
     (left_onto first (onto made left) (all_in (known_items now) ++ unsent) image (left_onto first made left image (inl (omega arith, is))))

@@ -1,0 +1,13 @@
+//! What may go through the ring to the host, and when.
+use crate::call::Handed;
+use rtrb::Protocol;
+
+/// First the bytes with which the device begins, and then calls, at least one at once.
+#[derive(Clone, Copy)]
+pub(crate) struct Handing;
+
+impl Protocol<Handed> for Handing {
+    ghost use Rattle.deferred_disk.specs.Handing.{MayHand};
+
+    ghost allows = { λ before next. MayHand before next };
+}

@@ -1,0 +1,34 @@
+-- Why a heap isn't closed, step by step.
+use Rattle.std.proofs.Common.{◌≡◌, Result, Ok, Err, IfErr, ap, sym, ◌∙◌, subst}
+use Rattle.deferred_disk.specs.Deferred.{Deferred}
+use Rattle.deferred_disk.specs.Host.{HasLooked, Host}
+use Rattle.monitor.specs.Seats.{Home}
+use Rattle.trim_helper.specs.Parts.{Parts}
+use Rattle.hosted_heap.specs.Closing.{GoesOn, GoesOnWithout, HasStopped, IsNotClosed, IsNotFinished, StopsFor}
+use Rattle.hosted_heap.specs.Hosting.{Hosting, SameHeap}
+use Rattle.hosted_heap.specs.declared.closing.Closed.{Closed}
+use Rattle.hosted_heap.specs.declared.closing.NotClosed.{NotClosed}
+use Rattle.hosted_heap.specs.declared.closing.NotClosed.TheVariants.{Running, CallsLeft, InUse, Stopped}
+
+pub stopped : (x : Hosting) (h : Home) (r : Result Closed NotClosed) → h ≡ x.home → IfErr r (HasStopped h x.helper x.calls) → IfErr r (IsNotFinished x)
+stopped x h (Ok closed) of why = tt
+stopped x h (Err (Running y)) of why = absurd why
+stopped x h (Err (CallsLeft y)) of why = absurd why
+stopped x h (Err (InUse y)) of why = absurd why
+stopped x h (Err (Stopped closed e)) of why = (why.0, subst (λ (k : Home). StopsFor k x.helper closed.disk e) of why.1)
+
+-- the heap before a closing, after the look at its sessions, after the look at its room, and after its other sessions have ended
+pub not_closed : (x y z w : Hosting) (r : Result Closed NotClosed) → GoesOn x y → y.calls ≡ x.calls → SameHeap y z → HasLooked y.calls z.calls → GoesOnWithout z w → w.calls ≡ z.calls
+    → IfErr r (IsNotFinished w) → IfErr r (IsNotClosed x)
+not_closed x y z w (Ok closed) on calls same looked without kept why = tt
+not_closed x y z w (Err (Running v)) on calls same looked without kept why = absurd why
+not_closed x y z w (Err (CallsLeft v)) on calls same looked without kept why = absurd why
+not_closed x y z w (Err (InUse v)) on calls same looked without kept why = (
+  record { home = why.0.home ∙ without.home ∙ same.home ∙ on.home; helper = why.0.helper ∙ without.helper ∙ same.helper ∙ on.helper; unused = why.0.unused ∙ without.unused },
+  subst (λ (c : Host). HasLooked x.calls c) (sym (why.1 ∙ kept)) (subst (λ (c : Host). HasLooked c z.calls) calls looked),
+)
+not_closed x y z w (Err (Stopped closed e)) on calls same looked without kept why = (
+  subst (λ (c : Host). HasLooked x.calls c) (sym (why.0 ∙ kept)) (subst (λ (c : Host). HasLooked c z.calls) calls looked),
+  subst (λ (h : Home). StopsFor h x.helper closed.disk e) (without.home ∙ same.home ∙ on.home)
+      (subst (λ (p : Parts Deferred). StopsFor w.home p closed.disk e) (without.helper ∙ same.helper ∙ on.helper) why.1),
+)

@@ -1,0 +1,6 @@
+use Rattle.hosted_heap.proofs.Closings.{not_closed}
+use Rattle.hosted_heap.proofs.heap.HostedHeap.close.Goals as goal
+
+pub returns-clause-refused : goal.returns-clause-refused
+returns-clause-refused c = not_closed c.args.self c.has_all.new.self c.has_room.new.self c.end_unused.new.self c.finish.result c.has_all.ensures.same.0 c.has_all.ensures.same.1 c.has_room.ensures.heap
+    c.has_room.ensures.calls c.end_unused.ensures.0 c.end_unused.ensures.1 c.finish.ensures.refused

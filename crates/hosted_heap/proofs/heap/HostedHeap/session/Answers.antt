@@ -1,0 +1,38 @@
+use Rattle.std.proofs.Common.{◌≡◌, ◌∷◌, Option, Some, None, IfSome, [], ap, sym, ◌∙◌, subst}
+use Rattle.std.proofs.lemmas.List.Elements.{All-pop}
+use Rattle.monitor.specs.Seats.{Home}
+use Rattle.session.specs.Sessions.{view_of}
+use Rattle.std.specs.Arc.{arc_value}
+use Rattle.hosted_heap.specs.Hosting.{Hosting, handed_out}
+use Rattle.hosted_heap.specs.Lanes.{IsNewHere}
+use Rattle.hosted_heap.specs.Sessions.{Seated}
+use Rattle.hosted_heap.specs.declared.lane_end.LaneEnd.{LaneEnd}
+use Rattle.hosted_heap.proofs.Orders.{popped_out}
+use Rattle.hosted_heap.proofs.heap.HostedHeap.session.Goals as goal
+
+pub returns-clause-out : goal.returns-clause-out
+returns-clause-out c =
+    let left = c.pop.new.self.items in
+    let ends = c.self.inside.lanes.items in
+    subst (λ (x : Hosting). IfSome c.pop.result (λ s. (end : LaneEnd) × (handed_out left ends ≡ end ∷ x.out))) c.self.view_is
+    (popped_out c.self.inside.unused.items left c.pop.result ends c.pop.ensures.items c.self.invariant.count)
+
+-- a session of these words that was told nothing
+untold_of : (h : Home) (o : Option Seated) → IfSome o (IsNewHere h) → IfSome o (λ s. (view_of s.session).events ≡ [])
+untold_of h None is = tt
+untold_of h (Some s) is = is.untold
+
+home_of : (h k : Home) (o : Option Seated) → h ≡ k → IfSome o (IsNewHere h) → IfSome o (λ s. s.home ≡ k)
+home_of h k None same is = tt
+home_of h k (Some s) same is = is.home ∙ same
+
+pub returns-clause-untold : goal.returns-clause-untold
+returns-clause-untold c =
+    let h : Home = arc_value c.self.inside.shared in
+    untold_of h c.pop.result (All-pop (IsNewHere h) c.self.inside.unused.items c.pop.new.self.items c.pop.result c.pop.ensures.items c.self.invariant.unused_are).1
+
+pub returns-clause-home : goal.returns-clause-home
+returns-clause-home c =
+    let h : Home = arc_value c.self.inside.shared in
+    home_of h c.args.self.now.home c.pop.result (ap (λ (x : Hosting). x.home) c.self.view_is)
+    (All-pop (IsNewHere h) c.self.inside.unused.items c.pop.new.self.items c.pop.result c.pop.ensures.items c.self.invariant.unused_are).1

@@ -1,0 +1,18 @@
+-- What a host is told of the first of the calls that are left, and what it makes of it.
+use Rattle.std.proofs.Common.{◌≡◌, ℕ, List, [], ◌∷◌, Option, Some, None, MatchOption, Bool, true, false, if◌then◌else◌, Bor, ap, sym, refl, ◌∙◌}
+use Rattle.std.specs.Option.{option_copied}
+use Rattle.deferred_disk.specs.Deferred.{stop_of}
+use Rattle.deferred_disk.specs.Host.{Host}
+use Rattle.deferred_disk.specs.declared.call.DeviceCall.{DeviceCall}
+use Rattle.zelamiku.specs.HeapDoors.{MakesFirst, first_of}
+use Rattle.zelamiku.specs.declared.status.TheConstants.{NONE_LEFT, OK}
+
+pub first_told : (next : Option (Bor DeviceCall)) (left : List DeviceCall) → MatchOption next (left ≡ []) (λ call. (later : List DeviceCall) × (left ≡ call.now ∷ later)) → option_copied next ≡ first_of left
+first_told None left told = sym (ap first_of told)
+first_told (Some call) left told = sym (ap first_of told.1)
+
+pub first_made : (left : List DeviceCall) (x y : Host) (is_done : Bool) (status : ℕ) → (left ≡ [] → (is_done ≡ false) × (y ≡ x))
+    → ((call : DeviceCall) (later : List DeviceCall) → left ≡ call ∷ later → (is_done ≡ true) × (y.left ≡ later) × (y.made ≡ stop_of call ∷ x.made))
+    → status ≡ (if is_done then OK else NONE_LEFT) → MakesFirst left x y status
+first_made [] x y is_done status none one is = (is ∙ ap (λ b. if b then OK else NONE_LEFT) (none refl).0, (none refl).1)
+first_made (call ∷ later) x y is_done status none one is = let done = one call later refl in (is ∙ ap (λ b. if b then OK else NONE_LEFT) done.0, done.1, done.2)

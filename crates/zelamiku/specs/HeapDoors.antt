@@ -1,0 +1,226 @@
+-- What C's calls of a heap do to what is behind its handle, and what they answer, by cases on what is there (this project's own).
+use Rattle.std.specs.Prelude.{ℕ, ◌≡◌, ◌<◌, ◌≤◌, ◌↔◌, List, [], ◌∷◌, ◌++◌, ◌+◌, true, false, Option, Some, None, Result, Ok, Err, IfOk, IsErrOf, OnOk, drop, length, map, take}
+use Rattle.block_disk.specs.Device.{HasFailed}
+use Rattle.deferred_disk.specs.Deferred.{stop_of}
+use Rattle.deferred_disk.specs.Host.{Fetches, HasLooked, Host}
+use Rattle.deferred_disk.specs.declared.call.DeviceCall.{DeviceCall}
+use Rattle.deferred_disk.specs.declared.call.DeviceCall.TheVariants.{Write, Sync}
+use Rattle.deferred_disk.specs.declared.disk.TheConstants.{SYNCS}
+use Rattle.hosted_heap.specs.Closing.{IsNotClosed}
+use Rattle.hosted_heap.specs.Hosting.{Hosting, IsClosedWith, SameHeap, hosted_device}
+use Rattle.hosted_heap.specs.Opening.{IsFound, IsMade, RefusesMaking, RefusesOpening}
+use Rattle.hosted_heap.specs.Rounds.{IfStopped}
+use Rattle.hosted_heap.specs.Sessions.{Seated}
+use Rattle.hosted_heap.specs.declared.closing.Closed.{Closed}
+use Rattle.hosted_heap.specs.declared.closing.NotClosed.{NotClosed}
+use Rattle.hosted_heap.specs.declared.closing.NotClosed.TheVariants as unclosed
+use Rattle.hosted_heap.specs.declared.error.AcknowledgedError.{AcknowledgedError}
+use Rattle.hosted_heap.specs.declared.error.AcknowledgedError.TheVariants.{BadLane, CallsLeft}
+use Rattle.hosted_heap.specs.declared.error.HostError.{HostError}
+use Rattle.hosted_heap.specs.declared.error.RoundError.{RoundError}
+use Rattle.hosted_heap.specs.declared.error.RoundError.TheVariants as rounds
+use Rattle.hosted_heap.specs.declared.lane_end.LaneEnd.{LaneEnd}
+use Rattle.hosted_heap.specs.declared.room.TheConstants.{ROUND_SYNCS}
+use Rattle.image.specs.Layout.{size_of}
+use Rattle.image.specs.declared.guard_row.GuardRow.{GuardRow}
+use Rattle.image.specs.declared.layout.Layout.{Layout}
+use Rattle.recover.specs.declared.report.Report.{Report}
+use Rattle.rtrb.specs.Ring.{known_items}
+use Rattle.session.specs.Sessions.{view_of}
+use Rattle.steps.specs.Views.{plan}
+use Rattle.store_past.specs.Past.{Past}
+use Rattle.store_past.specs.declared.error.StoreError.TheVariants.{Fault}
+use Rattle.trim_helper.specs.Parts.{HasServed, IsServing}
+use Rattle.trim_helper.specs.Rings.{known_of, waiting_in}
+use Rattle.trim_helper.specs.Settled.{IsStop, IsWhy}
+use Rattle.zelamiku.specs.Own.{Held}
+use Rattle.zelamiku.specs.Behind.{Answers, behind, nothing_behind, heap_behind, closed_behind, session_behind}
+use Rattle.zelamiku.specs.HeapStatuses.{acknowledged_status, host_status, not_closed_status, round_status}
+use Rattle.zelamiku.specs.declared.state.Open.{Open}
+use Rattle.zelamiku.specs.declared.state.Open.TheVariants as kind
+use Rattle.zelamiku.specs.declared.status.TheConstants.{OK, OPEN, WRONG_KIND, NO_MEMORY, NONE_LEFT, BAD_HEADER}
+use Rattle.zelamiku.specs.declared.words.Call.{Call}
+use Rattle.zelamiku.specs.declared.words.Field.{Field}
+use Rattle.zelamiku.specs.declared.words.Found.{Found}
+
+-- A call that puts something new behind a handle: where something is there already it stays.
+abbrev pub PutsNew : (p : (after : Held) → (status : ℕ) → Type 0) → (before after : Held) (status : ℕ) → Type 0
+PutsNew p None after status = p after status
+PutsNew p (Some there) after status = (after ≡ Some there) × (status ≡ OPEN)
+
+-- C sees an answer as its number and `OK`, or as the status of the refusal.
+abbrev pub IsSeen : {E : Type 0} (status_of : E → ℕ) → Result ℕ E → (number status : ℕ) → Type 0
+IsSeen status_of (Ok n) number status = (number ≡ n) × (status ≡ OK)
+IsSeen status_of (Err e) number status = status ≡ status_of e
+
+-- the fields that C declares
+abbrev pub row_of : Field → GuardRow
+row_of f = record { guard = record { 0 = f.guard }; owner = record { 0 = f.owner }; first = f.first }
+
+abbrev pub rows_of : List Field → List GuardRow
+rows_of fields = map row_of fields
+
+-- Why no heap is made: lanes that a byte can't count, before all else; want of memory; or the reason of the heap itself.
+pub data RefusesFormat (objects : ℕ) (fields : List Field) (lanes capacity status : ℕ) : Type 0 where
+  PastLanes : 255 < lanes → status ≡ BAD_HEADER → RefusesFormat objects fields lanes capacity status
+  NoRoom : lanes ≤ 255 → status ≡ NO_MEMORY → RefusesFormat objects fields lanes capacity status
+  NotMade : (e : HostError) → lanes ≤ 255 → RefusesMaking objects (rows_of fields) lanes capacity e → status ≡ host_status e → RefusesFormat objects fields lanes capacity status
+
+-- `zelamiku_format`, where nothing was behind the handle: a heap of these objects and fields, with the size of its image; or none
+pub data FormatsAt (objects : ℕ) (fields : List Field) (lanes capacity size : ℕ) (after : Held) (status : ℕ) : Type 0 where
+  IsFormatted : (x : Hosting) → IsMade objects (rows_of fields) lanes capacity x → size ≡ size_of x.helper.store.known.layout → after ≡ heap_behind x → status ≡ OK
+      → FormatsAt objects fields lanes capacity size after status
+  NotFormatted : RefusesFormat objects fields lanes capacity status → after ≡ nothing_behind → FormatsAt objects fields lanes capacity size after status
+
+-- what C is told of a heap with this layout, and of what recovery reports
+abbrev pub found_of : Layout → Report → Found
+found_of l report = record { size = size_of l; objects = l.objects; fields = l.fields; lanes = l.lanes; capacity = l.capacity; dropped = length report.dropped.items; undone = report.undone }
+
+abbrev pub nothing_found : Found
+nothing_found = record { size = 0; objects = 0; fields = 0; lanes = 0; capacity = 0; dropped = 0; undone = 0 }
+
+-- the heap runs with what recovery finds in these bytes, and this is told of it
+pub record IsOpened (bytes : List ℕ) (x : Hosting) (found : Found) : Type 0 where
+  pub report : Report
+  pub recovered : IsFound bytes x report
+  pub told : found ≡ found_of x.helper.store.known.layout report
+
+-- why no heap is opened
+pub record RefusesOpen (bytes : List ℕ) (status : ℕ) : Type 0 where
+  pub why : HostError
+  pub refuses : RefusesOpening bytes why
+  pub told : status ≡ host_status why
+
+-- `zelamiku_open`, where nothing was behind the handle: the heap that recovery finds in these bytes, or none
+pub data OpensAt (bytes : List ℕ) (found : Found) (after : Held) (status : ℕ) : Type 0 where
+  IsOpen : (x : Hosting) → IsOpened bytes x found → after ≡ heap_behind x → status ≡ OK → OpensAt bytes found after status
+  NotOpen : RefusesOpen bytes status → after ≡ nothing_behind → OpensAt bytes found after status
+
+-- the session of the next lane, which was told nothing, and the heap that handed it out
+pub record IsNext (x y : Hosting) (s : Seated) : Type 0 where
+  pub lane : x.unused ≡ (view_of s.session).lane.0 ∷ y.unused
+  pub untold : (view_of s.session).events ≡ []
+  pub home_is : s.home ≡ x.home
+  pub end : LaneEnd
+  pub out : y.out ≡ end ∷ x.out
+  pub home : y.home ≡ x.home
+  pub helper : y.helper ≡ x.helper
+  pub calls : y.calls ≡ x.calls
+
+-- a heap hands out that session, or none is left, or there is no memory
+pub data HandsOne (x : Hosting) (handed after : Held) (status : ℕ) : Type 0 where
+  IsHanded : (y : Hosting) (s : Seated) → IsNext x y s → handed ≡ session_behind s → after ≡ heap_behind y → status ≡ OK → HandsOne x handed after status
+  NoneIsLeft : x.unused ≡ [] → after ≡ heap_behind x → status ≡ NONE_LEFT → HandsOne x handed after status
+  NoRoomForOne : after ≡ heap_behind x → status ≡ NO_MEMORY → HandsOne x handed after status
+
+-- `zelamiku_session`, of what is behind the heap's handle
+abbrev pub HandsOutAt : (handed : Held) → Open → (after : Held) → (status : ℕ) → Type 0
+HandsOutAt handed (kind.Heap x) after status = HandsOne x handed after status
+HandsOutAt handed (kind.Closed x) after status = (status ≡ NONE_LEFT) × (after ≡ closed_behind x)
+HandsOutAt handed other after status = (status ≡ WRONG_KIND) × (after ≡ behind other)
+
+-- and where something was behind the session's handle
+abbrev pub HandsOut : (was handed before after : Held) (status : ℕ) → Type 0
+HandsOut None handed before after status = Answers (HandsOutAt handed) before after status
+HandsOut (Some there) handed before after status = (after ≡ before) × (status ≡ OPEN)
+
+-- the first of the calls that are left
+abbrev pub first_of : List DeviceCall → Option DeviceCall
+first_of [] = None
+first_of (call ∷ later) = Some call
+
+-- a call as C sees it: its kind, where it writes, and how many bytes
+abbrev pub told_of : Option DeviceCall → Call
+told_of None = record { kind = 0; at = 0; size = 0 }
+told_of (Some (Write at content)) = record { kind = 1; at = at; size = length content.items }
+told_of (Some Sync) = record { kind = 2; at = 0; size = 0 }
+
+-- the buffer then: the bytes to be written, as many as there is room for, and behind them what was there
+abbrev pub filled_of : Option DeviceCall → (buffer : List ℕ) → List ℕ
+filled_of None buffer = buffer
+filled_of (Some (Write at content)) buffer = take (length buffer) content.items ++ drop (length content.items) buffer
+filled_of (Some Sync) buffer = buffer
+
+-- the first of the calls that are left is told, and its bytes are in the buffer
+pub record TellsFirst (left : List DeviceCall) (call : Call) (buffer filled : List ℕ) (status : ℕ) : Type 0 where
+  pub told : call ≡ told_of (first_of left)
+  pub bytes : filled ≡ filled_of (first_of left) buffer
+  pub ok : status ≡ OK
+
+-- `zelamiku_next_call`
+abbrev pub TellsNextAt : (call : Call) (buffer filled : List ℕ) → Open → (after : Held) → (status : ℕ) → Type 0
+TellsNextAt call buffer filled (kind.Heap x) after status = (y : Hosting) × SameHeap x y × Fetches x.calls y.calls × TellsFirst y.calls.left call buffer filled status × (after ≡ heap_behind y)
+TellsNextAt call buffer filled (kind.Closed x) after status = (y : Closed) × (y.disk ≡ x.disk) × Fetches x.calls y.calls × TellsFirst y.calls.left call buffer filled status × (after ≡ closed_behind y)
+TellsNextAt call buffer filled other after status = (status ≡ WRONG_KIND) × (after ≡ behind other)
+
+-- of the calls that are left, these, the first is made, if there is one
+abbrev pub MakesFirst : (left : List DeviceCall) → (x y : Host) (status : ℕ) → Type 0
+MakesFirst [] x y status = (status ≡ NONE_LEFT) × (y ≡ x)
+MakesFirst (call ∷ later) x y status = (status ≡ OK) × (y.left ≡ later) × (y.made ≡ stop_of call ∷ x.made)
+
+-- `zelamiku_call_done`
+abbrev pub MakesCallAt : Open → (after : Held) → (status : ℕ) → Type 0
+MakesCallAt (kind.Heap x) after status = (y : Hosting) × SameHeap x y × MakesFirst x.calls.left x.calls y.calls status × (after ≡ heap_behind y)
+MakesCallAt (kind.Closed x) after status = (y : Closed) × (y.disk ≡ x.disk) × MakesFirst x.calls.left x.calls y.calls status × (after ≡ closed_behind y)
+MakesCallAt other after status = (status ≡ WRONG_KIND) × (after ≡ behind other)
+
+-- a round of the heap, which answers this
+pub record HasRound (x y : Hosting) (answer : Result ℕ RoundError) : Type 0 where
+  pub calls_left : IsErrOf answer rounds.CallsLeft ↔ (SYNCS < length (known_items y.calls.ring) + ROUND_SYNCS)
+  pub nothing : IsErrOf answer rounds.CallsLeft → SameHeap x y
+  pub served : (p : Past) → IsServing hosted_device x.helper (plan x.home) p → IfOk answer (λ n. HasServed hosted_device x.helper y.helper (plan x.home) p n)
+  pub emptied : OnOk answer ((l : ℕ) → l < length y.helper.rings → waiting_in y.helper.waiting l ≡ None → known_of y.helper.rings l ≡ [])
+  pub settled : OnOk answer (y.helper.is_settled ≡ true)
+  pub quiet : x.helper.is_settled ≡ true → IfOk answer (λ n. n ≡ 0 → hosted_device y.helper.store.disk ≡ hosted_device x.helper.store.disk)
+  pub stop : IfStopped answer IsStop
+  pub why : IfStopped answer (λ e. IsWhy x.helper.store.known y.helper.store.known e)
+  pub stopped : (p : Past) → IsServing hosted_device x.helper (plan x.home) p → IfStopped answer (λ e. (n : ℕ) × HasServed hosted_device x.helper y.helper (plan x.home) p n)
+  pub unsettled : IfStopped answer (λ e. y.helper.is_settled ≡ false)
+  pub cause : IfStopped answer (λ e. e ≡ Fault → HasFailed (hosted_device x.helper.store.disk).failures (hosted_device y.helper.store.disk).failures)
+  pub later : (hosted_device x.helper.store.disk).failures ≤ (hosted_device y.helper.store.disk).failures
+  pub layout : y.helper.store.known.layout ≡ x.helper.store.known.layout
+  pub home : y.home ≡ x.home
+  pub unused : y.unused ≡ x.unused
+  pub out : y.out ≡ x.out
+  pub calls : HasLooked x.calls y.calls
+
+-- `zelamiku_round`
+abbrev pub RoundsAt : (applied : ℕ) → Open → (after : Held) → (status : ℕ) → Type 0
+RoundsAt applied (kind.Heap x) after status = (y : Hosting) × (answer : Result ℕ RoundError) × HasRound x y answer × IsSeen round_status answer applied status × (after ≡ heap_behind y)
+RoundsAt applied (kind.Closed x) after status = (status ≡ NONE_LEFT) × (after ≡ closed_behind x)
+RoundsAt applied other after status = (status ≡ WRONG_KIND) × (after ≡ behind other)
+
+-- how many sections of the lane are acknowledged, where each call was made, or why that isn't told
+pub record HasAcknowledged (x y : Hosting) (lane : ℕ) (answer : Result ℕ AcknowledgedError) : Type 0 where
+  pub acknowledged : (p : Past) → IsServing hosted_device x.helper (plan x.home) p → IfOk answer (λ n. n ≡ p.cut lane)
+  pub all_made : OnOk answer ((y.calls.left ≡ []) × (known_items y.calls.ring ≡ []))
+  pub bad_lane : (answer ≡ Err BadLane) ↔ (x.helper.store.known.layout.lanes ≤ lane)
+  pub calls_left : IsErrOf answer CallsLeft ↔ (lane < x.helper.store.known.layout.lanes) × (¬ (y.calls.left ≡ []))
+  pub fetches : lane < x.helper.store.known.layout.lanes → Fetches x.calls y.calls
+  pub untouched : x.helper.store.known.layout.lanes ≤ lane → y.calls ≡ x.calls
+  pub heap : SameHeap x y
+
+-- `zelamiku_acknowledged`
+abbrev pub AcknowledgesAt : (lane sections : ℕ) → Open → (after : Held) → (status : ℕ) → Type 0
+AcknowledgesAt lane sections (kind.Heap x) after status =
+    (y : Hosting) × (answer : Result ℕ AcknowledgedError) × HasAcknowledged x y lane answer × IsSeen acknowledged_status answer sections status × (after ≡ heap_behind y)
+AcknowledgesAt lane sections (kind.Closed x) after status = (status ≡ NONE_LEFT) × (after ≡ closed_behind x)
+AcknowledgesAt lane sections other after status = (status ≡ WRONG_KIND) × (after ≡ behind other)
+
+-- what is behind the handle of a heap that wasn't closed: the heap, which goes on, or what is left of it
+abbrev pub left_behind : NotClosed → Held
+left_behind (unclosed.Running y) = heap_behind y
+left_behind (unclosed.CallsLeft y) = heap_behind y
+left_behind (unclosed.InUse y) = heap_behind y
+left_behind (unclosed.Stopped y e) = closed_behind y
+
+-- the heap is closed, as one history of what its sessions were told; or it isn't, for this reason
+pub data ClosesOne (x : Hosting) (after : Held) (status : ℕ) : Type 0 where
+  IsNowClosed : (y : Closed) → IsClosedWith x.home x.helper.store.known.layout (hosted_device y.disk) → HasLooked x.calls y.calls → after ≡ closed_behind y → status ≡ OK → ClosesOne x after status
+  IsNotYetClosed : (why : NotClosed) → IsNotClosed x why → after ≡ left_behind why → status ≡ not_closed_status why → ClosesOne x after status
+
+-- `zelamiku_close`
+abbrev pub ClosesAt : Open → (after : Held) → (status : ℕ) → Type 0
+ClosesAt (kind.Heap x) after status = ClosesOne x after status
+ClosesAt (kind.Closed x) after status = (status ≡ NONE_LEFT) × (after ≡ closed_behind x)
+ClosesAt other after status = (status ≡ WRONG_KIND) × (after ≡ behind other)
