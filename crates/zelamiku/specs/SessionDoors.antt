@@ -1,6 +1,6 @@
 -- The calls of a session, as C makes them: the calls of `hosted_heap` on what is behind a handle (this project's own). Each is told by
 -- what is behind the handle before it and after it, and by the status that C gets.
-use Rattle.std.specs.Prelude.{ℕ, ◌≡◌, ◌<◌, ◌≤◌, ◌↔◌, List, [], ◌∷◌, Option, Some, None, Result, Ok, Err, Contains}
+use Rattle.std.specs.Prelude.{ℕ, ◌≡◌, ◌<◌, ◌≤◌, ◌↔◌, List, [], ◌∷◌, ◌++◌, Option, Some, None, Result, Ok, Err, Contains}
 use Rattle.std.specs.Int.{bit_at}
 use Rattle.std.specs.Result.{result_unwrap_or}
 use Rattle.heap_model.specs.declared.event.Event.TheVariants as event
@@ -136,7 +136,8 @@ Resumes other after status = (status ≡ WRONG_KIND) × (after ≡ behind other)
 abbrev pub Ends : Open → Held → ℕ → Type 0
 Ends = OfSession (λ s after status. (status ≡ OK) × (after ≡ nothing_behind))
 
--- the same, as the library works on what it took out: nothing is left of a session that is ended
-abbrev pub EndsTo : Open → Open → ℕ → Type 0
-EndsTo (kind.Session s) after status = (status ≡ OK) × (after ≡ kind.Nothing)
-EndsTo other after status = HasNoSession other (behind after) status
+-- The same, as the library works on what it took out: nothing is left of a session that is ended, and it has come back to its heap, as
+-- the last that went into the ring by which it comes back.
+abbrev pub EndsTo : Open → (after : Open) → (back : Option (List Session)) → (status : ℕ) → Type 0
+EndsTo (kind.Session s) after back status = (status ≡ OK) × (after ≡ kind.Nothing) × (back ≡ Some (s.before ++ s.session ∷ []))
+EndsTo other after back status = HasNoSession other (behind after) status
