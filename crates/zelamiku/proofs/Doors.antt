@@ -17,7 +17,7 @@ use Rattle.session.specs.Sessions.{view_of}
 use Rattle.session.specs.declared.error.SessionError.{SessionError}
 use Rattle.session.specs.declared.error.SessionError.TheVariants as refusal
 use Rattle.session.specs.declared.session.Session.{Session}
-use Rattle.steps.specs.Views.{IsHeld, IsWhole, Lengthens, hold, plan}
+use Rattle.steps.specs.Views.{IsHeld, IsLasting, IsWhole, Lengthens, hold, plan}
 use Rattle.zelamiku.specs.Behind.{behind, session_behind}
 use Rattle.zelamiku.specs.SessionDoors.{AnswersAs, Looks, NotifiesAll, sight_told}
 use Rattle.zelamiku.specs.SessionStatuses.{status_of}
@@ -67,10 +67,12 @@ module _ (h : Home) (x y : Session) (o : ObjectId) where
       → ((plan h).objects ≤ o.0 → (r ≡ Err refusal.UnknownObject) × IsQuiet (view_of x) (view_of y))
       → (o.0 < (plan h).objects → (lock : Shape) × (fat : Option FatShape) × (r ≡ Ok (lock, fat)) × IsWhole (view_of y) o lock fat
       × Lengthens (view_of x) (view_of y) (event.Look o (sight_of lock fat) ∷ []))
+      → IfOk r (λ found. IsLasting (view_of y) o found.0)
       → status ≡ status_of r → IfOk r (λ found. sight ≡ sight_told (sight_of found.0 found.1)) → Looks h x y o sight status
-  looked r sight status unknown known status_is shown = record {
+  looked r sight status unknown known lasting status_is shown = record {
     unknown = λ far. let u = unknown far in (status_is ∙ ap status_of u.0, u.1);
     known = λ low. let u = known low in
         let shows = subst (λ (a : Result (Shape × Option FatShape) SessionError). IfOk a (λ found. sight ≡ sight_told (sight_of found.0 found.1))) u.2 shown in
-        (u.0, u.1, status_is ∙ ap status_of u.2, shows, u.3, u.4);
+        let lasts = subst (λ (a : Result (Shape × Option FatShape) SessionError). IfOk a (λ found. IsLasting (view_of y) o found.0)) u.2 lasting in
+        (u.0, u.1, status_is ∙ ap status_of u.2, shows, u.3, lasts, u.4);
   }

@@ -1,6 +1,6 @@
 -- The calls of a session, as C makes them: the calls of `hosted_heap` on what is behind a handle (this project's own). Each is told by
 -- what is behind the handle before it and after it, and by the status that C gets.
-use Rattle.std.specs.Prelude.{ℕ, ◌≡◌, ◌<◌, ◌≤◌, ◌↔◌, List, [], ◌∷◌, Option, Some, None, Result, Ok, Err, Contains}
+use Rattle.std.specs.Prelude.{ℕ, ◌≡◌, ◌<◌, ◌≤◌, ◌↔◌, List, [], ◌∷◌, ◌++◌, Option, Some, None, Result, Ok, Err, Contains}
 use Rattle.std.specs.Int.{bit_at}
 use Rattle.std.specs.Result.{result_unwrap_or}
 use Rattle.heap_model.specs.declared.event.Event.TheVariants as event
@@ -19,7 +19,7 @@ use Rattle.session.specs.Sessions.{view_of}
 use Rattle.session.specs.declared.error.SessionError.{SessionError}
 use Rattle.session.specs.declared.error.Still.{Still}
 use Rattle.session.specs.declared.session.Session.{Session}
-use Rattle.steps.specs.Views.{IsHeld, IsWhole, Lengthens, hold, plan}
+use Rattle.steps.specs.Views.{IsHeld, IsLasting, IsWhole, Lengthens, hold, plan}
 use Rattle.zelamiku.specs.Behind.{Answers, behind, nothing_behind, session_behind, waiting_behind}
 use Rattle.zelamiku.specs.Own.{Held}
 use Rattle.zelamiku.specs.SessionStatuses.{refusal_status, status_of, still_status}
@@ -102,7 +102,7 @@ sight_told StillInSet = free_sight 0
 pub record Looks (h : Home) (x y : Session) (o : ObjectId) (sight : words.Sight) (status : ℕ) : Type 0 where
   pub unknown : (plan h).objects ≤ o.0 → (status ≡ UNKNOWN_OBJECT) × IsQuiet (view_of x) (view_of y)
   pub known : o.0 < (plan h).objects → (lock : Shape) × (fat : Option FatShape) × (status ≡ OK) × (sight ≡ sight_told (sight_of lock fat))
-      × IsWhole (view_of y) o lock fat × Lengthens (view_of x) (view_of y) (event.Look o (sight_of lock fat) ∷ [])
+      × IsWhole (view_of y) o lock fat × IsLasting (view_of y) o lock × Lengthens (view_of x) (view_of y) (event.Look o (sight_of lock fat) ∷ [])
 
 abbrev pub LooksAt : (object : ℕ) (sight : words.Sight) → Seated → Seated → ℕ → Type 0
 LooksAt object sight s t status = Looks s.home s.session t.session (record { 0 = object }) sight status
@@ -136,7 +136,8 @@ Resumes other after status = (status ≡ WRONG_KIND) × (after ≡ behind other)
 abbrev pub Ends : Open → Held → ℕ → Type 0
 Ends = OfSession (λ s after status. (status ≡ OK) × (after ≡ nothing_behind))
 
--- the same, as the library works on what it took out: nothing is left of a session that is ended
-abbrev pub EndsTo : Open → Open → ℕ → Type 0
-EndsTo (kind.Session s) after status = (status ≡ OK) × (after ≡ kind.Nothing)
-EndsTo other after status = HasNoSession other (behind after) status
+-- The same, as the library works on what it took out: nothing is left of a session that is ended, and it has come back to its heap, as
+-- the last that went into the ring by which it comes back.
+abbrev pub EndsTo : Open → (after : Open) → (back : Option (List Session)) → (status : ℕ) → Type 0
+EndsTo (kind.Session s) after back status = (status ≡ OK) × (after ≡ kind.Nothing) × (back ≡ Some (s.before ++ s.session ∷ []))
+EndsTo other after back status = HasNoSession other (behind after) status

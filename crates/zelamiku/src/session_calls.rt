@@ -14,6 +14,7 @@ use crate::state::{Inner, Open};
 use crate::status;
 use crate::words::Sight;
 use heap_model::{FieldId, Lane, ObjectId};
+use hosted_heap::Returned;
 use lock_word::{FatShape, FatWord, LockWord, Shape, WaitMask};
 use session::SessionError;
 
@@ -268,27 +269,24 @@ fn resumed_of(found: Open) -> (Open, u32)
     }
 }
 
-/// Ends the session: nothing is left of it, or what is there stays.
-pub fn end(state: &mut Inner) -> u32
-    ensures told { EndsTo state.old.open state.new.open result }
+/// Ends the session: nothing is left of it but that it has come back, or what is there stays.
+pub fn end(state: &mut Inner) -> (Option<Returned>, u32)
+    ensures told { EndsTo state.old.open state.new.open result.0 result.1 }
 {
     let found = std::mem::replace(&mut state.open, Open::Nothing);
-    let (open, answer) = ended_of(found);
+    let (open, back, answer) = ended_of(found);
     state.open = open;
-    answer
+    (back, answer)
 }
 
-fn ended_of(found: Open) -> (Open, u32)
-    ensures { EndsTo found result.0 result.1 }
+fn ended_of(found: Open) -> (Open, Option<Returned>, u32)
+    ensures { EndsTo found result.0 result.1 result.2 }
 {
     match found {
-        Open::Session(session) => {
-            let _ = session.end();
-            (Open::Nothing, status::OK)
-        }
+        Open::Session(session) => (Open::Nothing, Some(session.end()), status::OK),
         other => {
             let answer = no_session(&other);
-            (other, answer)
+            (other, None, answer)
         }
     }
 }

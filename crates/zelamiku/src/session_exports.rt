@@ -189,7 +189,7 @@ pub extern "C" fn zelamiku_end(alloc: Global, place: &mut Slot) -> u32
     let Some(mut state) = take(alloc, place) else {
         return status::CLOSED;
     };
-    let answer = session_calls::end(&mut state);
+    let (_back, answer) = session_calls::end(&mut state);
     if answer == status::OK {
         return answer;
     }

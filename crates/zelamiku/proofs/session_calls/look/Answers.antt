@@ -8,4 +8,4 @@ returns-in-Session-clause-told c =
     let told = c.look.ensures in
     let given = c.sight_given.ensures in
     stays (LooksAt c.args.object c.sight_given.result.0) _ _ _ _ c.in-Session.is told.home
-    (looked was.home was.session c.look.new.self.session _ c.look.result _ _ told.unknown told.known given.status given.sight)
+    (looked was.home was.session c.look.new.self.session _ c.look.result _ _ told.unknown told.known told.lasting given.status given.sight)
