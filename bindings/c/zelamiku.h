@@ -4,34 +4,46 @@
  * stores the fields that they guard, and exits. What it does from its first enter to its last exit is a section: after a crash
  * each section is there whole or not at all, and with it each section that it has seen.
  *
- * Build and link:
- *     cc program.c -I bindings/c crates/zelamiku/out/libzelamiku.a liblibc_c.a -pthread
+ * Build and link, where KIT is the folder of the Rattle kit, $(dirname "$(rt doc)"):
+ *     cc program.c -I bindings/c crates/zelamiku/out/libzelamiku.a KIT/c/liblibc_c.a -pthread
  *
  * What the caller upholds, for each call:
  *  - a handle begins as ZELAMIKU_NONE, isn't copied, and is changed by these calls alone. A handle may go to another thread;
  *  - one call at a time has a handle: the threads order their calls by a mutex, a start or join, or sequentially consistent atomics;
- *  - pointers are valid for the call, point to initialized memory that nothing else reads or writes meanwhile, and don't overlap;
- *  - the device is changed by the calls of zelamiku_next_call alone, in their order, one at a time.
+ *  - pointers are never NULL, also where a size or count is 0; they are valid for the call, point to initialized memory that nothing
+ *    else reads or writes meanwhile, and don't overlap;
+ *  - the device is changed by the calls of zelamiku_next_call alone, in their order, one at a time;
+ *  - malloc, realloc and free are of one allocator, and align a block to each power of two up to 16 that divides its size, as those
+ *    of C11 do;
+ *  - no call comes from a signal handler, or in a child that was forked by a process with threads.
  * Everything else is answered by a status. No call waits, blocks, starts a thread or panics; each out-parameter is always set.
  *
  * The device. The library has no file: it works in memory, and asks the host to write and sync. zelamiku_next_call tells the next
  * call, the host makes it on a device of its own (a file, a block device, a volume), and zelamiku_call_done says that it has:
+ *     uint8_t buffer[ZELAMIKU_MOST_BYTES];
+ *     zelamiku_call call = {0};
  *     for (;;) {
- *         zelamiku_next_call(&heap, &call, buffer, sizeof buffer);
- *         if (call.kind == ZELAMIKU_NO_CALL) break;
- *         if (call.kind == ZELAMIKU_WRITE) pwrite(fd, buffer, call.size, call.at); else fdatasync(fd);
- *         zelamiku_call_done(&heap);
+ *         if (zelamiku_next_call(&heap, &call, buffer, sizeof buffer) != ZELAMIKU_OK) return -1;
+ *         if (call.kind == ZELAMIKU_NO_CALL) return 0;
+ *         bool made = call.kind == ZELAMIKU_WRITE ? pwrite(fd, buffer, call.size, (off_t)call.at) == (ssize_t)call.size
+ *                                                 : fdatasync(fd) == 0;
+ *         if (!made) return -1; // and never zelamiku_call_done for it
+ *         if (zelamiku_call_done(&heap) != ZELAMIKU_OK) return -1;
  *     }
- * A write or a sync that fails is made again, or the host frees its handles and opens the heap again from what the device has.
+ * A write that fails may be made again: the same call is told again.
+ * A sync that fails may not be made again, nor any later call. What was written before it may be lost, though the file still reads
+ * as it was written, and though a later sync succeeds: systems drop the pages that they couldn't write. Free the handles, and open the
+ * heap again from bytes that the device itself has: read past the system's cache, or after the file system was mounted again.
  *
- * Waiting is the host's. Where a call answers ZELAMIKU_HELD, ZELAMIKU_BEHIND or ZELAMIKU_IN_SET, try again later:
+ * Waiting is the host's. Where a call answers ZELAMIKU_HELD, ZELAMIKU_BEHIND or ZELAMIKU_IN_SET, try again later; other answers stay:
  *     for (unsigned spins = 0; (answer = zelamiku_try_enter(&session, object)) == ZELAMIKU_HELD || answer == ZELAMIKU_BEHIND; spins++)
  *         if (spins > 100) sched_yield();
+ *     if (answer != ZELAMIKU_OK) ...
  * With a condition variable of the host's own, an exit or a notification is told to those that wait:
  *     pthread_mutex_lock(&m);
- *     while ((answer = zelamiku_try_resume(&session)) != ZELAMIKU_OK) pthread_cond_wait(&changed, &m);
+ *     while ((answer = zelamiku_try_resume(&session)) == ZELAMIKU_IN_SET || answer == ZELAMIKU_HELD) pthread_cond_wait(&changed, &m);
  *     pthread_mutex_unlock(&m);
- *     ...
+ *     if (answer != ZELAMIKU_OK) ...
  *     zelamiku_exit(&session, object); pthread_mutex_lock(&m); pthread_cond_broadcast(&changed); pthread_mutex_unlock(&m);
  */
 #ifndef ZELAMIKU_H
@@ -50,30 +62,31 @@ typedef struct {
 } zelamiku_handle;
 #define ZELAMIKU_NONE {NULL, false}
 
+/* What a call answers. zelamiku_status_text has a text of each. */
 typedef enum {
     ZELAMIKU_OK = 0,
     ZELAMIKU_CLOSED = 1,          /* nothing is behind the handle */
     ZELAMIKU_OPEN = 2,            /* the handle that is to be opened has something behind it */
     ZELAMIKU_WRONG_KIND = 3,      /* a session where a heap is wanted, or a heap where a session is */
-    ZELAMIKU_NO_MEMORY = 4,
+    ZELAMIKU_NO_MEMORY = 4,       /* there was no memory */
     ZELAMIKU_WAITING = 5,         /* the session waits for a monitor: it can do nothing but resume */
-    ZELAMIKU_NONE_LEFT = 6,       /* no session, or no call, is left */
+    ZELAMIKU_NONE_LEFT = 6,       /* no session, or no call, is left; or the heap is closed */
     ZELAMIKU_CALLS_LEFT = 7,      /* the host has yet to make calls of the device */
     ZELAMIKU_BAD_LANE = 8,        /* there is no such lane */
     ZELAMIKU_RUNNING = 9,         /* a session of the heap hasn't ended */
     ZELAMIKU_UNKNOWN_OBJECT = 10, /* there is no such object */
     ZELAMIKU_UNKNOWN_FIELD = 11,  /* there is no such field */
     ZELAMIKU_NOT_HELD = 12,       /* the session doesn't hold the monitor, or that of the field's guard */
-    ZELAMIKU_BEHIND = 13,         /* the helper is behind: make rounds, and try again */
+    ZELAMIKU_BEHIND = 13,         /* there is no room for a whole section's records: make rounds, and try again */
     ZELAMIKU_SECTION_FULL = 14,   /* the section would have more than 1,000 records */
-    ZELAMIKU_TOO_MANY = 15,       /* too many monitors are held, or too many objects or fields declared */
-    ZELAMIKU_TOO_DEEP = 16,       /* the monitor is held by as many locks as can be counted */
-    ZELAMIKU_NO_FAT = 17,         /* no room is left for a monitor that is waited for, or locked so often */
-    ZELAMIKU_WORN = 18,           /* numbers have come to their end */
-    ZELAMIKU_HELD = 19,           /* another session has the monitor */
+    ZELAMIKU_TOO_MANY = 15,       /* 16 monitors are held; or of a heap to be made, more than 4,096 objects or 16,384 fields */
+    ZELAMIKU_TOO_DEEP = 16,       /* the monitor is held by 65,536 locks */
+    ZELAMIKU_NO_FAT = 17,         /* the monitor is to be waited for, or locked more than 256 times, and 1,024 others were before it */
+    ZELAMIKU_WORN = 18,           /* a number is at its end: the monitor's 2^40 - 1, the lane's 2^62, the control's 2^64 - 1 */
+    ZELAMIKU_HELD = 19,           /* another session has the monitor, or had it when this one tried */
     ZELAMIKU_IN_SET = 20,         /* nobody has notified the session */
-    ZELAMIKU_FAULT = 21,          /* want of memory, or of calls that the host makes: the heap has stopped */
-    ZELAMIKU_FAILED = 22,         /* the heap has stopped in an earlier call */
+    ZELAMIKU_FAULT = 21,          /* there was no memory for the calls of the device: nothing was opened, or the heap has stopped */
+    ZELAMIKU_FAILED = 22,         /* an earlier call answered ZELAMIKU_FAULT, with which the heap stopped */
     ZELAMIKU_UNFINISHED = 23,     /* a session was ended while it held a monitor */
     ZELAMIKU_EMPTY = 24,          /* there is no object, or no field */
     ZELAMIKU_NOT_FORMATTED = 25,  /* the bytes are no image of a heap */
@@ -122,6 +135,60 @@ typedef struct {
 
 #define ZELAMIKU_NOBODY 64
 
+/* The library was built for these sizes. */
+#if defined(__cplusplus) ? __cplusplus >= 201103L : defined(__STDC_VERSION__) && __STDC_VERSION__ >= 201112L
+#ifdef __cplusplus
+#define ZELAMIKU_HAS_SIZE(type, size) static_assert(sizeof(type) == (size), #type)
+#else
+#define ZELAMIKU_HAS_SIZE(type, size) _Static_assert(sizeof(type) == (size), #type)
+#endif
+ZELAMIKU_HAS_SIZE(zelamiku_handle, 16);
+ZELAMIKU_HAS_SIZE(zelamiku_field, 16);
+ZELAMIKU_HAS_SIZE(zelamiku_found, 40);
+ZELAMIKU_HAS_SIZE(zelamiku_call, 24);
+ZELAMIKU_HAS_SIZE(zelamiku_sight, 16);
+#undef ZELAMIKU_HAS_SIZE
+#endif
+
+/* A text of a status, for people. */
+static inline const char *zelamiku_status_text(uint32_t status) {
+    switch (status) {
+    case ZELAMIKU_OK: return "ok";
+    case ZELAMIKU_CLOSED: return "nothing is behind the handle";
+    case ZELAMIKU_OPEN: return "the handle to be opened has something behind it";
+    case ZELAMIKU_WRONG_KIND: return "the handle is of the wrong kind";
+    case ZELAMIKU_NO_MEMORY: return "there was no memory";
+    case ZELAMIKU_WAITING: return "the session waits for a monitor";
+    case ZELAMIKU_NONE_LEFT: return "no session or call is left, or the heap is closed";
+    case ZELAMIKU_CALLS_LEFT: return "the host has yet to make calls of the device";
+    case ZELAMIKU_BAD_LANE: return "there is no such lane";
+    case ZELAMIKU_RUNNING: return "a session of the heap hasn't ended";
+    case ZELAMIKU_UNKNOWN_OBJECT: return "there is no such object";
+    case ZELAMIKU_UNKNOWN_FIELD: return "there is no such field";
+    case ZELAMIKU_NOT_HELD: return "the session doesn't hold the monitor";
+    case ZELAMIKU_BEHIND: return "there is no room for a whole section's records before a round";
+    case ZELAMIKU_SECTION_FULL: return "the section would have more than 1,000 records";
+    case ZELAMIKU_TOO_MANY: return "too many monitors are held, or too many objects or fields declared";
+    case ZELAMIKU_TOO_DEEP: return "the monitor is held by as many locks as can be counted";
+    case ZELAMIKU_NO_FAT: return "no place is left for a monitor that is waited for or locked more than 256 times";
+    case ZELAMIKU_WORN: return "a number has come to its end";
+    case ZELAMIKU_HELD: return "another session has the monitor";
+    case ZELAMIKU_IN_SET: return "nobody has notified the session";
+    case ZELAMIKU_FAULT: return "there was no memory for the calls of the device";
+    case ZELAMIKU_FAILED: return "the heap has stopped in an earlier call";
+    case ZELAMIKU_UNFINISHED: return "a session was ended while it held a monitor";
+    case ZELAMIKU_EMPTY: return "there is no object or no field";
+    case ZELAMIKU_NOT_FORMATTED: return "the bytes are no image of a heap";
+    case ZELAMIKU_BAD_HEADER: return "a number of the image, or of the heap to be made, is out of its limits";
+    case ZELAMIKU_TOO_SMALL: return "the bytes are fewer than the image has";
+    case ZELAMIKU_NO_CONTROL: return "the image has no control";
+    case ZELAMIKU_BAD_CONTROL: return "the image's control can't be read";
+    case ZELAMIKU_BAD_RECORD: return "the image has a record that can't be read";
+    case ZELAMIKU_ILLEGAL_LOG: return "no threads can have left the image's log";
+    default: return "no status of zelamiku.h";
+    }
+}
+
 /* ---- the heap ---- */
 
 /* Makes a heap of so many objects and of these fields, with `lanes` (1 to 32) sessions of `capacity` (2,000 to 1,048,576) records
@@ -143,8 +210,10 @@ uint32_t zelamiku_open(zelamiku_handle *heap, const uint8_t *image, size_t size,
  * closed. NO_MEMORY: none was handed out, and it may be asked for again. The handles are as they were. */
 uint32_t zelamiku_session(zelamiku_handle *heap, zelamiku_handle *session);
 
-/* Tells the call of the device that the host makes next, and copies its bytes, as many as `size` allows. It tells the same call
- * until zelamiku_call_done. `call->kind` is ZELAMIKU_NO_CALL where none is left; another round may leave more.
+/* Tells the call of the device that the host makes next, and copies its bytes. It tells the same call until zelamiku_call_done.
+ * `call->kind` is ZELAMIKU_NO_CALL where none is left; another round may leave more. Into a buffer of fewer bytes than the call has,
+ * which one of ZELAMIKU_MOST_BYTES never is, only the first of them are copied, though `call` tells all of it: the host may look at
+ * such a call, and can't make it.
  * CLOSED, WRONG_KIND: `call` is ZELAMIKU_NO_CALL. */
 uint32_t zelamiku_next_call(zelamiku_handle *heap, zelamiku_call *call, uint8_t *bytes, size_t size);
 
@@ -152,11 +221,12 @@ uint32_t zelamiku_next_call(zelamiku_handle *heap, zelamiku_call *call, uint8_t 
  * CLOSED, WRONG_KIND. NONE_LEFT: no call was told. */
 uint32_t zelamiku_call_done(zelamiku_handle *heap);
 
-/* Takes what the sessions have done, makes it durable as far as each section that it depends on has ended, and leaves the calls of
- * that to zelamiku_next_call. `applied` gets how many records were taken. With none there is no call.
- * CLOSED, WRONG_KIND, NONE_LEFT (the heap is closed): nothing was done. FAULT, FAILED, WORN: the heap has stopped; what was
- * acknowledged stays: free the handles, and open it again. CALLS_LEFT: nothing was done; make the calls that are left, and
- * ask again. */
+/* Takes what the sessions have done, writes it to the log, acknowledges each section that has ended and depends on none that hasn't,
+ * and leaves the calls of that to zelamiku_next_call: make them after each round, or in a thread that orders its calls with this one.
+ * `applied` gets how many records were taken. With none there is no call.
+ * CLOSED, WRONG_KIND, NONE_LEFT (the heap is closed): nothing was done. CALLS_LEFT: the host hasn't made its calls for so many rounds
+ * that those of one more might have no room: nothing was done; make them, and go on. FAULT, FAILED, WORN: the heap has stopped; what
+ * was acknowledged stays: free the handles, and open it again. */
 uint32_t zelamiku_round(zelamiku_handle *heap, uint64_t *applied);
 
 /* How many sections of the lane are acknowledged since the heap was opened: no crash of the device loses them.
@@ -165,8 +235,9 @@ uint32_t zelamiku_round(zelamiku_handle *heap, uint64_t *applied);
 uint32_t zelamiku_acknowledged(zelamiku_handle *heap, uint32_t lane, uint64_t *sections);
 
 /* Closes the heap, once each session that was handed out has ended: the last round. Make the calls that are left, and then free it.
- * RUNNING: a session hasn't ended; the heap goes on. CALLS_LEFT: the heap goes on; make the calls that are left, and ask again.
- * UNFINISHED, NO_MEMORY, FAULT, FAILED, WORN: the heap has stopped; what was acknowledged stays. CLOSED, WRONG_KIND, NONE_LEFT: nothing was done. */
+ * RUNNING: a session hasn't ended; the heap goes on. CALLS_LEFT: the calls of the last round might have no room: make those that are
+ * left, and close it then; the heap goes on. UNFINISHED, NO_MEMORY, FAULT, FAILED, WORN: the heap has stopped; what was acknowledged
+ * stays. CLOSED, WRONG_KIND, NONE_LEFT (it is closed): nothing was done. */
 uint32_t zelamiku_close(zelamiku_handle *heap);
 
 /* Lets go of what is behind a handle. A heap stops, as if the process had: what was acknowledged stays. A session that is freed
@@ -198,7 +269,8 @@ uint32_t zelamiku_store(zelamiku_handle *session, uint32_t field, uint64_t value
 uint32_t zelamiku_begin_wait(zelamiku_handle *session, uint32_t object);
 
 /* Takes the monitor again, by as many locks as before, if the session was notified and the monitor is free.
- * IN_SET: nobody has notified it. HELD: another session has the monitor. It waits on. WRONG_KIND: the session doesn't wait. */
+ * IN_SET: nobody has notified it. HELD: another session has the monitor, or had it when this one tried; or the monitor has its last
+ * number, 2^40 - 1, and can't be taken again. It waits on. WRONG_KIND: the session doesn't wait. */
 uint32_t zelamiku_try_resume(zelamiku_handle *session);
 
 /* Takes one session out of the wait set of a monitor that is held; `lane` gets its lane, or ZELAMIKU_NOBODY.

@@ -1,10 +1,14 @@
 /* A counter service: four threads count, each in a counter of its own and in the total, in one section. A helper thread makes rounds
  * and makes the calls of the device on a file. Killed at any time and started again on the same file, the total is the sum of its
- * parts, and no less than what was told as acknowledged.
+ * parts, and no less than the total before and what was told as acknowledged since.
  *
  *     counters FILE [SECONDS]
- * prints what it finds, counts for so long (for ever without SECONDS), and closes the heap. */
+ * prints the counters that it finds, and after each round how many counts are acknowledged since then. It counts for so long (for ever
+ * without SECONDS), closes the heap, and prints the counters again. A file that is empty or has only zeros gets a heap.
+ *
+ * After a power failure soon after the file was made there may be no file: a program that minds syncs its folder too. */
 #define _GNU_SOURCE
+#include <errno.h>
 #include <fcntl.h>
 #include <inttypes.h>
 #include <pthread.h>
@@ -18,15 +22,21 @@
 #include <unistd.h>
 #include "zelamiku.h"
 
+#ifdef HELGRIND /* which knows nothing of C11's atomics */
+#include <valgrind/helgrind.h>
+#else
+#define VALGRIND_HG_DISABLE_CHECKING(at, size) ((void)0)
+#endif
+
 enum { WORKERS = 4, TOTAL = 0, CAPACITY = 20000 };
 
 static int file;
-static atomic_bool stopping;
-static atomic_int working = WORKERS;
+static atomic_bool stopping; /* for the workers */
+static atomic_bool ended;    /* for the helper */
 
 static void must(uint32_t status, const char *what) {
     if (status != ZELAMIKU_OK) {
-        fprintf(stderr, "%s: status %" PRIu32 "\n", what, status);
+        fprintf(stderr, "%s: %s\n", what, zelamiku_status_text(status));
         exit(2);
     }
 }
@@ -34,6 +44,15 @@ static void must(uint32_t status, const char *what) {
 static void must_do(bool is_done, const char *what) {
     if (!is_done) {
         perror(what);
+        exit(2);
+    }
+}
+
+/* A sync that failed isn't made again: a later one may succeed though the file has lost what was written. */
+static void must_sync(bool is_done) {
+    if (!is_done) {
+        perror("sync");
+        fprintf(stderr, "What was written may be lost: mount the file system again before you start on this file.\n");
         exit(2);
     }
 }
@@ -48,7 +67,7 @@ static void make_calls(zelamiku_handle *heap) {
         if (call.kind == ZELAMIKU_WRITE)
             must_do(pwrite(file, bytes, call.size, (off_t)call.at) == (ssize_t)call.size, "pwrite");
         else
-            must_do(fdatasync(file) == 0, "fdatasync");
+            must_sync(fdatasync(file) == 0);
         must(zelamiku_call_done(heap), "call done");
     }
 }
@@ -70,7 +89,7 @@ static void count(zelamiku_handle *session, uint32_t field) {
 
 typedef struct {
     zelamiku_handle session;
-    uint32_t own; /* its object and field */
+    uint32_t own; /* its object, its field and its lane */
 } worker;
 
 static void *work(void *data) {
@@ -84,57 +103,123 @@ static void *work(void *data) {
         must(zelamiku_exit(&w->session, w->own), "exit");
     }
     must(zelamiku_end(&w->session), "end");
-    working--;
     return NULL;
+}
+
+/* How many of the workers' sections are acknowledged: each counts one. All calls were made. */
+static uint64_t acknowledged(zelamiku_handle *heap) {
+    uint64_t sum = 0, sections = 0;
+    for (uint32_t lane = 1; lane <= WORKERS; lane++) {
+        must(zelamiku_acknowledged(heap, lane, &sections), "acknowledged");
+        sum += sections;
+    }
+    return sum;
 }
 
 static void *help(void *data) {
     zelamiku_handle *heap = data;
     uint64_t applied = 0;
-    while (working > 0) {
-        must(zelamiku_round(heap, &applied), "round");
+    while (!ended) {
+        uint32_t status = zelamiku_round(heap, &applied);
+        if (status != ZELAMIKU_CALLS_LEFT) must(status, "round");
         make_calls(heap);
-        if (applied == 0) sched_yield();
+        if (applied > 0)
+            printf("acknowledged %" PRIu64 "\n", acknowledged(heap));
+        else
+            sched_yield();
     }
     return NULL;
 }
 
-/* Opens the heap of the file, or makes one where the file is new or its making was cut off. */
-static void begin(zelamiku_handle *heap) {
+/* Whether a heap may be made over these bytes: there are none, or only zeros, or the beginning of an image whose making was cut off. */
+static bool is_free(const uint8_t *bytes, size_t size) {
+    if (size >= 8 && memcmp(bytes, "MONIHEAP", 8) == 0) return true;
+    for (size_t i = 0; i < size; i++)
+        if (bytes[i] != 0) return false;
+    return true;
+}
+
+/* Makes a heap in the file, which has zeros then, durably. */
+static void make(zelamiku_handle *heap) {
+    zelamiku_field fields[WORKERS + 1];
+    for (uint32_t i = 0; i <= WORKERS; i++) fields[i] = (zelamiku_field){i, i, 0};
+    uint64_t size = 0;
+    must(zelamiku_format(heap, WORKERS + 1, fields, WORKERS + 1, WORKERS + 1, CAPACITY, &size), "format");
+    must_do(ftruncate(file, 0) == 0 && ftruncate(file, (off_t)size) == 0, "ftruncate");
+    must_sync(fsync(file) == 0);
+}
+
+/* Opens the heap of the file, or makes one. */
+static void begin(zelamiku_handle *heap, const char *name) {
+    /* What a killed run has written is in the system's cache: it has to be durable, and to be read from the device. */
+    must_sync(fdatasync(file) == 0);
+    posix_fadvise(file, 0, 0, POSIX_FADV_DONTNEED);
     struct stat status;
     must_do(fstat(file, &status) == 0, "fstat");
     size_t size = (size_t)status.st_size;
     uint8_t *image = malloc(size + 1);
     must_do(image != NULL && pread(file, image, size, 0) == (ssize_t)size, "read");
     zelamiku_found found = {0};
-    uint32_t answer = size == 0 ? ZELAMIKU_NOT_FORMATTED : zelamiku_open(heap, image, size, &found);
-    free(image);
-    if (answer == ZELAMIKU_NOT_FORMATTED) {
-        zelamiku_field fields[WORKERS + 1];
-        for (uint32_t i = 0; i <= WORKERS; i++) fields[i] = (zelamiku_field){i, i, 0};
-        uint64_t bytes = 0;
-        must(zelamiku_format(heap, WORKERS + 1, fields, WORKERS + 1, WORKERS, CAPACITY, &bytes), "format");
-        must_do(ftruncate(file, 0) == 0 && ftruncate(file, (off_t)bytes) == 0 && fsync(file) == 0, "ftruncate");
+    uint32_t answer = zelamiku_open(heap, image, size, &found);
+    if (answer == ZELAMIKU_NOT_FORMATTED && is_free(image, size)) {
+        make(heap);
+    } else if (answer == ZELAMIKU_NOT_FORMATTED) {
+        fprintf(stderr, "%s has no heap, and isn't empty: it is left as it is\n", name);
+        exit(2);
     } else {
-        must(answer, "open");
+        must(answer, name);
+        if (found.objects != WORKERS + 1 || found.fields != WORKERS + 1 || found.lanes != WORKERS + 1) {
+            fprintf(stderr, "%s has the heap of another program\n", name);
+            exit(2);
+        }
     }
+    free(image);
     make_calls(heap);
 }
 
-/* Tells what the counters are; answers whether the total is the sum of its parts. */
-static bool tell(zelamiku_handle *session) {
-    uint64_t value[WORKERS + 1] = {0}, sum = 0;
-    for (uint32_t i = 0; i <= WORKERS; i++) {
-        enter(session, i);
-        must(zelamiku_load(session, i, &value[i]), "load");
-        must(zelamiku_exit(session, i), "exit");
-        if (i != TOTAL) sum += value[i];
+typedef struct {
+    uint64_t value[WORKERS + 1];
+} counters;
+
+/* Reads all counters in one section. It takes the monitors in the workers' order: the total's last. */
+static counters look(zelamiku_handle *session) {
+    counters found = {{0}};
+    for (uint32_t i = 1; i <= WORKERS; i++) enter(session, i);
+    enter(session, TOTAL);
+    for (uint32_t i = 0; i <= WORKERS; i++) must(zelamiku_load(session, i, &found.value[i]), "load");
+    for (uint32_t i = 0; i <= WORKERS; i++) must(zelamiku_exit(session, i), "exit");
+    return found;
+}
+
+/* Tells what the counters are. It stops where the total isn't the sum of its parts. */
+static void tell(counters found) {
+    uint64_t sum = 0;
+    printf("total %" PRIu64 " = ", found.value[TOTAL]);
+    for (uint32_t i = 1; i <= WORKERS; i++) {
+        printf("%s%" PRIu64, i > 1 ? " + " : "", found.value[i]);
+        sum += found.value[i];
     }
-    printf("total %" PRIu64 " = ", value[TOTAL]);
-    for (uint32_t i = 1; i <= WORKERS; i++) printf("%s%" PRIu64, i > 1 ? " + " : "", value[i]);
-    printf("%s\n", sum == value[TOTAL] ? "" : ": WRONG");
-    fflush(stdout);
-    return sum == value[TOTAL];
+    printf("%s\n", sum == found.value[TOTAL] ? "" : ": WRONG");
+    if (sum != found.value[TOTAL]) exit(1);
+}
+
+static void start(pthread_t *thread, void *(*body)(void *), void *data) {
+    errno = pthread_create(thread, NULL, body, data);
+    must_do(errno == 0, "pthread_create");
+}
+
+static void end_thread(pthread_t thread) {
+    errno = pthread_join(thread, NULL);
+    must_do(errno == 0, "pthread_join");
+}
+
+/* Sleeps for so long, or for ever. */
+static void rest(const char *seconds) {
+    if (seconds == NULL)
+        for (;;) pause();
+    double whole = strtod(seconds, NULL);
+    struct timespec left = {(time_t)whole, (long)((whole - (double)(time_t)whole) * 1e9)};
+    while (nanosleep(&left, &left) != 0 && errno == EINTR) {}
 }
 
 int main(int argc, char **argv) {
@@ -142,29 +227,35 @@ int main(int argc, char **argv) {
         fprintf(stderr, "counters FILE [SECONDS]\n");
         return 2;
     }
+    VALGRIND_HG_DISABLE_CHECKING(&stopping, sizeof stopping);
+    VALGRIND_HG_DISABLE_CHECKING(&ended, sizeof ended);
+    setvbuf(stdout, NULL, _IOLBF, 0);
     file = open(argv[1], O_RDWR | O_CREAT, 0644);
     must_do(file >= 0, argv[1]);
     zelamiku_handle heap = ZELAMIKU_NONE;
-    begin(&heap);
+    begin(&heap, argv[1]);
+    zelamiku_handle own = ZELAMIKU_NONE; /* lane 0 */
+    must(zelamiku_session(&heap, &own), "session");
+    tell(look(&own));
     static worker workers[WORKERS];
+    pthread_t threads[WORKERS], helper;
     for (uint32_t i = 0; i < WORKERS; i++) {
         must(zelamiku_session(&heap, &workers[i].session), "session");
         workers[i].own = i + 1;
     }
-    if (!tell(&workers[0].session)) return 1;
-    pthread_t threads[WORKERS + 1];
-    for (int i = 0; i < WORKERS; i++) pthread_create(&threads[i], NULL, work, &workers[i]);
-    pthread_create(&threads[WORKERS], NULL, help, &heap);
-    if (argc > 2) {
-        double seconds = atof(argv[2]);
-        struct timespec rest = {(time_t)seconds, (long)((seconds - (double)(time_t)seconds) * 1e9)};
-        nanosleep(&rest, NULL);
-        stopping = true;
-    }
-    for (int i = 0; i <= WORKERS; i++) pthread_join(threads[i], NULL);
+    for (int i = 0; i < WORKERS; i++) start(&threads[i], work, &workers[i]);
+    start(&helper, help, &heap);
+    rest(argc > 2 ? argv[2] : NULL);
+    stopping = true;
+    for (int i = 0; i < WORKERS; i++) end_thread(threads[i]);
+    ended = true;
+    end_thread(helper);
+    counters last = look(&own);
+    must(zelamiku_end(&own), "end");
     must(zelamiku_close(&heap), "close");
     make_calls(&heap);
     zelamiku_free(&heap);
-    close(file);
+    tell(last); /* durable now */
+    must_do(close(file) == 0, "close");
     return 0;
 }

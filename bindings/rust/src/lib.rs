@@ -2,99 +2,23 @@
 //!
 //! The types keep the header's rules: a handle is changed by one call at a time (`&mut self`), never copied (no `Clone`), and may go to
 //! another thread (`Send`, not `Sync`). A session that waits is a [`Waiting`], which can do nothing but resume. A heap that was closed
-//! is a [`Closed`], which can only tell the last calls of the device. No call waits.
+//! is a [`Closed`], which can only tell the last calls of the device. No call waits but `enter` and `resume`, which try again.
+//!
+//! A heap whose device fails to sync has stopped for good: see [`Device`].
 use std::fmt;
 use std::io;
 
 mod raw;
+mod refusal;
 
-pub use raw::{Found, Sight};
-
-/// A call that was refused, by the status of `zelamiku.h`.
-#[derive(Clone, Copy, PartialEq, Eq, Hash)]
-pub struct Refusal(pub u32);
-
-const NAMES: [&str; 32] = [
-    "ok",
-    "closed",
-    "open",
-    "wrong kind",
-    "no memory",
-    "waiting",
-    "none left",
-    "calls left",
-    "bad lane",
-    "running",
-    "unknown object",
-    "unknown field",
-    "not held",
-    "behind",
-    "section full",
-    "too many",
-    "too deep",
-    "no fat",
-    "worn",
-    "held",
-    "in set",
-    "fault",
-    "failed",
-    "unfinished",
-    "empty",
-    "not formatted",
-    "bad header",
-    "too small",
-    "no control",
-    "bad control",
-    "bad record",
-    "illegal log",
-];
-
-impl Refusal {
-    /// Another session has the monitor: try again later.
-    pub const HELD: Refusal = Refusal(19);
-    /// The helper is behind: try again after a round.
-    pub const BEHIND: Refusal = Refusal(13);
-    /// Nobody has notified the session.
-    pub const IN_SET: Refusal = Refusal(20);
-    /// The session doesn't hold the monitor, or that of the field's guard.
-    pub const NOT_HELD: Refusal = Refusal(12);
-    /// A session of the heap hasn't ended.
-    pub const RUNNING: Refusal = Refusal(9);
-    /// The bytes are no image of a heap.
-    pub const NOT_FORMATTED: Refusal = Refusal(25);
-    /// The host has yet to make calls of the device.
-    pub const CALLS_LEFT: Refusal = Refusal(7);
-    /// Each lane's session was handed out, or no call was told.
-    pub const NONE_LEFT: Refusal = Refusal(6);
-
-    /// Whether the same call may succeed later.
-    pub fn is_passing(self) -> bool {
-        self == Refusal::HELD || self == Refusal::BEHIND || self == Refusal::IN_SET
-    }
-}
-
-impl fmt::Debug for Refusal {
-    fn fmt(&self, f: &mut fmt::Formatter<'_>) -> fmt::Result {
-        fmt::Display::fmt(self, f)
-    }
-}
-
-impl fmt::Display for Refusal {
-    fn fmt(&self, f: &mut fmt::Formatter<'_>) -> fmt::Result {
-        match NAMES.get(self.0 as usize) {
-            Some(name) => f.write_str(name),
-            None => write!(f, "status {}", self.0),
-        }
-    }
-}
-
-impl std::error::Error for Refusal {}
+pub use raw::Found;
+pub use refusal::Refusal;
 
 fn answer(status: u32) -> Result<(), Refusal> {
     if status == 0 {
         Ok(())
     } else {
-        Err(Refusal(status))
+        Err(Refusal::from(status))
     }
 }
 
@@ -117,6 +41,18 @@ impl Drop for Owned {
 // SAFETY: the header lets a handle go to another thread. One call at a time has it, since each takes `&mut`.
 unsafe impl Send for Owned {}
 
+macro_rules! opaque {
+    ($($name:ident)*) => {
+        $(impl fmt::Debug for $name {
+            fn fmt(&self, f: &mut fmt::Formatter<'_>) -> fmt::Result {
+                f.debug_struct(stringify!($name)).finish_non_exhaustive()
+            }
+        })*
+    };
+}
+
+opaque!(Heap Closed Session Waiting);
+
 /// A field of a heap that is to be made.
 #[derive(Clone, Copy, Debug)]
 pub struct Field {
@@ -128,11 +64,34 @@ pub struct Field {
     pub first: u64,
 }
 
+/// What a look shows of a monitor.
+#[derive(Clone, Copy, Debug, PartialEq, Eq)]
+pub struct Sight {
+    /// Its owner's lane; `None` where it is free.
+    pub owner: Option<u32>,
+    /// By how many locks it is held.
+    pub locks: u32,
+    /// How often it has become free.
+    pub number: u64,
+}
+
+// The lane of this number, or none where it is `ZELAMIKU_NOBODY`.
+fn lane(number: u32) -> Option<u32> {
+    (number < raw::NOBODY).then_some(number)
+}
+
 /// Where the host makes the calls of the device.
+///
+/// A write that fails may be made again: the next [`make_calls`](Heap::make_calls) does. A sync that fails stops the heap for good, and is
+/// never made again: what was written before it may be lost, though the device still reads as it was written and a later sync succeeds,
+/// since systems drop the pages that they couldn't write. From then on `make_calls` is an error, and [`round`](Heap::round),
+/// [`acknowledged`](Heap::acknowledged) and [`close`](Heap::close) answer [`Refusal::Failed`]. What was acknowledged before stays:
+/// drop the heap and its sessions, and open it again from bytes that the device itself has, read past the system's cache or after the
+/// file system was mounted again.
 pub trait Device {
-    /// Writes these bytes at this place.
+    /// Writes these bytes at this place, all of them.
     fn write_at(&mut self, at: u64, bytes: &[u8]) -> io::Result<()>;
-    /// Makes durable what was written.
+    /// Makes durable what was written. It is `Ok` only where all of it is.
     fn sync(&mut self) -> io::Result<()>;
 }
 
@@ -148,38 +107,76 @@ impl Device for std::fs::File {
     }
 }
 
-// Makes all calls that are left, and answers how many. One that fails is told again by the next call.
-fn make_calls(heap: &mut Owned, device: &mut dyn Device) -> io::Result<u64> {
-    let mut bytes = [0; 4096];
-    let mut made = 0;
-    loop {
-        let mut call = raw::Call::default();
-        // SAFETY (here and below): the pointers are those of references that are borrowed for the call and don't overlap.
-        let told = unsafe {
-            raw::zelamiku_next_call(&mut heap.0, &mut call, bytes.as_mut_ptr(), bytes.len())
-        };
-        answer(told).map_err(io::Error::other)?;
-        match call.kind {
-            0 => return Ok(made),
-            1 => device.write_at(call.at, &bytes[..call.size as usize])?,
-            _ => device.sync()?,
+// What is behind a handle of a heap, and whether a sync of its device has failed.
+struct Hosted {
+    handle: Owned,
+    has_failed: bool,
+}
+
+impl Hosted {
+    // Makes all calls that are left, and answers how many. A write that fails is told again by the next call.
+    fn make_calls(&mut self, device: &mut dyn Device) -> io::Result<u64> {
+        let mut bytes = vec![0; raw::MOST_BYTES];
+        let mut made = 0;
+        loop {
+            self.must_go_on().map_err(io::Error::other)?;
+            let mut call = raw::Call::default();
+            // SAFETY (here and below): the pointers are those of references that are borrowed for the call and don't overlap.
+            let told = unsafe {
+                raw::zelamiku_next_call(&mut self.handle.0, &mut call, bytes.as_mut_ptr(), bytes.len())
+            };
+            answer(told).map_err(io::Error::other)?;
+            match call.kind {
+                raw::NO_CALL => return Ok(made),
+                raw::WRITE if call.size > bytes.len() as u64 => {
+                    // It is told again, whole.
+                    bytes.resize(call.size as usize, 0);
+                    continue;
+                }
+                raw::WRITE => device.write_at(call.at, &bytes[..call.size as usize])?,
+                _ => self.sync(device)?,
+            }
+            answer(unsafe { raw::zelamiku_call_done(&mut self.handle.0) }).map_err(io::Error::other)?;
+            made += 1;
         }
-        answer(unsafe { raw::zelamiku_call_done(&mut heap.0) }).map_err(io::Error::other)?;
-        made += 1;
+    }
+
+    // One that doesn't come back has failed too.
+    fn sync(&mut self, device: &mut dyn Device) -> io::Result<()> {
+        self.has_failed = true;
+        device.sync()?;
+        self.has_failed = false;
+        Ok(())
+    }
+
+    fn must_go_on(&self) -> Result<(), Refusal> {
+        if self.has_failed {
+            return Err(Refusal::Failed);
+        }
+        Ok(())
     }
 }
 
 /// A heap: its helper, and the calls of its device.
 pub struct Heap {
-    handle: Owned,
+    hosted: Hosted,
 }
 
 /// A heap that was closed, whose last calls are to be made.
 pub struct Closed {
-    handle: Owned,
+    hosted: Hosted,
 }
 
 impl Heap {
+    fn of(handle: Owned) -> Heap {
+        Heap {
+            hosted: Hosted {
+                handle,
+                has_failed: false,
+            },
+        }
+    }
+
     /// Makes a heap and opens it, and tells the bytes of its image. The device has to have as many zero bytes, durably, before
     /// [`make_calls`](Heap::make_calls).
     pub fn format(objects: u32, fields: &[Field], lanes: u32, capacity: u32) -> Result<(Heap, u64), Refusal> {
@@ -196,7 +193,7 @@ impl Heap {
         answer(unsafe {
             raw::zelamiku_format(&mut handle.0, objects, rows.as_ptr(), rows.len(), lanes, capacity, &mut size)
         })?;
-        Ok((Heap { handle }, size))
+        Ok((Heap::of(handle), size))
     }
 
     /// Recovers the heap of these bytes, which the device has, durably, and opens it.
@@ -204,50 +201,63 @@ impl Heap {
         let mut handle = Owned::none();
         let mut found = Found::default();
         answer(unsafe { raw::zelamiku_open(&mut handle.0, image.as_ptr(), image.len(), &mut found) })?;
-        Ok((Heap { handle }, found))
+        Ok((Heap::of(handle), found))
     }
 
-    /// Hands out the session of the next lane, from 0 on; `NONE_LEFT` once all were.
+    /// Hands out the session of the next lane, from 0 on; [`Refusal::NoneLeft`] once all were.
     pub fn session(&mut self) -> Result<Session, Refusal> {
         let mut handle = Owned::none();
-        answer(unsafe { raw::zelamiku_session(&mut self.handle.0, &mut handle.0) })?;
+        answer(unsafe { raw::zelamiku_session(&mut self.hosted.handle.0, &mut handle.0) })?;
         Ok(Session { handle })
     }
 
     /// A round of the helper: answers how many records it applied.
+    ///
+    /// [`Refusal::CallsLeft`]: the calls of so many rounds are left that those of one more might have no room. Nothing was done: make
+    /// them, and go on. [`Refusal::Failed`]: a sync of the device has failed, or an earlier round was refused by [`Refusal::Fault`].
     pub fn round(&mut self) -> Result<u64, Refusal> {
+        self.hosted.must_go_on()?;
         let mut applied = 0;
-        answer(unsafe { raw::zelamiku_round(&mut self.handle.0, &mut applied) })?;
+        answer(unsafe { raw::zelamiku_round(&mut self.hosted.handle.0, &mut applied) })?;
         Ok(applied)
     }
 
-    /// Makes all calls of the device that are left, and answers how many. After an error the same call is told again.
+    /// Makes all calls of the device that are left, and answers how many. After a write that failed the same call is told again; after
+    /// a sync that failed each later `make_calls` is an error, of [`Refusal::Failed`] ([`Device`]).
     pub fn make_calls(&mut self, device: &mut dyn Device) -> io::Result<u64> {
-        make_calls(&mut self.handle, device)
+        self.hosted.make_calls(device)
     }
 
-    /// How many sections of the lane are acknowledged, once all calls that are left were made.
+    /// How many sections of the lane are acknowledged since the heap was opened, once all calls that are left were made: no crash of
+    /// the device loses them.
+    ///
+    /// [`Refusal::CallsLeft`] before; [`Refusal::Failed`] where a sync of the device has failed; [`Refusal::BadLane`].
     pub fn acknowledged(&mut self, lane: u32) -> Result<u64, Refusal> {
+        self.hosted.must_go_on()?;
         let mut sections = 0;
-        answer(unsafe { raw::zelamiku_acknowledged(&mut self.handle.0, lane, &mut sections) })?;
+        answer(unsafe { raw::zelamiku_acknowledged(&mut self.hosted.handle.0, lane, &mut sections) })?;
         Ok(sections)
     }
 
-    /// Closes the heap, once each session that was handed out has ended. After `RUNNING`, and after `CALLS_LEFT`, it comes
-    /// back; after another refusal it has stopped, and what was acknowledged stays.
+    /// Closes the heap, once each session that was handed out has ended. After [`Refusal::Running`], and after [`Refusal::CallsLeft`],
+    /// where the last round's calls might have no room, it comes back. After another refusal it has stopped: what was acknowledged
+    /// stays, and calls that were left are never told.
     pub fn close(mut self) -> Result<Closed, (Option<Heap>, Refusal)> {
-        match answer(unsafe { raw::zelamiku_close(&mut self.handle.0) }) {
-            Ok(()) => Ok(Closed { handle: self.handle }),
-            Err(refusal @ (Refusal::RUNNING | Refusal::CALLS_LEFT)) => Err((Some(self), refusal)),
+        if let Err(refusal) = self.hosted.must_go_on() {
+            return Err((None, refusal));
+        }
+        match answer(unsafe { raw::zelamiku_close(&mut self.hosted.handle.0) }) {
+            Ok(()) => Ok(Closed { hosted: self.hosted }),
+            Err(refusal @ (Refusal::Running | Refusal::CallsLeft)) => Err((Some(self), refusal)),
             Err(refusal) => Err((None, refusal)),
         }
     }
 }
 
 impl Closed {
-    /// Makes the last calls. Then the device has all that the sessions did.
+    /// Makes the last calls. Then the device has all that the sessions did. It fails as [`Heap::make_calls`] does.
     pub fn make_calls(&mut self, device: &mut dyn Device) -> io::Result<u64> {
-        make_calls(&mut self.handle, device)
+        self.hosted.make_calls(device)
     }
 }
 
@@ -267,18 +277,22 @@ impl Session {
         answer(unsafe { raw::zelamiku_try_enter(&mut self.handle.0, object) })
     }
 
-    /// Takes the monitor, and backs off while another session has it or the helper is behind.
+    /// Takes the monitor, and backs off while another session has it or the helper is behind: for ever, where that one never gives it
+    /// back, or no more rounds are made.
     pub fn enter(&mut self, object: u32) -> Result<(), Refusal> {
-        for spins in 0u64.. {
+        self.enter_while(object, || true)
+    }
+
+    /// Takes the monitor, and backs off while another session has it or the helper is behind, as long as `goes_on` answers true. Else
+    /// it answers the refusal that came last, [`Refusal::Held`] or [`Refusal::Behind`].
+    pub fn enter_while(&mut self, object: u32, mut goes_on: impl FnMut() -> bool) -> Result<(), Refusal> {
+        let mut spins = 0u32;
+        loop {
             match self.try_enter(object) {
-                Err(refusal) if refusal.is_passing() => {}
+                Err(refusal) if refusal.is_passing() && goes_on() => back_off(&mut spins),
                 other => return other,
             }
-            if spins > 100 {
-                std::thread::yield_now();
-            }
         }
-        unreachable!()
     }
 
     /// Gives one lock back, and with the last one the monitor.
@@ -308,9 +322,9 @@ impl Session {
 
     /// Takes one session out of the monitor's wait set, and answers its lane.
     pub fn notify(&mut self, object: u32) -> Result<Option<u32>, Refusal> {
-        let mut lane = 0;
-        answer(unsafe { raw::zelamiku_notify(&mut self.handle.0, object, &mut lane) })?;
-        Ok(if lane < 64 { Some(lane) } else { None })
+        let mut woken = 0;
+        answer(unsafe { raw::zelamiku_notify(&mut self.handle.0, object, &mut woken) })?;
+        Ok(lane(woken))
     }
 
     /// Takes all sessions out of the monitor's wait set, and answers a bit for each lane.
@@ -322,9 +336,13 @@ impl Session {
 
     /// Looks at a monitor, which needn't be held.
     pub fn look(&mut self, object: u32) -> Result<Sight, Refusal> {
-        let mut sight = Sight::default();
+        let mut sight = raw::Sight::default();
         answer(unsafe { raw::zelamiku_look(&mut self.handle.0, object, &mut sight) })?;
-        Ok(sight)
+        Ok(Sight {
+            owner: lane(sight.owner),
+            locks: sight.locks,
+            number: sight.number,
+        })
     }
 
     /// How many sections of the lane the last round acknowledged. They are durable once that round's calls are made.
@@ -349,15 +367,32 @@ impl Waiting {
         }
     }
 
-    /// Backs off until the session was notified and the monitor is free.
+    /// Backs off until the session was notified and the monitor is free: for ever, where that never comes.
     pub fn resume(self) -> Result<Session, (Waiting, Refusal)> {
+        self.resume_while(|| true)
+    }
+
+    /// Backs off until the session was notified and the monitor is free, as long as `goes_on` answers true. Else it waits on, and the
+    /// refusal that came last is answered with it, [`Refusal::InSet`] or [`Refusal::Held`].
+    pub fn resume_while(self, mut goes_on: impl FnMut() -> bool) -> Result<Session, (Waiting, Refusal)> {
         let mut waiting = self;
+        let mut spins = 0u32;
         loop {
             match waiting.try_resume() {
-                Err((again, refusal)) if refusal.is_passing() => waiting = again,
+                Err((again, refusal)) if refusal.is_passing() && goes_on() => waiting = again,
                 other => return other,
             }
-            std::thread::yield_now();
+            back_off(&mut spins);
         }
+    }
+}
+
+// Lets others run, after some tries.
+fn back_off(spins: &mut u32) {
+    *spins = spins.saturating_add(1);
+    if *spins > 100 {
+        std::thread::yield_now();
+    } else {
+        std::hint::spin_loop();
     }
 }

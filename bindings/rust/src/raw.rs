@@ -1,6 +1,13 @@
 //! The functions of `zelamiku.h`.
 use std::ffi::c_void;
 
+pub const NO_CALL: u32 = 0;
+pub const WRITE: u32 = 1;
+/// No call writes more bytes than this.
+pub const MOST_BYTES: usize = 4096;
+/// The owner of a monitor that is free.
+pub const NOBODY: u32 = 64;
+
 #[repr(C)]
 pub struct Handle {
     at: *mut c_void,
@@ -22,15 +29,20 @@ pub struct Field {
     pub first: u64,
 }
 
+/// What a heap has, and what recovery found.
 #[repr(C)]
 #[derive(Clone, Copy, Debug, Default, PartialEq, Eq)]
 pub struct Found {
+    /// The bytes of the image.
     pub size: u64,
     pub objects: u32,
     pub fields: u32,
     pub lanes: u32,
+    /// The records that a lane's area holds.
     pub capacity: u32,
+    /// The sections that recovery dropped; none of them was acknowledged.
     pub dropped: u64,
+    /// The fields that took an old value back.
     pub undone: u64,
 }
 
@@ -43,7 +55,7 @@ pub struct Call {
 }
 
 #[repr(C)]
-#[derive(Clone, Copy, Debug, Default, PartialEq, Eq)]
+#[derive(Clone, Copy, Default)]
 pub struct Sight {
     pub owner: u32,
     pub locks: u32,

@@ -37,7 +37,7 @@ fn what_is_acknowledged_is_found_again() {
     session.exit(0).unwrap();
     assert_eq!(heap.acknowledged(0), Ok(0));
     assert!(heap.round().unwrap() > 0);
-    assert_eq!(heap.acknowledged(0), Err(Refusal::CALLS_LEFT));
+    assert_eq!(heap.acknowledged(0), Err(Refusal::CallsLeft));
     heap.make_calls(&mut device).unwrap();
     assert_eq!(heap.acknowledged(0), Ok(1));
     assert_eq!(session.stable(), Ok(1));
@@ -47,7 +47,7 @@ fn what_is_acknowledged_is_found_again() {
     let mut session = heap.session().unwrap();
     session.enter(0).unwrap();
     assert_eq!(session.load(0), Ok(7));
-    assert_eq!(session.load(1), Err(Refusal::NOT_HELD));
+    assert_eq!(session.load(1), Err(Refusal::NotHeld));
     session.exit(0).unwrap();
 }
 
@@ -55,7 +55,7 @@ fn what_is_acknowledged_is_found_again() {
 fn threads_count_and_the_heap_is_closed() {
     let (mut heap, mut device) = make(2);
     let sessions = [heap.session().unwrap(), heap.session().unwrap()];
-    assert_eq!(heap.session().err(), Some(Refusal::NONE_LEFT));
+    assert_eq!(heap.session().err(), Some(Refusal::NoneLeft));
     let threads = sessions.map(|mut session| {
         std::thread::spawn(move || {
             for _ in 0..100 {
@@ -74,7 +74,7 @@ fn threads_count_and_the_heap_is_closed() {
         }
         thread.join().unwrap();
     }
-    let mut closed = heap.close().ok().unwrap();
+    let mut closed = heap.close().unwrap();
     closed.make_calls(&mut device).unwrap();
     let (mut heap, _) = Heap::open(&device.0).unwrap();
     let mut session = heap.session().unwrap();
@@ -90,18 +90,19 @@ fn a_session_waits_and_is_notified() {
     let mut first = heap.session().unwrap();
     let mut second = heap.session().unwrap();
     first.enter(1).unwrap();
-    let waiting = first.begin_wait(1).ok().unwrap();
+    let waiting = first.begin_wait(1).unwrap();
     let (waiting, refusal) = waiting.try_resume().err().unwrap();
-    assert_eq!(refusal, Refusal::IN_SET);
+    assert_eq!(refusal, Refusal::InSet);
     second.enter(1).unwrap();
-    assert_eq!(second.look(1).unwrap().owner, 1);
+    assert_eq!(second.look(1).unwrap().owner, Some(1));
+    assert_eq!(second.look(0).unwrap().owner, None);
     assert_eq!(second.notify(1), Ok(Some(0)));
     assert_eq!(second.notify_all(1), Ok(0));
     second.exit(1).unwrap();
-    let mut first = waiting.resume().ok().unwrap();
+    let mut first = waiting.resume().unwrap();
     first.exit(1).unwrap();
     let (heap, refusal) = heap.close().err().unwrap();
-    assert_eq!(refusal, Refusal::RUNNING);
+    assert_eq!(refusal, Refusal::Running);
     first.end().unwrap();
     second.end().unwrap();
     assert!(heap.unwrap().close().is_ok());
@@ -109,7 +110,7 @@ fn a_session_waits_and_is_notified() {
 
 #[test]
 fn what_is_no_heap_is_refused() {
-    assert_eq!(Heap::open(&[0; 100]).err(), Some(Refusal::NOT_FORMATTED));
-    assert_eq!(Heap::format(0, &[], 1, 2000).err().map(|r| r.to_string()), Some("empty".to_string()));
+    assert_eq!(Heap::open(&[0; 100]).err(), Some(Refusal::NotFormatted));
+    assert_eq!(Heap::format(0, &[], 1, 2000).err(), Some(Refusal::Empty));
     assert!(Heap::format(1, &[Field { owner: 0, guard: 1, first: 0 }], 1, 2000).is_err());
 }

@@ -3,4 +3,5 @@ pub mod Jobs
 pub mod Later
 pub mod SchemaLemmas
 pub mod Theirs
+pub mod Recovered
 pub mod Refused

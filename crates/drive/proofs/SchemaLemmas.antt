@@ -1,9 +1,9 @@
 -- The names of workers' objects and fields are all different.
-use Rattle.std.proofs.Common.{ℕ, zero, suc, ◌≡◌, ◌<◌, ◌⊎◌, List, [], ◌∷◌, ◌++◌, get_or, Contains, Result, Ok, Err, OnOk, codes, decimal, inl, inr, refl, sym, ap, ◌∙◌, subst, length-append, arith}
+use Rattle.std.proofs.Common.{ℕ, zero, suc, ◌≡◌, ◌<◌, ◌⊎◌, List, [], ◌∷◌, ◌++◌, get_or, slice_index, Contains, Result, Ok, Err, OnOk, codes, decimal, inl, inr, refl, sym, ap, ◌∙◌, subst, length-append, arith}
 use Rattle.std.proofs.lemmas.List.{append_cancel_left, map-append}
 use Rattle.std.proofs.lemmas.List.Elements.{Contains-push_cases}
 use Rattle.std.proofs.lemmas.Fmt.{decimal_injective}
-use Rattle.guards.specs.Schema.{Declarations, Field, IsNewName, field_count, names_of, object_count, with_field, with_object}
+use Rattle.guards.specs.Schema.{Declarations, Field, IsNewName, field_count, first_of, firsts_of, names_of, object_count, with_field, with_object}
 use Rattle.drive.specs.Schemas.{count_field, own_field, own_object, schema_of}
 
 pub objects_are : (n : ℕ) → object_count (schema_of n) ≡ suc n
@@ -101,3 +101,15 @@ declared_next (Ok done) n old new name field before named owned declared = decla
 pub never_empty : (n : ℕ) (b : Declarations) → b ≡ schema_of n → (object_count b ≡ 0) ⊎ (field_count b ≡ 0) → ⊥
 never_empty n b is (inl none) = let some : object_count b ≡ suc n = ap (λ (x : Declarations). object_count x) is ∙ objects_are n in omega (arith, some, none)
 never_empty n b is (inr none) = let some : field_count b ≡ suc n = ap (λ (x : Declarations). field_count x) is ∙ fields_are n in omega (arith, some, none)
+
+-- each field begins with 0
+zero_behind : (fields : List Field) (more : Field) → more.first ≡ 0 → ((f : ℕ) → slice_index (firsts_of fields) f ≡ 0) → (f : ℕ) → slice_index (firsts_of (fields ++ more ∷ [])) f ≡ 0
+zero_behind [] more last before zero = last
+zero_behind [] more last before (suc f) = refl
+zero_behind (x ∷ fields) more last before zero = before zero
+zero_behind (x ∷ fields) more last before (suc f) = zero_behind fields more last (λ (i : ℕ). before (suc i)) f
+
+pub first_is_zero : (n f : ℕ) → first_of (schema_of n) f ≡ 0
+first_is_zero zero zero = refl
+first_is_zero zero (suc f) = refl
+first_is_zero (suc n) f = zero_behind (schema_of n).fields (count_field (own_field n) (suc n)) refl (first_is_zero n) f

@@ -1,7 +1,7 @@
 -- What workers leave of a heap.
-use Rattle.std.specs.Prelude.{ℕ, ◌≡◌, List, take}
+use Rattle.std.specs.Prelude.{ℕ, ◌≡◌, ◌<◌, List, slice_index, take}
 use Rattle.block_disk.specs.Device.{Device}
-use Rattle.guards.specs.Schema.{Declarations}
+use Rattle.guards.specs.Schema.{Declarations, field_count}
 use Rattle.heap_model.specs.declared.limits.TheConstants.{LAST_NUMBER}
 use Rattle.image.specs.Recovered.{Parts}
 use Rattle.image.specs.declared.layout.Layout.{Layout}
@@ -38,9 +38,19 @@ module _ {D : Type 0} (device : D → Device) where
     pub plan : shared.plan ≡ record { schema = schema; first = was.heap; last = LAST_NUMBER; lanes = was.layout.lanes }
     pub run : IsRunBy shared was.layout now driven
 
-  -- A heap of so many workers ran.
+  -- A heap of so many workers ran from its beginning: each value was 0.
   pub record HasDriven (workers : ℕ) (driven : Driven) : Type 0 where
     pub was : Parts D
     pub now : Parts D
+    pub theirs : IsOfWorkers workers was.layout was.guards
+    pub first : (f : ℕ) → f < field_count (schema_of workers) → slice_index was.heap f ≡ 0
+    pub driven_so : IsDriven (schema_of workers) was now driven
+
+  -- A heap of so many workers ran on: from what recovery found on this device.
+  pub record HasDrivenOn (workers : ℕ) (old : Device) (driven : Driven) : Type 0 where
+    pub was : Parts D
+    pub now : Parts D
+    pub report : Report
+    pub found : IsRecovery old (device was.disk) was report
     pub theirs : IsOfWorkers workers was.layout was.guards
     pub driven_so : IsDriven (schema_of workers) was now driven

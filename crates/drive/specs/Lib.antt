@@ -6,3 +6,4 @@ pub mod Refusals
 -- What workers and helper keep.
 pub mod Workers
 pub mod Serving
+pub mod Racing

@@ -1,5 +1,7 @@
 -- What is known of workers as they begin and as they end.
-use Rattle.std.specs.Prelude.{ℕ, List, All}
+use Rattle.std.specs.Prelude.{ℕ, ◌≡◌, List, length, All, Vec, Result, IfOk}
+use Rattle.std.specs.declared.alloc.Global.{Global}
+use Rattle.std.specs.declared.alloc.AllocError.{AllocError}
 use Rattle.monitor.specs.Seats.{Home}
 use Rattle.session.specs.Sessions.{IsSessionOf}
 use Rattle.running_heap.specs.Joined.{IsJoined}
@@ -18,3 +20,8 @@ AreJoined h capacity rings workers = All (λ w. IsJoined h capacity rings w.sess
 -- what each worker left is ready to meet it
 abbrev pub AreWorked : (h : Home) (capacity : ℕ) (rings : Rings) → List Worked → Type 0
 AreWorked h capacity rings worked = All (λ w. IsEnded h capacity rings w.ended) worked
+
+-- What these workers answer: memory was wanting, or each has left what is ready to meet the helper that it was joined to.
+pub record HaveWorked (h : Home) (workers : List Worker) (answer : Result (Vec Worked Global) AllocError) : Type 0 where
+  pub all : IfOk answer (λ w. length w.items ≡ length workers)
+  pub each : (capacity : ℕ) (rings : Rings) → AreJoined h capacity rings workers → IfOk answer (λ w. AreWorked h capacity rings w.items)

@@ -1,11 +1,14 @@
 //! Workers on a device: one in memory, one on which an image is made, and one that has an image of theirs.
-ghost use Rattle.std.specs.Prelude.{◌≡◌, ◌↔◌, IfErr, IfOk, IsTrue, OnOk, length};
+ghost use Rattle.std.specs.Prelude.{ℕ, ◌≡◌, ◌<◌, ◌↔◌, IfErr, IfOk, IsTrue, OnOk, length, slice_index};
 ghost use Rattle.block_disk.specs.Device.{SameMoments};
 ghost use Rattle.block_disk.specs.Memory.{device_of};
-ghost use Rattle.drive.specs.Driven.{HasDriven};
+ghost use Rattle.drive.specs.Driven.{HasDriven, HasDrivenOn, IsDriven};
 ghost use Rattle.drive.specs.Refusals.{IsLater, IsMakingRefused, RefusesLook, RefusesNew, RefusesOn, RefusesSize, RefusesWith};
 ghost use Rattle.drive.specs.Schemas.{HoldsWorkers, IsOfWorkers, MayHaveImage, schema_of};
+ghost use Rattle.guards.specs.Schema.{field_count, first_of};
 ghost use Rattle.image.specs.Layout.{size_of};
+ghost use Rattle.recover.specs.Recovery.{IsRecovery};
+ghost use Rattle.recover.specs.declared.report.Report.{Report};
 ghost use Rattle.store_image.specs.Formatting.{layout_with};
 ghost use Rattle.trim_helper.specs.Opening.{FitsSchema};
 
@@ -121,6 +124,7 @@ fn make<D: Disk>(
 ) -> Result<Recovered<D>, (D, DriveError)>
     ensures fits { IfOk result (λ made. FitsSchema schema.now made.layout made.guards) }
     ensures lanes { IfOk result (λ made. made.layout.lanes ≡ workers) }
+    ensures first { IfOk result (λ made. (f : ℕ) → f < field_count schema.now → slice_index made.heap f ≡ first_of schema.now f) }
     ensures workers { IfOk result (λ made. MayHaveImage workers) }
     ensures refused { IfErr result (λ back. IsMakingRefused schema.now workers (D.device disk) (D.device back.0) back.1) }
 {
@@ -147,7 +151,7 @@ pub fn drive_on<D: Disk + Drop, M: Meet + Sync, R: Threads + Wait + Sync>(
     workers: u8,
     rounds: u32,
 ) -> Result<(Recovered<D>, Driven), (D, DriveError)>
-    ensures ok { IfOk result (λ r. HasDriven D.device workers r.1) }
+    ensures ok { IfOk result (λ r. HasDrivenOn D.device workers (D.device disk) r.1) }
     ensures theirs { IfOk result (λ r. HoldsWorkers workers (D.device disk).now.bytes) }
     ensures refused { IfErr result (λ back. RefusesOn workers (D.device disk) (D.device back.0) back.1) }
 {
@@ -205,7 +209,7 @@ fn go_on<D: Disk + Drop, M: Meet + Sync, R: Threads + Wait + Sync>(
 ) -> Result<(Recovered<D>, Driven), (D, DriveError)>
     requires schema { schema ≡ schema_of workers }
     requires theirs { HoldsWorkers workers (D.device disk).now.bytes }
-    ensures ok { IfOk result (λ r. HasDriven D.device workers r.1) }
+    ensures ok { IfOk result (λ r. HasDrivenOn D.device workers (D.device disk) r.1) }
     ensures refused { IfErr result (λ back. IsLater back.1) }
 {
     match find(alloc, disk, workers) {
@@ -217,7 +221,8 @@ fn go_on<D: Disk + Drop, M: Meet + Sync, R: Threads + Wait + Sync>(
 // Recovers an image of so many workers: it stays one.
 fn find<D: Disk>(alloc: Global, disk: D, workers: u8) -> Result<Recovered<D>, (D, RecoverError)>
     requires { HoldsWorkers workers (D.device disk).now.bytes }
-    ensures { IfOk result (λ found. IsOfWorkers workers found.layout found.guards) }
+    ensures theirs { IfOk result (λ found. IsOfWorkers workers found.layout found.guards) }
+    ensures found { IfOk result (λ found. (report : Report) × IsRecovery (D.device disk) (D.device found.disk) found report) }
 {
     one_study_law();
     let _workers = workers;
@@ -239,7 +244,7 @@ fn drive_made<D: Disk + Drop, M: Meet + Sync, R: Threads + Wait + Sync>(
 ) -> Result<(Recovered<D>, Driven), (D, DriveError)>
     requires schema { schema ≡ schema_of workers }
     requires theirs { IsOfWorkers workers made.layout made.guards }
-    ensures ok { IfOk result (λ r. HasDriven D.device workers r.1) }
+    ensures ok { IfOk result (λ r. IsDriven D.device (schema_of workers) made r.0 r.1) }
     ensures refused { IfErr result (λ back. IsLater back.1) }
 {
     let _workers = workers;

@@ -10,7 +10,7 @@ ghost use Rattle.trim_helper.specs.Opening.{FitsSchema};
 use crate::driven::Driven;
 use crate::error::DriveError;
 use crate::meet::Meet;
-use crate::racing::race;
+use crate::racing::{Raced, race};
 use crate::serving::Served;
 use crate::workers::{Worked, number_all, part};
 use block_disk::Disk;
@@ -29,8 +29,8 @@ use trim_helper::{Ended, Helper};
 /// device: what is told is what recovery finds there.
 ///
 /// Refusals, in this order, each with the device as a stop leaves it; it may be recovered:
-/// - `NoMemory`: there was no room for what the threads share;
-/// - `Helper`: a round of the helper was refused, by `Failed`, `Worn` or `Fault`. `NoMemory` where no thread could be made;
+/// - `NoMemory`: there was no room for what the threads share, or no thread could be made. No worker has worked then;
+/// - `Helper`: a round of the helper was refused, by `Failed`, `Worn` or `Fault`;
 /// - `NoMemory`: there was no room for what the workers leave;
 /// - `Session`: a worker's call was refused;
 /// - `Close`: the heap wasn't closed;
@@ -76,10 +76,13 @@ fn run<D: Disk + Drop, M: Meet + Sync, R: Threads + Wait + Sync>(
     let Ok(workers) = number_all(alloc, sessions) else {
         return Err((disk_of(helper), DriveError::NoMemory));
     };
-    let (worked, served) = race(rt, meet, &shared, workers, helper, rounds);
+    let Raced { worked, served } = match race(rt, meet, &shared, workers, helper, rounds) {
+        Ok(raced) => raced,
+        Err(helper) => return Err((disk_of(helper), DriveError::NoMemory)),
+    };
     let Served { helper, answer } = served;
-    if let Err(refusal) = answer {
-        return Err((disk_of(helper), refusal));
+    if let Err(reason) = answer {
+        return Err((disk_of(helper), DriveError::Helper(reason)));
     }
     match worked {
         Ok(worked) => end_all(alloc, shared, worked, helper),

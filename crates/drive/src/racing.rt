@@ -1,10 +1,8 @@
 //! Workers and helper side by side.
-ghost use Rattle.std.specs.Prelude.{ℕ, IfErr, IfOk};
-ghost use Rattle.drive.specs.Refusals.{IsLater};
-ghost use Rattle.drive.specs.Serving.{HasStayed};
-ghost use Rattle.drive.specs.Workers.{AreJoined, AreOf, AreWorked};
+ghost use Rattle.std.specs.Prelude.{◌≡◌, IfErr, IfOk};
+ghost use Rattle.drive.specs.Racing.{HaveRaced};
+ghost use Rattle.drive.specs.Workers.{AreOf, HaveWorked};
 ghost use Rattle.running_heap.specs.Joined.{IsHelping};
-ghost use Rattle.trim_helper.specs.Endings.{Rings};
 
 use crate::meet::Meet;
 use crate::serving::{Served, serve};
@@ -13,11 +11,35 @@ use crate::workers::{Worked, Worker, work_all};
 use block_disk::Disk;
 use monitor::Shared;
 use std::alloc::AllocError;
+use std::snapshot::Snapshot;
 use std::sync::Wait;
-use std::thread::{Threads, join};
+use std::thread;
+use std::thread::{Promise, Threads};
 use trim_helper::Helper;
 
+/// What workers and a helper leave, that were side by side.
+#[derive(Drop)]
+pub struct Raced<D: Disk> {
+    /// What the workers leave. An error is want of memory; then some haven't worked.
+    pub worked: Result<Vec<Worked>, AllocError>,
+    /// What the helper leaves.
+    pub served: Served<D>,
+}
+
+// What the thread of these workers promises: each leaves what is ready to meet the helper to which it was joined.
+#[derive(Drop)]
+struct AllEnd<'a> {
+    shared: &'a Shared,
+    workers: Snapshot<Vec<Worker>>,
+}
+
+impl<'a> Promise<Result<Vec<Worked>, AllocError>> for AllEnd<'a> {
+    ghost kept_by = { λ p r. HaveWorked p.shared.now p.workers.value.items r };
+}
+
 /// The workers work in threads of their own, and the helper makes rounds in this one until they have ended.
+///
+/// An error is the helper as it was: no thread could be made for the workers, and none has worked.
 pub fn race<D: Disk + Drop, M: Meet + Sync, R: Threads + Wait + Sync>(
     rt: &R,
     meet: &M,
@@ -25,26 +47,41 @@ pub fn race<D: Disk + Drop, M: Meet + Sync, R: Threads + Wait + Sync>(
     workers: Vec<Worker>,
     helper: Helper<D>,
     rounds: u32,
-) -> (Result<Vec<Worked>, AllocError>, Served<D>)
+) -> Result<Raced<D>, Helper<D>>
     requires of { AreOf shared.now workers.items }
-    requires joined { AreJoined shared.now helper.store.known.layout.capacity helper.rings workers.items }
     requires helping { IsHelping D.device shared.now helper }
-    ensures worked { IfOk result.0 (λ w. AreWorked shared.now helper.store.known.layout.capacity helper.rings w.items) }
-    ensures helping { IsHelping D.device shared.now result.1.helper }
-    ensures stayed { HasStayed helper result.1.helper }
-    ensures refused { IfErr result.1.answer IsLater }
+    ensures raced { IfOk result (HaveRaced D.device shared.now workers.items helper) }
+    ensures no_thread { IfErr result (λ back. back ≡ helper) }
 {
     let signals = Signals::new();
     let flags = &signals;
-    join(
+    thread::scope(
+        thread::scope_env(),
         rt,
-        || -> Result<Vec<Worked>, AllocError>
-            requires { AreOf shared.now workers.items }
-            ensures { (capacity : ℕ) (rings : Rings) → AreJoined shared.entry.now capacity rings workers.items → IfOk result (λ w. AreWorked shared.entry.now capacity rings w.items) }
-        { work_all(rt, shared, flags, meet, workers, rounds) },
-        || -> Served<D>
-            requires { IsHelping D.device shared.now helper }
-            ensures { IsHelping D.device shared.entry.now result.helper × HasStayed helper result.helper × IfErr result.answer IsLater }
-        { serve(rt, shared, flags, helper) },
+        |scope| -> Result<Raced<D>, Helper<D>>
+            requires of { AreOf shared.now workers.items }
+            requires helping { IsHelping D.device shared.now helper }
+            ensures raced { IfOk result (HaveRaced D.device shared.entry.now workers.items helper) }
+            ensures no_thread { IfErr result (λ back. back ≡ helper) }
+        {
+            let promise = AllEnd {
+                shared,
+                workers: Snapshot::of(&workers),
+            };
+            let Ok(working) = scope.spawn_with(
+                promise,
+                move || -> Result<Vec<Worked>, AllocError>
+                    requires { AreOf shared.now workers.items }
+                    ensures { HaveWorked shared.entry.now workers.items result }
+                { work_all(rt, shared, flags, meet, workers, rounds) },
+            ) else {
+                return Err(helper);
+            };
+            let served = serve(rt, shared, flags, helper);
+            Ok(Raced {
+                worked: working.join(rt),
+                served,
+            })
+        },
     )
 }

@@ -5,7 +5,6 @@ use std::sync::atomic::{AtomicBool, Ordering};
 /// Flags that are raised once and stay so. No proof rests on them: a flag that is read too late costs time alone.
 #[derive(Drop)]
 pub struct Signals {
-    begun: AtomicBool,
     ended: AtomicBool,
     stopped: AtomicBool,
 }
@@ -14,20 +13,9 @@ impl Signals {
     /// No flag is raised.
     pub fn new() -> Signals {
         Signals {
-            begun: AtomicBool::new(false),
             ended: AtomicBool::new(false),
             stopped: AtomicBool::new(false),
         }
-    }
-
-    /// The thread of the workers runs.
-    pub fn begin(&self) {
-        self.begun.store(true, Ordering::SeqCst);
-    }
-
-    /// Whether it does.
-    pub fn has_begun(&self) -> bool {
-        self.begun.load(Ordering::SeqCst)
     }
 
     /// All workers have ended, or there was no memory for them.

@@ -1,6 +1,6 @@
 //! The workers, as they begin and as they end.
 ghost use Rattle.std.specs.Prelude.{ℕ, All, IfOk};
-ghost use Rattle.drive.specs.Workers.{AreJoined, AreOf, AreWorked};
+ghost use Rattle.drive.specs.Workers.{AreJoined, AreOf, AreWorked, HaveWorked};
 ghost use Rattle.monitor.specs.Seats.{Home};
 ghost use Rattle.running_heap.specs.Joined.{IsJoined};
 ghost use Rattle.session.specs.Sessions.{IsSessionOf};
@@ -57,9 +57,8 @@ pub fn work_all<R: Threads + Wait + Sync, M: Meet + Sync>(
     rounds: u32,
 ) -> Result<Vec<Worked>, AllocError>
     requires of { AreOf shared.now workers.items }
-    ensures worked { (capacity : ℕ) (rings : Rings) → AreJoined shared.now capacity rings workers.items → IfOk result (λ w. AreWorked shared.now capacity rings w.items) }
+    ensures worked { HaveWorked shared.now workers.items result }
 {
-    signals.begin();
     let worked = map_vec(
         rt,
         workers,

@@ -22,3 +22,7 @@ pub empty_file : (workers size : ℕ) (file : Option Held) → size ≡ 0 → If
     → IfSome file (λ h. (h.reads ≡ []) ⊎ HoldsWorkers workers h.reads)
 empty_file workers size None none measured = tt
 empty_file workers size (Some h) none measured = inl (no_bytes h.reads (sym none ∙ measured))
+
+pub empty_reads : (size : ℕ) (file : Option Held) → size ≡ 0 → IfSome file (λ h. size ≡ length h.reads) → Reads [] file
+empty_reads size None none measured = tt
+empty_reads size (Some h) none measured = no_bytes h.reads (sym none ∙ measured)

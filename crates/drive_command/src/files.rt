@@ -4,7 +4,7 @@ ghost use Rattle.block_disk.specs.Device.{Device};
 ghost use Rattle.drive.specs.Driven.{HasDriven};
 ghost use Rattle.drive.specs.Schemas.{HoldsWorkers};
 ghost use Rattle.drive_command.specs.Faults.{RefusesFile, RefusesLeftFile, RefusesNewFile};
-ghost use Rattle.drive_command.specs.Telling.{file_device};
+ghost use Rattle.drive_command.specs.Telling.{HasDrivenFile, HasDrivenImageOf, file_device};
 ghost use Rattle.file_disk.specs.Backing.{Held, Reads};
 
 use crate::fault::DriveFault;
@@ -32,7 +32,7 @@ where
     F: BackingFile + Drop,
     R: Files<File = F> + Threads + Wait + Sync,
     M: Meet + Sync,
-    ensures ok { IfOk result (HasDriven file_device workers) }
+    ensures ok { IfOk result (λ driven. (file : Option Held) × HasDrivenFile workers file driven) }
     ensures refused { IfErr result (λ fault. (file : Option Held) × RefusesFile workers file fault) }
 {
     let mut options = OpenOptions::new();
@@ -61,7 +61,7 @@ where
     F: BackingFile + Drop,
     R: Threads + Wait + Sync,
     M: Meet + Sync,
-    ensures ok { IfOk result (HasDriven file_device workers) }
+    ensures ok { IfOk result (HasDrivenFile workers (F.holds file)) }
     ensures theirs { IfOk result (λ driven. IfSome (F.holds file) (λ h. (h.reads ≡ []) ⊎ HoldsWorkers workers h.reads)) }
     ensures refused { IfErr result (RefusesFile workers (F.holds file)) }
 {
@@ -115,7 +115,7 @@ where
     F: BackingFile + Drop,
     R: Threads + Wait + Sync,
     M: Meet + Sync,
-    ensures ok { IfOk result (HasDriven file_device workers) }
+    ensures ok { IfOk result (HasDrivenImageOf workers (F.holds file)) }
     ensures theirs { IfOk result (λ driven. IfSome (F.holds file) (λ h. HoldsWorkers workers h.reads)) }
     ensures refused { IfErr result (RefusesLeftFile workers (F.holds file)) }
 {

@@ -55,7 +55,7 @@ impl HostedSession {
     ghost use Rattle.session.specs.Calls.{IsQuiet};
     ghost use Rattle.session.specs.Sessions.{view_of};
     ghost use Rattle.session.specs.declared.error.SessionError.TheVariants as error;
-    ghost use Rattle.steps.specs.Views.{IsHeld, IsLasting, IsPaired, Lengthens, hold, plan};
+    ghost use Rattle.steps.specs.Views.{IsHeld, IsLasting, IsWhole, Lengthens, hold, plan};
 
     /// Takes the monitor, or one lock more of it ([`Session::try_enter`]).
     pub fn try_enter(&mut self, object: ObjectId) -> Result<(), SessionError>
@@ -114,8 +114,9 @@ impl HostedSession {
     pub fn look(&mut self, object: ObjectId) -> Result<(LockWord, Option<FatWord>), SessionError>
         ensures home { self.new.home ≡ self.old.home }
         ensures unknown { (plan self.old.home).objects ≤ object.0 → (result ≡ Err error.UnknownObject) × IsQuiet (view_of self.old.session) (view_of self.new.session) }
-        ensures known { object.0 < (plan self.old.home).objects → (lock : _) × (fat : _) × (result ≡ Ok (lock, fat)) × IsPaired lock fat
+        ensures known { object.0 < (plan self.old.home).objects → (lock : _) × (fat : _) × (result ≡ Ok (lock, fat)) × IsWhole (view_of self.new.session) object lock fat
             × Lengthens (view_of self.old.session) (view_of self.new.session) (event.Look object (sight_of lock fat) ∷ []) }
+        ensures lasting { IfOk result (λ words. IsLasting (view_of self.new.session) object words.0) }
     {
         self.session.look(&self.shared, object)
     }

@@ -222,6 +222,38 @@ fn pools_are_refused(rt: HostRuntime) -> Result<(), Fail> {
     Ok(())
 }
 
+// The names of the fields of a pool `p` of eight slots, in the order in which they are declared.
+const CELLS: [&str; 9] = [
+    "p.head", "p.0", "p.1", "p.2", "p.3", "p.4", "p.5", "p.6", "p.7",
+];
+
+// Whether the builder has the first of the pool's declarations and no others: its object, and then its fields.
+fn has_first(builder: &SchemaBuilder) -> bool {
+    for number in 0..builder.fields() {
+        if CELLS.get(number as usize).copied() != Some(builder.field_name(FieldId(number))) {
+            return false;
+        }
+    }
+    builder.fields() == 0 || builder.object_named("p").is_some()
+}
+
+// Whether the pool is declared whole, or, for want of memory, the first of it.
+fn declares_in_order(alloc: Global) -> bool {
+    let mut builder = SchemaBuilder::new(alloc);
+    let whole = match Pool::lay_out(&mut builder, "p", 8) {
+        Ok(_) => true,
+        Err(SchemaError::NoMemory) => false,
+        Err(_) => return false,
+    };
+    (builder.fields() == 9) == whole && has_first(&builder)
+}
+
+// Passes with any one of its allocations refused (`rt try --test --fail-alloc N`), and with none.
+#[test]
+fn refused_memory_leaves_the_first_declarations(rt: HostRuntime) {
+    assert!(rt; declares_in_order(rt.alloc()));
+}
+
 // A head or a link above the number of slots names no slot.
 #[test]
 fn damaged_links_are_refused(rt: HostRuntime) -> Result<(), Fail> {

@@ -1,5 +1,5 @@
 -- A session keeps to what the store needs to take each of its records.
-use Rattle.std.proofs.Common.{ℕ, ◌≡◌, ◌+◌, ◌<◌, ◌≤◌, List, [], ◌∷◌, map, length, All, refl, sym, ap, ◌∙◌, subst, inl, inr, ⊎_elim, arith}
+use Rattle.std.proofs.Common.{ℕ, ◌≡◌, ◌+◌, List, [], ◌∷◌, map, All, refl, sym, ap, ◌∙◌, subst, inl, inr, arith}
 use Rattle.std.proofs.lemmas.List.{length-map}
 use Rattle.std.proofs.lemmas.List.Elements.{All-nil, All-cons, All-head, All-tail}
 use Rattle.std.specs.Global.{Global}
@@ -10,7 +10,7 @@ use Rattle.heap_model.specs.declared.record.Record.{Record}
 use Rattle.heap_model.specs.declared.ids.Lane.{Lane}
 use Rattle.heap_model.specs.Limits.{IsWithinLimits}
 use Rattle.heap_model.specs.Own.{own_log, sent_of}
-use Rattle.heap_model.specs.OwnSections.{own_actions, held_in}
+use Rattle.heap_model.specs.OwnSections.{held_in}
 use Rattle.heap_model.specs.Sections.{action}
 use Rattle.heap_model.specs.Setting.{Setting}
 use Rattle.monitor.specs.Seats.{Home, Sitting}

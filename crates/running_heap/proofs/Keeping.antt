@@ -1,22 +1,17 @@
 -- A session stays joined to its helper, and a helper goes on.
-use Rattle.std.proofs.Common.{ℕ, zero, suc, ◌≡◌, true, List, [], ◌∷◌, length, sym, ap, ◌∙◌, subst}
+use Rattle.std.proofs.Common.{ℕ, zero, suc, List, [], ◌∷◌, sym, ap, ◌∙◌, subst}
 use Rattle.rtrb.specs.declared.consumer.Consumer.{Consumer}
 use Rattle.rtrb.specs.declared.producer.Producer.{Producer}
 use Rattle.rtrb.specs.Ring.{SameProducer}
 use Rattle.block_disk.specs.Device.{Device}
 use Rattle.heap_model.specs.declared.record.Record.{Record}
 use Rattle.heap_model.specs.declared.ids.Lane.{Lane}
-use Rattle.monitor.specs.Seats.{Home}
-use Rattle.session.specs.declared.session.Session.{Session}
-use Rattle.session.specs.declared.waiting.Waiting.{Waiting}
 use Rattle.session.specs.Sessions.{ring_of, view_of}
 use Rattle.steps.specs.Views.{plan}
-use Rattle.store_past.specs.Past.{Past}
 use Rattle.trim_helper.specs.Helping.{IsHelper, count_published, place_published, taken_in}
 use Rattle.trim_helper.specs.Moves.{IsEndOf}
-use Rattle.trim_helper.specs.Parts.{Parts, HasDrained, HasServed}
 use Rattle.trim_helper.proofs.Rounds.{drains_same, drains_served, moved_seat}
-use Rattle.running_heap.specs.Joined.{IsJoined, IsHelping, HasGoneOn}
+use Rattle.running_heap.specs.Joined.{HasGoneOn}
 use Rattle.running_heap.specs.Laws.{CallLaw, DrainLaw, EndedLaw, RingsLaw, RoundLaw, WaitLaw}
 
 -- another value of the same end

@@ -14,8 +14,8 @@ use Rattle.trim_helper.proofs.Gathering.{end_below}
 use Rattle.running_heap.specs.Closed.{IsClosed, WasTold, WereTold}
 use Rattle.running_heap.proofs.Ending.{of_parts}
 
-pub closed_of : (h : Home) (l : Layout) (es : List Ended) (acknowledged : ℕ → ℕ) (d : Device) → IsClosedDown (plan h) h.plan.lanes l (parts_of es) acknowledged d → IsClosed h l es d
-closed_of h l es acknowledged d down = record {
+pub closed_of : (h : Home) (l : Layout) (es : List Ended) (acknowledged trimmed : ℕ → ℕ) (d : Device) → IsClosedDown (plan h) h.plan.lanes l (parts_of es) acknowledged trimmed d → IsClosed h l es d
+closed_of h l es acknowledged trimmed d down = record {
   history = down.history;
   legal = down.one.legal;
   told = of_parts (λ x. lane x.lane down.history ≡ x.events) es down.one.part;
@@ -24,14 +24,16 @@ closed_of h l es acknowledged d down = record {
   values = down.values;
 }
 
-pub told_of : (h : Home) (c lanes : ℕ) (rings : Rings) (acknowledged : ℕ → ℕ) (es : List Ended) → length rings ≡ lanes → All (IsEnded h c rings) es → ((x : Part) → Among (parts_of es) x → x.lane < lanes → x.count ≤ acknowledged x.lane) → WereTold acknowledged es
-told_of h c lanes rings acknowledged [] count all each = All-nil (WasTold acknowledged)
-told_of h c lanes rings acknowledged (e ∷ es) count all each =
+pub told_of : (h : Home) (c lanes : ℕ) (rings : Rings) (acknowledged trimmed : ℕ → ℕ) (es : List Ended) → length rings ≡ lanes → All (IsEnded h c rings) es →
+    ((x : Part) → Among (parts_of es) x → x.lane < lanes → x.count ≤ acknowledged x.lane) → ((x : Part) → Among (parts_of es) x → x.lane < lanes → x.place ≤ trimmed x.lane) → WereTold acknowledged trimmed es
+told_of h c lanes rings acknowledged trimmed [] count all counts places = All-nil (WasTold acknowledged trimmed)
+told_of h c lanes rings acknowledged trimmed (e ∷ es) count all counts places =
     let one = All-head (IsEnded h c rings) e es all in
     let low = end_below e.producer rings e.lane.0 one.ring in
     let same = one.lane in
-    All-cons (WasTold acknowledged) e es (each (part_at e.seat) (inl refl) (omega (arith, low, same, count)))
-    (told_of h c lanes rings acknowledged es count (All-tail (IsEnded h c rings) e es all) (λ x among. each x (inr among)))
+    All-cons (WasTold acknowledged trimmed) e es
+    (record { stable = counts (part_at e.seat) (inl refl) (omega (arith, low, same, count)); trimmed_to = places (part_at e.seat) (inl refl) (omega (arith, low, same, count)) })
+    (told_of h c lanes rings acknowledged trimmed es count (All-tail (IsEnded h c rings) e es all) (λ x among. counts x (inr among)) (λ x among. places x (inr among)))
 
 -- an answer that says more
 pub ok_more : {A E : Type 0} (P Q : A → Type 0) (r : Result A E) → ((x : A) → P x → Q x) → IfOk r P → IfOk r Q

@@ -24,10 +24,11 @@ pub record IsClosed (h : Home) (l : Layout) (ended : List Ended) (d : Device) : 
   pub stands : Always d (StandsForCut l (plan h) (log_of (plan h) history) (all_ended (actions (log_of (plan h) history))))
   pub values : Always d (λ image. StandsFor l image (values_below (state_after (plan h) history).value l.fields))
 
--- the session was told of no more sections of its lane than are acknowledged
-abbrev pub WasTold : (acknowledged : ℕ → ℕ) → Ended → Type 0
-WasTold acknowledged e = (view e.seat).stable ≤ acknowledged (view e.seat).lane.0
+-- the session was told of no more sections of its lane than are acknowledged, and of no place past what is trimmed
+pub record WasTold (acknowledged trimmed : ℕ → ℕ) (e : Ended) : Type 0 where
+  pub stable : (view e.seat).stable ≤ acknowledged (view e.seat).lane.0
+  pub trimmed_to : (view e.seat).trimmed ≤ trimmed (view e.seat).lane.0
 
 -- each of these sessions was
-abbrev pub WereTold : (acknowledged : ℕ → ℕ) → List Ended → Type 0
-WereTold acknowledged ended = All (WasTold acknowledged) ended
+abbrev pub WereTold : (acknowledged trimmed : ℕ → ℕ) → List Ended → Type 0
+WereTold acknowledged trimmed ended = All (WasTold acknowledged trimmed) ended

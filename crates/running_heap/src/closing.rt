@@ -1,5 +1,5 @@
 //! Sessions end, and meet their helper.
-ghost use Rattle.std.specs.Prelude.{◌≡◌, ℕ, All, IfErr, IfOk, MatchResult};
+ghost use Rattle.std.specs.Prelude.{◌≡◌, ℕ, All, IfErr, IfOk, IsErrAnd, MatchResult, true};
 ghost use Rattle.heap_model.specs.Setting.{Setting};
 ghost use Rattle.monitor.specs.Seats.{Home};
 ghost use Rattle.running_heap.specs.Closed.{IsClosed, WereTold};
@@ -7,9 +7,9 @@ ghost use Rattle.running_heap.specs.Joined.{IsHelping, IsJoined};
 ghost use Rattle.steps.specs.Views.{plan};
 ghost use Rattle.store_past.specs.Past.{Past};
 ghost use Rattle.trim_helper.specs.Closed.{Stood, disk_of};
-ghost use Rattle.trim_helper.specs.Endings.{HoldNone, IsCloseWhy, IsComplete, IsEnded, RefusesClosing, Rings};
+ghost use Rattle.trim_helper.specs.Endings.{HoldNone, IsCloseWhy, IsComplete, IsEnded, IsOfSessions, RefusesClosing, Rings};
 ghost use Rattle.trim_helper.specs.Parts.{IsServing};
-ghost use Rattle.trim_helper.specs.Taken.{HasTaken};
+ghost use Rattle.trim_helper.specs.Taken.{HasTaken, trimmed_of};
 
 use block_disk::Disk;
 use monitor::Shared;
@@ -49,8 +49,10 @@ pub fn close<D: Disk>(
     requires helper { IsHelping D.device shared helper }
     requires ended { All (IsEnded shared helper.store.known.layout.capacity helper.rings) ended.items }
     ensures ok { IfOk result (λ disk. IsClosed shared helper.store.known.layout ended.items (D.device disk)) }
-    ensures told { (p : Past) → IsServing D.device helper (plan shared) p → IfOk result (λ disk. WereTold p.cut ended.items) }
+    ensures told { (p : Past) → IsServing D.device helper (plan shared) p → IfOk result (λ disk. WereTold p.cut (trimmed_of p) ended.items) }
     ensures refused { MatchResult result (λ disk. HoldNone ended.items × IsComplete helper.store.known.layout.lanes ended.items) (λ back. RefusesClosing helper.store.known.layout.lanes ended.items back.1) }
+    ensures untouched { IfErr result (λ back. IsOfSessions back.1 → back.0 ≡ helper.store.disk) }
+    ensures failed { helper.store.known.has_failed ≡ true → HoldNone ended.items → IsComplete helper.store.known.layout.lanes ended.items → IsErrAnd result (λ back. back.1 ≡ CloseError.Failed) }
     ensures why { IfErr result (λ back. IsCloseWhy helper.store.known (D.device helper.store.disk) (D.device back.0) back.1) }
     ensures any_moment { (s : Setting) (p : Past) → HasTaken helper.store.known (D.device helper.store.disk) helper.rings helper.waiting s p
         → Stood helper.store.known.layout s p ended.items (D.device helper.store.disk) (D.device (disk_of result)) }

@@ -1,32 +1,31 @@
 -- The cases of an enter.
-use Rattle.std.proofs.Common.{ℕ, ◌+◌, ◌<◌, ◌≤◌, inl, inr, Result, Ok, Err, IfErr, sym, ap, ◌∙◌, arith}
+use Rattle.std.proofs.Common.{ℕ, ◌+◌, ◌<◌, ◌≤◌, inl, inr, [], Result, Ok, Err, MatchResult, sym, ap, ◌∙◌, arith}
 use Rattle.heap_model.specs.declared.ids.ObjectId.{ObjectId}
 use Rattle.steps.specs.Views.{View}
-use Rattle.steps.specs.declared.grip.Grip.{Grip}
+use Rattle.steps.specs.declared.grip.Seen.{Seen}
+use Rattle.steps.specs.declared.grip.Seen.TheVariants as seen
 use Rattle.session.specs.declared.error.SessionError.{SessionError}
 use Rattle.session.specs.declared.error.SessionError.TheVariants.{UnknownObject, UnknownField, NotHeld, Behind, SectionFull, TooMany, TooDeep, NoFat, Worn, Held}
 use Rattle.heap_model.specs.declared.limits.TheConstants.{SECTION_RECORDS}
 use Rattle.session.specs.declared.limits.TheConstants.{MOST_HELD, LAST_PLACE}
 use Rattle.session.specs.Logs.{held_count, place}
-use Rattle.session.specs.Calls.{IsQuiet, IsFull, HasRing, Tries, Begins, GoesOn}
-use Rattle.session.proofs.Lengthening.{after_quiet}
+use Rattle.session.specs.Calls.{IsNews, IsQuiet, IsFull, HasRing, Tries, Begins, GoesOn}
+use Rattle.session.proofs.Lengthening.{after_quiet, thin_back}
 
--- where the ring has room, whatever the reason
-pub has_ring : (k r : ℕ) (e : SessionError) → k ≤ r → HasRing k r e
-has_ring k r Behind le = tt
-has_ring k r UnknownObject le = le
-has_ring k r UnknownField le = le
-has_ring k r NotHeld le = le
-has_ring k r SectionFull le = le
-has_ring k r TooMany le = le
-has_ring k r TooDeep le = le
-has_ring k r NoFat le = le
-has_ring k r Worn le = le
-has_ring k r (Held x) le = le
-
-pub ring_for : (k r : ℕ) (x : Result Grip SessionError) → k ≤ r → IfErr x (HasRing k r)
-ring_for k r (Ok g) le = tt
-ring_for k r (Err e) le = has_ring k r e le
+-- where the ring has room, and the reason is what a look or a try showed
+pub ring_tried : (c k f r : ℕ) (v w : View) (o : ObjectId) (x : Result (Unit {0}) SessionError) → k ≤ f → MatchResult x (λ _. f ≤ r + 1) (λ _. f ≤ r) → Tries v w o x →
+    MatchResult x (λ _. k ≤ r + 1) (HasRing c k r w)
+ring_tried c k f r v w o (Ok done) le same t = omega arith
+ring_tried c k f r v w o (Err Worn) le same t = omega arith
+ring_tried c k f r v w o (Err (Held x)) le same t = omega arith
+ring_tried c k f r v w o (Err UnknownObject) le same t = absurd t
+ring_tried c k f r v w o (Err UnknownField) le same t = absurd t
+ring_tried c k f r v w o (Err NotHeld) le same t = absurd t
+ring_tried c k f r v w o (Err Behind) le same t = absurd t
+ring_tried c k f r v w o (Err SectionFull) le same t = absurd t
+ring_tried c k f r v w o (Err TooMany) le same t = absurd t
+ring_tried c k f r v w o (Err TooDeep) le same t = absurd t
+ring_tried c k f r v w o (Err NoFat) le same t = absurd t
 
 -- inside a section, with room
 pub went_on : (v w : View) (o : ObjectId) (x : Result (Unit {0}) SessionError) → (IsFull v 2 → ⊥) → held_count v < MOST_HELD → Tries v w o x → GoesOn v w o x
@@ -52,11 +51,15 @@ began c v u w o (Err Worn) q fits low t = ((let r = t.2.trimmed in omega arith),
   where
     later : (n : ℕ) → u.plan.last ≤ n → v.plan.last ≤ n
     later n le = (let e = ap (λ k. k.last) q.plan in omega arith)
-began c v u w o (Err (Held x)) q fits low (inl a) = ((let r = a.5.trimmed in omega arith), low, inl (a.0, a.1, a.2, (λ e. a.3 (e ∙ sym q.lane)), a.4, after_quiet v u w _ q a.5))
-began c v u w o (Err (Held x)) q fits low (inr a) = ((let r = a.3.trimmed in omega arith), low, inr (a.0, later a.0 a.1, a.2, after_quiet v u w _ q a.3))
+began c v u w o (Err (Held x)) q fits low (inl a) = ((let r = a.6.trimmed in omega arith), low, inl (a.0, a.1, a.2, (λ e. a.3 (e ∙ sym q.lane)), a.4, a.5, after_quiet v u w _ q a.6))
+began c v u w o (Err (Held x)) q fits low (inr a) = ((let r = a.4.trimmed in omega arith), low, inr (a.0, later a.0 a.1, still_news x a.2, a.3, after_quiet v u w _ q a.4))
   where
     later : (n : ℕ) → n < u.plan.last → n < v.plan.last
     later n lt = (let e = ap (λ k. k.last) q.plan in omega arith)
+
+    still_news : (y : Seen) → IsNews u w o y → IsNews v w o y
+    still_news (seen.Lock z) none = thin_back v u [] o q none
+    still_news (seen.Fat f) some = some
 began c v u w o (Err UnknownObject) q fits low t = absurd t
 began c v u w o (Err UnknownField) q fits low t = absurd t
 began c v u w o (Err NotHeld) q fits low t = absurd t

@@ -1,5 +1,5 @@
 -- Views that grow.
-use Rattle.std.proofs.Common.{ℕ, ◌≡◌, ◌≢◌, if◌then◌else◌, List, [], ◌∷◌, ◌++◌, append_assoc, length, map, Some, None, option_map, refl, sym, ap, ◌∙◌, arith}
+use Rattle.std.proofs.Common.{ℕ, ◌≡◌, ◌≢◌, if◌then◌else◌, List, [], ◌∷◌, ◌++◌, append_assoc, length, map, Option, Some, None, option_map, refl, sym, ap, ◌∙◌, arith}
 use Rattle.heap_model.specs.declared.ids.ObjectId.{ObjectId}
 use Rattle.heap_model.specs.declared.event.Event.{Event}
 use Rattle.heap_model.specs.declared.event.Event.TheVariants.{NestedEnter, NestedExit, Exit, Wait, Resume}
@@ -9,7 +9,7 @@ use Rattle.heap_model.specs.Own.{own, own_log, more, less, pause_count}
 use Rattle.heap_model.specs.Sections.{action, holding, open_section}
 use Rattle.session.specs.Logs.{log_in, held_count, section_records, place}
 use Rattle.steps.specs.Views.{View}
-use Rattle.steps.specs.Views.{Lengthens, hold}
+use Rattle.steps.specs.Views.{Lengthens, hold, slot_in}
 use Rattle.session.proofs.GripLists.{by_test}
 
 pub after_both : (v w x : View) (a b : List Event) → Lengthens v w a → Lengthens w x b → Lengthens v x (b ++ a)
@@ -36,6 +36,14 @@ after_quiet v w x b f s = record {
   fats = λ o i e. s.fats o i (f.fats o i e);
   words = λ o x h. s.words o x (f.words o x h);
 }
+
+-- what isn't known to be fat wasn't before
+pub thin_back : (v w : View) (newer : List Event) (o : ObjectId) → Lengthens v w newer → slot_in o.0 w.fats ≡ None → slot_in o.0 v.fats ≡ None
+thin_back v w newer o told thin = by_slot (slot_in o.0 v.fats) refl
+  where
+    by_slot : (x : Option ℕ) → slot_in o.0 v.fats ≡ x → slot_in o.0 v.fats ≡ None
+    by_slot None e = e
+    by_slot (Some i) e = absurd (let clash : ◌≡◌ {A = Option ℕ} (Some i) None = sym (told.fats o.0 i e) ∙ thin in cc)
 
 pub same_view : (v : View) → Lengthens v v []
 same_view v = record { events = refl; plan = refl; lane = refl; slots = omega arith; stable = omega arith; trimmed = omega arith; fats = λ o i e. e; words = λ o x h. h }

@@ -22,11 +22,8 @@ use Rattle.session.specs.Grips.{grip_in}
 use Rattle.session.specs.Sits.{Holds, FindsNone}
 use Rattle.session.specs.Logs.{held_count}
 use Rattle.session.specs.Calls.{WaitsOn, AreLooks, OnlyLooks, SeesAnother, SeesChange, EntersFirst}
-use Rattle.session.proofs.Lengthening.{after_both, same_view, logs_after}
+use Rattle.session.proofs.Lengthening.{after_both, logs_after}
 use Rattle.session.proofs.Holding.{finds_none, free_found}
-
-pub none_yet : (v : View) (o : ObjectId) → OnlyLooks v v o
-none_yet v o = ([], tt, same_view v)
 
 looks_append : (o : ObjectId) (a b : List Event) → AreLooks o a → AreLooks o b → AreLooks o (a ++ b)
 looks_append o [] b x y = y
@@ -65,8 +62,8 @@ miss_looks o (seen.Lock (thin.Fat i m)) = tt
 miss_looks o (seen.Fat f) = ((_, refl), tt)
 
 tried_looks : (v w : View) (o : ObjectId) (x : Seen) → SeesAnother v w o x ⊎ SeesChange v w o x → OnlyLooks v w o
-tried_looks v w o x (inl a) = (_, ((_, refl), tt), a.5)
-tried_looks v w o x (inr a) = (_, looks_append o (miss_events o x) (Look o (Found None 0 a.0) ∷ []) (miss_looks o x) ((_, refl), tt), a.3)
+tried_looks v w o x (inl a) = (_, ((_, refl), tt), a.6)
+tried_looks v w o x (inr a) = (_, looks_append o (miss_events o x) (Look o (Found None 0 a.0) ∷ []) (miss_looks o x) ((_, refl), tt), a.4)
 
 -- a try that answers that the monitor is held
 pub held_looks : (c : ℕ) (v w : View) (o : ObjectId) (x : Seen) → EntersFirst c v w o (Err (Held x)) → OnlyLooks v w o
@@ -85,6 +82,6 @@ quiet_enter c u v w o done e f = (
 
 pub waits_looks : (v w : View) (o : ObjectId) (s : Still) → WaitsOn v w o s → OnlyLooks v w o
 waits_looks v w o still.InSet told = (_, ((_, refl), tt), told)
-waits_looks v w o (still.Held x) (inl (inl a)) = (_, ((_, refl), tt), a.5)
-waits_looks v w o (still.Held x) (inl (inr a)) = (_, ((_, refl), tt), a.3)
-waits_looks v w o (still.Held x) (inr a) = tried_looks v w o x (inr a)
+waits_looks v w o (still.Held x) (fat, inl (inl a)) = (_, ((_, refl), tt), a.6)
+waits_looks v w o (still.Held x) (fat, inl (inr a)) = (_, ((_, refl), tt), a.4)
+waits_looks v w o (still.Held x) (fat, inr a) = tried_looks v w o x (inr a)

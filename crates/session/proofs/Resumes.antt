@@ -1,5 +1,5 @@
 -- The cases of a resume.
-use Rattle.std.proofs.Common.{ℕ, ◌<◌, ◌⊎◌, inl, inr, [], ◌∷◌, None, Result, Ok, Err, MatchResult, refl, sym, ap, ◌∙◌, arith}
+use Rattle.std.proofs.Common.{ℕ, ◌<◌, ◌⊎◌, inl, inr, [], ◌∷◌, Some, None, Result, Ok, Err, MatchResult, refl, sym, ap, ◌∙◌, arith}
 use Rattle.heap_model.specs.declared.ids.ObjectId.{ObjectId}
 use Rattle.heap_model.specs.declared.event.Event.TheVariants.{Resume, Look}
 use Rattle.heap_model.specs.declared.event.Sight.TheVariants.{Found}
@@ -9,25 +9,25 @@ use Rattle.session.specs.declared.session.Session.{Session}
 use Rattle.session.specs.declared.waiting.Waiting.{Waiting}
 use Rattle.session.specs.declared.error.Still.{Still}
 use Rattle.session.specs.declared.error.Still.TheVariants as still
-use Rattle.steps.specs.Views.{Lengthens}
+use Rattle.steps.specs.Views.{Lengthens, IsSlot}
 use Rattle.session.specs.Calls.{SeesAnother, SeesLast, Resumes, WaitsOn}
 use Rattle.session.specs.Steps.{MissesResume}
 use Rattle.session.specs.Sessions.{view_of, view_waiting}
 use Rattle.session.proofs.Lengthening.{after_quiet, after_both}
-use Rattle.session.proofs.Trying.{sees_change}
+use Rattle.session.proofs.Trying.{of_slot, sees_change}
 
 -- the try after a look that showed the monitor free
-pub resumed : (u v w : View) (o : ObjectId) (n : ℕ) (x : Result Session (Waiting × Still)) → Lengthens u v [] → Lengthens v w (Look o (Found None 0 n) ∷ []) → n < u.plan.last →
+pub resumed : (u v w : View) (o : ObjectId) (n slot : ℕ) (x : Result Session (Waiting × Still)) → IsSlot u o (Some slot) → Lengthens u v [] → Lengthens v w (Look o (Found None 0 n) ∷ []) → n < u.plan.last →
     MatchResult x (λ s. Lengthens w (view_of s) (Resume o n ∷ [])) (λ e. MissesResume w (view_waiting e.0) o n e.1) →
     MatchResult x (λ s. Resumes u (view_of s) o) (λ e. WaitsOn u (view_waiting e.0) o e.1)
-resumed u v w o n (Ok s) quiet look low told = (n, low, after_both u w (view_of s) (Look o (Found None 0 n) ∷ []) (Resume o n ∷ []) (after_quiet u v w _ quiet look) told)
-resumed u v w o n (Err e) quiet look low told = missed e.1 told
+resumed u v w o n slot (Ok s) named quiet look low told = (n, low, after_both u w (view_of s) (Look o (Found None 0 n) ∷ []) (Resume o n ∷ []) (after_quiet u v w _ quiet look) told)
+resumed u v w o n slot (Err e) named quiet look low told = missed e.1 told
   where
     missed : (s : Still) → MissesResume w (view_waiting e.0) o n s → WaitsOn u (view_waiting e.0) o s
     missed still.InSet no_ = absurd no_
-    missed (still.Held x) m = inr (sees_change u w (view_waiting e.0) o (Found None 0 n) n x refl low (after_quiet u v w _ quiet look) m)
+    missed (still.Held x) m = (m.0, inr (sees_change u w (view_waiting e.0) o (Found None 0 n) (Some slot) n x refl low (after_quiet u v w _ quiet look) (look.fats o.0 slot (quiet.fats o.0 slot named)) (of_slot slot x m.0) m.1))
 
 -- the look that showed it held, or worn
 pub looked : (u v w : View) (o : ObjectId) (x : Seen) → Lengthens u v [] → SeesAnother v w o x ⊎ SeesLast v w o x → SeesAnother u w o x ⊎ SeesLast u w o x
-looked u v w o x quiet (inl a) = inl (a.0, a.1, a.2, (λ e. a.3 (e ∙ sym quiet.lane)), a.4, after_quiet u v w _ quiet a.5)
-looked u v w o x quiet (inr a) = inr (a.0, (let e = ap (λ k. k.last) quiet.plan in let b = a.1 in omega arith), a.2, after_quiet u v w _ quiet a.3)
+looked u v w o x quiet (inl a) = inl (a.0, a.1, a.2, (λ e. a.3 (e ∙ sym quiet.lane)), a.4, a.5, after_quiet u v w _ quiet a.6)
+looked u v w o x quiet (inr a) = inr (a.0, (let e = ap (λ k. k.last) quiet.plan in let b = a.1 in omega arith), a.2, a.3, after_quiet u v w _ quiet a.4)

@@ -1,5 +1,5 @@
 -- What sessions know of a wait.
-use Rattle.std.proofs.Common.{ℕ, ◌≡◌, ◌+◌, ◌<◌, ◌≤◌, inl, inr, [], ◌∷◌, Option, Some, None, Result, Ok, Err, MatchResult, refl, sym, ap, ◌∙◌, subst, arith}
+use Rattle.std.proofs.Common.{ℕ, ◌≡◌, ◌+◌, ◌<◌, ◌≤◌, inl, inr, [], ◌∷◌, Option, Some, None, Result, Ok, Err, IfErr, MatchResult, refl, sym, ap, ◌∙◌, subst, arith}
 use Rattle.heap_model.specs.declared.limits.TheConstants.{SECTION_RECORDS}
 use Rattle.rtrb.specs.Ring.{known_free}
 use Rattle.heap_model.specs.declared.ids.ObjectId.{ObjectId}
@@ -11,14 +11,15 @@ use Rattle.session.specs.declared.session.Session.{Session}
 use Rattle.session.specs.declared.waiting.Waiting.{Waiting}
 use Rattle.session.specs.declared.error.SessionError.{SessionError}
 use Rattle.session.specs.declared.error.SessionError.TheVariants.{UnknownObject, UnknownField, NotHeld, Behind, SectionFull, TooMany, TooDeep, NoFat, Worn, Held}
-use Rattle.steps.specs.Views.{Lengthens, slot_in}
+use Rattle.steps.specs.Views.{Lengthens}
 use Rattle.session.specs.Logs.{held_count}
-use Rattle.session.specs.Calls.{IsFull, IsThin, IsWaitWorn, LeavesRoom, RefusesWait, BeginsWait}
+use Rattle.session.specs.Calls.{IsFull, HasRing, IsWaitWorn, LeavesRoom, RefusesWait, BeginsWait}
 use Rattle.session.specs.Steps.{RefusesFat}
 use Rattle.session.specs.Sessions.{SameRing, SameRingStill, view_of}
 use Rattle.session.specs.Keeping.{SameNumbers, HasRoomToWait, MayWait}
 use Rattle.session.proofs.Holding.{held_length}
-use Rattle.session.proofs.Lengthening.{after_quiet, held_stays, records_stay, place_stays}
+use Rattle.session.proofs.Fattening.{grip_fat}
+use Rattle.session.proofs.Lengthening.{after_quiet, held_stays, records_stay, place_stays, thin_back}
 use Rattle.session.proofs.Sitting.{not_full_by}
 
 -- the room stays where nothing was pushed
@@ -49,19 +50,11 @@ leaves_room v t u c f rises same room = (
       let e = place_stays v (view_of t) f in omega arith),
 )
 
--- what isn't known to be fat wasn't before
-thin_back : (v w : View) (o : ObjectId) → Lengthens v w [] → IsThin w o → IsThin v o
-thin_back v w o told thin = by_slot (slot_in o.0 v.fats) refl
-  where
-    by_slot : (x : Option ℕ) → slot_in o.0 v.fats ≡ x → slot_in o.0 v.fats ≡ None
-    by_slot None e = e
-    by_slot (Some i) e = absurd (let clash : ◌≡◌ {A = Option ℕ} (Some i) None = sym (told.fats o.0 i e) ∙ thin in cc)
-
 -- the answer of both tests
 pub wait_answer : (s t u : Session) (o : ObjectId) (h : Hold) (x : Result Grip SessionError) (c : ℕ) → Lengthens (view_of s) (view_of t) [] → Lengthens (view_of t) (view_of u) [] → t.capacity ≡ c → HasRoomToWait t →
     MatchResult x (MayWait u o h) (RefusesFat (view_of t) (view_of u) o h) → MatchResult x (MayWait u o h) (RefusesWait c (view_of s) (view_of u) o h)
 wait_answer s t u o h (Ok g) c f k same room may = may
-wait_answer s t u o h (Err NoFat) c f k same room no_ = (leaves_room (view_of s) t (view_of u) c f k.trimmed same room, thin_back _ _ o f no_.0, no_.1, after_quiet _ _ _ [] f k)
+wait_answer s t u o h (Err NoFat) c f k same room no_ = (leaves_room (view_of s) t (view_of u) c f k.trimmed same room, thin_back _ _ [] o f no_.0, no_.1, after_quiet _ _ _ [] f k)
 wait_answer s t u o h (Err Worn) c f k same room worn = (leaves_room (view_of s) t (view_of u) c f k.trimmed same room, worn.0, fresh_back worn.1, after_quiet _ _ _ [] f k)
   where
     fresh_back : IsWaitWorn (view_of t) h → IsWaitWorn (view_of s) h
@@ -76,12 +69,27 @@ wait_answer s t u o h (Err TooMany) c f k same room no_ = absurd no_
 wait_answer s t u o h (Err TooDeep) c f k same room no_ = absurd no_
 wait_answer s t u o h (Err (Held x)) c f k same room no_ = absurd no_
 
+-- where the ring has room for a wait that is refused
+pub ring_for : (c k r : ℕ) (v w : View) (o : ObjectId) (h : Hold) (P : Grip → Type 0) (x : Result Grip SessionError) → k ≤ r → MatchResult x P (RefusesFat v w o h) → IfErr x (HasRing c k r w)
+ring_for c k r v w o h P (Ok g) le why = tt
+ring_for c k r v w o h P (Err NoFat) le why = le
+ring_for c k r v w o h P (Err Worn) le why = le
+ring_for c k r v w o h P (Err UnknownObject) le why = absurd why
+ring_for c k r v w o h P (Err UnknownField) le why = absurd why
+ring_for c k r v w o h P (Err NotHeld) le why = absurd why
+ring_for c k r v w o h P (Err Behind) le why = absurd why
+ring_for c k r v w o h P (Err SectionFull) le why = absurd why
+ring_for c k r v w o h P (Err TooMany) le why = absurd why
+ring_for c k r v w o h P (Err TooDeep) le why = absurd why
+ring_for c k r v w o h P (Err (Held x)) le why = absurd why
+
 -- a wait is begun
 pub begun : (s t : Session) (w : View) (o : ObjectId) (h : Hold) (g : Grip) (c : ℕ) → Lengthens (view_of s) (view_of t) [] → t.capacity ≡ c → MayWait t o h g → Lengthens (view_of t) w (Wait g.object g.number ∷ []) → BeginsWait c (view_of s) w o h
 begun s t w o h g c f same may told = (
   leaves_room (view_of s) t w c f told.trimmed same may.room,
   λ worn. may.fresh (worn_again _ _ h f worn),
   subst (λ z. Lengthens (view_of s) w (Wait z h.number ∷ [])) may.found.object (subst (λ n. Lengthens (view_of s) w (Wait g.object n ∷ [])) may.number (after_quiet _ _ _ _ f told)),
+  (let known = grip_fat (view_of t) o g may.fat.0 may.found.object may.found.keeps may.fat.1 in (known.0, told.fats o.0 known.0 known.1)),
 )
 
 -- the same ring twice

@@ -1,5 +1,5 @@
 -- What the calls of a session answer: `v` is the view before a call, and `w` the view after it.
-use Rattle.std.specs.Prelude.{ℕ, ◌≡◌, ◌≢◌, ◌+◌, ◌<◌, ◌≤◌, ◌⊎◌, List, [], ◌∷◌, ◌++◌, Some, None, Result, Ok, Err}
+use Rattle.std.specs.Prelude.{ℕ, ◌≡◌, ◌≢◌, ◌+◌, ◌<◌, ◌≤◌, ◌⊎◌, List, [], ◌∷◌, ◌++◌, Some, None, Result, Ok, Err, IfOk}
 use Rattle.heap_model.specs.declared.limits.TheConstants.{SECTION_RECORDS}
 use Rattle.heap_model.specs.declared.ids.ObjectId.{ObjectId}
 use Rattle.heap_model.specs.declared.ids.FieldId.{FieldId}
@@ -19,7 +19,7 @@ use Rattle.session.specs.declared.error.Still.{Still}
 use Rattle.session.specs.declared.error.Still.TheVariants as still
 use Rattle.lock_word.specs.declared.lock_word.TheConstants.{FAT_SLOTS}
 use Rattle.lock_word.specs.Spelling.{fat_sight, lane_of_thread}
-use Rattle.steps.specs.Views.{Lengthens, slot_in, miss_events, IsAnother, IsLastingSeen}
+use Rattle.steps.specs.Views.{Lengthens, slot_in, miss_events, IsAnother, IsLastingSeen, IsOfSlot}
 use Rattle.session.specs.declared.limits.TheConstants.{MOST_HELD, THIN_LOCKS, FAT_LOCKS, RING_RECORDS, LAST_PLACE}
 use Rattle.session.specs.Logs.{held_count, place, section_records}
 
@@ -39,14 +39,18 @@ Fits c k v w = place v + k ≤ w.trimmed + c
 abbrev pub IsFull : View → (more : ℕ) → Type 0
 IsFull v k = SECTION_RECORDS < section_records v + held_count v + k
 
--- so many slots of the ring are known to be free, unless the reason is that the helper is behind
-abbrev pub HasRing : (needed free : ℕ) → SessionError → Type 0
-HasRing k r Behind = Unit {0}
-HasRing k r _ = k ≤ r
+-- so many slots of the ring are known to be free; where the reason is that the helper is behind, they aren't, or the lane lacks the room
+abbrev pub HasRing : (capacity needed free : ℕ) → View → SessionError → Type 0
+HasRing c k r w Behind = (r < k) ⊎ (w.trimmed + c < place w + k)
+HasRing c k r w _ = k ≤ r
 
--- the monitor, which the thread holds, isn't fat
+-- the monitor isn't fat, as far as the view knows
 abbrev pub IsThin : View → ObjectId → Type 0
 IsThin v o = slot_in o.0 v.fats ≡ None
+
+-- the monitor is fat
+abbrev pub IsFat : View → ObjectId → Type 0
+IsFat v o = (i : ℕ) × (slot_in o.0 v.fats ≡ Some i)
 
 -- what a word shows
 abbrev pub sight_in : Seen → Sight
@@ -55,13 +59,23 @@ sight_in (seen.Lock (thin.Thin t a n)) = Found (Some (lane_of_thread t)) (a + 1)
 sight_in (seen.Lock (thin.Fat i m)) = StillInSet
 sight_in (seen.Fat f) = fat_sight f
 
--- the look showed another thread's hold
+-- the look showed another thread's hold, in the word of the monitor's slot, or in the lock word where it has none
 abbrev pub SeesAnother : View → View → ObjectId → Seen → Type 0
-SeesAnother v w o x = (l : Lane) × (c : ℕ) × (n : ℕ) × (l ≢ v.lane) × (sight_in x ≡ Found (Some l) c n) × Lengthens v w (Look o (sight_in x) ∷ [])
+SeesAnother v w o x = (l : Lane) × (c : ℕ) × (n : ℕ) × (l ≢ v.lane) × IsOfSlot (slot_in o.0 w.fats) x × (sight_in x ≡ Found (Some l) c n) × Lengthens v w (Look o (sight_in x) ∷ [])
+
+-- the word is that of a slot
+abbrev pub IsFatSeen : Seen → Type 0
+IsFatSeen (seen.Lock x) = ⊥
+IsFatSeen (seen.Fat f) = Unit {0}
+
+-- what a try may find: a lock word only of a monitor that wasn't known to be fat, and the word of a slot that is known
+abbrev pub IsNews : View → View → ObjectId → Seen → Type 0
+IsNews v w o (seen.Lock x) = IsThin v o
+IsNews v w o (seen.Fat f) = IsFat w o
 
 -- the look showed a free monitor below the last number, which was gone at the try
 abbrev pub SeesChange : View → View → ObjectId → Seen → Type 0
-SeesChange v w o x = (n : ℕ) × (n < v.plan.last) × IsAnother w o n x × Lengthens v w (miss_events o x ++ Look o (Found None 0 n) ∷ [])
+SeesChange v w o x = (n : ℕ) × (n < v.plan.last) × IsNews v w o x × IsAnother w o n x × Lengthens v w (miss_events o x ++ Look o (Found None 0 n) ∷ [])
 
 -- a lock word that names a slot, and was met in place of a free one, is known whole from then on
 abbrev pub IsLastingHeld : View → ObjectId → SessionError → Type 0
@@ -115,7 +129,11 @@ LeavesRoom c v w = (1 < held_count v → ¬ IsFull v 2) × (held_count v ≡ 1 �
 
 -- the monitor is fat, or a slot was left at the last look
 abbrev pub MayBeFat : View → ObjectId → Type 0
-MayBeFat w o = ((i : ℕ) × (slot_in o.0 w.fats ≡ Some i)) ⊎ (w.slots < FAT_SLOTS)
+MayBeFat w o = IsFat w o ⊎ (w.slots < FAT_SLOTS)
+
+-- the monitor is fat, or no slot was left at the last look
+abbrev pub IsFatOrFull : View → ObjectId → Type 0
+IsFatOrFull w o = IsFat w o ⊎ (FAT_SLOTS ≤ w.slots)
 
 -- why a wait on a monitor that is held is refused
 abbrev pub RefusesWait : (capacity : ℕ) → View → View → ObjectId → Hold → SessionError → Type 0
@@ -125,9 +143,9 @@ RefusesWait c v w o h NoFat = LeavesRoom c v w × IsThin v o × (FAT_SLOTS ≤ w
 RefusesWait c v w o h Worn = LeavesRoom c v w × MayBeFat w o × IsWaitWorn v h × IsQuiet v w
 RefusesWait c v w o h _ = ⊥
 
--- a wait that is begun
+-- a wait that is begun, on a monitor that is fat from then on
 abbrev pub BeginsWait : (capacity : ℕ) → View → View → ObjectId → Hold → Type 0
-BeginsWait c v w o h = LeavesRoom c v w × (¬ IsWaitWorn v h) × Lengthens v w (Wait o h.number ∷ [])
+BeginsWait c v w o h = LeavesRoom c v w × (¬ IsWaitWorn v h) × Lengthens v w (Wait o h.number ∷ []) × IsFat w o
 
 -- a resume that takes the monitor again
 abbrev pub Resumes : View → View → ObjectId → Type 0
@@ -135,12 +153,12 @@ Resumes v w o = (n : ℕ) × (n < v.plan.last) × Lengthens v w (Resume o n ∷ 
 
 -- the look showed a monitor that can't be taken any more
 abbrev pub SeesLast : View → View → ObjectId → Seen → Type 0
-SeesLast v w o x = (n : ℕ) × (v.plan.last ≤ n) × (sight_in x ≡ Found None 0 n) × Lengthens v w (Look o (Found None 0 n) ∷ [])
+SeesLast v w o x = (n : ℕ) × (v.plan.last ≤ n) × IsOfSlot (slot_in o.0 w.fats) x × (sight_in x ≡ Found None 0 n) × Lengthens v w (Look o (Found None 0 n) ∷ [])
 
--- why a thread waits on
+-- why a thread waits on: the monitor, which is fat, tells by the word of its slot
 abbrev pub WaitsOn : View → View → ObjectId → Still → Type 0
 WaitsOn v w o still.InSet = Lengthens v w (Look o StillInSet ∷ [])
-WaitsOn v w o (still.Held x) = (SeesAnother v w o x ⊎ SeesLast v w o x) ⊎ SeesChange v w o x
+WaitsOn v w o (still.Held x) = IsFatSeen x × ((SeesAnother v w o x ⊎ SeesLast v w o x) ⊎ SeesChange v w o x)
 
 -- each is a look at the object
 abbrev pub AreLooks : ObjectId → List Event → Type 0
@@ -154,6 +172,17 @@ OnlyLooks v w o = (looks : List Event) × AreLooks o looks × Lengthens v w look
 -- an enter of a monitor that isn't held
 abbrev pub EntersFirst : (capacity : ℕ) → View → View → ObjectId → Result (Unit {0}) SessionError → Type 0
 EntersFirst c v w o x = (held_count v ≡ 0 → Begins c v w o x) × (0 < held_count v → GoesOn v w o x)
+
+-- An enter of a monitor that isn't held, which waits where another thread was seen to have it: looks, and then the enter that
+-- is answered. A monitor that was taken after looks is left fat, where a slot is left.
+pub record EntersWaiting (capacity : ℕ) (v w : View) (o : ObjectId) (x : Result (Unit {0}) SessionError) : Type 0 where
+  -- the looks, the newest first, and the view after them
+  pub looks : List Event
+  pub later : View
+  pub only : AreLooks o looks
+  pub told : Lengthens v later looks
+  pub enters : EntersFirst capacity later w o x
+  pub fat : looks ≢ [] → IfOk x (λ done. IsFatOrFull w o)
 
 -- an answer other than that the monitor is held
 abbrev pub IsSettled : Result (Unit {0}) SessionError → Type 0

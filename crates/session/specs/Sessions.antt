@@ -25,6 +25,9 @@ view_waiting w = view w.seat
 abbrev pub seat_of : Session → Sitting
 seat_of s = s.seat
 
+abbrev pub seat_waiting : Waiting → Sitting
+seat_waiting w = w.seat
+
 -- how many records its lane holds
 abbrev pub capacity_of : Session → ℕ
 capacity_of s = s.capacity
@@ -32,6 +35,9 @@ capacity_of s = s.capacity
 -- its end of the ring to the helper
 abbrev pub ring_of : Session → Producer Record Global AnyItems
 ring_of s = s.ring
+
+abbrev pub ring_waiting : Waiting → Producer Record Global AnyItems
+ring_waiting w = w.ring
 
 -- how many slots of its ring it knows to be free
 abbrev pub free_of : Session → ℕ

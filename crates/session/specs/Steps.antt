@@ -10,7 +10,7 @@ use Rattle.session.specs.declared.error.SessionError.TheVariants.{Behind, Sectio
 use Rattle.session.specs.declared.error.Still.{Still}
 use Rattle.session.specs.declared.error.Still.TheVariants as still
 use Rattle.session.specs.Logs.{held_count}
-use Rattle.session.specs.Calls.{IsBehind, IsFull, IsThin, MayBeFat, IsWaitWorn}
+use Rattle.session.specs.Calls.{IsBehind, IsFatSeen, IsFull, IsThin, MayBeFat, IsWaitWorn}
 
 -- why there is no room for a wait
 abbrev pub RefusesRoom : (capacity : ℕ) → View → View → SessionError → Type 0
@@ -24,7 +24,7 @@ RefusesFat v w o h NoFat = IsThin v o × (FAT_SLOTS ≤ w.slots)
 RefusesFat v w o h Worn = MayBeFat w o × IsWaitWorn v h
 RefusesFat v w o h _ = ⊥
 
--- a try to resume that missed
+-- a try to resume that missed: it found the word of the slot
 abbrev pub MissesResume : View → View → ObjectId → (number : ℕ) → Still → Type 0
 MissesResume v w o n still.InSet = ⊥
-MissesResume v w o n (still.Held x) = Misses v w o n x
+MissesResume v w o n (still.Held x) = IsFatSeen x × Misses v w o n x

@@ -10,14 +10,14 @@ use std::sync::Wait;
 use std::thread;
 
 impl Session {
-    ghost use Rattle.std.specs.Prelude.{◌≡◌, ◌<◌, ◌≤◌, ◌+◌, Some, None, Ok, Err, IfErr, IsErrAnd, MatchResult};
+    ghost use Rattle.std.specs.Prelude.{◌≡◌, ◌<◌, ◌≤◌, ◌+◌, Some, None, Ok, Err, IfOk, IfErr, IsErrAnd, MatchResult};
     ghost use Rattle.heap_model.specs.Own.{Hold};
     ghost use Rattle.session.specs.declared.error.SessionError.TheVariants as error;
     ghost use Rattle.session.specs.Sits.{FindsNone};
-    ghost use Rattle.steps.specs.Views.{View, plan, hold};
+    ghost use Rattle.steps.specs.Views.{View, plan, hold, IsHeld};
     ghost use Rattle.heap_model.specs.declared.limits.TheConstants.{SECTION_RECORDS};
     ghost use Rattle.session.specs.Logs.{held_count};
-    ghost use Rattle.session.specs.Calls.{IsQuiet, HasRing, OnlyLooks, EntersAgain, EntersFirst, IsSettled, Waits, RefusesWait};
+    ghost use Rattle.session.specs.Calls.{IsQuiet, HasRing, OnlyLooks, EntersAgain, EntersFirst, EntersWaiting, IsFatOrFull, IsSettled, Waits, RefusesWait};
     ghost use Rattle.session.specs.Sessions.{SameRing, IsSessionOf, view_of, capacity_of, free_of};
 
     /// Takes the monitor, or one lock more of it, and waits while another thread holds it (JLS 17.1). After such a wait it makes
@@ -39,9 +39,9 @@ impl Session {
         ensures again { (h : Hold) → object.0 < (plan shared.now).objects → hold (view_of self.old) object.0 ≡ Some h
             → EntersAgain (view_of self.old) (view_of self.new) object h result }
         ensures first { object.0 < (plan shared.now).objects → hold (view_of self.old) object.0 ≡ None
-            → (u : View) × OnlyLooks (view_of self.old) u object × EntersFirst (capacity_of self.old) u (view_of self.new) object result }
+            → EntersWaiting (capacity_of self.old) (view_of self.old) (view_of self.new) object result }
         ensures ring_room { object.0 < (plan shared.now).objects → hold (view_of self.old) object.0 ≡ None → held_count (view_of self.old) ≡ 0
-            → MatchResult result (λ _. SECTION_RECORDS ≤ free_of self.new + 1) (HasRing SECTION_RECORDS (free_of self.new)) }
+            → MatchResult result (λ _. SECTION_RECORDS ≤ free_of self.new + 1) (HasRing (capacity_of self.old) SECTION_RECORDS (free_of self.new) (view_of self.new)) }
     {
         if u64::from(object.0) >= steps::objects(shared) {
             seldom();
@@ -67,8 +67,8 @@ impl Session {
         ensures seat { IsSessionOf shared.now self.new }
         ensures ring { SameRing self.old self.new }
         ensures settled { IsSettled result }
-        ensures first { (u : View) × OnlyLooks (view_of self.old) u object × EntersFirst (capacity_of self.old) u (view_of self.new) object result }
-        ensures ring_room { held_count (view_of self.old) ≡ 0 → MatchResult result (λ _. SECTION_RECORDS ≤ free_of self.new + 1) (HasRing SECTION_RECORDS (free_of self.new)) }
+        ensures first { EntersWaiting (capacity_of self.old) (view_of self.old) (view_of self.new) object result }
+        ensures ring_room { held_count (view_of self.old) ≡ 0 → MatchResult result (λ _. SECTION_RECORDS ≤ free_of self.new + 1) (HasRing (capacity_of self.old) SECTION_RECORDS (free_of self.new) (view_of self.new)) }
     {
         match self.enter_first(shared, object) {
             Ok(()) => Ok(()),
@@ -93,7 +93,8 @@ impl Session {
         ensures ring { SameRing self.old self.new }
         ensures settled { IsSettled result }
         ensures first { (u : View) × OnlyLooks (view_of self.old) u object × EntersFirst (capacity_of self.old) u (view_of self.new) object result }
-        ensures ring_room { held_count (view_of self.old) ≡ 0 → MatchResult result (λ _. SECTION_RECORDS ≤ free_of self.new + 1) (HasRing SECTION_RECORDS (free_of self.new)) }
+        ensures fat { IfOk result (λ done. IsFatOrFull (view_of self.new) object) }
+        ensures ring_room { held_count (view_of self.old) ≡ 0 → MatchResult result (λ _. SECTION_RECORDS ≤ free_of self.new + 1) (HasRing (capacity_of self.old) SECTION_RECORDS (free_of self.new) (view_of self.new)) }
     {
         for _ in rt.forever() {
             match self.enter_first(shared, object) {
@@ -112,10 +113,12 @@ impl Session {
     // Makes the monitor, if it is thin, fat where a slot is left.
     fn make_fat(&mut self, shared: &Shared, object: ObjectId)
         requires seat { IsSessionOf shared.now self.old }
+        requires held { IsHeld (view_of self.old) object.0 }
         ensures seat { IsSessionOf shared.now self.new }
         ensures ring { SameRing self.old self.new }
         ensures quiet { IsQuiet (view_of self.old) (view_of self.new) }
         ensures free { free_of self.new ≡ free_of self.old }
+        ensures fat { IsFatOrFull (view_of self.new) object }
     {
         let Some(grip) = self.grip_on(object) else {
             return;
@@ -144,7 +147,7 @@ impl Session {
         ensures held { (h : Hold) → object.0 < (plan shared.now).objects → hold (view_of self) object.0 ≡ Some h
             → MatchResult result (λ session. Waits (capacity_of self) (view_of self) (view_of session) object h) (λ e. RefusesWait (capacity_of self) (view_of self) (view_of e.0) object h e.1) }
         ensures ring_room { (h : Hold) → object.0 < (plan shared.now).objects → hold (view_of self) object.0 ≡ Some h → held_count (view_of self) ≡ 1
-            → IfErr result (λ e. HasRing (SECTION_RECORDS + 1) (free_of e.0) e.1) }
+            → IfErr result (λ e. HasRing (capacity_of self) (SECTION_RECORDS + 1) (free_of e.0) (view_of e.0) e.1) }
     {
         match self.begin_wait(shared, object) {
             Ok(waiting) => Ok(waiting.resume(rt, shared)),

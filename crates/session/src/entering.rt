@@ -48,7 +48,7 @@ impl Session {
         ensures goes_on { object.0 < (plan shared.now).objects → hold (view_of self.old) object.0 ≡ None → 0 < held_count (view_of self.old)
             → GoesOn (view_of self.old) (view_of self.new) object result }
         ensures ring_room { object.0 < (plan shared.now).objects → hold (view_of self.old) object.0 ≡ None → held_count (view_of self.old) ≡ 0
-            → MatchResult result (λ _. SECTION_RECORDS ≤ free_of self.new + 1) (HasRing SECTION_RECORDS (free_of self.new)) }
+            → MatchResult result (λ _. SECTION_RECORDS ≤ free_of self.new + 1) (HasRing (capacity_of self.old) SECTION_RECORDS (free_of self.new) (view_of self.new)) }
         ensures lasting { IfErr result (IsLastingHeld (view_of self.new) object) }
     {
         if u64::from(object.0) >= steps::objects(shared) {
@@ -130,7 +130,7 @@ impl Session {
         ensures ring { SameRing self.old self.new }
         ensures begins { held_count (view_of self.old) ≡ 0 → Begins (capacity_of self.old) (view_of self.old) (view_of self.new) object result }
         ensures goes_on { 0 < held_count (view_of self.old) → GoesOn (view_of self.old) (view_of self.new) object result }
-        ensures ring_room { held_count (view_of self.old) ≡ 0 → MatchResult result (λ _. SECTION_RECORDS ≤ free_of self.new + 1) (HasRing SECTION_RECORDS (free_of self.new)) }
+        ensures ring_room { held_count (view_of self.old) ≡ 0 → MatchResult result (λ _. SECTION_RECORDS ≤ free_of self.new + 1) (HasRing (capacity_of self.old) SECTION_RECORDS (free_of self.new) (view_of self.new)) }
         ensures lasting { IfErr result (IsLastingHeld (view_of self.new) object) }
     {
         let count = self.held.len();
@@ -158,7 +158,7 @@ impl Session {
         ensures seat { IsSessionOf shared.now self.new }
         ensures ring { SameRing self.old self.new }
         ensures begins { Begins (capacity_of self.old) (view_of self.old) (view_of self.new) object result }
-        ensures ring_room { MatchResult result (λ _. SECTION_RECORDS ≤ free_of self.new + 1) (HasRing SECTION_RECORDS (free_of self.new)) }
+        ensures ring_room { MatchResult result (λ _. SECTION_RECORDS ≤ free_of self.new + 1) (HasRing (capacity_of self.old) SECTION_RECORDS (free_of self.new) (view_of self.new)) }
         ensures lasting { IfErr result (IsLastingHeld (view_of self.new) object) }
     {
         if !ring_has_room(&mut self.ring, SECTION_RECORDS as usize) {

@@ -12,7 +12,7 @@ impl Session {
     ghost use Rattle.heap_model.specs.declared.event.Event.TheVariants as event;
     ghost use Rattle.session.specs.declared.error.SessionError.TheVariants as error;
     ghost use Rattle.lock_word.specs.Spelling.{sight_of};
-    ghost use Rattle.steps.specs.Views.{plan, Lengthens, IsPaired, IsLasting};
+    ghost use Rattle.steps.specs.Views.{plan, Lengthens, IsWhole, IsLasting};
     ghost use Rattle.session.specs.Calls.{IsQuiet};
     ghost use Rattle.session.specs.Sessions.{SameRing, HasRoomLeft, IsSessionOf, view_of, seat_of, ring_of};
     ghost use Rattle.session.specs.Logs.{sent_in, held_count, sections_ended};
@@ -50,7 +50,7 @@ impl Session {
         ensures ring { SameRing self.old self.new }
         ensures unknown { (plan shared.now).objects ≤ object.0 → (result ≡ Err error.UnknownObject) × IsQuiet (view_of self.old) (view_of self.new) }
         ensures known { object.0 < (plan shared.now).objects
-            → (lock : _) × (fat : _) × (result ≡ Ok (lock, fat)) × IsPaired lock fat × Lengthens (view_of self.old) (view_of self.new) (event.Look object (sight_of lock fat) ∷ []) }
+            → (lock : _) × (fat : _) × (result ≡ Ok (lock, fat)) × IsWhole (view_of self.new) object lock fat × Lengthens (view_of self.old) (view_of self.new) (event.Look object (sight_of lock fat) ∷ []) }
         ensures lasting { IfOk result (λ words. IsLasting (view_of self.new) object words.0) }
     {
         if u64::from(object.0) >= steps::objects(shared) {

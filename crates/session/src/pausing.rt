@@ -67,7 +67,7 @@ impl Session {
         ensures held { (h : Hold) → object.0 < (plan shared.now).objects → hold (view_of self) object.0 ≡ Some h
             → MatchResult result (λ waiting. (awaited waiting ≡ object) × BeginsWait (capacity_of self) (view_of self) (view_waiting waiting) object h) (λ e. RefusesWait (capacity_of self) (view_of self) (view_of e.0) object h e.1) }
         ensures ring_room { (h : Hold) → object.0 < (plan shared.now).objects → hold (view_of self) object.0 ≡ Some h → held_count (view_of self) ≡ 1
-            → MatchResult result (λ waiting. SECTION_RECORDS ≤ free_waiting waiting) (λ e. HasRing (SECTION_RECORDS + 1) (free_of e.0) e.1) }
+            → MatchResult result (λ waiting. SECTION_RECORDS ≤ free_waiting waiting) (λ e. HasRing (capacity_of self) (SECTION_RECORDS + 1) (free_of e.0) (view_of e.0) e.1) }
     {
         let mut session = self;
         match session.prepare_wait(shared, object) {
@@ -87,7 +87,7 @@ impl Session {
         ensures held { (h : Hold) → object.0 < (plan shared.now).objects → hold (view_of self.old) object.0 ≡ Some h
             → MatchResult result (MayWait self.new object h) (RefusesWait (capacity_of self.old) (view_of self.old) (view_of self.new) object h) }
         ensures ring_room { (h : Hold) → object.0 < (plan shared.now).objects → hold (view_of self.old) object.0 ≡ Some h → held_count (view_of self.old) ≡ 1
-            → IfErr result (HasRing (SECTION_RECORDS + 1) (free_of self.new)) }
+            → IfErr result (HasRing (capacity_of self.old) (SECTION_RECORDS + 1) (free_of self.new) (view_of self.new)) }
     {
         if u64::from(object.0) >= steps::objects(shared) {
             return Err(SessionError::UnknownObject);
@@ -111,6 +111,7 @@ impl Session {
         ensures grips { KeepsEach (view_of self.old) (view_of self.new) }
         ensures held { self.new.held ≡ self.old.held }
         ensures room { MatchResult result (λ _. HasRoomToWait self.new) (RefusesRoom (capacity_of self.old) (view_of self.old) (view_of self.new)) }
+        ensures ring_room { held_count (view_of self.old) ≡ 1 → IfErr result (HasRing (capacity_of self.old) (SECTION_RECORDS + 1) (free_of self.new) (view_of self.new)) }
     {
         let count = self.held.len();
         if count > 1 {

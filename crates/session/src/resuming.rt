@@ -1,4 +1,4 @@
-//! How a wait ends (JLS 17.2.1).
+//! What a thread that waits was told, and how its wait ends (JLS 17.2.1).
 
 use crate::error::Still;
 use crate::session::Session;
@@ -14,9 +14,21 @@ impl Waiting {
     ghost use Rattle.heap_model.specs.declared.event.Sight.TheVariants.{Found, StillInSet};
     ghost use Rattle.session.specs.declared.error.Still.TheVariants as still;
     ghost use Rattle.steps.specs.Views.{plan, Lengthens};
-    ghost use Rattle.session.specs.Calls.{IsQuiet, Resumes, SeesAnother, SeesLast, WaitsOn};
+    ghost use Rattle.session.specs.Calls.{IsFatSeen, IsQuiet, Resumes, SeesAnother, SeesLast, WaitsOn};
     ghost use Rattle.session.specs.Steps.{MissesResume};
-    ghost use Rattle.session.specs.Sessions.{SameRingResumed, SameRingStill, IsSessionOf, IsWaitingOf, view_of, view_waiting, awaited};
+    ghost use Rattle.session.specs.Sessions.{SameRingResumed, SameRingStill, IsSessionOf, IsWaitingOf, view_of, view_waiting, seat_waiting, ring_waiting, awaited};
+    ghost use Rattle.session.specs.Logs.{sent_in};
+    ghost use Rattle.monitor.specs.Views.{Stands};
+    ghost use Rattle.rtrb.specs.Ring.{sent};
+
+    /// What the thread was told is its lane's part of one legal history, and what it has sent is the log of that part
+    /// ([`Session::stands`] says the same of one that doesn't wait). This does nothing at run time.
+    pub fn stands(&self)
+        ensures history { Stands (seat_waiting self.now).view }
+        ensures sent { sent (ring_waiting self.now) ≡ sent_in (view_waiting self.now) }
+    {
+        self.seat.stands();
+    }
 
     /// Takes the monitor again, by as many locks as before, if the thread was removed from its wait set and the monitor is
     /// free (JLS 17.2.1). It looks once, and tries once. Otherwise the thread waits on, and is told why.
@@ -68,6 +80,7 @@ impl Waiting {
         ensures told { MatchResult result
             (λ n. (n < (plan shared.now).last) × Lengthens (view_waiting self.old) (view_waiting self.new) (event.Look (awaited self.old) (Found None 0 n) ∷ []))
             (λ x. SeesAnother (view_waiting self.old) (view_waiting self.new) (awaited self.old) x ⊎ SeesLast (view_waiting self.old) (view_waiting self.new) (awaited self.old) x) }
+        ensures fat { IfErr result IsFatSeen }
     {
         let found = steps::look(shared, &mut self.seat, self.object);
         let Some(free) = free_at(&found) else {

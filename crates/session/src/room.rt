@@ -1,6 +1,7 @@
 //! Whether there is room for another section.
 
 ghost use Rattle.std.specs.Prelude.{◌≡◌, ◌+◌, ◌<◌, ◌≤◌, ◌^◌, ◌↔◌, [], length, IsTrue, MatchBool};
+ghost use Rattle.std.specs.Bool.{OnFalse};
 ghost use Rattle.rtrb.specs.Ring.{sent, known_free, producer_capacity, ProducerLooked};
 ghost use Rattle.steps.specs.Views.{view, IsSeatOf, KeepsEach, Lengthens};
 
@@ -14,6 +15,7 @@ use std::alloc::Global;
 pub fn ring_has_room(ring: &mut Producer<Record, Global>, needed: usize) -> bool
     ensures looked { ProducerLooked ring.old ring.new }
     ensures room { MatchBool result (needed ≤ known_free ring.new) (producer_capacity ring.old < length (sent ring.old) + needed) }
+    ensures short { OnFalse result (known_free ring.new < needed) }
 {
     if ring.cached_slots() >= needed {
         return true;

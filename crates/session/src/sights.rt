@@ -4,7 +4,7 @@ ghost use Rattle.std.specs.Prelude.{◌≡◌, MatchOption, None};
 ghost use Rattle.heap_model.specs.declared.event.Sight.TheVariants.{Found};
 ghost use Rattle.lock_word.specs.Spelling.{sight_of, slot_named};
 ghost use Rattle.steps.specs.Views.{IsPaired, IsOwned};
-ghost use Rattle.steps.specs.Views.{View, IsLasting, IsLastingSeen};
+ghost use Rattle.steps.specs.Views.{View, slot_in, IsLasting, IsLastingSeen, IsOfSlot, IsWhole};
 ghost use Rattle.heap_model.specs.declared.ids.ObjectId.{ObjectId};
 ghost use Rattle.session.specs.Calls.{sight_in};
 
@@ -59,6 +59,7 @@ pub fn shown(found: &Sighted) -> Seen
     requires { IsPaired found.now.lock found.now.fat }
     ensures sight { sight_in result ≡ sight_of found.now.lock found.now.fat }
     ensures lasting { (v : View) → (o : ObjectId) → IsLasting v o found.now.lock → IsLastingSeen v o result }
+    ensures slot { (v : View) → (o : ObjectId) → IsWhole v o found.now.lock found.now.fat → IsOfSlot (slot_in o.0 v.fats) result }
 {
     match found.fat {
         Some(word) => Seen::Fat(word),

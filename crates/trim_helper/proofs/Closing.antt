@@ -94,6 +94,7 @@ module _ {A P : Type 0} (s : Setting) (lanes capacity : ℕ) (place : ℕ → �
 
 module _ (s : Setting) (lanes : ℕ) (parts : List Part) (h : List (ℕ × Event)) (one : IsOneHistory s lanes parts h) (log_law : LogLaw) (order_law : OrderLaw) (all_kept : AllKeptLaw) (one_stable : OneStableLaw) (keeps : (f : ℕ) → s.is_logged f ≡ true)
     (words : Final) (spelled : Spells words (state_after s h)) (acknowledged : ℕ → ℕ) (told : (x : Part) → Among parts x → x.lane < lanes → x.count ≤ acknowledged x.lane)
+    (trimmed : ℕ → ℕ) (places : (x : Part) → Among parts x → x.lane < lanes → x.place ≤ trimmed x.lane)
     (x : Known) (d : Device) (now : Past) (has : HasPast x s now d) (running : x.has_failed ≡ false) (settled : IsSettled s now)
     (same : (l : ℕ) → lane l (applied now) ≡ lane l (log_of s h)) (free : (l : ℕ) → length (holding (map action (lane l (log_of s h)))) ≡ 0) where
   abbrev cut : ℕ → ℕ
@@ -134,7 +135,7 @@ module _ (s : Setting) (lanes : ℕ) (parts : List Part) (h : List (ℕ × Event
   values : (f : ℕ) → kept_value s.first cut f (log_of s h) ≡ (state_after s h).value f
   values f = (all_kept s (log_of s h) (log_law s h one.legal) free_log).1 f ∙ value_log s h f (keeps f)
 
-  closed_down : IsClosedDown s lanes x.layout parts acknowledged d
+  closed_down : IsClosedDown s lanes x.layout parts acknowledged trimmed d
   closed_down = record {
     history = h;
     one = one;
@@ -142,9 +143,10 @@ module _ (s : Setting) (lanes : ℕ) (parts : List Part) (h : List (ℕ × Event
     values = always_weaker d (StandsForCut x.layout s (log_of s h) cut) (λ image. StandsFor x.layout image (values_below (state_after s h).value x.layout.fields))
         (λ image st. subst (λ (v : ℕ → ℕ). StandsFor x.layout image (values_below v x.layout.fields)) (λ i f. values f i) st.heap) stands;
     told = told;
+    places = places;
   }
 
-  pub has_spelled : HasSpelled s lanes x.layout parts acknowledged d words
+  pub has_spelled : HasSpelled s lanes x.layout parts acknowledged trimmed d words
   unfolding closed_down
   has_spelled = record { closed = closed_down; spelled = spelled }
 

@@ -1,5 +1,5 @@
 -- Why the store stops the closing.
-use Rattle.std.proofs.Common.{◌≡◌, true, ◌∙◌, sym}
+use Rattle.std.proofs.Common.{◌≡◌, true, ◌∙◌, sym, ⊎_elim}
 use Rattle.block_disk.specs.Device.{Device, HasFailed}
 use Rattle.heap_model.specs.Setting.{Setting}
 use Rattle.durable.specs.Store.{Known, HasPast}
@@ -8,7 +8,7 @@ use Rattle.store_past.specs.declared.error.StoreError.{StoreError}
 use Rattle.store_past.specs.declared.error.StoreError.TheVariants.{Failed, Worn, Fault}
 use Rattle.trim_helper.specs.declared.close_error.CloseError.{CloseError}
 use Rattle.trim_helper.specs.declared.close_error.CloseError.TheVariants as close
-use Rattle.trim_helper.specs.Endings.{IsCloseWhy}
+use Rattle.trim_helper.specs.Endings.{IsCloseStop, IsCloseWhy, IsOfSessions}
 use Rattle.trim_helper.specs.Settled.{IsStop, IsWhy}
 
 module _ (old : Known) (before now : Device) (reason : StoreError) (e : CloseError) (stop : IsStop reason) (failed : e ≡ close.Failed → reason ≡ Failed) (worn : e ≡ close.Worn → reason ≡ Worn) (fault : IsStop reason → e ≡ close.Fault → reason ≡ Fault) where
@@ -27,3 +27,11 @@ module _ (old : Known) (before now : Device) (reason : StoreError) (e : CloseErr
     worn = λ is. record { known = new; setting = s; past = p; has = has; last = why.worn (worn is) };
     fault = λ is. broke (fault stop is);
   }
+
+-- the store stops it, so the sessions don't
+pub not_sessions : (e : CloseError) → IsCloseStop e → IsOfSessions e → ⊥
+not_sessions (close.Missing l) stop is = ⊎_elim (λ a. absurd cc) (λ b. ⊎_elim (λ x. absurd cc) (λ y. absurd cc) b) stop
+not_sessions (close.Unfinished l) stop is = ⊎_elim (λ a. absurd cc) (λ b. ⊎_elim (λ x. absurd cc) (λ y. absurd cc) b) stop
+not_sessions close.Failed stop is = is
+not_sessions close.Worn stop is = is
+not_sessions close.Fault stop is = is

@@ -212,6 +212,19 @@ why_home x LogFull h = elim h [ ]
 why_home x Unwritten h = elim h [ ]
 why_home x Unfinished h = elim h [ ]
 
+-- a store that has failed refuses as such
+pub failed_log : (x : Known) (p : Past) (e : StoreError) → x.has_failed ≡ true → RefusesLog x p e → e ≡ Failed
+failed_log x p Failed off h = refl
+failed_log x p Worn off h = absurd (let no : false ≡ true = sym h.0 ∙ off in cc)
+failed_log x p Fault off h = absurd (let no : false ≡ true = sym h ∙ off in cc)
+failed_log x p BadLane off h = elim h [ ]
+failed_log x p BadId off h = elim h [ ]
+failed_log x p NotNext off h = elim h [ ]
+failed_log x p TooLong off h = elim h [ ]
+failed_log x p LogFull off h = elim h [ ]
+failed_log x p Unwritten off h = elim h [ ]
+failed_log x p Unfinished off h = elim h [ ]
+
 pub why_log : (x y : Known) (p : Past) (e : StoreError) → RefusesLog x p e → (e ≡ Fault) ⊎ (y ≡ x) → IsWhy x y e
 why_log x y p Failed h same = record { failed = λ is. h; worn = λ is. absurd cc }
 why_log x y p Worn h same = record { failed = λ is. absurd cc; worn = λ is. ⊎_elim (λ no. absurd cc) (λ as_was. ap (λ (z : Known). z.committed.sequence) as_was ∙ h.1) same }

@@ -6,9 +6,11 @@ use Rattle.rtrb.specs.declared.consumer.Consumer.{Consumer}
 use Rattle.heap_model.specs.declared.record.Record.{Record}
 use Rattle.heap_model.specs.Setting.{Setting}
 use Rattle.block_disk.specs.Device.{Device}
-use Rattle.block_disk.specs.Images.{LeavesOnly}
+use Rattle.block_disk.specs.Images.{Always, LeavesOnly}
 use Rattle.block_disk.proofs.Images.{begin}
 use Rattle.image.specs.declared.layout.Layout.{Layout}
+use Rattle.store_image.specs.KeptHeap.{StandsForCut}
+use Rattle.store_image.proofs.Stands.{stands_always}
 use Rattle.store_past.specs.Past.{Past, IsTrimmed, applied}
 use Rattle.durable.specs.Store.{Known, HasPast}
 use Rattle.trim_helper.specs.declared.rings.TheConstants.{RING_RECORDS}
@@ -42,6 +44,12 @@ none_of (x ∷ xs) e = absurd (omega arith)
 pub moment_drained : (d e : Device) (l : Layout) (s : Setting) (log : List (ℕ × Record)) (cut : ℕ → ℕ) → e ≡ d → LeavesOnly d e (StandsForRound l s log cut)
 moment_drained d e l s log cut same = subst (λ k. LeavesOnly d k (StandsForRound l s log cut)) (sym same) (begin d (StandsForRound l s log cut))
 
+-- once all is settled, whatever a crash leaves stands for what is acknowledged
+pub rests_by : (x : Known) (d : Device) (s : Setting) (p : Past) (log : List (ℕ × Record)) → HasPast x s p d → x.has_failed ≡ false → IsSettled s p → applied p ≡ log → Always d (StandsForCut x.layout s log p.cut)
+rests_by x d s p log has runs settled same =
+    let logged : p.logged ≡ applied p = ap (λ (xs : List (ℕ × Record)). xs ++ p.logged) (sym settled.logged) in
+    subst (λ (xs : List (ℕ × Record)). Always d (StandsForCut x.layout s xs p.cut)) (logged ∙ same) (stands_always x.layout s p x.committed d (has.agrees runs))
+
 module _ {A P : Type 0} where
   pub looks_taken : (x : Known) (d : Device) (r0 r1 : List (Consumer Record A P)) (w : List (Option Record)) (s : Setting) (p : Past) → Looks r0 r1 → HasTaken x d r0 w s p → HasTaken x d r1 w s p
   looks_taken x d r0 r1 w s p looks was = record { has = was.has; taken = λ l. looks.received l ∙ was.taken l }
@@ -63,14 +71,20 @@ module _ {A P : Type 0} where
         long = now.1;
         now = applied_more now.0 p;
         same = append_assoc now.0 p.fresh p.logged;
+        cut = λ l. omega arith;
+        places = λ l. omega arith;
         serves = record {
           taken = now.2;
           counts = λ l lt. was.counts l (omega arith);
           places = λ l lt. was.places l (omega arith);
+          running = λ is. drains.advances.running ∙ was.running (quiet is).0;
           settled = λ is. let q = quiet is in subst (λ xs. IsSettled s (applied_more xs p)) (sym (none_of now.0 (now.1 ∙ q.1))) (was.settled q.0);
           trimmed = λ is. was.trimmed (quiet is).0;
           published = λ is l lt. was.published (quiet is).0 l (omega arith);
         };
+        rests = λ is.
+            let q = quiet is in
+            rests_by x' d' s (applied_more now.0 p) (now.0 ++ applied p) now.2.has (drains.advances.running ∙ was.running q.0) (subst (λ xs. IsSettled s (applied_more xs p)) (sym (none_of now.0 (now.1 ∙ q.1))) (was.settled q.0)) (append_assoc now.0 p.fresh p.logged);
         moments = moment_drained d d' x'.layout s (now.0 ++ applied p) p.cut drains.advances.device;
       }
 
@@ -90,33 +104,41 @@ module _ {A P : Type 0} where
         long = was.long;
         now = h.now;
         same = h.same ∙ was.same;
+        cut = λ l. omega (arith, was.cut l, h.cut l);
+        places = λ l. omega (arith, was.places l, h.places l);
         serves = record {
           taken = same_taken x x' d d' r w s was.now was.serves.taken h;
           counts = λ l lt. omega (arith, was.serves.counts l (omega arith), h.cut l);
           places = λ l lt. omega (arith, was.serves.places l (omega arith), h.places l);
+          running = λ is. absurd (let no : false ≡ true = is in cc);
           settled = λ is. absurd (let no : false ≡ true = is in cc);
           trimmed = λ is. absurd (let no : false ≡ true = is in cc);
           published = λ is l lt. absurd (let no : false ≡ true = is in cc);
         };
+        rests = λ is. absurd (let no : false ≡ true = is in cc);
         moments = subst (λ l. LeavesOnly d0 d' (StandsForRound l s (was.newer ++ applied p) p.cut)) (sym layout) moments;
       }
 
   pub published_served : (d0 : Device) (x x' : Known) (d d' : Device) (r : List (Consumer Record A P)) (w : List (Option Record)) (b : Bool) (count place count' place' : ℕ → ℕ) (s : Setting) (p : Past) (n : ℕ) → x'.layout ≡ x.layout →
-      (was : Served d0 x d r w b count place s p n) → (h : HasSame x' d' s was.now) → IsSettled s h.now → IsTrimmed h.now →
+      (was : Served d0 x d r w b count place s p n) → (h : HasSame x' d' s was.now) → x'.has_failed ≡ false → IsSettled s h.now → IsTrimmed h.now →
       ((l : ℕ) → l < x'.layout.lanes → (count' l ≡ h.now.cut l) × (place' l ≡ trimmed_of h.now l)) → LeavesOnly d0 d' (StandsForRound x.layout s (was.newer ++ applied p) p.cut) → Served d0 x' d' r w true count' place' s p n
-  published_served d0 x x' d d' r w b count place count' place' s p n layout was h settled trimmed published moments = record {
+  published_served d0 x x' d d' r w b count place count' place' s p n layout was h runs settled trimmed published moments = record {
     newer = was.newer;
     long = was.long;
     now = h.now;
     same = h.same ∙ was.same;
+    cut = λ l. omega (arith, was.cut l, h.cut l);
+    places = λ l. omega (arith, was.places l, h.places l);
     serves = record {
       taken = same_taken x x' d d' r w s was.now was.serves.taken h;
       counts = λ l lt. omega (arith, (published l lt).0);
       places = λ l lt. omega (arith, (published l lt).1);
+      running = λ is. runs;
       settled = λ is. settled;
       trimmed = λ is. trimmed;
       published = λ is l lt. published l lt;
     };
+    rests = λ is. rests_by x' d' s h.now (was.newer ++ applied p) h.has runs settled (h.same ∙ was.same);
     moments = subst (λ l. LeavesOnly d0 d' (StandsForRound l s (was.newer ++ applied p) p.cut)) (sym layout) moments;
   }
 
@@ -128,7 +150,10 @@ module _ {A P : Type 0} where
     long = was.long;
     now = was.now;
     same = was.same;
+    cut = was.cut;
+    places = was.places;
     serves = subst (λ (k : H). Serves x d r w b (count k) (place k) s was.now) (sym same) was.serves;
+    rests = was.rests;
     moments = was.moments;
   }
 
@@ -184,6 +209,7 @@ serves_new x d r w s p count place none has empty taken counts places = record {
   taken = record { has = has; taken = λ l. taken l ∙ sym (ap (λ (xs : List (ℕ × Record)). stream l xs ++ held_back (waiting_in w l)) empty ∙ ap held_back (none l)) };
   counts = λ l lt. omega (arith, counts l);
   places = λ l lt. omega (arith, places l);
+  running = λ is. absurd (let no : false ≡ true = is in cc);
   settled = λ is. absurd (let no : false ≡ true = is in cc);
   trimmed = λ is. absurd (let no : false ≡ true = is in cc);
   published = λ is l lt. absurd (let no : false ≡ true = is in cc);

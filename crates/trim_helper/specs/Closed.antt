@@ -23,17 +23,18 @@ use Rattle.trim_helper.specs.Endings.{HoldNone, IsComplete}
 use Rattle.trim_helper.specs.Rings.{stream}
 
 -- One legal history has these threads' views as its parts, and the device stands for its heap with all its sections, which is
--- the heap after it. None of them was told of more sections than were acknowledged.
-pub record IsClosedDown (s : Setting) (lanes : ℕ) (l : Layout) (parts : List Part) (acknowledged : ℕ → ℕ) (d : Device) : Type 0 where
+-- the heap after it. None of them was told of more sections than were acknowledged, nor of a place past what was trimmed.
+pub record IsClosedDown (s : Setting) (lanes : ℕ) (l : Layout) (parts : List Part) (acknowledged trimmed : ℕ → ℕ) (d : Device) : Type 0 where
   pub history : List (ℕ × Event)
   pub one : IsOneHistory s lanes parts history
   pub stands : Always d (StandsForCut l s (log_of s history) (all_ended (actions (log_of s history))))
   pub values : Always d (λ image. StandsFor l image (values_below (state_after s history).value l.fields))
   pub told : (x : Part) → Among parts x → x.lane < lanes → x.count ≤ acknowledged x.lane
+  pub places : (x : Part) → Among parts x → x.lane < lanes → x.place ≤ trimmed x.lane
 
 -- So it is, and the words at the end spell the state after that history.
-pub record HasSpelled (s : Setting) (lanes : ℕ) (l : Layout) (parts : List Part) (acknowledged : ℕ → ℕ) (d : Device) (words : Final) : Type 0 where
-  pub closed : IsClosedDown s lanes l parts acknowledged d
+pub record HasSpelled (s : Setting) (lanes : ℕ) (l : Layout) (parts : List Part) (acknowledged trimmed : ℕ → ℕ) (d : Device) (words : Final) : Type 0 where
+  pub closed : IsClosedDown s lanes l parts acknowledged trimmed d
   pub spelled : Spells words (state_after s closed.history)
 
 -- the session sent the records that the log has of its lane, in their order, and maybe more

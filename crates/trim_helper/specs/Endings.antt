@@ -98,6 +98,12 @@ RefusesClosing lanes es (Missing l) = RefusesEnded lanes es (Missing l)
 RefusesClosing lanes es (Unfinished l) = RefusesEnded lanes es (Unfinished l)
 RefusesClosing lanes es _ = HoldNone es × IsComplete lanes es
 
+-- the sessions stop the closing, and not the store
+abbrev pub IsOfSessions : CloseError → Type 0
+IsOfSessions (Missing l) = Unit {0}
+IsOfSessions (Unfinished l) = Unit {0}
+IsOfSessions _ = ⊥
+
 -- why the store stops it: the device had failed before; a control that the device has is at its last sequence; or the device has failed since
 pub record IsCloseWhy (old : Known) (before now : Device) (e : CloseError) : Type 0 where
   pub failed : e ≡ Failed → old.has_failed ≡ true

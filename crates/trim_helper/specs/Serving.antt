@@ -1,5 +1,5 @@
 -- A helper: what it has taken, what became of it, and what it has published.
-use Rattle.std.specs.Prelude.{ℕ, ◌≡◌, ◌<◌, ◌+◌, ◌≤◌, ◌⊎◌, Bool, true, List, [], ◌∷◌, ◌++◌, length, Option}
+use Rattle.std.specs.Prelude.{ℕ, ◌≡◌, ◌<◌, ◌+◌, ◌≤◌, ◌⊎◌, Bool, true, false, List, [], ◌∷◌, ◌++◌, length, Option}
 use Rattle.rtrb.specs.declared.consumer.Consumer.{Consumer}
 use Rattle.heap_model.specs.declared.record.Record.{Record}
 use Rattle.heap_model.specs.declared.event.Event.{Event}
@@ -7,7 +7,8 @@ use Rattle.heap_model.specs.Setting.{Setting}
 use Rattle.heap_model.specs.History.{IsLegalHistory}
 use Rattle.heap_model.specs.Log.{lane}
 use Rattle.block_disk.specs.Device.{Device}
-use Rattle.block_disk.specs.Images.{LeavesOnly}
+use Rattle.block_disk.specs.Images.{Always, LeavesOnly}
+use Rattle.store_image.specs.KeptHeap.{StandsForCut}
 use Rattle.store_past.specs.Past.{Past, IsTrimmed, applied}
 use Rattle.durable.specs.Store.{Known}
 use Rattle.heap_model.specs.Own.{own_log, sent_of}
@@ -20,11 +21,12 @@ use Rattle.trim_helper.specs.Taken.{HasTaken, Advances, trimmed_of}
 use Rattle.trim_helper.specs.Settled.{IsSettled, StandsForRound}
 
 -- By lane, a published count is at most what is acknowledged, and a published place at most what is trimmed.
--- Where nothing was applied since all was settled, they are equal, and all that is acknowledged is trimmed.
+-- Where nothing was applied since all was settled, they are equal, all that is acknowledged is trimmed, and the store hasn't failed.
 pub record Serves {A P : Type 0} (x : Known) (d : Device) (rings : List (Consumer Record A P)) (waiting : List (Option Record)) (is_settled : Bool) (count place : ℕ → ℕ) (s : Setting) (p : Past) : Type 0 where
   pub taken : HasTaken x d rings waiting s p
   pub counts : (l : ℕ) → l < x.layout.lanes → count l ≤ p.cut l
   pub places : (l : ℕ) → l < x.layout.lanes → place l ≤ trimmed_of p l
+  pub running : is_settled ≡ true → x.has_failed ≡ false
   pub settled : is_settled ≡ true → IsSettled s p
   pub trimmed : is_settled ≡ true → IsTrimmed p
   pub published : is_settled ≡ true → (l : ℕ) → l < x.layout.lanes → (count l ≡ p.cut l) × (place l ≡ trimmed_of p l)
@@ -37,14 +39,17 @@ pub record Drains {A P : Type 0} (x : Known) (d : Device) (rings : List (Consume
   pub advances : Advances x d seen waiting x' d' rings' waiting' n
   pub most : (l : ℕ) → length (received_of rings' l) ≤ length (received_of rings l) + RING_RECORDS
 
--- So many records were applied after those of the past, and the helper goes on. Whatever a crash left since then stands for what was
--- acknowledged, or for the stable cut of all that was applied.
+-- So many records were applied after those of the past, and the helper goes on: what was acknowledged and what was trimmed stay so. Whatever a crash left since then stands for what was
+-- acknowledged, or for the stable cut of all that was applied; once all is settled, for what is acknowledged, which is all that is published.
 pub record Served {A P : Type 0} (before : Device) (x : Known) (d : Device) (rings : List (Consumer Record A P)) (waiting : List (Option Record)) (is_settled : Bool) (count place : ℕ → ℕ) (s : Setting) (p : Past) (n : ℕ) : Type 0 where
   pub newer : List (ℕ × Record)
   pub long : length newer ≡ n
   pub now : Past
   pub same : applied now ≡ newer ++ applied p
+  pub cut : (l : ℕ) → p.cut l ≤ now.cut l
+  pub places : (l : ℕ) → trimmed_of p l ≤ trimmed_of now l
   pub serves : Serves x d rings waiting is_settled count place s now
+  pub rests : is_settled ≡ true → Always d (StandsForCut x.layout s (newer ++ applied p) now.cut)
   pub moments : LeavesOnly before d (StandsForRound x.layout s (newer ++ applied p) p.cut)
 
 -- a session's view: its lane, its events, the newest first, and the acknowledged count and trimmed place that it last read

@@ -1,5 +1,5 @@
 //! The helper.
-ghost use Rattle.std.specs.Prelude.{◌≡◌, ◌<◌, ◌≤◌, [], ℕ, List, None, true, false, vec_len, length, IfErr, IfOk, OnErr, OnOk};
+ghost use Rattle.std.specs.Prelude.{◌≡◌, ◌+◌, ◌<◌, ◌≤◌, [], ℕ, List, None, true, false, vec_len, length, IfErr, IfOk, IsErrOf, OnErr, OnOk};
 ghost use Rattle.block_disk.specs.Device.{HasCause};
 ghost use Rattle.durable.specs.Store.{HasPast};
 ghost use Rattle.heap_model.specs.declared.event.Event.{Event};
@@ -83,6 +83,7 @@ impl<D: Disk> Helper<D> {
         ensures failed { IfErr result (λ e. (e ≡ Failed) × (self.old.store.known.has_failed ≡ true)) }
         ensures err { OnErr result ((n : ℕ) × HasDrained D.device self.old self.new n) }
         ensures settled { IfOk result (λ n. self.new.is_settled ≡ true → (self.old.is_settled ≡ true) × (n ≡ 0)) }
+        ensures stays { IfOk result (λ n. n ≡ 0 → self.old.is_settled ≡ true → self.new.is_settled ≡ true) }
         ensures unsettled { OnErr result (self.new.is_settled ≡ false) }
         ensures seat { self.new.seat ≡ self.old.seat }
         ensures layout { self.new.store.known.layout ≡ self.old.store.known.layout }
@@ -100,13 +101,17 @@ impl<D: Disk> Helper<D> {
         requires seat { IsHelper shared.now self.old.seat }
         requires lanes { shared.now.plan.lanes ≡ self.old.store.known.layout.lanes }
         ensures ok { (s : Setting) (p : Past) → IsServing D.device self.old s p → IfOk result (λ n. HasServed D.device self.old self.new s p n) }
+        ensures most { (l : ℕ) → length (received_of self.new.rings l) ≤ length (received_of self.old.rings l) + RING_RECORDS }
         ensures emptied { OnOk result ((l : ℕ) → l < length self.new.rings → waiting_in self.new.waiting l ≡ None → known_of self.new.rings l ≡ []) }
         ensures settled { OnOk result (self.new.is_settled ≡ true) }
         ensures quiet { self.old.is_settled ≡ true → IfOk result (λ n. n ≡ 0 → D.device self.new.store.disk ≡ D.device self.old.store.disk) }
         ensures stop { IfErr result IsStop }
+        ensures failed { self.old.store.known.has_failed ≡ true → IsErrOf result Failed }
+        ensures running { OnOk result (self.new.store.known.has_failed ≡ false) }
         ensures why { IfErr result (λ e. IsWhy self.old.store.known self.new.store.known e) }
         ensures err { (s : Setting) (p : Past) → IsServing D.device self.old s p → OnErr result ((n : ℕ) × HasServed D.device self.old self.new s p n) }
         ensures unsettled { OnErr result (self.new.is_settled ≡ false) }
+        ensures unpublished { OnErr result (self.new.seat ≡ self.old.seat) }
         ensures cause { HasCause (D.device self.old.store.disk).failures (D.device self.new.store.disk).failures Fault result }
         ensures seat { IsHelper shared.now self.new.seat }
         ensures gathered { taken_in self.new.seat ≡ taken_in self.old.seat }

@@ -1,5 +1,5 @@
 //! A heap that was recovered, opened for threads.
-ghost use Rattle.std.specs.Prelude.{◌≡◌, ◌<◌, ◌^◌, IfErr, IfOk, All, map};
+ghost use Rattle.std.specs.Prelude.{◌≡◌, ◌<◌, ◌^◌, IfErr, IfOk, All, false, map};
 ghost use Rattle.durable.specs.Store.{HasPast};
 ghost use Rattle.monitor.specs.Seats.{IsSeatOf, fresh_views, helper_at};
 ghost use Rattle.monitor.specs.Words.{setting_of};
@@ -43,6 +43,7 @@ pub fn open_heap<D: Disk>(
     ensures helper { IfOk result (λ o. IsHelper o.shared o.seat) }
     ensures silent { IfOk result (λ o. o.seat.view ≡ helper_at o.shared.plan recovered.layout.lanes) }
     ensures past { IfOk result (λ o. HasPast o.store.known (setting_of o.shared.plan) no_past (D.device o.store.disk)) }
+    ensures running { IfOk result (λ o. o.store.known.has_failed ≡ false) }
     ensures layout { IfOk result (λ o. o.store.known.layout ≡ recovered.layout) }
     ensures disk { IfOk result (λ o. o.store.disk ≡ recovered.disk) }
     ensures refused { IfErr result (λ back. back.0 ≡ recovered) }

@@ -1,5 +1,5 @@
 //! The parts of a helper, and what they do together.
-ghost use Rattle.std.specs.Prelude.{◌≡◌, ◌+◌, ◌<◌, ◌≤◌, ◌++◌, [], ℕ, List, None, true, false, vec_len, length, IfErr, IfOk, OnErr, OnOk};
+ghost use Rattle.std.specs.Prelude.{◌≡◌, ◌+◌, ◌<◌, ◌≤◌, ◌++◌, [], ℕ, List, None, true, false, vec_len, length, IfErr, IfOk, IsErrOf, OnErr, OnOk};
 ghost use Rattle.heap_model.specs.Setting.{Setting};
 ghost use Rattle.heap_model.specs.declared.record.Record.{Record};
 ghost use Rattle.store_past.specs.Past.{Past, applied};
@@ -112,6 +112,10 @@ impl<D: Disk> Serving<D> {
         ensures quiet { self.old.is_settled ≡ true → IfOk result (λ n. n ≡ 0 → D.device self.new.store.disk ≡ D.device self.old.store.disk) }
         ensures stop { IfErr result IsStop }
         ensures why { IfErr result (λ e. IsWhy self.old.store.known self.new.store.known e) }
+        ensures failed { self.old.store.known.has_failed ≡ true → IsErrOf result Failed }
+        ensures running { OnOk result (self.new.store.known.has_failed ≡ false) }
+        ensures unpublished { OnErr result (self.new.seat ≡ self.old.seat) }
+        ensures most { (l : ℕ) → length (received_of self.new.rings.items l) ≤ length (received_of self.old.rings.items l) + RING_RECORDS }
         ensures layout { self.new.store.known.layout ≡ self.old.store.known.layout }
         ensures seat { IsHelper shared.now self.new.seat }
         ensures gathered { taken_in self.new.seat ≡ taken_in self.old.seat }

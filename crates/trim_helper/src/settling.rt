@@ -1,5 +1,5 @@
 //! What was applied is made durable, its stable cut is acknowledged, and what is acknowledged is forgotten.
-ghost use Rattle.std.specs.Prelude.{◌≡◌, ◌≢◌, ◌<◌, ℕ, IfErr, OnErr, OnOk, true, false};
+ghost use Rattle.std.specs.Prelude.{◌≡◌, ◌≢◌, ◌<◌, ℕ, IfErr, IsErrOf, OnErr, OnOk, true, false};
 ghost use Rattle.heap_model.specs.Setting.{Setting};
 ghost use Rattle.block_disk.specs.Device.{HasCause};
 ghost use Rattle.block_disk.specs.Images.{LeavesOnly};
@@ -41,6 +41,7 @@ pub fn settle_applied<D: Disk>(store: &mut Store<D>) -> Result<(), StoreError>
     ensures kept { (s : Setting) (p : Past) → HasPast store.old.known s p (D.device store.old.disk) → OnErr result (HasSame store.new.known (D.device store.new.disk) s p) }
     ensures stop { (s : Setting) (p : Past) → HasPast store.old.known s p (D.device store.old.disk) → IfErr result IsStop }
     ensures why { (s : Setting) (p : Past) → HasPast store.old.known s p (D.device store.old.disk) → IfErr result (λ e. IsWhy store.old.known store.new.known e) }
+    ensures failed { (s : Setting) (p : Past) → HasPast store.old.known s p (D.device store.old.disk) → store.old.known.has_failed ≡ true → IsErrOf result Failed }
     ensures layout { store.new.known.layout ≡ store.old.known.layout }
     ensures running { OnOk result (store.new.known.has_failed ≡ false) }
     ensures any_moment { (s : Setting) (p : Past) → HasPast store.old.known s p (D.device store.old.disk) → LeavesOnly (D.device store.old.disk) (D.device store.new.disk) (StandsForRound store.old.known.layout s (applied p) p.cut) }
@@ -63,7 +64,9 @@ pub fn settle_and_trim<D: Disk>(store: &mut Store<D>) -> Result<(), StoreError>
     ensures kept { (s : Setting) (p : Past) → HasPast store.old.known s p (D.device store.old.disk) → OnErr result (HasSame store.new.known (D.device store.new.disk) s p) }
     ensures stop { (s : Setting) (p : Past) → HasPast store.old.known s p (D.device store.old.disk) → IfErr result IsStop }
     ensures why { (s : Setting) (p : Past) → HasPast store.old.known s p (D.device store.old.disk) → IfErr result (λ e. IsWhy store.old.known store.new.known e) }
+    ensures failed { (s : Setting) (p : Past) → HasPast store.old.known s p (D.device store.old.disk) → store.old.known.has_failed ≡ true → IsErrOf result Failed }
     ensures layout { store.new.known.layout ≡ store.old.known.layout }
+    ensures running { OnOk result (store.new.known.has_failed ≡ false) }
     ensures any_moment { (s : Setting) (p : Past) → HasPast store.old.known s p (D.device store.old.disk) → LeavesOnly (D.device store.old.disk) (D.device store.new.disk) (StandsForRound store.old.known.layout s (applied p) p.cut) }
     ensures cause { HasCause (D.device store.old.disk).failures (D.device store.new.disk).failures Fault result }
 {

@@ -1,7 +1,9 @@
--- What is behind a handle.
-pub mod Behind
--- What a handle owns.
+-- What a handle owns, and what is behind it.
 pub mod Own
+pub mod Behind
+-- What the calls of a session answer.
+pub mod SessionDoors
+pub mod SessionStatuses
 -- What C's calls of a heap answer.
 pub mod HeapStatuses
 pub mod HeapDoors

@@ -1,77 +1,113 @@
 //! The calls of a session, on what is behind a handle.
+ghost use Rattle.std.specs.Prelude.{ℕ, ◌≡◌, ◌≢◌, ◌<◌, ◌+◌, ◌-◌, ◌^◌, IfOk, Some};
+ghost use Rattle.std.specs.Int.{bit_at};
+ghost use Rattle.std.specs.Option.{option_map_or};
+ghost use Rattle.std.specs.Result.{result_unwrap_or};
+ghost use Rattle.lock_word.specs.Spelling.{fat_sight, sight_of};
+ghost use Rattle.lock_word.specs.WaitMask.{bit_of};
+ghost use Rattle.zelamiku.specs.Behind.{Answers, behind};
+ghost use Rattle.zelamiku.specs.SessionDoors.{AnswersAs, EndsTo, EntersAt, ExitsAt, HasNoSession, LoadsAt, LooksAt, NotifiesAllAt, NotifiesAt, ReadsStable, Resumes, StoresAt, WaitsAt, free_sight, lane_told, sight_told};
+ghost use Rattle.zelamiku.specs.SessionStatuses.{status_of};
+ghost use Rattle.zelamiku.specs.declared.status.TheConstants.{OK};
+
 use crate::state::{Inner, Open};
 use crate::status;
 use crate::words::Sight;
 use heap_model::{FieldId, Lane, ObjectId};
-use lock_word::{FatShape, FatWord, LockWord, Shape};
+use hosted_heap::Returned;
+use lock_word::{FatShape, FatWord, LockWord, Shape, WaitMask};
+use session::SessionError;
 
 // What a call of a session is answered where there is none.
-fn no_session(open: &Open) -> u32 {
-    match open {
+fn no_session(found: &Open) -> u32
+    ensures { HasNoSession found.now (behind found.now) result }
+{
+    match found {
         Open::Waiting(_) => status::WAITING,
         _ => status::WRONG_KIND,
     }
 }
 
 /// Takes the monitor, or one lock more of it.
-pub fn try_enter(state: &mut Inner, object: u32) -> u32 {
+pub fn try_enter(state: &mut Inner, object: u32) -> u32
+    ensures told { AnswersAs (EntersAt object) (Some state.old) (Some state.new) result }
+{
     match &mut state.open {
-        Open::Session(session) => match session.try_enter(ObjectId(object)) {
-            Ok(()) => status::OK,
-            Err(refusal) => status::of_session(refusal),
-        },
+        Open::Session(session) => status::of_answer(session.try_enter(ObjectId(object))),
         other => no_session(other),
     }
 }
 
 /// Gives one lock back.
-pub fn exit(state: &mut Inner, object: u32) -> u32 {
+pub fn exit(state: &mut Inner, object: u32) -> u32
+    ensures told { AnswersAs (ExitsAt object) (Some state.old) (Some state.new) result }
+{
     match &mut state.open {
-        Open::Session(session) => match session.exit(ObjectId(object)) {
-            Ok(()) => status::OK,
-            Err(refusal) => status::of_session(refusal),
-        },
+        Open::Session(session) => status::of_answer(session.exit(ObjectId(object))),
         other => no_session(other),
     }
 }
 
 /// Loads a field: its value, or 0, and the status.
-pub fn load(state: &mut Inner, field: u32) -> (u64, u32) {
+pub fn load(state: &mut Inner, field: u32) -> (u64, u32)
+    ensures told { AnswersAs (LoadsAt field result.0) (Some state.old) (Some state.new) result.1 }
+    ensures refused { result.1 ≢ OK → result.0 ≡ 0 }
+{
     match &mut state.open {
-        Open::Session(session) => match session.load(FieldId(field)) {
-            Ok(value) => (value, status::OK),
-            Err(refusal) => (0, status::of_session(refusal)),
-        },
+        Open::Session(session) => value_given(session.load(FieldId(field))),
         other => (0, no_session(other)),
     }
 }
 
+fn value_given(answer: Result<u64, SessionError>) -> (u64, u32)
+    ensures value { result.0 ≡ result_unwrap_or answer 0 }
+    ensures status { result.1 ≡ status_of answer }
+    ensures refused { result.1 ≢ OK → result.0 ≡ 0 }
+{
+    match answer {
+        Ok(value) => (value, status::OK),
+        Err(refusal) => (0, status::of_session(refusal)),
+    }
+}
+
 /// Stores a field.
-pub fn store(state: &mut Inner, field: u32, value: u64) -> u32 {
+pub fn store(state: &mut Inner, field: u32, value: u64) -> u32
+    ensures told { AnswersAs (StoresAt field value) (Some state.old) (Some state.new) result }
+{
     match &mut state.open {
-        Open::Session(session) => match session.store(FieldId(field), value) {
-            Ok(()) => status::OK,
-            Err(refusal) => status::of_session(refusal),
-        },
+        Open::Session(session) => status::of_answer(session.store(FieldId(field), value)),
         other => no_session(other),
     }
 }
 
 /// Takes one lane out of the monitor's wait set: the lane, or [`NOBODY`], and the status.
-pub fn notify(state: &mut Inner, object: u32) -> (u32, u32) {
+pub fn notify(state: &mut Inner, object: u32) -> (u32, u32)
+    ensures told { AnswersAs (NotifiesAt object result.0) (Some state.old) (Some state.new) result.1 }
+    ensures refused { result.1 ≢ OK → result.0 ≡ NOBODY }
+{
     match &mut state.open {
-        Open::Session(session) => match session.notify(ObjectId(object)) {
-            Ok(woken) => (lane_number(woken), status::OK),
-            Err(refusal) => (NOBODY, status::of_session(refusal)),
-        },
+        Open::Session(session) => lane_given(session.notify(ObjectId(object))),
         other => (NOBODY, no_session(other)),
+    }
+}
+
+fn lane_given(answer: Result<Option<Lane>, SessionError>) -> (u32, u32)
+    ensures lane { result.0 ≡ lane_told answer }
+    ensures status { result.1 ≡ status_of answer }
+    ensures refused { result.1 ≢ OK → result.0 ≡ NOBODY }
+{
+    match answer {
+        Ok(woken) => (lane_number(woken), status::OK),
+        Err(refusal) => (NOBODY, status::of_session(refusal)),
     }
 }
 
 /// No lane.
 pub const NOBODY: u32 = 64;
 
-fn lane_number(lane: Option<Lane>) -> u32 {
+fn lane_number(lane: Option<Lane>) -> u32
+    ensures { result ≡ option_map_or (λ l. l.0) lane NOBODY }
+{
     match lane {
         Some(lane) => u32::from(lane.0),
         None => NOBODY,
@@ -79,29 +115,53 @@ fn lane_number(lane: Option<Lane>) -> u32 {
 }
 
 /// Takes all lanes out of the monitor's wait set: a bit for each of them, and the status.
-pub fn notify_all(state: &mut Inner, object: u32) -> (u64, u32) {
+pub fn notify_all(state: &mut Inner, object: u32) -> (u64, u32)
+    ensures told { AnswersAs (NotifiesAllAt object result.0) (Some state.old) (Some state.new) result.1 }
+    ensures refused { result.1 ≢ OK → result.0 ≡ 0 }
+{
     match &mut state.open {
-        Open::Session(session) => match session.notify_all(ObjectId(object)) {
-            Ok(woken) => (woken.bits(), status::OK),
-            Err(refusal) => (0, status::of_session(refusal)),
-        },
+        Open::Session(session) => lanes_given(session.notify_all(ObjectId(object))),
         other => (0, no_session(other)),
     }
 }
 
+fn lanes_given(answer: Result<WaitMask, SessionError>) -> (u64, u32)
+    ensures lanes { IfOk answer (λ woken. (lane : ℕ) → bit_at result.0 lane ≡ bit_of woken lane) }
+    ensures status { result.1 ≡ status_of answer }
+    ensures refused { result.1 ≢ OK → result.0 ≡ 0 }
+{
+    match answer {
+        Ok(woken) => (woken.bits(), status::OK),
+        Err(refusal) => (0, status::of_session(refusal)),
+    }
+}
+
 /// Looks at the monitor's words: what they say, and the status.
-pub fn look(state: &mut Inner, object: u32) -> (Sight, u32) {
+pub fn look(state: &mut Inner, object: u32) -> (Sight, u32)
+    ensures told { AnswersAs (LooksAt object result.0) (Some state.old) (Some state.new) result.1 }
+    ensures refused { result.1 ≢ OK → result.0 ≡ free_sight 0 }
+{
     match &mut state.open {
-        Open::Session(session) => match session.look(ObjectId(object)) {
-            Ok((lock, fat)) => (sight_of(lock, fat), status::OK),
-            Err(refusal) => (nobodys(0), status::of_session(refusal)),
-        },
+        Open::Session(session) => sight_given(session.look(ObjectId(object))),
         other => (nobodys(0), no_session(other)),
     }
 }
 
+fn sight_given(answer: Result<(LockWord, Option<FatWord>), SessionError>) -> (Sight, u32)
+    ensures sight { IfOk answer (λ found. result.0 ≡ sight_told (sight_of found.0 found.1)) }
+    ensures status { result.1 ≡ status_of answer }
+    ensures refused { result.1 ≢ OK → result.0 ≡ free_sight 0 }
+{
+    match answer {
+        Ok((lock, fat)) => (shown(lock, fat), status::OK),
+        Err(refusal) => (nobodys(0), status::of_session(refusal)),
+    }
+}
+
 /// A free monitor.
-pub fn nobodys(number: u64) -> Sight {
+pub fn nobodys(number: u64) -> Sight
+    ensures { result ≡ free_sight number }
+{
     Sight {
         owner: NOBODY,
         locks: 0,
@@ -110,29 +170,40 @@ pub fn nobodys(number: u64) -> Sight {
 }
 
 // What the words say. Threads are the lanes, numbered from 1, and `again` counts the locks less one.
-fn sight_of(lock: LockWord, fat: Option<FatWord>) -> Sight {
-    match fat {
-        Some(word) => match word.shape() {
-            FatShape::Free { number } => nobodys(number),
-            FatShape::Held {
-                thread,
-                again,
-                number,
-            } => owned(u32::from(thread), u32::from(again), number),
-        },
-        None => match lock.shape() {
-            Shape::Free { number } => nobodys(number),
-            Shape::Thin {
-                thread,
-                again,
-                number,
-            } => owned(u32::from(thread), u32::from(again), number),
-            Shape::Fat { index: _, number } => nobodys(number),
+fn shown(lock: LockWord, fat: Option<FatWord>) -> Sight
+    ensures { result ≡ sight_told (sight_of lock fat) }
+{
+    match lock.shape() {
+        Shape::Free { number } => nobodys(number),
+        Shape::Thin {
+            thread,
+            again,
+            number,
+        } => owned(u32::from(thread), u32::from(again), number),
+        Shape::Fat { index: _, number } => match fat {
+            Some(word) => shown_fat(word),
+            None => nobodys(number),
         },
     }
 }
 
-fn owned(thread: u32, again: u32, number: u64) -> Sight {
+fn shown_fat(word: FatWord) -> Sight
+    ensures { result ≡ sight_told (fat_sight word) }
+{
+    match word.shape() {
+        FatShape::Free { number } => nobodys(number),
+        FatShape::Held {
+            thread,
+            again,
+            number,
+        } => owned(u32::from(thread), u32::from(again), number),
+    }
+}
+
+fn owned(thread: u32, again: u32, number: u64) -> Sight
+    requires { again < 2 ^ 16 }
+    ensures { result ≡ record { owner = thread - 1; locks = again + 1; number = number } }
+{
     Sight {
         owner: thread.saturating_sub(1),
         locks: again.saturating_add(1),
@@ -141,7 +212,10 @@ fn owned(thread: u32, again: u32, number: u64) -> Sight {
 }
 
 /// How many sections of the lane the last round acknowledged, and the status.
-pub fn stable(state: &mut Inner) -> (u64, u32) {
+pub fn stable(state: &mut Inner) -> (u64, u32)
+    ensures told { AnswersAs (ReadsStable result.0) (Some state.old) (Some state.new) result.1 }
+    ensures refused { result.1 ≢ OK → result.0 ≡ 0 }
+{
     match &mut state.open {
         Open::Session(session) => (session.stable(), status::OK),
         other => (0, no_session(other)),
@@ -149,15 +223,19 @@ pub fn stable(state: &mut Inner) -> (u64, u32) {
 }
 
 /// Joins the monitor's wait set.
-pub fn begin_wait(state: &mut Inner, object: u32) -> u32 {
-    let open = std::mem::replace(&mut state.open, Open::Nothing);
-    let (open, answer) = waiting_of(open, object);
+pub fn begin_wait(state: &mut Inner, object: u32) -> u32
+    ensures told { Answers (WaitsAt object) (Some state.old) (Some state.new) result }
+{
+    let found = std::mem::replace(&mut state.open, Open::Nothing);
+    let (open, answer) = waiting_of(found, object);
     state.open = open;
     answer
 }
 
-fn waiting_of(open: Open, object: u32) -> (Open, u32) {
-    match open {
+fn waiting_of(found: Open, object: u32) -> (Open, u32)
+    ensures { WaitsAt object found (behind result.0) result.1 }
+{
+    match found {
         Open::Session(session) => match session.begin_wait(ObjectId(object)) {
             Ok(waiting) => (Open::Waiting(waiting), status::OK),
             Err((session, refusal)) => (Open::Session(session), status::of_session(refusal)),
@@ -170,15 +248,19 @@ fn waiting_of(open: Open, object: u32) -> (Open, u32) {
 }
 
 /// Takes the monitor again.
-pub fn try_resume(state: &mut Inner) -> u32 {
-    let open = std::mem::replace(&mut state.open, Open::Nothing);
-    let (open, answer) = resumed_of(open);
+pub fn try_resume(state: &mut Inner) -> u32
+    ensures told { Answers Resumes (Some state.old) (Some state.new) result }
+{
+    let found = std::mem::replace(&mut state.open, Open::Nothing);
+    let (open, answer) = resumed_of(found);
     state.open = open;
     answer
 }
 
-fn resumed_of(open: Open) -> (Open, u32) {
-    match open {
+fn resumed_of(found: Open) -> (Open, u32)
+    ensures { Resumes found (behind result.0) result.1 }
+{
+    match found {
         Open::Waiting(waiting) => match waiting.try_resume() {
             Ok(session) => (Open::Session(session), status::OK),
             Err((waiting, still)) => (Open::Waiting(waiting), status::of_still(still)),
@@ -187,23 +269,24 @@ fn resumed_of(open: Open) -> (Open, u32) {
     }
 }
 
-/// Ends the session: nothing is left of it, or what is there stays.
-pub fn end(state: &mut Inner) -> u32 {
-    let open = std::mem::replace(&mut state.open, Open::Nothing);
-    let (open, answer) = ended_of(open);
+/// Ends the session: nothing is left of it but that it has come back, or what is there stays.
+pub fn end(state: &mut Inner) -> (Option<Returned>, u32)
+    ensures told { EndsTo state.old.open state.new.open result.0 result.1 }
+{
+    let found = std::mem::replace(&mut state.open, Open::Nothing);
+    let (open, back, answer) = ended_of(found);
     state.open = open;
-    answer
+    (back, answer)
 }
 
-fn ended_of(open: Open) -> (Open, u32) {
-    match open {
-        Open::Session(session) => {
-            let _ = session.end();
-            (Open::Nothing, status::OK)
-        }
+fn ended_of(found: Open) -> (Open, Option<Returned>, u32)
+    ensures { EndsTo found result.0 result.1 result.2 }
+{
+    match found {
+        Open::Session(session) => (Open::Nothing, Some(session.end()), status::OK),
         other => {
             let answer = no_session(&other);
-            (other, answer)
+            (other, None, answer)
         }
     }
 }

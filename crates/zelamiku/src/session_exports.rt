@@ -1,8 +1,11 @@
 //! What C calls of a session. Each export is one call of `session_calls` on what is behind the handle.
-ghost use Rattle.std.specs.Prelude.{◌≡◌, None};
+ghost use Rattle.std.specs.Prelude.{◌≡◌, ◌≢◌, None};
+ghost use Rattle.zelamiku.specs.Behind.{Answers};
+ghost use Rattle.zelamiku.specs.SessionDoors.{AnswersAs, Ends, EntersAt, ExitsAt, LoadsAt, LooksAt, NotifiesAllAt, NotifiesAt, ReadsStable, Resumes, StoresAt, WaitsAt, free_sight};
+ghost use Rattle.zelamiku.specs.declared.session_calls.TheConstants.{NOBODY};
+ghost use Rattle.zelamiku.specs.declared.status.TheConstants.{OK};
 
 use crate::slot::{Slot, put, take};
-use crate::state::Open;
 use crate::words::Sight;
 use crate::{session_calls, status};
 use std::alloc::Global;
@@ -11,6 +14,7 @@ use std::alloc::Global;
 #[unsafe(no_mangle)]
 pub extern "C" fn zelamiku_try_enter(alloc: Global, place: &mut Slot, object: u32) -> u32
     ensures closed { place.old.handle.state ≡ None → (result ≡ 1) × (place.new.handle.state ≡ None) }
+    ensures told { AnswersAs (EntersAt object) place.old.handle.state place.new.handle.state result }
 {
     let Some(mut state) = take(alloc, place) else {
         return status::CLOSED;
@@ -24,6 +28,7 @@ pub extern "C" fn zelamiku_try_enter(alloc: Global, place: &mut Slot, object: u3
 #[unsafe(no_mangle)]
 pub extern "C" fn zelamiku_exit(alloc: Global, place: &mut Slot, object: u32) -> u32
     ensures closed { place.old.handle.state ≡ None → (result ≡ 1) × (place.new.handle.state ≡ None) }
+    ensures told { AnswersAs (ExitsAt object) place.old.handle.state place.new.handle.state result }
 {
     let Some(mut state) = take(alloc, place) else {
         return status::CLOSED;
@@ -37,6 +42,8 @@ pub extern "C" fn zelamiku_exit(alloc: Global, place: &mut Slot, object: u32) ->
 #[unsafe(no_mangle)]
 pub extern "C" fn zelamiku_load(alloc: Global, place: &mut Slot, field: u32, value: &mut u64) -> u32
     ensures closed { place.old.handle.state ≡ None → (result ≡ 1) × (place.new.handle.state ≡ None) }
+    ensures told { AnswersAs (LoadsAt field value.new) place.old.handle.state place.new.handle.state result }
+    ensures refused { result ≢ OK → value.new ≡ 0 }
 {
     *value = 0;
     let Some(mut state) = take(alloc, place) else {
@@ -52,6 +59,7 @@ pub extern "C" fn zelamiku_load(alloc: Global, place: &mut Slot, field: u32, val
 #[unsafe(no_mangle)]
 pub extern "C" fn zelamiku_store(alloc: Global, place: &mut Slot, field: u32, value: u64) -> u32
     ensures closed { place.old.handle.state ≡ None → (result ≡ 1) × (place.new.handle.state ≡ None) }
+    ensures told { AnswersAs (StoresAt field value) place.old.handle.state place.new.handle.state result }
 {
     let Some(mut state) = take(alloc, place) else {
         return status::CLOSED;
@@ -65,6 +73,7 @@ pub extern "C" fn zelamiku_store(alloc: Global, place: &mut Slot, field: u32, va
 #[unsafe(no_mangle)]
 pub extern "C" fn zelamiku_begin_wait(alloc: Global, place: &mut Slot, object: u32) -> u32
     ensures closed { place.old.handle.state ≡ None → (result ≡ 1) × (place.new.handle.state ≡ None) }
+    ensures told { Answers (WaitsAt object) place.old.handle.state place.new.handle.state result }
 {
     let Some(mut state) = take(alloc, place) else {
         return status::CLOSED;
@@ -78,6 +87,7 @@ pub extern "C" fn zelamiku_begin_wait(alloc: Global, place: &mut Slot, object: u
 #[unsafe(no_mangle)]
 pub extern "C" fn zelamiku_try_resume(alloc: Global, place: &mut Slot) -> u32
     ensures closed { place.old.handle.state ≡ None → (result ≡ 1) × (place.new.handle.state ≡ None) }
+    ensures told { Answers Resumes place.old.handle.state place.new.handle.state result }
 {
     let Some(mut state) = take(alloc, place) else {
         return status::CLOSED;
@@ -96,6 +106,8 @@ pub extern "C" fn zelamiku_notify(
     lane: &mut u32,
 ) -> u32
     ensures closed { place.old.handle.state ≡ None → (result ≡ 1) × (place.new.handle.state ≡ None) }
+    ensures told { AnswersAs (NotifiesAt object lane.new) place.old.handle.state place.new.handle.state result }
+    ensures refused { result ≢ OK → lane.new ≡ NOBODY }
 {
     *lane = session_calls::NOBODY;
     let Some(mut state) = take(alloc, place) else {
@@ -116,6 +128,8 @@ pub extern "C" fn zelamiku_notify_all(
     lanes: &mut u64,
 ) -> u32
     ensures closed { place.old.handle.state ≡ None → (result ≡ 1) × (place.new.handle.state ≡ None) }
+    ensures told { AnswersAs (NotifiesAllAt object lanes.new) place.old.handle.state place.new.handle.state result }
+    ensures refused { result ≢ OK → lanes.new ≡ 0 }
 {
     *lanes = 0;
     let Some(mut state) = take(alloc, place) else {
@@ -136,6 +150,8 @@ pub extern "C" fn zelamiku_look(
     sight: &mut Sight,
 ) -> u32
     ensures closed { place.old.handle.state ≡ None → (result ≡ 1) × (place.new.handle.state ≡ None) }
+    ensures told { AnswersAs (LooksAt object sight.new) place.old.handle.state place.new.handle.state result }
+    ensures refused { result ≢ OK → sight.new ≡ free_sight 0 }
 {
     *sight = session_calls::nobodys(0);
     let Some(mut state) = take(alloc, place) else {
@@ -151,6 +167,8 @@ pub extern "C" fn zelamiku_look(
 #[unsafe(no_mangle)]
 pub extern "C" fn zelamiku_stable(alloc: Global, place: &mut Slot, sections: &mut u64) -> u32
     ensures closed { place.old.handle.state ≡ None → (result ≡ 1) × (place.new.handle.state ≡ None) }
+    ensures told { AnswersAs (ReadsStable sections.new) place.old.handle.state place.new.handle.state result }
+    ensures refused { result ≢ OK → sections.new ≡ 0 }
 {
     *sections = 0;
     let Some(mut state) = take(alloc, place) else {
@@ -166,12 +184,13 @@ pub extern "C" fn zelamiku_stable(alloc: Global, place: &mut Slot, sections: &mu
 #[unsafe(no_mangle)]
 pub extern "C" fn zelamiku_end(alloc: Global, place: &mut Slot) -> u32
     ensures closed { place.old.handle.state ≡ None → (result ≡ 1) × (place.new.handle.state ≡ None) }
+    ensures told { Answers Ends place.old.handle.state place.new.handle.state result }
 {
     let Some(mut state) = take(alloc, place) else {
         return status::CLOSED;
     };
-    let answer = session_calls::end(&mut state);
-    if let Open::Nothing = state.open {
+    let (_back, answer) = session_calls::end(&mut state);
+    if answer == status::OK {
         return answer;
     }
     put(place, state);

@@ -1,6 +1,7 @@
 //! Answers as C's numbers, which `zelamiku.h` names.
-ghost use Rattle.std.specs.Prelude.{◌≡◌, ◌≢◌, ◌<◌, IfErr, MatchResult};
+ghost use Rattle.std.specs.Prelude.{◌≡◌};
 ghost use Rattle.zelamiku.specs.HeapStatuses.{acknowledged_status, close_status, host_status, image_status, recover_status, round_status, schema_status, store_status};
+ghost use Rattle.zelamiku.specs.SessionStatuses.{refusal_status, status_of, still_status};
 
 use guards::SchemaError;
 use heap_model::Lane;
@@ -76,7 +77,9 @@ pub const BAD_RECORD: u32 = 30;
 pub const ILLEGAL_LOG: u32 = 31;
 
 /// The status of a session's refusal.
-pub fn of_session(refusal: SessionError) -> u32 {
+pub fn of_session(refusal: SessionError) -> u32
+    ensures { result ≡ refusal_status refusal }
+{
     match refusal {
         SessionError::UnknownObject => UNKNOWN_OBJECT,
         SessionError::UnknownField => UNKNOWN_FIELD,
@@ -91,8 +94,20 @@ pub fn of_session(refusal: SessionError) -> u32 {
     }
 }
 
+/// The status of a session's answer that tells nothing else.
+pub fn of_answer(answer: Result<(), SessionError>) -> u32
+    ensures { result ≡ status_of answer }
+{
+    match answer {
+        Ok(()) => OK,
+        Err(refusal) => of_session(refusal),
+    }
+}
+
 /// The status of a session that waits on.
-pub fn of_still(still: Still) -> u32 {
+pub fn of_still(still: Still) -> u32
+    ensures { result ≡ still_status still }
+{
     match still {
         Still::InSet => IN_SET,
         Still::Held(_) => HELD,

@@ -1,70 +1,141 @@
 //! A counter service: four threads count, each in a counter of its own and in the total, in one section. A helper thread makes rounds
 //! and makes the calls of the device on a file. Killed at any time and started again on the same file, the total is the sum of its
-//! parts.
+//! parts, and no less than the total before and what was told as acknowledged since.
 //!
 //!     counters FILE [SECONDS]
 //!
-//! prints what it finds, counts for so long (for ever without SECONDS), and closes the heap.
+//! prints the counters that it finds, and after each round how many counts are acknowledged since then. It counts for so long (for
+//! ever without SECONDS), closes the heap, and prints the counters again. A file that is empty or has only zeros gets a heap.
+//!
+//! After a power failure soon after the file was made there may be no file: a program that minds syncs its folder too. And after a
+//! sync that failed, a file may read as it was written and have lost it: its file system is to be mounted again first.
 use std::error::Error;
 use std::fs::{File, OpenOptions};
 use std::io::Read;
-use std::sync::atomic::{AtomicBool, AtomicU32, Ordering};
+use std::process::ExitCode;
+use std::sync::atomic::{AtomicBool, Ordering};
 use std::thread;
 use std::time::{Duration, Instant};
-use zelamiku::{Field, Heap, Refusal, Session};
+use zelamiku::{Field, Found, Heap, Refusal, Session};
 
 const WORKERS: u32 = 4;
 const TOTAL: u32 = 0;
 const CAPACITY: u32 = 20_000;
+
+type Failure = Box<dyn Error + Send + Sync>;
+
+/// What the threads tell one another.
+#[derive(Default)]
+struct Signs {
+    // For the workers: no more sections.
+    stopping: AtomicBool,
+    // For the helper: no more rounds.
+    ended: AtomicBool,
+    // A thread has failed. It may hold monitors, so nobody waits for one any more.
+    failed: AtomicBool,
+}
+
+impl Signs {
+    // What the thread's work answers, after others were told of a failure.
+    fn tell<T>(&self, answer: Result<T, Failure>) -> Result<T, Failure> {
+        if answer.is_err() {
+            self.failed.store(true, Ordering::SeqCst);
+        }
+        answer
+    }
+
+    fn has_failed(&self) -> bool {
+        self.failed.load(Ordering::SeqCst)
+    }
+}
 
 fn count(session: &mut Session, field: u32) -> Result<(), Refusal> {
     let value = session.load(field)?;
     session.store(field, value + 1)
 }
 
+// Counts once, in one section.
+fn count_once(session: &mut Session, own: u32, signs: &Signs) -> Result<(), Refusal> {
+    let goes_on = || !signs.has_failed();
+    session.enter_while(own, goes_on)?;
+    count(session, own)?;
+    session.enter_while(TOTAL, goes_on)?;
+    count(session, TOTAL)?;
+    session.exit(TOTAL)?;
+    session.exit(own)
+}
+
 // Until it is to stop.
-fn work(mut session: Session, own: u32, stopping: &AtomicBool) -> Result<(), Refusal> {
-    while !stopping.load(Ordering::SeqCst) {
-        session.enter(own)?;
-        count(&mut session, own)?;
-        session.enter(TOTAL)?;
-        count(&mut session, TOTAL)?;
-        session.exit(TOTAL)?;
-        session.exit(own)?;
+fn work(mut session: Session, own: u32, signs: &Signs) -> Result<(), Failure> {
+    while !signs.stopping.load(Ordering::SeqCst) {
+        match count_once(&mut session, own, signs) {
+            // Another thread has failed, and tells why. What this one has done of its section is dropped.
+            Err(refusal) if refusal.is_passing() => return Ok(()),
+            other => other?,
+        }
     }
-    session.end()
+    Ok(session.end()?)
+}
+
+// How many of the workers' sections are acknowledged: each counts one.
+fn acknowledged(heap: &mut Heap) -> Result<u64, Refusal> {
+    (1..=WORKERS).map(|lane| heap.acknowledged(lane)).sum()
 }
 
 // Until the workers have ended.
-fn help(heap: &mut Heap, file: &mut File, working: &AtomicU32) -> Result<(), Box<dyn Error>> {
-    while working.load(Ordering::SeqCst) > 0 {
-        if heap.round()? == 0 {
+fn help(heap: &mut Heap, file: &mut File, signs: &Signs) -> Result<(), Failure> {
+    while !signs.has_failed() && !signs.ended.load(Ordering::SeqCst) {
+        let applied = match heap.round() {
+            Err(Refusal::CallsLeft) => 0,
+            other => other?,
+        };
+        heap.make_calls(file)?;
+        if applied > 0 {
+            println!("acknowledged {}", acknowledged(heap)?);
+        } else {
             thread::yield_now();
         }
-        heap.make_calls(file)?;
     }
     Ok(())
 }
 
-// Opens the heap of the file, or makes one where the file is new or its making was cut off.
-fn begin(file: &mut File) -> Result<Heap, Box<dyn Error>> {
+// Whether a heap may be made over these bytes: there are none, or only zeros, or the beginning of an image whose making was cut off.
+fn is_free(bytes: &[u8]) -> bool {
+    bytes.starts_with(b"MONIHEAP") || bytes.iter().all(|byte| *byte == 0)
+}
+
+// Makes a heap in the file, which has zeros then, durably.
+fn make(file: &mut File) -> Result<Heap, Failure> {
+    let fields: Vec<Field> = (0..=WORKERS)
+        .map(|i| Field {
+            owner: i,
+            guard: i,
+            first: 0,
+        })
+        .collect();
+    let (heap, size) = Heap::format(WORKERS + 1, &fields, WORKERS + 1, CAPACITY)?;
+    file.set_len(0)?;
+    file.set_len(size)?;
+    file.sync_all()?;
+    Ok(heap)
+}
+
+fn is_ours(found: &Found) -> bool {
+    found.objects == WORKERS + 1 && found.fields == WORKERS + 1 && found.lanes == WORKERS + 1
+}
+
+// Opens the heap of the file, or makes one.
+fn begin(file: &mut File) -> Result<Heap, Failure> {
+    // What a killed run has written is in the system's cache: it has to be durable.
+    file.sync_all()?;
     let mut image = Vec::new();
     file.read_to_end(&mut image)?;
     let mut heap = match Heap::open(&image) {
-        Ok((heap, _found)) => heap,
-        Err(Refusal::NOT_FORMATTED) => {
-            let fields: Vec<Field> = (0..=WORKERS)
-                .map(|i| Field {
-                    owner: i,
-                    guard: i,
-                    first: 0,
-                })
-                .collect();
-            let (heap, size) = Heap::format(WORKERS + 1, &fields, WORKERS, CAPACITY)?;
-            file.set_len(0)?;
-            file.set_len(size)?;
-            file.sync_all()?;
-            heap
+        Ok((heap, found)) if is_ours(&found) => heap,
+        Ok(_) => return Err("the file has the heap of another program".into()),
+        Err(Refusal::NotFormatted) if is_free(&image) => make(file)?,
+        Err(Refusal::NotFormatted) => {
+            return Err("the file has no heap, and isn't empty: it is left as it is".into())
         }
         Err(refusal) => return Err(refusal.into()),
     };
@@ -72,55 +143,83 @@ fn begin(file: &mut File) -> Result<Heap, Box<dyn Error>> {
     Ok(heap)
 }
 
-// Tells what the counters are; answers whether the total is the sum of its parts.
-fn tell(session: &mut Session) -> Result<bool, Refusal> {
-    let mut values = Vec::new();
-    for field in 0..=WORKERS {
-        session.enter(field)?;
-        values.push(session.load(field)?);
-        session.exit(field)?;
+// Reads all counters in one section. It takes the monitors in the workers' order: the total's last.
+fn look(session: &mut Session, signs: &Signs) -> Result<Vec<u64>, Refusal> {
+    for object in (1..=WORKERS).chain([TOTAL]) {
+        session.enter_while(object, || !signs.has_failed())?;
     }
+    let values = (0..=WORKERS).map(|field| session.load(field)).collect::<Result<_, _>>()?;
+    for object in 0..=WORKERS {
+        session.exit(object)?;
+    }
+    Ok(values)
+}
+
+// Tells what the counters are. It fails where the total isn't the sum of its parts.
+fn tell(values: &[u64]) -> Result<(), Failure> {
     let parts: Vec<String> = values[1..].iter().map(|value| value.to_string()).collect();
     let is_sum = values[1..].iter().sum::<u64>() == values[0];
     println!("total {} = {}{}", values[0], parts.join(" + "), if is_sum { "" } else { ": WRONG" });
-    Ok(is_sum)
+    if is_sum {
+        Ok(())
+    } else {
+        Err("the total isn't the sum of its parts".into())
+    }
 }
 
-fn main() -> Result<(), Box<dyn Error>> {
-    let words: Vec<String> = std::env::args().collect();
-    let path = words.get(1).ok_or("counters FILE [SECONDS]")?;
-    let seconds: Option<f64> = words.get(2).map(|word| word.parse()).transpose()?;
+// Sleeps until then, or for ever, or until a thread fails.
+fn rest(until: Option<Instant>, signs: &Signs) {
+    let nap = Duration::from_millis(10);
+    while !signs.has_failed() && until.map_or(true, |until| Instant::now() < until) {
+        thread::sleep(nap);
+    }
+}
+
+fn run(path: &str, seconds: Option<f64>) -> Result<(), Failure> {
     let mut file = OpenOptions::new().read(true).write(true).create(true).truncate(false).open(path)?;
     let mut heap = begin(&mut file)?;
-    let mut sessions = Vec::new();
-    for _ in 0..WORKERS {
-        sessions.push(heap.session()?);
-    }
-    if !tell(&mut sessions[0])? {
-        std::process::exit(1);
-    }
-    let stopping = AtomicBool::new(false);
-    let working = AtomicU32::new(WORKERS);
-    thread::scope(|scope| {
-        for (own, session) in (1..).zip(sessions) {
-            let (stopping, working) = (&stopping, &working);
-            scope.spawn(move || {
-                let ended = work(session, own, stopping);
-                working.fetch_sub(1, Ordering::SeqCst);
-                ended.expect("a worker's call is refused");
-            });
-        }
-        if let Some(seconds) = seconds {
-            let until = Instant::now() + Duration::from_secs_f64(seconds);
-            let stopping = &stopping;
-            scope.spawn(move || {
-                thread::sleep(until.saturating_duration_since(Instant::now()));
-                stopping.store(true, Ordering::SeqCst);
-            });
-        }
-        help(&mut heap, &mut file, &working).expect("the helper is refused");
-    });
+    let signs = Signs::default();
+    // Lane 0 is this thread's.
+    let mut own = heap.session()?;
+    tell(&look(&mut own, &signs)?)?;
+    let until = seconds.map(|seconds| Instant::now() + Duration::from_secs_f64(seconds));
+    let sessions = (0..WORKERS).map(|_| heap.session()).collect::<Result<Vec<_>, _>>()?;
+    let last = thread::scope(|scope| {
+        let (signs, helped, helped_file) = (&signs, &mut heap, &mut file);
+        let helper = scope.spawn(move || signs.tell(help(helped, helped_file, signs)));
+        let workers: Vec<_> = (1..)
+            .zip(sessions)
+            .map(|(lane, session)| scope.spawn(move || signs.tell(work(session, lane, signs))))
+            .collect();
+        rest(until, signs);
+        signs.stopping.store(true, Ordering::SeqCst);
+        let worked: Vec<_> = workers.into_iter().map(|worker| worker.join().expect("no panic")).collect();
+        let last = signs.tell(look(&mut own, signs).map_err(Failure::from));
+        signs.ended.store(true, Ordering::SeqCst);
+        // What the helper says comes first: the others may have failed by it.
+        helper.join().expect("no panic")?;
+        worked.into_iter().collect::<Result<(), Failure>>()?;
+        last
+    })?;
+    own.end()?;
     let mut closed = heap.close().map_err(|(_, refusal)| refusal)?;
     closed.make_calls(&mut file)?;
-    Ok(())
+    // Durable now.
+    tell(&last)
+}
+
+fn main() -> ExitCode {
+    let words: Vec<String> = std::env::args().collect();
+    let seconds = words.get(2).map(|word| word.parse()).transpose();
+    let (Some(path), Ok(seconds)) = (words.get(1), seconds) else {
+        eprintln!("counters FILE [SECONDS]");
+        return ExitCode::from(2);
+    };
+    match run(path, seconds) {
+        Ok(()) => ExitCode::SUCCESS,
+        Err(failure) => {
+            eprintln!("{path}: {failure}");
+            ExitCode::from(2)
+        }
+    }
 }

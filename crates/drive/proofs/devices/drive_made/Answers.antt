@@ -13,10 +13,5 @@ drive_heap-requires-clause-schema g c κs within =
 pub returns-clause-ok : goal.returns-clause-ok
 returns-clause-ok g c =
     IfOk-weaker c.drive_heap.result _ _
-    (λ r so. record {
-      was = c.args.made;
-      now = r.0;
-      theirs = c.requires.theirs;
-      driven_so = subst (λ (s : Declarations). IsDriven g.D.Disk.device s c.args.made r.0 r.1) c.requires.schema so;
-    })
+    (λ r so. subst (λ (s : Declarations). IsDriven g.D.Disk.device s c.args.made r.0 r.1) c.requires.schema so)
     c.drive_heap.ensures.ok

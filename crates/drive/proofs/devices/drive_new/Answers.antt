@@ -1,6 +1,26 @@
+use Rattle.std.proofs.Common.{◌≡◌, ◌∙◌, ◌<◌, ℕ, ap, sym, subst}
+use Rattle.std.proofs.lemmas.Result.{IfOk-weaker}
+use Rattle.guards.specs.Schema.{Declarations, field_count, first_of}
+use Rattle.trim_helper.specs.Opening.{FitsSchema}
+use Rattle.drive.specs.Schemas.{schema_of}
+use Rattle.drive.proofs.SchemaLemmas.{first_is_zero}
 use Rattle.drive.specs.Refusals.{IsLater, RefusesNew}
 use Rattle.drive.proofs.Refused.{anyway, later_new, making_new, weaker}
 use Rattle.drive.proofs.devices.drive_new.Goals as goal
+
+pub returns-in-Ok-make-clause-ok : goal.returns-in-Ok-make-clause-ok
+returns-in-Ok-make-clause-ok g c =
+    let made = c.in-Ok-make.made in
+    let is : c.in-Ok.schema ≡ schema_of c.args.workers = c.in-Ok.ensures.ok in
+    IfOk-weaker c.drive_made.result _ _
+    (λ r so. record {
+      was = made;
+      now = r.0;
+      theirs = record { lanes_are = c.in-Ok-make.ensures.lanes; fits = subst (λ (s : Declarations). FitsSchema s made.layout made.guards) is c.in-Ok-make.ensures.fits };
+      first = λ f below. c.in-Ok-make.ensures.first f (subst (λ (s : Declarations). f < field_count s) (sym is) below) ∙ ap (λ (s : Declarations). first_of s f) is ∙ first_is_zero c.args.workers f;
+      driven_so = so;
+    })
+    c.drive_made.ensures.ok
 
 pub returns-in-Ok-make-clause-workers : goal.returns-in-Ok-make-clause-workers
 returns-in-Ok-make-clause-workers g c = anyway c.drive_made.result c.in-Ok-make.ensures.workers

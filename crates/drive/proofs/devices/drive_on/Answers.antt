@@ -1,12 +1,19 @@
 use Rattle.std.proofs.Common.{sym, subst}
+use Rattle.std.proofs.lemmas.Result.{IfOk-weaker}
 use Rattle.block_disk.specs.Device.{Moment}
 use Rattle.drive.specs.Refusals.{IsLater, RefusesOn}
 use Rattle.drive.specs.Schemas.{HoldsWorkers}
+use Rattle.drive.proofs.Recovered.{on_alike}
 use Rattle.drive.proofs.Refused.{anyway, later_on, weaker}
 use Rattle.drive.proofs.devices.drive_on.Goals as goal
 
 pub go_on-requires-clause-theirs : goal.go_on-requires-clause-theirs
 go_on-requires-clause-theirs g c κs within = subst (λ (m : Moment). HoldsWorkers c.args.workers m.bytes) (sym c.look.ensures.same.now) c.in-Ok-look.ensures.ok
+
+pub returns-in-Ok-look-clause-ok : goal.returns-in-Ok-look-clause-ok
+returns-in-Ok-look-clause-ok g c =
+    let device = g.D.Disk.device in
+    IfOk-weaker c.go_on.result _ _ (λ r on. on_alike device c.args.workers (device c.args.disk) (device c.look.new.disk) r.1 c.look.ensures.same on) c.go_on.ensures.ok
 
 pub returns-in-Ok-look-clause-theirs : goal.returns-in-Ok-look-clause-theirs
 returns-in-Ok-look-clause-theirs g c = anyway c.go_on.result c.in-Ok-look.ensures.ok

@@ -1,4 +1,4 @@
-use Rattle.std.proofs.Common.{◌≡◌, ◌∙◌}
+use Rattle.std.proofs.Common.{◌∙◌}
 use Rattle.trim_helper.specs.declared.ended.Ended.{Ended}
 use Rattle.running_heap.proofs.Ending.{ended_of}
 use Rattle.running_heap.proofs.closing.end.Goals as goal

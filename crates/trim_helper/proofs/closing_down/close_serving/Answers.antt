@@ -1,16 +1,18 @@
-use Rattle.std.proofs.Common.{ap, sym, subst}
+use Rattle.std.proofs.Common.{◌≡◌, Err, ap, sym, subst}
 use Rattle.trim_helper.proofs.Rounds.{stood_still}
 use Rattle.trim_helper.proofs.Sent.{never_refused}
 use Rattle.trim_helper.specs.Closed.{IsClosedDown, Stood}
 use Rattle.trim_helper.specs.Endings.{HoldNone, IsCloseWhy, IsComplete, RefusesEnded, parts_of}
 use Rattle.trim_helper.proofs.Gathering.{closing_refused, ended_refused}
 use Rattle.monitor.specs.Words.{setting_of}
-use Rattle.trim_helper.specs.Taken.{HasTaken}
+use Rattle.trim_helper.specs.Taken.{HasTaken, trimmed_of}
+use Rattle.trim_helper.proofs.ClosingReasons.{not_sessions}
+use Rattle.trim_helper.specs.declared.close_error.CloseError.TheVariants.{Failed as CloseFailed}
 use Rattle.trim_helper.proofs.closing_down.close_serving.Goals as goal
 
 pub returns-in-Ok-clause-ok : goal.returns-in-Ok-clause-ok
 returns-in-Ok-clause-ok g c = λ p has.
-    subst (λ disk. IsClosedDown (setting_of c.args.shared.plan) c.args.shared.plan.lanes c.args.helper.store.known.layout (parts_of c.args.ended.items) p.cut (g.D.Disk.device disk)) (sym c.into_disk-in-Ok.ensures.disk)
+    subst (λ disk. IsClosedDown (setting_of c.args.shared.plan) c.args.shared.plan.lanes c.args.helper.store.known.layout (parts_of c.args.ended.items) p.cut (trimmed_of p) (g.D.Disk.device disk)) (sym c.into_disk-in-Ok.ensures.disk)
     (c.in-Ok.ensures.ok p (subst (λ rings. HasTaken c.args.helper.store.known (g.D.Disk.device c.args.helper.store.disk) rings c.args.helper.waiting (setting_of c.args.shared.plan) p) (sym c.deref_mut.ensures.value) has.taken) (λ l lt. (has.counts l lt, has.places l lt))).closed
 
 pub returns-in-Ok-clause-any_moment : goal.returns-in-Ok-clause-any_moment
@@ -52,3 +54,23 @@ returns-clause-why g c = λ s p has.
     let x = c.args.helper in
     subst (λ disk. IsCloseWhy x.store.known (g.D.Disk.device x.store.disk) (g.D.Disk.device disk) c.in-Err-finish.reason) (sym c.into_disk-in-Err-finish.ensures.disk)
     (c.in-Err-finish.ensures.why s p (subst (λ rings. HasTaken x.store.known (g.D.Disk.device x.store.disk) rings x.waiting s p) (sym c.deref_mut.ensures.value) has))
+
+pub returns-clause-untouched : goal.returns-clause-untouched
+returns-clause-untouched g c = λ is. absurd (not_sessions c.in-Err-finish.reason c.in-Err-finish.ensures.stop is)
+
+pub returns-in-Err-clause-failed : goal.returns-in-Err-clause-failed
+returns-in-Err-clause-failed g c = λ s p has off none complete.
+    let lanes = ap (λ l. l.lanes) c.layout-lanes.ensures in
+    let why = subst (λ n. RefusesEnded n c.args.ended.items c.in-Err.reason) lanes (subst (λ es. RefusesEnded c.layout-lanes.result.lanes es c.in-Err.reason) c.deref.ensures.value c.in-Err.ensures) in
+    absurd (never_refused c.args.helper.store.known.layout.lanes c.args.ended.items c.in-Err.reason why none complete)
+
+pub returns-in-Ok-clause-failed : goal.returns-in-Ok-clause-failed
+returns-in-Ok-clause-failed g c = λ s p has off none complete.
+    let x = c.args.helper in
+    absurd (let no = c.in-Ok.ensures.failed s p (subst (λ rings. HasTaken x.store.known (g.D.Disk.device x.store.disk) rings x.waiting s p) (sym c.deref_mut.ensures.value) has) off in cc)
+
+pub returns-clause-failed : goal.returns-clause-failed
+returns-clause-failed g c = λ s p has off none complete.
+    let x = c.args.helper in
+    let is = c.in-Err-finish.ensures.failed s p (subst (λ rings. HasTaken x.store.known (g.D.Disk.device x.store.disk) rings x.waiting s p) (sym c.deref_mut.ensures.value) has) off in
+    let same : Err c.in-Err-finish.reason ≡ Err CloseFailed = is in cc

@@ -3,7 +3,7 @@ use Rattle.trim_helper.specs.Closed.{HasSpelled}
 use Rattle.monitor.specs.Words.{setting_of}
 use Rattle.trim_helper.specs.Helping.{place_published, taken_in}
 use Rattle.trim_helper.specs.Meeting.{HasPart}
-use Rattle.trim_helper.specs.Taken.{applied_more}
+use Rattle.trim_helper.specs.Taken.{applied_more, trimmed_of}
 use Rattle.block_disk.specs.Device.{HasFailed}
 use Rattle.trim_helper.proofs.ClosingReasons.{why_drained, why_settled}
 use Rattle.trim_helper.proofs.Rounds.{looks_drains, looks_taken, stood_round, stood_still, taken_follows}
@@ -12,6 +12,7 @@ use Rattle.trim_helper.specs.Serving.{Among, Part}
 use Rattle.trim_helper.specs.Endings.{parts_of}
 use Rattle.store_past.specs.Past.{applied}
 use Rattle.trim_helper.proofs.Closing.{all_applied, all_free, has_spelled, same_lanes}
+use Rattle.store_past.specs.declared.error.StoreError.TheVariants.{Failed as StoreFailed}
 use Rattle.trim_helper.proofs.closing_down.finish.Goals as goal
 
 pub returns-clause-ok : goal.returns-clause-ok
@@ -29,10 +30,12 @@ returns-clause-ok g c = λ p has places.
     let free = all_free (setting_of c.args.shared.plan) c.args.shared.plan.lanes c.layout-layout.result.capacity (place_published c.meet.new.seat) (taken_in c.meet.new.seat) history.0 history.1 c.meet.new.rings c.meet.ensures.met present count
     c.log_law.ensures c.own_log_law.ensures in
     let settled = c.in_default-settle_applied.ensures.settled (setting_of c.args.shared.plan) (applied_more all.0 p) all.1.has in
-    subst (λ parts. HasSpelled (setting_of c.args.shared.plan) c.args.shared.plan.lanes c.args.store.now.known.layout parts p.cut (g.D.Disk.device c.settle_applied.new.store.disk) c.close-words.result) c.meet.ensures.gathered
-    (subst (λ l. HasSpelled (setting_of c.args.shared.plan) c.args.shared.plan.lanes l (taken_in c.meet.new.seat) p.cut (g.D.Disk.device c.settle_applied.new.store.disk) c.close-words.result) (c.settle_applied.ensures.layout ∙ c.in_default.ensures.advances.layout)
+    subst (λ parts. HasSpelled (setting_of c.args.shared.plan) c.args.shared.plan.lanes c.args.store.now.known.layout parts p.cut (trimmed_of p) (g.D.Disk.device c.settle_applied.new.store.disk) c.close-words.result) c.meet.ensures.gathered
+    (subst (λ l. HasSpelled (setting_of c.args.shared.plan) c.args.shared.plan.lanes l (taken_in c.meet.new.seat) p.cut (trimmed_of p) (g.D.Disk.device c.settle_applied.new.store.disk) c.close-words.result) (c.settle_applied.ensures.layout ∙ c.in_default.ensures.advances.layout)
     (has_spelled (setting_of c.args.shared.plan) c.args.shared.plan.lanes (taken_in c.meet.new.seat) history.0 history.1 c.log_law.ensures c.order_law.ensures c.all_kept_law.ensures c.stable_law.ensures.one (λ f. refl) c.close-words.result history.2 p.cut
     (λ x among lt. let counts = c.meet.ensures.count x.lane in omega (arith, (c.close-words.ensures.read x among).0, (places x.lane (omega arith)).0))
+    (trimmed_of p)
+    (λ x among lt. let place = c.meet.ensures.place x.lane in omega (arith, (c.close-words.ensures.read x among).1, (places x.lane (omega arith)).1))
     c.settle_applied.new.store.known (g.D.Disk.device c.settle_applied.new.store.disk) settled.0.now settled.0.has c.in_default-settle_applied.ensures.running settled.1 (same_lanes _ _ _ settled.0.same all.2) free))
 
 pub returns-in-Err-clause-any_moment : goal.returns-in-Err-clause-any_moment
@@ -72,3 +75,19 @@ returns-in-Err-settle_applied-clause-why g c = λ s p taken.
     why_settled c.args.store.now.known (g.D.Disk.device c.args.store.now.disk) _ c.in-Err-settle_applied.reason c.close_error-in-Err-settle_applied.result (left.stop s q made.2.has) told.failed told.worn told.fault
     c.drain_known.new.store.known c.settle_applied.new.store.known s kept.now on.running (left.why s q made.2.has) kept.has
     (λ is. subst (λ d. HasFailed d.failures (g.D.Disk.device c.settle_applied.new.store.disk).failures) on.device (c.settle_applied.ensures.cause.failed (c.in-Err-settle_applied.is ∙ ap Err is)))
+
+pub returns-in-Err-clause-failed : goal.returns-in-Err-clause-failed
+returns-in-Err-clause-failed g c = λ s p taken off. ap Err (c.close_error.ensures.from_failed c.in-Err.ensures.failed)
+
+pub returns-in-Err-settle_applied-clause-failed : goal.returns-in-Err-settle_applied-clause-failed
+returns-in-Err-settle_applied-clause-failed g c = λ s p taken off.
+    let on = c.in_default.ensures.advances in
+    let made = on.made s p (looks_taken _ _ _ _ _ s p c.meet.ensures.looks taken) in
+    let is = c.in-Err-settle_applied.ensures.failed s (applied_more made.0 p) made.2.has (on.running ∙ off) in
+    ap Err (c.close_error-in-Err-settle_applied.ensures.from_failed (let same : Err c.in-Err-settle_applied.reason ≡ Err StoreFailed = is in cc))
+
+pub returns-clause-failed : goal.returns-clause-failed
+returns-clause-failed g c = λ s p taken off.
+    let on = c.in_default.ensures.advances in
+    let made = on.made s p (looks_taken _ _ _ _ _ s p c.meet.ensures.looks taken) in
+    absurd (let no = c.in_default-settle_applied.ensures.failed s (applied_more made.0 p) made.2.has (on.running ∙ off) in cc)

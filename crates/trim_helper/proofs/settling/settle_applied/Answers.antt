@@ -1,9 +1,9 @@
-use Rattle.std.proofs.Common.{◌∙◌, ◌≡◌, true, false, refl, sym, ap, inl, inr, ⊎_elim, arith}
+use Rattle.std.proofs.Common.{◌∙◌, ◌≡◌, Err, true, false, refl, sym, ap, inl, inr, ⊎_elim, arith}
 use Rattle.heap_model.specs.Sections.{actions}
 use Rattle.store_past.specs.Past.{applied, after_log}
 use Rattle.trim_helper.specs.Settled.{HasSame, IsSettled, IsStop}
 use Rattle.durable.specs.Calls.{RefusesSettle}
-use Rattle.trim_helper.proofs.Homes.{round_logs, round_homes, round_settles, passed_on, same_stay, same_dirtied, same_clean, settled_now, dirtied, stops_log, stops_settle, ok_weaker, err_weaker, if_err_match, if_err_more, why_log, why_settle}
+use Rattle.trim_helper.proofs.Homes.{round_logs, round_homes, round_settles, passed_on, same_stay, same_dirtied, same_clean, settled_now, dirtied, stops_log, stops_settle, ok_weaker, err_weaker, if_err_match, if_err_more, failed_log, why_log, why_settle}
 use Rattle.block_disk.proofs.Failures.{cause_since}
 use Rattle.trim_helper.proofs.settling.settle_applied.Goals as goal
 
@@ -80,3 +80,12 @@ returns-clause-why g c = λ s p has.
     why_settle c.args.store.now.known c.write_home.new.store.known c.settle.new.self.known s (dirtied (after_log p) was.dirty) c.settle.result
     (c.in_default-write_home.ensures.running ∙ c.in_default.ensures.running.1) (c.settle.ensures.answer s (dirtied (after_log p) was.dirty) was.has)
     (if_err_more c.settle.result _ _ (λ e h. ⊎_elim (λ is. inl is) (λ same. inr (ap (λ z. z.known) same)) h) c.settle.ensures.refused)
+
+pub returns-in-Err-clause-failed : goal.returns-in-Err-clause-failed
+returns-in-Err-clause-failed g c = λ s p has off. ap Err (failed_log c.args.store.now.known p c.in-Err.reason off (c.in-Err.ensures.answer s p has))
+
+pub returns-in-Err-write_home-clause-failed : goal.returns-in-Err-write_home-clause-failed
+returns-in-Err-write_home-clause-failed g c = λ s p has off. absurd (let no : false ≡ true = sym c.in_default.ensures.running.0 ∙ off in cc)
+
+pub returns-clause-failed : goal.returns-clause-failed
+returns-clause-failed g c = λ s p has off. absurd (let no : false ≡ true = sym c.in_default.ensures.running.0 ∙ off in cc)

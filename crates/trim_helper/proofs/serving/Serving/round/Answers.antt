@@ -1,4 +1,4 @@
-use Rattle.std.proofs.Common.{◌≡◌, true, false, ◌∙◌, sym, ap, arith}
+use Rattle.std.proofs.Common.{◌≡◌, Err, true, false, ◌∙◌, sym, ap, arith}
 use Rattle.trim_helper.specs.Helping.{count_published, place_published}
 use Rattle.store_past.specs.declared.error.StoreError.TheVariants.{Failed, Worn}
 use Rattle.trim_helper.proofs.Rounds.{emptied_of, moment_round, known_settled, drains_served, same_served, published_served, moved_seat}
@@ -48,7 +48,7 @@ returns-clause-ok g c = λ s p has.
     let was = moved_seat count_published place_published _ _ _ _ _ false s p _ _ _ c.drain.ensures.seat
     (drains_served _ _ _ _ _ _ _ _ _ _ false _ _ s p c.in-Ok.ensures.applied (λ is. absurd (let no : false ≡ true = is in cc)) has) in
     let h = c.in_default.ensures.settled s was.now was.serves.taken.has in
-    published_served _ _ _ _ _ _ _ false _ _ _ _ s p _ c.settle_and_trim.ensures.layout was h.0 h.1 h.2 (c.publish_all.ensures.published s h.0.now h.0.has)
+    published_served _ _ _ _ _ _ _ false _ _ _ _ s p _ c.settle_and_trim.ensures.layout was h.0 c.in_default.ensures.running h.1 h.2 (c.publish_all.ensures.published s h.0.now h.0.has)
     (moment_round _ _ _ _ _ _ _ _ _ s p _ c.in-Ok.ensures.applied has.taken c.in_default.ensures.any_moment)
 
 pub returns-clause-quiet : goal.returns-clause-quiet
@@ -103,3 +103,29 @@ returns-clause-emptied g c = λ l lt none.
     let known = c.requires.serves in
     let was = drains_served _ _ _ _ _ _ _ _ _ _ false _ _ known.0 known.1 c.in-Ok.ensures.applied (λ is. absurd (let no : false ≡ true = is in cc)) known.2 in
     emptied_of c.drain.new.self.store.known c.drain.new.self.rings.items c.drain.new.self.waiting known.0 was.now l (c.in-Ok.ensures.stuck l known.0 was.now lt was.serves.taken.has) none
+
+pub returns-in-Err-clause-failed : goal.returns-in-Err-clause-failed
+returns-in-Err-clause-failed g c = λ off. ap Err c.in-Err.ensures.failed
+
+pub returns-then-self-clause-failed : goal.returns-then-self-clause-failed
+returns-then-self-clause-failed g c = λ off.
+    let known = c.requires.serves in
+    absurd (let no : false ≡ true = sym (known.2.running (c.in-Ok.ensures.settled c.if-self.true).0) ∙ off in cc)
+
+pub returns-in-Err-settle_and_trim-clause-failed : goal.returns-in-Err-settle_and_trim-clause-failed
+returns-in-Err-settle_and_trim-clause-failed g c = λ off.
+    let known = c.requires.serves in
+    let was = drains_served _ _ _ _ _ _ _ _ _ _ false _ _ known.0 known.1 c.in-Ok.ensures.applied (λ is. absurd (let no : false ≡ true = is in cc)) known.2 in
+    let is = c.in-Err-settle_and_trim.ensures.failed known.0 was.now was.serves.taken.has (c.in-Ok.ensures.applied.advances.running ∙ off) in
+    ap Err (let same : Err c.in-Err-settle_and_trim.reason ≡ Err Failed = is in cc)
+
+pub returns-clause-failed : goal.returns-clause-failed
+returns-clause-failed g c = λ off.
+    let known = c.requires.serves in
+    let was = drains_served _ _ _ _ _ _ _ _ _ _ false _ _ known.0 known.1 c.in-Ok.ensures.applied (λ is. absurd (let no : false ≡ true = is in cc)) known.2 in
+    absurd (let no = c.in_default.ensures.failed known.0 was.now was.serves.taken.has (c.in-Ok.ensures.applied.advances.running ∙ off) in cc)
+
+pub returns-then-self-clause-running : goal.returns-then-self-clause-running
+returns-then-self-clause-running g c =
+    let known = c.requires.serves in
+    c.in-Ok.ensures.applied.advances.running ∙ known.2.running (c.in-Ok.ensures.settled c.if-self.true).0

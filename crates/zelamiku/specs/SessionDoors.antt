@@ -1,0 +1,143 @@
+-- The calls of a session, as C makes them: the calls of `hosted_heap` on what is behind a handle (this project's own). Each is told by
+-- what is behind the handle before it and after it, and by the status that C gets.
+use Rattle.std.specs.Prelude.{ℕ, ◌≡◌, ◌<◌, ◌≤◌, ◌↔◌, List, [], ◌∷◌, ◌++◌, Option, Some, None, Result, Ok, Err, Contains}
+use Rattle.std.specs.Int.{bit_at}
+use Rattle.std.specs.Result.{result_unwrap_or}
+use Rattle.heap_model.specs.declared.event.Event.TheVariants as event
+use Rattle.heap_model.specs.declared.event.Sight.{Sight}
+use Rattle.heap_model.specs.declared.event.Sight.TheVariants.{Found, StillInSet}
+use Rattle.heap_model.specs.declared.ids.Lane.{Lane}
+use Rattle.heap_model.specs.declared.ids.ObjectId.{ObjectId}
+use Rattle.hosted_heap.specs.Calls.{AsksToResume, AsksToWait, Enters, Exits, Loads, Notifies, StoresAs}
+use Rattle.hosted_heap.specs.Sessions.{Seated, SeatedWaiting, inner_resume, inner_wait}
+use Rattle.lock_word.specs.Spelling.{sight_of}
+use Rattle.lock_word.specs.declared.fat_word.FatShape.{FatShape}
+use Rattle.lock_word.specs.declared.lock_word.Shape.{Shape}
+use Rattle.monitor.specs.Seats.{Home}
+use Rattle.session.specs.Calls.{IsQuiet}
+use Rattle.session.specs.Sessions.{view_of}
+use Rattle.session.specs.declared.error.SessionError.{SessionError}
+use Rattle.session.specs.declared.error.Still.{Still}
+use Rattle.session.specs.declared.session.Session.{Session}
+use Rattle.steps.specs.Views.{IsHeld, IsLasting, IsWhole, Lengthens, hold, plan}
+use Rattle.zelamiku.specs.Behind.{Answers, behind, nothing_behind, session_behind, waiting_behind}
+use Rattle.zelamiku.specs.Own.{Held}
+use Rattle.zelamiku.specs.SessionStatuses.{refusal_status, status_of, still_status}
+use Rattle.zelamiku.specs.declared.session_calls.TheConstants.{NOBODY}
+use Rattle.zelamiku.specs.declared.state.Open.{Open}
+use Rattle.zelamiku.specs.declared.state.Open.TheVariants as kind
+use Rattle.zelamiku.specs.declared.status.TheConstants.{NOT_HELD, OK, UNKNOWN_OBJECT, WAITING, WRONG_KIND}
+use Rattle.zelamiku.specs.declared.words.Sight as words
+
+-- no session is there that could make a call: the status says so, and what is there stays
+abbrev pub HasNoSession : Open → Held → ℕ → Type 0
+HasNoSession (kind.Waiting w) after status = (status ≡ WAITING) × (after ≡ waiting_behind w)
+HasNoSession other after status = (status ≡ WRONG_KIND) × (after ≡ behind other)
+
+-- a call that a session makes
+abbrev pub OfSession : (Seated → Held → ℕ → Type 0) → Open → Held → ℕ → Type 0
+OfSession p (kind.Session s) after status = p s after status
+OfSession p other after status = HasNoSession other after status
+
+-- the session is there again, with the words of its heap
+abbrev pub Stays : (Seated → Seated → ℕ → Type 0) → Seated → Held → ℕ → Type 0
+Stays p s after status = (t : Seated) × (after ≡ session_behind t) × (t.home ≡ s.home) × p s t status
+
+-- A call of a session through its handle: `p` is the call itself, of the session before it and after it.
+abbrev pub AnswersAs : (p : Seated → Seated → (status : ℕ) → Type 0) → (before after : Held) (status : ℕ) → Type 0
+AnswersAs p = Answers (OfSession (Stays p))
+
+-- an enter of the object of this number
+abbrev pub EntersAt : (object : ℕ) → Seated → Seated → ℕ → Type 0
+EntersAt object s t status = (answer : Result (Unit {0}) SessionError)
+    × Enters s.home s.session t.session (record { 0 = object }) answer × (status ≡ status_of answer)
+
+-- an exit
+abbrev pub ExitsAt : (object : ℕ) → Seated → Seated → ℕ → Type 0
+ExitsAt object s t status = (answer : Result (Unit {0}) SessionError)
+    × Exits s.home s.session t.session (record { 0 = object }) answer × (status ≡ status_of answer)
+
+-- a load of the field of this number: its value, or 0 where it is refused
+abbrev pub LoadsAt : (field value : ℕ) → Seated → Seated → ℕ → Type 0
+LoadsAt field value s t status = (answer : Result ℕ SessionError)
+    × Loads s.home s.session t.session (record { 0 = field }) answer × (value ≡ result_unwrap_or answer 0) × (status ≡ status_of answer)
+
+-- a store
+abbrev pub StoresAt : (field value : ℕ) → Seated → Seated → ℕ → Type 0
+StoresAt field value s t status = (answer : Result (Unit {0}) SessionError)
+    × StoresAs s.home s.session t.session (record { 0 = field }) value answer × (status ≡ status_of answer)
+
+-- the lane that a notification took out, or that there was none
+abbrev pub lane_told : Result (Option Lane) SessionError → ℕ
+lane_told (Ok (Some lane)) = lane.0
+lane_told (Ok None) = NOBODY
+lane_told (Err e) = NOBODY
+
+-- a notification of one
+abbrev pub NotifiesAt : (object lane : ℕ) → Seated → Seated → ℕ → Type 0
+NotifiesAt object lane s t status = (answer : Result (Option Lane) SessionError)
+    × Notifies s.home s.session t.session (record { 0 = object }) answer × (lane ≡ lane_told answer) × (status ≡ status_of answer)
+
+-- a notification of all: a lane's bit is set where the lane was taken out
+pub record NotifiesAll (h : Home) (x y : Session) (o : ObjectId) (lanes status : ℕ) : Type 0 where
+  pub unknown : (plan h).objects ≤ o.0 → (status ≡ UNKNOWN_OBJECT) × IsQuiet (view_of x) (view_of y)
+  pub not_held : o.0 < (plan h).objects → hold (view_of x) o.0 ≡ None → (status ≡ NOT_HELD) × IsQuiet (view_of x) (view_of y)
+  pub held : o.0 < (plan h).objects → IsHeld (view_of x) o.0 → (woken : List Lane) × (status ≡ OK)
+      × Lengthens (view_of x) (view_of y) (event.NotifyAll o woken ∷ []) × ((l : Lane) → Contains woken l ↔ (bit_at lanes l.0 ≡ 1))
+
+abbrev pub NotifiesAllAt : (object lanes : ℕ) → Seated → Seated → ℕ → Type 0
+NotifiesAllAt object lanes s t status = NotifiesAll s.home s.session t.session (record { 0 = object }) lanes status
+
+-- the sight of a free monitor
+abbrev pub free_sight : (number : ℕ) → words.Sight
+free_sight number = record { owner = NOBODY; locks = 0; number = number }
+
+-- what a look shows: the owner's lane, its locks, and how often the monitor has become free
+abbrev pub sight_told : Sight → words.Sight
+sight_told (Found None count number) = free_sight number
+sight_told (Found (Some lane) count number) = record { owner = lane.0; locks = count; number = number }
+sight_told StillInSet = free_sight 0
+
+-- a look
+pub record Looks (h : Home) (x y : Session) (o : ObjectId) (sight : words.Sight) (status : ℕ) : Type 0 where
+  pub unknown : (plan h).objects ≤ o.0 → (status ≡ UNKNOWN_OBJECT) × IsQuiet (view_of x) (view_of y)
+  pub known : o.0 < (plan h).objects → (lock : Shape) × (fat : Option FatShape) × (status ≡ OK) × (sight ≡ sight_told (sight_of lock fat))
+      × IsWhole (view_of y) o lock fat × IsLasting (view_of y) o lock × Lengthens (view_of x) (view_of y) (event.Look o (sight_of lock fat) ∷ [])
+
+abbrev pub LooksAt : (object : ℕ) (sight : words.Sight) → Seated → Seated → ℕ → Type 0
+LooksAt object sight s t status = Looks s.home s.session t.session (record { 0 = object }) sight status
+
+-- what the session learns of its lane's acknowledged sections
+abbrev pub ReadsStable : (sections : ℕ) → Seated → Seated → ℕ → Type 0
+ReadsStable sections s t status = (status ≡ OK) × IsQuiet (view_of s.session) (view_of t.session) × ((view_of t.session).stable ≡ sections)
+
+-- What a wait gave is there, with the words of its heap: a session that waits, or the session that was refused.
+abbrev pub IsThereAfterWait : Home → Result SeatedWaiting (Seated × SessionError) → Held → ℕ → Type 0
+IsThereAfterWait h (Ok w) after status = (w.home ≡ h) × (after ≡ waiting_behind w) × (status ≡ OK)
+IsThereAfterWait h (Err e) after status = (e.0.home ≡ h) × (after ≡ session_behind e.0) × (status ≡ refusal_status e.1)
+
+-- a wait that is asked for
+abbrev pub WaitsAt : (object : ℕ) → Open → Held → ℕ → Type 0
+WaitsAt object = OfSession (λ s after status. (answer : Result SeatedWaiting (Seated × SessionError))
+    × AsksToWait s.home s.session (record { 0 = object }) (inner_wait answer) × IsThereAfterWait s.home answer after status)
+
+-- What a resume gave is there, with the words of its heap: the session, or one that waits on.
+abbrev pub IsThereAfterResume : Home → Result Seated (SeatedWaiting × Still) → Held → ℕ → Type 0
+IsThereAfterResume h (Ok s) after status = (s.home ≡ h) × (after ≡ session_behind s) × (status ≡ OK)
+IsThereAfterResume h (Err e) after status = (e.0.home ≡ h) × (after ≡ waiting_behind e.0) × (status ≡ still_status e.1)
+
+-- a resume of what waits
+abbrev pub Resumes : Open → Held → ℕ → Type 0
+Resumes (kind.Waiting w) after status = (answer : Result Seated (SeatedWaiting × Still))
+    × AsksToResume w.waiting (inner_resume answer) × IsThereAfterResume w.home answer after status
+Resumes other after status = (status ≡ WRONG_KIND) × (after ≡ behind other)
+
+-- a session that is ended: nothing is behind its handle then
+abbrev pub Ends : Open → Held → ℕ → Type 0
+Ends = OfSession (λ s after status. (status ≡ OK) × (after ≡ nothing_behind))
+
+-- The same, as the library works on what it took out: nothing is left of a session that is ended, and it has come back to its heap, as
+-- the last that went into the ring by which it comes back.
+abbrev pub EndsTo : Open → (after : Open) → (back : Option (List Session)) → (status : ℕ) → Type 0
+EndsTo (kind.Session s) after back status = (status ≡ OK) × (after ≡ kind.Nothing) × (back ≡ Some (s.before ++ s.session ∷ []))
+EndsTo other after back status = HasNoSession other (behind after) status
