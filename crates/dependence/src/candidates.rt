@@ -2,7 +2,7 @@
 
 ghost use Rattle.std.specs.Prelude.{◌<◌, ◌≤◌, ℕ, List, IsTrue, slice_index};
 ghost use Rattle.heap_model.specs.Cuts.{counts_of};
-ghost use Rattle.heap_model.specs.Plain.{IsClosedOver};
+ghost use Rattle.cut_laws.specs.Plain.{IsClosedOver};
 ghost use Rattle.dependence.specs.declared.step.Step.{Step};
 ghost use Rattle.dependence.specs.Steps.{reading};
 ghost use Rattle.dependence.specs.Search.{IsAbove, AreCauses};

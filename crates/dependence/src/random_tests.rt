@@ -4,7 +4,8 @@ ghost use Rattle.std.specs.Prelude.{◌<◌};
 
 use crate::graph::Graph;
 use crate::section::Dependence;
-use heap_model::{Cut, Lane, LaneRecord, ObjectId, Record, plain};
+use cut_laws::plain;
+use heap_model::{Cut, Lane, LaneRecord, ObjectId, Record};
 use std::alloc::{AllocError, Global};
 use std::process::Abort;
 use std::test::Fail;

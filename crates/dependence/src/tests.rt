@@ -5,7 +5,8 @@ ghost use Rattle.heap_model.specs.Cuts.{counts_of};
 
 use crate::graph::Graph;
 use crate::section::Dependence;
-use heap_model::{Cut, FieldId, Lane, LaneRecord, ObjectId, Record, plain};
+use cut_laws::plain;
+use heap_model::{Cut, FieldId, Lane, LaneRecord, ObjectId, Record};
 use std::alloc::{AllocError, Global};
 use std::process::Abort;
 

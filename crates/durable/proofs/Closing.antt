@@ -5,7 +5,7 @@ use Rattle.heap_model.specs.Setting.{Setting}
 use Rattle.heap_model.specs.Log.{lane, value}
 use Rattle.heap_model.specs.Sections.{actions, holding}
 use Rattle.heap_model.specs.KeptHeap.{kept_value}
-use Rattle.heap_model.proofs.Next.{legal_before}
+use Rattle.cut_laws.proofs.Next.{legal_before}
 use Rattle.block_disk.specs.Device.{Device}
 use Rattle.block_disk.specs.Images.{Always}
 use Rattle.image.specs.Cells.{HasCell}

@@ -7,8 +7,7 @@ use Rattle.heap_model.specs.declared.ids.FieldId.{FieldId}
 use Rattle.heap_model.specs.declared.record.Record.{Record}
 use Rattle.heap_model.specs.declared.record.LaneRecord.{LaneRecord}
 use Rattle.heap_model.specs.Setting.{Setting}
-use Rattle.heap_model.specs.Log.{lane}
-use Rattle.heap_model.specs.Plain.{log_from}
+use Rattle.heap_model.specs.Log.{lane, log_from}
 use Rattle.heap_model.specs.Sections.{actions, ended}
 use Rattle.block_disk.specs.Device.{Device}
 use Rattle.undo_log.specs.StandsFor.{row_of}

@@ -3,7 +3,7 @@ use Rattle.std.proofs.Common.{ℕ}
 use Rattle.heap_model.specs.declared.record.Record.{Record}
 use Rattle.heap_model.specs.Setting.{Setting}
 use Rattle.heap_model.specs.Log.{IsLegal}
-use Rattle.heap_model.specs.Laws.{StayLaw}
+use Rattle.cut_laws.specs.Laws.{StayLaw}
 use Rattle.store_past.specs.Past.{Past, IsPast, applied, after_apply, after_log, after_home, after_settle}
 use Rattle.store_memory.specs.Memory.{Memory}
 use Rattle.store_memory.specs.Remembers.{Remembers}

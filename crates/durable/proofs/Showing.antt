@@ -7,7 +7,7 @@ use Rattle.heap_model.specs.Record.{undo_of}
 use Rattle.heap_model.specs.Log.{lane}
 use Rattle.heap_model.specs.Sections.{actions}
 use Rattle.heap_model.specs.Cuts.{IsStable}
-use Rattle.heap_model.proofs.Stays.{cut_stays}
+use Rattle.cut_laws.proofs.Stays.{cut_stays}
 use Rattle.block_disk.specs.Device.{Device}
 use Rattle.image.specs.declared.layout.Layout.{Layout}
 use Rattle.undo_log.specs.Dropped.{undo_logs}

@@ -16,9 +16,3 @@ pub mod Cuts
 pub mod KeptHeap
 pub mod Base
 pub mod Earliest
-pub mod Laws
-pub mod OwnLaws
-pub mod SectionLaws
-pub mod PartTrim
--- The scaffold: a plain search, which proofs speak of. Public clauses state its `log_from` alone.
-pub mod Plain

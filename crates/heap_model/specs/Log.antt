@@ -1,8 +1,13 @@
 -- Logs of records, and which of them are legal. A list of (lane, record) has its newest record first.
-use Rattle.std.specs.Prelude.{ℕ, ◌≡◌, ◌+◌, ◌<◌, ◌==◌, if◌then◌else◌, List, [], ◌∷◌, ◌++◌, Option, Some, None}
+use Rattle.std.specs.Prelude.{ℕ, ◌≡◌, ◌+◌, ◌<◌, ◌==◌, if◌then◌else◌, List, [], ◌∷◌, ◌++◌, map, reverse, Option, Some, None}
 use Rattle.heap_model.specs.declared.record.Record.{Record}
 use Rattle.heap_model.specs.declared.record.Record.TheVariants.{Acq, Rel, WaitRel, Put}
+use Rattle.heap_model.specs.declared.record.LaneRecord.{LaneRecord}
 use Rattle.heap_model.specs.Setting.{Setting}
+
+-- a list of lanes' records, the oldest first, as a log
+abbrev pub log_from : List LaneRecord → List (ℕ × Record)
+log_from entries = map (λ e. (e.lane.0, e.record)) (reverse entries)
 
 -- one lane of the list
 abbrev pub lane : {A : Type 0} → ℕ → List (ℕ × A) → List A

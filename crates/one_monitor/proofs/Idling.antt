@@ -5,7 +5,7 @@ use Rattle.heap_model.specs.declared.event.Event.{Event}
 use Rattle.heap_model.specs.declared.event.Event.TheVariants.{Enter, Exit, Look}
 use Rattle.heap_model.specs.declared.event.Sight.{Sight}
 use Rattle.heap_model.specs.Own.{Own, Hold, Pause, own}
-use Rattle.heap_model.proofs.Own.{by_test}
+use Rattle.history_laws.proofs.Own.{by_test}
 use Rattle.lock_word.specs.declared.lock_word.Shape.TheVariants as thin
 use Rattle.monitor.specs.declared.view.View as raw
 use Rattle.monitor.specs.Views as views

@@ -7,7 +7,7 @@ use Rattle.heap_model.specs.declared.event.Event.{Event}
 use Rattle.heap_model.specs.declared.event.Event.TheVariants.{Enter, NestedEnter, NestedExit, Exit, Load, Store, Wait, Resume, Notify, Look}
 use Rattle.heap_model.specs.declared.event.Sight.TheVariants.{StillInSet}
 use Rattle.heap_model.specs.Own.{Hold, own, more, less, hold_count, pause_count}
-use Rattle.heap_model.proofs.Own.{by_test}
+use Rattle.history_laws.proofs.Own.{by_test}
 use Rattle.monitor.specs.Seats.{Home, Sitting}
 use Rattle.steps.specs.declared.grip.Grip.{Grip}
 use Rattle.steps.specs.declared.grip.Seen.{Seen}

@@ -4,7 +4,7 @@ use Rattle.std.proofs.lemmas.Bool.{cases_lt}
 use Rattle.std.proofs.lemmas.List.{map-append, take-append-drop, reverse-append, reverse-reverse, get_or-drop, get_or_past, length-map, length-reverse}
 use Rattle.heap_model.specs.Sections.{Action, Takes, Frees, Stores, undo_action, without, holding, ended}
 use Rattle.heap_model.specs.declared.record.UndoRecord.{UndoRecord}
-use Rattle.heap_model.proofs.Stores.{ended_rises}
+use Rattle.cut_laws.proofs.Stores.{ended_rises}
 use Rattle.dependence.proofs.Counted.{without_length}
 use Rattle.image.specs.Control.{AreRows}
 use Rattle.image.specs.Rows.{empty_row}

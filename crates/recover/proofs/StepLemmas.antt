@@ -8,7 +8,7 @@ use Rattle.heap_model.specs.Log.{lane}
 use Rattle.heap_model.specs.Sections.{Action, undo_action, ended, Section, Did}
 use Rattle.heap_model.specs.declared.record.UndoRecord.{UndoRecord}
 use Rattle.heap_model.specs.declared.record.UndoRecord.TheVariants.{Acq, Rel, WaitRel, Put}
-use Rattle.heap_model.proofs.Lanes.{lane_append}
+use Rattle.cut_laws.proofs.Lanes.{lane_append}
 use Rattle.dependence.specs.Next.{IsObjectBelow}
 use Rattle.dependence.specs.Trace.{Trace}
 use Rattle.image.specs.Layout.{IsLayout}

@@ -14,7 +14,7 @@ use Rattle.heap_model.specs.Events.{MayDo, IsEventOf, after_event}
 use Rattle.heap_model.specs.History as history
 use Rattle.heap_model.specs.History.{state_after, IsLegalHistory, with_record, log_of}
 use Rattle.plain_monitors.specs.Logged.{logged}
-use Rattle.heap_model.specs.Laws.{LogLaw}
+use Rattle.history_laws.specs.Laws.{LogLaw}
 use Rattle.heap_model.specs.Log.{IsLegal}
 use Rattle.block_disk.specs.Memory.{Memory}
 use Rattle.store_past.specs.Past.{Past, applied, no_past, after_apply, after_home}

@@ -20,7 +20,9 @@ use crate::store_calls::{acknowledged_counts, applied_values, keep_record, write
 use block_disk::{Fill, MemDisk};
 use durable::Store;
 use guards::Schema;
-use heap_model::{Event, FieldId, Lane, ObjectId, log_law, stable_law};
+use cut_laws::stable_law;
+use history_laws::log_law;
+use heap_model::{Event, FieldId, Lane, ObjectId};
 use plain_monitors::Monitors;
 use script_lines::Step;
 use std::alloc::{AllocError, Global};

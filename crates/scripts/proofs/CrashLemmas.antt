@@ -5,7 +5,7 @@ use Rattle.heap_model.specs.declared.record.Record.{Record}
 use Rattle.heap_model.specs.Setting.{Setting}
 use Rattle.heap_model.specs.Sections.{actions}
 use Rattle.heap_model.specs.Cuts.{counts_of, IsStable}
-use Rattle.heap_model.proofs.Existence.{stable_exists}
+use Rattle.cut_laws.proofs.Existence.{stable_exists}
 use Rattle.block_disk.specs.Crash.{first_stops}
 use Rattle.block_disk.specs.Device.{Device, Moment, LeftIn, LeftSince, Image}
 use Rattle.block_disk.specs.Images.{LeavesOnly, Always}

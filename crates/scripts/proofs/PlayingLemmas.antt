@@ -13,7 +13,7 @@ use Rattle.heap_model.specs.History as history
 use Rattle.heap_model.specs.History.{state_after, with_record, log_of}
 use Rattle.heap_model.specs.Sections.{actions}
 use Rattle.heap_model.specs.Cuts.{IsStable}
-use Rattle.heap_model.proofs.Existence.{stable_exists}
+use Rattle.cut_laws.proofs.Existence.{stable_exists}
 use Rattle.block_disk.specs.Crash.{first_stops}
 use Rattle.block_disk.specs.Device.{Device, Image}
 use Rattle.block_disk.specs.Images.{Continues, LeavesOnly}

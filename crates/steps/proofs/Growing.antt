@@ -7,7 +7,7 @@ use Rattle.heap_model.specs.declared.event.Event.TheVariants.{Enter, NestedEnter
 use Rattle.heap_model.specs.declared.event.Sight.TheVariants.{Found}
 use Rattle.heap_model.specs.State.{with_at}
 use Rattle.heap_model.specs.Own.{Hold, Pause, own, more, less, pause_count}
-use Rattle.heap_model.proofs.Own.{by_test}
+use Rattle.history_laws.proofs.Own.{by_test}
 use Rattle.lock_word.specs.declared.lock_word.Shape.{Shape}
 use Rattle.lock_word.specs.declared.lock_word.Shape.TheVariants as thin
 use Rattle.lock_word.specs.declared.fat_word.FatShape.{FatShape}

@@ -6,7 +6,7 @@ use Rattle.heap_model.specs.Setting.{Setting}
 use Rattle.heap_model.specs.Log.{value}
 use Rattle.heap_model.specs.KeptHeap.{kept_value}
 use Rattle.heap_model.specs.Cuts.{counts_of}
-use Rattle.heap_model.proofs.Next.{legal_before}
+use Rattle.cut_laws.proofs.Next.{legal_before}
 use Rattle.block_disk.specs.Device.{Device, synced}
 use Rattle.block_disk.specs.Images.{Always, ImageBut, LeavesOnly}
 use Rattle.block_disk.proofs.Images.{after_sync, and_then, always_now, image_now, now_too, weaker, leaves_synced, besides_none}

@@ -10,7 +10,7 @@ use Rattle.heap_model.specs.Setting.{Setting}
 use Rattle.heap_model.specs.Log.{lane, value}
 use Rattle.heap_model.specs.Sections.{ended, undo_action}
 use Rattle.heap_model.specs.Base.{records_since, records_until}
-use Rattle.heap_model.proofs.Reorder.{split_lane}
+use Rattle.history_laws.proofs.Reorder.{split_lane}
 use Rattle.block_disk.specs.Device.{Device, SameOutside}
 use Rattle.block_disk.specs.Images.{Always, LeavesOnly}
 use Rattle.block_disk.proofs.Images.{image_now, now_too, weaker}

@@ -13,10 +13,10 @@ use Rattle.heap_model.specs.Sections.{actions, ended, undo_action}
 use Rattle.heap_model.specs.Cuts.{IsWhole}
 use Rattle.heap_model.specs.KeptHeap.{kept_value}
 use Rattle.heap_model.specs.Base.{records_since}
-use Rattle.heap_model.proofs.Stores.{HasStore, has_more, has_less, ended_rises}
-use Rattle.heap_model.proofs.Order.{kept_is_last, last_elsewhere, last_once}
-use Rattle.heap_model.proofs.Next.{legal_before}
-use Rattle.heap_model.proofs.Lanes.{ended_in_lane, ended_grown, lane_append}
+use Rattle.cut_laws.proofs.Stores.{HasStore, has_more, has_less, ended_rises}
+use Rattle.history_laws.proofs.Order.{kept_is_last, last_elsewhere, last_once}
+use Rattle.cut_laws.proofs.Next.{legal_before}
+use Rattle.cut_laws.proofs.Lanes.{ended_in_lane, ended_grown, lane_append}
 use Rattle.image.specs.declared.layout.Layout.{Layout}
 use Rattle.undo_log.specs.Area.{HasRecords}
 use Rattle.undo_log.specs.Dropped.{undo_logs, records_in, IsDropped}

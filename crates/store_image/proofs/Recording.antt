@@ -6,7 +6,7 @@ use Rattle.heap_model.specs.declared.record.UndoRecord.{UndoRecord}
 use Rattle.heap_model.specs.Setting.{Setting}
 use Rattle.heap_model.specs.Log.{lane, value}
 use Rattle.heap_model.specs.Base.{records_since}
-use Rattle.heap_model.proofs.Stays.{cut_stays}
+use Rattle.cut_laws.proofs.Stays.{cut_stays}
 use Rattle.block_disk.specs.Device.{Range, Device, synced}
 use Rattle.block_disk.specs.Images.{Always, ImageBut, IsApart, LeavesOnly}
 use Rattle.block_disk.proofs.Images.{after_sync, always_now, and_then, besides_none, besides_survives, image_now, leaves_synced, now_too, weaker}

@@ -9,8 +9,8 @@ use Rattle.heap_model.specs.Setting.{Setting}
 use Rattle.heap_model.specs.Log.{lane}
 use Rattle.heap_model.specs.KeptHeap.{kept_value}
 use Rattle.heap_model.specs.Base.{records_since}
-use Rattle.heap_model.proofs.Lanes.{lane_append}
-use Rattle.heap_model.proofs.Next.{legal_before}
+use Rattle.cut_laws.proofs.Lanes.{lane_append}
+use Rattle.cut_laws.proofs.Next.{legal_before}
 use Rattle.undo_log.proofs.Back.{length_undo}
 use Rattle.block_disk.specs.Device.{Device}
 use Rattle.block_disk.specs.Images.{Always}

@@ -6,9 +6,8 @@ use Rattle.heap_model.specs.declared.record.Record.{Record}
 use Rattle.heap_model.specs.declared.record.LaneRecord.{LaneRecord}
 use Rattle.heap_model.specs.Setting.{Setting}
 use Rattle.heap_model.specs.Events.{lane_number}
-use Rattle.heap_model.specs.Log.{lane}
+use Rattle.heap_model.specs.Log.{lane, log_from}
 use Rattle.heap_model.specs.Sections.{Action, action, actions, holding}
-use Rattle.heap_model.specs.Plain.{log_from}
 use Rattle.store_memory.specs.declared.states.MonitorState.{MonitorState}
 use Rattle.store_memory.specs.declared.states.FieldState.{FieldState}
 use Rattle.store_memory.specs.declared.states.LaneState.{LaneState}

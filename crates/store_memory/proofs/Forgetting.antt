@@ -9,7 +9,7 @@ use Rattle.heap_model.specs.Log.{lane}
 use Rattle.heap_model.specs.Sections.{Action, action, actions, ended}
 use Rattle.heap_model.specs.Cuts.{counts_of, IsStable}
 use Rattle.heap_model.specs.Base.{since}
-use Rattle.heap_model.proofs.Trimmed.{since_counts, trim_stable}
+use Rattle.cut_laws.proofs.Trimmed.{since_counts, trim_stable}
 use Rattle.dependence.specs.Trace.{Trace, base_of, beyond}
 use Rattle.store_past.specs.Past.{Past, applied, after_trim}
 use Rattle.store_memory.specs.declared.states.LaneState.{LaneState}

@@ -11,8 +11,7 @@ use Rattle.heap_model.specs.declared.record.Record.{Record}
 use Rattle.heap_model.specs.declared.record.LaneRecord.{LaneRecord}
 use Rattle.heap_model.specs.declared.record.UndoRecord.{UndoRecord}
 use Rattle.heap_model.specs.Record.{undo_of}
-use Rattle.heap_model.specs.Log.{lane}
-use Rattle.heap_model.specs.Plain.{log_from}
+use Rattle.heap_model.specs.Log.{lane, log_from}
 use Rattle.store_memory.specs.Fresh.{undo_log_of, IsOfLanes, IsSorted}
 
 pub log_snoc : (xs : List LaneRecord) (e : LaneRecord) → log_from (xs ++ e ∷ []) ≡ (e.lane.0, e.record) ∷ log_from xs

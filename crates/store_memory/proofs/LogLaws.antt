@@ -6,8 +6,7 @@ use Rattle.heap_model.specs.declared.record.Record.{Record}
 use Rattle.heap_model.specs.declared.record.Record.TheVariants.{Acq, Rel, WaitRel, Put}
 use Rattle.heap_model.specs.declared.record.LaneRecord.{LaneRecord}
 use Rattle.heap_model.specs.Setting.{Setting}
-use Rattle.heap_model.specs.Log.{value}
-use Rattle.heap_model.specs.Plain.{log_from}
+use Rattle.heap_model.specs.Log.{value, log_from}
 use Rattle.store_memory.specs.declared.states.FieldState.{FieldState}
 use Rattle.store_past.specs.Past.{Past, has_store, after_log, after_home}
 use Rattle.store_memory.specs.Dirty.{DirtySet, is_dirty_in}

@@ -8,8 +8,8 @@ use Rattle.heap_model.specs.Record.{undo_of}
 use Rattle.heap_model.specs.Log.{lane}
 use Rattle.heap_model.specs.Sections.{Action, Takes, Frees, Stores, action, actions, undo_action, without, holding, ended}
 use Rattle.heap_model.specs.Base.{since}
-use Rattle.heap_model.proofs.Lanes.{ended_in_lane}
-use Rattle.heap_model.proofs.Stores.{ended_rises}
+use Rattle.cut_laws.proofs.Lanes.{ended_in_lane}
+use Rattle.cut_laws.proofs.Stores.{ended_rises}
 use Rattle.dependence.specs.Counts.{held_after, ended_after, IsHeldBy}
 use Rattle.dependence.specs.Next.{IsNext}
 use Rattle.dependence.proofs.Counted.{without_length}

@@ -10,16 +10,15 @@ use Rattle.heap_model.specs.declared.record.Record.TheVariants.{Acq, Rel, WaitRe
 use Rattle.heap_model.specs.declared.record.LaneRecord.{LaneRecord}
 use Rattle.heap_model.specs.Record.{undo_of}
 use Rattle.heap_model.specs.Setting.{Setting}
-use Rattle.heap_model.specs.Log.{lane, IsLegal, IsRecordOf}
+use Rattle.heap_model.specs.Log.{lane, IsLegal, IsRecordOf, log_from}
 use Rattle.heap_model.specs.Sections.{Action, action, actions, undo_action, holding, ended, Section, DependsOn, Earlier, Took}
 use Rattle.heap_model.specs.Cuts.{Counts, IsWhole, IsClosed, IsStable}
 use Rattle.heap_model.specs.Base.{since}
-use Rattle.heap_model.specs.Plain.{log_from}
-use Rattle.heap_model.proofs.Lanes.{lane_append, ended_in_lane}
-use Rattle.heap_model.proofs.Stays.{cut_stays}
-use Rattle.heap_model.proofs.Stores.{ended_rises}
-use Rattle.heap_model.proofs.Next.{legal_before}
-use Rattle.heap_model.proofs.Trimmed.{since_counts, trim_stable}
+use Rattle.cut_laws.proofs.Lanes.{lane_append, ended_in_lane}
+use Rattle.cut_laws.proofs.Stays.{cut_stays}
+use Rattle.cut_laws.proofs.Stores.{ended_rises}
+use Rattle.cut_laws.proofs.Next.{legal_before}
+use Rattle.cut_laws.proofs.Trimmed.{since_counts, trim_stable}
 use Rattle.dependence.specs.Counts.{IsHeldBy}
 use Rattle.dependence.specs.Trace.{Trace, base_of, sections_of, IsStableOf}
 use Rattle.dependence.specs.Next.{IsNext, IsObjectBelow}

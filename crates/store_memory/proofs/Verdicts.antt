@@ -6,9 +6,8 @@ use Rattle.heap_model.specs.declared.ids.Lane.{Lane}
 use Rattle.heap_model.specs.declared.record.Record.{Record}
 use Rattle.heap_model.specs.declared.record.Record.TheVariants.{Acq, Rel, WaitRel, Put}
 use Rattle.heap_model.specs.Setting.{Setting}
-use Rattle.heap_model.specs.Log.{lane, holder, IsAllowed, MayFollow, IsRecordOf}
+use Rattle.heap_model.specs.Log.{lane, holder, IsAllowed, MayFollow, IsRecordOf, log_from}
 use Rattle.heap_model.specs.Sections.{action, actions, holding}
-use Rattle.heap_model.specs.Plain.{log_from}
 use Rattle.store_past.specs.declared.error.StoreError.{StoreError}
 use Rattle.store_past.specs.declared.error.StoreError.TheVariants.{Failed, BadLane, BadId, Worn, NotNext, TooLong, LogFull, Unwritten, Fault, Unfinished}
 use Rattle.store_memory.specs.declared.states.MonitorState.{MonitorState}

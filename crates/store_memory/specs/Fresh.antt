@@ -4,8 +4,7 @@ use Rattle.heap_model.specs.declared.record.Record.{Record}
 use Rattle.heap_model.specs.declared.record.LaneRecord.{LaneRecord}
 use Rattle.heap_model.specs.declared.record.UndoRecord.{UndoRecord}
 use Rattle.heap_model.specs.Record.{undo_of}
-use Rattle.heap_model.specs.Log.{lane}
-use Rattle.heap_model.specs.Plain.{log_from}
+use Rattle.heap_model.specs.Log.{lane, log_from}
 
 -- the records in the order applied, of so many lanes, and for how many of each lane there is room
 pub record FreshRecords : Type 0 where

@@ -1,9 +1,8 @@
 -- When a memory is that of a past (this project's own).
 use Rattle.std.specs.Prelude.{ℕ, ◌≡◌, ◌<◌, ◌≤◌, ◌==◌, if◌then◌else◌, List, [], ◌∷◌, length}
 use Rattle.heap_model.specs.Setting.{Setting}
-use Rattle.heap_model.specs.Log.{lane, holder, number, value, awaited, IsLegal}
+use Rattle.heap_model.specs.Log.{lane, holder, number, value, awaited, IsLegal, log_from}
 use Rattle.heap_model.specs.Sections.{Action, actions, holding}
-use Rattle.heap_model.specs.Plain.{log_from}
 use Rattle.store_memory.specs.declared.states.LaneState.{LaneState}
 use Rattle.store_past.specs.Past.{Past, applied}
 use Rattle.store_memory.specs.Dirty.{is_dirty_in}

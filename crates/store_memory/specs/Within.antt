@@ -5,7 +5,7 @@ use Rattle.store_memory.specs.declared.applied.Applied.TheInside.{Inside}
 use Rattle.store_past.specs.Past.{Past}
 use Rattle.store_memory.specs.Memory.{Memory, lane_in}
 use Rattle.store_memory.specs.Remembers.{Remembers}
-use Rattle.heap_model.specs.Plain.{log_from}
+use Rattle.heap_model.specs.Log.{log_from}
 use Rattle.store_memory.specs.Limits.{IsWithin, FitWords}
 
 -- the plain data of the fields

@@ -2,8 +2,7 @@
 
 ghost use Rattle.std.specs.Prelude.{◌≡◌, ◌+◌, ◌^◌, ◌<◌, ◌≤◌, ◌↔◌, ℕ, false, length, slice_index, IsTrue, IfOk, OnOk, OnErr, MatchOption};
 ghost use Rattle.heap_model.specs.Setting.{Setting};
-ghost use Rattle.heap_model.specs.Log.{value as value_of};
-ghost use Rattle.heap_model.specs.Plain.{log_from};
+ghost use Rattle.heap_model.specs.Log.{value as value_of, log_from};
 ghost use Rattle.store_past.specs.Past.{Past, applied, no_past, after_apply, after_log, after_home, after_trim};
 ghost use Rattle.store_memory.specs.Memory.{field_in, lane_in, guard_in, value_in, KeepsLayout};
 ghost use Rattle.store_memory.specs.Remembers.{Remembers, place_of, held_of};

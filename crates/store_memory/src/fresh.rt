@@ -1,8 +1,7 @@
 //! The records that were applied and not yet logged.
 
 ghost use Rattle.std.specs.Prelude.{◌≡◌, ◌+◌, ◌*◌, ◌^◌, ◌<◌, ◌≤◌, ◌∷◌, [], ◌++◌, ℕ, length, slice_index, slice_set, IfOk};
-ghost use Rattle.heap_model.specs.Log.{lane as lane_of};
-ghost use Rattle.heap_model.specs.Plain.{log_from};
+ghost use Rattle.heap_model.specs.Log.{lane as lane_of, log_from};
 ghost use Rattle.store_memory.specs.Fresh.{undo_log_of};
 
 use heap_model::{Lane, LaneRecord, ObjectId, Record, UndoRecord};

@@ -1,8 +1,7 @@
 //! What becomes of fields when records are logged.
 
 ghost use Rattle.std.specs.Prelude.{◌≡◌, ◌<◌, ◌∷◌, [], ℕ, true, if◌then◌else◌, length};
-ghost use Rattle.heap_model.specs.Log.{value as value_of};
-ghost use Rattle.heap_model.specs.Plain.{log_from};
+ghost use Rattle.heap_model.specs.Log.{value as value_of, log_from};
 ghost use Rattle.store_past.specs.Past.{has_store};
 ghost use Rattle.store_memory.specs.Memory.{field_in, value_in, guard_in};
 ghost use Rattle.store_memory.specs.Dirty.{is_dirty_in};

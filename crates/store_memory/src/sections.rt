@@ -3,10 +3,9 @@
 ghost use Rattle.std.specs.Prelude.{◌≡◌, ◌≤◌, ◌∷◌, [], ◌++◌, ◌↔◌, ℕ, List, IsTrue, IfOk, slice_index};
 ghost use Rattle.heap_model.specs.declared.record.Record.{Record as AnyRecord};
 ghost use Rattle.heap_model.specs.Setting.{Setting};
-ghost use Rattle.heap_model.specs.Log.{lane as lane_of};
+ghost use Rattle.heap_model.specs.Log.{lane as lane_of, log_from};
 ghost use Rattle.heap_model.specs.Sections.{actions, ended};
 ghost use Rattle.heap_model.specs.Cuts.{counts_of, IsStable};
-ghost use Rattle.heap_model.specs.Plain.{log_from};
 ghost use Rattle.store_memory.specs.Sections.{place_behind, TellsSections, MayBeLogged};
 ghost use Rattle.store_memory.specs.Trimming.{MayForget};
 

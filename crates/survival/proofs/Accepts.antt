@@ -11,10 +11,10 @@ use Rattle.heap_model.specs.Log.{lane, holder, IsLegal}
 use Rattle.heap_model.specs.Sections.{actions, holding, ended, undo_action}
 use Rattle.heap_model.specs.Cuts.{IsWhole, IsClosed}
 use Rattle.heap_model.specs.Base.{records_since, records_until}
-use Rattle.heap_model.proofs.Chain.{In, holds_in}
-use Rattle.heap_model.proofs.Next.{legal_before}
-use Rattle.heap_model.proofs.Rebase.{until_ends}
-use Rattle.heap_model.proofs.Reorder.{rest_after_until}
+use Rattle.cut_laws.proofs.Chain.{In, holds_in}
+use Rattle.cut_laws.proofs.Next.{legal_before}
+use Rattle.history_laws.proofs.Rebase.{until_ends}
+use Rattle.history_laws.proofs.Reorder.{rest_after_until}
 use Rattle.block_disk.specs.Device.{Device}
 use Rattle.block_disk.specs.Images.{Always}
 use Rattle.image.specs.Guards.{HasGuards}

@@ -8,14 +8,14 @@ use Rattle.heap_model.specs.declared.record.Record.{Record}
 use Rattle.heap_model.specs.declared.record.Record.TheVariants.{Acq, Rel, WaitRel, Put}
 use Rattle.heap_model.specs.Setting.{Setting}
 use Rattle.heap_model.specs.History.{log_of}
-use Rattle.heap_model.specs.Laws.{LogLaw, OrderLaw}
+use Rattle.history_laws.specs.Laws.{LogLaw, OrderLaw}
 use Rattle.heap_model.specs.Log.{lane, number, IsLegal, IsLaneWisePrefix}
 use Rattle.heap_model.specs.Sections.{Action, Takes, Frees, Stores, action, actions, ended, Section, Did, Earlier, Took}
 use Rattle.heap_model.specs.Cuts.{Counts, IsWhole, IsClosed}
-use Rattle.heap_model.proofs.Chain.{took_had, Freed, freed_below}
-use Rattle.heap_model.proofs.Lanes.{lane_actions, lane_append}
-use Rattle.heap_model.proofs.Next.{freed_past, legal_before}
-use Rattle.heap_model.proofs.Stores.{ended_rises}
+use Rattle.cut_laws.proofs.Chain.{took_had, Freed, freed_below}
+use Rattle.cut_laws.proofs.Lanes.{lane_actions, lane_append}
+use Rattle.cut_laws.proofs.Next.{freed_past, legal_before}
+use Rattle.cut_laws.proofs.Stores.{ended_rises}
 use Rattle.durable.specs.Calls.{MakeAll, Makes}
 use Rattle.durable.specs.declared.store_call.StoreCall.{StoreCall}
 use Rattle.durable.specs.declared.store_call.StoreCall.TheVariants.{Apply, Log, Home as HomeStep, Settle, Trim}

@@ -6,7 +6,7 @@ use Rattle.std.proofs.lemmas.List.Elements.{Contains-append_right}
 use Rattle.std.proofs.Math.Seq.{split_at}
 use Rattle.std.specs.Prelude.{take, drop}
 use Rattle.heap_model.specs.Log.{lane}
-use Rattle.heap_model.proofs.Lanes.{lane_append}
+use Rattle.cut_laws.proofs.Lanes.{lane_append}
 
 pub lane_own : {A : Type 0} → (l m : ℕ) (r : A) (older : List (ℕ × A)) → m ≡ l → lane l ((m, r) ∷ older) ≡ r ∷ lane l older
 lane_own {A} l m r older same = elim (eqb_tells m l) [

@@ -7,7 +7,7 @@ use Rattle.heap_model.specs.Sections.{Action, ended, undo_action, Section}
 use Rattle.heap_model.specs.Cuts.{IsStable}
 use Rattle.heap_model.specs.declared.ids.FieldId.{FieldId}
 use Rattle.heap_model.specs.declared.record.UndoRecord.{UndoRecord}
-use Rattle.heap_model.proofs.Existence.{stable_exists}
+use Rattle.cut_laws.proofs.Existence.{stable_exists}
 use Rattle.image.specs.declared.lane_row.LaneRow.{LaneRow}
 use Rattle.live_logs.specs.Replay.{Replays}
 use Rattle.recover.specs.Dropping.{acts_in, live_sections, sections_after, settled_sections, trimmed_sections, unsettled_sections, AreDropped, AreEntriesOf, IsEntryOf}

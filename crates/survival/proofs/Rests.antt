@@ -12,11 +12,11 @@ use Rattle.heap_model.specs.Log.{lane}
 use Rattle.heap_model.specs.Sections.{Action, Takes, Frees, action, actions, holding, ended, undo_action, Section, Did, Took}
 use Rattle.heap_model.specs.Cuts.{Counts, IsWhole, IsClosed}
 use Rattle.heap_model.specs.Base.{records_since, records_until}
-use Rattle.heap_model.proofs.Lanes.{lane_actions}
-use Rattle.heap_model.proofs.Stores.{ended_rises}
-use Rattle.heap_model.proofs.Trimmed.{ends_free}
-use Rattle.heap_model.proofs.Reorder.{split_lane}
-use Rattle.heap_model.proofs.Rebase.{ended_add, until_ends}
+use Rattle.cut_laws.proofs.Lanes.{lane_actions}
+use Rattle.cut_laws.proofs.Stores.{ended_rises}
+use Rattle.cut_laws.proofs.Trimmed.{ends_free}
+use Rattle.history_laws.proofs.Reorder.{split_lane}
+use Rattle.history_laws.proofs.Rebase.{ended_add, until_ends}
 use Rattle.undo_log.specs.Dropped.{undo_logs, records_in}
 use Rattle.undo_log.proofs.Back.{actions_undo}
 use Rattle.store_image.proofs.Places.{records_within, past_sections, ended_undo, base_place, cut_place}

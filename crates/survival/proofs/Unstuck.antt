@@ -12,9 +12,9 @@ use Rattle.heap_model.specs.declared.record.UndoRecord.TheVariants as undo
 use Rattle.heap_model.specs.Setting.{Setting}
 use Rattle.heap_model.specs.Events.{lane_number}
 use Rattle.heap_model.specs.Log.{lane, holder, number, awaited, MayFollow, IsAllowed, IsLegal, IsLaneWisePrefix}
-use Rattle.heap_model.proofs.Lanes.{lane_append}
-use Rattle.heap_model.proofs.Next.{legal_before, number_rises}
-use Rattle.heap_model.proofs.NextStore.{awaited_in, awaited_is, next_legal}
+use Rattle.cut_laws.proofs.Lanes.{lane_append}
+use Rattle.cut_laws.proofs.Next.{legal_before, number_rises}
+use Rattle.history_laws.proofs.NextStore.{awaited_in, awaited_is, next_legal}
 use Rattle.live_logs.specs.Replay as replay
 use Rattle.live_logs.specs.Replay.{BeginsAt, IsNext, GoesOn, IsGreedy, IsReplay, IsStuckAt}
 use Rattle.survival.proofs.LaneParts.{lane_own, lane_other, lane_map, Found, found, Within, within, there, contains_more, contains_older, ends_with, same_end}

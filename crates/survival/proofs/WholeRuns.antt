@@ -24,7 +24,7 @@ use Rattle.durable.specs.declared.store_call.StoreCall.{StoreCall}
 use Rattle.durable.specs.declared.store_call.StoreCall.TheVariants.{Apply, Log, Settle, Trim}
 use Rattle.durable.specs.declared.store_call.StoreCall.TheVariants.{Home as HomeStep}
 use Rattle.durable.proofs.Pasts.{past_apply, past_home, past_log}
-use Rattle.heap_model.proofs.Stays.{cut_stays}
+use Rattle.cut_laws.proofs.Stays.{cut_stays}
 use Rattle.durable.proofs.Showing.{undone_beyond, of_lanes_before, past_settle, past_trim, logged_heap}
 use Rattle.survival.specs.Accepted.{IsLeftBy}
 use Rattle.survival.specs.Again.{AreCutOff, Attempt, HasStudyLaw, IsKept, ByStore, KeptAcceptedLaw, KeptHeapLaw, KeptOnLaw, KeptReportLaw, SurvivesAgain, TellsAgain, TriedLaw}

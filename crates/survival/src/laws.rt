@@ -6,7 +6,7 @@ ghost use Rattle.survival.specs.Unsettled.{UnsettledLaw};
 ghost use Rattle.survival.specs.Sides.{SidesLaw};
 ghost use Rattle.survival.specs.Again.{HasStudyLaw, KeptAcceptedLaw, KeptAgainLaw, KeptHeapLaw, KeptOnLaw, KeptReportLaw, TriedLaw};
 
-use heap_model::{log_law, order_law};
+use history_laws::{log_law, order_law};
 use recover::{one_study_law, studied_law};
 
 /// No image that a store leaves is refused, whatever a crash left of its device. Only the device can fail, and memory be wanting.

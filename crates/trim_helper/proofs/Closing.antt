@@ -8,13 +8,14 @@ use Rattle.heap_model.specs.Setting.{Setting}
 use Rattle.heap_model.specs.History.{state_after, log_of}
 use Rattle.heap_model.specs.Own.{own_log}
 use Rattle.heap_model.specs.Log.{lane, IsLegal}
-use Rattle.heap_model.specs.Laws.{LogLaw, OwnLogLaw, NextLaw, OrderLaw, OneStableLaw}
-use Rattle.heap_model.specs.SectionLaws.{AllKeptLaw}
+use Rattle.cut_laws.specs.Laws.{OneStableLaw}
+use Rattle.history_laws.specs.Laws.{LogLaw, OwnLogLaw, NextLaw, OrderLaw}
+use Rattle.history_laws.specs.SectionLaws.{AllKeptLaw}
 use Rattle.heap_model.specs.Sections.{Action, action, actions, holding, ended}
 use Rattle.heap_model.specs.Cuts.{IsStable, all_ended}
 use Rattle.heap_model.specs.KeptHeap.{kept_value}
-use Rattle.heap_model.proofs.Lanes.{lane_actions}
-use Rattle.heap_model.proofs.Logged.{value_log}
+use Rattle.cut_laws.proofs.Lanes.{lane_actions}
+use Rattle.history_laws.proofs.Logged.{value_log}
 use Rattle.block_disk.specs.Device.{Device}
 use Rattle.block_disk.specs.Images.{Always}
 use Rattle.block_disk.proofs.Images.{always_weaker}

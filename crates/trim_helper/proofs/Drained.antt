@@ -8,7 +8,7 @@ use Rattle.heap_model.specs.Setting.{Setting}
 use Rattle.heap_model.specs.History.{log_of}
 use Rattle.heap_model.specs.Own.{own_log}
 use Rattle.heap_model.specs.Log.{lane}
-use Rattle.heap_model.specs.Laws.{LogLaw, OwnLogLaw, NextLaw}
+use Rattle.history_laws.specs.Laws.{LogLaw, OwnLogLaw, NextLaw}
 use Rattle.block_disk.specs.Device.{Device}
 use Rattle.store_past.specs.Past.{Past, applied}
 use Rattle.durable.specs.Store.{Known, HasPast}

@@ -7,7 +7,7 @@ use Rattle.heap_model.specs.declared.record.Record.{Record}
 use Rattle.heap_model.specs.Sections.{actions}
 use Rattle.store_image.proofs.Growing.{places_grown}
 use Rattle.heap_model.specs.Cuts.{IsStable}
-use Rattle.heap_model.specs.Laws.{StayLaw}
+use Rattle.cut_laws.specs.Laws.{StayLaw}
 use Rattle.block_disk.specs.Device.{Device, HasCause}
 use Rattle.block_disk.specs.Images.{LeavesOnly}
 use Rattle.block_disk.proofs.Images.{and_then, weaker}

@@ -8,9 +8,9 @@ use Rattle.heap_model.specs.declared.record.Record.{Record}
 use Rattle.heap_model.specs.declared.record.Record.TheVariants.{Acq, Rel, WaitRel, Put}
 use Rattle.heap_model.specs.Setting.{Setting}
 use Rattle.heap_model.specs.Log.{lane, holder, number, IsLegal}
-use Rattle.heap_model.specs.Laws.{NextLaw}
+use Rattle.history_laws.specs.Laws.{NextLaw}
 use Rattle.heap_model.specs.Sections.{Action, action, actions, holding, open_section}
-use Rattle.heap_model.proofs.Lanes.{lane_actions}
+use Rattle.cut_laws.proofs.Lanes.{lane_actions}
 use Rattle.block_disk.specs.Device.{Device}
 use Rattle.store_past.specs.declared.error.StoreError.{StoreError}
 use Rattle.store_past.specs.declared.error.StoreError.TheVariants.{Failed, BadLane, BadId, Worn, NotNext, TooLong, LogFull, Unwritten, Fault, Unfinished}

@@ -11,7 +11,7 @@ ghost use Rattle.trim_helper.specs.Settled.{HasClean, HasSame, IsSettled, IsStop
 
 use block_disk::Disk;
 use durable::{Home, Store, StoreError};
-use heap_model::{stable_law, stay_law};
+use cut_laws::{stable_law, stay_law};
 
 // Writes each dirty field's logged value home.
 fn write_home<D: Disk>(store: &mut Store<D>) -> Result<(), StoreError>

@@ -1,7 +1,7 @@
 use Rattle.std.proofs.Common.{ℕ, ◌≡◌, ◌+◌, ◌-◌, true, false, slice_index, sym, ◌∙◌, ap, arith}
 use Rattle.std.proofs.lemmas.Grind.{get_or_default_zero}
 use Rattle.heap_model.specs.Sections.{undo_action}
-use Rattle.heap_model.specs.Plain.{takes_after}
+use Rattle.cut_laws.specs.Plain.{takes_after}
 use Rattle.dependence.specs.declared.step.Step.{Step}
 use Rattle.dependence.specs.Links.{acts_in, act_at}
 use Rattle.dependence.proofs.Falling.{takes_at}

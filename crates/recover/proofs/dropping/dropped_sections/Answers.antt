@@ -2,7 +2,7 @@ use Rattle.std.proofs.Common.{ℕ, suc, ◌≡◌, ◌+◌, ◌-◌, ◌<◌, �
 use Rattle.heap_model.specs.Sections.{Action, Section}
 use Rattle.heap_model.specs.Cuts.{IsStable}
 use Rattle.heap_model.specs.declared.record.UndoRecord.{UndoRecord}
-use Rattle.heap_model.proofs.Existence.{stable_exists}
+use Rattle.cut_laws.proofs.Existence.{stable_exists}
 use Rattle.image.specs.Rows.{IsRow, empty_row}
 use Rattle.image.specs.declared.lane_row.LaneRow.{LaneRow}
 use Rattle.dependence.specs.Trace.{Trace}

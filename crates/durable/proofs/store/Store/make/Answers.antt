@@ -1,5 +1,5 @@
 use Rattle.std.proofs.Common.{◌≡◌, ◌∙◌, Some, Err, false, refl, sym, ap, subst, arith}
-use Rattle.heap_model.proofs.Existence.{stable_exists}
+use Rattle.cut_laws.proofs.Existence.{stable_exists}
 use Rattle.heap_model.specs.Sections.{actions}
 use Rattle.durable.specs.declared.store_call.StoreCall.{StoreCall}
 use Rattle.durable.specs.Calls.{IsQuiet, Makes, RefusesCall, after_home_step}

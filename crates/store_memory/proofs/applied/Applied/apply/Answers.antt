@@ -2,8 +2,7 @@ use Rattle.std.proofs.Common.{ℕ, ◌≡◌, ◌<◌, ◌≤◌, List, length, 
 use Rattle.std.specs.Vec.{with_items}
 use Rattle.std.proofs.lemmas.List.{with_items_is, length-set}
 use Rattle.heap_model.specs.declared.record.LaneRecord.{LaneRecord}
-use Rattle.heap_model.specs.Log.{lane}
-use Rattle.heap_model.specs.Plain.{log_from}
+use Rattle.heap_model.specs.Log.{lane, log_from}
 use Rattle.store_memory.specs.declared.states.MonitorState.{MonitorState}
 use Rattle.store_memory.specs.declared.states.FieldState.{FieldState}
 use Rattle.store_memory.specs.declared.states.LaneState.{LaneState}

@@ -1,5 +1,5 @@
 use Rattle.std.proofs.Common.{subst}
-use Rattle.heap_model.specs.Plain.{log_from}
+use Rattle.heap_model.specs.Log.{log_from}
 use Rattle.store_memory.specs.Limits.{AreWithin, FitWords}
 use Rattle.store_memory.specs.Memory.{Memory}
 use Rattle.store_memory.proofs.applied.Applied.fresh.Goals as goal

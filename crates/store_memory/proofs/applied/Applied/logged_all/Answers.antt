@@ -2,8 +2,7 @@ use Rattle.std.proofs.Common.{ℕ, ◌≡◌, ◌<◌, true, if◌then◌else◌
 use Rattle.std.specs.Vec.{with_items}
 use Rattle.std.proofs.lemmas.List.{with_items_is}
 use Rattle.heap_model.specs.declared.record.LaneRecord.{LaneRecord}
-use Rattle.heap_model.specs.Log.{value}
-use Rattle.heap_model.specs.Plain.{log_from}
+use Rattle.heap_model.specs.Log.{value, log_from}
 use Rattle.store_memory.specs.declared.states.FieldState.{FieldState}
 use Rattle.store_past.specs.Past.{has_store, after_log}
 use Rattle.store_memory.specs.Dirty.{is_dirty_in}

@@ -1,6 +1,6 @@
 use Rattle.std.proofs.Common.{◌≡◌, List, length, replicate, refl, sym, ◌∙◌, subst}
 use Rattle.heap_model.specs.declared.record.LaneRecord.{LaneRecord}
-use Rattle.heap_model.specs.Plain.{log_from}
+use Rattle.heap_model.specs.Log.{log_from}
 use Rattle.store_memory.specs.Limits.{FitWords}
 use Rattle.store_past.specs.Past.{no_past}
 use Rattle.store_memory.specs.Memory.{Memory, new_monitor, new_lane}

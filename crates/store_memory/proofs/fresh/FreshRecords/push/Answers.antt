@@ -4,8 +4,7 @@ use Rattle.std.proofs.lemmas.List.{with_items_is}
 use Rattle.heap_model.specs.declared.record.LaneRecord.{LaneRecord}
 use Rattle.heap_model.specs.declared.record.UndoRecord.{UndoRecord}
 use Rattle.heap_model.specs.Record.{undo_of}
-use Rattle.heap_model.specs.Log.{lane}
-use Rattle.heap_model.specs.Plain.{log_from}
+use Rattle.heap_model.specs.Log.{lane, log_from}
 use Rattle.store_memory.specs.Fresh.{FreshRecords, IsSorted}
 use Rattle.store_memory.proofs.FreshLaws.{put_room, sorted_push}
 use Rattle.store_memory.proofs.fresh.FreshRecords.push.Goals as goal

@@ -3,7 +3,7 @@ use Rattle.std.proofs.lemmas.List.{take_all}
 use Rattle.heap_model.specs.declared.record.Record.{Record as AnyRecord}
 use Rattle.heap_model.specs.declared.record.Record.TheVariants.{Acq}
 use Rattle.heap_model.specs.declared.record.LaneRecord.{LaneRecord}
-use Rattle.heap_model.specs.Plain.{log_from}
+use Rattle.heap_model.specs.Log.{log_from}
 use Rattle.store_memory.specs.Sections.{TellsSections}
 use Rattle.store_memory.proofs.SectionLaws.{log_more, next_may}
 use Rattle.store_memory.proofs.sections.LoggedSections.push_all.Goals as goal

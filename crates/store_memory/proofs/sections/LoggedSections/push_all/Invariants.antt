@@ -1,7 +1,7 @@
 use Rattle.std.proofs.Common.{ℕ, ◌≡◌, List, ◌++◌, take}
 use Rattle.heap_model.specs.declared.record.Record.{Record as AnyRecord}
 use Rattle.heap_model.specs.Setting.{Setting}
-use Rattle.heap_model.specs.Plain.{log_from}
+use Rattle.heap_model.specs.Log.{log_from}
 use Rattle.store_memory.specs.Sections.{TellsSections, MayBeLogged}
 use Rattle.store_memory.proofs.sections.LoggedSections.push_all.Given as goal
 

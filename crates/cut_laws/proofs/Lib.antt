@@ -1,0 +1,13 @@
+pub mod Cuts
+pub mod Stores
+pub mod Lanes
+pub mod Chain
+pub mod Trimmed
+pub mod PartTrimmed
+pub mod Next
+pub mod Stays
+pub mod Greatest
+pub mod PlainStable
+pub mod Existence
+pub mod Held
+pub mod Numbered

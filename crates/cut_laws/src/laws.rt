@@ -1,0 +1,24 @@
+//! The laws of cuts. Each is the contract of a function that does nothing, so that the gate proves it.
+
+ghost use Rattle.cut_laws.specs.Laws.{UnionLaw, StableLaw, OneStableLaw, StayLaw, PartTrimLaw};
+
+/// The greater of two whole closed cuts, lane by lane, is one.
+pub fn union_law()
+    ensures { UnionLaw }
+{}
+
+/// Each list has just one stable cut.
+pub fn stable_law()
+    ensures exists { StableLaw }
+    ensures one { OneStableLaw }
+{}
+
+/// A whole closed cut stays one as the log grows.
+pub fn stay_law()
+    ensures { StayLaw }
+{}
+
+/// A part of a whole closed cut may be left out: the stable cut of all is that part and the stable cut since.
+pub fn part_trim_law()
+    ensures { PartTrimLaw }
+{}

@@ -1,5 +1,0 @@
-use Rattle.heap_model.proofs.Logged.{log_legal}
-use Rattle.heap_model.proofs.laws.log_law.Goals as goal
-
-pub returns : goal.returns
-returns c s history legal = log_legal s history legal

@@ -1,5 +1,0 @@
-use Rattle.heap_model.proofs.NextStore.{next_legal}
-use Rattle.heap_model.proofs.laws.next_law.Goals as goal
-
-pub returns : goal.returns
-returns c s newer older applied l r legal legal_applied below above at = next_legal s newer older applied l r legal legal_applied below above at

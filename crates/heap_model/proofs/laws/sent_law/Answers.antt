@@ -1,5 +1,0 @@
-use Rattle.heap_model.proofs.Own.{sent_grows}
-use Rattle.heap_model.proofs.laws.sent_law.Goals as goal
-
-pub returns : goal.returns
-returns c g newer older = sent_grows g newer older

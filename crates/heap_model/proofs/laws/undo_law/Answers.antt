@@ -1,5 +1,0 @@
-use Rattle.heap_model.proofs.Undo.{undo_is_kept}
-use Rattle.heap_model.proofs.laws.undo_law.Goals as goal
-
-pub returns : goal.returns
-returns c s log legal cut closed f = undo_is_kept s log cut f legal closed

@@ -1,5 +1,0 @@
-use Rattle.heap_model.proofs.Holding.{are_held}
-use Rattle.heap_model.proofs.own_laws.holding_law.Goals as goal
-
-pub returns : goal.returns
-returns c g history t legal = are_held g history t legal

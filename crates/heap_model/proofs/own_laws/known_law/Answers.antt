@@ -1,5 +1,0 @@
-use Rattle.heap_model.proofs.Known.{known}
-use Rattle.heap_model.proofs.own_laws.known_law.Goals as goal
-
-pub returns : goal.returns
-returns c g history t f v legal is = known g history t f legal v is

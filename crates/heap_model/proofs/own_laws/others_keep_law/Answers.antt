@@ -1,5 +1,0 @@
-use Rattle.heap_model.proofs.Others.{keeps}
-use Rattle.heap_model.proofs.own_laws.others_keep_law.Goals as goal
-
-pub returns : goal.returns
-returns c g s t u e may ne = keeps g s t u e may ne

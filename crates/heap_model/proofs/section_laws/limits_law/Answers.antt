@@ -1,5 +1,0 @@
-use Rattle.heap_model.proofs.Holders.{leaves_room}
-use Rattle.heap_model.proofs.section_laws.limits_law.Goals as goal
-
-pub returns : goal.returns
-returns c acts within = leaves_room acts within

@@ -1,0 +1,16 @@
+pub mod Logged
+pub mod Order
+pub mod Undo
+pub mod NextStore
+pub mod OwnLog
+pub mod Own
+pub mod Known
+pub mod Holding
+pub mod Others
+pub mod OfLanes
+pub mod Earliest
+pub mod Holders
+pub mod AllKept
+pub mod Parts
+pub mod Reorder
+pub mod Rebase
