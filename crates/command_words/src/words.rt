@@ -53,6 +53,10 @@ pub enum Words<'a> {
     },
 }
 
+// What stands at the end of the program's help.
+const EXIT_STATUSES: &str =
+    "Exit status: 0 where all is done; 2 for wrong words, or a schema file or script that is refused; 1 for every other fault, which standard error tells";
+
 // An option that takes the path of a file, and has to be there.
 fn path<'a>(alloc: Global, name: &'a str, about: &'a str) -> Arg<'a>
     ensures rule { rule_of result ≡ path_option name.entry.now }
@@ -190,10 +194,13 @@ fn drive<'a>(alloc: Global) -> Result<Command<'a>, AllocError>
 fn play<'a>(alloc: Global) -> Result<Command<'a>, AllocError>
     ensures { IfOk result (λ command. app_of command ≡ play_words) }
 {
-    let run = Command::new(alloc, "run").about("Plays the script on standard input");
+    let run = Command::new(alloc, "run").about(
+        "Plays the script on standard input, as no word at all does too",
+    );
     let top = Command::new(alloc, "heapctl")
         .version("0.1.0")
         .about("Plays threads on an object heap that survives crashes")
+        .after_help(EXIT_STATUSES)
         .disable_help_subcommand(true);
     top.subcommand(run)
 }
