@@ -1,8 +1,8 @@
 //! What no clause says: that the definitions mean what docs/SCRIPTS.md's examples show, and that the calls succeed.
 
 use cut_laws::plain::{replay, stable_cut};
-use history_laws::earliest_law;
 use heap_model::{Cut, FieldId, LANES, Lane, LaneRecord, ObjectId, Record, UndoRecord};
+use history_laws::earliest_law;
 use std::alloc::Global;
 
 fn acq(lane: u8, object: u32, number: u64) -> LaneRecord {

@@ -22,10 +22,10 @@ use crate::rings::RING_RECORDS;
 use crate::serving::Serving;
 use crate::settling::settle_applied;
 use block_disk::Disk;
-use durable::Store;
 use cut_laws::stable_law;
-use history_laws::{all_kept_law, log_law, next_law, order_law, own_log_law};
+use durable::Store;
 use heap_model::{Lane, Record};
+use history_laws::{all_kept_law, log_law, next_law, order_law, own_log_law};
 use monitor::{Finals, HelperSeat, Shared};
 use rtrb::Consumer;
 

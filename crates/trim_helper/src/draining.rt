@@ -15,8 +15,8 @@ ghost use Rattle.trim_helper.specs.Taken.{Advances, HasTaken, IsLaneStuck};
 use crate::rings::{RING_RECORDS, fetch, let_go, look};
 use block_disk::Disk;
 use durable::{Store, StoreError};
-use history_laws::{log_law, next_law, own_log_law};
 use heap_model::{Lane, Record};
+use history_laws::{log_law, next_law, own_log_law};
 use rtrb::Consumer;
 
 /// Applies the lane's next record, if one is known and it is next. Answers whether it did.

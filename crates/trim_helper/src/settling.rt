@@ -10,8 +10,8 @@ ghost use Rattle.durable.specs.Store.{HasPast};
 ghost use Rattle.trim_helper.specs.Settled.{HasClean, HasSame, IsSettled, IsStop, IsWhy, StandsForRound};
 
 use block_disk::Disk;
-use durable::{Home, Store, StoreError};
 use cut_laws::{stable_law, stay_law};
+use durable::{Home, Store, StoreError};
 
 // Writes each dirty field's logged value home.
 fn write_home<D: Disk>(store: &mut Store<D>) -> Result<(), StoreError>
