@@ -1,5 +1,5 @@
 -- What a step of the monitor makes of the view that a session sees.
-use Rattle.std.proofs.Common.{ℕ, ◌≡◌, ◌≢◌, ◌+◌, ◌-◌, ◌<◌, ◌≤◌, ◌⊎◌, if◌then◌else◌, List, [], ◌∷◌, ◌++◌, Option, Some, None, option_map, refl, sym, ap, ◌∙◌, subst, inl, inr, ⊎_elim, arith}
+use Rattle.std.proofs.Common.{ℕ, ◌≡◌, ◌≢◌, ◌+◌, ◌-◌, ◌<◌, ◌≤◌, ◌⊎◌, ◌==◌, if◌then◌else◌, List, [], ◌∷◌, ◌++◌, length, Option, Some, None, option_map, refl, sym, ap, ◌∙◌, subst, inl, inr, ⊎_elim, arith}
 use Rattle.heap_model.specs.declared.ids.ObjectId.{ObjectId}
 use Rattle.heap_model.specs.declared.ids.Lane.{Lane}
 use Rattle.heap_model.specs.declared.event.Event.{Event}
@@ -17,7 +17,7 @@ use Rattle.monitor.specs.declared.view.Named.{Named}
 use Rattle.monitor.specs.declared.view.Mark.{Mark}
 use Rattle.monitor.specs.declared.view.Mark.TheVariants.{Clear, Joined, Knows, Removed}
 use Rattle.monitor.specs.Words.{SLOTS, setting_of}
-use Rattle.monitor.specs.Views.{calm, noted, slot_of, word_of, lane_of, told, resumed, fattened, counted, joined, removed, keeping, Stands}
+use Rattle.monitor.specs.Views.{calm, noted, slot_of, word_of, first_of, met_at, lane_of, told, resumed, fattened, counted, joined, removed, keeping, Stands}
 use Rattle.monitor.specs.Views as raw_views
 use Rattle.lock_word.specs.Spelling.{lane_of_thread, slot_named, fat_sight, sight_of}
 use Rattle.monitor.specs.Kinds.{looked, IsNews}
@@ -294,13 +294,23 @@ agrees_through v w o (thin.Fat j n) y i is st s = agrees_fat v w o y is st
 not_own : (v : raw.View) (o : ObjectId) (t a m : ℕ) → Stands (told v (Look o (Found (Some (record { 0 = t - 1 })) (a + 1) m))) → (own v.events).hold o.0 ≡ None → lane_of_thread t ≢ lane_of v
 not_own v o t a m st free me = some_none (record { count = a + 1; number = m }) (sym (look_law v o (lane_of_thread t) (a + 1) m me st) ∙ free)
 
-thin_missed : (v : raw.View) (o : ObjectId) (n : ℕ) (x : Shape) → IsNews v o x → Stands (looked v o x) → x ≢ thin.Free n → (own v.events).hold o.0 ≡ None → Misses (shown v) (shown (looked v o x)) o n (seen.Lock x)
-thin_missed v o n (thin.Free m) news st ne free = record { told = after_told v (looked v o (thin.Free m)) (Look o (Found None 0 m)) refl; another = λ e. ne (ap thin.Free e) }
-thin_missed v o n (thin.Thin t a m) news st ne free = record { told = after_told v (looked v o (thin.Thin t a m)) (Look o (Found (Some (record { 0 = t - 1 })) (a + 1) m)) refl; another = not_own v o t a m st free }
-thin_missed v o n (thin.Fat i m) news st ne free = record { told = after_named v (fattened v o i m) o i m refl news; another = slot_here v o i m }
+-- of an object of which no slot was known it isn't known since when
+met_none : (o : ℕ) (fats : List Named) → slot_of o fats ≡ None → met_at o fats ≡ None
+met_none o [] e = refl
+met_none o (f ∷ fs) e = by_test f.object.0 o (λ b. (if b then Some f.slot else slot_of o fs) ≡ None → first_of (met_at o fs) (if b then Some f.since else None) ≡ None)
+    (λ _ some. absurd (some_none f.slot some)) (λ _ none. ap (λ z. first_of z None) (met_none o fs none)) e
 
-pub misses_thin : (v w : raw.View) (o : ObjectId) (n : ℕ) (x : Shape) → w ≡ looked v o x → IsNews v o x → Stands w → x ≢ thin.Free n → (own v.events).hold o.0 ≡ None → Misses (shown v) (shown w) o n (seen.Lock x)
-misses_thin v w o n x is news st ne free = subst (λ (z : raw.View). Misses (shown v) (shown z) o n (seen.Lock x)) (sym is) (thin_missed v o n x news (subst Stands is st) ne free)
+-- a monitor of which no slot was known is met now
+met_here : (v : raw.View) (o : ObjectId) (i n : ℕ) → slot_of o.0 v.fats ≡ None → met_at o.0 (fattened v o i n).fats ≡ Some (length v.events)
+met_here v o i n none = ap (λ z. first_of z (if o.0 == o.0 then Some (length v.events) else None)) (met_none o.0 v.fats none) ∙ by_test o.0 o.0 (λ b. (if b then Some (length v.events) else None) ≡ Some (length v.events)) (λ _. refl) (λ ne. absurd (ne refl))
+
+thin_missed : (v : raw.View) (o : ObjectId) (n : ℕ) (x : Shape) → IsNews v o x → Stands (looked v o x) → x ≢ thin.Free n → (own v.events).hold o.0 ≡ None → slot_of o.0 v.fats ≡ None → Misses (shown v) (shown (looked v o x)) o n (seen.Lock x)
+thin_missed v o n (thin.Free m) news st ne free none = record { told = after_told v (looked v o (thin.Free m)) (Look o (Found None 0 m)) refl; another = (λ e. ne (ap thin.Free e), none) }
+thin_missed v o n (thin.Thin t a m) news st ne free none = record { told = after_told v (looked v o (thin.Thin t a m)) (Look o (Found (Some (record { 0 = t - 1 })) (a + 1) m)) refl; another = (not_own v o t a m st free, none) }
+thin_missed v o n (thin.Fat i m) news st ne free none = record { told = after_named v (fattened v o i m) o i m refl news; another = (slot_here v o i m, met_here v o i m none) }
+
+pub misses_thin : (v w : raw.View) (o : ObjectId) (n : ℕ) (x : Shape) → w ≡ looked v o x → IsNews v o x → Stands w → x ≢ thin.Free n → (own v.events).hold o.0 ≡ None → slot_of o.0 v.fats ≡ None → Misses (shown v) (shown w) o n (seen.Lock x)
+misses_thin v w o n x is news st ne free none = subst (λ (z : raw.View). Misses (shown v) (shown z) o n (seen.Lock x)) (sym is) (thin_missed v o n x news (subst Stands is st) ne free none)
 
 fat_missed : (v : raw.View) (o : ObjectId) (n : ℕ) (y : FatShape) → Stands (told v (Look o (fat_sight y))) → y ≢ fat.Free n → (own v.events).hold o.0 ≡ None → Misses (shown v) (shown (told v (Look o (fat_sight y)))) o n (seen.Fat y)
 fat_missed v o n (fat.Free m) st ne free = record { told = after_told v (told v (Look o (fat_sight (fat.Free m)))) (Look o (Found None 0 m)) refl; another = λ e. ne (ap fat.Free e) }
