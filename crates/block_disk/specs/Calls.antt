@@ -2,11 +2,12 @@
 use Rattle.std.specs.Prelude.{◌≡◌, ◌⊎◌, ℕ, ◌<◌, List, [], ◌∷◌, length, fold, All}
 use Rattle.block_disk.specs.Memory.{Stop, Wrote, WriteFailed, Synced, SyncFailed, Fits, HasJustFailed, bytes_after}
 use Rattle.block_disk.specs.declared.call.Call.{Call}
-use Rattle.block_disk.specs.declared.call.Call.TheVariants.{Write, FailedWrite, Sync, FailedSync}
+use Rattle.block_disk.specs.declared.call.Call.TheVariants.{Write, ShortWrite, FailedWrite, Sync, FailedSync}
 
 -- the stop that a kept call is
 abbrev pub stop_of : Call → Stop
 stop_of (Write at bytes) = Wrote at bytes.items
+stop_of (ShortWrite at bytes) = Wrote at bytes
 stop_of (FailedWrite at len) = WriteFailed at len
 stop_of Sync = Synced
 stop_of FailedSync = SyncFailed

@@ -5,12 +5,17 @@ ghost use Rattle.block_disk.specs.Calls.{AllFit, stop_of, stops_of};
 ghost use Rattle.block_disk.specs.Memory.{Fits, Synced, WriteFailed, Wrote, bytes_after};
 
 use crate::place::overwrite;
+use crate::short::ShortBytes;
 use std::alloc::Global;
 
 /// A write or a sync that was asked for. One that failed stored or fixed nothing.
+///
+/// A short write, as that of a log's record, is kept in place: a block of memory for each of them would cost more than
+/// the write.
 #[derive(Drop)]
 pub enum Call {
     Write { at: u64, bytes: Vec<u8> },
+    ShortWrite { at: u64, bytes: ShortBytes },
     FailedWrite { at: u64, len: u64 },
     Sync,
     FailedSync,
@@ -22,7 +27,8 @@ pub fn is_sync(call: &Call) -> bool
 {
     match call {
         Call::Sync => true,
-        Call::Write { .. } | Call::FailedWrite { .. } | Call::FailedSync => false,
+        Call::Write { .. } | Call::ShortWrite { .. } => false,
+        Call::FailedWrite { .. } | Call::FailedSync => false,
     }
 }
 
@@ -63,6 +69,20 @@ pub fn keep_write(alloc: Global, calls: &mut Vec<Call>, at: u64, bytes: &[u8]) -
     ensures kept { stops_of calls.new.items ≡ (if result then Wrote at bytes.now ∷ stops_of calls.old.items else stops_of calls.old.items) }
     ensures fits { (size : ℕ) → at + length bytes.now ≤ size → AllFit size calls.old.items → AllFit size calls.new.items }
 {
+    match ShortBytes::of(bytes) {
+        Some(bytes) => keep(calls, Call::ShortWrite { at, bytes }),
+        None => keep_long_write(alloc, calls, at, bytes),
+    }
+}
+
+// Keeps a write whose bytes take memory of their own.
+fn keep_long_write(alloc: Global, calls: &mut Vec<Call>, at: u64, bytes: &[u8]) -> bool
+    ensures spare { IsTrue result → vec_len calls.new < vec_capacity calls.new }
+    ensures len { ¬ IsTrue result → vec_len calls.new ≡ vec_len calls.old }
+    ensures capacity { vec_capacity calls.old ≤ vec_capacity calls.new }
+    ensures kept { stops_of calls.new.items ≡ (if result then Wrote at bytes.now ∷ stops_of calls.old.items else stops_of calls.old.items) }
+    ensures fits { (size : ℕ) → at + length bytes.now ≤ size → AllFit size calls.old.items → AllFit size calls.new.items }
+{
     match bytes.to_vec(alloc) {
         Ok(bytes) => keep(calls, Call::Write { at, bytes }),
         Err(_) => false,
@@ -74,8 +94,10 @@ fn store_one(call: &Call, image: &mut [u8])
     requires { Fits (length image.old) (stop_of call.now) }
     ensures { image.new ≡ bytes_after image.old (stop_of call.now ∷ []) }
 {
-    if let Call::Write { at, bytes } = call {
-        overwrite(image, *at, bytes);
+    match call {
+        Call::Write { at, bytes } => overwrite(image, *at, bytes),
+        Call::ShortWrite { at, bytes } => overwrite(image, *at, bytes.as_slice()),
+        Call::FailedWrite { .. } | Call::Sync | Call::FailedSync => (),
     }
 }
 

@@ -104,6 +104,9 @@ fn fill_one(call: &Call, byte: u8, image: &mut [u8])
 {
     match call {
         Call::Write { at, bytes } => fill_range(image, *at, bytes.len() as u64, byte),
+        Call::ShortWrite { at, bytes } => {
+            fill_range(image, *at, bytes.as_slice().len() as u64, byte)
+        }
         Call::FailedWrite { at, len } => fill_range(image, *at, *len, byte),
         Call::Sync | Call::FailedSync => (),
     }

@@ -13,6 +13,7 @@ mod error;
 mod laws;
 mod memory;
 mod place;
+mod short;
 
 pub use access::{make_durable, read_within, write_through, write_within};
 pub use crash::Fill;

@@ -1,4 +1,4 @@
-//! Crashes at every stop of two short lives of a disk in memory, with the bytes worked out by hand.
+//! Crashes at every stop of three short lives of a disk in memory, with the bytes worked out by hand.
 ghost use Rattle.std.specs.Prelude.{◌≤◌, length};
 ghost use Rattle.block_disk.specs.Memory.{device_of};
 
@@ -90,6 +90,39 @@ fn overlapping_left(alloc: Global) -> Option<(u64, [bool; 8])> {
 #[test]
 fn a_crash_finds_overlapping_writes_pending_until_the_sync(rt: HostRuntime) {
     assert!(rt; overlapping_left(rt.alloc()) == Some((5, [true; 8])));
+}
+
+// A write of as many bytes as the disk keeps in place, a sync, a write of one byte more, and one of one less over it.
+fn short_and_long(alloc: Global) -> Option<MemDisk> {
+    let mut disk = MemDisk::from_bytes(alloc, &[9; 18]).ok()?;
+    write(&mut disk, 1, &[1; 16]).ok()?;
+    sync(&mut disk).ok()?;
+    write(&mut disk, 0, &[2; 17]).ok()?;
+    write(&mut disk, 3, &[3; 15]).ok()?;
+    Some(disk)
+}
+
+// Its stops, and whether each of them leaves what it is to.
+fn short_and_long_left(alloc: Global) -> Option<(u64, [bool; 4])> {
+    let disk = short_and_long(alloc)?;
+    let first = [9; 18];
+    let synced = [9, 1, 1, 1, 1, 1, 1, 1, 1, 1, 1, 1, 1, 1, 1, 1, 1, 9];
+    let zeros = [9, 0, 0, 0, 0, 0, 0, 0, 0, 0, 0, 0, 0, 0, 0, 0, 0, 9];
+    let third = [2, 2, 2, 2, 2, 2, 2, 2, 2, 2, 2, 2, 2, 2, 2, 2, 2, 9];
+    let third_zeros = [0, 0, 0, 0, 0, 0, 0, 0, 0, 0, 0, 0, 0, 0, 0, 0, 0, 9];
+    let last = [2, 2, 2, 3, 3, 3, 3, 3, 3, 3, 3, 3, 3, 3, 3, 3, 3, 3];
+    let found = [
+        leaves(&disk, 1, &first, &synced, &zeros),
+        leaves(&disk, 2, &first, &synced, &zeros),
+        leaves(&disk, 3, &synced, &third, &third_zeros),
+        leaves(&disk, 4, &synced, &last, &[0; 18]),
+    ];
+    Some((disk.stops(), found))
+}
+
+#[test]
+fn a_crash_finds_short_and_long_writes_alike(rt: HostRuntime) {
+    assert!(rt; short_and_long_left(rt.alloc()) == Some((4, [true; 4])));
 }
 
 // A write, a write and a sync that fail, and a write, with what they answer.
@@ -232,12 +265,12 @@ fn errors_have_texts(rt: HostRuntime) {
     );
 }
 
-// Every third call is a sync, and the others write their number.
+// Every third call is a sync, and the others write their number: into one place, and into more than are kept in place.
 fn one_call(disk: &mut MemDisk, call: u8) -> Answer {
-    if call % 3 == 0 {
-        sync(disk)
-    } else {
-        write(disk, 1, &[call])
+    match call % 3 {
+        0 => sync(disk),
+        1 => write(disk, 1, &[call]),
+        _ => write(disk, 1, &[call; 17]),
     }
 }
 
@@ -258,7 +291,7 @@ fn call_twice(disk: &mut MemDisk, call: u8) -> Option<u64> {
     Some(2)
 }
 
-// How often 40 calls were made: so many that both kinds have to make the record longer.
+// How often 40 calls were made: so many that each kind has to make the record longer.
 fn forty_calls(disk: &mut MemDisk) -> Option<u64> {
     let mut made = 0u64;
     for call in 0u8..40 {
@@ -267,22 +300,30 @@ fn forty_calls(disk: &mut MemDisk) -> Option<u64> {
     Some(made)
 }
 
-fn three_bytes(alloc: Global) -> Option<MemDisk> {
-    MemDisk::from_bytes(alloc, &[1, 2, 3]).ok()
+// Seventeen of these bytes between two others.
+fn framed(byte: u8) -> [u8; 19] {
+    let mut bytes = [byte; 19];
+    bytes[0] = 1;
+    bytes[18] = 3;
+    bytes
+}
+
+fn framed_disk(alloc: Global) -> Option<MemDisk> {
+    MemDisk::from_bytes(alloc, &framed(2)).ok()
 }
 
 // The stops, the calls that were made but for the failures, and whether the disk and a crash have the bytes that they are to.
 fn made_again(alloc: Global) -> Option<([u64; 2], [bool; 2])> {
-    let mut disk = match three_bytes(alloc) {
+    let mut disk = match framed_disk(alloc) {
         Some(disk) => disk,
-        None => three_bytes(alloc)?,
+        None => framed_disk(alloc)?,
     };
     let made = forty_calls(&mut disk)?;
-    let is_left = leaves_with(&disk, 40, Fill::Lost, &[1, 35, 3])
-        || leaves_with(&disk, 40, Fill::Lost, &[1, 35, 3]);
+    let is_left = leaves_with(&disk, 40, Fill::Lost, &framed(35))
+        || leaves_with(&disk, 40, Fill::Lost, &framed(35));
     Some((
         [disk.stops(), made.saturating_sub(disk.failures())],
-        [disk.bytes() == [1, 38, 3].as_slice(), is_left],
+        [disk.bytes() == framed(38).as_slice(), is_left],
     ))
 }
 
@@ -312,9 +353,9 @@ fn stops_as_chosen(disk: &mut MemDisk) -> Option<u8> {
 }
 
 fn chosen_again(alloc: Global) -> Option<u8> {
-    let mut disk = match three_bytes(alloc) {
+    let mut disk = match framed_disk(alloc) {
         Some(disk) => disk,
-        None => three_bytes(alloc)?,
+        None => framed_disk(alloc)?,
     };
     stops_as_chosen(&mut disk)
 }
