@@ -3,7 +3,6 @@ pub mod Knowledge
 pub mod FreeList
 pub mod Calls
 pub mod LaidOut
--- The scaffold: one name, the parts of laying out, and the cells of the tests.
+-- The scaffold: one name, and the parts of laying out.
 pub mod Names
 pub mod Declaring
-pub mod Rows

@@ -14,6 +14,3 @@ mod pool;
 pub use cells::Cells;
 pub use error::PoolError;
 pub use pool::{MOST_SLOTS, Pool, TAKEN};
-
-#[cfg(test)]
-mod tests;

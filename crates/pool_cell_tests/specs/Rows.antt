@@ -1,4 +1,4 @@
--- A plain row of values as cells, for tests: one cell may be broken, and stores may fail.
+-- A plain row of values as cells: one cell may be broken, and stores may fail.
 use Rattle.std.specs.Prelude.{ℕ, ◌==◌, nat_lt, if◌then◌else◌, Bool, List, length, Option, Some, None, slice_get}
 use Rattle.pool.specs.Knowledge.{Knowledge}
 

@@ -1,0 +1,2 @@
+-- What is known of a plain row of cells.
+pub mod Rows
