@@ -5,4 +5,12 @@
 #![tactic(auto)]
 
 #[cfg(test)]
+mod buffered;
+#[cfg(test)]
+mod calls;
+#[cfg(test)]
+mod file;
+#[cfg(test)]
+mod flaky_file;
+#[cfg(test)]
 mod memory;

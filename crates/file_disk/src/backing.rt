@@ -62,14 +62,16 @@ impl BackingFile for File {
     }
 }
 
-/// Reads at a place of what can seek, all bytes of `out`.
-pub(crate) fn read_there<F: Read + Seek>(file: &mut F, at: u64, out: &mut [u8]) -> io::Result<()> {
+/// Reads at a place of what can seek, all bytes of `out`, for a [`BackingFile`]. An interrupted call is made again, and a
+/// short one goes on where it ended.
+pub fn read_there<F: Read + Seek>(file: &mut F, at: u64, out: &mut [u8]) -> io::Result<()> {
     file.seek(SeekFrom::Start(at))?;
     file.read_exact(out)
 }
 
-/// Writes at a place of what can seek, all of the bytes.
-pub(crate) fn write_there<F: Write + Seek>(file: &mut F, at: u64, bytes: &[u8]) -> io::Result<()> {
+/// Writes at a place of what can seek, all of the bytes, for a [`BackingFile`]. An interrupted call is made again, and a
+/// short one goes on where it ended.
+pub fn write_there<F: Write + Seek>(file: &mut F, at: u64, bytes: &[u8]) -> io::Result<()> {
     file.seek(SeekFrom::Start(at))?;
     file.write_all(bytes)
 }

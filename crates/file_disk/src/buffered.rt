@@ -245,6 +245,3 @@ fn write_span<F: BackingFile>(file: &mut F, span: &Span, bytes: &[u8]) -> io::Re
     let start = span.start() as usize;
     file.write_to(span.start(), &bytes[start..start + span.len() as usize])
 }
-
-#[cfg(test)]
-mod tests;

@@ -236,6 +236,3 @@ fn catch_up<F: BackingFile>(
         file.settle()
     }
 }
-
-#[cfg(test)]
-mod tests;

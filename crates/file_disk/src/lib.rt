@@ -2,21 +2,20 @@
 //!
 //! Each takes its bytes and the ranges written since the last sync, and no more, however long it runs. [`BufferedDisk`]
 //! keeps its bytes in memory and brings them to a file at each sync; [`FileDisk`] brings each write there at once and
-//! reads the file; [`VolatileDisk`] has no file. A [`BackingFile`] is what the first two need of a file.
+//! reads the file; [`VolatileDisk`] has no file. A [`BackingFile`] is what the first two need of a file, and [`read_there`]
+//! and [`write_there`] serve whoever makes one of what reads, writes and seeks.
 #![tactic(auto)]
 
 mod backing;
 mod buffered;
 mod error;
 mod file;
-#[cfg(test)]
-mod flaky_file;
 mod span;
 mod trace;
 mod volatile;
 mod whole;
 
-pub use backing::BackingFile;
+pub use backing::{BackingFile, read_there, write_there};
 pub use buffered::BufferedDisk;
 pub use error::FileError;
 pub use file::FileDisk;

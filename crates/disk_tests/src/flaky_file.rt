@@ -1,0 +1,213 @@
+//! A file in memory that fails, is interrupted and moves a byte at a time.
+use file_disk::{BackingFile, read_there, write_there};
+use std::cell::Cell;
+use std::io;
+use std::io::{ErrorKind, Read, Seek, SeekFrom, Write};
+
+// The longest of these files.
+const MOST: usize = 41;
+
+// The bytes of a file, of which there are `len`.
+#[derive(Clone, Copy)]
+struct Content {
+    bytes: [u8; MOST],
+    len: usize,
+}
+
+const EMPTY: Content = Content {
+    bytes: [0; MOST],
+    len: 0,
+};
+
+impl Content {
+    fn as_slice(&self) -> &[u8] {
+        &self.bytes[..self.len.min(MOST)]
+    }
+
+    // Puts a byte there, unless that lies past the longest file.
+    fn put(&mut self, place: usize, byte: u8) -> bool {
+        match self.bytes.get_mut(place) {
+            Some(there) => {
+                *there = byte;
+                self.len = self.len.max(place.saturating_add(1));
+                true
+            }
+            None => false,
+        }
+    }
+}
+
+/// What such a file holds, which a test sees and changes while a disk has the file.
+#[derive(Drop)]
+pub struct Medium {
+    bytes: Cell<Content>,
+    durable: Cell<Content>,
+    // Which call from now on fails (1: the next; 0: none). A write that fails has written its first byte.
+    fails_in: Cell<u64>,
+    writes: Cell<u64>,
+    settles: Cell<u64>,
+}
+
+impl Medium {
+    /// These bytes, of which a file may have 41, all durable.
+    pub fn of(bytes: &[u8]) -> Medium {
+        let mut content = EMPTY;
+        for (place, byte) in bytes.iter().enumerate() {
+            content.put(place, *byte);
+        }
+        Medium {
+            bytes: Cell::new(content),
+            durable: Cell::new(content),
+            fails_in: Cell::new(0),
+            writes: Cell::new(0),
+            settles: Cell::new(0),
+        }
+    }
+
+    /// The file that has them.
+    pub fn file(&self) -> FlakyFile<'_> {
+        FlakyFile {
+            medium: self,
+            place: 0,
+            is_interrupted: false,
+        }
+    }
+
+    /// Makes the call of this number from now on fail.
+    pub fn fail(&self, call: u64) {
+        self.fails_in.set(call);
+    }
+
+    /// Takes from the file what was not synced, as the system may where it could not keep it.
+    pub fn forget(&self) {
+        self.bytes.set(self.durable.get());
+    }
+
+    /// Whether these are the file's bytes.
+    pub fn has(&self, bytes: &[u8]) -> bool {
+        self.bytes.get().as_slice() == bytes
+    }
+
+    /// Whether these are what a crash leaves of it, if the system has written nothing of its own accord.
+    pub fn keeps(&self, bytes: &[u8]) -> bool {
+        self.durable.get().as_slice() == bytes
+    }
+
+    /// The calls that wrote, and those that settled.
+    pub fn calls(&self) -> (u64, u64) {
+        (self.writes.get(), self.settles.get())
+    }
+
+    fn is_due(&self) -> bool {
+        let left = self.fails_in.get();
+        self.fails_in.set(left.saturating_sub(1));
+        left == 1
+    }
+}
+
+fn count(calls: &Cell<u64>) {
+    calls.set(calls.get().saturating_add(1));
+}
+
+// Each read and write moves one byte, and every second one is interrupted.
+#[derive(Drop)]
+pub struct FlakyFile<'a> {
+    medium: &'a Medium,
+    place: usize,
+    is_interrupted: bool,
+}
+
+impl FlakyFile<'_> {
+    fn interrupt(&mut self) -> io::Result<()> {
+        self.is_interrupted = !self.is_interrupted;
+        if self.is_interrupted {
+            return Err(ErrorKind::Interrupted.into());
+        }
+        Ok(())
+    }
+}
+
+impl Read for FlakyFile<'_> {
+    fn read(&mut self, out: &mut [u8]) -> io::Result<usize> {
+        self.interrupt()?;
+        let content = self.medium.bytes.get();
+        let (Some(byte), Some(first)) = (content.as_slice().get(self.place), out.first_mut()) else {
+            return Ok(0);
+        };
+        *first = *byte;
+        self.place = self.place.saturating_add(1);
+        Ok(1)
+    }
+}
+
+impl Write for FlakyFile<'_> {
+    fn write(&mut self, bytes: &[u8]) -> io::Result<usize> {
+        self.interrupt()?;
+        let Some(byte) = bytes.first() else {
+            return Ok(0);
+        };
+        let mut content = self.medium.bytes.get();
+        if !content.put(self.place, *byte) {
+            return Err(ErrorKind::OutOfMemory.into());
+        }
+        self.medium.bytes.set(content);
+        self.place = self.place.saturating_add(1);
+        Ok(1)
+    }
+
+    fn flush(&mut self) -> io::Result<()> {
+        Ok(())
+    }
+}
+
+impl Seek for FlakyFile<'_> {
+    fn seek(&mut self, to: SeekFrom) -> io::Result<u64> {
+        match to {
+            SeekFrom::Start(place) => {
+                self.place = place as usize;
+                Ok(place)
+            }
+            _ => Err(ErrorKind::Unsupported.into()),
+        }
+    }
+}
+
+impl BackingFile for FlakyFile<'_> {
+    fn len(&self) -> io::Result<u64> {
+        Ok(self.medium.bytes.get().len as u64)
+    }
+
+    fn empty(&mut self) -> io::Result<()> {
+        if self.medium.is_due() {
+            return Err(ErrorKind::Other.into());
+        }
+        self.medium.bytes.set(EMPTY);
+        Ok(())
+    }
+
+    fn read_from(&mut self, at: u64, out: &mut [u8]) -> io::Result<()> {
+        if self.medium.is_due() {
+            return Err(ErrorKind::Other.into());
+        }
+        read_there(self, at, out)
+    }
+
+    fn write_to(&mut self, at: u64, bytes: &[u8]) -> io::Result<()> {
+        count(&self.medium.writes);
+        if self.medium.is_due() {
+            let torn = bytes.len().min(1);
+            write_there(self, at, &bytes[..torn])?;
+            return Err(ErrorKind::Other.into());
+        }
+        write_there(self, at, bytes)
+    }
+
+    fn settle(&mut self) -> io::Result<()> {
+        count(&self.medium.settles);
+        if self.medium.is_due() {
+            return Err(ErrorKind::Other.into());
+        }
+        self.medium.durable.set(self.medium.bytes.get());
+        Ok(())
+    }
+}
