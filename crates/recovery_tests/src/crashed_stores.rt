@@ -4,63 +4,45 @@ mod crashes;
 mod faults;
 mod runs;
 
+ghost use Rattle.std.specs.Prelude.{◌≤◌};
+
 use crate::crashed_stores::runs::{
-    Outcome, acq, after, answered, crashed, cut, dropped, new_store, one, put, recovery_of, rel,
-    released, store_on, stored, two, two_stores, wait,
+    Outcome, acq, after, answered, crashed, cut, dropped, kept, left_by, new_store, one, put,
+    recovery_of, rel, released, store_on, stored, two, two_stores, wait,
 };
 use block_disk::{Fill, MemDisk};
 use durable::{StoreCall, StoreError};
-use recover::Why;
-use std::process::Abort;
-use std::test::Fail;
+use recover::{RecoverError, Why};
+use std::alloc::Global;
 use survival::{WholeRun, play_and_recover};
 
 // A section that is logged, written home and acknowledged.
 #[test]
-fn an_acknowledged_section_is_kept(rt: HostRuntime) -> Result<(), Fail> {
-    let left = crashed(rt.alloc(), &stored(), Fill::Lost)?;
-    let wanted = Outcome {
-        kept: cut(1, 0),
-        dropped: [None, None],
-        undone: 0,
-        heap: [5, 20],
-    };
-    assert_eq!(rt; recovery_of(rt.alloc(), left)?, Ok(wanted));
-    Ok(())
+fn an_acknowledged_section_is_kept(rt: HostRuntime) {
+    assert!(rt; left_by(rt.alloc(), &stored()) == Some(Ok(kept(1, 0, [5, 20]))));
 }
 
 // The second section took what the first one freed, and the first one still holds a monitor.
 #[test]
-fn a_section_goes_with_the_unfinished_one_that_it_depends_on(rt: HostRuntime) -> Result<(), Fail> {
-    let left = crashed(rt.alloc(), &two_stores(), Fill::Lost)?;
+fn a_section_goes_with_the_unfinished_one_that_it_depends_on(rt: HostRuntime) {
     let wanted = Outcome {
         kept: cut(0, 0),
         dropped: [dropped(0, 1, Why::Unfinished), dropped(1, 1, after(0, 1))],
         undone: 1,
         heap: [10, 20],
     };
-    assert_eq!(rt; recovery_of(rt.alloc(), left)?, Ok(wanted));
-    Ok(())
+    assert!(rt; left_by(rt.alloc(), &two_stores()) == Some(Ok(wanted)));
 }
 
 // The same two once the first has ended: both are kept.
 #[test]
-fn both_are_kept_once_the_first_has_ended(rt: HostRuntime) -> Result<(), Fail> {
-    let left = crashed(rt.alloc(), &released(), Fill::Lost)?;
-    let wanted = Outcome {
-        kept: cut(1, 1),
-        dropped: [None, None],
-        undone: 0,
-        heap: [2, 20],
-    };
-    assert_eq!(rt; recovery_of(rt.alloc(), left)?, Ok(wanted));
-    Ok(())
+fn both_are_kept_once_the_first_has_ended(rt: HostRuntime) {
+    assert!(rt; left_by(rt.alloc(), &released()) == Some(Ok(kept(1, 1, [2, 20]))));
 }
 
-// Each of two sections takes a monitor that the other one freed. While one is open, neither is kept.
-#[test]
-fn sections_that_depend_on_each_other_are_kept_together(rt: HostRuntime) -> Result<(), Fail> {
-    let calls = [
+// Each of two sections takes a monitor that the other one freed. The last three calls end the second.
+fn circle() -> [StoreCall; 14] {
+    [
         one(acq(0, 0)),
         one(acq(1, 0)),
         one(rel(1, 0)),
@@ -75,29 +57,32 @@ fn sections_that_depend_on_each_other_are_kept_together(rt: HostRuntime) -> Resu
         two(rel(1, 1)),
         StoreCall::Log,
         StoreCall::Settle,
-    ];
+    ]
+}
+
+// What recovery answers while one is open, and then.
+fn left_by_circle(alloc: Global) -> Option<[Option<Result<Outcome, RecoverError>>; 2]> {
+    let calls = circle();
+    let begun = calls.as_slice().get(..11)?;
+    Some([left_by(alloc, begun), left_by(alloc, &calls)])
+}
+
+// While one is open, neither is kept.
+#[test]
+fn sections_that_depend_on_each_other_are_kept_together(rt: HostRuntime) {
     let neither = Outcome {
         kept: cut(0, 0),
         dropped: [dropped(0, 1, after(1, 1)), dropped(1, 1, Why::Unfinished)],
         undone: 0,
         heap: [10, 20],
     };
-    let left = crashed(rt.alloc(), &calls[..11], Fill::Lost)?;
-    assert_eq!(rt; recovery_of(rt.alloc(), left)?, Ok(neither));
-    let both = Outcome {
-        kept: cut(1, 1),
-        dropped: [None, None],
-        undone: 0,
-        heap: [10, 20],
-    };
-    let left = crashed(rt.alloc(), &calls, Fill::Lost)?;
-    assert_eq!(rt; recovery_of(rt.alloc(), left)?, Ok(both));
-    Ok(())
+    let wanted = [Some(Ok(neither)), Some(Ok(kept(1, 1, [10, 20])))];
+    assert!(rt; left_by_circle(rt.alloc()) == Some(wanted));
 }
 
 // A wait inside of a section ends it only where it frees the last monitor.
 #[test]
-fn a_wait_that_holds_another_monitor_ends_no_section(rt: HostRuntime) -> Result<(), Fail> {
+fn a_wait_that_holds_another_monitor_ends_no_section(rt: HostRuntime) {
     let calls = [
         one(acq(0, 0)),
         one(acq(1, 0)),
@@ -111,50 +96,42 @@ fn a_wait_that_holds_another_monitor_ends_no_section(rt: HostRuntime) -> Result<
         undone: 0,
         heap: [10, 20],
     };
-    let left = crashed(rt.alloc(), &calls, Fill::Lost)?;
-    assert_eq!(rt; recovery_of(rt.alloc(), left)?, Ok(wanted));
-    Ok(())
+    assert!(rt; left_by(rt.alloc(), &calls) == Some(Ok(wanted)));
+}
+
+// Whether a section is played, a fault in its logging is told, and recovery finds no section.
+fn told_of_failed_sync(alloc: Global, call: u64) -> Option<[bool; 3]>
+    requires { 1 ≤ call }
+{
+    let mut disk = MemDisk::new(alloc, 130_208).ok()?;
+    disk.fail_call(call);
+    let mut store = store_on(alloc, disk)?;
+    let calls = [one(acq(0, 0)), one(put(0, 10, 5)), one(rel(0, 0))];
+    let played = store.play(&calls) == Ok(());
+    let failed = store.log_step() == Err(StoreError::Fault);
+    let left = recovery_of(alloc, store.into_disk());
+    Some([played, failed, left == Some(Ok(kept(0, 0, [10, 20])))])
 }
 
 // The format takes 13 calls of the device and the section's records 3, so the sync behind them is the 17th.
 #[test]
-fn a_section_whose_sync_failed_is_as_never_logged(rt: HostRuntime) -> Result<(), Fail> {
-    let mut disk = MemDisk::new(rt.alloc(), 130_208)?;
-    disk.fail_call(17);
-    let mut store = store_on(rt.alloc(), disk)?;
-    let calls = [one(acq(0, 0)), one(put(0, 10, 5)), one(rel(0, 0))];
-    assert_eq!(rt; store.play(&calls), Ok(()));
-    assert_eq!(rt; store.log_step(), Err(StoreError::Fault));
-    let wanted = Outcome {
-        kept: cut(0, 0),
-        dropped: [None, None],
-        undone: 0,
-        heap: [10, 20],
-    };
-    assert_eq!(rt; recovery_of(rt.alloc(), store.into_disk())?, Ok(wanted));
-    Ok(())
+fn a_section_whose_sync_failed_is_as_never_logged(rt: HostRuntime) {
+    assert!(rt; told_of_failed_sync(rt.alloc(), 17) == Some([true; 3]));
+}
+
+// Whether a run is played whole, whether recovery keeps both of its sections, and how many calls of the device it made.
+fn told_of_whole_run(alloc: Global) -> Option<(bool, bool, u64)> {
+    let left = crashed(alloc, &released(), Fill::Lost)?;
+    let mut store = new_store(alloc)?;
+    let WholeRun { played, recovered } = play_and_recover(alloc, &mut store, &released(), left);
+    let is_kept = answered(recovered) == Some(Ok(kept(1, 1, [2, 20])));
+    Some((played == Ok(()), is_kept, store.into_disk().stops()))
 }
 
 // A run that is cut off by a crash behind its last call. The device calls of a log step are a write for each record, a
 // sync and a commit, which takes 4 the first time and then 6; those of a settling a sync and a commit.
 #[test]
-fn a_whole_run_is_played_and_recovered(rt: HostRuntime) -> Result<(), Fail> {
-    let left = crashed(rt.alloc(), &released(), Fill::Lost)?;
-    let mut store = new_store(rt.alloc())?;
-    let WholeRun { played, recovered } = play_and_recover(
-        rt.alloc(),
-        &mut store,
-        &released(),
-        left,
-    );
-    assert_eq!(rt; played, Ok(()));
-    let wanted = Outcome {
-        kept: cut(1, 1),
-        dropped: [None, None],
-        undone: 0,
-        heap: [2, 20],
-    };
-    assert_eq!(rt; answered(recovered)?, Ok(wanted));
-    assert_eq!(rt; store.into_disk().stops(), 13 + 12 + 1 + 7 + 8 + 7);
-    Ok(())
+fn a_whole_run_is_played_and_recovered(rt: HostRuntime) {
+    let calls = 13 + 12 + 1 + 7 + 8 + 7;
+    assert!(rt; told_of_whole_run(rt.alloc()) == Some((true, true, calls)));
 }

@@ -4,13 +4,12 @@ mod dropping;
 mod recovering;
 
 use block_disk::{Disk, MemDisk};
+use durable::Store;
 use guards::{Schema, SchemaBuilder};
 use heap_model::{FieldId, Lane, ObjectId, UndoRecord};
-use image::{LaneRow, Layout, write_header};
+use image::{LaneRow, Recovered};
 use recover::{RecoverError, study};
 use std::alloc::Global;
-use std::process::Abort;
-use std::test::Fail;
 use undo_log::encode_record;
 
 // In the image of the common schema: the two lanes' rows in the first slot, and their areas.
@@ -19,7 +18,7 @@ const ROWS_AT: [u64; 2] = [88, 120];
 const AREAS_AT: [u64; 2] = [2208, 66_208];
 
 // Four objects, and a field of each of the first two, which guards it; none where memory is wanting.
-pub(crate) fn schema_or_none(alloc: Global) -> Option<Schema> {
+fn schema_or_none(alloc: Global) -> Option<Schema> {
     let mut builder = SchemaBuilder::new(alloc);
     builder.object("o0").ok()?;
     builder.object("o1").ok()?;
@@ -30,44 +29,44 @@ pub(crate) fn schema_or_none(alloc: Global) -> Option<Schema> {
     builder.build().ok()
 }
 
-// The image of the schema with two lanes of 4,000 records.
-fn fresh(alloc: Global) -> Result<MemDisk, Fail> {
-    let schema = schema_or_none(alloc).ok_or("no schema")?;
-    let layout = Layout::of(&schema, 2, 4000).ok_or("no layout")?;
-    let mut disk = MemDisk::new(alloc, layout.size())?;
-    let Ok(()) = write_header(&mut disk, &layout, &schema) else {
-        return Err(Fail::new("no image"));
-    };
-    Ok(disk)
-}
-
-fn put(disk: &mut MemDisk, at: u64, bytes: &[u8]) -> Result<(), Fail> {
-    match disk.write_at(at, bytes) {
-        Ok(()) => Ok(()),
-        Err(_) => Err(Fail::new("not written")),
+// The image of the schema on this disk, with two lanes of 4,000 records.
+pub(crate) fn formatted(alloc: Global, disk: MemDisk) -> Option<Recovered<MemDisk>> {
+    let schema = schema_or_none(alloc)?;
+    match Store::format(alloc, disk, &schema, 2, 4000) {
+        Ok(made) => Some(made),
+        Err(_) => None,
     }
 }
 
-// Puts a lane's row there, and its records from the area's first place on.
-fn put_log(
-    disk: &mut MemDisk,
-    row_at: u64,
-    area_at: u64,
-    row: LaneRow,
-    records: &[UndoRecord],
-) -> Result<(), Fail> {
+// The same on a disk of its own.
+fn fresh(alloc: Global) -> Option<MemDisk> {
+    let disk = MemDisk::new(alloc, 130_208).ok()?;
+    let made = formatted(alloc, disk)?;
+    Some(made.into_disk())
+}
+
+fn put(disk: &mut MemDisk, at: u64, bytes: &[u8]) -> Option<()> {
+    disk.write_at(at, bytes).ok()
+}
+
+// Puts a lane's row there.
+fn put_row(disk: &mut MemDisk, at: u64, row: LaneRow) -> Option<()> {
     let mut bytes = [0; 32];
     bytes[..8].copy_from_slice(&row.start.to_be_bytes());
     bytes[8..16].copy_from_slice(&row.settled.to_be_bytes());
     bytes[16..24].copy_from_slice(&row.logged.to_be_bytes());
     bytes[24..].copy_from_slice(&row.kept.to_be_bytes());
-    put(disk, row_at, &bytes)?;
-    let mut at = area_at;
+    put(disk, at, &bytes)
+}
+
+// Puts records there, one behind the other.
+fn put_records(disk: &mut MemDisk, from: u64, records: &[UndoRecord]) -> Option<()> {
+    let mut at = from;
     for entry in records {
         put(disk, at, &encode_record(entry))?;
         at = at.wrapping_add(16);
     }
-    Ok(())
+    Some(())
 }
 
 fn row(settled: u64, logged: u64, kept: u64) -> LaneRow {
@@ -113,11 +112,13 @@ fn image_with(
     rows: [LaneRow; 2],
     first: &[UndoRecord],
     second: &[UndoRecord],
-) -> Result<MemDisk, Fail> {
+) -> Option<MemDisk> {
     let mut disk = fresh(alloc)?;
-    put_log(&mut disk, ROWS_AT[0], AREAS_AT[0], rows[0], first)?;
-    put_log(&mut disk, ROWS_AT[1], AREAS_AT[1], rows[1], second)?;
-    Ok(disk)
+    put_row(&mut disk, ROWS_AT[0], rows[0])?;
+    put_records(&mut disk, AREAS_AT[0], first)?;
+    put_row(&mut disk, ROWS_AT[1], rows[1])?;
+    put_records(&mut disk, AREAS_AT[1], second)?;
+    Some(disk)
 }
 
 // Two lanes' logs, and what refuses an image with them, if something does.
@@ -143,19 +144,21 @@ fn told<'a>(
     }
 }
 
-fn is_answered_so(alloc: Global, case: &Case<'_>) -> Result<bool, Fail> {
-    let mut disk = image_with(alloc, case.rows, case.first, case.second)?;
-    Ok(refused_by(alloc, &mut disk) == case.why)
+fn is_answered_so(alloc: Global, case: Case<'_>) -> bool {
+    match image_with(alloc, case.rows, case.first, case.second) {
+        Some(mut disk) => refused_by(alloc, &mut disk) == case.why,
+        None => false,
+    }
 }
 
 // Which of these images is answered otherwise, if one is.
-fn other_answer(alloc: Global, cases: &[Case<'_>]) -> Result<Option<usize>, Fail> {
+fn other_answer(alloc: Global, cases: &[Case<'_>]) -> Option<usize> {
     for (at, case) in cases.iter().enumerate() {
-        if !is_answered_so(alloc, case)? {
-            return Ok(Some(at));
+        if !is_answered_so(alloc, *case) {
+            return Some(at);
         }
     }
-    Ok(None)
+    None
 }
 
 fn refused_by(alloc: Global, disk: &mut MemDisk) -> Option<RecoverError> {
@@ -172,41 +175,40 @@ fn illegal(lane: u8, place: u64) -> Option<RecoverError> {
     })
 }
 
-// What a study finds of an image with two lanes: the image's size, how many fields it has, the rows and the records.
+// What a study finds of an image with these logs of its two lanes: the image's size, how many fields it has, the rows and
+// the records.
 fn found_in(
     alloc: Global,
-    disk: &mut MemDisk,
-    rows: &[LaneRow],
-    logs: [&[UndoRecord]; 2],
-) -> Result<[bool; 4], Fail> {
-    let Ok(found) = study(alloc, disk) else {
-        return Err(Fail::new("refused"));
+    rows: [LaneRow; 2],
+    first: &[UndoRecord],
+    second: &[UndoRecord],
+) -> Option<[bool; 4]> {
+    let mut disk = image_with(alloc, rows, first, second)?;
+    let Ok(found) = study(alloc, &mut disk) else {
+        return None;
     };
     let [one, two] = found.records.as_slice() else {
-        return Err(Fail::new("not two lanes"));
+        return None;
     };
-    Ok([
+    Some([
         found.layout.size() == 130_208,
         found.guards.len() == 2,
-        &found.control.rows[..2] == rows,
-        one.as_slice() == logs[0] && two.as_slice() == logs[1],
+        &found.control.rows[..2] == rows.as_slice(),
+        one.as_slice() == first && two.as_slice() == second,
     ])
 }
 
 // The second lane is settled right after a wait's release that ended its section.
 #[test]
-fn legal_logs_are_read(rt: HostRuntime) -> Result<(), Fail> {
+fn legal_logs_are_read(rt: HostRuntime) {
     let first = [acq(0, 5), store(0), rel(0, 5), acq(1, 0)];
     let second = [acq(0, 6), wait(0, 6), acq(0, 7), rel(0, 7)];
     let rows = [row(3, 4, 1), row(2, 4, 1)];
-    let mut disk = image_with(rt.alloc(), rows, &first, &second)?;
-    let found = found_in(rt.alloc(), &mut disk, &rows, [&first, &second])?;
-    assert_eq!(rt; found, [true; 4]);
-    Ok(())
+    assert!(rt; found_in(rt.alloc(), rows, &first, &second) == Some([true; 4]));
 }
 
 #[test]
-fn a_stuck_replay_names_the_least_lane_with_records_left(rt: HostRuntime) -> Result<(), Fail> {
+fn a_stuck_replay_names_the_least_lane_with_records_left(rt: HostRuntime) {
     let none = row(0, 0, 0);
     let later = LaneRow {
         start: 4000,
@@ -238,12 +240,11 @@ fn a_stuck_replay_names_the_least_lane_with_records_left(rt: HostRuntime) -> Res
         ),
         told([none, row(0, 2, 0)], &[], &unguarded, illegal(1, 1)),
     ];
-    assert_eq!(rt; other_answer(rt.alloc(), &cases)?, None);
-    Ok(())
+    assert!(rt; other_answer(rt.alloc(), &cases) == None);
 }
 
 #[test]
-fn acknowledged_sections_are_whole_and_depend_on_such(rt: HostRuntime) -> Result<(), Fail> {
+fn acknowledged_sections_are_whole_and_depend_on_such(rt: HostRuntime) {
     let none = row(0, 0, 0);
     let one = [acq(0, 0), store(0), rel(0, 0)];
     let stuck = [rel(1, 0)];
@@ -262,18 +263,17 @@ fn acknowledged_sections_are_whole_and_depend_on_such(rt: HostRuntime) -> Result
         told([row(0, 2, 0), row(4, 4, 2)], &freed, &took, illegal(1, 2)),
         told([row(0, 2, 0), row(2, 4, 1)], &freed, &took, None),
     ];
-    assert_eq!(rt; other_answer(rt.alloc(), &cases)?, None);
-    Ok(())
+    assert!(rt; other_answer(rt.alloc(), &cases) == None);
 }
 
 // One thing more is wrong each time, from the last test to the first: what refuses the image in turn.
-fn worse_and_worse(alloc: Global) -> Result<[Option<RecoverError>; 7], Fail> {
+fn worse_and_worse(alloc: Global) -> Option<[Option<RecoverError>; 7]> {
     let log = [acq(0, 0), rel(0, 0)];
     let mut disk = image_with(alloc, [row(0, 2, 0), row(0, 0, 0)], &log, &[])?;
     let whole = refused_by(alloc, &mut disk);
     put(&mut disk, AREAS_AT[0], &[9])?;
     let record = refused_by(alloc, &mut disk);
-    put_log(&mut disk, ROWS_AT[1], AREAS_AT[1], row(0, 0, 1), &[])?;
+    put_row(&mut disk, ROWS_AT[1], row(0, 0, 1))?;
     let control = refused_by(alloc, &mut disk);
     put(&mut disk, 64, &[0])?;
     let none = refused_by(alloc, &mut disk);
@@ -283,24 +283,20 @@ fn worse_and_worse(alloc: Global) -> Result<[Option<RecoverError>; 7], Fail> {
     let fault = refused_by(alloc, &mut disk);
     put(&mut disk, 8, &[0])?;
     let unformatted = refused_by(alloc, &mut disk);
-    Ok([whole, record, control, none, header, fault, unformatted])
+    Some([whole, record, control, none, header, fault, unformatted])
 }
 
 #[test]
-fn the_first_thing_that_is_wrong_is_told(rt: HostRuntime) -> Result<(), Fail> {
-    let bad = RecoverError::BadRecord {
-        lane: Lane(0),
-        place: 0,
-    };
+fn the_first_thing_that_is_wrong_is_told(rt: HostRuntime) {
+    let (lane, place) = (Lane(0), 0);
     let wanted = [
         None,
-        Some(bad),
+        Some(RecoverError::BadRecord { lane, place }),
         Some(RecoverError::BadControl),
         Some(RecoverError::NoControl),
         Some(RecoverError::BadHeader),
         Some(RecoverError::Fault),
         Some(RecoverError::NotFormatted),
     ];
-    assert_eq!(rt; worse_and_worse(rt.alloc())?, wanted);
-    Ok(())
+    assert!(rt; worse_and_worse(rt.alloc()) == Some(wanted));
 }

@@ -1,19 +1,32 @@
 //! The texts of recovery's refusals.
 use heap_model::Lane;
 use recover::RecoverError;
-use std::test::Fail;
+use std::alloc::Global;
+
+fn reads(alloc: Global, error: RecoverError, words: &str) -> bool {
+    match format!(in alloc; "{error}") {
+        Ok(text) => text.as_str() == words,
+        Err(_) => false,
+    }
+}
+
+// The first of these refusals that has other words, by its number.
+fn other_words(alloc: Global, cases: &[(RecoverError, &str)]) -> Option<usize> {
+    for (row, (error, words)) in cases.iter().enumerate() {
+        if !reads(alloc, *error, words) {
+            return Some(row);
+        }
+    }
+    None
+}
 
 // The words of docs/SCRIPTS.md; a fault and want of memory are those of the program's texts.
 #[test]
-fn errors_print_as_documented(rt: HostRuntime) -> Result<(), Fail> {
-    let bad = RecoverError::BadRecord {
-        lane: Lane(1),
-        place: 7,
-    };
-    let illegal = RecoverError::IllegalLog {
-        lane: Lane(0),
-        place: 0,
-    };
+fn errors_print_as_documented(rt: HostRuntime) {
+    let (lane, place) = (Lane(1), 7);
+    let bad = RecoverError::BadRecord { lane, place };
+    let (lane, place) = (Lane(0), 0);
+    let illegal = RecoverError::IllegalLog { lane, place };
     let cases = [
         (RecoverError::Fault, "fault"),
         (RecoverError::NotFormatted, "not formatted"),
@@ -26,9 +39,5 @@ fn errors_print_as_documented(rt: HostRuntime) -> Result<(), Fail> {
         (illegal, "illegal log t1 0"),
         (RecoverError::NoMemory, "no memory"),
     ];
-    for (error, text) in cases {
-        let shown = format!(in rt.alloc(); "{error}")?;
-        assert_eq!(rt; shown.as_str(), text);
-    }
-    Ok(())
+    assert!(rt; other_words(rt.alloc(), &cases) == None);
 }

@@ -2,7 +2,7 @@
 ghost use Rattle.std.specs.Prelude.{◌<◌};
 
 use super::runs::{
-    Outcome, acq, crashed, cut, dropped, one, outcome_of, recovery_of, rel, stored, two,
+    Outcome, acq, crashed, cut, dropped, kept, one, outcome_of, recovery_of, rel, stored, two,
 };
 use block_disk::{Fill, MemDisk};
 use durable::StoreCall;
@@ -10,7 +10,6 @@ use heap_model::Lane;
 use recover::{RecoverError, Why, study};
 use std::alloc::Global;
 use std::ops::Range;
-use std::test::Fail;
 
 // A byte of an image by its place, and its new value.
 type Change = (usize, u8);
@@ -27,49 +26,53 @@ const WORN: [Change; 8] = [
 ];
 
 // The image with the bytes at these places changed.
-fn changed(alloc: Global, image: &MemDisk, changes: &[Change]) -> Result<MemDisk, Fail> {
-    let mut bytes = image.bytes().to_vec(alloc)?;
+fn changed(alloc: Global, image: &MemDisk, changes: &[Change]) -> Option<MemDisk> {
+    let mut bytes = image.bytes().to_vec(alloc).ok()?;
     for (at, value) in changes {
-        let byte = bytes.get_mut(*at).ok_or("no such byte")?;
-        *byte = *value;
+        *bytes.get_mut(*at)? = *value;
     }
-    Ok(MemDisk::from_bytes(alloc, &bytes)?)
+    MemDisk::from_bytes(alloc, &bytes).ok()
 }
 
-// Why recovery of the image with these changes is refused, if it is.
-fn refusal(
+// What recovery answers of the image with these changes.
+fn left_of(
     alloc: Global,
     image: &MemDisk,
     changes: &[Change],
-) -> Result<Option<RecoverError>, Fail> {
-    let disk = changed(alloc, image, changes)?;
-    Ok(recovery_of(alloc, disk)?.err())
+) -> Option<Result<Outcome, RecoverError>> {
+    recovery_of(alloc, changed(alloc, image, changes)?)
 }
 
-// Which of these changes isn't refused for its reason, if one isn't.
+// The first of these changes that isn't refused for its reason, if one isn't.
 fn other_refusal(
     alloc: Global,
     image: &MemDisk,
     altered: &[(&[Change], RecoverError)],
-) -> Result<Option<usize>, Fail> {
+) -> Option<usize> {
     for (row, (changes, why)) in altered.iter().enumerate() {
-        if refusal(alloc, image, changes)? != Some(*why) {
-            return Ok(Some(row));
+        if left_of(alloc, image, changes) != Some(Err(*why)) {
+            return Some(row);
         }
     }
-    Ok(None)
+    None
 }
 
-// Whether the first bytes of the image, so many, are refused for this reason.
-fn is_cut_off_so(
+// Whether what these calls leave is refused, with each of these changes, for its reason.
+fn are_refused(alloc: Global, calls: &[StoreCall], altered: &[(&[Change], RecoverError)]) -> bool {
+    match crashed(alloc, calls, Fill::Lost) {
+        Some(image) => other_refusal(alloc, &image, altered).is_none(),
+        None => false,
+    }
+}
+
+// What recovery answers of the first bytes of the image, so many.
+fn left_of_part(
     alloc: Global,
     image: &MemDisk,
     length: usize,
-    why: RecoverError,
-) -> Result<bool, Fail> {
-    let bytes = image.bytes().get(..length).ok_or("no such byte")?;
-    let disk = MemDisk::from_bytes(alloc, bytes)?;
-    Ok(recovery_of(alloc, disk)?.err() == Some(why))
+) -> Option<Result<Outcome, RecoverError>> {
+    let disk = MemDisk::from_bytes(alloc, image.bytes().get(..length)?).ok()?;
+    recovery_of(alloc, disk)
 }
 
 // The first of these lengths of which a beginning of the image isn't refused for this reason, if there is one.
@@ -79,15 +82,15 @@ fn other_length(
     lengths: Range<usize>,
     step: usize,
     why: RecoverError,
-) -> Result<Option<usize>, Fail>
+) -> Option<usize>
     requires { 0 < step }
 {
     for length in lengths.step_by(step) {
-        if !is_cut_off_so(alloc, image, length, why)? {
-            return Ok(Some(length));
+        if left_of_part(alloc, image, length) != Some(Err(why)) {
+            return Some(length);
         }
     }
-    Ok(None)
+    None
 }
 
 fn bad_record(lane: u8, place: u64) -> RecoverError {
@@ -104,26 +107,22 @@ fn illegal(lane: u8, place: u64) -> RecoverError {
     }
 }
 
-// Each beginning that is shorter than a header's first part, and every 1,833rd of the others, the shortest and the longest among them.
-#[test]
-fn a_part_of_an_image_is_refused(rt: HostRuntime) -> Result<(), Fail> {
-    let image = crashed(rt.alloc(), &stored(), Fill::Lost)?;
-    let none = other_length(rt.alloc(), &image, 0..64, 1, RecoverError::NotFormatted)?;
-    assert_eq!(rt; none, None);
-    let none = other_length(
-        rt.alloc(),
-        &image,
-        64..130_208,
-        1_833,
-        RecoverError::TooSmall,
-    )?;
-    assert_eq!(rt; none, None);
-    Ok(())
+// Whether each beginning that is shorter than a header's first part, and every 1,833rd of the others, the shortest and the
+// longest among them, is refused.
+fn parts_are_refused(alloc: Global) -> Option<[bool; 2]> {
+    let image = crashed(alloc, &stored(), Fill::Lost)?;
+    let shorter = other_length(alloc, &image, 0..64, 1, RecoverError::NotFormatted);
+    let longer = other_length(alloc, &image, 64..130_208, 1_833, RecoverError::TooSmall);
+    Some([shorter.is_none(), longer.is_none()])
 }
 
 #[test]
-fn an_altered_image_is_refused(rt: HostRuntime) -> Result<(), Fail> {
-    let image = crashed(rt.alloc(), &stored(), Fill::Lost)?;
+fn a_part_of_an_image_is_refused(rt: HostRuntime) {
+    assert!(rt; parts_are_refused(rt.alloc()) == Some([true; 2]));
+}
+
+#[test]
+fn an_altered_image_is_refused(rt: HostRuntime) {
     let altered: [(&[Change], RecoverError); 13] = [
         (&[(8, 0)], RecoverError::NotFormatted),
         (&[(9, 0)], RecoverError::BadHeader),
@@ -139,49 +138,47 @@ fn an_altered_image_is_refused(rt: HostRuntime) -> Result<(), Fail> {
         (&[(103, 1)], illegal(0, 1)),
         (&[(119, 0)], illegal(0, 3)),
     ];
-    assert_eq!(rt; other_refusal(rt.alloc(), &image, &altered)?, None);
-    Ok(())
+    assert!(rt; are_refused(rt.alloc(), &stored(), &altered));
 }
 
-// With the gate of the last control closed, the one before counts, which has the section as logged.
+// What recovery answers where the gate of the last control is closed.
+fn left_by_the_other(alloc: Global) -> Option<Result<Outcome, RecoverError>> {
+    let image = crashed(alloc, &stored(), Fill::Lost)?;
+    left_of(alloc, &image, &[(64, 0)])
+}
+
+// The control before counts, which has the section as logged.
 #[test]
-fn the_other_control_counts_where_a_gate_is_closed(rt: HostRuntime) -> Result<(), Fail> {
-    let image = crashed(rt.alloc(), &stored(), Fill::Lost)?;
-    let disk = changed(rt.alloc(), &image, &[(64, 0)])?;
+fn the_other_control_counts_where_a_gate_is_closed(rt: HostRuntime) {
     let wanted = Outcome {
         kept: cut(0, 0),
         dropped: [dropped(0, 1, Why::Unsettled), None],
         undone: 1,
         heap: [10, 20],
     };
-    assert_eq!(rt; recovery_of(rt.alloc(), disk)?, Ok(wanted));
-    Ok(())
+    assert!(rt; left_by_the_other(rt.alloc()) == Some(Ok(wanted)));
 }
 
-#[test]
-fn a_worn_control_is_studied_but_not_recovered(rt: HostRuntime) -> Result<(), Fail> {
-    let alloc = rt.alloc();
+// What is studied of an image with a worn control, and what recovery answers of it.
+fn told_of_worn(alloc: Global) -> Option<(Outcome, Option<Result<Outcome, RecoverError>>)> {
     let image = crashed(alloc, &stored(), Fill::Lost)?;
     let mut disk = changed(alloc, &image, &WORN)?;
     let Ok(found) = study(alloc, &mut disk) else {
-        return Err(Fail::new("refused"));
+        return None;
     };
-    let wanted = Outcome {
-        kept: cut(1, 0),
-        dropped: [None, None],
-        undone: 0,
-        heap: [5, 20],
-    };
-    assert_eq!(rt; outcome_of(&found.heap, &found.report)?, wanted);
-    assert_eq!(rt; recovery_of(alloc, disk)?, Err(RecoverError::Worn));
-    Ok(())
+    let studied = outcome_of(&found.heap, &found.report)?;
+    Some((studied, recovery_of(alloc, disk)))
+}
+
+#[test]
+fn a_worn_control_is_studied_but_not_recovered(rt: HostRuntime) {
+    let wanted = (kept(1, 0, [5, 20]), Some(Err(RecoverError::Worn)));
+    assert!(rt; told_of_worn(rt.alloc()) == Some(wanted));
 }
 
 // The second lane's section is acknowledged, and took what the first lane's freed, which isn't.
 #[test]
-fn an_acknowledged_section_that_depends_on_none_such_is_refused(
-    rt: HostRuntime,
-) -> Result<(), Fail> {
+fn an_acknowledged_section_that_depends_on_none_such_is_refused(rt: HostRuntime) {
     let calls = [
         one(acq(0, 0)),
         one(rel(0, 0)),
@@ -190,16 +187,13 @@ fn an_acknowledged_section_that_depends_on_none_such_is_refused(
         StoreCall::Log,
         StoreCall::Settle,
     ];
-    let image = crashed(rt.alloc(), &calls, Fill::Lost)?;
-    assert_eq!(rt;
-        refusal(rt.alloc(), &image, &[(103, 0), (119, 0)])?,
-        Some(illegal(1, 0))
-    );
-    Ok(())
+    let altered: [(&[Change], RecoverError); 1] = [(&[(103, 0), (119, 0)], illegal(1, 0))];
+    assert!(rt; are_refused(rt.alloc(), &calls, &altered));
 }
 
+// The change is that of the last byte of the third record.
 #[test]
-fn a_number_that_is_not_the_next_one_is_refused(rt: HostRuntime) -> Result<(), Fail> {
+fn a_number_that_is_not_the_next_one_is_refused(rt: HostRuntime) {
     let calls = [
         one(acq(0, 0)),
         one(rel(0, 0)),
@@ -207,21 +201,6 @@ fn a_number_that_is_not_the_next_one_is_refused(rt: HostRuntime) -> Result<(), F
         one(rel(0, 1)),
         StoreCall::Log,
     ];
-    let image = crashed(rt.alloc(), &calls, Fill::Lost)?;
-    // The last byte of the third record.
-    assert_eq!(rt;
-        refusal(rt.alloc(), &image, &[(2255, 2)])?,
-        Some(illegal(0, 2))
-    );
-    Ok(())
-}
-
-#[test]
-fn zeros_are_no_image(rt: HostRuntime) -> Result<(), Fail> {
-    let disk = MemDisk::new(rt.alloc(), 130_208)?;
-    assert_eq!(rt;
-        recovery_of(rt.alloc(), disk)?,
-        Err(RecoverError::NotFormatted)
-    );
-    Ok(())
+    let altered: [(&[Change], RecoverError); 1] = [(&[(2255, 2)], illegal(0, 2))];
+    assert!(rt; are_refused(rt.alloc(), &calls, &altered));
 }

@@ -4,136 +4,149 @@ use block_disk::{Fill, MemDisk};
 use durable::StoreCall;
 use recover::recover;
 use std::alloc::Global;
-use std::process::Abort;
-use std::test::Fail;
 
-const FILLS: [Fill; 4] = [Fill::Lost, Fill::Kept, Fill::Byte(0), Fill::Byte(255)];
-
-// Recovers the disk to the heap before all stores, and gives it back.
-fn recovered(rt: &impl Abort, alloc: Global, disk: MemDisk) -> Result<MemDisk, Fail> {
+// Recovers the disk to the heap before all stores, and gives it back. None where recovery answers otherwise.
+fn recovered(alloc: Global, disk: MemDisk) -> Option<MemDisk> {
     let Ok((recovered, _)) = recover(alloc, disk) else {
-        return Err(Fail::new("not recovered"));
+        return None;
     };
-    assert_eq!(rt; recovered.heap(), [10, 20].as_slice());
-    Ok(recovered.into_disk())
+    if recovered.heap() != [10, 20].as_slice() {
+        return None;
+    }
+    Some(recovered.into_disk())
 }
 
 // Recovers what a crash leaves that comes with call `k` begun.
-fn recovered_at(
-    rt: &impl Abort,
-    alloc: Global,
-    disk: &MemDisk,
-    k: u64,
-    fill: Fill,
-) -> Result<MemDisk, Fail> {
-    let image = disk.crash_image(k, fill)?.ok_or("no such call")?;
-    recovered(rt, alloc, image)
+fn recovered_at(alloc: Global, disk: &MemDisk, k: u64, fill: Fill) -> Option<MemDisk> {
+    let image = disk.crash_image(k, fill).ok()??;
+    recovered(alloc, image)
 }
 
-// Each crash with this fill while the disk was written.
-fn check_crashes(rt: &impl Abort, alloc: Global, disk: &MemDisk, fill: Fill) -> Result<(), Fail> {
+// Whether each crash with this fill while the disk was written is recovered so.
+fn survives(alloc: Global, disk: &MemDisk, fill: Fill) -> bool {
     for k in 1..disk.stops().saturating_add(2) {
-        recovered_at(rt, alloc, disk, k, fill)?;
+        if recovered_at(alloc, disk, k, fill).is_none() {
+            return false;
+        }
     }
-    Ok(())
+    true
 }
 
-// The same, and then each crash while what the first one left is recovered.
-fn check_crashes_twice(
-    rt: &impl Abort,
-    alloc: Global,
-    disk: &MemDisk,
-    fill: Fill,
-) -> Result<(), Fail> {
-    for k in 1..disk.stops().saturating_add(2) {
-        let again = recovered_at(rt, alloc, disk, k, fill)?;
-        check_crashes(rt, alloc, &again, fill)?;
+// The same of a crash behind which each crash is recovered so while what the first one left is recovered.
+fn survives_another(alloc: Global, disk: &MemDisk, k: u64, fill: Fill) -> bool {
+    match recovered_at(alloc, disk, k, fill) {
+        Some(again) => survives(alloc, &again, fill),
+        None => false,
     }
-    Ok(())
+}
+
+fn survives_twice(alloc: Global, disk: &MemDisk, fill: Fill) -> bool {
+    for k in 1..disk.stops().saturating_add(2) {
+        if !survives_another(alloc, disk, k, fill) {
+            return false;
+        }
+    }
+    true
+}
+
+// Recovers what two sections with a store leave.
+fn recovered_stores(alloc: Global) -> Option<MemDisk> {
+    recovered(alloc, crashed(alloc, &two_stores(), Fill::Lost)?)
+}
+
+// How many calls of the device that takes.
+fn calls_of_recovery(alloc: Global) -> Option<u64> {
+    let disk = recovered_stores(alloc)?;
+    Some(disk.stops())
 }
 
 // A sync, a write of the one field that is put back, a sync, and six calls of a commit, as both gates are open.
 #[test]
-fn recovery_makes_the_documented_calls(rt: HostRuntime) -> Result<(), Fail> {
-    let left = crashed(rt.alloc(), &two_stores(), Fill::Lost)?;
-    let disk = recovered(&rt, rt.alloc(), left)?;
-    assert_eq!(rt; disk.stops(), 9);
-    Ok(())
+fn recovery_makes_the_documented_calls(rt: HostRuntime) {
+    assert!(rt; calls_of_recovery(rt.alloc()) == Some(9));
 }
 
-// At each of these calls, and at each call of the recovery of what that leaves.
+// Whether crashes at each of these calls, and at each call of the recovery of what that leaves, are recovered, by fill.
+fn survived_twice(alloc: Global) -> Option<[bool; 4]> {
+    let disk = recovered_stores(alloc)?;
+    Some([
+        survives_twice(alloc, &disk, Fill::Lost),
+        survives_twice(alloc, &disk, Fill::Kept),
+        survives_twice(alloc, &disk, Fill::Byte(0)),
+        survives_twice(alloc, &disk, Fill::Byte(255)),
+    ])
+}
+
 #[test]
-fn a_recovery_cut_off_twice_is_recovered(rt: HostRuntime) -> Result<(), Fail> {
-    let left = crashed(rt.alloc(), &two_stores(), Fill::Lost)?;
-    let disk = recovered(&rt, rt.alloc(), left)?;
-    for fill in FILLS {
-        check_crashes_twice(&rt, rt.alloc(), &disk, fill)?;
-    }
-    Ok(())
+fn a_recovery_cut_off_twice_is_recovered(rt: HostRuntime) {
+    assert!(rt; survived_twice(rt.alloc()) == Some([true; 4]));
 }
 
 // The two values that recovery gives of what a crash leaves that comes with call `k` begun.
-fn heap_at(alloc: Global, disk: &MemDisk, k: u64, fill: Fill) -> Result<(u64, u64), Fail> {
-    let image = disk.crash_image(k, fill)?.ok_or("no such call")?;
+fn heap_at(alloc: Global, disk: &MemDisk, k: u64, fill: Fill) -> Option<(u64, u64)> {
+    let image = disk.crash_image(k, fill).ok()??;
     let Ok((recovered, _)) = recover(alloc, image) else {
-        return Err(Fail::new("not recovered"));
+        return None;
     };
     let [first, second] = recovered.heap() else {
-        return Err(Fail::new("not two fields"));
+        return None;
     };
-    Ok((*first, *second))
+    Some((*first, *second))
 }
 
-// A store makes these calls and trims. Since which call of its device each crash behind the 13 calls of the format leaves the
-// first field this value, and before that the one at format; and how many calls there are.
-fn stored_since(
-    alloc: Global,
-    calls: &[StoreCall],
-    value: u64,
-    fill: Fill,
-) -> Result<(u64, u64), Fail> {
+// The disk of a store that makes these calls and trims.
+fn trimmed(alloc: Global, calls: &[StoreCall]) -> Option<MemDisk> {
     let mut store = new_store(alloc)?;
     if store.play(calls).is_err() || store.play(&[StoreCall::Trim]).is_err() {
-        return Err(Fail::new("a call is refused"));
+        return None;
     }
-    let disk = store.into_disk();
+    Some(store.into_disk())
+}
+
+// Since which call of the device each crash behind the 13 calls of the format leaves the first field this value, and before
+// that the one at format; and how many calls there are. None where a crash leaves another heap.
+fn stored_since(alloc: Global, disk: &MemDisk, value: u64, fill: Fill) -> Option<(u64, u64)> {
     let mut since = 0;
     for k in 14..disk.stops().saturating_add(2) {
-        let heap = heap_at(alloc, &disk, k, fill)?;
+        let heap = heap_at(alloc, disk, k, fill)?;
         if since == 0 && heap == (value, 20) {
             since = k;
         }
         if heap != if since == 0 { (10, 20) } else { (value, 20) } {
-            return Err(Fail::new("another heap"));
+            return None;
         }
     }
-    Ok((since, disk.stops()))
+    Some((since, disk.stops()))
 }
 
-fn stored_by_fill(alloc: Global, calls: &[StoreCall], value: u64) -> Result<[(u64, u64); 4], Fail> {
-    Ok([
-        stored_since(alloc, calls, value, Fill::Lost)?,
-        stored_since(alloc, calls, value, Fill::Kept)?,
-        stored_since(alloc, calls, value, Fill::Byte(0))?,
-        stored_since(alloc, calls, value, Fill::Byte(255))?,
+// The same of each fill, where a store makes these calls and trims.
+fn stored_by_fill(
+    alloc: Global,
+    calls: &[StoreCall],
+    value: u64,
+) -> Option<[Option<(u64, u64)>; 4]> {
+    let disk = trimmed(alloc, calls)?;
+    Some([
+        stored_since(alloc, &disk, value, Fill::Lost),
+        stored_since(alloc, &disk, value, Fill::Kept),
+        stored_since(alloc, &disk, value, Fill::Byte(0)),
+        stored_since(alloc, &disk, value, Fill::Byte(255)),
     ])
 }
 
 // Two logs of 12 and 8 calls, a home write and two settlings of 7: the gate of the last is opened by call 47, and the sync behind
 // that is call 48. A trim of 6 calls comes behind it.
 #[test]
-fn a_trim_changes_no_heap(rt: HostRuntime) -> Result<(), Fail> {
-    assert_eq!(rt;
-        stored_by_fill(rt.alloc(), &released(), 2)?,
-        [(49, 54), (47, 54), (49, 54), (49, 54)]
-    );
-    Ok(())
+fn a_trim_changes_no_heap(rt: HostRuntime) {
+    let (late, early) = (Some((49, 54)), Some((47, 54)));
+    let wanted = Some([late, early, late, late]);
+    assert!(rt; stored_by_fill(rt.alloc(), &released(), 2) == wanted);
 }
 
 // A wait ends the first section. Logs of 8 and 11 calls, a home write and two settlings of 7: the gate of the first is opened
 // by call 28.
 #[test]
-fn a_trim_behind_a_wait_changes_no_heap(rt: HostRuntime) -> Result<(), Fail> {
+fn a_trim_behind_a_wait_changes_no_heap(rt: HostRuntime) {
     let calls = [
         one(acq(0, 0)),
         one(put(0, 10, 7)),
@@ -148,9 +161,7 @@ fn a_trim_behind_a_wait_changes_no_heap(rt: HostRuntime) -> Result<(), Fail> {
         StoreCall::Log,
         StoreCall::Settle,
     ];
-    assert_eq!(rt;
-        stored_by_fill(rt.alloc(), &calls, 7)?,
-        [(30, 53), (28, 53), (30, 53), (30, 53)]
-    );
-    Ok(())
+    let (late, early) = (Some((30, 53)), Some((28, 53)));
+    let wanted = Some([late, early, late, late]);
+    assert!(rt; stored_by_fill(rt.alloc(), &calls, 7) == wanted);
 }

@@ -1,12 +1,11 @@
 //! Stores whose calls are known, and what recovery answers of what a crash leaves of them.
-use crate::hand_made_logs::schema_or_none;
+use crate::hand_made_logs::formatted;
 use block_disk::{Fill, MemDisk};
 use durable::{Store, StoreCall};
 use heap_model::{Cut, FieldId, Lane, ObjectId, Record};
 use image::Recovered;
 use recover::{Dropped, RecoverError, Report, Why, recover};
 use std::alloc::Global;
-use std::test::Fail;
 
 /// What recovery made of an image with two fields.
 #[derive(Clone, Copy, Debug, PartialEq, Eq)]
@@ -66,6 +65,16 @@ pub(crate) fn cut(first: u64, second: u64) -> Cut {
     counts[0] = first;
     counts[1] = second;
     Cut { counts }
+}
+
+/// So many sections are kept, with this heap, and none is dropped.
+pub(crate) fn kept(first: u64, second: u64, heap: [u64; 2]) -> Outcome {
+    Outcome {
+        kept: cut(first, second),
+        dropped: [None, None],
+        undone: 0,
+        heap,
+    }
 }
 
 /// A section that is dropped.
@@ -137,66 +146,62 @@ pub(crate) fn released() -> [StoreCall; 15] {
 }
 
 /// A store of the common schema on this disk, with two lanes of 4,000 records.
-pub(crate) fn store_on(alloc: Global, disk: MemDisk) -> Result<Store<MemDisk>, Fail> {
-    let schema = schema_or_none(alloc).ok_or("no schema")?;
-    let Ok(made) = Store::format(alloc, disk, &schema, 2, 4000) else {
-        return Err(Fail::new("not formatted"));
-    };
-    let Ok(store) = Store::adopt(alloc, made, 9) else {
-        return Err(Fail::new("not adopted"));
-    };
-    Ok(store)
+pub(crate) fn store_on(alloc: Global, disk: MemDisk) -> Option<Store<MemDisk>> {
+    let made = formatted(alloc, disk)?;
+    match Store::adopt(alloc, made, 9) {
+        Ok(store) => Some(store),
+        Err(_) => None,
+    }
 }
 
 /// The same on a disk of its own.
-pub(crate) fn new_store(alloc: Global) -> Result<Store<MemDisk>, Fail> {
-    let disk = MemDisk::new(alloc, 130_208)?;
+pub(crate) fn new_store(alloc: Global) -> Option<Store<MemDisk>> {
+    let disk = MemDisk::new(alloc, 130_208).ok()?;
     store_on(alloc, disk)
 }
 
 /// What a crash behind the last of these calls leaves of the store that made them.
-pub(crate) fn crashed(alloc: Global, calls: &[StoreCall], fill: Fill) -> Result<MemDisk, Fail> {
+pub(crate) fn crashed(alloc: Global, calls: &[StoreCall], fill: Fill) -> Option<MemDisk> {
     let mut store = new_store(alloc)?;
     if store.play(calls).is_err() {
-        return Err(Fail::new("a call is refused"));
+        return None;
     }
     let disk = store.into_disk();
-    let image = disk
-        .crash_image(disk.stops().saturating_add(1), fill)?
-        .ok_or("no such call")?;
-    Ok(image)
+    disk.crash_image(disk.stops().saturating_add(1), fill).ok()?
+}
+
+/// What recovery answers of that, where what wasn't synced is lost.
+pub(crate) fn left_by(alloc: Global, calls: &[StoreCall]) -> Option<Result<Outcome, RecoverError>> {
+    recovery_of(alloc, crashed(alloc, calls, Fill::Lost)?)
 }
 
 /// What recovery of this disk answers.
-pub(crate) fn recovery_of(
-    alloc: Global,
-    disk: MemDisk,
-) -> Result<Result<Outcome, RecoverError>, Fail> {
+pub(crate) fn recovery_of(alloc: Global, disk: MemDisk) -> Option<Result<Outcome, RecoverError>> {
     answered(recover(alloc, disk))
 }
 
-/// What recovery answered.
+/// What recovery answered. None where that is no heap of two fields, or more than two sections are dropped.
 pub(crate) fn answered(
     answer: Result<(Recovered<MemDisk>, Report), (MemDisk, RecoverError)>,
-) -> Result<Result<Outcome, RecoverError>, Fail> {
+) -> Option<Result<Outcome, RecoverError>> {
     match answer {
-        Ok((recovered, report)) => Ok(Ok(outcome_of(recovered.heap(), &report)?)),
-        Err((_, reason)) => Ok(Err(reason)),
+        Ok((recovered, report)) => Some(Ok(outcome_of(recovered.heap(), &report)?)),
+        Err((_, reason)) => Some(Err(reason)),
     }
 }
 
 /// This heap and this report.
-pub(crate) fn outcome_of(heap: &[u64], report: &Report) -> Result<Outcome, Fail> {
+pub(crate) fn outcome_of(heap: &[u64], report: &Report) -> Option<Outcome> {
     let [first, second] = heap else {
-        return Err(Fail::new("not two fields"));
+        return None;
     };
     let dropped = match report.dropped.as_slice() {
         [] => [None, None],
         [one] => [Some(*one), None],
         [one, two] => [Some(*one), Some(*two)],
-        _ => return Err(Fail::new("more than two sections are dropped")),
+        _ => return None,
     };
-    Ok(Outcome {
+    Some(Outcome {
         kept: report.kept,
         dropped,
         undone: report.undone,

@@ -1,17 +1,23 @@
 //! The dropped sections of images with hand-made logs. The reasons and numbers follow from the rules at `Dropped` and `Why`.
 use super::{acq, image_with, rel, row, store};
-use block_disk::MemDisk;
 use heap_model::{Lane, UndoRecord};
+use image::LaneRow;
 use recover::{Dropped, Why, study};
 use std::alloc::Global;
-use std::test::Fail;
 
-// The dropped sections of the image; none where it is refused or memory is wanting.
-fn dropped_in(alloc: Global, disk: &mut MemDisk) -> Option<Vec<Dropped>> {
-    let Ok(found) = study(alloc, disk) else {
-        return None;
-    };
-    Some(found.report.dropped)
+// Whether these are the dropped sections of the image with these logs of its two lanes.
+fn are_dropped(
+    alloc: Global,
+    rows: [LaneRow; 2],
+    first: &[UndoRecord],
+    second: &[UndoRecord],
+    wanted: &[Dropped],
+) -> Option<bool> {
+    let mut disk = image_with(alloc, rows, first, second)?;
+    match study(alloc, &mut disk) {
+        Ok(found) => Some(found.report.dropped.as_slice() == wanted),
+        Err(_) => None,
+    }
 }
 
 fn dropped(lane: u8, section: u64, why: Why) -> Dropped {
@@ -31,7 +37,7 @@ fn after(lane: u8, section: u64) -> Why {
 
 // Two sections of the first lane come before its live ones, and one of the second lane.
 #[test]
-fn each_section_has_its_reason(rt: HostRuntime) -> Result<(), Fail> {
+fn each_section_has_its_reason(rt: HostRuntime) {
     let first = [
         acq(0, 5),
         store(0),
@@ -52,14 +58,11 @@ fn each_section_has_its_reason(rt: HostRuntime) -> Result<(), Fail> {
         store(1),
     ];
     let rows = [row(3, 9, 3), row(2, 6, 2)];
-    let mut disk = image_with(rt.alloc(), rows, &first, &second)?;
     let wanted = [
         dropped(0, 4, Why::Unsettled),
         dropped(0, 5, after(1, 3)),
         dropped(0, 6, after(0, 5)),
         dropped(1, 3, Why::Unfinished),
     ];
-    let found = dropped_in(rt.alloc(), &mut disk).ok_or("no list")?;
-    assert_eq!(rt; found.as_slice(), wanted.as_slice());
-    Ok(())
+    assert!(rt; are_dropped(rt.alloc(), rows, &first, &second, &wanted) == Some(true));
 }

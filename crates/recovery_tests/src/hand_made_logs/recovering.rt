@@ -1,69 +1,94 @@
 //! Images studied and recovered.
 use super::{acq, fresh, image_with, rel, row, store};
 use block_disk::MemDisk;
-use heap_model::Lane;
+use heap_model::{Lane, UndoRecord};
+use image::LaneRow;
 use recover::{Dropped, RecoverError, Why, recover, study};
-use std::test::Fail;
+use std::alloc::Global;
+
+// What a recovery of zeros answers, and how many calls it makes that change the device.
+fn zeros(alloc: Global) -> Option<(RecoverError, u64)> {
+    let disk = MemDisk::new(alloc, 130_208).ok()?;
+    match recover(alloc, disk) {
+        Err((disk, error)) => Some((error, disk.stops())),
+        Ok(_) => None,
+    }
+}
 
 // The one call that changes anything is the first sync.
 #[test]
-fn zeros_are_not_formatted(rt: HostRuntime) -> Result<(), Fail> {
-    let disk = MemDisk::new(rt.alloc(), 130_208)?;
-    let Err((disk, error)) = recover(rt.alloc(), disk) else {
-        return Err(Fail::new("recovered"));
+fn zeros_are_not_formatted(rt: HostRuntime) {
+    assert!(rt; zeros(rt.alloc()) == Some((RecoverError::NotFormatted, 1)));
+}
+
+// The two values that a study finds, the sequence, and how many sections are dropped.
+type Studied = ([u64; 2], u64, usize);
+
+fn studied(alloc: Global, disk: &mut MemDisk) -> Option<Studied> {
+    let Ok(found) = study(alloc, disk) else {
+        return None;
     };
-    assert_eq!(rt; error, RecoverError::NotFormatted);
-    assert_eq!(rt; disk.stops(), 1);
-    Ok(())
+    let heap = *found.heap.as_array::<2>()?;
+    Some((heap, found.control.sequence, found.report.dropped.len()))
+}
+
+// The two values that recovery gives, how many fields it put back, and by how many calls of the device.
+type Recovery = ([u64; 2], u32, u64);
+
+// What recovery makes of an image, and the disk that it leaves. None where other sections are dropped.
+fn recovered(alloc: Global, disk: MemDisk, dropped: &[Dropped]) -> Option<(Recovery, MemDisk)> {
+    let before = disk.stops();
+    let Ok((recovered, report)) = recover(alloc, disk) else {
+        return None;
+    };
+    if report.dropped.as_slice() != dropped {
+        return None;
+    }
+    let heap = *recovered.heap().as_array::<2>()?;
+    let left = recovered.into_disk();
+    let calls = left.stops().wrapping_sub(before);
+    Some(((heap, report.undone, calls), left))
+}
+
+fn told_of_formatted(alloc: Global) -> Option<(Studied, Recovery)> {
+    let mut disk = fresh(alloc)?;
+    let found = studied(alloc, &mut disk)?;
+    let (recovery, _) = recovered(alloc, disk, &[])?;
+    Some((found, recovery))
 }
 
 // It takes two syncs and the four calls of a commit over a closed gate.
 #[test]
-fn a_formatted_image_keeps_its_heap(rt: HostRuntime) -> Result<(), Fail> {
-    let mut disk = fresh(rt.alloc())?;
-    let Ok(found) = study(rt.alloc(), &mut disk) else {
-        return Err(Fail::new("refused"));
-    };
-    assert_eq!(rt; found.heap.as_slice(), [10, 20].as_slice());
-    assert_eq!(rt; found.control.sequence, 1);
-    let before = disk.stops();
-    let Ok((recovered, report)) = recover(rt.alloc(), disk) else {
-        return Err(Fail::new("not recovered"));
-    };
-    assert_eq!(rt; recovered.heap(), [10, 20].as_slice());
-    assert_eq!(rt; report.undone, 0);
-    let disk = recovered.into_disk();
-    assert_eq!(rt; disk.stops().wrapping_sub(before), 6);
-    Ok(())
+fn a_formatted_image_keeps_its_heap(rt: HostRuntime) {
+    let wanted = (([10, 20], 1, 0), ([10, 20], 0, 6));
+    assert!(rt; told_of_formatted(rt.alloc()) == Some(wanted));
 }
 
-// The second lane's field took 20, and its section hasn't ended; the first lane's was acknowledged.
+// What recovery makes of an image with these logs, which drops these sections, and what is studied then.
+fn told_of_logs(
+    alloc: Global,
+    rows: [LaneRow; 2],
+    first: &[UndoRecord],
+    second: &[UndoRecord],
+    dropped: &[Dropped],
+) -> Option<(Recovery, Studied)> {
+    let disk = image_with(alloc, rows, first, second)?;
+    let (recovery, mut left) = recovered(alloc, disk, dropped)?;
+    Some((recovery, studied(alloc, &mut left)?))
+}
+
+// The second lane's field took 20, and its section hasn't ended; the first lane's was acknowledged. There is one write more
+// than where no field takes a value back.
 #[test]
-fn an_old_value_goes_back(rt: HostRuntime) -> Result<(), Fail> {
+fn an_old_value_goes_back(rt: HostRuntime) {
     let first = [acq(0, 0), store(0), rel(0, 0)];
     let second = [acq(1, 0), store(1)];
     let rows = [row(3, 3, 1), row(0, 2, 0)];
-    let disk = image_with(rt.alloc(), rows, &first, &second)?;
-    let before = disk.stops();
-    let Ok((recovered, report)) = recover(rt.alloc(), disk) else {
-        return Err(Fail::new("not recovered"));
-    };
-    assert_eq!(rt; recovered.heap(), [10, 10].as_slice());
-    let wanted = [Dropped {
+    let dropped = [Dropped {
         lane: Lane(1),
         section: 1,
         why: Why::Unfinished,
     }];
-    assert_eq!(rt; report.dropped.as_slice(), wanted.as_slice());
-    assert_eq!(rt; report.undone, 1);
-    let mut disk = recovered.into_disk();
-    // One write more than where no field takes a value back.
-    assert_eq!(rt; disk.stops().wrapping_sub(before), 7);
-    let Ok(again) = study(rt.alloc(), &mut disk) else {
-        return Err(Fail::new("refused"));
-    };
-    assert_eq!(rt; again.heap.as_slice(), [10, 10].as_slice());
-    assert_eq!(rt; again.control.sequence, 2);
-    assert_eq!(rt; again.report.dropped.len(), 0);
-    Ok(())
+    let told = told_of_logs(rt.alloc(), rows, &first, &second, &dropped);
+    assert!(rt; told == Some((([10, 10], 1, 7), ([10, 10], 2, 0))));
 }
