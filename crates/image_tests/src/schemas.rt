@@ -2,7 +2,6 @@
 use guards::{Schema, SchemaBuilder, SchemaError};
 use heap_model::{FieldId, ObjectId};
 use std::alloc::{AllocError, Global};
-use std::test::Fail;
 
 const O0: ObjectId = ObjectId(0);
 
@@ -41,31 +40,41 @@ fn fields_answered(builder: &mut SchemaBuilder) -> [Result<FieldId, SchemaError>
     ]
 }
 
+// What a field is: its owner, its guard and its first value.
+type Row = (ObjectId, ObjectId, u64);
+
+// What a builder answers to objects, why it makes no schema then, and what it answers to fields; and how many fields the
+// schema has, and the first.
+type Told = (
+    [Result<ObjectId, SchemaError>; 3],
+    SchemaError,
+    [Result<FieldId, SchemaError>; 3],
+    (u32, Option<Row>),
+);
+
+fn told_of_declarations(alloc: Global) -> Option<Told> {
+    let mut builder = SchemaBuilder::new(alloc);
+    let objects = objects_answered(&mut builder);
+    let (mut builder, why) = builder.build().err()?;
+    let fields = fields_answered(&mut builder);
+    let schema = builder.build().ok()?;
+    let found = (schema.fields(), row(&schema, 0));
+    Some((objects, why, fields, found))
+}
+
 // A builder that makes no schema is given back, with the reason, and goes on.
 #[test]
-fn declarations_are_answered(rt: HostRuntime) -> Result<(), Fail> {
-    let mut builder = SchemaBuilder::new(rt.alloc());
-    assert_eq!(rt;
-        objects_answered(&mut builder),
-        [
-            Ok(O0),
-            Err(SchemaError::DoubleName),
-            Err(SchemaError::Empty)
-        ]
-    );
-    let (mut builder, error) = builder.build().err().ok_or("this makes a schema")?;
-    assert_eq!(rt; error, SchemaError::Empty);
-    assert_eq!(rt;
-        fields_answered(&mut builder),
-        [
-            Err(SchemaError::UnknownObject),
-            Err(SchemaError::UnknownObject),
-            Ok(FieldId(0))
-        ]
-    );
-    let schema = builder.build().ok().ok_or("no schema")?;
-    assert_eq!(rt; (schema.fields(), row(&schema, 0)), (1, Some((O0, O0, 7))));
-    Ok(())
+fn declarations_are_answered(rt: HostRuntime) {
+    let objects = [
+        Ok(O0),
+        Err(SchemaError::DoubleName),
+        Err(SchemaError::Empty),
+    ];
+    let unknown = Err(SchemaError::UnknownObject);
+    let fields = [unknown, unknown, Ok(FieldId(0))];
+    let found = (1, Some((O0, O0, 7)));
+    let wanted = (objects, SchemaError::Empty, fields, found);
+    assert!(rt; told_of_declarations(rt.alloc()) == Some(wanted));
 }
 
 // Two objects, each with a field that the other guards. An object and a field may have one name.
@@ -83,22 +92,22 @@ fn account_and_bank(alloc: Global) -> Option<Schema> {
     builder.build().ok()
 }
 
-#[test]
-fn a_builder_finds_its_objects(rt: HostRuntime) -> Result<(), Fail> {
-    let mut builder = SchemaBuilder::new(rt.alloc());
-    declare_account_and_bank(&mut builder).ok_or("not declared")?;
-    assert_eq!(rt;
-        [
-            builder.object_named("bank"),
-            builder.object_named("balance")
-        ],
-        [Some(O1), None]
-    );
-    Ok(())
+// The objects that a builder finds by an object's name, and by a field's.
+fn objects_named(alloc: Global) -> [Option<ObjectId>; 2] {
+    let mut builder = SchemaBuilder::new(alloc);
+    let _declared = declare_account_and_bank(&mut builder);
+    [
+        builder.object_named("bank"),
+        builder.object_named("balance"),
+    ]
 }
 
-// The field's owner, guard and first value.
-fn row(schema: &Schema, field: u32) -> Option<(ObjectId, ObjectId, u64)> {
+#[test]
+fn a_builder_finds_its_objects(rt: HostRuntime) {
+    assert!(rt; objects_named(rt.alloc()) == [Some(O1), None]);
+}
+
+fn row(schema: &Schema, field: u32) -> Option<Row> {
     let field = FieldId(field);
     if field.0 < schema.fields() {
         Some((
@@ -111,32 +120,20 @@ fn row(schema: &Schema, field: u32) -> Option<(ObjectId, ObjectId, u64)> {
     }
 }
 
-fn rows(schema: &Schema) -> [Option<(ObjectId, ObjectId, u64)>; 3] {
-    [row(schema, 0), row(schema, 1), row(schema, 2)]
+fn rows(alloc: Global) -> Option<[Option<Row>; 3]> {
+    let schema = account_and_bank(alloc)?;
+    Some([row(&schema, 0), row(&schema, 1), row(&schema, 2)])
 }
 
 #[test]
-fn fields_are_as_declared(rt: HostRuntime) -> Result<(), Fail> {
-    let schema = account_and_bank(rt.alloc()).ok_or("no schema")?;
-    assert_eq!(rt;
-        rows(&schema),
-        [Some((O1, O0, 11)), Some((O0, O1, u64::MAX)), None]
-    );
-    Ok(())
+fn fields_are_as_declared(rt: HostRuntime) {
+    let wanted = [Some((O1, O0, 11)), Some((O0, O1, u64::MAX)), None];
+    assert!(rt; rows(rt.alloc()) == Some(wanted));
 }
 
 // The object and the field of this name.
 fn named(schema: &Schema, name: &str) -> (Option<ObjectId>, Option<FieldId>) {
     (schema.object_named(name), schema.field_named(name))
-}
-
-fn names(schema: &Schema) -> [(Option<ObjectId>, Option<FieldId>); 4] {
-    [
-        named(schema, "account"),
-        named(schema, "bank"),
-        named(schema, "balance"),
-        named(schema, ""),
-    ]
 }
 
 // Whether there are two objects, the second of which has this name.
@@ -148,20 +145,27 @@ fn second_object_is(schema: &Schema, name: &str) -> bool {
     }
 }
 
+// What the names of two objects, of a field and of nothing find, and whether the second object has its name.
+fn names(alloc: Global) -> Option<([(Option<ObjectId>, Option<FieldId>); 4], bool)> {
+    let schema = account_and_bank(alloc)?;
+    let found = [
+        named(&schema, "account"),
+        named(&schema, "bank"),
+        named(&schema, "balance"),
+        named(&schema, ""),
+    ];
+    Some((found, second_object_is(&schema, "bank")))
+}
+
 #[test]
-fn names_find_their_own_declarations(rt: HostRuntime) -> Result<(), Fail> {
-    let schema = account_and_bank(rt.alloc()).ok_or("no schema")?;
-    assert_eq!(rt;
-        names(&schema),
-        [
-            (Some(O0), None),
-            (Some(O1), Some(FieldId(0))),
-            (None, Some(FieldId(1))),
-            (None, None),
-        ]
-    );
-    assert!(rt; second_object_is(&schema, "bank"));
-    Ok(())
+fn names_find_their_own_declarations(rt: HostRuntime) {
+    let wanted = [
+        (Some(O0), None),
+        (Some(O1), Some(FieldId(0))),
+        (None, Some(FieldId(1))),
+        (None, None),
+    ];
+    assert!(rt; names(rt.alloc()) == Some((wanted, true)));
 }
 
 fn declares_object(
@@ -201,9 +205,14 @@ fn declares_all_fields(builder: &mut SchemaBuilder, alloc: Global) -> bool {
     true
 }
 
-// Fills a builder with as many objects and fields as there may be.
-fn is_filled(builder: &mut SchemaBuilder, alloc: Global) -> bool {
-    declares_all_objects(builder, alloc) && declares_all_fields(builder, alloc)
+// A builder with as many objects and fields as there may be.
+fn filled(alloc: Global) -> Option<SchemaBuilder> {
+    let mut builder = SchemaBuilder::new(alloc);
+    if declares_all_objects(&mut builder, alloc) && declares_all_fields(&mut builder, alloc) {
+        Some(builder)
+    } else {
+        None
+    }
 }
 
 fn objects_beyond(builder: &mut SchemaBuilder) -> [Result<ObjectId, SchemaError>; 3] {
@@ -224,40 +233,46 @@ fn fields_beyond(builder: &mut SchemaBuilder) -> [Result<FieldId, SchemaError>; 
     ]
 }
 
-// At each limit the earlier reasons still come first.
-#[test]
-fn limits_are_tested_last(rt: HostRuntime) {
-    let mut builder = SchemaBuilder::new(rt.alloc());
-    assert!(rt; is_filled(&mut builder, rt.alloc()));
-    assert_eq!(rt;
-        objects_beyond(&mut builder),
-        [
-            Err(SchemaError::Empty),
-            Err(SchemaError::DoubleName),
-            Err(SchemaError::TooMany)
-        ]
+// What a filled builder answers to objects and to fields; how many the schema has, its last field by name, and what that is.
+type Full = (
+    [Result<ObjectId, SchemaError>; 3],
+    [Result<FieldId, SchemaError>; 5],
+    (u32, u32, Option<FieldId>, Option<Row>),
+);
+
+fn told_of_full(alloc: Global) -> Option<Full> {
+    let mut builder = filled(alloc)?;
+    let objects = objects_beyond(&mut builder);
+    let fields = fields_beyond(&mut builder);
+    let schema = builder.build().ok()?;
+    let last = schema.field_named("f16383");
+    let counts = (
+        schema.objects(),
+        schema.fields(),
+        last,
+        row(&schema, 16_383),
     );
-    assert_eq!(rt;
-        fields_beyond(&mut builder),
-        [
-            Err(SchemaError::Empty),
-            Err(SchemaError::DoubleName),
-            Err(SchemaError::UnknownObject),
-            Err(SchemaError::UnknownObject),
-            Err(SchemaError::TooMany)
-        ]
-    );
+    Some((objects, fields, counts))
 }
 
+// At each limit the earlier reasons still come first, and a full schema is built.
 #[test]
-fn a_full_schema_is_built(rt: HostRuntime) -> Result<(), Fail> {
-    let mut builder = SchemaBuilder::new(rt.alloc());
-    assert!(rt; is_filled(&mut builder, rt.alloc()));
-    let schema = builder.build().ok().ok_or("no schema")?;
-    assert_eq!(rt; (schema.objects(), schema.fields()), (4096, 16_384));
-    assert_eq!(rt; schema.field_named("f16383"), Some(FieldId(16_383)));
-    assert_eq!(rt; row(&schema, 16_383), Some((O0, ObjectId(4095), 16_383)));
-    Ok(())
+fn limits_are_tested_last(rt: HostRuntime) {
+    let objects = [
+        Err(SchemaError::Empty),
+        Err(SchemaError::DoubleName),
+        Err(SchemaError::TooMany),
+    ];
+    let fields = [
+        Err(SchemaError::Empty),
+        Err(SchemaError::DoubleName),
+        Err(SchemaError::UnknownObject),
+        Err(SchemaError::UnknownObject),
+        Err(SchemaError::TooMany),
+    ];
+    let row = Some((O0, ObjectId(4095), 16_383));
+    let counts = (4096, 16_384, Some(FieldId(16_383)), row);
+    assert!(rt; told_of_full(rt.alloc()) == Some((objects, fields, counts)));
 }
 
 // Where the first answer is want of memory, the declaration is made again: had the refused one
@@ -307,15 +322,21 @@ fn finds_all(schema: &Schema, names: &[&str]) -> bool {
     true
 }
 
+// Whether all of nine names are declared, of objects and of fields; how many a schema has then, and whether it finds all.
+fn told_of_growth(alloc: Global) -> Option<([bool; 2], (u32, u32), bool)> {
+    let names = ["a", "b", "c", "d", "e", "f", "g", "h", "i"];
+    let mut builder = SchemaBuilder::new(alloc);
+    let are_declared = [
+        declares_objects_again(&mut builder, &names),
+        declares_fields_again(&mut builder, &names),
+    ];
+    let schema = builder.build().ok()?;
+    let counts = (schema.objects(), schema.fields());
+    Some((are_declared, counts, finds_all(&schema, &names)))
+}
+
 // Passes with any one of its allocations refused (`rt try --test --fail-alloc N`), and with none.
 #[test]
-fn refused_growth_changes_nothing(rt: HostRuntime) -> Result<(), Fail> {
-    let names = ["a", "b", "c", "d", "e", "f", "g", "h", "i"];
-    let mut builder = SchemaBuilder::new(rt.alloc());
-    assert!(rt; declares_objects_again(&mut builder, &names));
-    assert!(rt; declares_fields_again(&mut builder, &names));
-    let schema = builder.build().ok().ok_or("no schema")?;
-    assert_eq!(rt; (schema.objects(), schema.fields()), (9, 9));
-    assert!(rt; finds_all(&schema, &names));
-    Ok(())
+fn refused_growth_changes_nothing(rt: HostRuntime) {
+    assert!(rt; told_of_growth(rt.alloc()) == Some(([true; 2], (9, 9), true)));
 }
