@@ -1,14 +1,17 @@
 -- Why a heap isn't closed, step by step.
-use Rattle.std.proofs.Common.{◌≡◌, Result, Ok, Err, IfErr, ap, sym, ◌∙◌, subst}
+use Rattle.std.proofs.Common.{◌≡◌, Result, Ok, Err, IfErr, sym, ◌∙◌, subst}
 use Rattle.deferred_disk.specs.Deferred.{Deferred}
 use Rattle.deferred_disk.specs.Host.{HasLooked, Host}
 use Rattle.monitor.specs.Seats.{Home}
 use Rattle.trim_helper.specs.Parts.{Parts}
-use Rattle.hosted_heap.specs.Closing.{GoesOn, GoesOnWithout, HasStopped, IsNotClosed, IsNotFinished, StopsFor}
+use Rattle.trim_helper.specs.declared.close_error.CloseError.{CloseError}
+use Rattle.trim_helper.specs.declared.close_error.CloseError.TheVariants.{Missing, Unfinished, Failed, Worn, Fault}
+use Rattle.hosted_heap.specs.Closing.{GoesOn, GoesOnWithout, HasStopped, IsNotClosed, IsNotFinished, StopsBy, StopsFor}
 use Rattle.hosted_heap.specs.Hosting.{Hosting, SameHeap}
 use Rattle.hosted_heap.specs.declared.closing.Closed.{Closed}
 use Rattle.hosted_heap.specs.declared.closing.NotClosed.{NotClosed}
 use Rattle.hosted_heap.specs.declared.closing.NotClosed.TheVariants.{Running, CallsLeft, InUse, Stopped}
+use Rattle.hosted_heap.specs.declared.error.CloseRefusal.TheVariants.{Close}
 
 pub stopped : (x : Hosting) (h : Home) (r : Result Closed NotClosed) → h ≡ x.home → IfErr r (HasStopped h x.helper x.calls) → IfErr r (IsNotFinished x)
 stopped x h (Ok closed) of why = tt
@@ -32,3 +35,11 @@ not_closed x y z w (Err (Stopped closed e)) on calls same looked without kept wh
   subst (λ (h : Home). StopsFor h x.helper closed.disk e) (without.home ∙ same.home ∙ on.home)
       (subst (λ (p : Parts Deferred). StopsFor w.home p closed.disk e) (without.helper ∙ same.helper ∙ on.helper) why.1),
 )
+
+-- None is missing of sessions that have ended one a lane: the heap has stopped for another reason.
+pub stops_for : (h : Home) (x : Parts Deferred) (disk : Deferred) (e : CloseError) → StopsBy h x disk e → StopsFor h x disk (Close e)
+stops_for h x disk (Missing lane) by = absurd (by.refuses.1 (by.complete lane.0 by.refuses.0))
+stops_for h x disk (Unfinished lane) by = by
+stops_for h x disk Failed by = by
+stops_for h x disk Worn by = by
+stops_for h x disk Fault by = by

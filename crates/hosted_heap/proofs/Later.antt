@@ -1,5 +1,5 @@
 -- A session stays one that may come back, over each of its calls.
-use Rattle.std.proofs.Common.{ℕ, ◌≡◌, ◌<◌, List, [], ◌∷◌, ◌++◌, All, Option, Some, None, IfSome, ap, sym, ◌∙◌, subst}
+use Rattle.std.proofs.Common.{ℕ, ◌≡◌, List, [], ◌∷◌, ◌++◌, All, Option, Some, None, IfSome, ap, sym, ◌∙◌, subst}
 use Rattle.monitor.specs.Seats.{Home}
 use Rattle.monitor.specs.Words.{setting_of}
 use Rattle.monitor.specs.declared.view.Plan.{Plan}
@@ -11,8 +11,10 @@ use Rattle.running_heap.specs.Joined.{IsJoined}
 use Rattle.running_heap.specs.Laws.{CallLaw, RingsLaw}
 use Rattle.trim_helper.specs.Endings.{Rings}
 use Rattle.trim_helper.specs.Moves.{SameRings}
-use Rattle.hosted_heap.specs.Lanes.{BeginsJoined, IsLaneEnd}
+use Rattle.heap_model.specs.declared.ids.Lane.{Lane}
+use Rattle.hosted_heap.specs.Lanes.{BeginsJoined, IsBack, IsJoinedHere, IsLaneEnd, lane_at, lane_in}
 use Rattle.hosted_heap.specs.Returning.{IsLater, MayReturn, MayReturnWaiting}
+use Rattle.hosted_heap.specs.Sessions.{Seated}
 use Rattle.hosted_heap.specs.declared.lane_end.LaneEnd.{LaneEnd}
 
 pub after_call : (h : Home) (before : List Session) (x y : Session) → IsSessionOf h x → IsSessionOf h y → SameRing x y → MayReturn before x → MayReturn before y
@@ -58,23 +60,35 @@ joined_later law h c rings s x joined later =
     let beside = later.0 in
     law h c rings s x joined (beside.0 ∙ of.0, ap (λ (k : Plan). setting_of k) (beside.1 ∙ of.2), beside.1 ∙ of.2, beside.2) later.1
 
-pub joined_back : CallLaw → (h : Home) (c : ℕ) (rings : Rings) (before : List Session) (x : Session) → BeginsJoined h c rings before → MayReturn before x → IsJoined h c rings x
-joined_back law h c rings before x begins may = joined_later law h c rings begins.0 x begins.3 (may begins.0 begins.1 begins.2)
+pub joined_back : CallLaw → (h : Home) (c : ℕ) (rings : Rings) (before : List Session) (x : Session) → BeginsJoined h c rings before → MayReturn before x → IsBack h c rings (lane_in before) x
+joined_back law h c rings before x begins may =
+    let later = may begins.0 begins.1 begins.2 in record {
+      joined = joined_later law h c rings begins.0 x begins.3 later;
+      lane_is = ap (λ (l : Lane). l.0) later.1.2 ∙ sym (ap (λ (items : List Session). lane_in items) begins.2);
+    }
+
+pub lane_more : (h : Home) (c : ℕ) (rings : Rings) (before now : List Session) (x : Session) → now ≡ before ++ x ∷ [] → BeginsJoined h c rings before → lane_in now ≡ lane_in before
+lane_more h c rings before now x is begins =
+    ap (λ (items : List Session). lane_in items) (is ∙ ap (λ (items : List Session). items ++ x ∷ []) begins.2) ∙ sym (ap (λ (items : List Session). lane_in items) begins.2)
 
 pub begins_more : (h : Home) (c : ℕ) (rings : Rings) (before now : List Session) (x : Session) → now ≡ before ++ x ∷ [] → BeginsJoined h c rings before → BeginsJoined h c rings now
 begins_more h c rings before now x is begins = (begins.0, begins.1 ++ x ∷ [], is ∙ ap (λ (items : List Session). items ++ x ∷ []) begins.2, begins.3)
 
-some_on : RingsLaw → (h : Home) (c : ℕ) (rings later : Rings) (o : Option Session) → SameRings rings later → IfSome o (IsJoined h c rings) → IfSome o (IsJoined h c later)
-some_on law h c rings later (Some s) same is = law h c rings later s is same
-some_on law h c rings later None same is = tt
+some_on : RingsLaw → (h : Home) (c : ℕ) (rings later : Rings) (lane : ℕ) (o : Option Session) → SameRings rings later → IfSome o (IsBack h c rings lane) → IfSome o (IsBack h c later lane)
+some_on law h c rings later lane (Some s) same is = record { joined = law h c rings later s is.joined same; lane_is = is.lane_is }
+some_on law h c rings later lane None same is = tt
 
 -- and so over a round of the helper
 pub end_on : RingsLaw → (h : Home) (c : ℕ) (rings later : Rings) (l : LaneEnd) → SameRings rings later → IsLaneEnd h c rings l → IsLaneEnd h c later l
 end_on law h c rings later l same is = record {
   first = (is.first.0, is.first.1, is.first.2, law h c rings later is.first.0 is.first.3 same);
-  came = some_on law h c rings later l.came same is.came;
+  came = some_on law h c rings later (lane_at l) l.came same is.came;
 }
 
 pub ends_on : RingsLaw → (h : Home) (c d : ℕ) (rings later : Rings) (ls : List LaneEnd) → d ≡ c → SameRings rings later → All (IsLaneEnd h c rings) ls → All (IsLaneEnd h d later) ls
 ends_on law h c d rings later ls same_capacity same all =
     subst (λ (n : ℕ). All (IsLaneEnd h n later) ls) (sym same_capacity) (All-weaker (IsLaneEnd h c rings) (IsLaneEnd h c later) (λ l is. end_on law h c rings later l same is) ls all)
+
+pub joined_on : RingsLaw → (h : Home) (c d : ℕ) (rings later : Rings) (ss : List Seated) → d ≡ c → SameRings rings later → All (IsJoinedHere h c rings) ss → All (IsJoinedHere h d later) ss
+joined_on law h c d rings later ss same_capacity same all =
+    subst (λ (n : ℕ). All (IsJoinedHere h n later) ss) (sym same_capacity) (All-weaker (IsJoinedHere h c rings) (IsJoinedHere h c later) (λ s is. law h c rings later s.session is same) ss all)

@@ -1,4 +1,5 @@
 mod Closings
+mod Ends
 mod Later
 mod Makings
 mod Numbered

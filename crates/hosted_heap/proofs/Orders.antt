@@ -26,7 +26,7 @@ popped_next xs ys (Some s) n m count is cases = ap (λ (l : List Seated). lanes_
 popped_next xs ys None n m count is cases = ap (λ (l : List Seated). lanes_of l) (none_in xs (sym count ∙ cases.0))
 
 -- and its lane's end is the next behind those that stay
-ends_more : (es : List LaneEnd) (i : ℕ) → i < length es → (end : LaneEnd) × (drop i es ≡ end ∷ drop (i + 1) es)
+pub ends_more : (es : List LaneEnd) (i : ℕ) → i < length es → (end : LaneEnd) × (drop i es ≡ end ∷ drop (i + 1) es)
 ends_more [] i low = absurd (omega (arith, low))
 ends_more (e ∷ es) i low = (get_or (e ∷ es) i e, at_drop_more (λ (l : List LaneEnd). l) (e ∷ es) i e low)
 

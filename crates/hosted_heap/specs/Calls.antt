@@ -29,6 +29,9 @@ pub record Enters (h : Home) (x y : Session) (o : ObjectId) (r : Result (Unit {0
   pub again : (k : Hold) → o.0 < (plan h).objects → hold (view_of x) o.0 ≡ Some k → EntersAgain (view_of x) (view_of y) o k r
   pub begins : o.0 < (plan h).objects → hold (view_of x) o.0 ≡ None → held_count (view_of x) ≡ 0 → Begins (capacity_of x) (view_of x) (view_of y) o r
   pub goes_on : o.0 < (plan h).objects → hold (view_of x) o.0 ≡ None → 0 < held_count (view_of x) → GoesOn (view_of x) (view_of y) o r
+  pub ring_room : o.0 < (plan h).objects → hold (view_of x) o.0 ≡ None → held_count (view_of x) ≡ 0
+      → MatchResult r (λ _. SECTION_RECORDS ≤ free_of y + 1) (HasRing (capacity_of x) SECTION_RECORDS (free_of y) (view_of y))
+  pub lasting : IfErr r (IsLastingHeld (view_of y) o)
 
 -- an exit
 pub record Exits (h : Home) (x y : Session) (o : ObjectId) (r : Result (Unit {0}) SessionError) : Type 0 where
@@ -62,6 +65,8 @@ pub record AsksToWait (h : Home) (x : Session) (o : ObjectId) (r : Result Waitin
   pub not_held : o.0 < (plan h).objects → hold (view_of x) o.0 ≡ None → IsErrAnd r (λ e. (e.1 ≡ error.NotHeld) × IsQuiet (view_of x) (view_of e.0))
   pub held : (k : Hold) → o.0 < (plan h).objects → hold (view_of x) o.0 ≡ Some k
       → MatchResult r (λ w. (awaited w ≡ o) × BeginsWait (capacity_of x) (view_of x) (view_waiting w) o k) (λ e. RefusesWait (capacity_of x) (view_of x) (view_of e.0) o k e.1)
+  pub ring_room : (k : Hold) → o.0 < (plan h).objects → hold (view_of x) o.0 ≡ Some k → held_count (view_of x) ≡ 1
+      → MatchResult r (λ w. SECTION_RECORDS ≤ free_waiting w) (λ e. HasRing (capacity_of x) (SECTION_RECORDS + 1) (free_of e.0) (view_of e.0) e.1)
 
 -- a wait that has ended, or goes on
 abbrev pub AsksToResume : (w : Waiting) → Result Session (Waiting × Still) → Type 0

@@ -1,12 +1,14 @@
 -- What is left of a heap that wasn't closed (this project's own).
-use Rattle.std.specs.Prelude.{◌≡◌, ◌+◌, ◌<◌, List, [], All, Any, length}
+use Rattle.std.specs.Prelude.{ℕ, ◌≡◌, ◌+◌, ◌<◌, List, [], All, Any, length, map}
 use Rattle.deferred_disk.specs.Deferred.{Deferred}
 use Rattle.deferred_disk.specs.Host.{HasLooked, Host}
 use Rattle.deferred_disk.specs.declared.disk.TheConstants.{SYNCS}
 use Rattle.monitor.specs.Seats.{Home}
 use Rattle.rtrb.specs.Ring.{known_items}
 use Rattle.trim_helper.specs.Parts.{Parts}
-use Rattle.trim_helper.specs.Endings.{IsCloseWhy, IsEnded, RefusesClosing}
+use Rattle.trim_helper.specs.Endings.{IsCloseWhy, IsComplete, IsEnded, IsOfSessions, RefusesClosing}
+use Rattle.trim_helper.specs.declared.close_error.CloseError.{CloseError}
+use Rattle.trim_helper.specs.declared.close_error.CloseError.TheVariants.{Missing}
 use Rattle.trim_helper.specs.declared.ended.Ended.{Ended}
 use Rattle.hosted_heap.specs.Hosting.{Hosting, SameHeap, hosted_device}
 use Rattle.hosted_heap.specs.Lanes.{IsAwaited}
@@ -29,12 +31,25 @@ pub record GoesOnWithout (x y : Hosting) : Type 0 where
   pub helper : y.helper ≡ x.helper
   pub unused : y.unused ≡ []
 
--- Why the heap has stopped, and its disk then: for want of memory, with the disk as it was; or for a reason of the sessions that came back, or of
--- the device.
+-- the lanes of these, in order
+abbrev pub lanes_ended : List Ended → List ℕ
+lanes_ended es = map (λ e. e.lane.0) es
+
+-- Sessions have ended, one a lane, and one of them holds a monitor, with the disk as it was; or the device is the reason.
+pub record StopsBy (h : Home) (x : Parts Deferred) (disk : Deferred) (e : CloseError) : Type 0 where
+  pub ended : List Ended
+  pub are : All (IsEnded h x.store.known.layout.capacity x.rings) ended
+  pub complete : IsComplete x.store.known.layout.lanes ended
+  pub refuses : RefusesClosing x.store.known.layout.lanes ended e
+  pub untouched : IsOfSessions e → disk ≡ x.store.disk
+  pub why : IsCloseWhy x.store.known (hosted_device x.store.disk) (hosted_device disk) e
+
+-- Why the heap has stopped, and its disk then: for want of memory, with the disk as it was; or for a reason of the sessions, or of the device.
+-- None is missing.
 abbrev pub StopsFor : Home → Parts Deferred → Deferred → CloseRefusal → Type 0
 StopsFor h x disk NoMemory = disk ≡ x.store.disk
-StopsFor h x disk (Close e) = IsCloseWhy x.store.known (hosted_device x.store.disk) (hosted_device disk) e
-    × ((ended : List Ended) × All (IsEnded h x.store.known.layout.capacity x.rings) ended × RefusesClosing x.store.known.layout.lanes ended e)
+StopsFor h x disk (Close (Missing lane)) = ⊥
+StopsFor h x disk (Close e) = StopsBy h x disk e
 
 -- it has stopped, with the calls of its host as they were
 abbrev pub HasStopped : Home → Parts Deferred → Host → NotClosed → Type 0

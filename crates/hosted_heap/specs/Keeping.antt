@@ -1,5 +1,6 @@
 -- What is true of a hosted heap between its calls (this project's own).
 use Rattle.std.specs.Prelude.{◌≡◌, ◌≤◌, List, All, length}
+use Rattle.std.specs.List.{range_with_len}
 use Rattle.deferred_disk.specs.Deferred.{Deferred}
 use Rattle.image.specs.Layout.{IsLayout}
 use Rattle.image.specs.declared.layout.Layout.{Layout}
@@ -7,11 +8,12 @@ use Rattle.monitor.specs.Seats.{Home}
 use Rattle.running_heap.specs.Joined.{IsHelping}
 use Rattle.trim_helper.specs.Parts.{Parts}
 use Rattle.hosted_heap.specs.Hosting.{hosted_device}
-use Rattle.hosted_heap.specs.Lanes.{AreNewHere, IsLaneEnd}
+use Rattle.hosted_heap.specs.Lanes.{AreNewHere, ArePaired, IsJoinedHere, IsLaneEnd, lanes_at}
 use Rattle.hosted_heap.specs.Sessions.{Seated}
 use Rattle.hosted_heap.specs.declared.lane_end.LaneEnd.{LaneEnd}
 
--- the helper is of these words, the sessions that weren't handed out too, and what comes back meets the helper
+-- The helper is of these words, the sessions that weren't handed out too, and what comes back meets the helper. There is an end for each lane, the
+-- last lane's first, and the sessions that weren't handed out are of the first of these.
 pub record IsHosting (h : Home) (x : Parts Deferred) (l : Layout) (unused : List Seated) (lanes : List LaneEnd) : Type 0 where
   pub helping : IsHelping hosted_device h x
   pub layout_is : l ≡ x.store.known.layout
@@ -19,3 +21,6 @@ pub record IsHosting (h : Home) (x : Parts Deferred) (l : Layout) (unused : List
   pub unused_are : AreNewHere h unused
   pub count : length unused ≤ length lanes
   pub lanes_are : All (IsLaneEnd h x.store.known.layout.capacity x.rings) lanes
+  pub order : lanes_at lanes ≡ range_with_len 0 l.lanes
+  pub joined : All (IsJoinedHere h x.store.known.layout.capacity x.rings) unused
+  pub paired : ArePaired unused lanes

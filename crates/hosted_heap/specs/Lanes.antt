@@ -1,11 +1,12 @@
 -- Where sessions come back (this project's own).
-use Rattle.std.specs.Prelude.{ℕ, ◌≡◌, List, ◌∷◌, [], None, All, IfSome}
+use Rattle.std.specs.Prelude.{ℕ, ◌≡◌, List, ◌∷◌, [], None, All, IfSome, IsSome, fold, length, take}
 use Rattle.monitor.specs.Seats.{Home}
 use Rattle.rtrb.specs.Ring.{known_items, received}
 use Rattle.running_heap.specs.Joined.{IsJoined}
 use Rattle.session.specs.Sessions.{view_of}
 use Rattle.session.specs.declared.session.Session.{Session}
 use Rattle.trim_helper.specs.Endings.{Rings}
+use Rattle.hosted_heap.specs.Hosting.{lanes_of}
 use Rattle.hosted_heap.specs.Sessions.{Seated}
 use Rattle.hosted_heap.specs.declared.lane_end.LaneEnd.{LaneEnd}
 
@@ -13,10 +14,36 @@ use Rattle.hosted_heap.specs.declared.lane_end.LaneEnd.{LaneEnd}
 abbrev pub BeginsJoined : (h : Home) (capacity : ℕ) (rings : Rings) → List Session → Type 0
 BeginsJoined h capacity rings items = (s : Session) × (more : List Session) × (items ≡ s ∷ more) × IsJoined h capacity rings s
 
--- what came through, and what has come back, is a session that is joined to the helper
+-- the lane of the first of these
+abbrev pub lane_in : List Session → ℕ
+lane_in [] = 0
+lane_in (s ∷ more) = (view_of s).lane.0
+
+-- the lane whose end this is: that of the session that came through first
+abbrev pub lane_at : LaneEnd → ℕ
+lane_at l = lane_in (received l.back)
+
+-- the lanes of these ends, the last one first
+abbrev pub lanes_at : List LaneEnd → List ℕ
+lanes_at ends = fold (λ later l. lane_at l ∷ later) [] ends
+
+-- the session is joined to the helper, and of this lane
+pub record IsBack (h : Home) (capacity : ℕ) (rings : Rings) (lane : ℕ) (s : Session) : Type 0 where
+  pub joined : IsJoined h capacity rings s
+  pub lane_is : (view_of s).lane.0 ≡ lane
+
+-- what came through is a session that is joined to the helper, and what has come back is that session
 pub record IsLaneEnd (h : Home) (capacity : ℕ) (rings : Rings) (l : LaneEnd) : Type 0 where
   pub first : BeginsJoined h capacity rings (received l.back)
-  pub came : IfSome l.came (IsJoined h capacity rings)
+  pub came : IfSome l.came (IsBack h capacity rings (lane_at l))
+
+-- they are ends of the same lanes
+abbrev pub KeepsEnds : (old new : List LaneEnd) → Type 0
+KeepsEnds old new = (h : Home) (capacity : ℕ) (rings : Rings) → All (IsLaneEnd h capacity rings) old → All (IsLaneEnd h capacity rings) new × (lanes_at new ≡ lanes_at old)
+
+-- its session has come back
+abbrev pub HasCome : LaneEnd → Type 0
+HasCome l = IsSome l.came
 
 -- after a look its session hasn't come back
 pub record IsAwaited (l : LaneEnd) : Type 0 where
@@ -30,3 +57,11 @@ pub record IsNewHere (h : Home) (s : Seated) : Type 0 where
 
 abbrev pub AreNewHere : Home → List Seated → Type 0
 AreNewHere h sessions = All (IsNewHere h) sessions
+
+-- the session in it is joined to the helper
+abbrev pub IsJoinedHere : (h : Home) (capacity : ℕ) (rings : Rings) → Seated → Type 0
+IsJoinedHere h capacity rings s = IsJoined h capacity rings s.session
+
+-- these sessions are of the lanes whose ends come first
+abbrev pub ArePaired : List Seated → List LaneEnd → Type 0
+ArePaired unused ends = lanes_of unused ≡ lanes_at (take (length unused) ends)

@@ -3,7 +3,7 @@ ghost use Rattle.std.specs.Prelude.{◌≡◌, ◌∷◌, [], ℕ, All, IfOk, No
 ghost use Rattle.std.specs.List.{range_with_len};
 ghost use Rattle.std.specs.Arc.{arc_value};
 ghost use Rattle.hosted_heap.specs.Hosting.{lanes_of};
-ghost use Rattle.hosted_heap.specs.Lanes.{AreNewHere, IsLaneEnd};
+ghost use Rattle.hosted_heap.specs.Lanes.{AreNewHere, IsJoinedHere, IsLaneEnd, lanes_at};
 ghost use Rattle.monitor.specs.Seats.{Home};
 ghost use Rattle.rtrb.specs.Ring.{received};
 ghost use Rattle.running_heap.specs.Joined.{AreNew, IsJoined};
@@ -29,9 +29,10 @@ pub fn begin_all(
     requires fresh { AreNew 0 sessions.items }
     ensures homes { IfOk result (λ r. AreNewHere (arc_value shared.now) r.0.items) }
     ensures in_order { IfOk result (λ r. lanes_of r.0.items ≡ range_with_len 0 (length sessions.items)) }
+    ensures paired { IfOk result (λ r. lanes_at r.1.items ≡ lanes_of r.0.items) }
     ensures count { IfOk result (λ r. length r.0.items ≡ length r.1.items) }
     ensures lanes { (capacity : ℕ) (rings : Rings) → All (IsJoined (arc_value shared.now) capacity rings) sessions.items
-        → IfOk result (λ r. All (IsLaneEnd (arc_value shared.now) capacity rings) r.1.items) }
+        → IfOk result (λ r. All (IsLaneEnd (arc_value shared.now) capacity rings) r.1.items × All (IsJoinedHere (arc_value shared.now) capacity rings) r.0.items) }
 {
     let mut left = sessions;
     let mut unused = Vec::new(alloc);

@@ -1,8 +1,9 @@
 //! A hosted heap is closed.
-ghost use Rattle.std.specs.Prelude.{◌≡◌, ◌<◌, [], ℕ, All, Any, IfErr, IfOk, false, drop, length, slice_index_or};
-ghost use Rattle.hosted_heap.specs.Closing.{HasStopped};
+ghost use Rattle.std.specs.Prelude.{◌≡◌, ◌<◌, ◌≤◌, [], ℕ, All, Any, IfErr, IfOk, Some, true, false, drop, length, set, slice_index_or};
+ghost use Rattle.std.specs.List.{range_with_len};
+ghost use Rattle.hosted_heap.specs.Closing.{HasStopped, lanes_ended};
 ghost use Rattle.hosted_heap.specs.Hosting.{IsClosedWith, hosted_device};
-ghost use Rattle.hosted_heap.specs.Lanes.{IsAwaited, IsLaneEnd};
+ghost use Rattle.hosted_heap.specs.Lanes.{ArePaired, HasCome, IsAwaited, IsJoinedHere, IsLaneEnd, KeepsEnds, lanes_at};
 ghost use Rattle.hosted_heap.specs.declared.lane_end.LaneEnd.{LaneEnd as End};
 ghost use Rattle.monitor.specs.Seats.{Home};
 ghost use Rattle.running_heap.specs.Joined.{IsHelping};
@@ -43,11 +44,11 @@ pub enum NotClosed {
 }
 
 impl HostedHeap {
-    ghost use Rattle.std.specs.Prelude.{◌≡◌, [], Any, IfErr, IfOk, false};
+    ghost use Rattle.std.specs.Prelude.{◌≡◌, [], All, Any, IfErr, IfOk, true, false};
     ghost use Rattle.deferred_disk.specs.Host.{HasLooked};
     ghost use Rattle.hosted_heap.specs.Closing.{GoesOn, GoesOnWithout, IsNotClosed, IsNotFinished};
     ghost use Rattle.hosted_heap.specs.Hosting.{IsClosedWith, hosted_device};
-    ghost use Rattle.hosted_heap.specs.Lanes.{IsAwaited};
+    ghost use Rattle.hosted_heap.specs.Lanes.{HasCome, IsAwaited};
 
     /// Closes the heap, once each session that was handed out has ended: all that the sessions sent is made durable on the disk in
     /// memory and handed over. The host makes the calls that are left, and then its device has the heap of one legal history, in
@@ -72,6 +73,7 @@ impl HostedHeap {
 
     // Whether each session that was handed out has come back.
     fn has_all(&mut self) -> bool
+        ensures came { result ≡ true → All HasCome self.new.out }
         ensures awaited { result ≡ false → Any IsAwaited self.new.out }
         ensures same { GoesOn self.old self.new × (self.new.calls ≡ self.old.calls) }
     {
@@ -79,16 +81,19 @@ impl HostedHeap {
         have_come(&mut self.lanes, first)
     }
 
-    // Ends the sessions that weren't handed out.
+    // Ends the sessions that weren't handed out: each has come back to its lane's end then.
     fn end_unused(&mut self)
-        ensures { GoesOnWithout self.old self.new × (self.new.calls ≡ self.old.calls) }
+        requires { All HasCome self.old.out }
+        ensures came { All HasCome self.new.out }
+        ensures without { GoesOnWithout self.old self.new × (self.new.calls ≡ self.old.calls) }
     {
-        end_sessions(&mut self.unused);
-        let _ = have_come(&mut self.lanes, 0);
+        bring_back(&mut self.unused, &mut self.lanes);
     }
 
-    // Closes with the sessions that have come back, where nobody else has the words.
+    // Closes with the sessions that have come back, all of them, where nobody else has the words.
     fn finish(self) -> Result<Closed, NotClosed>
+        requires unused { self.unused ≡ [] }
+        requires came { All HasCome self.out }
         ensures ok { IfOk result (λ closed. IsClosedWith self.home self.helper.store.known.layout (hosted_device closed.disk)) }
         ensures calls { IfOk result (λ closed. closed.calls ≡ self.calls) }
         ensures refused { IfErr result (IsNotFinished self) }
@@ -119,7 +124,8 @@ impl HostedHeap {
 
 // Whether the sessions of the lanes from this place on have come back.
 fn have_come(lanes: &mut Vec<LaneEnd>, first: usize) -> bool
-    ensures kept { (h : Home) (capacity : ℕ) (rings : Rings) → All (IsLaneEnd h capacity rings) lanes.old.items → All (IsLaneEnd h capacity rings) lanes.new.items }
+    ensures kept { KeepsEnds lanes.old.items lanes.new.items }
+    ensures came { result ≡ true → All HasCome (drop first lanes.new.items) }
     ensures count { length lanes.new.items ≡ length lanes.old.items }
     ensures awaited { result ≡ false → Any IsAwaited (drop first lanes.new.items) }
 {
@@ -134,20 +140,42 @@ fn have_come(lanes: &mut Vec<LaneEnd>, first: usize) -> bool
 // Whether the session of the lane at this place has come back.
 fn has_come_at(lanes: &mut Vec<LaneEnd>, place: usize) -> bool
     requires { place < length lanes.old.items }
-    ensures kept { (h : Home) (capacity : ℕ) (rings : Rings) → All (IsLaneEnd h capacity rings) lanes.old.items → All (IsLaneEnd h capacity rings) lanes.new.items }
+    ensures kept { KeepsEnds lanes.old.items lanes.new.items }
+    ensures came { (end : End) × (lanes.new.items ≡ set lanes.old.items place end) × (result ≡ true → HasCome end) }
     ensures count { length lanes.new.items ≡ length lanes.old.items }
     ensures awaited { (d : End) → result ≡ false → IsAwaited (slice_index_or lanes.new.items place d) }
 {
     lanes[place].has_come()
 }
 
-// Ends all these sessions.
-fn end_sessions(sessions: &mut Vec<HostedSession>)
-    ensures { sessions.new.items ≡ [] }
+// Lets these sessions come back, each to its lane's end.
+fn bring_back(unused: &mut Vec<HostedSession>, lanes: &mut Vec<LaneEnd>)
+    requires count { length unused.old.items ≤ length lanes.old.items }
+    requires later { All HasCome (drop (length unused.old.items) lanes.old.items) }
+    ensures none { unused.new.items ≡ [] }
+    ensures came { All HasCome lanes.new.items }
+    ensures kept { (h : Home) (capacity : ℕ) (rings : Rings) → ArePaired unused.old.items lanes.old.items → All (IsJoinedHere h capacity rings) unused.old.items
+        → All (IsLaneEnd h capacity rings) lanes.old.items → All (IsLaneEnd h capacity rings) lanes.new.items × (lanes_at lanes.new.items ≡ lanes_at lanes.old.items) }
 {
-    'sessions: while let Some(session) = sessions.pop() {
-        let _ = session.end();
+    'sessions: while let Some(session) = unused.pop() {
+        let place = unused.len();
+        bring_to(lanes, place, session);
     }
+}
+
+// Lets a session come back to the end at this place.
+fn bring_to(lanes: &mut Vec<LaneEnd>, place: usize, session: HostedSession)
+    requires { place < length lanes.old.items }
+    ensures { (d : End) → lanes.new.items ≡ set lanes.old.items place (record (slice_index_or lanes.old.items place d) { came = Some session.session }) }
+{
+    let HostedSession {
+        shared,
+        session,
+        back,
+    } = session;
+    drop(shared);
+    drop(back);
+    lanes[place].came = Some(session);
 }
 
 // Lets what has come back meet the helper.
@@ -160,6 +188,8 @@ fn close_all(
 ) -> Result<Closed, NotClosed>
     requires helping { IsHelping hosted_device shared helper }
     requires lanes { All (IsLaneEnd shared helper.store.known.layout.capacity helper.rings) lanes.items }
+    requires order { lanes_at lanes.items ≡ range_with_len 0 helper.store.known.layout.lanes }
+    requires came { All HasCome lanes.items }
     ensures ok { IfOk result (λ closed. IsClosedWith shared helper.store.known.layout (hosted_device closed.disk)) }
     ensures calls { IfOk result (λ closed. closed.calls ≡ calls) }
     ensures refused { IfErr result (HasStopped shared helper calls) }
@@ -177,9 +207,11 @@ fn close_all(
     }
 }
 
-// What the sessions that have come back leave.
+// What the sessions that have come back leave, the first lane's first.
 fn end_lanes(alloc: Global, lanes: Vec<LaneEnd>) -> Result<Vec<Ended>, AllocError>
-    ensures ended { (h : Home) (capacity : ℕ) (rings : Rings) → All (IsLaneEnd h capacity rings) lanes.items → IfOk result (λ es. All (IsEnded h capacity rings) es.items) }
+    requires came { All HasCome lanes.items }
+    ensures ended { (h : Home) (capacity : ℕ) (rings : Rings) → All (IsLaneEnd h capacity rings) lanes.items
+        → IfOk result (λ es. All (IsEnded h capacity rings) es.items × (lanes_ended es.items ≡ lanes_at lanes.items)) }
 {
     let mut left = lanes;
     let mut ended = Vec::new(alloc);

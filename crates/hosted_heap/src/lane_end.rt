@@ -1,11 +1,8 @@
 //! The heap's end of a lane.
 ghost use Rattle.std.specs.Prelude.{◌≡◌, ◌↔◌, ◌∷◌, [], ℕ, false, None, IfNone, IfSome, IsSome, IsTrue};
-ghost use Rattle.std.specs.Arc.{arc_value};
-ghost use Rattle.hosted_heap.specs.Lanes.{BeginsJoined, IsAwaited, IsLaneEnd};
+ghost use Rattle.hosted_heap.specs.Lanes.{BeginsJoined, IsAwaited, IsBack, IsLaneEnd, lane_at, lane_in};
 ghost use Rattle.monitor.specs.Seats.{Home};
 ghost use Rattle.rtrb.specs.Ring.{known_items, received};
-ghost use Rattle.running_heap.specs.Joined.{IsJoined};
-ghost use Rattle.session.specs.Sessions.{IsSessionOf};
 ghost use Rattle.trim_helper.specs.Endings.{Rings};
 
 use crate::returning::Returning;
@@ -24,7 +21,7 @@ pub struct LaneEnd {
 impl LaneEnd {
     /// Whether the lane's session has come back.
     pub fn has_come(&mut self) -> bool
-        ensures kept { (h : Home) (capacity : ℕ) (rings : Rings) → IsLaneEnd h capacity rings self.old → IsLaneEnd h capacity rings self.new }
+        ensures kept { (h : Home) (capacity : ℕ) (rings : Rings) → IsLaneEnd h capacity rings self.old → IsLaneEnd h capacity rings self.new × (lane_at self.new ≡ lane_at self.old) }
         ensures came { IsTrue result ↔ IsSome self.new.came }
         ensures awaited { result ≡ false → IsAwaited self.new }
     {
@@ -38,8 +35,9 @@ impl LaneEnd {
 
 // The session that has come through, if one has.
 fn take_one(back: &mut Consumer<Session, Global, Returning>) -> Option<Session>
-    ensures first { (h : Home) (capacity : ℕ) (rings : Rings) → BeginsJoined h capacity rings (received back.old) → BeginsJoined h capacity rings (received back.new) }
-    ensures joined { (h : Home) (capacity : ℕ) (rings : Rings) → BeginsJoined h capacity rings (received back.old) → IfSome result (IsJoined h capacity rings) }
+    ensures first { (h : Home) (capacity : ℕ) (rings : Rings) → BeginsJoined h capacity rings (received back.old)
+        → BeginsJoined h capacity rings (received back.new) × (lane_in (received back.new) ≡ lane_in (received back.old)) }
+    ensures back { (h : Home) (capacity : ℕ) (rings : Rings) → BeginsJoined h capacity rings (received back.old) → IfSome result (IsBack h capacity rings (lane_in (received back.old))) }
     ensures none { IfNone result (known_items back.new ≡ []) }
 {
     joined_law();

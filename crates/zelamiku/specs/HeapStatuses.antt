@@ -83,7 +83,7 @@ abbrev pub acknowledged_status : AcknowledgedError → ℕ
 acknowledged_status acknowledged.BadLane = BAD_LANE
 acknowledged_status acknowledged.CallsLeft = CALLS_LEFT
 
--- why a heap has stopped in place of being closed
+-- why a heap has stopped in place of being closed; none is stopped by `Missing`
 abbrev pub close_status : CloseRefusal → ℕ
 close_status refusal.NoMemory = NO_MEMORY
 close_status (refusal.Close (close.Missing lane)) = BAD_LANE

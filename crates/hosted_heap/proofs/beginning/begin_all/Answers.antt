@@ -6,12 +6,12 @@ use Rattle.running_heap.specs.Joined.{AreNew, IsJoined}
 use Rattle.session.specs.Sessions.{IsSessionOf, view_of}
 use Rattle.session.specs.declared.session.Session.{Session}
 use Rattle.std.specs.Arc.{arc_value}
-use Rattle.std.specs.List.{range_with_len}
 use Rattle.hosted_heap.specs.Hosting.{lanes_of}
-use Rattle.hosted_heap.specs.Lanes.{AreNewHere, IsLaneEnd, IsNewHere}
+use Rattle.hosted_heap.specs.Lanes.{AreNewHere, IsBack, IsJoinedHere, IsLaneEnd, IsNewHere, lane_at, lane_in, lanes_at}
 use Rattle.hosted_heap.specs.Sessions.{Seated}
 use Rattle.hosted_heap.specs.declared.lane_end.LaneEnd.{LaneEnd}
-use Rattle.hosted_heap.proofs.Orders.{lanes_down, new_popped}
+use Rattle.hosted_heap.proofs.Ends.{lanes_at_more}
+use Rattle.hosted_heap.proofs.Orders.{lanes_down, lanes_more, new_popped}
 use Rattle.hosted_heap.proofs.beginning.begin_all.Invariants.{IsDown}
 use Rattle.hosted_heap.proofs.beginning.begin_all.Goals as goal
 
@@ -26,7 +26,8 @@ sessions-init c =
       ap (λ (u : List Seated). length u) none ∙ sym (ap (λ (es : List LaneEnd). length es) c.new-lanes.ensures.items),
       c.requires.of,
       subst (AreNewHere h) (sym none) (All-nil (IsNewHere h)),
-      λ k rings all. (all, subst (All (IsLaneEnd h k rings)) (sym c.new-lanes.ensures.items) (All-nil (IsLaneEnd h k rings))),
+      λ k rings all. (all, subst (All (IsLaneEnd h k rings)) (sym c.new-lanes.ensures.items) (All-nil (IsLaneEnd h k rings)), subst (All (IsJoinedHere h k rings)) (sym none) (All-nil (IsJoinedHere h k rings))),
+      ap (λ (es : List LaneEnd). lanes_at es) c.new-lanes.ensures.items ∙ sym (ap (λ (u : List Seated). lanes_of u) none),
     )
 
 pub sessions-preserved : goal.sessions-preserved
@@ -60,10 +61,14 @@ sessions-preserved c =
             subst (All (IsLaneEnd h k rings)) (sym c.in_ok-push-2.ensures.items)
                 (All-push (IsLaneEnd h k rings) _ c.in_ok-session.end each.1 (record {
                   first = (s, [], ends.end.0, parts.1);
-                  came = subst (λ (o : Option Session). IfSome o (IsJoined h k rings)) (sym ends.end.1) tt;
+                  came = subst (λ (o : Option Session). IfSome o (IsBack h k rings (lane_at c.in_ok-session.end))) (sym ends.end.1) tt;
                 })),
+            subst (All (IsJoinedHere h k rings)) (sym pushed) (All-push (IsJoinedHere h k rings) unused one each.2 (subst (IsJoined h k rings) (sym ends.session.1) parts.1)),
           ),
+      ap (λ (es : List LaneEnd). lanes_at es) c.in_ok-push-2.ensures.items ∙ lanes_at_more c.sessions.lanes.items c.in_ok-session.end
+          ∙ ap (λ (n : ℕ). n ∷ lanes_at c.sessions.lanes.items) (ap (λ (items : List Session). lane_in items) ends.end.0 ∙ sym (ap (λ (x : Session). (view_of x).lane.0) ends.session.1))
+          ∙ ap (λ (ns : List ℕ). (view_of one.session).lane.0 ∷ ns) was.6 ∙ sym (lanes_more unused one) ∙ sym (ap (λ (u : List Seated). lanes_of u) pushed),
     )
 
 pub returns-clause-lanes : goal.returns-clause-lanes
-returns-clause-lanes c = λ k rings all. (c.sessions.invariant.5 k rings all).1
+returns-clause-lanes c = λ k rings all. let each = c.sessions.invariant.5 k rings all in (each.1, each.2)

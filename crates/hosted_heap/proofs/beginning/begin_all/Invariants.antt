@@ -7,7 +7,7 @@ use Rattle.session.specs.declared.session.Session.{Session}
 use Rattle.std.specs.List.{range_with_len}
 use Rattle.hosted_heap.specs.Hosting.{lanes_of}
 use Rattle.hosted_heap.specs.Sessions.{Seated}
-use Rattle.hosted_heap.specs.Lanes.{AreNewHere, IsLaneEnd}
+use Rattle.hosted_heap.specs.Lanes.{AreNewHere, IsJoinedHere, IsLaneEnd, lanes_at}
 use Rattle.hosted_heap.proofs.beginning.begin_all.Given as goal
 
 -- the lanes of those that are left come before these, which are in order
@@ -18,7 +18,8 @@ abbrev pub invariant-sessions : goal.invariant-sessions
 invariant-sessions l = AreNew 0 l.left.items × IsDown l.left.items l.unused.items (length l.fn.sessions.items) × (length l.unused.items ≡ length l.lanes.items)
     × All (IsSessionOf (arc_value l.fn.shared)) l.left.items × AreNewHere (arc_value l.fn.shared) l.unused.items
     × ((k : ℕ) (rings : Rings) → All (IsJoined (arc_value l.fn.shared) k rings) l.fn.sessions.items
-    → All (IsJoined (arc_value l.fn.shared) k rings) l.left.items × All (IsLaneEnd (arc_value l.fn.shared) k rings) l.lanes.items)
+    → All (IsJoined (arc_value l.fn.shared) k rings) l.left.items × All (IsLaneEnd (arc_value l.fn.shared) k rings) l.lanes.items × All (IsJoinedHere (arc_value l.fn.shared) k rings) l.unused.items)
+    × (lanes_at l.lanes.items ≡ lanes_of l.unused.items)
 
 abbrev pub decreases-sessions : goal.decreases-sessions
 decreases-sessions l = vec_len l.left

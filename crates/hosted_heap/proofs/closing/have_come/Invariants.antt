@@ -1,8 +1,10 @@
-use Rattle.std.proofs.Common.{ℕ, ◌≡◌, All, length}
-use Rattle.monitor.specs.Seats.{Home}
-use Rattle.trim_helper.specs.Endings.{Rings}
-use Rattle.hosted_heap.specs.Lanes.{IsLaneEnd}
+use Rattle.std.proofs.Common.{ℕ, ◌≡◌, ◌<◌, ◌≤◌, length}
+use Rattle.std.specs.List.{slice_index_or}
+use Rattle.hosted_heap.specs.Lanes.{HasCome, KeepsEnds}
+use Rattle.hosted_heap.specs.declared.lane_end.LaneEnd.{LaneEnd}
 use Rattle.hosted_heap.proofs.closing.have_come.Given as goal
 
+-- the sessions of these lanes have come back so far
 abbrev pub invariant-loop-place : goal.invariant-loop-place
-invariant-loop-place l = ((h : Home) (k : ℕ) (rings : Rings) → All (IsLaneEnd h k rings) l.initial.lanes.items → All (IsLaneEnd h k rings) l.lanes.items) × (length l.lanes.items ≡ length l.initial.lanes.items)
+invariant-loop-place l = KeepsEnds l.initial.lanes.items l.lanes.items × (length l.lanes.items ≡ length l.initial.lanes.items)
+    × ((i : ℕ) (d : LaneEnd) → l.fn.first ≤ i → i < l.place → HasCome (slice_index_or l.lanes.items i d))

@@ -1,4 +1,4 @@
-use Rattle.std.proofs.Common.{ℕ, All, length, ap, sym, ◌∙◌, subst, arith}
+use Rattle.std.proofs.Common.{ℕ, All, List, length, take_all, ap, sym, ◌∙◌, subst, arith}
 use Rattle.std.proofs.lemmas.List.{drop_all}
 use Rattle.std.proofs.lemmas.List.Elements.{All-weaker}
 use Rattle.image.specs.declared.layout.Layout.{Layout}
@@ -10,6 +10,8 @@ use Rattle.steps.specs.Views.{plan}
 use Rattle.store_past.specs.Past.{no_past}
 use Rattle.trim_helper.specs.Parts.{IsServing}
 use Rattle.hosted_heap.specs.Hosting.{hosted_device}
+use Rattle.hosted_heap.specs.Lanes.{lanes_at}
+use Rattle.hosted_heap.specs.declared.lane_end.LaneEnd.{LaneEnd}
 use Rattle.hosted_heap.proofs.opening.begin.Goals as goal
 
 pub begin_all-requires : goal.begin_all-requires
@@ -25,15 +27,22 @@ pub invariant_of-result : goal.invariant_of-result
 invariant_of-result c =
     let x = c.in-Ok.heap in
     let same = sym c.in_ok-shared.ensures.ok in
+    let unused = c.in_ok-unused.unused.items in
+    let lanes = c.in_ok-unused.lanes.items in
+    let count = c.in_ok-unused.ensures.count in
+    let ends = c.in_ok-unused.ensures.lanes x.helper.store.known.layout.capacity x.helper.rings
+    (subst (λ (h : Home). All (IsJoined h x.helper.store.known.layout.capacity x.helper.rings) x.sessions.items) same
+    (subst (λ (l : Layout). All (IsJoined x.shared l.capacity x.helper.rings) x.sessions.items) (sym c.in-Ok.ensures.layout) c.in-Ok.ensures.joined)) in
     record {
       helping = subst (λ (h : Home). IsHelping hosted_device h x.helper) same c.in-Ok.ensures.helping;
       layout_is = c.layout-layout.ensures.layout ∙ sym c.in-Ok.ensures.layout;
       within = c.layout-layout.ensures.recovered.image.header.limits;
       unused_are = c.in_ok-unused.ensures.homes;
       count = (let same = c.in_ok-unused.ensures.count in omega (arith, same));
-      lanes_are = c.in_ok-unused.ensures.lanes x.helper.store.known.layout.capacity x.helper.rings
-          (subst (λ (h : Home). All (IsJoined h x.helper.store.known.layout.capacity x.helper.rings) x.sessions.items) same
-          (subst (λ (l : Layout). All (IsJoined x.shared l.capacity x.helper.rings) x.sessions.items) (sym c.in-Ok.ensures.layout) c.in-Ok.ensures.joined));
+      lanes_are = ends.0;
+      order = c.in_ok-unused.ensures.paired ∙ c.in_ok-unused.ensures.in_order ∙ ap (λ (n : ℕ). range_with_len 0 n) c.in-Ok.ensures.count ∙ ap (λ (l : Layout). range_with_len 0 l.lanes) (sym c.layout-layout.ensures.layout);
+      joined = ends.1;
+      paired = sym c.in_ok-unused.ensures.paired ∙ ap (λ (es : List LaneEnd). lanes_at es) (sym (take_all (length unused) lanes (omega (arith, count))));
     }
 
 pub returns : goal.returns

@@ -1,20 +1,32 @@
-use Rattle.std.proofs.Common.{List, ◌≤◌, length, sym, subst, arith}
+use Rattle.std.proofs.Common.{All, List, ◌≤◌, length, refl, sym, ◌∙◌, subst, arith}
 use Rattle.std.proofs.lemmas.List.Elements.{All-nil}
 use Rattle.std.specs.Arc.{arc_value}
+use Rattle.hosted_heap.specs.Hosting.{Hosting, handed_out}
+use Rattle.hosted_heap.specs.Lanes.{AreNewHere, ArePaired, HasCome, IsJoinedHere, IsNewHere}
 use Rattle.hosted_heap.specs.Sessions.{Seated}
-use Rattle.hosted_heap.specs.Lanes.{AreNewHere, IsNewHere}
 use Rattle.hosted_heap.proofs.heap.HostedHeap.end_unused.Goals as goal
+
+pub bring_back-requires : goal.bring_back-requires
+bring_back-requires c = record { count = c.self.invariant.count; later = subst (λ (x : Hosting). All HasCome x.out) (sym c.self.view_is) c.requires }
 
 pub invariant_of-self : goal.invariant_of-self
 invariant_of-self c =
     let was = c.self.invariant in
     let h = arc_value c.self.inside.shared in
     let x = c.self.inside.helper in
+    let none = sym c.bring_back.ensures.none in
+    let moved = c.bring_back.ensures.kept h x.store.known.layout.capacity x.rings was.paired was.joined was.lanes_are in
     record {
       helping = was.helping;
       layout_is = was.layout_is;
       within = was.within;
-      unused_are = subst (AreNewHere h) (sym c.end_sessions.ensures) (All-nil (IsNewHere h));
-      count = subst (λ (u : List Seated). length u ≤ length c.have_come.new.lanes.items) (sym c.end_sessions.ensures) (omega arith);
-      lanes_are = c.have_come.ensures.kept h x.store.known.layout.capacity x.rings was.lanes_are;
+      unused_are = subst (AreNewHere h) none (All-nil (IsNewHere h));
+      count = subst (λ (u : List Seated). length u ≤ length c.bring_back.new.lanes.items) none (omega arith);
+      lanes_are = moved.0;
+      order = moved.1 ∙ was.order;
+      joined = subst (All (IsJoinedHere h x.store.known.layout.capacity x.rings)) none (All-nil (IsJoinedHere h x.store.known.layout.capacity x.rings));
+      paired = subst (λ (u : List Seated). ArePaired u c.bring_back.new.lanes.items) none refl;
     }
+
+pub returns-clause-came : goal.returns-clause-came
+returns-clause-came c = subst (λ (u : List Seated). All HasCome (handed_out u c.bring_back.new.lanes.items)) (sym c.bring_back.ensures.none) c.bring_back.ensures.came

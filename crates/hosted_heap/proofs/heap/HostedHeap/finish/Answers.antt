@@ -1,15 +1,28 @@
-use Rattle.std.proofs.Common.{All, IfErr, ap, sym, ◌∙◌, subst}
+use Rattle.std.proofs.Common.{All, IfErr, List, ap, sym, ◌∙◌, subst}
+use Rattle.std.specs.List.{range_with_len}
+use Rattle.image.specs.declared.layout.Layout.{Layout}
 use Rattle.monitor.specs.Seats.{Home}
 use Rattle.hosted_heap.specs.Closing.{HasStopped}
-use Rattle.hosted_heap.specs.Hosting.{Hosting}
-use Rattle.hosted_heap.specs.Lanes.{IsLaneEnd}
+use Rattle.hosted_heap.specs.Hosting.{Hosting, handed_out}
+use Rattle.hosted_heap.specs.Lanes.{HasCome, IsLaneEnd}
+use Rattle.hosted_heap.specs.Sessions.{Seated}
 use Rattle.hosted_heap.proofs.Closings.{stopped}
+use Rattle.hosted_heap.proofs.Ends.{none_left}
 use Rattle.hosted_heap.proofs.heap.HostedHeap.finish.Goals as goal
 
 pub close_all-requires-clause-lanes : goal.close_all-requires-clause-lanes
 close_all-requires-clause-lanes c =
     let x = c.self.inside.helper in
     subst (λ (h : Home). All (IsLaneEnd h x.store.known.layout.capacity x.rings) c.self.inside.lanes.items) (sym c.in-Ok.ensures.ok) c.self.invariant.lanes_are
+
+pub close_all-requires-clause-order : goal.close_all-requires-clause-order
+close_all-requires-clause-order c = c.self.invariant.order ∙ ap (λ (l : Layout). range_with_len 0 l.lanes) c.self.invariant.layout_is
+
+pub close_all-requires-clause-came : goal.close_all-requires-clause-came
+close_all-requires-clause-came c =
+    let none = none_left c.self.inside.unused.items (ap (λ (x : Hosting). x.unused) c.self.view_is ∙ c.requires.unused) in
+    let out : All HasCome (handed_out c.self.inside.unused.items c.self.inside.lanes.items) = subst (λ (x : Hosting). All HasCome x.out) (sym c.self.view_is) c.requires.came in
+    subst (λ (u : List Seated). All HasCome (handed_out u c.self.inside.lanes.items)) none out
 
 pub returns-in-Ok-clause-refused : goal.returns-in-Ok-clause-refused
 returns-in-Ok-clause-refused c = stopped c.args.self c.in-Ok.shared c.close_all.result (c.in-Ok.ensures.ok ∙ ap (λ (x : Hosting). x.home) c.self.view_is)

@@ -1,20 +1,30 @@
-use Rattle.std.proofs.Common.{ℕ, ◌≡◌, Any, drop, length, ◌∙◌, subst, arith}
-use Rattle.hosted_heap.specs.Lanes.{IsAwaited}
+use Rattle.std.proofs.Common.{ℕ, ◌≡◌, All, Any, drop, length, ◌∙◌, subst, arith}
 use Rattle.std.specs.Arc.{arc_value}
+use Rattle.hosted_heap.specs.Lanes.{HasCome, IsAwaited}
+use Rattle.hosted_heap.proofs.Ends.{paired_kept}
 use Rattle.hosted_heap.proofs.heap.HostedHeap.has_all.Goals as goal
 
 pub invariant_of-self : goal.invariant_of-self
 invariant_of-self c =
     let was = c.self.invariant in
     let x = c.self.inside.helper in
+    let kept = c.have_come.ensures.kept (arc_value c.self.inside.shared) x.store.known.layout.capacity x.rings was.lanes_are in
     record {
       helping = was.helping;
       layout_is = was.layout_is;
       within = was.within;
       unused_are = was.unused_are;
       count = (let was = was.count in let same = c.have_come.ensures.count in omega (arith, was, same));
-      lanes_are = c.have_come.ensures.kept (arc_value c.self.inside.shared) x.store.known.layout.capacity x.rings was.lanes_are;
+      lanes_are = kept.0;
+      order = kept.1 ∙ was.order;
+      joined = was.joined;
+      paired = paired_kept c.self.inside.unused.items c.self.inside.lanes.items c.have_come.new.lanes.items kept.1 c.have_come.ensures.count was.paired;
     }
+
+pub returns-clause-came : goal.returns-clause-came
+returns-clause-came c = λ yes.
+    let first : c.len-first.result ≡ length c.self.inside.unused.items = c.len-first.ensures ∙ c.self.inside.unused.ok.0 in
+    subst (λ (n : ℕ). All HasCome (drop n c.have_come.new.lanes.items)) first (c.have_come.ensures.came yes)
 
 pub returns-clause-awaited : goal.returns-clause-awaited
 returns-clause-awaited c = λ no.

@@ -6,7 +6,7 @@ use Rattle.steps.specs.Views.{plan}
 use Rattle.trim_helper.specs.Helping.{IsHelper}
 use Rattle.trim_helper.specs.Parts.{HasServed, IsServing}
 use Rattle.hosted_heap.specs.Hosting.{Hosting, hosted_device}
-use Rattle.hosted_heap.proofs.Later.{ends_on}
+use Rattle.hosted_heap.proofs.Later.{ends_on, joined_on}
 use Rattle.hosted_heap.proofs.Rounds.{either_way}
 use Rattle.hosted_heap.proofs.heap.HostedHeap.serve.Goals as goal
 
@@ -27,6 +27,10 @@ invariant_of-self c =
       count = was.count;
       lanes_are = ends_on c.joined_law.ensures.rings h x.store.known.layout.capacity y.store.known.layout.capacity x.rings y.rings c.self.inside.lanes.items
           (ap (λ (l : Layout). l.capacity) c.round.ensures.layout) c.round.ensures.rings was.lanes_are;
+      order = was.order;
+      joined = joined_on c.joined_law.ensures.rings h x.store.known.layout.capacity y.store.known.layout.capacity x.rings y.rings c.self.inside.unused.items
+          (ap (λ (l : Layout). l.capacity) c.round.ensures.layout) c.round.ensures.rings was.joined;
+      paired = was.paired;
     }
 
 pub returns-clause-err : goal.returns-clause-err

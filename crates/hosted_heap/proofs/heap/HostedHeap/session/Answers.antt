@@ -1,14 +1,39 @@
-use Rattle.std.proofs.Common.{◌≡◌, ◌∷◌, Option, Some, None, IfSome, [], ap, sym, ◌∙◌, subst}
+use Rattle.std.proofs.Common.{◌≡◌, ◌+◌, ◌≤◌, ◌∷◌, ◌++◌, List, Option, Some, None, IfSome, option_to_list, [], length, ap, ◌∙◌, subst, arith}
+use Rattle.std.proofs.lemmas.List.{length-append}
 use Rattle.std.proofs.lemmas.List.Elements.{All-pop}
 use Rattle.monitor.specs.Seats.{Home}
 use Rattle.session.specs.Sessions.{view_of}
 use Rattle.std.specs.Arc.{arc_value}
 use Rattle.hosted_heap.specs.Hosting.{Hosting, handed_out}
-use Rattle.hosted_heap.specs.Lanes.{IsNewHere}
+use Rattle.hosted_heap.specs.Lanes.{IsJoinedHere, IsNewHere}
 use Rattle.hosted_heap.specs.Sessions.{Seated}
 use Rattle.hosted_heap.specs.declared.lane_end.LaneEnd.{LaneEnd}
+use Rattle.hosted_heap.proofs.Ends.{paired_popped}
 use Rattle.hosted_heap.proofs.Orders.{popped_out}
 use Rattle.hosted_heap.proofs.heap.HostedHeap.session.Goals as goal
+
+pub invariant_of-self : goal.invariant_of-self
+invariant_of-self c =
+    let was = c.self.invariant in
+    let h : Home = arc_value c.self.inside.shared in
+    let x = c.self.inside.helper in
+    let unused : List Seated = c.self.inside.unused.items in
+    let left : List Seated = c.pop.new.self.items in
+    let lanes : List LaneEnd = c.self.inside.lanes.items in
+    let popped : unused ≡ left ++ option_to_list c.pop.result = c.pop.ensures.items in
+    let long : length unused ≡ length left + length (option_to_list c.pop.result) = ap (λ (l : List Seated). length l) popped ∙ length-append left (option_to_list c.pop.result) in
+    let count : length unused ≤ length lanes = was.count in
+    record {
+      helping = was.helping;
+      layout_is = was.layout_is;
+      within = was.within;
+      unused_are = (All-pop (IsNewHere h) unused left c.pop.result popped was.unused_are).0;
+      count = omega (arith, long, count);
+      lanes_are = was.lanes_are;
+      order = was.order;
+      joined = (All-pop (IsJoinedHere h x.store.known.layout.capacity x.rings) unused left c.pop.result popped was.joined).0;
+      paired = paired_popped unused left c.pop.result lanes popped count was.paired;
+    }
 
 pub returns-clause-out : goal.returns-clause-out
 returns-clause-out c =

@@ -1,0 +1,22 @@
+use Rattle.std.proofs.Common.{refl, ◌∙◌}
+use Rattle.hosted_heap.proofs.Closings.{stops_for}
+use Rattle.hosted_heap.proofs.Ends.{complete_of}
+use Rattle.hosted_heap.proofs.closing.close_all.Goals as goal
+
+pub close-requires-clause-ended : goal.close-requires-clause-ended
+close-requires-clause-ended c = (c.in-Ok.ensures.ended c.args.shared c.args.helper.store.known.layout.capacity c.args.helper.rings c.requires.lanes).0
+
+pub returns-in-Err-clause-refused : goal.returns-in-Err-clause-refused
+returns-in-Err-clause-refused c =
+    let x = c.args.helper in
+    let told = c.in-Ok.ensures.ended c.args.shared x.store.known.layout.capacity x.rings c.requires.lanes in (
+      refl,
+      stops_for c.args.shared x c.in-Err.disk c.in-Err.refusal (record {
+        ended = c.in-Ok.ended.items;
+        are = told.0;
+        complete = complete_of x.store.known.layout.lanes c.in-Ok.ended.items (told.1 ∙ c.requires.order);
+        refuses = c.in-Err.ensures.refused;
+        untouched = c.in-Err.ensures.untouched;
+        why = c.in-Err.ensures.why;
+      }),
+    )
