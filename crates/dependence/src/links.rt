@@ -6,11 +6,8 @@ ghost use Rattle.dependence.specs.Links.{checked_release, object_of, with_releas
 
 use crate::step::Step;
 use crate::steps::takes_what_frees;
-use heap_model::{ObjectId, UndoRecord};
+use heap_model::{MOST_OBJECTS, ObjectId, UndoRecord};
 use std::alloc::{AllocError, Global};
-
-/// How many objects a graph may name: they are numbered from 0.
-pub const OBJECTS: usize = 4096;
 
 /// The places of the steps next to each step: before it in its lane, and on the other side of a monitor
 /// that changed hands. A place is kept as one more than the step's index, and 0 says that there is none.
@@ -41,7 +38,7 @@ impl Links {
         Ok(Links {
             newest: [0; 32],
             before: Vec::with_capacity(alloc, records)?,
-            freed: vec![in alloc; 0; OBJECTS]?,
+            freed: vec![in alloc; 0; MOST_OBJECTS]?,
             partner: Vec::with_capacity(alloc, records)?,
         })
     }

@@ -15,5 +15,8 @@ mod record;
 pub use cut::Cut;
 pub use event::{Event, Sight};
 pub use ids::{FieldId, Lane, ObjectId};
-pub use limits::{LANES, LAST_NUMBER, MOST_FIELDS, MOST_OBJECTS, SECTION_RECORDS};
+pub use limits::{
+    LANES, LAST_NUMBER, LAST_PLACE, LEAST_CAPACITY, MOST_CAPACITY, MOST_FIELDS, MOST_OBJECTS,
+    RING_RECORDS, SECTION_RECORDS,
+};
 pub use record::{LaneRecord, Record, UndoRecord};

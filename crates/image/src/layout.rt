@@ -4,7 +4,7 @@ ghost use Rattle.guards.specs.Schema.{object_count, field_count};
 ghost use Rattle.image.specs.Layout.{IsLayout, IsLayoutOf, area_at, cell_at, guard_at, record_at, size_of};
 
 use guards::Schema;
-use heap_model::{FieldId, Lane};
+use heap_model::{FieldId, LANES, LEAST_CAPACITY, Lane, MOST_CAPACITY, MOST_FIELDS, MOST_OBJECTS};
 
 // The header and the two slots of the control lie before the guard rows.
 const GUARDS_AT: u64 = 2160;
@@ -56,13 +56,13 @@ impl Layout {
         ensures { IsTrue result ↔ IsLayout self.now }
     {
         1 <= self.objects
-            && self.objects <= 4096
+            && self.objects <= MOST_OBJECTS as u32
             && 1 <= self.fields
-            && self.fields <= 16_384
+            && self.fields <= MOST_FIELDS as u32
             && 1 <= self.lanes
-            && self.lanes <= 32
-            && 2000 <= self.capacity
-            && self.capacity <= 1_048_576
+            && self.lanes <= LANES as u8
+            && LEAST_CAPACITY <= self.capacity
+            && self.capacity <= MOST_CAPACITY
     }
 
     /// The size of the image, in bytes.

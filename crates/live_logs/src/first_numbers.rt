@@ -6,11 +6,7 @@ ghost use Rattle.live_logs.specs.Replay.{BeginsAt};
 ghost use Rattle.live_logs.specs.First.{IsLowered, lowered};
 
 use crate::lanes::records_in;
-use heap_model::{Lane, UndoRecord};
-use log_state::OBJECTS;
-
-/// The last release number, 2^40 - 1. No record has it.
-const LAST_NUMBER: u64 = 1_099_511_627_775;
+use heap_model::{LAST_NUMBER, Lane, MOST_OBJECTS, UndoRecord};
 
 /// By object: the least number at which a live record takes it.
 pub fn first_numbers(logs: &[Vec<UndoRecord>]) -> [u64; 4096]
@@ -18,7 +14,7 @@ pub fn first_numbers(logs: &[Vec<UndoRecord>]) -> [u64; 4096]
     requires range { (l : ℕ) → All IsInRange (records_of logs.now l) }
     ensures { BeginsAt (lanes_of logs.now) (slice_index result) }
 {
-    let mut numbers = [LAST_NUMBER; OBJECTS];
+    let mut numbers = [LAST_NUMBER; MOST_OBJECTS];
     for lane in 0..logs.len() as u8 {
         lower_all(&mut numbers, records_in(logs, Lane(lane)));
     }

@@ -8,8 +8,7 @@ ghost use Rattle.live_logs.specs.Tables.{IsLow, log_of};
 use crate::crossings::{Crossings, LanePlace};
 use crate::settled_count::SettledCount;
 use crate::step::Step;
-use heap_model::UndoRecord;
-use log_state::OBJECTS;
+use heap_model::{MOST_OBJECTS, UndoRecord};
 
 /// The least lane with a settled record that takes an object which a record that isn't settled freed last, and its first
 /// such record. Each step is looked at once.
@@ -34,7 +33,7 @@ fn nothing_met() -> Crossings
 {
     Crossings {
         places: [0; 32],
-        late: [false; OBJECTS],
+        late: [false; MOST_OBJECTS],
         least: None,
     }
 }

@@ -4,8 +4,9 @@ ghost use Rattle.std.specs.Prelude.{◌≡◌, ◌<◌, ◌≤◌, ◌↔◌, Is
 ghost use Rattle.lock_word.specs.declared.fat_word.FatShape.{FatShape};
 ghost use Rattle.lock_word.specs.declared.fat_word.FatShape.TheVariants.{Free, Held};
 ghost use Rattle.lock_word.specs.FatWord.{bits_of, HasWord, CanNest, CanUnnest, CanRelease, nested, unnested, released};
+ghost use Rattle.heap_model.specs.declared.limits.TheConstants.{LAST_NUMBER};
 
-use crate::number::LAST_NUMBER;
+use heap_model::LAST_NUMBER;
 use std::marker::Model;
 
 /// The place of the locks less one, in 16 bits. Below it is the thread.

@@ -14,5 +14,5 @@ mod wait_mask;
 pub use fat_word::{FatShape, FatWord};
 pub use laws::{mask_law, members_law, one_word_law, sight_law};
 pub use lock_word::{FAT_SLOTS, LockWord, Shape, THIN_THREADS};
-pub use number::{LAST_NUMBER, is_release_number};
+pub use number::is_release_number;
 pub use wait_mask::{WaitMask, is_lane};

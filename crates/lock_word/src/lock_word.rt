@@ -4,8 +4,9 @@ ghost use Rattle.std.specs.Prelude.{◌≡◌, ◌<◌, ◌≤◌, ◌↔◌, Is
 ghost use Rattle.lock_word.specs.declared.lock_word.Shape.{Shape};
 ghost use Rattle.lock_word.specs.declared.lock_word.Shape.TheVariants.{Free, Thin, Fat};
 ghost use Rattle.lock_word.specs.LockWord.{bits_of, HasWord, CanNest, CanUnnest, CanRelease, nested, unnested, released};
+ghost use Rattle.heap_model.specs.declared.limits.TheConstants.{LAST_NUMBER};
 
-use crate::number::LAST_NUMBER;
+use heap_model::LAST_NUMBER;
 use std::marker::Model;
 
 /// One more than the greatest thread number that a thin word has room for, in 15 bits. Threads

@@ -1,9 +1,9 @@
 //! The release number: how often a monitor has become free since the heap was opened.
 
 ghost use Rattle.std.specs.Prelude.{◌≤◌, ◌↔◌, IsTrue};
+ghost use Rattle.heap_model.specs.declared.limits.TheConstants.{LAST_NUMBER};
 
-/// The greatest release number, which has 40 bits.
-pub const LAST_NUMBER: u64 = 1_099_511_627_775;
+use heap_model::LAST_NUMBER;
 
 /// Whether a word has room for this release number.
 pub fn is_release_number(number: u64) -> bool

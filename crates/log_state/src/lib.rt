@@ -9,4 +9,4 @@ mod lane_count;
 mod monitors;
 
 pub use lane_count::{LaneCount, count_all};
-pub use monitors::{Monitors, OBJECTS};
+pub use monitors::Monitors;

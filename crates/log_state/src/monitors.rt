@@ -1,10 +1,7 @@
 //! Who holds each object, and its release number.
 ghost use Rattle.std.specs.Prelude.{◌≡◌, length};
 
-use heap_model::{Lane, ObjectId, UndoRecord};
-
-/// The most objects that a heap can have.
-pub const OBJECTS: usize = 4096;
+use heap_model::{Lane, MOST_OBJECTS, ObjectId, UndoRecord};
 
 /// By object: the lane that holds it, and its release number, how often it has become free.
 #[derive(Drop)]
@@ -27,7 +24,7 @@ impl Monitors {
         ensures numbers { number_at result ≡ slice_index numbers }
     {
         Monitors {
-            holders: [None; OBJECTS],
+            holders: [None; MOST_OBJECTS],
             numbers,
         }
     }

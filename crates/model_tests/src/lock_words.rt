@@ -1,9 +1,7 @@
 //! Lock words, and the set of those who wait, by their bits.
 
-use heap_model::Lane;
-use lock_word::{
-    FatShape, FatWord, LAST_NUMBER, LockWord, Shape, WaitMask, is_lane, is_release_number,
-};
+use heap_model::{LAST_NUMBER, Lane};
+use lock_word::{FatShape, FatWord, LockWord, Shape, WaitMask, is_lane, is_release_number};
 
 // The first of these words that isn't spelt so, or not read of these bits.
 fn first_other_lock(cases: &[(LockWord, u64)]) -> Option<u64> {

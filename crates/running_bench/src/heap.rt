@@ -8,12 +8,12 @@ ghost use Rattle.session.specs.Sessions.{IsSessionOf};
 use block_disk::Disk;
 use durable::Store;
 use guards::{Schema, SchemaBuilder};
-use heap_model::Record;
+use heap_model::{MOST_CAPACITY, Record};
 use image::Layout;
 use monitor::Shared;
 use rtrb::Consumer;
 use running_heap::{RunningHeap, open};
-use session::{MOST_CAPACITY, Session, open_sessions};
+use session::{Session, open_sessions};
 use std::alloc::Global;
 
 /// How many records a lane holds where it is trimmed.

@@ -18,7 +18,7 @@ use Rattle.session.specs.declared.session.Session.{Session}
 use Rattle.trim_helper.specs.Endings.{Rings}
 use Rattle.trim_helper.specs.Moves.{IsEndOf, most_room}
 use Rattle.trim_helper.specs.Rings.{received_of}
-use Rattle.trim_helper.specs.declared.rings.TheConstants.{RING_RECORDS}
+use Rattle.heap_model.specs.declared.limits.TheConstants.{RING_RECORDS}
 use Rattle.running_heap.specs.Joined.{IsJoined, AreNew}
 
 -- the views of so many lanes, from this one on

@@ -6,8 +6,8 @@ use Rattle.steps.specs.declared.grip.Seen.{Seen}
 use Rattle.steps.specs.declared.grip.Seen.TheVariants as seen
 use Rattle.session.specs.declared.error.SessionError.{SessionError}
 use Rattle.session.specs.declared.error.SessionError.TheVariants.{UnknownObject, UnknownField, NotHeld, Behind, SectionFull, TooMany, TooDeep, NoFat, Worn, Held}
-use Rattle.heap_model.specs.declared.limits.TheConstants.{SECTION_RECORDS}
-use Rattle.session.specs.declared.limits.TheConstants.{MOST_HELD, LAST_PLACE}
+use Rattle.heap_model.specs.declared.limits.TheConstants.{SECTION_RECORDS, LAST_PLACE}
+use Rattle.session.specs.declared.limits.TheConstants.{MOST_HELD}
 use Rattle.session.specs.Logs.{held_count, place}
 use Rattle.session.specs.Calls.{IsNews, IsQuiet, IsFull, HasRing, Tries, Begins, GoesOn}
 use Rattle.session.proofs.Lengthening.{after_quiet, thin_back}

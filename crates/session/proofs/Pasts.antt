@@ -1,12 +1,11 @@
 -- Where sections began, and their limit, as the view grows.
 use Rattle.std.proofs.Common.{ℕ, ◌≡◌, ◌+◌, ◌<◌, ◌≤◌, List, [], ◌∷◌, length, map, sym, subst, arith}
 use Rattle.std.proofs.lemmas.List.{length-map}
-use Rattle.heap_model.specs.declared.limits.TheConstants.{SECTION_RECORDS}
+use Rattle.heap_model.specs.declared.limits.TheConstants.{SECTION_RECORDS, LAST_PLACE}
 use Rattle.heap_model.specs.declared.record.Record.{Record}
 use Rattle.heap_model.specs.Sections.{Action, action, holding}
 use Rattle.heap_model.specs.Limits.{IsWithinLimits}
 use Rattle.steps.specs.Views.{View}
-use Rattle.session.specs.declared.limits.TheConstants.{LAST_PLACE}
 use Rattle.session.specs.Logs.{log_in, actions_in, held_count, section_records, place}
 use Rattle.session.specs.Past.{BeganBelow}
 

@@ -9,8 +9,8 @@ use Rattle.heap_model.specs.declared.event.Event.TheVariants.{Enter, Store}
 use Rattle.heap_model.specs.History.{logged}
 use Rattle.heap_model.specs.Own.{Hold, Own, own, own_after, own_log, with_own}
 use Rattle.heap_model.specs.Limits.{IsWithinLimits}
-use Rattle.heap_model.specs.declared.limits.TheConstants.{SECTION_RECORDS}
-use Rattle.session.specs.declared.limits.TheConstants.{MOST_HELD, RING_RECORDS, LAST_PLACE}
+use Rattle.heap_model.specs.declared.limits.TheConstants.{SECTION_RECORDS, RING_RECORDS, LAST_PLACE}
+use Rattle.session.specs.declared.limits.TheConstants.{MOST_HELD}
 use Rattle.heap_model.specs.Sections as sections
 use Rattle.heap_model.specs.Sections.{Frees, Stores, action, holding, without}
 use Rattle.steps.specs.Views.{View}

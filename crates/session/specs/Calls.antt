@@ -1,6 +1,6 @@
 -- What the calls of a session answer: `v` is the view before a call, and `w` the view after it.
 use Rattle.std.specs.Prelude.{ℕ, ◌≡◌, ◌≢◌, ◌+◌, ◌<◌, ◌≤◌, ◌⊎◌, List, [], ◌∷◌, ◌++◌, Some, None, Result, Ok, Err, IfOk}
-use Rattle.heap_model.specs.declared.limits.TheConstants.{SECTION_RECORDS}
+use Rattle.heap_model.specs.declared.limits.TheConstants.{SECTION_RECORDS, RING_RECORDS, LAST_PLACE}
 use Rattle.heap_model.specs.declared.ids.ObjectId.{ObjectId}
 use Rattle.heap_model.specs.declared.ids.FieldId.{FieldId}
 use Rattle.heap_model.specs.declared.ids.Lane.{Lane}
@@ -20,7 +20,7 @@ use Rattle.session.specs.declared.error.Still.TheVariants as still
 use Rattle.lock_word.specs.declared.lock_word.TheConstants.{FAT_SLOTS}
 use Rattle.lock_word.specs.Spelling.{fat_sight, lane_of_thread}
 use Rattle.steps.specs.Views.{Lengthens, slot_in, miss_events, IsAnother, IsLastingSeen, IsOfSlot}
-use Rattle.session.specs.declared.limits.TheConstants.{MOST_HELD, THIN_LOCKS, FAT_LOCKS, RING_RECORDS, LAST_PLACE}
+use Rattle.session.specs.declared.limits.TheConstants.{MOST_HELD, THIN_LOCKS, FAT_LOCKS}
 use Rattle.session.specs.Logs.{held_count, place, section_records}
 
 -- nothing is told

@@ -1,10 +1,9 @@
 -- Where the sections of a lane began.
 use Rattle.std.specs.Prelude.{ℕ, ◌≡◌, ◌+◌, ◌<◌, ◌≤◌, List, [], ◌∷◌, length}
 use Rattle.std.specs.Coded.{×_prop, →_prop, Unit-prop, le_prop}
-use Rattle.heap_model.specs.declared.limits.TheConstants.{SECTION_RECORDS}
+use Rattle.heap_model.specs.declared.limits.TheConstants.{SECTION_RECORDS, LAST_PLACE}
 use Rattle.heap_model.specs.Sections.{Action, holding}
 use Rattle.heap_model.specs.Limits.{IsWithinLimits}
-use Rattle.session.specs.declared.limits.TheConstants.{LAST_PLACE}
 
 -- each section began where a whole one fits below the bound, and no section begins at the last place
 abbrev pub BeganBelow : (bound : ℕ) → List Action → Type 0

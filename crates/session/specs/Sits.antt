@@ -1,12 +1,12 @@
 -- What a session keeps beside its seat's view.
 use Rattle.std.specs.Prelude.{ℕ, ◌≡◌, ◌+◌, ◌<◌, ◌≤◌, List, length, Some, None, true}
-use Rattle.heap_model.specs.declared.limits.TheConstants.{SECTION_RECORDS}
+use Rattle.heap_model.specs.declared.limits.TheConstants.{SECTION_RECORDS, LEAST_CAPACITY, MOST_CAPACITY, LAST_PLACE}
 use Rattle.heap_model.specs.declared.ids.ObjectId.{ObjectId}
 use Rattle.heap_model.specs.declared.record.Record.{Record}
 use Rattle.heap_model.specs.Limits.{IsWithinLimits}
 use Rattle.steps.specs.declared.grip.Grip.{Grip}
 use Rattle.steps.specs.Views.{View, hold, Keeps, IsAwake, IsClear}
-use Rattle.session.specs.declared.limits.TheConstants.{MOST_HELD, LEAST_CAPACITY, MOST_CAPACITY, LAST_PLACE}
+use Rattle.session.specs.declared.limits.TheConstants.{MOST_HELD}
 use Rattle.session.specs.Past.{BeganBelow}
 use Rattle.session.specs.Grips.{grip_in, objects_of, are_apart}
 use Rattle.session.specs.Logs.{sent_in, actions_in, held_objects, place, section_records, sections_ended}

@@ -2,11 +2,11 @@
 
 use crate::error::{SessionError, seldom};
 use crate::grips::{put, put_first};
-use crate::limits::{FAT_LOCKS, LAST_PLACE, MOST_HELD, THIN_LOCKS};
+use crate::limits::{FAT_LOCKS, MOST_HELD, THIN_LOCKS};
 use crate::room::{lane_has_room, ring_has_room};
 use crate::session::Session;
 use crate::sights::{first_grip, free_at, shown};
-use heap_model::{ObjectId, Record, SECTION_RECORDS};
+use heap_model::{LAST_PLACE, ObjectId, Record, SECTION_RECORDS};
 use monitor::Shared;
 use steps::Grip;
 

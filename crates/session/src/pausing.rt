@@ -1,15 +1,14 @@
 //! How a wait begins (JLS 17.2.1).
 
 ghost use Rattle.std.specs.Prelude.{◌≡◌, ◌+◌, ◌<◌, ◌≤◌, ◌^◌, ◌↔◌, ◌⊎◌, IsTrue};
-ghost use Rattle.session.specs.declared.limits.TheConstants.{LAST_PLACE};
+ghost use Rattle.heap_model.specs.declared.limits.TheConstants.{LAST_PLACE};
 
 use crate::error::SessionError;
 use crate::grips::{after_release, take_out};
-use crate::limits::LAST_PLACE;
 use crate::room::{lane_has_room, ring_has_room};
 use crate::session::Session;
 use crate::waiting::Waiting;
-use heap_model::{ObjectId, Record, SECTION_RECORDS};
+use heap_model::{LAST_PLACE, ObjectId, Record, SECTION_RECORDS};
 use monitor::Shared;
 use steps::Grip;
 

@@ -4,7 +4,8 @@ ghost use Rattle.std.specs.Prelude.{◌≡◌};
 ghost use Rattle.std.proofs.Props.{props};
 ghost use Rattle.rtrb.specs.Ring.{sent, known_free, producer_capacity};
 ghost use Rattle.steps.specs.Views.{view};
-ghost use Rattle.session.specs.declared.limits.TheConstants.{RING_RECORDS, MOST_HELD};
+ghost use Rattle.heap_model.specs.declared.limits.TheConstants.{RING_RECORDS};
+ghost use Rattle.session.specs.declared.limits.TheConstants.{MOST_HELD};
 ghost use Rattle.session.specs.Past.{IsWithinLimits-prop, BeganBelow-prop};
 ghost use Rattle.session.specs.Sits.{Sits};
 

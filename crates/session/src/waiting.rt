@@ -3,8 +3,8 @@
 ghost use Rattle.std.specs.Prelude.{◌≡◌, ◌+◌, ◌<◌, ◌≤◌, Some, None, length, true, false};
 ghost use Rattle.std.proofs.Props.{props};
 ghost use Rattle.rtrb.specs.Ring.{sent, known_free, producer_capacity};
-ghost use Rattle.heap_model.specs.declared.limits.TheConstants.{SECTION_RECORDS};
-ghost use Rattle.session.specs.declared.limits.TheConstants.{MOST_HELD, FAT_LOCKS, RING_RECORDS};
+ghost use Rattle.heap_model.specs.declared.limits.TheConstants.{SECTION_RECORDS, RING_RECORDS};
+ghost use Rattle.session.specs.declared.limits.TheConstants.{MOST_HELD, FAT_LOCKS};
 ghost use Rattle.session.specs.Grips.{grip_in};
 ghost use Rattle.session.specs.Past.{IsWithinLimits-prop, BeganBelow-prop};
 ghost use Rattle.session.specs.Sits.{Stays, HasRoom};

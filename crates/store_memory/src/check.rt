@@ -9,14 +9,8 @@ ghost use Rattle.store_memory.specs.Limits.{FitsWord};
 ghost use Rattle.store_memory.specs.Verdict.{IsNamed, Allows, IsWornIn, IsNextIn, IsTooLongIn, IsFullIn, Judges, JudgesNamed};
 
 use crate::states::{FieldState, LaneState, MonitorState};
-use heap_model::{FieldId, Lane, ObjectId, Record};
+use heap_model::{FieldId, LAST_PLACE, Lane, ObjectId, Record, SECTION_RECORDS};
 use store_past::StoreError;
-
-/// How many records a section may have.
-pub const SECTION_RECORDS: u64 = 1000;
-
-/// A section's first record stands below this place of its lane.
-const LAST_PLACE: u64 = 1 << 62;
 
 /// The object's monitor.
 pub fn monitor_at(monitors: &[MonitorState], object: ObjectId) -> MonitorState

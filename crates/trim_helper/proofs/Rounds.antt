@@ -13,7 +13,7 @@ use Rattle.store_image.specs.KeptHeap.{StandsForCut}
 use Rattle.store_image.proofs.Stands.{stands_always}
 use Rattle.store_past.specs.Past.{Past, IsTrimmed, applied}
 use Rattle.durable.specs.Store.{Known, HasPast}
-use Rattle.trim_helper.specs.declared.rings.TheConstants.{RING_RECORDS}
+use Rattle.heap_model.specs.declared.limits.TheConstants.{RING_RECORDS}
 use Rattle.trim_helper.specs.Rings.{received_of, known_of, held_back, waiting_in, stream}
 use Rattle.trim_helper.specs.Moves.{Looks, SameRings, most_room}
 use Rattle.trim_helper.specs.Taken.{HasTaken, Advances, IsLaneStuck, IsRefused, applied_more, trimmed_of}

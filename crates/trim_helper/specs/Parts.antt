@@ -9,7 +9,7 @@ use Rattle.block_disk.specs.Device.{Device}
 use Rattle.durable.specs.Store as stores
 use Rattle.store_past.specs.Past.{Past}
 use Rattle.monitor.specs.Seats.{Helping}
-use Rattle.trim_helper.specs.declared.rings.TheConstants.{RING_RECORDS}
+use Rattle.heap_model.specs.declared.limits.TheConstants.{RING_RECORDS}
 use Rattle.trim_helper.specs.Helping.{count_published, place_published}
 use Rattle.trim_helper.specs.Moves.{most_room}
 use Rattle.trim_helper.specs.Serving.{Serves, Drains, Served}

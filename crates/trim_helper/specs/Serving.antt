@@ -13,7 +13,7 @@ use Rattle.store_past.specs.Past.{Past, IsTrimmed, applied}
 use Rattle.durable.specs.Store.{Known}
 use Rattle.heap_model.specs.Own.{own_log, sent_of}
 use Rattle.image.specs.declared.layout.Layout.{Layout}
-use Rattle.trim_helper.specs.declared.rings.TheConstants.{RING_RECORDS}
+use Rattle.heap_model.specs.declared.limits.TheConstants.{RING_RECORDS}
 use Rattle.trim_helper.specs.Rings.{received_of, known_of}
 use Rattle.trim_helper.specs.Limits.{KeepsLimits}
 use Rattle.trim_helper.specs.Moves.{Looks}

@@ -5,17 +5,17 @@ ghost use Rattle.store_past.specs.Past.{Past, applied};
 ghost use Rattle.durable.specs.Store.{HasPast};
 ghost use Rattle.store_past.specs.declared.error.StoreError.TheVariants.{Failed};
 ghost use Rattle.trim_helper.specs.Moves.{most_room};
-ghost use Rattle.trim_helper.specs.declared.rings.TheConstants.{RING_RECORDS};
+ghost use Rattle.heap_model.specs.declared.limits.TheConstants.{RING_RECORDS};
 ghost use Rattle.heap_model.specs.declared.event.Event.{Event};
 ghost use Rattle.heap_model.specs.History.{log_of};
 ghost use Rattle.heap_model.specs.Log.{lane as lane_of};
 ghost use Rattle.trim_helper.specs.Serving.{Drains, HoldHistory};
 ghost use Rattle.trim_helper.specs.Taken.{Advances, HasTaken, IsLaneStuck};
 
-use crate::rings::{RING_RECORDS, fetch, let_go, look};
+use crate::rings::{fetch, let_go, look};
 use block_disk::Disk;
 use durable::{Store, StoreError};
-use heap_model::{Lane, Record};
+use heap_model::{Lane, RING_RECORDS, Record};
 use history_laws::{log_law, next_law, own_log_law};
 use rtrb::Consumer;
 

@@ -15,13 +15,12 @@ ghost use Rattle.trim_helper.specs.Rings.{known_of, received_of, waiting_in};
 ghost use Rattle.trim_helper.specs.Serving.{HoldHistory};
 ghost use Rattle.trim_helper.specs.Settled.{IsStop, IsWhy};
 ghost use Rattle.trim_helper.specs.Taken.{HasTaken, IsLaneStuck};
-ghost use Rattle.trim_helper.specs.declared.rings.TheConstants.{RING_RECORDS};
+ghost use Rattle.heap_model.specs.declared.limits.TheConstants.{RING_RECORDS};
 
-use crate::rings::RING_RECORDS;
 use crate::serving::Serving;
 use block_disk::Disk;
 use durable::{Store, StoreError};
-use heap_model::{Lane, Record};
+use heap_model::{Lane, RING_RECORDS, Record};
 use monitor::{HelperSeat, Shared};
 use rtrb::Consumer;
 use std::marker::Model;

@@ -23,4 +23,3 @@ pub use closing_down::close_down;
 pub use ended::Ended;
 pub use helper::Helper;
 pub use opening::{Opened, open_heap};
-pub use rings::RING_RECORDS;

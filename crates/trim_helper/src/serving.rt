@@ -11,7 +11,7 @@ ghost use Rattle.trim_helper.specs.Serving.{Drains, HoldHistory, Served, Serves}
 ghost use Rattle.heap_model.specs.declared.event.Event.{Event};
 ghost use Rattle.heap_model.specs.History.{log_of};
 ghost use Rattle.heap_model.specs.Log.{lane as lane_of};
-ghost use Rattle.trim_helper.specs.declared.rings.TheConstants.{RING_RECORDS};
+ghost use Rattle.heap_model.specs.declared.limits.TheConstants.{RING_RECORDS};
 ghost use Rattle.trim_helper.specs.Rings.{known_of, received_of, waiting_in};
 ghost use Rattle.block_disk.specs.Device.{HasCause};
 ghost use Rattle.store_past.specs.declared.error.StoreError.TheVariants.{Fault};
@@ -20,11 +20,10 @@ ghost use Rattle.trim_helper.specs.Settled.{IsStop, IsWhy};
 
 use crate::draining::drain_rings;
 use crate::published::publish;
-use crate::rings::RING_RECORDS;
 use crate::settling::settle_and_trim;
 use block_disk::Disk;
 use durable::{Store, StoreError};
-use heap_model::{LANES, Lane, Record};
+use heap_model::{LANES, Lane, RING_RECORDS, Record};
 use monitor::{HelperSeat, Shared};
 use rtrb::Consumer;
 

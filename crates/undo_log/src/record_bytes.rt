@@ -3,18 +3,10 @@ ghost use Rattle.std.specs.Prelude.{◌≡◌, ◌↔◌, IsTrue, Some};
 ghost use Rattle.heap_model.specs.declared.record.UndoRecord.{UndoRecord as AnyRecord};
 ghost use Rattle.undo_log.specs.RecordBytes.{record_bytes, kind_of, id_of, word_of, IsInRange, Spells};
 
-use heap_model::{FieldId, ObjectId, UndoRecord};
+use heap_model::{FieldId, LAST_NUMBER, MOST_FIELDS, MOST_OBJECTS, ObjectId, UndoRecord};
 
 /// The bytes of a record.
 pub const RECORD_BYTES: usize = 16;
-
-/// The most objects and fields that an image can have.
-const OBJECTS: u32 = 4096;
-
-const FIELDS: u32 = 16_384;
-
-/// The last release number, 2^40 - 1. A monitor that has it is never taken, so no record has it.
-const LAST_NUMBER: u64 = 1_099_511_627_775;
 
 /// The one spelling of a record.
 pub fn encode_record(entry: &UndoRecord) -> [u8; 16]
@@ -114,7 +106,8 @@ pub fn is_in_range(entry: UndoRecord) -> bool
     match entry {
         UndoRecord::Acq { object, number }
         | UndoRecord::Rel { object, number }
-        | UndoRecord::WaitRel { object, number } => object.0 < OBJECTS && number < LAST_NUMBER,
-        UndoRecord::Put { field, .. } => field.0 < FIELDS,
+        | UndoRecord::WaitRel { object, number } => object.0 < MOST_OBJECTS as u32
+            && number < LAST_NUMBER,
+        UndoRecord::Put { field, .. } => field.0 < MOST_FIELDS as u32,
     }
 }
