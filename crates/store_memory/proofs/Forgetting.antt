@@ -1,5 +1,5 @@
 -- What is known stays true where a cut is forgotten.
-use Rattle.std.proofs.Common.{ℕ, ◌≡◌, ◌+◌, ◌-◌, ◌<◌, ◌≤◌, ◌==◌, if◌then◌else◌, Bool, List, [], ◌∷◌, length, map, max, refl, sym, ap, ◌∙◌, subst, inl, inr, arith, nat_lt}
+use Rattle.std.proofs.Common.{ℕ, ◌≡◌, ◌+◌, ◌-◌, ◌<◌, ◌≤◌, if◌then◌else◌, Bool, List, [], ◌∷◌, length, map, max, refl, sym, ap, ◌∙◌, subst, inl, inr, arith}
 use Rattle.std.specs.Prelude.{slice_index}
 use Rattle.std.proofs.lemmas.Bool.{cases_lt, lt-ltb, le-ltb}
 use Rattle.heap_model.specs.declared.cut.Cut.{Cut}
@@ -19,7 +19,7 @@ use Rattle.store_memory.specs.Fresh.{IsOfLanes}
 use Rattle.store_memory.specs.Remembers.{RemembersLane, Remembers}
 use Rattle.store_memory.specs.Counted.{lane_in as logged_in}
 use Rattle.store_memory.specs.Ends.{slot_of}
-use Rattle.store_memory.specs.Sections.{Logged, place_behind, start_in, most_beyond, TellsLane, TellsGraph, TellsSections}
+use Rattle.store_memory.specs.Sections.{Logged, place_behind, most_beyond, TellsLane, TellsGraph, TellsSections}
 use Rattle.store_memory.specs.Trimming.{MayStart, MayForget}
 use Rattle.store_memory.proofs.SectionCounts.{in_older, in_newest, in_short, since_all}
 use Rattle.store_memory.proofs.SectionRoom.{since_lanes, total_is}

@@ -57,6 +57,13 @@ count_sum (suc l) count log is = omega (arith, is l (omega arith), count_sum l c
 pub total_is : (lanes : ℕ) (count : ℕ → ℕ) (log : List (ℕ × Action)) → All (λ x. x.0 < lanes) log → ((l : ℕ) → l < lanes → count l ≡ length (lane l log)) → in_all lanes count ≡ length log
 total_is lanes count log of is = omega (arith, count_sum lanes count log is, count_all lanes log of)
 
+-- so many of each are no more than so many times the lanes
+pub sum_room : (lanes room : ℕ) (count : ℕ → ℕ) → ((l : ℕ) → l < lanes → count l ≤ room) → in_all lanes count ≤ lanes * room
+sum_room zero room count le = omega arith
+sum_room (suc l) room count le =
+    let more : suc l * room ≡ l * room + room = suc-mul l room in
+    omega (arith, le l (omega arith), sum_room l room count (λ m lt. le m (omega arith)))
+
 -- one lane has room, so all have
 pub total_less : (lanes room : ℕ) (log : List (ℕ × Action)) (some : ℕ) → All (λ x. x.0 < lanes) log → some < lanes → length (lane some log) < room → ((l : ℕ) → l < lanes → length (lane l log) ≤ room) → length log < lanes * room
 total_less lanes room log some of lt less le = omega (arith, count_all lanes log of, count_less lanes room log some lt less le)

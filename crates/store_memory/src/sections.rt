@@ -153,7 +153,7 @@ fn room(lanes: u8, capacity: u32) -> usize
 // Whether a graph of so many records, of which so many stay, leaves out as many as stay and the objects, or as many as the
 // lanes have room for.
 fn is_paid(records: usize, left: usize, most: usize) -> bool
-    requires left { left < 2 ^ 62 }
+    requires left { left ≤ most }
     requires most { most < 2 ^ 62 }
     ensures { IsTrue result ↔ (left + min most (left + 4096) ≤ records) }
 {
