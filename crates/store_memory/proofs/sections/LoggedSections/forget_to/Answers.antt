@@ -1,4 +1,4 @@
-use Rattle.std.proofs.Common.{true, false, ℕ, ◌≡◌, ◌+◌, ◌-◌, ◌*◌, ◌<◌, ◌≤◌, List, length, slice_index, sym, ap, ◌∙◌, subst, inl, inr, arith}
+use Rattle.std.proofs.Common.{true, false, ℕ, ◌≡◌, ◌+◌, ◌-◌, ◌*◌, ◌≤◌, List, length, slice_index, sym, ap, ◌∙◌, subst, inl, inr, arith}
 use Rattle.std.specs.Prelude.{min}
 use Rattle.std.proofs.lemmas.Bool.{cases_lt}
 use Rattle.heap_model.specs.Cuts.{counts_of}
@@ -57,19 +57,21 @@ returns-then-is_paid-clause-paid c =
     (λ l lt. c.places_behind-places.ensures.behind l lt ∙ ap (λ (xs : List ℕ). slice_index xs (slot_of c.self.inside.capacity l (counts_of c.args.cut.now l))) c.deref.ensures.value) in
     let left : length c.forget_to.new.self.log ≡ c.records_from-left.result = ap (λ (xs : List (ℕ × Action)). length xs)
     (stays (logged_of c.self.inside) r.0 r.1 c.args.cut.now may (told_of c.forget_to.new.self) c.forget_to.ensures.log c.forget_to.ensures.base) ∙ sym all in
-    let paid : c.records_from-left.result + min c.room-most.result (c.records_from-left.result + 4096) ≤ 2 * c.room-most.result - c.room.result = c.is_paid.ensures.0 c.if-is_paid.true in
     subst (λ (m : Logged). IsPaid m (record (logged_of c.self.inside) { graph = told_of c.forget_to.new.self })) c.self.view_is
-    (Now (omega (arith, left, paid, c.room-most.ensures, c.room.ensures, c.self.invariant.graph_room)))
+    (Now (omega (arith, left, c.is_paid.ensures.0 c.if-is_paid.true, c.room-most.ensures, c.room.ensures, c.self.invariant.graph_room)))
 
 pub returns-else-is_paid-clause-tells : goal.returns-else-is_paid-clause-tells
 returns-else-is_paid-clause-tells c = λ base log was.
     let may : MayForget (logged_of c.self.inside) base log (counts_of c.args.cut.now) = subst (λ (m : Logged). MayForget m base log (counts_of c.args.cut.now)) (sym c.self.view_is) was in
     let all : c.records_from-left.result ≡ length (since (counts_of c.args.cut.now) (actions log)) = c.records_from-left.ensures ∙ left_is (logged_of c.self.inside) base log c.args.cut.now may c.places_behind-places.result
     (λ l lt. c.places_behind-places.ensures.behind l lt ∙ ap (λ (xs : List ℕ). slice_index xs (slot_of c.self.inside.capacity l (counts_of c.args.cut.now l))) c.deref.ensures.value) in
-    let few : 2 * c.room-most.result - c.room.result < c.records_from-left.result + min c.room-most.result (c.records_from-left.result + 4096) =
-    elim (cases_lt (2 * c.room-most.result - c.room.result) (c.records_from-left.result + min c.room-most.result (c.records_from-left.result + 4096))) [
-      | inl lt ↦ lt
-      | inr ge ↦ absurd (let no : true ≡ false = sym (c.is_paid.ensures.1 ge) ∙ c.if-is_paid.false in cc)
+    let stay : ℕ = length (since (counts_of c.args.cut.now) (actions log)) in
+    let few : length c.self.inside.graph.log ≤ stay + min (c.self.inside.lanes * c.self.inside.capacity) (stay + 4096) =
+    elim (cases_lt (stay + min (c.self.inside.lanes * c.self.inside.capacity) (stay + 4096)) (length c.self.inside.graph.log)) [
+      | inl many ↦ absurd (
+          let no : true ≡ false = sym (c.is_paid.ensures.1 (omega (arith, many, all, c.room-most.ensures, c.room.ensures, c.self.invariant.graph_room))) ∙ c.if-is_paid.false in
+          cc
+          )
+      | inr le ↦ le
     ] in
-    subst (λ (m : Logged). TellsSections m (counts_of c.args.cut.now) log) c.self.view_is
-    (tells_later (logged_of c.self.inside) base log c.args.cut.now may (omega (arith, few, all, c.room-most.ensures, c.room.ensures, c.self.invariant.graph_room)))
+    subst (λ (m : Logged). TellsSections m (counts_of c.args.cut.now) log) c.self.view_is (tells_later (logged_of c.self.inside) base log c.args.cut.now may few)
