@@ -2,13 +2,11 @@
 
 ghost use Rattle.std.specs.Prelude.{◌<◌};
 
-use crate::graph::Graph;
-use crate::section::Dependence;
+use crate::told::Told;
 use cut_laws::plain;
+use dependence::Dependence;
 use heap_model::{Cut, Lane, LaneRecord, ObjectId, Record};
 use std::alloc::{AllocError, Global};
-use std::process::Abort;
-use std::test::Fail;
 
 const LANES: usize = 3;
 
@@ -203,66 +201,75 @@ fn ended(all: &[Placed], lane: Lane) -> u64 {
         .count() as u64
 }
 
-// The cut of these records and the reasons of all their sections are those of the plain search. Gives how many
-// sections have a reason.
-fn compare(
-    rt: &impl Abort,
-    alloc: Global,
-    graph: &mut Graph,
-    records: &[LaneRecord],
-) -> Result<u64, AllocError> {
-    assert!(rt; records.iter().all(|entry| entry.lane.0 < 32));
-    let cut = plain::stable_cut(alloc, records)?;
-    assert_eq!(rt; graph.stable_cut(), cut);
-    let all = with_sections(alloc, records)?;
+// How many of the lane's sections have a reason, if each is that of the plain search. A section that hasn't ended has none.
+fn reasons(told: &mut Told, all: &[Placed], cut: &Cut, lane: Lane) -> Option<u64> {
+    let whole = ended(all, lane);
+    let mut given = 0u64;
+    for section in 1..whole.wrapping_add(1) {
+        let reason = told.reason(lane, section);
+        if reason != plain_reason(all, cut, Dependence { lane, section }) {
+            return None;
+        }
+        given = given.wrapping_add(u64::from(reason.is_some()));
+    }
+    match told.reason(lane, whole.wrapping_add(1)) {
+        None => Some(given),
+        Some(_) => None,
+    }
+}
+
+fn plain_cut(alloc: Global, records: &[LaneRecord]) -> Option<Cut> {
+    if records.iter().all(|entry| entry.lane.0 < 32) {
+        plain::stable_cut(alloc, records).ok()
+    } else {
+        None
+    }
+}
+
+// How many sections have a reason, if the cut of these records and the reasons of all their sections are those of the
+// plain search.
+fn compare(alloc: Global, told: &mut Told, records: &[LaneRecord]) -> Option<u64> {
+    let cut = plain_cut(alloc, records)?;
+    if told.stable_cut()? != cut {
+        return None;
+    }
+    let all = with_sections(alloc, records).ok()?;
     let mut given = 0u64;
     for lane in 0..3u8 {
-        let whole = ended(&all, Lane(lane));
-        assert!(rt; whole < 1_000);
-        for section in 1..whole + 1 {
-            let asked = Dependence {
-                lane: Lane(lane),
-                section,
-            };
-            let reason = graph.reason(Lane(lane), section);
-            assert_eq!(rt; reason, plain_reason(&all, &cut, asked), "{asked:?}");
-            given = given.wrapping_add(u64::from(reason.is_some()));
-        }
-        assert_eq!(rt; graph.reason(Lane(lane), whole + 1), None);
+        given = given.wrapping_add(reasons(told, &all, &cut, Lane(lane))?);
     }
-    Ok(given)
+    Some(given)
 }
 
-fn push(rt: &impl Abort, graph: &mut Graph, next: LaneRecord) {
-    let entry = next.record.undo();
-    assert!(rt; graph.may_push(next.lane, entry));
-    graph.push(next.lane, &entry);
+// How many reasons are given in all for one list, with an answer after each five records. Each 20 records what is stable is
+// forgotten.
+fn reasons_of_list(alloc: Global, seed: u64) -> Option<u64> {
+    let records = list(alloc, seed, 120).ok()?;
+    let mut told = Told::of(alloc, 3, records.len())?;
+    let mut given = 0u64;
+    for (count, next) in records.iter().enumerate() {
+        told.push(next.lane, next.record);
+        if count % 5 == 0 {
+            let more = compare(alloc, &mut told, &records[..count + 1])?;
+            given = given.wrapping_add(more);
+        }
+        if count % 20 == 19 {
+            told.forget();
+        }
+    }
+    Some(given)
 }
 
-// Leaves out what is stable.
-fn forget(graph: &mut Graph) {
-    let stable = graph.stable_cut();
-    graph.forget_to(&stable);
-}
-
-#[test]
-fn chosen_lists_have_the_plain_cuts_and_reasons(rt: HostRuntime) -> Result<(), Fail> {
+fn reasons_of_lists(alloc: Global) -> Option<u64> {
     let mut given = 0u64;
     for seed in 1..13u64 {
-        let records = list(rt.alloc(), seed, 120)?;
-        let mut graph = Graph::with_capacity(rt.alloc(), 3, records.len())?;
-        for (count, next) in records.iter().enumerate() {
-            push(&rt, &mut graph, *next);
-            if count % 5 == 0 {
-                let more = compare(&rt, rt.alloc(), &mut graph, &records[..count + 1])?;
-                given = given.wrapping_add(more);
-            }
-            if count % 20 == 19 {
-                forget(&mut graph);
-            }
-        }
+        given = given.wrapping_add(reasons_of_list(alloc, seed)?);
     }
-    // The lists have to be such that sections stay outside the cut.
-    assert!(rt; given > 100, "{given}");
-    Ok(())
+    Some(given)
+}
+
+// The lists have to be such that sections stay outside the cut.
+#[test]
+fn chosen_lists_have_the_plain_cuts_and_reasons(rt: HostRuntime) {
+    assert!(rt; reasons_of_lists(rt.alloc()).unwrap_or(0) > 100);
 }

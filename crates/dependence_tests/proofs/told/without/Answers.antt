@@ -1,7 +1,7 @@
-use Rattle.std.proofs.Common.{ℕ, List, ◌≡◌, ◌<◌, ◌≤◌, length, slice_index, slice_set, inl, inr, ap, ◌∙◌, arith, length-set, get_or-set_same, get_or-set_other}
+use Rattle.std.proofs.Common.{ℕ, List, ◌≤◌, length, slice_index, slice_set, inl, inr, ap, ◌∙◌, arith, length-set, get_or-set_same, get_or-set_other}
 use Rattle.std.proofs.lemmas.Bool.{cases_eq, cases_lt}
 use Rattle.std.proofs.lemmas.List.{get_or_past}
-use Rattle.dependence.proofs.tests.without.Goals as goal
+use Rattle.dependence_tests.proofs.told.without.Goals as goal
 
 -- a number that is set to 0 doesn't rise
 set_none : (xs : List ℕ) (i l : ℕ) → slice_index (slice_set xs i 0) l ≤ slice_index xs l
