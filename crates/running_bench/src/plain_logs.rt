@@ -14,6 +14,7 @@ use undo_log::encode_record;
 const RECORDS: usize = 4_096;
 
 /// A lane's log in memory: the bytes of its records, as an undo log has them.
+#[derive(Drop)]
 struct PlainLog {
     bytes: Vec<[u8; 16]>,
     place: usize,
