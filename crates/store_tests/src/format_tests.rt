@@ -4,7 +4,6 @@ use block_disk::MemDisk;
 use guards::{Schema, SchemaBuilder};
 use heap_model::ObjectId;
 use std::alloc::Global;
-use std::test::Fail;
 use store_image::format;
 use store_memory::LoggedSections;
 
@@ -23,22 +22,30 @@ pub fn schema_or_none(alloc: Global) -> Option<Schema> {
     builder.build().ok()
 }
 
-#[test]
-fn an_image_is_made(rt: HostRuntime) -> Result<(), Fail> {
-    let schema = schema_or_none(rt.alloc()).ok_or("no schema")?;
-    let disk = MemDisk::new(rt.alloc(), SIZE)?;
-    let Ok(made) = format(rt.alloc(), disk, &schema, 2, 4000) else {
-        return Err(Fail::new("refused"));
+// An image's heap of two fields, and how often its device was called.
+fn told_of_image(alloc: Global) -> Option<([u64; 2], u64)> {
+    let schema = schema_or_none(alloc)?;
+    let disk = MemDisk::new(alloc, SIZE).ok()?;
+    let Ok(made) = format(alloc, disk, &schema, 2, 4000) else {
+        return None;
     };
-    assert_eq!(rt; made.heap(), [10, 20].as_slice());
-    // Nine calls, and two for each field.
-    assert_eq!(rt; made.into_disk().stops(), 13);
-    Ok(())
+    let heap = *made.heap().as_array::<2>()?;
+    Some((heap, made.into_disk().stops()))
+}
+
+// Nine calls, and two for each field.
+#[test]
+fn an_image_is_made(rt: HostRuntime) {
+    assert!(rt; told_of_image(rt.alloc()) == Some(([10, 20], 13)));
+}
+
+// The stable cut of no sections.
+fn stable_of_none(alloc: Global) -> Option<[u64; 32]> {
+    let mut sections = LoggedSections::with_capacity(alloc, 2, 2000).ok()?;
+    Some(sections.stable().cut.counts)
 }
 
 #[test]
-fn there_is_room_for_sections(rt: HostRuntime) -> Result<(), Fail> {
-    let mut sections = LoggedSections::with_capacity(rt.alloc(), 2, 2000)?;
-    assert_eq!(rt; sections.stable().cut.counts, [0; 32]);
-    Ok(())
+fn there_is_room_for_sections(rt: HostRuntime) {
+    assert!(rt; stable_of_none(rt.alloc()) == Some([0; 32]));
 }

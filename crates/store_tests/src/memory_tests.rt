@@ -3,7 +3,7 @@
 ghost use Rattle.std.specs.Prelude.{◌≡◌};
 
 use heap_model::{FieldId, Lane, LaneRecord, ObjectId, Record};
-use std::alloc::{AllocError, Global};
+use std::alloc::Global;
 use store_memory::{Applied, FieldState};
 use store_past::StoreError;
 
@@ -48,15 +48,34 @@ fn field(guard: u32, value: u64) -> FieldState
 }
 
 // Two lanes, objects o0 to o3, and fields f0 of o0 and f1 of o1, with values 10 and 20.
-fn memory(alloc: Global, last: u64) -> Result<Applied, AllocError> {
-    let fields = vec![in alloc; field(0, 10), field(1, 20)]?;
-    Applied::new(alloc, 2, 2000, 4, fields, last)
+fn memory(alloc: Global, last: u64) -> Option<Applied> {
+    let fields = vec![in alloc; field(0, 10), field(1, 20)].ok()?;
+    Applied::new(alloc, 2, 2000, 4, fields, last).ok()
+}
+
+// A lane's record, and what it is to be answered.
+type Told = (u8, Record, Result<(), StoreError>);
+
+// Tells the records in turn, up to the first that is answered otherwise, and gives its number.
+fn first_other(applied: &mut Applied, steps: &[Told]) -> Option<usize> {
+    for (place, step) in steps.iter().enumerate() {
+        let (lane, record, answer) = *step;
+        if applied.apply(Lane(lane), record) != answer {
+            return Some(place);
+        }
+    }
+    None
+}
+
+// Whether a new memory, with release numbers up to `last`, answers all so.
+fn answers_so(alloc: Global, last: u64, steps: &[Told]) -> Option<bool> {
+    let mut applied = memory(alloc, last)?;
+    Some(first_other(&mut applied, steps).is_none())
 }
 
 // Each refusal, and what is taken between them.
 #[test]
 fn refusals_come_in_order(rt: HostRuntime) {
-    let mut applied = memory(rt.alloc(), 2).expect(&rt, "there is memory");
     let steps = [
         (2, acq(9, 9), Err(StoreError::BadLane)),
         (0, acq(4, 9), Err(StoreError::BadId)),
@@ -76,15 +95,12 @@ fn refusals_come_in_order(rt: HostRuntime) {
         (1, rel(0, 1), Ok(())),
         (0, acq(0, 2), Err(StoreError::Worn)),
     ];
-    for (lane, record, answer) in steps {
-        assert_eq!(rt; applied.apply(Lane(lane), record), answer, "{record:?}");
-    }
+    assert!(rt; answers_so(rt.alloc(), 2, &steps) == Some(true));
 }
 
 // A wait inside a section, and one that ends it: in each case the lane takes the same object next, and does nothing else.
 #[test]
 fn a_wait_is_followed_by_its_acquire(rt: HostRuntime) {
-    let mut applied = memory(rt.alloc(), 9).expect(&rt, "there is memory");
     let steps = [
         (0, acq(0, 0), Ok(())),
         (0, acq(1, 0), Ok(())),
@@ -98,9 +114,7 @@ fn a_wait_is_followed_by_its_acquire(rt: HostRuntime) {
         (0, acq(0, 2), Err(StoreError::NotNext)),
         (0, acq(1, 1), Ok(())),
     ];
-    for (lane, record, answer) in steps {
-        assert_eq!(rt; applied.apply(Lane(lane), record), answer, "{record:?}");
-    }
+    assert!(rt; answers_so(rt.alloc(), 9, &steps) == Some(true));
 }
 
 // A section of 1,000 records: the acquire, 998 stores, of which the next is refused, and the release.
@@ -114,67 +128,91 @@ fn section(applied: &mut Applied, number: u64) -> bool {
     taken && applied.apply(Lane(0), rel(0, number)) == Ok(())
 }
 
+// What one record more answers to two sections, and how many records are new; both again once they are logged; what another
+// lane's take answers then, and whether a section is open.
+type Filled = (
+    [bool; 2],
+    [(Result<(), StoreError>, usize); 2],
+    Result<(), StoreError>,
+    bool,
+);
+
+fn told_of_filled(alloc: Global) -> Option<Filled> {
+    let mut applied = memory(alloc, 9)?;
+    let first = section(&mut applied, 0);
+    let second = section(&mut applied, 1);
+    let third = applied.apply(Lane(0), acq(0, 2));
+    let new = (third, applied.fresh().len());
+    applied.logged_all();
+    let logged = applied.fresh().len();
+    let third = applied.apply(Lane(0), acq(0, 2));
+    let other = applied.apply(Lane(1), acq(0, 2));
+    Some((
+        [first, second],
+        [new, (third, logged)],
+        other,
+        applied.any_open(),
+    ))
+}
+
 // An area of 2,000 records: two sections of 1,000 are taken, and a third doesn't begin, whether they are logged or not.
 #[test]
 fn sections_and_areas_have_an_end(rt: HostRuntime) {
-    let mut applied = memory(rt.alloc(), 9).expect(&rt, "there is memory");
-    assert!(rt; section(&mut applied, 0), "the first section");
-    assert!(rt; section(&mut applied, 1), "the second section");
-    let third = applied.apply(Lane(0), acq(0, 2));
-    assert_eq!(rt; third, Err(StoreError::LogFull));
-    assert_eq!(rt; applied.fresh().len(), 2000);
+    let full = Err(StoreError::LogFull);
+    let wanted = ([true; 2], [(full, 2000), (full, 0)], Ok(()), true);
+    assert!(rt; told_of_filled(rt.alloc()) == Some(wanted));
+}
+
+// Whether stores of two fields are taken; and the least dirty field then, once they are logged, and as each field is home.
+fn least_dirty(alloc: Global) -> Option<(bool, [Option<FieldId>; 4])> {
+    let mut applied = memory(alloc, 9)?;
+    let steps = [
+        (1, acq(0, 0), Ok(())),
+        (1, acq(1, 0), Ok(())),
+        (1, put(1, 20, 21), Ok(())),
+        (1, put(0, 10, 11), Ok(())),
+        (1, put(0, 11, 12), Ok(())),
+    ];
+    let are_taken = first_other(&mut applied, &steps).is_none();
+    let new = applied.least_dirty();
     applied.logged_all();
-    assert_eq!(rt; applied.fresh().len(), 0);
-    let third = applied.apply(Lane(0), acq(0, 2));
-    assert_eq!(rt; third, Err(StoreError::LogFull));
-    let other = applied.apply(Lane(1), acq(0, 2));
-    assert_eq!(rt; other, Ok(()));
-    assert!(rt; applied.any_open(), "lane 1 holds o0");
+    let logged = applied.least_dirty();
+    applied.home_written(FieldId(0));
+    let second = applied.least_dirty();
+    applied.home_written(FieldId(1));
+    Some((are_taken, [new, logged, second, applied.least_dirty()]))
 }
 
 // Stores are dirty once they are logged, the least field first, until they are home.
 #[test]
 fn logged_stores_are_dirty(rt: HostRuntime) {
-    let mut applied = memory(rt.alloc(), 9).expect(&rt, "there is memory");
-    let records = [
-        acq(0, 0),
-        acq(1, 0),
-        put(1, 20, 21),
-        put(0, 10, 11),
-        put(0, 11, 12),
-    ];
-    for record in records {
-        assert_eq!(rt; applied.apply(Lane(1), record), Ok(()));
+    let least = [None, Some(FieldId(0)), Some(FieldId(1)), None];
+    assert!(rt; least_dirty(rt.alloc()) == Some((true, least)));
+}
+
+fn entry(lane: u8, record: Record) -> LaneRecord {
+    LaneRecord {
+        lane: Lane(lane),
+        record,
     }
-    assert_eq!(rt; applied.least_dirty(), None);
-    applied.logged_all();
-    assert_eq!(rt; applied.least_dirty(), Some(FieldId(0)));
-    applied.home_written(FieldId(0));
-    assert_eq!(rt; applied.least_dirty(), Some(FieldId(1)));
-    applied.home_written(FieldId(1));
-    assert_eq!(rt; applied.least_dirty(), None);
+}
+
+// Whether these are taken, and are the new records then.
+fn are_fresh(alloc: Global, records: &[LaneRecord]) -> Option<bool> {
+    let mut applied = memory(alloc, 9)?;
+    for entry in records.iter().copied() {
+        applied.apply(entry.lane, entry.record).ok()?;
+    }
+    Some(applied.fresh() == records)
 }
 
 // Two lanes' records, told in turn.
 #[test]
 fn fresh_records_are_in_the_order_applied(rt: HostRuntime) {
-    let mut applied = memory(rt.alloc(), 9).expect(&rt, "there is memory");
     let records = [
-        LaneRecord {
-            lane: Lane(1),
-            record: acq(1, 0),
-        },
-        LaneRecord {
-            lane: Lane(0),
-            record: acq(0, 0),
-        },
-        LaneRecord {
-            lane: Lane(1),
-            record: put(1, 20, 21),
-        },
+        entry(1, acq(1, 0)),
+        entry(0, acq(0, 0)),
+        entry(1, put(1, 20, 21)),
     ];
-    for entry in records {
-        assert_eq!(rt; applied.apply(entry.lane, entry.record), Ok(()));
-    }
-    assert_eq!(rt; applied.fresh(), records.as_slice());
+    assert!(rt; are_fresh(rt.alloc(), &records) == Some(true));
 }

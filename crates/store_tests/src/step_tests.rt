@@ -7,15 +7,13 @@ use durable::{Home, Store, StoreCall, StoreError};
 use heap_model::{FieldId, Lane, ObjectId, Record, UndoRecord};
 use image::{Control, LaneRow, Layout, choose_control};
 use std::alloc::Global;
-use std::process::Abort;
-use std::test::Fail;
 use store_image::format;
 use undo_log::read;
 
 const FILLS: [Fill; 4] = [Fill::Lost, Fill::Kept, Fill::Byte(0), Fill::Byte(255)];
 
 // What a device shows: its control, and the live records of its two lanes, one lane behind the other.
-#[derive(Debug, PartialEq, Drop)]
+#[derive(PartialEq, Drop)]
 struct Contents {
     control: Control,
     records: Vec<UndoRecord>,
@@ -66,24 +64,23 @@ fn store_on(
     lanes: u8,
     capacity: u32,
     last: u64,
-) -> Result<Store<MemDisk>, Fail>
+) -> Option<Store<MemDisk>>
     requires { last ≤ 2 ^ 40 - 1 }
 {
-    let schema = schema_or_none(alloc).ok_or("no schema")?;
+    let schema = schema_or_none(alloc)?;
     let Ok(made) = format(alloc, disk, &schema, lanes, capacity) else {
-        return Err(Fail::new("not formatted"));
+        return None;
     };
     let Ok(store) = Store::adopt(alloc, made, last) else {
-        return Err(Fail::new("not adopted"));
+        return None;
     };
-    Ok(store)
+    Some(store)
 }
 
-fn fresh(alloc: Global, lanes: u8, last: u64) -> Result<Store<MemDisk>, Fail>
+fn fresh(alloc: Global, lanes: u8, last: u64) -> Option<Store<MemDisk>>
     requires { last ≤ 2 ^ 40 - 1 }
 {
-    let disk = MemDisk::new(alloc, 130_208)?;
-    store_on(alloc, disk, lanes, 4000, last)
+    store_on(alloc, MemDisk::new(alloc, 130_208).ok()?, lanes, 4000, last)
 }
 
 // How many sections of the lane are acknowledged, if there is such a lane.
@@ -95,23 +92,43 @@ fn kept(store: &Store<MemDisk>, lane: u8) -> Option<u64> {
     }
 }
 
-// Makes these calls in turn, and looks for these answers.
-fn check_answers(
-    rt: &impl Abort,
-    store: &mut Store<MemDisk>,
-    steps: &[(StoreCall, Result<(), StoreError>)],
-) {
-    for (call, answer) in steps {
-        let made = store.play(&[*call]).map_err(|(_, reason)| reason);
-        assert_eq!(rt; made, *answer, "{call:?}");
+// A call, and what it is to answer.
+type Told = (StoreCall, Result<(), StoreError>);
+
+// What the call answers.
+fn answer_to(store: &mut Store<MemDisk>, call: StoreCall) -> Result<(), StoreError> {
+    match store.play(&[call]) {
+        Ok(()) => Ok(()),
+        Err((_, reason)) => Err(reason),
     }
 }
 
-// Each refusal of two sections on one object, and what is taken between them.
-#[test]
-fn two_sections_are_kept(rt: HostRuntime) -> Result<(), Fail> {
-    let mut store = fresh(rt.alloc(), 2, 2)?;
-    let told = [
+// Makes these calls in turn, up to the first that answers otherwise, and gives that call's number and answer.
+fn first_other(
+    store: &mut Store<MemDisk>,
+    steps: &[Told],
+) -> Option<(usize, Result<(), StoreError>)> {
+    for (place, step) in steps.iter().enumerate() {
+        let (call, wanted) = *step;
+        let answer = answer_to(store, call);
+        if answer != wanted {
+            return Some((place, answer));
+        }
+    }
+    None
+}
+
+// The store, and why it isn't closed.
+fn still_open(store: Store<MemDisk>) -> Option<(Store<MemDisk>, StoreError)> {
+    match store.close() {
+        Ok(_) => None,
+        Err(refused) => Some(refused),
+    }
+}
+
+// The first section's steps, up to its release.
+fn first_steps() -> [Told; 11] {
+    [
         (
             StoreCall::Apply(Lane(2), acq(0, 0)),
             Err(StoreError::BadLane),
@@ -126,13 +143,12 @@ fn two_sections_are_kept(rt: HostRuntime) -> Result<(), Fail> {
         (StoreCall::Settle, Err(StoreError::Unwritten)),
         (StoreCall::Home, Ok(())),
         (StoreCall::Settle, Ok(())),
-    ];
-    check_answers(&rt, &mut store, &told);
-    assert_eq!(rt; kept(&store, 0), Some(0));
-    let mut store = still_open(&rt, store, StoreError::Unfinished)?;
-    check_answers(&rt, &mut store, &[(one(rel(0, 0)), Ok(()))]);
-    let mut store = still_open(&rt, store, StoreError::Unwritten)?;
-    let rest = [
+    ]
+}
+
+// The steps behind that release.
+fn last_steps() -> [Told; 7] {
+    [
         (StoreCall::Log, Ok(())),
         (StoreCall::Settle, Ok(())),
         (one(acq(0, 1)), Ok(())),
@@ -140,34 +156,54 @@ fn two_sections_are_kept(rt: HostRuntime) -> Result<(), Fail> {
         (one(acq(0, 2)), Err(StoreError::Worn)),
         (StoreCall::Log, Ok(())),
         (StoreCall::Settle, Ok(())),
-    ];
-    check_answers(&rt, &mut store, &rest);
-    assert_eq!(rt; kept(&store, 0), Some(2));
-    assert!(rt; store.close().is_ok(), "closed");
-    Ok(())
+    ]
+}
+
+// Whether each step answers as it is to; why the store isn't closed before the release and behind it; the sections
+// acknowledged before it and in the end; and whether the store is closed then.
+fn told_of_two_sections(
+    alloc: Global,
+) -> Option<([bool; 3], [StoreError; 2], [Option<u64>; 2], bool)> {
+    let mut store = fresh(alloc, 2, 2)?;
+    let first = first_other(&mut store, &first_steps()).is_none();
+    let begun = kept(&store, 0);
+    let (mut store, open) = still_open(store)?;
+    let released = answer_to(&mut store, one(rel(0, 0))) == Ok(());
+    let (mut store, unwritten) = still_open(store)?;
+    let last = first_other(&mut store, &last_steps()).is_none();
+    let ended = kept(&store, 0);
+    let is_closed = store.close().is_ok();
+    Some((
+        [first, released, last],
+        [open, unwritten],
+        [begun, ended],
+        is_closed,
+    ))
+}
+
+// Each refusal of two sections on one object, and what is taken between them.
+#[test]
+fn two_sections_are_kept(rt: HostRuntime) {
+    let refused = [StoreError::Unfinished, StoreError::Unwritten];
+    let wanted = ([true; 3], refused, [Some(0), Some(2)], true);
+    assert!(rt; told_of_two_sections(rt.alloc()) == Some(wanted));
+}
+
+// Whether a section is played, how many of its records are logged, and what two home steps do then.
+fn logged_and_home(
+    alloc: Global,
+) -> Option<(bool, Result<u64, StoreError>, [Result<Home, StoreError>; 2])> {
+    let mut store = fresh(alloc, 2, 2)?;
+    let is_played = store.play(&SECTION) == Ok(());
+    let logged = store.log_step();
+    let first = store.home_step();
+    Some((is_played, logged, [first, store.home_step()]))
 }
 
 #[test]
-fn a_store_is_logged_and_goes_home(rt: HostRuntime) -> Result<(), Fail> {
-    let mut store = fresh(rt.alloc(), 2, 2)?;
-    assert_eq!(rt; store.play(&SECTION), Ok(()));
-    assert_eq!(rt; store.log_step(), Ok(3));
-    assert_eq!(rt; store.home_step(), Ok(Home::Wrote(FieldId(0))));
-    assert_eq!(rt; store.home_step(), Ok(Home::Done));
-    Ok(())
-}
-
-// The store, which isn't closed for this reason.
-fn still_open(
-    rt: &impl Abort,
-    store: Store<MemDisk>,
-    why: StoreError,
-) -> Result<Store<MemDisk>, Fail> {
-    let Err((store, reason)) = store.close() else {
-        return Err(Fail::new("closed"));
-    };
-    assert_eq!(rt; reason, why);
-    Ok(store)
+fn a_store_is_logged_and_goes_home(rt: HostRuntime) {
+    let home = [Ok(Home::Wrote(FieldId(0))), Ok(Home::Done)];
+    assert!(rt; logged_and_home(rt.alloc()) == Some((true, Ok(3), home)));
 }
 
 // A section of 1,000 records: the acquire, 998 stores, of which the next is refused, and the release.
@@ -180,23 +216,39 @@ fn section(store: &mut Store<MemDisk>, number: u64) -> bool {
     taken && store.apply(Lane(0), rel(0, number)) == Ok(())
 }
 
-// An area of 4,000 records takes four sections of 1,000, and a fifth once they are trimmed.
-#[test]
-fn a_fifth_section_is_too_much(rt: HostRuntime) -> Result<(), Fail> {
-    let mut store = fresh(rt.alloc(), 1, 9)?;
-    for number in 0..4 {
-        assert!(rt; section(&mut store, number), "section {number}");
+// So many sections of 1,000 records, if each is taken.
+fn are_sections(store: &mut Store<MemDisk>, count: u64) -> bool {
+    for number in 0..count {
+        if !section(store, number) {
+            return false;
+        }
     }
-    assert_eq!(rt; store.apply(Lane(0), acq(0, 4)), Err(StoreError::LogFull));
-    assert_eq!(rt; store.log_step(), Ok(4000));
+    true
+}
+
+// Whether four sections are taken; what one more answers, and how many records are logged; and whether it is taken once
+// those are trimmed.
+fn fifth_section(
+    alloc: Global,
+) -> Option<(bool, Result<(), StoreError>, Result<u64, StoreError>, bool)> {
+    let mut store = fresh(alloc, 1, 9)?;
+    let four = are_sections(&mut store, 4);
+    let fifth = store.apply(Lane(0), acq(0, 4));
+    let logged = store.log_step();
     let calls = [
         StoreCall::Home,
         StoreCall::Settle,
         StoreCall::Trim,
         one(acq(0, 4)),
     ];
-    assert_eq!(rt; store.play(&calls), Ok(()));
-    Ok(())
+    Some((four, fifth, logged, store.play(&calls) == Ok(())))
+}
+
+// An area of 4,000 records takes four sections of 1,000, and a fifth once they are trimmed.
+#[test]
+fn a_fifth_section_is_too_much(rt: HostRuntime) {
+    let wanted = (true, Err(StoreError::LogFull), Ok(4000), true);
+    assert!(rt; fifth_section(rt.alloc()) == Some(wanted));
 }
 
 // So many sections of 1,000 records, which are then logged and acknowledged.
@@ -225,28 +277,28 @@ fn place_and_calls(store: &Store<MemDisk>) -> (u64, u64) {
 
 // Two sections fill an area of 2,000 records. What is acknowledged of them is trimmed, and a third takes the places of the
 // first: the places and calls after each step.
-fn places_again(alloc: Global) -> Result<[(u64, u64); 5], Fail> {
-    let disk = MemDisk::new(alloc, 130_208)?;
+fn places_again(alloc: Global) -> Option<[(u64, u64); 5]> {
+    let disk = MemDisk::new(alloc, 130_208).ok()?;
     let mut store = store_on(alloc, disk, 1, 2000, 9)?;
-    settled_sections(&mut store, 0, 2).map_err(|_| Fail::new("not settled"))?;
+    settled_sections(&mut store, 0, 2).ok()?;
     if store.apply(Lane(0), acq(0, 2)) != Err(StoreError::LogFull) {
-        return Err(Fail::new("not full"));
+        return None;
     }
     let settled = place_and_calls(&store);
-    store.trim().map_err(|_| Fail::new("not trimmed"))?;
+    store.trim().ok()?;
     let trimmed = place_and_calls(&store);
-    store.trim().map_err(|_| Fail::new("not trimmed again"))?;
+    store.trim().ok()?;
     let again = place_and_calls(&store);
-    settled_sections(&mut store, 2, 1).map_err(|_| Fail::new("no third"))?;
+    settled_sections(&mut store, 2, 1).ok()?;
     let third = place_and_calls(&store);
-    store.trim().map_err(|_| Fail::new("third not trimmed"))?;
-    Ok([settled, trimmed, again, third, place_and_calls(&store)])
+    store.trim().ok()?;
+    Some([settled, trimmed, again, third, place_and_calls(&store)])
 }
 
 // The format takes 13 calls; the first two sections 2,000 writes, a sync and a commit of 4, a home write, a sync and a commit of
 // 6. Each trim is a commit of 6, and with nothing to move no call.
 #[test]
-fn a_trim_makes_room(rt: HostRuntime) -> Result<(), Fail> {
+fn a_trim_makes_room(rt: HostRuntime) {
     let steps = [
         (0, 2026),
         (2000, 2032),
@@ -254,8 +306,7 @@ fn a_trim_makes_room(rt: HostRuntime) -> Result<(), Fail> {
         (2000, 3047),
         (3000, 3053),
     ];
-    assert_eq!(rt; places_again(rt.alloc())?, steps);
-    Ok(())
+    assert!(rt; places_again(rt.alloc()) == Some(steps));
 }
 
 // How many of so many sections of an acquire and a release are taken.
@@ -273,69 +324,47 @@ fn short_sections(store: &mut Store<MemDisk>, from: u64, count: u64) -> u64
 }
 
 // The sections that are taken before a trim and after it, those acknowledged, and the answer to one more.
-fn sections_by_trim(
-    alloc: Global,
-) -> Result<(u64, Option<u64>, u64, Result<(), StoreError>), Fail> {
+fn sections_by_trim(alloc: Global) -> Option<(u64, Option<u64>, u64, Result<(), StoreError>)> {
     let mut store = fresh(alloc, 1, 9000)?;
     let before = short_sections(&mut store, 0, 2000);
-    if store
-        .play(&[StoreCall::Log, StoreCall::Settle, StoreCall::Trim])
-        .is_err()
-    {
-        return Err(Fail::new("not trimmed"));
-    }
+    let calls = [StoreCall::Log, StoreCall::Settle, StoreCall::Trim];
+    store.play(&calls).ok()?;
     let acknowledged = kept(&store, 0);
     let after = short_sections(&mut store, 1501, 2000);
-    Ok((
-        before,
-        acknowledged,
-        after,
-        store.apply(Lane(0), acq(0, 3002)),
-    ))
+    let more = store.apply(Lane(0), acq(0, 3002));
+    Some((before, acknowledged, after, more))
 }
 
 // An area of 4,000 records begins no section where fewer than 1,000 are left.
 #[test]
-fn a_trimmed_store_takes_as_many_again(rt: HostRuntime) -> Result<(), Fail> {
+fn a_trimmed_store_takes_as_many_again(rt: HostRuntime) {
     let full = Err(StoreError::LogFull);
-    assert_eq!(rt;
-        sections_by_trim(rt.alloc())?,
-        (1501, Some(1501), 1501, full)
-    );
-    Ok(())
+    assert!(rt; sections_by_trim(rt.alloc()) == Some((1501, Some(1501), 1501, full)));
 }
 
-// A trim whose commit fails keeps its places: the answers of it and of the calls after it. Before it the device is called 31
-// times, two reads of a gate among them; it reads a gate and closes it, and the 35th call writes the control.
-fn failed_trim(alloc: Global) -> Result<[Result<(), StoreError>; 4], Fail> {
-    let mut disk = MemDisk::new(alloc, 130_208)?;
+// A trim whose commit fails keeps its places: how many places are trimmed, and the answers of it and of the calls after it.
+// Before it the device is called 31 times, two reads of a gate among them; it reads a gate and closes it, and the 35th call
+// writes the control.
+fn failed_trim(alloc: Global) -> Option<(u64, [Result<(), StoreError>; 4])> {
+    let mut disk = MemDisk::new(alloc, 130_208).ok()?;
     disk.fail_call(35);
     let mut store = store_on(alloc, disk, 1, 4000, 9)?;
+    store.play(&SECTION).ok()?;
     let calls = [StoreCall::Log, StoreCall::Home, StoreCall::Settle];
-    if store.play(&SECTION).is_err() || store.play(&calls).is_err() {
-        return Err(Fail::new("refused"));
-    }
+    store.play(&calls).ok()?;
     let first = store.trim();
     let (place, _) = place_and_calls(&store);
-    if place != 0 {
-        return Err(Fail::new("trimmed"));
-    }
-    Ok([
-        first,
-        store.trim(),
-        store.settle(),
-        store.apply(Lane(0), acq(0, 1)),
-    ])
+    let again = store.trim();
+    let settled = store.settle();
+    let applied = store.apply(Lane(0), acq(0, 1));
+    Some((place, [first, again, settled, applied]))
 }
 
 #[test]
-fn a_trim_whose_device_failed_keeps_its_places(rt: HostRuntime) -> Result<(), Fail> {
+fn a_trim_whose_device_failed_keeps_its_places(rt: HostRuntime) {
     let failed = Err(StoreError::Failed);
-    assert_eq!(rt;
-        failed_trim(rt.alloc())?,
-        [Err(StoreError::Fault), failed, failed, failed]
-    );
-    Ok(())
+    let answers = [Err(StoreError::Fault), failed, failed, failed];
+    assert!(rt; failed_trim(rt.alloc()) == Some((0, answers)));
 }
 
 // A store of one field, inside a section.
@@ -364,13 +393,12 @@ const SECTION: [StoreCall; 3] = [
     ),
 ];
 
-// The format takes 13 calls of the device and the section's records 3, so the sync behind them is the 17th.
-#[test]
-fn a_store_whose_device_failed_takes_no_more(rt: HostRuntime) -> Result<(), Fail> {
-    let mut disk = MemDisk::new(rt.alloc(), 130_208)?;
+// Whether a section is played and each call behind it answers so, and how often the device was called.
+fn told_of_failed_log(alloc: Global) -> Option<([bool; 2], u64)> {
+    let mut disk = MemDisk::new(alloc, 130_208).ok()?;
     disk.fail_call(17);
-    let mut store = store_on(rt.alloc(), disk, 2, 4000, 9)?;
-    assert_eq!(rt; store.play(&SECTION), Ok(()));
+    let mut store = store_on(alloc, disk, 2, 4000, 9)?;
+    let is_played = store.play(&SECTION) == Ok(());
     let steps = [
         (StoreCall::Log, Err(StoreError::Fault)),
         (StoreCall::Log, Err(StoreError::Failed)),
@@ -378,30 +406,43 @@ fn a_store_whose_device_failed_takes_no_more(rt: HostRuntime) -> Result<(), Fail
         (StoreCall::Home, Err(StoreError::Failed)),
         (StoreCall::Settle, Err(StoreError::Failed)),
     ];
-    check_answers(&rt, &mut store, &steps);
-    assert_eq!(rt; store.into_disk().stops(), 17);
-    Ok(())
+    let are_so = first_other(&mut store, &steps).is_none();
+    Some(([is_played, are_so], store.disk().stops()))
+}
+
+// The format takes 13 calls of the device and the section's records 3, so the sync behind them is the 17th.
+#[test]
+fn a_store_whose_device_failed_takes_no_more(rt: HostRuntime) {
+    assert!(rt; told_of_failed_log(rt.alloc()) == Some(([true; 2], 17)));
 }
 
 // Makes these calls of a fresh store of two lanes, and gives its device.
-fn played(alloc: Global, calls: &[StoreCall]) -> Result<(MemDisk, Layout), Fail> {
+fn played(alloc: Global, calls: &[StoreCall]) -> Option<(MemDisk, Layout)> {
     let mut store = fresh(alloc, 2, 9)?;
     let layout = store.layout();
-    if store.play(calls).is_err() {
-        return Err(Fail::new("refused"));
-    }
-    Ok((store.into_disk(), layout))
+    store.play(calls).ok()?;
+    Some((store.into_disk(), layout))
 }
 
 // How many calls of the device there were when so many of the calls were made.
-fn stops_after(alloc: Global, calls: &[StoreCall], count: usize) -> Result<u64, Fail> {
-    let (disk, _) = played(alloc, calls.get(..count).ok_or("too many")?)?;
-    Ok(disk.stops())
+fn stops_after(alloc: Global, calls: &[StoreCall], count: usize) -> Option<u64> {
+    let (disk, _) = played(alloc, calls.get(..count)?)?;
+    Some(disk.stops())
+}
+
+// The first of these numbers of calls behind which the device was not called so often.
+fn first_other_count(alloc: Global, calls: &[StoreCall], steps: &[(usize, u64)]) -> Option<usize> {
+    for (count, stops) in steps.iter().copied() {
+        if stops_after(alloc, calls, count) != Some(stops) {
+            return Some(count);
+        }
+    }
+    None
 }
 
 // A commit takes 4 calls where the gate of the other slot is closed, as format leaves it, and else 6.
 #[test]
-fn calls_of_the_device_are_as_documented(rt: HostRuntime) -> Result<(), Fail> {
+fn calls_of_the_device_are_as_documented(rt: HostRuntime) {
     let [acquire, store, release] = SECTION;
     let calls = [
         acquire,
@@ -428,14 +469,7 @@ fn calls_of_the_device_are_as_documented(rt: HostRuntime) -> Result<(), Fail> {
         (11, 29),
         (12, 39),
     ];
-    for (count, stops) in steps {
-        assert_eq!(rt;
-            stops_after(rt.alloc(), &calls, count)?,
-            stops,
-            "{count} calls"
-        );
-    }
-    Ok(())
+    assert!(rt; first_other_count(rt.alloc(), &calls, &steps).is_none());
 }
 
 // The live records of the lane, if it may have this row.
@@ -445,76 +479,118 @@ fn live(
     layout: &Layout,
     lane: u8,
     row: &LaneRow,
-) -> Result<Vec<UndoRecord>, Fail> {
+) -> Option<Vec<UndoRecord>> {
     if !layout.is_within_limits() || disk.size() < layout.size() || layout.lanes <= lane {
-        return Err(Fail::new("no area"));
+        return None;
     }
     if row.logged < row.start || u64::from(layout.capacity) < row.logged - row.start {
-        return Err(Fail::new("no row"));
+        return None;
     }
-    read(alloc, disk, layout, Lane(lane), row.start, row.logged).map_err(|_| Fail::new("no log"))
+    read(alloc, disk, layout, Lane(lane), row.start, row.logged).ok()
 }
 
-fn shown(alloc: Global, disk: &mut MemDisk, layout: &Layout) -> Result<Contents, Fail> {
+fn shown(alloc: Global, disk: &mut MemDisk, layout: &Layout) -> Option<Contents> {
     if !layout.is_within_limits() || disk.size() < layout.size() {
-        return Err(Fail::new("no image"));
+        return None;
     }
-    let (_, control) = choose_control(disk, layout).map_err(|_| Fail::new("no control"))?;
+    let (_, control) = choose_control(disk, layout).ok()?;
     let mut records = live(alloc, disk, layout, 0, &control.rows[0])?;
-    records.extend_from_slice(&live(alloc, disk, layout, 1, &control.rows[1])?)?;
-    Ok(Contents { control, records })
+    let others = live(alloc, disk, layout, 1, &control.rows[1])?;
+    records.extend_from_slice(&others).ok()?;
+    Some(Contents { control, records })
 }
 
-// Each crash that comes with call `k` of the device begun shows one of these.
-fn check_crashes(
-    rt: &impl Abort,
+// What a crash that comes with call `k` of the device begun shows.
+fn shown_after(
+    alloc: Global,
+    disk: &MemDisk,
+    layout: &Layout,
+    k: u64,
+    fill: Fill,
+) -> Option<Contents> {
+    let mut image = disk.crash_image(k, fill).ok()??;
+    shown(alloc, &mut image, layout)
+}
+
+fn is_one_of(found: &Option<Contents>, old: &Contents, new: &Contents) -> bool {
+    match found {
+        Some(contents) => *contents == *old || *contents == *new,
+        None => false,
+    }
+}
+
+// Whether each crash that comes with call `k` of the device begun shows one of these.
+fn shows_either(
     alloc: Global,
     disk: &MemDisk,
     layout: &Layout,
     k: u64,
     old: &Contents,
     new: &Contents,
-) -> Result<(), Fail> {
+) -> bool {
+    let mut is_so = true;
     for fill in FILLS {
-        let mut image = disk.crash_image(k, fill)?.ok_or("no such call")?;
-        let found = shown(alloc, &mut image, layout)?;
-        assert!(rt;
-            found == *old || found == *new,
-            "call {k}, {fill:?}: {found:?}"
-        );
+        is_so &= is_one_of(&shown_after(alloc, disk, layout, k, fill), old, new);
     }
-    Ok(())
+    is_so
 }
 
-// Each crash while the last of these calls is made shows what the device shows before that call or after it, and a crash
-// behind it shows the latter.
-fn check_last(rt: &impl Abort, alloc: Global, calls: &[StoreCall]) -> Result<(), Fail> {
-    let (_, earlier) = calls.split_last().ok_or("no call")?;
+// Whether each crash with a call of the device begun, from behind the first `from`, shows one of these, and a crash behind the
+// last shows the latter.
+fn shows_either_from(
+    alloc: Global,
+    disk: &MemDisk,
+    layout: &Layout,
+    from: u64,
+    old: &Contents,
+    new: &Contents,
+) -> bool {
+    let mut is_so = true;
+    for k in from..disk.stops() {
+        is_so &= shows_either(alloc, disk, layout, k + 1, old, new);
+    }
+    let behind = disk.stops().saturating_add(1);
+    is_so && shows_either(alloc, disk, layout, behind, new, new)
+}
+
+// Whether each crash while the last of these calls is made shows what the device shows before that call or after it, and a
+// crash behind it shows the latter.
+fn is_last_atomic(alloc: Global, calls: &[StoreCall]) -> Option<bool> {
+    let (_, earlier) = calls.split_last()?;
     let (mut before, layout) = played(alloc, earlier)?;
     let (mut after, _) = played(alloc, calls)?;
     let old = shown(alloc, &mut before, &layout)?;
     let new = shown(alloc, &mut after, &layout)?;
-    for k in before.stops()..after.stops() {
-        check_crashes(rt, alloc, &after, &layout, k + 1, &old, &new)?;
-    }
-    let behind = after.stops().checked_add(1).ok_or("too many calls")?;
-    check_crashes(rt, alloc, &after, &layout, behind, &new, &new)
+    let from = before.stops();
+    Some(shows_either_from(alloc, &after, &layout, from, &old, &new))
 }
 
-// Does so for each of these calls, and gives the acknowledged sections of the two lanes in the end.
-fn check_all(rt: &impl Abort, alloc: Global, calls: &[StoreCall]) -> Result<[u64; 2], Fail> {
-    for end in 1..calls.len() {
-        check_last(rt, alloc, &calls[..end])?;
-    }
-    check_last(rt, alloc, calls)?;
-    let (mut disk, layout) = played(alloc, calls)?;
+// Whether each of these calls is so.
+fn are_all_atomic(alloc: Global, calls: &[StoreCall]) -> bool {
+    (0..calls.len()).all(|end| is_last_atomic(alloc, &calls[..end + 1]) == Some(true))
+}
+
+// The acknowledged sections of the two lanes behind the first so many calls.
+fn kept_after(alloc: Global, calls: &[StoreCall], count: usize) -> Option<[u64; 2]> {
+    let (mut disk, layout) = played(alloc, calls.get(..count)?)?;
     let rows = shown(alloc, &mut disk, &layout)?.control.rows;
-    Ok([rows[0].kept, rows[1].kept])
+    Some([rows[0].kept, rows[1].kept])
+}
+
+// Whether all calls are atomic, and the acknowledged sections behind the first so many and behind all.
+fn told_of_crashes(
+    alloc: Global,
+    calls: &[StoreCall],
+    first: usize,
+) -> (bool, [Option<[u64; 2]>; 2]) {
+    let begun = kept_after(alloc, calls, first);
+    let ended = kept_after(alloc, calls, calls.len());
+    (are_all_atomic(alloc, calls), [begun, ended])
 }
 
 // The second thread's section depends on the first one's, which ends after the first settling.
 #[test]
-fn a_dependent_section_waits(rt: HostRuntime) -> Result<(), Fail> {
+fn a_dependent_section_waits(rt: HostRuntime) {
     let calls = [
         one(acq(0, 0)),
         one(acq(1, 0)),
@@ -531,15 +607,13 @@ fn a_dependent_section_waits(rt: HostRuntime) -> Result<(), Fail> {
         StoreCall::Settle,
         StoreCall::Trim,
     ];
-    let first = check_all(&rt, rt.alloc(), &calls[..10])?;
-    assert_eq!(rt; first, [0, 0]);
-    assert_eq!(rt; check_all(&rt, rt.alloc(), &calls)?, [1, 1]);
-    Ok(())
+    let kept = [Some([0, 0]), Some([1, 1])];
+    assert!(rt; told_of_crashes(rt.alloc(), &calls, 10) == (true, kept));
 }
 
 // Each of two sections depends on the other.
 #[test]
-fn two_sections_wait_for_each_other(rt: HostRuntime) -> Result<(), Fail> {
+fn two_sections_wait_for_each_other(rt: HostRuntime) {
     let calls = [
         one(acq(0, 0)),
         one(acq(1, 0)),
@@ -556,14 +630,13 @@ fn two_sections_wait_for_each_other(rt: HostRuntime) -> Result<(), Fail> {
         StoreCall::Log,
         StoreCall::Settle,
     ];
-    assert_eq!(rt; check_all(&rt, rt.alloc(), &calls[..11])?, [0, 0]);
-    assert_eq!(rt; check_all(&rt, rt.alloc(), &calls)?, [1, 1]);
-    Ok(())
+    let kept = [Some([0, 0]), Some([1, 1])];
+    assert!(rt; told_of_crashes(rt.alloc(), &calls, 11) == (true, kept));
 }
 
 // A wait that frees the thread's one monitor ends its section.
 #[test]
-fn a_wait_ends_a_section(rt: HostRuntime) -> Result<(), Fail> {
+fn a_wait_ends_a_section(rt: HostRuntime) {
     let calls = [
         one(acq(0, 0)),
         one(put(0, 10, 7)),
@@ -579,18 +652,17 @@ fn a_wait_ends_a_section(rt: HostRuntime) -> Result<(), Fail> {
         StoreCall::Settle,
         StoreCall::Trim,
     ];
-    assert_eq!(rt; check_all(&rt, rt.alloc(), &calls[..6])?, [1, 0]);
-    assert_eq!(rt; check_all(&rt, rt.alloc(), &calls)?, [2, 1]);
-    Ok(())
+    let kept = [Some([1, 0]), Some([2, 1])];
+    assert!(rt; told_of_crashes(rt.alloc(), &calls, 6) == (true, kept));
 }
 
 // By lane the first place that isn't trimmed and those behind what is settled and what is logged; and how many records are
 // live in all.
-fn places(alloc: Global, calls: &[StoreCall]) -> Result<[u64; 7], Fail> {
+fn places(alloc: Global, calls: &[StoreCall]) -> Option<[u64; 7]> {
     let (mut disk, layout) = played(alloc, calls)?;
     let found = shown(alloc, &mut disk, &layout)?;
     let [first, second] = [found.control.rows[0], found.control.rows[1]];
-    Ok([
+    Some([
         first.start,
         first.settled,
         first.logged,
@@ -601,10 +673,15 @@ fn places(alloc: Global, calls: &[StoreCall]) -> Result<[u64; 7], Fail> {
     ])
 }
 
+// The places behind these calls, and whether the last of them is atomic.
+fn places_and_last(alloc: Global, calls: &[StoreCall]) -> Option<([u64; 7], bool)> {
+    Some((places(alloc, calls)?, is_last_atomic(alloc, calls)?))
+}
+
 // The second thread's section stays open, and the first one's second section depends on it. A trim goes up to what is settled,
 // and what is live behind that stays, until the open section has ended and is settled too.
 #[test]
-fn a_trim_beside_an_open_section_keeps_what_depends_on_it(rt: HostRuntime) -> Result<(), Fail> {
+fn a_trim_beside_an_open_section_keeps_what_depends_on_it(rt: HostRuntime) {
     let calls = [
         two(acq(1, 0)),
         two(acq(2, 0)),
@@ -623,13 +700,11 @@ fn a_trim_beside_an_open_section_keeps_what_depends_on_it(rt: HostRuntime) -> Re
         StoreCall::Settle,
         StoreCall::Trim,
     ];
-    let open = places(rt.alloc(), &calls[..12])?;
-    let ended = places(rt.alloc(), &calls)?;
-    assert_eq!(rt;
-        [open, ended],
-        [[3, 3, 5, 0, 0, 3, 5], [5, 5, 5, 4, 4, 4, 0]]
-    );
-    check_last(&rt, rt.alloc(), &calls[..12])?;
-    check_last(&rt, rt.alloc(), &calls)?;
-    Ok(())
+    let found = [
+        places_and_last(rt.alloc(), &calls[..12]),
+        places_and_last(rt.alloc(), &calls),
+    ];
+    let open = ([3, 3, 5, 0, 0, 3, 5], true);
+    let ended = ([5, 5, 5, 4, 4, 4, 0], true);
+    assert!(rt; found == [Some(open), Some(ended)]);
 }

@@ -1,3 +1,0 @@
--- The promise: what public clauses state.
-pub mod Joined
-pub mod Laws
