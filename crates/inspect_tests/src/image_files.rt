@@ -4,7 +4,6 @@ mod recovered;
 use declarations::{SchemaFault, SchemaFaultKind};
 use image_file::{FormatError, format_file};
 use std::fs;
-use std::test::Fail;
 
 const SCHEMA: &str = "\
 object o0
@@ -15,43 +14,58 @@ field f0 o0 o0 10
 field f1 o1 o1 20
 ";
 
-// Makes an image file of 2 lanes, and gives what is answered and what is written.
-fn format_there(rt: &HostRuntime, image: &str, schema: &str) -> (Result<(), FormatError>, Vec<u8>) {
+// What the first bytes of its image are.
+const HEADER: &[u8] = b"MONIHEAP\xA5\x02\x00\x00\x00\x00\x00\x04\x00\x00\x00\x02\x00\x00\x0F\xA0";
+
+// Makes an image file of 2 lanes, and gives what is answered and whether this is written.
+fn format_there(
+    rt: &HostRuntime,
+    image: &str,
+    schema: &str,
+    lines: &[u8],
+) -> (Result<(), FormatError>, bool) {
     let alloc = rt.alloc();
     let mut writer = Vec::new(alloc);
     let made = format_file(rt, alloc, image, schema, 2, 4000, &mut writer);
-    (made, writer)
+    (made, writer.as_slice() == lines)
+}
+
+// What is answered and whether it is written, and the size of the file, with whether it begins as documented.
+fn told_of_made(rt: &HostRuntime) -> Option<((Result<(), FormatError>, bool), (usize, bool))> {
+    fs::write(rt, "schema", SCHEMA).ok()?;
+    let made = format_there(rt, "made", "schema", b"formatted 130208\n");
+    let image = fs::read(rt, "made").ok()?;
+    Some((made, (image.len(), image.starts_with(HEADER))))
 }
 
 #[test]
-fn a_schema_file_gives_an_image_file(rt: HostRuntime) -> Result<(), Fail> {
-    fs::write(&rt, "schema", SCHEMA)?;
-    let (made, written) = format_there(&rt, "made", "schema");
-    assert_eq!(rt; made, Ok(()));
-    assert_eq!(rt; written.as_slice(), b"formatted 130208\n".as_slice());
-    let image = fs::read(&rt, "made")?;
-    assert_eq!(rt; image.len(), 130_208);
-    assert!(rt;
-        image.starts_with(
-            b"MONIHEAP\xA5\x02\x00\x00\x00\x00\x00\x04\x00\x00\x00\x02\x00\x00\x0F\xA0"
-        )
-    );
-    Ok(())
+fn a_schema_file_gives_an_image_file(rt: HostRuntime) {
+    let wanted = ((Ok(()), true), (130_208, true));
+    assert!(rt; told_of_made(&rt) == Some(wanted));
+}
+
+// What is answered, whether nothing is written, and whether there is no file.
+type Unmade = (Result<(), FormatError>, bool, bool);
+
+fn unmade(rt: &HostRuntime, schema: &str) -> Unmade {
+    let (made, is_silent) = format_there(rt, "unmade", schema, b"");
+    (made, is_silent, fs::metadata(rt, "unmade").is_err())
+}
+
+// Of a schema that is refused, and of one that is missing.
+fn told_of_unmade(rt: &HostRuntime) -> Option<[Unmade; 2]> {
+    fs::write(rt, "bad_schema", "object a\nobject a\n").ok()?;
+    let refused = unmade(rt, "bad_schema");
+    Some([refused, unmade(rt, "missing")])
 }
 
 #[test]
-fn a_refused_schema_makes_no_file(rt: HostRuntime) -> Result<(), Fail> {
-    fs::write(&rt, "bad_schema", "object a\nobject a\n")?;
-    let (made, written) = format_there(&rt, "unmade", "bad_schema");
+fn a_refused_schema_makes_no_file(rt: HostRuntime) {
     let fault = SchemaFault {
         line: 2,
         why: SchemaFaultKind::DoubleName,
     };
-    assert_eq!(rt; made, Err(FormatError::Schema(fault)));
-    assert!(rt; written.is_empty());
-    assert!(rt; fs::metadata(&rt, "unmade").is_err());
-    let (made, _) = format_there(&rt, "unmade", "missing");
-    assert_eq!(rt; made, Err(FormatError::Fault));
-    assert!(rt; fs::metadata(&rt, "unmade").is_err());
-    Ok(())
+    let refused = (Err(FormatError::Schema(fault)), true, true);
+    let missing = (Err(FormatError::Fault), true, true);
+    assert!(rt; told_of_unmade(&rt) == Some([refused, missing]));
 }

@@ -4,10 +4,9 @@ use block_disk::{Fill, MemDisk};
 use declarations::read_schema;
 use durable::{Store, StoreCall};
 use heap_model::{FieldId, Lane, ObjectId, Record};
-use image_file::{draw_file, recover_file, show_file};
+use image_file::{FormatError, draw_file, recover_file, show_file};
 use recover::RecoverError;
 use std::io::Write;
-use std::test::Fail;
 use std::{fs, io};
 
 const NOTHING_UNDONE: &[u8] = b"kept 0 0
@@ -15,44 +14,49 @@ undone 0
 heap 10 20
 ";
 
-// What a word of the program answers and writes.
-type Answer = (Result<(), RecoverError>, Vec<u8>);
+// What a word of the program answers, and whether it writes these lines.
+type Answer = (Result<(), RecoverError>, bool);
 
-fn recover_there(rt: &HostRuntime, image: &str) -> Answer {
+fn recover_there(rt: &HostRuntime, image: &str, lines: &[u8]) -> Answer {
     let mut writer = Vec::new(rt.alloc());
     let answer = recover_file(rt, rt.alloc(), image, &mut writer);
-    (answer, writer)
+    (answer, writer.as_slice() == lines)
 }
 
-fn show_there(rt: &HostRuntime, image: &str) -> Answer {
+fn show_there(rt: &HostRuntime, image: &str, lines: &[u8]) -> Answer {
     let mut writer = Vec::new(rt.alloc());
     let answer = show_file(rt, rt.alloc(), image, &mut writer);
-    (answer, writer)
+    (answer, writer.as_slice() == lines)
 }
 
-fn draw_there(rt: &HostRuntime, image: &str) -> Answer {
+fn draw_there(rt: &HostRuntime, image: &str, lines: &[u8]) -> Answer {
     let mut writer = Vec::new(rt.alloc());
     let answer = draw_file(rt, rt.alloc(), image, &mut writer);
-    (answer, writer)
+    (answer, writer.as_slice() == lines)
 }
 
-fn check(answer: Answer, wanted: Result<(), RecoverError>, lines: &[u8]) -> Result<(), Fail> {
-    let (answered, written) = answer;
-    if answered != wanted {
-        return Err(Fail::new("another answer"));
-    }
-    if written.as_slice() != lines {
-        return Err(Fail::new("another text"));
-    }
-    Ok(())
+// What is answered where a file is made and shown with these lines, then recovered twice; and to drawing it.
+fn file_round_there(
+    rt: &HostRuntime,
+    lines: &[u8],
+) -> Option<
+    (
+        (Result<(), FormatError>, bool),
+        [Answer; 3],
+        Result<(), RecoverError>,
+    ),
+> {
+    fs::write(rt, "schema", SCHEMA).ok()?;
+    let made = format_there(rt, "round", "schema", b"formatted 130208\n");
+    let shown = show_there(rt, "round", lines);
+    let first = recover_there(rt, "round", NOTHING_UNDONE);
+    let again = recover_there(rt, "round", NOTHING_UNDONE);
+    let (drawn, _) = draw_there(rt, "round", b"");
+    Some((made, [shown, first, again], drawn))
 }
 
 #[test]
-fn file_round(rt: HostRuntime) -> Result<(), Fail> {
-    fs::write(&rt, "schema", SCHEMA)?;
-    let (made, written) = format_there(&rt, "round", "schema");
-    assert_eq!(rt; made, Ok(()));
-    assert_eq!(rt; written.as_slice(), b"formatted 130208\n".as_slice());
+fn file_round(rt: HostRuntime) {
     let lines = b"image lanes 2 capacity 4000 objects 4 fields 2 size 130208
 control a sequence 1 version 1
 lane t1 start 0 settled 0 logged 0 kept 0
@@ -60,27 +64,23 @@ lane t2 start 0 settled 0 logged 0 kept 0
 cut 0 0
 heap 10 20
 ";
-    check(show_there(&rt, "round"), Ok(()), lines)?;
-    check(recover_there(&rt, "round"), Ok(()), NOTHING_UNDONE)?;
-    check(recover_there(&rt, "round"), Ok(()), NOTHING_UNDONE)?;
-    let (drawn, _) = draw_there(&rt, "round");
-    assert_eq!(rt; drawn, Ok(()));
-    Ok(())
+    let wanted = ((Ok(()), true), [(Ok(()), true); 3], Ok(()));
+    assert!(rt; file_round_there(&rt, lines) == Some(wanted));
 }
 
 // A store of the schema with two lanes of 4,000 records.
-fn store_there(rt: &HostRuntime) -> Result<Store<MemDisk>, Fail> {
+fn store_there(rt: &HostRuntime) -> Option<Store<MemDisk>> {
     let alloc = rt.alloc();
-    fs::write(rt, "schema", SCHEMA)?;
-    let schema = read_schema(alloc, &mut fs::open(rt, "schema")?)?;
-    let disk = MemDisk::new(alloc, 130_208)?;
+    fs::write(rt, "schema", SCHEMA).ok()?;
+    let schema = read_schema(alloc, &mut fs::open(rt, "schema").ok()?).ok()?;
+    let disk = MemDisk::new(alloc, 130_208).ok()?;
     let Ok(made) = Store::format(alloc, disk, &schema, 2, 4000) else {
-        return Err(Fail::new("not formatted"));
+        return None;
     };
     let Ok(store) = Store::adopt(alloc, made, 9) else {
-        return Err(Fail::new("not adopted"));
+        return None;
     };
-    Ok(store)
+    Some(store)
 }
 
 fn acq(object: u32, number: u64) -> Record {
@@ -107,7 +107,7 @@ fn put(before: u64, after: u64) -> Record {
 
 // What a crash leaves where a section drags another along: the first thread frees the guard, but not its other monitor,
 // and the second one takes it.
-fn crashed(rt: &HostRuntime) -> Result<MemDisk, Fail> {
+fn crashed(rt: &HostRuntime) -> Option<MemDisk> {
     let calls = [
         StoreCall::Apply(Lane(0), acq(0, 0)),
         StoreCall::Apply(Lane(0), acq(1, 0)),
@@ -122,17 +122,23 @@ fn crashed(rt: &HostRuntime) -> Result<MemDisk, Fail> {
         StoreCall::Settle,
     ];
     let mut store = store_there(rt)?;
-    if store.play(&calls).is_err() {
-        return Err(Fail::new("a call is refused"));
-    }
+    store.play(&calls).ok()?;
     let disk = store.into_disk();
-    let image = disk.crash_image(disk.stops().saturating_add(1), Fill::Lost)?;
-    Ok(image.ok_or("no such call")?)
+    disk.crash_image(disk.stops().saturating_add(1), Fill::Lost)
+        .ok()?
+}
+
+// What is answered where that is shown with these lines and recovered with those; and recovered once more.
+fn told_of_crashed(rt: &HostRuntime, lines: &[u8], report: &[u8]) -> Option<[Answer; 3]> {
+    fs::write(rt, "crashed", crashed(rt)?.bytes()).ok()?;
+    let shown = show_there(rt, "crashed", lines);
+    let recovered = recover_there(rt, "crashed", report);
+    let again = recover_there(rt, "crashed", NOTHING_UNDONE);
+    Some([shown, recovered, again])
 }
 
 #[test]
-fn a_crashed_file_is_shown_and_recovered(rt: HostRuntime) -> Result<(), Fail> {
-    fs::write(&rt, "crashed", crashed(&rt)?.bytes())?;
+fn a_crashed_file_is_shown_and_recovered(rt: HostRuntime) {
     let lines = b"image lanes 2 capacity 4000 objects 4 fields 2 size 130208
 control a sequence 3 version 1
 lane t1 start 0 settled 0 logged 4 kept 0
@@ -143,64 +149,95 @@ depends t2 1 on t1 1 object 0 number 1
 cut 0 0
 heap 10 20
 ";
-    check(show_there(&rt, "crashed"), Ok(()), lines)?;
-    let lines = b"kept 0 0
+    let report = b"kept 0 0
 dropped t1 1 unfinished
 dropped t2 1 after t1 1
 undone 1
 heap 10 20
 ";
-    check(recover_there(&rt, "crashed"), Ok(()), lines)?;
-    check(recover_there(&rt, "crashed"), Ok(()), NOTHING_UNDONE)?;
-    Ok(())
+    assert!(rt; told_of_crashed(&rt, lines, report) == Some([(Ok(()), true); 3]));
 }
 
-// Checks that a file of these bytes is refused for this reason, and keeps them.
-fn check_refused(rt: &HostRuntime, bytes: &[u8], why: RecoverError) -> Result<(), Fail> {
-    fs::write(rt, "refused", bytes)?;
-    check(recover_there(rt, "refused"), Err(why), b"")?;
-    check(show_there(rt, "refused"), Err(why), b"")?;
-    check(draw_there(rt, "refused"), Err(why), b"")?;
-    let left = fs::read(rt, "refused")?;
-    if left.as_slice() != bytes {
-        return Err(Fail::new("another file"));
+// Whether a file of these bytes is refused for this reason by all three words, which write nothing, and keeps its bytes.
+fn is_refused(rt: &HostRuntime, bytes: &[u8], why: RecoverError) -> bool {
+    if fs::write(rt, "refused", bytes).is_err() {
+        return false;
     }
-    Ok(())
+    let answers = [
+        recover_there(rt, "refused", b""),
+        show_there(rt, "refused", b""),
+        draw_there(rt, "refused", b""),
+    ];
+    answers == [(Err(why), true); 3] && has(rt, "refused", bytes)
 }
 
+// Whether the file has these bytes.
+fn has(rt: &HostRuntime, name: &str, bytes: &[u8]) -> bool {
+    match fs::read(rt, name) {
+        Ok(left) => left.as_slice() == bytes,
+        Err(_) => false,
+    }
+}
+
+// A place, the byte that is put there, and what it is refused for.
+type Case = (usize, u8, RecoverError);
+
+// Whether the image with this byte is refused so.
+fn is_change_refused(rt: &HostRuntime, image: &MemDisk, case: Case) -> Option<bool> {
+    let (at, value, why) = case;
+    let mut bytes = image.bytes().to_vec(rt.alloc()).ok()?;
+    *bytes.get_mut(at)? = value;
+    Some(is_refused(rt, &bytes, why))
+}
+
+// The first of these changes that isn't refused so.
+fn first_other(rt: &HostRuntime, image: &MemDisk, cases: &[Case]) -> Option<usize> {
+    cases
+        .iter()
+        .position(|case| is_change_refused(rt, image, *case) != Some(true))
+}
+
+// Whether a short image is refused and an empty one, and the first of these changes that isn't.
+fn told_of_refused(rt: &HostRuntime, cases: &[Case]) -> Option<([bool; 2], Option<usize>)> {
+    let image = crashed(rt)?;
+    let cut_short = image.bytes().get(..130_207)?;
+    let small = [
+        is_refused(rt, cut_short, RecoverError::TooSmall),
+        is_refused(rt, b"", RecoverError::NotFormatted),
+    ];
+    Some((small, first_other(rt, &image, cases)))
+}
+
+// The header's gate, its lanes, the version of the control, and the first thread's first record.
 #[test]
-fn a_refused_file_keeps_each_byte(rt: HostRuntime) -> Result<(), Fail> {
-    let image = crashed(&rt)?;
-    let cut_short = image.bytes().get(..130_207).ok_or("no such byte")?;
-    check_refused(&rt, cut_short, RecoverError::TooSmall)?;
-    check_refused(&rt, b"", RecoverError::NotFormatted)?;
+fn a_refused_file_keeps_each_byte(rt: HostRuntime) {
     let bad_record = RecoverError::BadRecord {
         lane: Lane(0),
         place: 0,
     };
-    // The header's gate, its lanes, the version of the control, and the first thread's first record.
     let cases = [
         (8, 0, RecoverError::NotFormatted),
         (9, 33, RecoverError::BadHeader),
         (83, 2, RecoverError::BadControl),
         (2208, 9, bad_record),
     ];
-    for (at, value, why) in cases {
-        let mut bytes = image.bytes().to_vec(rt.alloc())?;
-        let byte = bytes.get_mut(at).ok_or("no such byte")?;
-        *byte = value;
-        check_refused(&rt, &bytes, why)?;
-    }
-    Ok(())
+    assert!(rt; told_of_refused(&rt, &cases) == Some(([true; 2], None)));
+}
+
+// What the three words answer, and whether there is no file then.
+fn told_of_missing(rt: &HostRuntime) -> ([Answer; 3], bool) {
+    let answers = [
+        recover_there(rt, "missing", b""),
+        show_there(rt, "missing", b""),
+        draw_there(rt, "missing", b""),
+    ];
+    (answers, fs::metadata(rt, "missing").is_err())
 }
 
 #[test]
-fn a_missing_file_is_a_fault(rt: HostRuntime) -> Result<(), Fail> {
-    check(recover_there(&rt, "missing"), Err(RecoverError::Fault), b"")?;
-    check(show_there(&rt, "missing"), Err(RecoverError::Fault), b"")?;
-    check(draw_there(&rt, "missing"), Err(RecoverError::Fault), b"")?;
-    assert!(rt; fs::metadata(&rt, "missing").is_err());
-    Ok(())
+fn a_missing_file_is_a_fault(rt: HostRuntime) {
+    let fault = (Err(RecoverError::Fault), true);
+    assert!(rt; told_of_missing(&rt) == ([fault; 3], true));
 }
 
 // Takes a line, and then fails.
@@ -223,19 +260,24 @@ impl Write for OneLine {
     }
 }
 
-// The image is recovered all the same.
-#[test]
-fn a_writer_that_fails_is_a_fault(rt: HostRuntime) -> Result<(), Fail> {
-    fs::write(&rt, "half_told", crashed(&rt)?.bytes())?;
+// What is answered where the writer fails behind a line, to showing and to recovering; whether that line is the first of the
+// report; and what is answered to recovering it again.
+fn told_of_half(rt: &HostRuntime) -> Option<([Result<(), RecoverError>; 2], bool, Answer)> {
+    fs::write(rt, "half_told", crashed(rt)?.bytes()).ok()?;
     let mut writer = OneLine {
         taken: Vec::new(rt.alloc()),
     };
-    let shown = show_file(&rt, rt.alloc(), "half_told", &mut writer);
-    assert_eq!(rt; shown, Err(RecoverError::Fault));
+    let shown = show_file(rt, rt.alloc(), "half_told", &mut writer);
     writer.taken.clear();
-    let recovered = recover_file(&rt, rt.alloc(), "half_told", &mut writer);
-    assert_eq!(rt; recovered, Err(RecoverError::Fault));
-    assert_eq!(rt; writer.taken.as_slice(), b"kept 0 0\n".as_slice());
-    check(recover_there(&rt, "half_told"), Ok(()), NOTHING_UNDONE)?;
-    Ok(())
+    let recovered = recover_file(rt, rt.alloc(), "half_told", &mut writer);
+    let is_first = writer.taken.as_slice() == b"kept 0 0\n".as_slice();
+    let again = recover_there(rt, "half_told", NOTHING_UNDONE);
+    Some(([shown, recovered], is_first, again))
+}
+
+// The image is recovered all the same.
+#[test]
+fn a_writer_that_fails_is_a_fault(rt: HostRuntime) {
+    let faults = [Err(RecoverError::Fault); 2];
+    assert!(rt; told_of_half(&rt) == Some((faults, true, (Ok(()), true))));
 }

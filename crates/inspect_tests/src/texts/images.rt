@@ -6,8 +6,6 @@ use heap_model::{FieldId, Lane, ObjectId, Record};
 use inspect::{InspectError, draw, inspect};
 use recover::RecoverError;
 use std::alloc::Global;
-use std::process::Abort;
-use std::test::Fail;
 
 // A byte of an image by its place, and its new value.
 type Change = (usize, u8);
@@ -96,89 +94,77 @@ fn circle() -> [StoreCall; 14] {
 }
 
 // What a crash behind the last of these calls leaves of a store of two lanes.
-fn crashed(alloc: Global, calls: &[StoreCall]) -> Result<MemDisk, Fail> {
-    let made = formatted(alloc).ok_or("no image")?;
+fn crashed(alloc: Global, calls: &[StoreCall]) -> Option<MemDisk> {
+    let made = formatted(alloc)?;
     let Ok(mut store) = Store::adopt(alloc, made, 9) else {
-        return Err(Fail::new("not adopted"));
+        return None;
     };
-    if store.play(calls).is_err() {
-        return Err(Fail::new("a call is refused"));
-    }
+    store.play(calls).ok()?;
     let disk = store.into_disk();
-    let image = disk
-        .crash_image(disk.stops().saturating_add(1), Fill::Lost)?
-        .ok_or("no such call")?;
-    Ok(image)
-}
-
-// What a crash leaves of the circle while the second section has not ended.
-fn open_circle(alloc: Global) -> Result<MemDisk, Fail> {
-    let calls = circle();
-    let begun = calls.as_slice().get(..11).ok_or("no such call")?;
-    crashed(alloc, begun)
+    disk.crash_image(disk.stops().saturating_add(1), Fill::Lost)
+        .ok()?
 }
 
 // The image with the bytes at these places changed.
-fn changed(alloc: Global, image: &MemDisk, changes: &[Change]) -> Result<Vec<u8>, Fail> {
-    let mut bytes = image.bytes().to_vec(alloc)?;
+fn changed(alloc: Global, image: &MemDisk, changes: &[Change]) -> Option<Vec<u8>> {
+    let mut bytes = image.bytes().to_vec(alloc).ok()?;
     for (at, value) in changes {
-        let byte = bytes.get_mut(*at).ok_or("no such byte")?;
-        *byte = *value;
+        *bytes.get_mut(*at)? = *value;
     }
-    Ok(bytes)
+    Some(bytes)
 }
 
-// Checks that the image's lines are these.
-fn check_shown(
-    rt: &impl Abort,
-    alloc: Global,
-    mut image: MemDisk,
-    lines: &[u8],
-) -> Result<(), Fail> {
+// Whether the image's lines are these.
+fn is_shown(alloc: Global, image: &mut MemDisk, lines: &[u8]) -> bool {
     let mut out = writer_failing(alloc, 0);
-    inspect(alloc, &mut image, &mut out)?;
-    assert_eq!(rt; &*out.taken, lines);
-    Ok(())
+    inspect(alloc, image, &mut out) == Ok(()) && out.taken.as_slice() == lines
 }
 
-// Checks that the image's graph is this.
-fn check_drawn(
-    rt: &impl Abort,
-    alloc: Global,
-    mut image: MemDisk,
-    graph: &[u8],
-) -> Result<(), Fail> {
+// Whether the image's graph is this.
+fn is_drawn(alloc: Global, image: &mut MemDisk, graph: &[u8]) -> bool {
     let mut out = writer_failing(alloc, 0);
-    draw(alloc, &mut image, &mut out)?;
-    assert_eq!(rt; &*out.taken, graph);
-    Ok(())
+    draw(alloc, image, &mut out) == Ok(()) && out.taken.as_slice() == graph
 }
 
-// Checks that an image of these bytes is refused for this reason, that nothing is written, and that the bytes stay.
-fn check_refused(
-    rt: &impl Abort,
-    alloc: Global,
-    bytes: &[u8],
-    why: RecoverError,
-) -> Result<(), Fail> {
-    let mut disk = MemDisk::from_bytes(alloc, bytes)?;
+// Whether the lines of what a crash leaves are these, and its graph.
+fn is_crash_shown(alloc: Global, calls: &[StoreCall], lines: &[u8]) -> Option<bool> {
+    let mut image = crashed(alloc, calls)?;
+    Some(is_shown(alloc, &mut image, lines))
+}
+
+fn is_crash_drawn(alloc: Global, calls: &[StoreCall], graph: &[u8]) -> Option<bool> {
+    let mut image = crashed(alloc, calls)?;
+    Some(is_drawn(alloc, &mut image, graph))
+}
+
+// Whether the graph of what a crash leaves of the circle, while the second section has not ended, is this.
+fn is_open_circle_drawn(alloc: Global, graph: &[u8]) -> Option<bool> {
+    let calls = circle();
+    is_crash_drawn(alloc, calls.as_slice().get(..11)?, graph)
+}
+
+fn is_format_shown(alloc: Global, lines: &[u8]) -> Option<bool> {
+    let mut image = formatted(alloc)?.into_disk();
+    Some(is_shown(alloc, &mut image, lines))
+}
+
+// Whether the inspector and its graph refuse an image of these bytes for this reason, write nothing, and keep the bytes.
+fn is_refused(alloc: Global, bytes: &[u8], why: RecoverError) -> Option<[bool; 4]> {
+    let mut disk = MemDisk::from_bytes(alloc, bytes).ok()?;
     let mut out = writer_failing(alloc, 0);
-    assert_eq!(rt;
-        inspect(alloc, &mut disk, &mut out),
-        Err(InspectError::Study(why))
-    );
-    assert_eq!(rt;
-        draw(alloc, &mut disk, &mut out),
-        Err(InspectError::Study(why))
-    );
-    assert_eq!(rt; out.calls, 0);
-    assert!(rt; disk.bytes() == bytes, "{why}");
-    Ok(())
+    let refused = Err(InspectError::Study(why));
+    let is_not_shown = inspect(alloc, &mut disk, &mut out) == refused;
+    let is_not_drawn = draw(alloc, &mut disk, &mut out) == refused;
+    Some([
+        is_not_shown,
+        is_not_drawn,
+        out.calls == 0,
+        disk.bytes() == bytes,
+    ])
 }
 
 #[test]
-fn a_formatted_image_is_shown(rt: HostRuntime) -> Result<(), Fail> {
-    let made = formatted(rt.alloc()).ok_or("no image")?;
+fn a_formatted_image_is_shown(rt: HostRuntime) {
     let lines = b"image lanes 2 capacity 4000 objects 4 fields 2 size 130208
 control a sequence 1 version 1
 lane t1 start 0 settled 0 logged 0 kept 0
@@ -186,11 +172,11 @@ lane t2 start 0 settled 0 logged 0 kept 0
 cut 0 0
 heap 10 20
 ";
-    check_shown(&rt, rt.alloc(), made.into_disk(), lines)
+    assert!(rt; is_format_shown(rt.alloc(), lines) == Some(true));
 }
 
 #[test]
-fn an_unfinished_section_is_shown_and_drawn(rt: HostRuntime) -> Result<(), Fail> {
+fn an_unfinished_section_is_shown_and_drawn(rt: HostRuntime) {
     let alloc = rt.alloc();
     let lines = b"image lanes 2 capacity 4000 objects 4 fields 2 size 130208
 control a sequence 3 version 1
@@ -202,7 +188,6 @@ depends t2 1 on t1 1 object 0 number 1
 cut 0 0
 heap 10 20
 ";
-    check_shown(&rt, alloc, crashed(alloc, &two_stores())?, lines)?;
     let graph = b"digraph sections {
 rankdir=LR
 subgraph t1 {
@@ -221,12 +206,16 @@ rank=same
 \"t2.1\" -> \"t1.1\" [label=\"object 0 number 1\", constraint=false]
 }
 ";
-    check_drawn(&rt, alloc, crashed(alloc, &two_stores())?, graph)
+    let found = [
+        is_crash_shown(alloc, &two_stores(), lines),
+        is_crash_drawn(alloc, &two_stores(), graph),
+    ];
+    assert!(rt; found == [Some(true); 2]);
 }
 
 // Neither is acknowledged while the second has not ended.
 #[test]
-fn a_circle_is_drawn(rt: HostRuntime) -> Result<(), Fail> {
+fn a_circle_is_drawn(rt: HostRuntime) {
     let alloc = rt.alloc();
     let open = b"digraph sections {
 rankdir=LR
@@ -247,7 +236,6 @@ rank=same
 \"t2.1\" -> \"t1.1\" [label=\"object 1 number 1\", constraint=false]
 }
 ";
-    check_drawn(&rt, alloc, open_circle(alloc)?, open)?;
     let ended = b"digraph sections {
 rankdir=LR
 subgraph t1 {
@@ -267,14 +255,24 @@ rank=same
 \"t2.1\" -> \"t1.1\" [label=\"object 1 number 1\", constraint=false]
 }
 ";
-    check_drawn(&rt, alloc, crashed(alloc, &circle())?, ended)
+    let found = [
+        is_open_circle_drawn(alloc, open),
+        is_crash_drawn(alloc, &circle(), ended),
+    ];
+    assert!(rt; found == [Some(true); 2]);
+}
+
+// Whether the lines of what a crash leaves, with the bytes at these places changed, are these.
+fn is_change_shown(alloc: Global, changes: &[Change], lines: &[u8]) -> Option<bool> {
+    let image = crashed(alloc, &stored())?;
+    let bytes = changed(alloc, &image, changes)?;
+    let mut image = MemDisk::from_bytes(alloc, &bytes).ok()?;
+    Some(is_shown(alloc, &mut image, lines))
 }
 
 // Recovery refuses the control's sequence; the inspector shows it.
 #[test]
-fn a_worn_control_is_shown(rt: HostRuntime) -> Result<(), Fail> {
-    let alloc = rt.alloc();
-    let bytes = changed(alloc, &crashed(alloc, &stored())?, &WORN)?;
+fn a_worn_control_is_shown(rt: HostRuntime) {
     let lines = b"image lanes 2 capacity 4000 objects 4 fields 2 size 130208
 control a sequence 18446744073709551615 version 1
 lane t1 start 0 settled 3 logged 3 kept 1
@@ -283,15 +281,45 @@ section t1 1 whole records 3
 cut 1 0
 heap 5 20
 ";
-    check_shown(&rt, alloc, MemDisk::from_bytes(alloc, &bytes)?, lines)
+    assert!(rt; is_change_shown(rt.alloc(), &WORN, lines) == Some(true));
+}
+
+// Whether the image without its last byte is refused as too small.
+fn is_short_refused(alloc: Global, image: &MemDisk) -> Option<[bool; 4]> {
+    is_refused(alloc, image.bytes().get(..130_207)?, RecoverError::TooSmall)
+}
+
+fn is_change_refused(
+    alloc: Global,
+    image: &MemDisk,
+    changes: &[Change],
+    why: RecoverError,
+) -> Option<[bool; 4]> {
+    is_refused(alloc, &changed(alloc, image, changes)?, why)
+}
+
+// The first of these changes that isn't refused so.
+fn first_other(
+    alloc: Global,
+    image: &MemDisk,
+    cases: &[([Change; 2], RecoverError)],
+) -> Option<usize> {
+    cases.iter().position(|case| is_change_refused(alloc, image, &case.0, case.1)
+        != Some([true; 4]))
+}
+
+// Whether a short image is refused, and the first of these changes that isn't.
+fn told_of_refused(
+    alloc: Global,
+    cases: &[([Change; 2], RecoverError)],
+) -> Option<([bool; 4], Option<usize>)> {
+    let image = crashed(alloc, &stored())?;
+    let short = is_short_refused(alloc, &image)?;
+    Some((short, first_other(alloc, &image, cases)))
 }
 
 #[test]
-fn refused_images_are_not_shown(rt: HostRuntime) -> Result<(), Fail> {
-    let alloc = rt.alloc();
-    let image = crashed(alloc, &stored())?;
-    let short = image.bytes().get(..130_207).ok_or("no such byte")?;
-    check_refused(&rt, alloc, short, RecoverError::TooSmall)?;
+fn refused_images_are_not_shown(rt: HostRuntime) {
     let (lane, place) = (Lane(0), 0);
     let cases = [
         ([(8, 0), (8, 0)], RecoverError::NotFormatted),
@@ -307,34 +335,39 @@ fn refused_images_are_not_shown(rt: HostRuntime) -> Result<(), Fail> {
             RecoverError::IllegalLog { lane, place: 3 },
         ),
     ];
-    for (changes, why) in cases {
-        check_refused(&rt, alloc, &changed(alloc, &image, &changes)?, why)?;
-    }
-    Ok(())
+    assert!(rt; told_of_refused(rt.alloc(), &cases) == Some(([true; 4], None)));
+}
+
+// Whether a writer that fails at its ninth call ends the lines behind the first of these texts, and the graph behind the
+// second.
+fn is_cut_off(alloc: Global, image: &mut MemDisk, lines: &[u8], graph: &[u8]) -> [bool; 4] {
+    let mut shown = writer_failing(alloc, 9);
+    let is_not_shown = inspect(alloc, image, &mut shown) == Err(InspectError::Write);
+    let mut drawn = writer_failing(alloc, 9);
+    let is_not_drawn = draw(alloc, image, &mut drawn) == Err(InspectError::Write);
+    [
+        is_not_shown,
+        shown.taken.as_slice() == lines,
+        is_not_drawn,
+        drawn.taken.as_slice() == graph,
+    ]
+}
+
+// Whether a read that fails is told, and nothing is written.
+fn is_fault_told(alloc: Global, image: &mut MemDisk) -> [bool; 2] {
+    let mut out = writer_failing(alloc, 0);
+    image.fail_call(1);
+    let fault = Err(InspectError::Study(RecoverError::Fault));
+    [inspect(alloc, image, &mut out) == fault, out.calls == 0]
+}
+
+fn told_of_faults(alloc: Global) -> Option<([bool; 4], [bool; 2])> {
+    let mut image = crashed(alloc, &two_stores())?;
+    let cut_off = is_cut_off(alloc, &mut image, b"image lanes 2 c", b"digraph sections");
+    Some((cut_off, is_fault_told(alloc, &mut image)))
 }
 
 #[test]
-fn faults_are_handed_on(rt: HostRuntime) -> Result<(), Fail> {
-    let alloc = rt.alloc();
-    let mut image = crashed(alloc, &two_stores())?;
-    let mut broken = writer_failing(alloc, 9);
-    assert_eq!(rt;
-        inspect(alloc, &mut image, &mut broken),
-        Err(InspectError::Write)
-    );
-    assert_eq!(rt; &*broken.taken, b"image lanes 2 c".as_slice());
-    let mut broken = writer_failing(alloc, 9);
-    assert_eq!(rt;
-        draw(alloc, &mut image, &mut broken),
-        Err(InspectError::Write)
-    );
-    assert_eq!(rt; &*broken.taken, b"digraph sections".as_slice());
-    let mut out = writer_failing(alloc, 0);
-    image.fail_call(1);
-    assert_eq!(rt;
-        inspect(alloc, &mut image, &mut out),
-        Err(InspectError::Study(RecoverError::Fault))
-    );
-    assert_eq!(rt; out.calls, 0);
-    Ok(())
+fn faults_are_handed_on(rt: HostRuntime) {
+    assert!(rt; told_of_faults(rt.alloc()) == Some(([true; 4], [true; 2])));
 }
