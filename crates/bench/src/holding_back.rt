@@ -49,8 +49,8 @@ fn settling<R: Clock + CpuClock, D: Disk>(
     }
 }
 
-// Does so many rounds, and adds up what settling took.
-fn settlings<R: Clock + CpuClock, D: Disk>(
+/// Does so many rounds, and adds up what settling took.
+pub fn settlings<R: Clock + CpuClock, D: Disk>(
     rt: &R,
     store: &mut Store<D>,
     load: &mut Load,

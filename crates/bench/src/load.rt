@@ -23,13 +23,22 @@ pub fn schema_of(alloc: Global) -> Option<Schema> {
     builder.build().ok()
 }
 
+/// Which lanes have turns.
+#[derive(Clone, Copy, Debug, PartialEq, Eq)]
+enum Turns {
+    All,
+    AllBut0,
+    Lanes1And2,
+    /// Its sections have its own object alone.
+    Lane3,
+}
+
 /// What the lanes know: by object, how often it became free since the store was opened; by field, its value.
 #[derive(Clone, Copy, Debug)]
 pub struct Load {
     numbers: [u64; 5],
     values: [u64; 5],
-    // Lane 0 has no turn.
-    is_without_lane_0: bool,
+    turns: Turns,
 }
 
 impl Load {
@@ -38,14 +47,30 @@ impl Load {
         Load {
             numbers: [0; 5],
             values: [0; 5],
-            is_without_lane_0: false,
+            turns: Turns::All,
         }
     }
 
     /// Lane 0 has no more turns.
     pub fn without_lane_0(self) -> Load {
         Load {
-            is_without_lane_0: true,
+            turns: Turns::AllBut0,
+            ..self
+        }
+    }
+
+    /// Lanes 1 and 2 alone have turns.
+    pub fn of_lanes_1_and_2(self) -> Load {
+        Load {
+            turns: Turns::Lanes1And2,
+            ..self
+        }
+    }
+
+    /// Lane 3 alone has turns, and its sections depend on no other lane's: they take its own object, and count four times.
+    pub fn of_lane_3(self) -> Load {
+        Load {
+            turns: Turns::Lane3,
             ..self
         }
     }
@@ -54,10 +79,11 @@ impl Load {
     pub fn lane(&self, turn: u64) -> u8
         ensures { result < 4 }
     {
-        if self.is_without_lane_0 {
-            1 + (turn % 3) as u8
-        } else {
-            (turn % 4) as u8
+        match self.turns {
+            Turns::All => (turn % 4) as u8,
+            Turns::AllBut0 => 1 + (turn % 3) as u8,
+            Turns::Lanes1And2 => 1 + (turn % 2) as u8,
+            Turns::Lane3 => 3,
         }
     }
 
@@ -65,13 +91,24 @@ impl Load {
     pub fn section(&self, lane: u8) -> [Record; 6]
         requires { lane < 4 }
     {
+        let own = u32::from(lane);
+        if self.turns == Turns::Lane3 {
+            return [
+                self.take(own),
+                self.count(own, 0),
+                self.count(own, 1),
+                self.count(own, 2),
+                self.count(own, 3),
+                self.free(own),
+            ];
+        }
         [
-            self.take(u32::from(lane)),
+            self.take(own),
             self.take(SHARED),
-            self.count(u32::from(lane)),
-            self.count(SHARED),
+            self.count(own, 0),
+            self.count(SHARED, 0),
             self.free(SHARED),
-            self.free(u32::from(lane)),
+            self.free(own),
         ]
     }
 
@@ -80,8 +117,12 @@ impl Load {
         requires { lane < 4 }
     {
         let own = usize::from(lane);
-        let shared = SHARED as usize;
         self.numbers[own] = self.numbers[own].wrapping_add(1);
+        if self.turns == Turns::Lane3 {
+            self.values[own] = self.values[own].wrapping_add(4);
+            return;
+        }
+        let shared = SHARED as usize;
         self.values[own] = self.values[own].wrapping_add(1);
         self.numbers[shared] = self.numbers[shared].wrapping_add(1);
         self.values[shared] = self.values[shared].wrapping_add(1);
@@ -105,10 +146,11 @@ impl Load {
         }
     }
 
-    fn count(&self, field: u32) -> Record
+    // Counts in the field, in which the section has counted so often before.
+    fn count(&self, field: u32, again: u64) -> Record
         requires { field < 5 }
     {
-        let before = self.values[field as usize];
+        let before = self.values[field as usize].wrapping_add(again);
         Record::Put {
             field: FieldId(field),
             before,

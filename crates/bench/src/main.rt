@@ -16,6 +16,7 @@ mod measuring;
 mod memory;
 mod recovering;
 mod stopped;
+mod trimming;
 mod words;
 
 use figures::{Figures, print_figures};
@@ -30,12 +31,14 @@ use std::process::ExitCode;
 use std::rt::{Env, Files};
 use std::time::{Clock, CpuClock};
 use stopped::Stopped;
+use trimming::{Trimmed, print_trimmed, trim_beside};
 use words::{Plan, Words, read_words};
 
 const HELP: &str = "\
 bench memory SECTIONS GROUP      measures the store over bytes in memory
 bench file SECTIONS GROUP PATH   the same over a new file; one that is there is emptied
 bench open SECTIONS GROUP        measures settling in memory, with so many left out: they depend on a section that stays open
+bench trim SECTIONS GROUP        measures rounds that are trimmed, in memory, with so many others left out in the logs
 bench tell SECTIONS GROUP PATH   on a new file, tells after each group how many sections are acknowledged
 bench recover PATH               recovers that file, and prints the sections that each lane counted, and all of them
 SECTIONS are acknowledged at least, GROUP of them at a time, 1 or more; a section is six records of one of 4 lanes
@@ -71,6 +74,15 @@ fn with_one_open<R: Clock + CpuClock>(
     plan: &Plan,
 ) -> Result<HeldBack, Stopped> {
     hold_back(rt, alloc, disk_in_memory(alloc, MOST)?, plan)
+}
+
+// Measures rounds that are trimmed, with sections left out in the logs.
+fn with_others_left<R: Clock + CpuClock>(
+    rt: &R,
+    alloc: Global,
+    plan: &Plan,
+) -> Result<Trimmed, Stopped> {
+    trim_beside(rt, alloc, disk_in_memory(alloc, MOST)?, plan)
 }
 
 // There is no disk over the file.
@@ -121,6 +133,7 @@ where
             print_figures(rt, &figures)
         }
         Words::Open { plan } => print_held_back(rt, &plan, &with_one_open(rt, alloc, &plan)?),
+        Words::Trim { plan } => print_trimmed(rt, &plan, &with_others_left(rt, alloc, &plan)?),
         Words::Tell { plan, path } => {
             over_file(rt, alloc, &plan, path, true)?;
             Ok(())

@@ -55,8 +55,8 @@ pub fn open<D: Disk + Drop>(alloc: Global, disk: D, capacity: u32) -> Result<Sto
     Ok(store)
 }
 
-// Trims what is acknowledged.
-fn trim<R: Clock + CpuClock, D: Disk>(
+/// Trims what is acknowledged.
+pub fn trim<R: Clock + CpuClock, D: Disk>(
     rt: &R,
     store: &mut Store<D>,
     figures: &mut Figures,

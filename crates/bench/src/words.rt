@@ -25,6 +25,8 @@ pub enum Words<'a> {
     Tell { plan: Plan, path: &'a str },
     /// To measure settling in memory while a section stays open that all others depend on.
     Open { plan: Plan },
+    /// To measure rounds that are trimmed, in memory, while sections that are left out stay in the logs.
+    Trim { plan: Plan },
     /// To recover the image in a file, and to print its heap.
     Recover { path: &'a str },
 }
@@ -48,6 +50,9 @@ pub fn read_words(texts: &[String]) -> Option<Words<'_>>
     }
     if texts.len() == 4 && word == "open" {
         return Some(Words::Open { plan });
+    }
+    if texts.len() == 4 && word == "trim" {
+        return Some(Words::Trim { plan });
     }
     let path = texts.get(4)?.as_str();
     if texts.len() == 5 && word == "file" {

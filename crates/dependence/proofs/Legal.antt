@@ -13,7 +13,7 @@ use Rattle.dependence.specs.Next.{IsBelow, IsNext}
 use Rattle.dependence.proofs.Coming.{first_held, later_held, still_held}
 use Rattle.dependence.proofs.Trimming.{below_since, holding_since}
 
-below_wider : (o t f t' f' : ℕ) (log : List (ℕ × Action)) → t ≤ t' → f ≤ f' → IsBelow o t f log → IsBelow o t' f' log
+pub below_wider : (o t f t' f' : ℕ) (log : List (ℕ × Action)) → t ≤ t' → f ≤ f' → IsBelow o t f log → IsBelow o t' f' log
 below_wider o t f t' f' [] le le' h = tt
 below_wider o t f t' f' ((l, Takes p n) ∷ older) le le' h = ((λ e. omega (arith, h.0 e)), below_wider o t f t' f' older le le' h.1)
 below_wider o t f t' f' ((l, Frees p n) ∷ older) le le' h = ((λ e. omega (arith, h.0 e)), below_wider o t f t' f' older le le' h.1)

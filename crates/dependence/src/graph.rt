@@ -8,9 +8,6 @@ ghost use Rattle.dependence.specs.Trace.{base_of, sections_of, answered_of, grow
 ghost use Rattle.dependence.specs.Next.{IsNext, IsObjectBelow};
 ghost use Rattle.dependence.specs.Reason.{IsLeftOut, IsReason};
 
-#[cfg(test)]
-pub mod checked;
-
 use crate::found::{Found, at_hand};
 use crate::lanes::{count, raise};
 use crate::links::Links;

@@ -12,14 +12,10 @@ mod graph;
 mod lanes;
 mod laws;
 mod links;
-#[cfg(test)]
-mod random_tests;
 mod search;
 mod section;
 mod step;
 mod steps;
-#[cfg(test)]
-mod tests;
 mod why;
 
 pub use graph::Graph;

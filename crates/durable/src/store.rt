@@ -73,7 +73,8 @@ impl<D: Disk> Store<D> {
     /// Takes over a device with empty logs. Release numbers stay at `last` or below.
     ///
     /// It takes all the memory that the store will need: for each record of each lane's area what the undo log keeps of it,
-    /// the record itself, what the graph of sections takes, and a word. After want of memory the device is given back as it was.
+    /// the record itself, twice what the graph of sections takes, which forgets late, and a word. After want of memory the device
+    /// is given back as it was.
     pub fn adopt(
         alloc: Global,
         recovered: Recovered<D>,
@@ -284,8 +285,8 @@ impl<D: Disk> Store<D> {
     /// Forgets what is acknowledged: moves each lane's start behind its settled records, durably, so that their places on the
     /// device and what the memory kept of them are free again.
     ///
-    /// It takes the calls of a commit; with nothing to move it takes no call. The time is linear in the records since the
-    /// lanes' starts and in the number of objects, and no memory is taken. Refusals, in this order: `Failed`; `Worn`: there is
+    /// It takes the calls of a commit; with nothing to move it takes no call. Over many trims the time is linear in the records
+    /// forgotten, and in each in the number of lanes; no memory is taken. Refusals, in this order: `Failed`; `Worn`: there is
     /// something to move, and the control's sequence is at its last value; `Fault`. After the first two nothing has changed.
     pub fn trim(&mut self) -> Result<(), StoreError>
         ensures ok { (s : Setting) (p : Past) → HasPast self.old.known s p (D.device self.old.disk)

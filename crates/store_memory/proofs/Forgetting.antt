@@ -1,5 +1,5 @@
 -- What is known stays true where a cut is forgotten.
-use Rattle.std.proofs.Common.{ℕ, ◌≡◌, ◌+◌, ◌-◌, ◌<◌, ◌≤◌, ◌==◌, if◌then◌else◌, Bool, List, [], ◌∷◌, length, map, max, refl, sym, ap, ◌∙◌, subst, inl, inr, arith, nat_lt}
+use Rattle.std.proofs.Common.{ℕ, ◌≡◌, ◌+◌, ◌-◌, ◌<◌, ◌≤◌, if◌then◌else◌, Bool, List, [], ◌∷◌, length, map, max, refl, sym, ap, ◌∙◌, subst, inl, inr, arith}
 use Rattle.std.specs.Prelude.{slice_index}
 use Rattle.std.proofs.lemmas.Bool.{cases_lt, lt-ltb, le-ltb}
 use Rattle.heap_model.specs.declared.cut.Cut.{Cut}
@@ -7,19 +7,22 @@ use Rattle.heap_model.specs.declared.record.Record.{Record}
 use Rattle.heap_model.specs.Setting.{Setting}
 use Rattle.heap_model.specs.Log.{lane}
 use Rattle.heap_model.specs.Sections.{Action, action, actions, ended}
-use Rattle.heap_model.specs.Cuts.{counts_of, IsStable}
+use Rattle.heap_model.specs.Cuts.{counts_of, IsClosed, IsStable}
 use Rattle.heap_model.specs.Base.{since}
 use Rattle.cut_laws.proofs.Trimmed.{since_counts, trim_stable}
-use Rattle.dependence.specs.Trace.{Trace, base_of, beyond}
+use Rattle.dependence.specs.Trace.{Trace, base_of, beyond, in_all}
 use Rattle.store_past.specs.Past.{Past, applied, after_trim}
 use Rattle.store_memory.specs.declared.states.LaneState.{LaneState}
 use Rattle.store_memory.specs.Limits.{IsWithin}
 use Rattle.store_memory.specs.Memory.{Memory, lane_in}
 use Rattle.store_memory.specs.Fresh.{IsOfLanes}
 use Rattle.store_memory.specs.Remembers.{RemembersLane, Remembers}
-use Rattle.store_memory.specs.Sections.{Logged, place_behind, start_in, TellsLane, TellsSections}
+use Rattle.store_memory.specs.Counted.{lane_in as logged_in}
+use Rattle.store_memory.specs.Ends.{slot_of}
+use Rattle.store_memory.specs.Sections.{Logged, place_behind, most_beyond, TellsLane, TellsGraph, TellsSections}
 use Rattle.store_memory.specs.Trimming.{MayStart, MayForget}
-use Rattle.store_memory.proofs.SectionCounts.{in_older, in_newest, in_short}
+use Rattle.store_memory.proofs.SectionCounts.{in_older, in_newest, in_short, since_all}
+use Rattle.store_memory.proofs.SectionRoom.{since_lanes, total_is}
 
 -- what is past a base and then past the rest of a greater cut is past the cut
 since_since : (base cut more : ℕ → ℕ) → ((l : ℕ) → base l ≤ cut l) → ((l : ℕ) → more l ≡ cut l - base l) → (log : List (ℕ × Action)) → since more (since base log) ≡ since cut log
@@ -58,30 +61,76 @@ behind_up n m (r ∷ older) le = elim (cases_lt (ended (map action older)) n) [
 ]
 
 module _ (m : Logged) (base : ℕ → ℕ) (log : List (ℕ × Record)) (cut : Cut) (may : MayForget m base log (counts_of cut)) where
+  graph : TellsGraph m base log
+  graph = may.tells.graph_is
+
   -- what `Graph::forget_to` asks for
   pub at_most : (c : ℕ → ℕ) → IsStable m.graph.log c → (l : ℕ) → beyond m.graph cut l ≤ c l
   at_most c stable l =
-      let all : IsStable (actions log) (λ k. base k + c k) = trim_stable (actions log) base c may.tells.whole may.tells.closed (subst (λ (xs : List (ℕ × Action)). IsStable xs c) may.tells.since_is stable) in
-      omega (arith, all.greatest (counts_of cut) may.whole may.closed l, may.tells.base_is l)
+      let all : IsStable (actions log) (λ k. base_of m.graph k + c k) =
+      trim_stable (actions log) (base_of m.graph) c (λ k. omega (arith, graph.within k, may.tells.whole k)) graph.closed (subst (λ (xs : List (ℕ × Action)). IsStable xs c) graph.since_is stable) in
+      omega (arith, all.greatest (counts_of cut) may.whole may.closed l)
 
-  pub tells_since : (g : Trace) → g.log ≡ since (beyond m.graph cut) m.graph.log → ((l : ℕ) → base_of g l ≡ max (base_of m.graph l) (counts_of cut l)) → TellsSections (record m { graph = g }) (counts_of cut) log
-  tells_since g told based = record {
+  module _ (places : List ℕ) (there : (l : ℕ) → l < m.lanes → slice_index places l ≡ slice_index m.ends (slot_of m.capacity l (counts_of cut l))) where
+    behind : (l : ℕ) → l < m.lanes → slice_index places l ≡ place_behind (counts_of cut l) (lane l log)
+    behind l lt = there l lt ∙ (may.tells.lane_is l lt).ends (counts_of cut l) (may.within l) (may.whole l)
+
+    -- what `records_from` asks for
+    pub places_low : (l : ℕ) → l < m.lanes → slice_index places l ≤ (logged_in m.counts l).place
+    places_low l lt = omega (arith, behind l lt, in_short (counts_of cut l) (lane l log), (may.tells.lane_is l lt).place)
+
+    pub places_near : (l : ℕ) → l < m.lanes → (logged_in m.counts l).place ≤ slice_index places l + m.capacity
+    places_near l lt = omega (arith, behind l lt, behind_up (base l) (counts_of cut l) (lane l log) (may.within l), (may.tells.lane_is l lt).place, (may.tells.lane_is l lt).room)
+
+    -- the records from the places on are those that stay
+    pub left_is : in_all m.lanes (λ l. (logged_in m.counts l).place - slice_index places l) ≡ length (since (counts_of cut) (actions log))
+    left_is = total_is m.lanes (λ l. (logged_in m.counts l).place - slice_index places l) (since (counts_of cut) (actions log)) (since_lanes m.lanes (counts_of cut) log may.tells.of_lanes)
+        (λ l lt. omega (arith, behind l lt, (may.tells.lane_is l lt).place, since_all (counts_of cut) l log (may.whole l)))
+
+  -- the lanes know what they knew
+  lane_then : (g : Trace) (l : ℕ) → l < m.lanes → TellsLane (record m { graph = g }) (counts_of cut) log l
+  lane_then g l lt =
+      let was : TellsLane m base log l = may.tells.lane_is l lt in
+      record {
+        place = was.place;
+        held = was.held;
+        sections = was.sections;
+        room = omega (arith, was.room, behind_up (base l) (counts_of cut l) (lane l log) (may.within l));
+        ends = λ n from upto. was.ends n (omega (arith, from, may.within l)) upto;
+      }
+
+  -- the graph may stay as it is
+  pub tells_later : length m.graph.log ≤ length (since (counts_of cut) (actions log)) + most_beyond m (length (since (counts_of cut) (actions log))) → TellsSections m (counts_of cut) log
+  tells_later few = record {
     whole = may.whole;
     closed = may.closed;
     of_lanes = may.tells.of_lanes;
-    base_is = λ l. omega (arith, based l, may.tells.base_is l, may.within l);
-    since_is = told ∙ ap (λ (xs : List (ℕ × Action)). since (beyond m.graph cut) xs) may.tells.since_is
-        ∙ since_since base (counts_of cut) (beyond m.graph cut) may.within (λ l. omega (arith, may.tells.base_is l)) (actions log);
-    lane_is = λ l lt.
-        let was : TellsLane m base log l = may.tells.lane_is l lt in
-        record {
-          place = was.place;
-          held = was.held;
-          sections = was.sections;
-          room = omega (arith, was.room, behind_up (base l) (counts_of cut l) (lane l log) (may.within l));
-          ends = λ n from upto. was.ends n (omega (arith, from, may.within l)) upto;
-        };
+    graph_is = record { within = λ l. omega (arith, graph.within l, may.within l); closed = graph.closed; since_is = graph.since_is; few = few };
+    lane_is = lane_then m.graph;
   }
+
+  -- or forget all that the cut has
+  module _ (g : Trace) (told : g.log ≡ since (beyond m.graph cut) m.graph.log) (based : (l : ℕ) → base_of g l ≡ max (base_of m.graph l) (counts_of cut l)) where
+    pub stays : g.log ≡ since (counts_of cut) (actions log)
+    stays = told ∙ ap (λ (xs : List (ℕ × Action)). since (beyond m.graph cut) xs) graph.since_is
+        ∙ since_since (base_of m.graph) (counts_of cut) (beyond m.graph cut) (λ l. omega (arith, graph.within l, may.within l)) (λ l. refl) (actions log)
+
+    forgot : base_of g ≡ counts_of cut
+    forgot = λ i l. (let is : base_of g l ≡ counts_of cut l = omega (arith, based l, graph.within l, may.within l) in is) i
+
+    pub tells_since : TellsSections (record m { graph = g }) (counts_of cut) log
+    tells_since = record {
+      whole = may.whole;
+      closed = may.closed;
+      of_lanes = may.tells.of_lanes;
+      graph_is = record {
+        within = λ l. omega (arith, based l, graph.within l, may.within l);
+        closed = subst (λ (k : ℕ → ℕ). IsClosed (actions log) k) (sym forgot) may.closed;
+        since_is = stays ∙ ap (λ (k : ℕ → ℕ). since k (actions log)) (sym forgot);
+        few = omega (arith, ap (λ (xs : List (ℕ × Action)). length xs) stays);
+      };
+      lane_is = lane_then g;
+    }
 
 module _ (s : Setting) (m : Memory) (p : Past) (places : List ℕ) (may : MayStart s m p places) (lanes : List LaneState) (size : length lanes ≡ length m.lanes)
     (are : (l : ℕ) → l < length m.lanes → lane_in lanes l ≡ record (lane_in m.lanes l) { start = slice_index places l }) where

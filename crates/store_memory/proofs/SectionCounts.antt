@@ -135,30 +135,32 @@ since_none base l ((m, a) ∷ older) lt = elim (eqb_tells m l) [
       ]
 ]
 
-abbrev IsShort : (ℕ → ℕ) → ℕ → List (ℕ × Record) → Type 0
-IsShort base l log = length (lane l (since base (actions log))) + start_in base log l ≤ length (lane l log)
+abbrev AreAll : (ℕ → ℕ) → ℕ → List (ℕ × Record) → Type 0
+AreAll base l log = length (lane l (since base (actions log))) + start_in base log l ≡ length (lane l log)
 
-short_own : (base : ℕ → ℕ) (l : ℕ) (r : Record) (older : List (ℕ × Record)) → (base l ≤ ended (lane l (actions older)) → IsShort base l older) → IsShort base l ((l, r) ∷ older)
-short_own base l r older before =
+all_own : (base : ℕ → ℕ) (l : ℕ) (r : Record) (older : List (ℕ × Record)) → (base l ≤ ended (lane l (actions older)) → AreAll base l older) → AreAll base l ((l, r) ∷ older)
+all_own base l r older before =
     let long : length (lane l ((l, r) ∷ older)) ≡ length (lane l older) + 1 = ap (λ (xs : List Record). length xs) (lane_own l r older) ∙ (omega arith) in
     elim (cases_lt (ended (lane l (actions older))) (base l)) [
       | inl lt ↦
           let none : length (lane l (since base (actions ((l, r) ∷ older)))) ≡ 0 =
           ap (λ (b : Bool). length (lane l (if b then since base (actions older) else (l, action r) ∷ since base (actions older)))) (lt-ltb (ended (lane l (actions older))) (base l) lt)
           ∙ ap (λ (xs : List Action). length xs) (since_none base l (actions older) lt) in
-          omega (arith, none, in_short (base l) (lane l ((l, r) ∷ older)))
+          let behind : start_in base ((l, r) ∷ older) l ≡ length (lane l older) + 1 =
+          ap (λ (xs : List Record). place_behind (base l) xs) (lane_own l r older) ∙ in_newest (base l) r (lane l older) (omega (arith, lt, ended_records l older)) in
+          omega (arith, none, behind, long)
       | inr ge ↦
           let one : length (lane l (since base (actions ((l, r) ∷ older)))) ≡ length (lane l (since base (actions older))) + 1 =
           ap (λ (b : Bool). length (lane l (if b then since base (actions older) else (l, action r) ∷ since base (actions older)))) (le-ltb (ended (lane l (actions older))) (base l) ge)
           ∙ ap (λ (xs : List Action). length xs) (lane_own l (action r) (since base (actions older))) ∙ (omega arith) in
-          let was : IsShort base l older = before ge in
+          let was : AreAll base l older = before ge in
           omega (arith, was, one, long, start_grown base l l r older ge)
     ]
 
-pub since_short : (base : ℕ → ℕ) (l : ℕ) (log : List (ℕ × Record)) → base l ≤ ended (lane l (actions log)) → IsShort base l log
-since_short base l [] whole = omega arith
-since_short base l ((m, r) ∷ older) whole = elim (eqb_tells m l) [
-  | inl e ↦ subst (λ (k : ℕ). IsShort base l ((k, r) ∷ older)) (sym e.1) (short_own base l r older (since_short base l older))
+pub since_all : (base : ℕ → ℕ) (l : ℕ) (log : List (ℕ × Record)) → base l ≤ ended (lane l (actions log)) → AreAll base l log
+since_all base l [] whole = omega arith
+since_all base l ((m, r) ∷ older) whole = elim (eqb_tells m l) [
+  | inl e ↦ subst (λ (k : ℕ). AreAll base l ((k, r) ∷ older)) (sym e.1) (all_own base l r older (since_all base l older))
   | inr e ↦
       let le : base l ≤ ended (lane l (actions older)) = subst (λ (xs : List Action). base l ≤ ended xs) (lane_else l m (action r) (actions older) e.1) whole in
       let same : length (lane l (since base (actions ((m, r) ∷ older)))) ≡ length (lane l (since base (actions older))) =
@@ -167,6 +169,6 @@ since_short base l ((m, r) ∷ older) whole = elim (eqb_tells m l) [
         | false ↦ ap (λ (xs : List Action). length xs) (lane_else l m (action r) (since base (actions older)) e.1)
       ] in
       let long : length (lane l ((m, r) ∷ older)) ≡ length (lane l older) = ap (λ (xs : List Record). length xs) (lane_else l m r older e.1) in
-      let was : IsShort base l older = since_short base l older le in
+      let was : AreAll base l older = since_all base l older le in
       omega (arith, was, same, long, start_grown base l m r older le)
 ]

@@ -1,6 +1,7 @@
 -- What is known of the logged sections stays true as the log grows.
 use Rattle.std.proofs.Common.{ℕ, zero, suc, ◌≡◌, ◌≢◌, ◌+◌, ◌*◌, ◌^◌, ◌<◌, ◌≤◌, ◌==◌, if◌then◌else◌, Bool, true, false, List, [], ◌∷◌, ◌++◌, map, length, reverse, take, drop, slice_index, slice_index_or, slice_set, replicate, All, refl, sym, ap, ◌∙◌, subst, inl, inr, arith, nat_lt, get_or-set_same, get_or-set_other, length-append}
 use Rattle.std.proofs.lemmas.Bool.{cases_lt, lt-ltb, le-ltb}
+use Rattle.std.proofs.Math.Nat.{min-le_left, min-le_right, le-min}
 use Rattle.std.proofs.lemmas.List.{reverse-append, take-append-drop, take_more}
 use Rattle.std.proofs.lemmas.List.Elements.{All-nil, All-cons, All-head, All-tail}
 use mathlib.Core.Logic.{dite}
@@ -27,8 +28,8 @@ use Rattle.dependence.proofs.Legal.{allowed_next}
 use Rattle.store_memory.specs.declared.logged_lane.LoggedLane.{LoggedLane}
 use Rattle.store_memory.specs.Ends.{slot_of}
 use Rattle.store_memory.specs.Counted.{new_lane, lane_in, lane_after, ends_after}
-use Rattle.store_memory.specs.Sections.{Logged, place_behind, start_in, TellsLane, TellsSections, MayBeLogged}
-use Rattle.store_memory.proofs.SectionCounts.{action_undo, lane_own, lane_else, MayFree, next_free, held_by, held_is, ended_is, ends_once, ended_short, holding_short, ended_records, in_older, in_newest, sections_past, start_grown, since_short}
+use Rattle.store_memory.specs.Sections.{Logged, place_behind, start_in, most_beyond, TellsLane, TellsGraph, TellsSections, MayBeLogged}
+use Rattle.store_memory.proofs.SectionCounts.{action_undo, lane_own, lane_else, MayFree, next_free, held_by, held_is, ended_is, ends_once, ended_short, holding_short, ended_records, in_older, in_newest, sections_past, start_grown, since_all}
 use Rattle.store_memory.proofs.SectionRoom.{total_less, lane_past, since_lanes, sections_apart, lanes_apart, slot_within}
 
 named_in : (s : Setting) (r : Record) → s.objects ≤ 4096 → IsRecordOf s r → IsObjectBelow 4096 (undo_of r)
@@ -40,6 +41,14 @@ named_in s (Put f before after) few of = tt
 -- what is known after the lane's record, with the graph as it is then
 abbrev pub logged_after : Logged → Trace → (lane : ℕ) → Record → Logged
 logged_after m g l r = record m { graph = g; counts = slice_set m.counts l (lane_after r (lane_in m.counts l)); ends = ends_after m.capacity l (lane_in m.counts l) (lane_after r (lane_in m.counts l)) m.ends }
+
+-- what the graph forgot is whole
+kept_whole : (m : Logged) (base : ℕ → ℕ) (log : List (ℕ × Record)) → TellsSections m base log → IsWhole (actions log) (base_of m.graph)
+kept_whole m base log tells l = omega (arith, tells.graph_is.within l, tells.whole l)
+
+-- where more stay, the graph may have more beyond
+beyond_grows : (m : Logged) (fewer left : ℕ) → fewer ≤ left → most_beyond m fewer ≤ most_beyond m left
+beyond_grows m fewer left le = le-min (min-le_left (m.lanes * m.capacity) (fewer + 4096)) (omega (arith, min-le_right (m.lanes * m.capacity) (fewer + 4096), le))
 
 module _ (s : Setting) (m : Logged) (base : ℕ → ℕ) (log : List (ℕ × Record)) (l : ℕ) (r : Record) (may : MayBeLogged s m base log ((l, r) ∷ [])) where
   was : TellsSections m base log
@@ -63,31 +72,34 @@ module _ (s : Setting) (m : Logged) (base : ℕ → ℕ) (log : List (ℕ × Rec
   upto : length (lane l ((l, r) ∷ log)) < 2 ^ 64
   upto = may.places l low
 
-  next_since : IsNext (since base (actions log)) l (action r)
-  next_since = allowed_next s log base l r may.legal.0 was.whole may.legal.1
+  graph : TellsGraph m base log
+  graph = was.graph_is
+
+  kept : IsWhole (actions log) (base_of m.graph)
+  kept = kept_whole m base log was
+
+  next_since : IsNext (since (base_of m.graph) (actions log)) l (action r)
+  next_since = allowed_next s log (base_of m.graph) l r may.legal.0 kept may.legal.1
 
   free : MayFree (action r) (holding (lane l (actions log)))
-  free = subst (λ (xs : List ℕ). MayFree (action r) xs) (holding_since base l (actions log) (was.whole l)) (next_free (since base (actions log)) l (action r) next_since)
+  free = subst (λ (xs : List ℕ). MayFree (action r) xs) (holding_since (base_of m.graph) l (actions log) (kept l)) (next_free (since (base_of m.graph) (actions log)) l (action r) next_since)
 
   -- what `Graph::push` asks for
   pub next : IsNext m.graph.log l (undo_action (undo_of r))
-  next = subst (λ (a : Action). IsNext m.graph.log l a) (sym (action_undo r)) (subst (λ (xs : List (ℕ × Action)). IsNext xs l (action r)) (sym was.since_is) next_since)
+  next = subst (λ (a : Action). IsNext m.graph.log l a) (sym (action_undo r)) (subst (λ (xs : List (ℕ × Action)). IsNext xs l (action r)) (sym graph.since_is) next_since)
 
   pub named : IsObjectBelow 4096 (undo_of r)
   named = named_in s r may.objects may.legal.3
 
   lane_short : (k : ℕ) → k < m.lanes → length (lane k (since base (actions log))) ≤ m.capacity
-  lane_short k lt = omega (arith, since_short base k log (was.whole k), (was.lane_is k lt).room)
+  lane_short k lt = omega (arith, since_all base k log (was.whole k), (was.lane_is k lt).room)
 
-  pub spare : length m.graph.log < m.lanes * m.capacity
-  spare =
-      let same : length m.graph.log ≡ length (since base (actions log)) = ap (λ (xs : List (ℕ × Action)). length xs) was.since_is in
-      omega (
-        arith,
-        same,
-        total_less m.lanes m.capacity (since base (actions log)) l (since_lanes m.lanes base log was.of_lanes) low
-            (omega (arith, since_short base l log (was.whole l), longer, room)) lane_short,
-      )
+  since_few : length (since base (actions log)) < m.lanes * m.capacity
+  since_few = total_less m.lanes m.capacity (since base (actions log)) l (since_lanes m.lanes base log was.of_lanes) low
+      (omega (arith, since_all base l log (was.whole l), longer, room)) lane_short
+
+  pub spare : length m.graph.log < 2 * (m.lanes * m.capacity)
+  spare = omega (arith, graph.few, since_few, min-le_left (m.lanes * m.capacity) (length (since base (actions log)) + 4096))
 
   acts_long : length (lane l (actions log)) ≡ length (lane l log)
   acts_long = acts_in_lane l log
@@ -102,7 +114,7 @@ module _ (s : Setting) (m : Logged) (base : ℕ → ℕ) (log : List (ℕ × Rec
   pub fits : sections_of m.graph l + 1 < 2 ^ 64
   fits =
       let all : ended (lane l m.graph.log) + base_of m.graph l ≡ ended (lane l (actions log)) =
-      ap (λ (xs : List (ℕ × Action)). ended (lane l xs) + base_of m.graph l) was.since_is ∙ ap (λ (n : ℕ). ended (lane l (since base (actions log))) + n) (was.base_is l) ∙ since_counts base l (actions log) (was.whole l) in
+      ap (λ (xs : List (ℕ × Action)). ended (lane l xs) + base_of m.graph l) graph.since_is ∙ since_counts (base_of m.graph) l (actions log) (kept l) in
       omega (arith, all, few)
 
   -- what counting asks for
@@ -207,8 +219,20 @@ module _ (s : Setting) (m : Logged) (base : ℕ → ℕ) (log : List (ℕ × Rec
           ends = λ n from le. ends_other k n ne ∙ there.ends n from (omega (arith, le, ap (λ (xs : List Action). ended xs) acts)) ∙ ap (λ (xs : List Record). place_behind n xs) (sym records);
         }
 
-    since_now : since base (actions ((l, r) ∷ log)) ≡ (l, action r) ∷ since base (actions log)
-    since_now = ap (λ (b : Bool). if b then since base (actions log) else (l, action r) ∷ since base (actions log)) (le-ltb (ended (lane l (actions log))) (base l) (was.whole l))
+    since_now : (cut : ℕ → ℕ) → cut l ≤ ended (lane l (actions log)) → since cut (actions ((l, r) ∷ log)) ≡ (l, action r) ∷ since cut (actions log)
+    since_now cut whole = ap (λ (b : Bool). if b then since cut (actions log) else (l, action r) ∷ since cut (actions log)) (le-ltb (ended (lane l (actions log))) (cut l) whole)
+
+    graph_now : g.log ≡ (l, undo_action (undo_of r)) ∷ m.graph.log → g.base ≡ m.graph.base → TellsGraph (logged_after m g l r) base ((l, r) ∷ log)
+    graph_now told same_base =
+        let more : length (since base (actions ((l, r) ∷ log))) ≡ length (since base (actions log)) + 1 = ap (λ (xs : List (ℕ × Action)). length xs) (since_now base (was.whole l)) ∙ (omega arith) in
+        let one : length g.log ≡ length m.graph.log + 1 = ap (λ (xs : List (ℕ × Action)). length xs) told ∙ (omega arith) in
+        record {
+          within = λ k. omega (arith, ap (λ (xs : List ℕ). slice_index xs k) same_base, graph.within k);
+          closed = subst (λ (xs : List ℕ). IsClosed (actions ((l, r) ∷ log)) (slice_index xs)) (sym same_base) (cut_stays s ((l, r) ∷ []) log (base_of m.graph) may.legal kept graph.closed).1;
+          since_is = told ∙ (λ i. (l, action_undo r i) ∷ graph.since_is i) ∙ sym (since_now (base_of m.graph) (kept l))
+              ∙ ap (λ (xs : List ℕ). since (slice_index xs) (actions ((l, r) ∷ log))) (sym same_base);
+          few = omega (arith, one, more, graph.few, beyond_grows m (length (since base (actions log))) (length (since base (actions ((l, r) ∷ log)))) (omega (arith, more)));
+        }
 
     pub tells_next : g.log ≡ (l, undo_action (undo_of r)) ∷ m.graph.log → g.base ≡ m.graph.base → TellsSections (logged_after m g l r) base ((l, r) ∷ log)
     tells_next told same_base =
@@ -217,8 +241,7 @@ module _ (s : Setting) (m : Logged) (base : ℕ → ℕ) (log : List (ℕ × Rec
           whole = stays.0;
           closed = stays.1;
           of_lanes = All-cons (λ (x : ℕ × Record). x.0 < m.lanes) (l, r) log low was.of_lanes;
-          base_is = λ k. ap (λ (xs : List ℕ). slice_index xs k) same_base ∙ was.base_is k;
-          since_is = told ∙ (λ i. (l, action_undo r i) ∷ was.since_is i) ∙ sym since_now;
+          graph_is = graph_now told same_base;
           lane_is = λ k lt. dite (ℕ_discrete k l)
               (λ same. subst (λ (j : ℕ). TellsLane (logged_after m g l r) base ((l, r) ∷ log) j) (sym same) lane_now)
               (λ other. lane_other k lt other);
@@ -228,10 +251,14 @@ module _ (s : Setting) (m : Logged) (base : ℕ → ℕ) (log : List (ℕ × Rec
 pub tells_nothing : (m : Logged) → ((k : ℕ) → base_of m.graph k ≡ 0) → m.graph.log ≡ [] → ((k : ℕ) → lane_in m.counts k ≡ new_lane) → ((k : ℕ) → slice_index m.ends k ≡ 0) → TellsSections m (λ l. 0) []
 tells_nothing m based empty none zeros = record {
   whole = λ l. omega arith;
-  closed = λ a b counts on. nothing_closed a b counts on;
+  closed = nothing_closed (λ l. 0);
   of_lanes = All-nil (λ (x : ℕ × Record). x.0 < m.lanes);
-  base_is = based;
-  since_is = empty;
+  graph_is = record {
+    within = λ l. omega (arith, based l);
+    closed = nothing_closed (base_of m.graph);
+    since_is = empty;
+    few = omega (arith, ap (λ (xs : List (ℕ × Action)). length xs) empty);
+  };
   lane_is = λ l lt. record {
     place = ap (λ (c : LoggedLane). c.place) (none l);
     held = ap (λ (c : LoggedLane). c.held) (none l);
@@ -241,9 +268,9 @@ tells_nothing m based empty none zeros = record {
   };
 }
   where
-    nothing_closed : (a b : Section) → Counts (λ l. 0) a → DependsOn [] a b → Counts (λ l. 0) b
-    nothing_closed a b counts (Earlier e lt) = omega arith
-    nothing_closed a b counts (Took o n took freed differ) = elim took [ ]
+    nothing_closed : (cut : ℕ → ℕ) (a b : Section) → Counts cut a → DependsOn [] a b → Counts cut b
+    nothing_closed cut a b counts (Earlier e lt) = omega (arith, counts, ap cut e, lt)
+    nothing_closed cut a b counts (Took o n took freed differ) = elim took [ ]
 
 -- the records before others of a list may be logged first
 abbrev pairs : List LaneRecord → List (ℕ × Record)
@@ -319,12 +346,12 @@ next_may s m n base log records i e lt may tells lanes capacity =
 pub none_past : (m : Logged) (base : ℕ → ℕ) (log : List (ℕ × Record)) → TellsSections m base log → (l : ℕ) → m.lanes ≤ l → ended (lane l (actions log)) ≡ 0
 none_past m base log tells l ge = ended_in_lane l log ∙ ap (λ (xs : List Record). ended (map action xs)) (lane_past m.lanes l log tells.of_lanes ge)
 
--- the stable cut of what is known is that of the log (a trim keeps the stable cut)
+-- the stable cut of what the graph has is that of the log (a trim keeps the stable cut)
 pub stable_told : (m : Logged) (base : ℕ → ℕ) (log : List (ℕ × Record)) → TellsSections m base log → (cut : ℕ → ℕ) → IsStableOf m.graph cut → IsStable (actions log) cut
 stable_told m base log tells cut of =
-    let all : IsStable (actions log) (λ l. base l + of.since l) = trim_stable (actions log) base of.since tells.whole tells.closed (subst (λ (xs : List (ℕ × Action)). IsStable xs of.since) tells.since_is of.stable) in
-    let same : (l : ℕ) → base l + of.since l ≡ cut l = λ l. ap (λ (n : ℕ). n + of.since l) (sym (tells.base_is l)) ∙ sym (of.counts l) in
-    subst (λ (c : ℕ → ℕ). IsStable (actions log) c) (λ i l. same l i) all
+    let all : IsStable (actions log) (λ l. base_of m.graph l + of.since l) =
+    trim_stable (actions log) (base_of m.graph) of.since (kept_whole m base log tells) tells.graph_is.closed (subst (λ (xs : List (ℕ × Action)). IsStable xs of.since) tells.graph_is.since_is of.stable) in
+    subst (λ (c : ℕ → ℕ). IsStable (actions log) c) (λ i l. sym (of.counts l) i) all
 
 -- the places in the table's slots are those behind the cut's sections
 pub behind_told : (m : Logged) (base : ℕ → ℕ) (log : List (ℕ × Record)) → TellsSections m base log → (cut : ℕ → ℕ) → IsStableOf m.graph cut → (places : List ℕ) →
@@ -332,8 +359,8 @@ pub behind_told : (m : Logged) (base : ℕ → ℕ) (log : List (ℕ × Record))
     (l : ℕ) → slice_index places l ≡ place_behind (cut l) (lane l log)
 behind_told m base log tells cut of places there none l = elim (cases_lt l m.lanes) [
   | inl lt ↦
-      let from : base l ≤ cut l = omega (arith, of.counts l, tells.base_is l) in
-      there l lt ∙ (tells.lane_is l lt).ends (cut l) from ((stable_told m base log tells cut of).whole l)
+      let stable : IsStable (actions log) cut = stable_told m base log tells cut of in
+      there l lt ∙ (tells.lane_is l lt).ends (cut l) (stable.greatest base tells.whole tells.closed l) (stable.whole l)
   | inr ge ↦ none l ge ∙ sym (ap (λ (xs : List Record). place_behind (cut l) xs) (lane_past m.lanes l log tells.of_lanes ge))
 ]
 

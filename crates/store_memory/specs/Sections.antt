@@ -1,5 +1,5 @@
 -- What a store knows of its logged sections, as plain data, and when that is true of a log (this project's own).
-use Rattle.std.specs.Prelude.{ℕ, ◌≡◌, ◌+◌, ◌<◌, ◌≤◌, ◌^◌, nat_lt, if◌then◌else◌, List, [], ◌∷◌, ◌++◌, All, map, length, slice_index}
+use Rattle.std.specs.Prelude.{ℕ, ◌≡◌, ◌+◌, ◌*◌, ◌<◌, ◌≤◌, ◌^◌, min, nat_lt, if◌then◌else◌, List, [], ◌∷◌, ◌++◌, All, map, length, slice_index}
 use Rattle.heap_model.specs.declared.record.Record.{Record}
 use Rattle.heap_model.specs.Setting.{Setting}
 use Rattle.heap_model.specs.Log.{lane, IsLegal}
@@ -11,8 +11,8 @@ use Rattle.store_memory.specs.declared.logged_lane.LoggedLane.{LoggedLane}
 use Rattle.store_memory.specs.Ends.{slot_of}
 use Rattle.store_memory.specs.Counted.{lane_in}
 
--- The lanes, how many records each may have since what was trimmed, the graph of the records since, what is counted of each
--- lane, and the places behind the sections, by slot.
+-- The lanes, how many records each may have since what was trimmed, the graph of the records, which forgets what was trimmed
+-- later, what is counted of each lane, and the places behind the sections, by slot.
 pub record Logged : Type 0 where
   pub lanes : ℕ
   pub capacity : ℕ
@@ -38,13 +38,24 @@ pub record TellsLane (m : Logged) (base : ℕ → ℕ) (log : List (ℕ × Recor
   -- the place behind each section since, and behind what was trimmed
   pub ends : (n : ℕ) → base l ≤ n → n ≤ ended (lane l (actions log)) → slice_index m.ends (slot_of m.capacity l n) ≡ place_behind n (lane l log)
 
+-- how many records the graph may have beyond so many that were not trimmed: as many as these and 4,096, and no more than the
+-- lanes have room for
+abbrev pub most_beyond : Logged → (left : ℕ) → ℕ
+most_beyond m left = min (m.lanes * m.capacity) (left + 4096)
+
+-- The graph tells of the records since a closed cut that is at the base or before it. Few of them were trimmed.
+pub record TellsGraph (m : Logged) (base : ℕ → ℕ) (log : List (ℕ × Record)) : Type 0 where
+  pub within : (l : ℕ) → base_of m.graph l ≤ base l
+  pub closed : IsClosed (actions log) (base_of m.graph)
+  pub since_is : m.graph.log ≡ since (base_of m.graph) (actions log)
+  pub few : length m.graph.log ≤ length (since base (actions log)) + most_beyond m (length (since base (actions log)))
+
 -- what is known of the logged sections is true of this log, of which the base was trimmed
 pub record TellsSections (m : Logged) (base : ℕ → ℕ) (log : List (ℕ × Record)) : Type 0 where
   pub whole : IsWhole (actions log) base
   pub closed : IsClosed (actions log) base
   pub of_lanes : All (λ x. x.0 < m.lanes) log
-  pub base_is : (l : ℕ) → base_of m.graph l ≡ base l
-  pub since_is : m.graph.log ≡ since base (actions log)
+  pub graph_is : TellsGraph m base log
   pub lane_is : (l : ℕ) → l < m.lanes → TellsLane m base log l
 
 -- these records, the newest first, may be logged next

@@ -3,9 +3,10 @@
 //! Each lane has an area in a table, of a slot more than it may have records since what was trimmed. The place
 //! behind its section n is in slot n mod the slots of an area; slot 0 is that of the lane's beginning at first.
 
-ghost use Rattle.std.specs.Prelude.{◌≡◌, ◌+◌, ◌*◌, ◌^◌, ◌<◌, ◌≤◌, ℕ, length, slice_index, slice_set, IsTrue, ◌↔◌};
+ghost use Rattle.std.specs.Prelude.{◌≡◌, ◌+◌, ◌-◌, ◌*◌, ◌^◌, ◌<◌, ◌≤◌, ℕ, length, slice_index, slice_set, IsTrue, ◌↔◌};
 ghost use Rattle.heap_model.specs.Sections.{action};
 ghost use Rattle.dependence.specs.Counts.{IsHeldBy};
+ghost use Rattle.dependence.specs.Trace.{in_all};
 ghost use Rattle.store_memory.specs.Ends.{slot_of};
 ghost use Rattle.store_memory.specs.Counted.{lane_in, lane_after, ends_after};
 
@@ -84,6 +85,25 @@ pub fn places_behind(lanes: u8, capacity: u32, ends: &[u64], counts: &[u64; 32])
         places[lane as usize] = ends[slot(capacity, Lane(lane), counts[lane as usize])];
     }
     places
+}
+
+/// How many records the lanes have from these places on, of each at most `capacity`.
+pub fn records_from(
+    lanes: u8,
+    capacity: u32,
+    counts: &[LoggedLane; 32],
+    places: &[u64; 32],
+) -> usize
+    requires lanes { lanes ≤ 32 }
+    requires low { (l : ℕ) → l < lanes → slice_index places.now l ≤ (lane_in counts.now l).place }
+    requires near { (l : ℕ) → l < lanes → (lane_in counts.now l).place ≤ slice_index places.now l + capacity }
+    ensures { result ≡ in_all lanes (λ l. (lane_in counts.now l).place - slice_index places.now l) }
+{
+    let mut records = 0;
+    for lane in 0..lanes as usize {
+        records += (counts[lane].place - places[lane]) as usize;
+    }
+    records
 }
 
 /// Whether each of the lanes has ended no more sections than `cut` has of it.

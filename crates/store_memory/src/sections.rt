@@ -1,19 +1,19 @@
 //! What the store knows of the logged records: which sections may be acknowledged, and where they end.
 
-ghost use Rattle.std.specs.Prelude.{◌≡◌, ◌≤◌, ◌∷◌, [], ◌++◌, ◌↔◌, ℕ, List, IsTrue, IfOk, slice_index};
+ghost use Rattle.std.specs.Prelude.{◌≡◌, ◌+◌, ◌*◌, ◌^◌, ◌<◌, ◌≤◌, ◌∷◌, [], ◌++◌, ◌↔◌, ℕ, List, min, IsTrue, IfOk, slice_index};
 ghost use Rattle.heap_model.specs.declared.record.Record.{Record as AnyRecord};
 ghost use Rattle.heap_model.specs.Setting.{Setting};
 ghost use Rattle.heap_model.specs.Log.{lane as lane_of, log_from};
 ghost use Rattle.heap_model.specs.Sections.{actions, ended};
 ghost use Rattle.heap_model.specs.Cuts.{counts_of, IsStable};
 ghost use Rattle.store_memory.specs.Sections.{place_behind, TellsSections, MayBeLogged};
-ghost use Rattle.store_memory.specs.Trimming.{MayForget};
+ghost use Rattle.store_memory.specs.Trimming.{MayForget, IsPaid};
 
-use crate::ends::{are_within, count, places_behind, slots};
+use crate::ends::{are_within, count, places_behind, records_from, slots};
 use crate::logged_lane::LoggedLane;
 use crate::stable_sections::StableSections;
 use dependence::Graph;
-use heap_model::{Cut, Lane, LaneRecord, Record};
+use heap_model::{Cut, Lane, LaneRecord, MOST_OBJECTS, Record};
 use std::alloc::{AllocError, Global};
 use std::marker::Model;
 
@@ -54,8 +54,8 @@ const IDLE: LoggedLane = LoggedLane {
 impl LoggedSections {
     /// The sections of no records, with room for so many records of each of so many lanes, at most 32.
     ///
-    /// It takes all the memory that they will need: for each record what the graph takes and a word of
-    /// eight bytes. No other call takes memory.
+    /// It takes all the memory that they will need: for each record twice what the graph takes, which
+    /// forgets late, and a word of eight bytes. No other call takes memory.
     pub fn with_capacity(
         alloc: Global,
         lanes: u8,
@@ -69,7 +69,7 @@ impl LoggedSections {
         Ok(LoggedSections {
             lanes,
             capacity,
-            graph: Graph::with_capacity(alloc, lanes, lanes as usize * capacity as usize)?,
+            graph: Graph::with_capacity(alloc, lanes, 2 * room(lanes, capacity))?,
             counts: [IDLE; 32],
             ends: vec![in alloc; 0; slots(lanes, capacity)]?,
         })
@@ -113,15 +113,26 @@ impl LoggedSections {
         }
     }
 
-    /// Forgets the sections of the cut: what they did, and with that the room that their records took. Sections and places are
-    /// numbered on. The time is that of [`Graph::forget_to`], and no memory is taken.
+    /// Forgets the sections of the cut, and with that frees the room that their records took. Sections and places are numbered on,
+    /// and no memory is taken.
+    ///
+    /// The graph forgets later, all at once: when what it leaves out is as much as what it has to walk over. So over many
+    /// calls the time is that of the records forgotten, and in each a look for each lane. What the graph still has of the
+    /// sections forgotten changes no answer.
     pub fn forget_to(&mut self, cut: &Cut)
         requires may { (base : ℕ → ℕ) × (log : List (ℕ × AnyRecord)) × MayForget self.old base log (counts_of cut.now) }
         ensures tells { (base : ℕ → ℕ) (log : List (ℕ × AnyRecord)) → MayForget self.old base log (counts_of cut.now) → TellsSections self.new (counts_of cut.now) log }
+        ensures paid { IsPaid self.old self.new }
         ensures lanes { self.new.lanes ≡ self.old.lanes }
         ensures capacity { self.new.capacity ≡ self.old.capacity }
     {
-        self.graph.forget_to(cut);
+        let places = places_behind(self.lanes, self.capacity, &self.ends, &cut.counts);
+        let left = records_from(self.lanes, self.capacity, &self.counts, &places);
+        let most = room(self.lanes, self.capacity);
+        // Not each time: the graph walks over all that stays.
+        if is_paid(2 * most - self.graph.room(), left, most) {
+            self.graph.forget_to(cut);
+        }
     }
 
     /// Whether the cut has each logged section that has ended. One look for each lane.
@@ -130,4 +141,21 @@ impl LoggedSections {
     {
         are_within(self.lanes, &self.counts, &cut.counts)
     }
+}
+
+// How many records the lanes have room for.
+fn room(lanes: u8, capacity: u32) -> usize
+    ensures { result ≡ lanes * capacity }
+{
+    lanes as usize * capacity as usize
+}
+
+// Whether a graph of so many records, of which so many stay, leaves out as many as stay and the objects, or as many as the
+// lanes have room for.
+fn is_paid(records: usize, left: usize, most: usize) -> bool
+    requires left { left ≤ most }
+    requires most { most < 2 ^ 62 }
+    ensures { IsTrue result ↔ (left + min most (left + 4096) ≤ records) }
+{
+    left + most.min(left + MOST_OBJECTS) <= records
 }
