@@ -51,5 +51,5 @@ lanes_ended ended = map (λ e. e.lane.0) ended
 
 -- What these workers answer: memory was wanting, or each has left what is ready to meet the helper that it was joined to, by its lane.
 pub record HaveWorked (h : Home) (workers : List Worker) (answer : Result (Vec Worked Global) AllocError) : Type 0 where
-  pub lanes : IfOk answer (λ w. lanes_worked w.items ≡ lanes_begun workers)
   pub each : (capacity : ℕ) (rings : Rings) → AreJoined h capacity rings workers → IfOk answer (λ w. AreWorked h capacity rings w.items)
+  pub lanes : (capacity : ℕ) (rings : Rings) → AreJoined h capacity rings workers → IfOk answer (λ w. lanes_worked w.items ≡ lanes_begun workers)

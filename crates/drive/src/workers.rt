@@ -67,7 +67,7 @@ pub fn work_all<R: Threads + Wait + Sync, M: Meet + Sync>(
         workers,
         &|worker: Worker| -> Worked
             requires { IsReady shared.now worker }
-            ensures lane { result.ended.lane.0 ≡ (view_of worker.session).lane.0 }
+            ensures lane { (capacity : ℕ) (rings : Rings) → IsJoined shared.entry.now capacity rings worker.session → result.ended.lane.0 ≡ (view_of worker.session).lane.0 }
             ensures worked { (capacity : ℕ) (rings : Rings) → IsJoined shared.entry.now capacity rings worker.session → IsWorked shared.entry.now capacity rings result }
         { work_one(rt, shared, signals, meet, worker, rounds) },
     );
@@ -85,7 +85,7 @@ fn work_one<R: Wait, M: Meet>(
     rounds: u32,
 ) -> Worked
     requires ready { IsReady shared.now worker }
-    ensures lane { result.ended.lane.0 ≡ (view_of worker.session).lane.0 }
+    ensures lane { (capacity : ℕ) (rings : Rings) → IsJoined shared.now capacity rings worker.session → result.ended.lane.0 ≡ (view_of worker.session).lane.0 }
     ensures worked { (capacity : ℕ) (rings : Rings) → IsJoined shared.now capacity rings worker.session → IsWorked shared.now capacity rings result }
 {
     joined_law();

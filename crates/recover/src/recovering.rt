@@ -47,6 +47,7 @@ pub fn recover<D: Disk>(alloc: Global, disk: D) -> Result<(Recovered<D>, Report)
     ensures interrupted { IfErr result (λ back. (s : Shape) → IsStudyOf (D.device disk).now.bytes s → LeavesOnTheWay s (D.device disk) (D.device back.0)) }
     ensures cut_off { IfErr result (λ back. IsCutOff (D.device disk) (D.device back.0)) }
     ensures cause { IfErr result (λ back. back.1 ≡ Fault → HasFailed (D.device disk).failures (D.device back.0).failures) }
+    ensures failures { IfOk result (λ r. (D.device disk).failures ≤ (D.device r.0.disk).failures) }
 {
     let mut disk = disk;
     match recover_in_place(alloc, &mut disk) {

@@ -1,5 +1,5 @@
 //! Sessions end, and meet their helper.
-ghost use Rattle.std.specs.Prelude.{◌≡◌, ℕ, All, IfErr, IfOk, IsErrAnd, MatchResult, true};
+ghost use Rattle.std.specs.Prelude.{◌≡◌, ◌≤◌, ℕ, All, IfErr, IfOk, IsErrAnd, MatchResult, true};
 ghost use Rattle.heap_model.specs.Setting.{Setting};
 ghost use Rattle.monitor.specs.Seats.{Home};
 ghost use Rattle.running_heap.specs.Closed.{IsClosed, WereTold};
@@ -54,6 +54,7 @@ pub fn close<D: Disk>(
     ensures untouched { IfErr result (λ back. IsOfSessions back.1 → back.0 ≡ helper.store.disk) }
     ensures failed { helper.store.known.has_failed ≡ true → HoldNone ended.items → IsComplete helper.store.known.layout.lanes ended.items → IsErrAnd result (λ back. back.1 ≡ CloseError.Failed) }
     ensures why { IfErr result (λ back. IsCloseWhy helper.store.known (D.device helper.store.disk) (D.device back.0) back.1) }
+    ensures failures { IfOk result (λ disk. (D.device helper.store.disk).failures ≤ (D.device disk).failures) }
     ensures any_moment { (s : Setting) (p : Past) → HasTaken helper.store.known (D.device helper.store.disk) helper.rings helper.waiting s p
         → Stood helper.store.known.layout s p ended.items (D.device helper.store.disk) (D.device (disk_of result)) }
 {

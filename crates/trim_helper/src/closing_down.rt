@@ -106,6 +106,7 @@ fn finish<D: Disk>(
     ensures ok { (p : Past) → HasTaken store.old.known (D.device store.old.disk) rings.old waiting.old (setting_of shared.plan) p → ((l : ℕ) → l < store.old.known.layout.lanes → (count_published seat l ≤ p.cut l) × (place_published seat l ≤ trimmed_of p l))
         → IfOk result (HasSpelled (setting_of shared.plan) shared.plan.lanes store.old.known.layout (parts_of ended.items) p.cut (trimmed_of p) (D.device store.new.disk)) }
     ensures stop { IfErr result IsCloseStop }
+    ensures failures { OnOk result ((D.device store.old.disk).failures ≤ (D.device store.new.disk).failures) }
     ensures why { (s : Setting) (p : Past) → HasTaken store.old.known (D.device store.old.disk) rings.old waiting.old s p
         → IfErr result (λ e. IsCloseWhy store.old.known (D.device store.old.disk) (D.device store.new.disk) e) }
     ensures failed { (s : Setting) (p : Past) → HasTaken store.old.known (D.device store.old.disk) rings.old waiting.old s p → store.old.known.has_failed ≡ true → IsErrOf result CloseError.Failed }
@@ -153,6 +154,7 @@ pub fn close_down<D: Disk>(
     ensures untouched { IfErr result (λ back. IsOfSessions back.1 → back.0 ≡ helper.store.disk) }
     ensures failed { helper.store.known.has_failed ≡ true → HoldNone ended.items → IsComplete helper.store.known.layout.lanes ended.items → IsErrAnd result (λ back. back.1 ≡ CloseError.Failed) }
     ensures why { IfErr result (λ back. IsCloseWhy helper.store.known (D.device helper.store.disk) (D.device back.0) back.1) }
+    ensures failures { IfOk result (λ disk. (D.device helper.store.disk).failures ≤ (D.device disk).failures) }
     ensures any_moment { (s : Setting) (p : Past) → HasTaken helper.store.known (D.device helper.store.disk) helper.rings helper.waiting s p
         → Stood helper.store.known.layout s p ended.items (D.device helper.store.disk) (D.device (disk_of result)) }
 {
@@ -176,6 +178,7 @@ fn close_serving<D: Disk>(
     ensures why { (s : Setting) (p : Past) → HasTaken helper.store.known (D.device helper.store.disk) helper.rings.items helper.waiting s p
         → IfErr result (λ back. IsCloseWhy helper.store.known (D.device helper.store.disk) (D.device back.0) back.1) }
     ensures untouched { IfErr result (λ back. IsOfSessions back.1 → back.0 ≡ helper.store.disk) }
+    ensures failures { IfOk result (λ disk. (D.device helper.store.disk).failures ≤ (D.device disk).failures) }
     ensures failed { (s : Setting) (p : Past) → HasTaken helper.store.known (D.device helper.store.disk) helper.rings.items helper.waiting s p → helper.store.known.has_failed ≡ true → HoldNone ended.items → IsComplete helper.store.known.layout.lanes ended.items
         → IsErrAnd result (λ back. back.1 ≡ CloseError.Failed) }
     ensures any_moment { (s : Setting) (p : Past) → HasTaken helper.store.known (D.device helper.store.disk) helper.rings.items helper.waiting s p

@@ -1,4 +1,4 @@
-use Rattle.std.proofs.Common.{◌≡◌, ◌∙◌, refl, sym, subst}
+use Rattle.std.proofs.Common.{◌≡◌, ◌≤◌, ◌∙◌, refl, sym, subst}
 use Rattle.block_disk.specs.Device.{Device, synced}
 use Rattle.block_disk.specs.Images.{LeavesOnly}
 use Rattle.recover.specs.Recovery.{IsMadeBy, IsOnTheWay}
@@ -26,3 +26,9 @@ returns-in-Ok-clause-any_moment g c = λ s of.
     let is = c.of-recovered.ensures in
     let disks : g.D.Disk.device c.of-recovered.result.disk ≡ g.D.Disk.device c.recover_in_place.new.disk = λ i. g.D.Disk.device (is i).disk in
     subst (λ (d : Device). LeavesOnly (synced (g.D.Disk.device c.args.disk)) d (IsOnTheWay s)) (sym disks) (c.in-Ok.ensures.any_moment s of)
+
+pub returns-in-Ok-clause-failures : goal.returns-in-Ok-clause-failures
+returns-in-Ok-clause-failures g c =
+    let is = c.of-recovered.ensures in
+    let disks : g.D.Disk.device c.of-recovered.result.disk ≡ g.D.Disk.device c.recover_in_place.new.disk = λ i. g.D.Disk.device (is i).disk in
+    subst (λ (d : Device). (g.D.Disk.device c.args.disk).failures ≤ d.failures) (sym disks) c.recover_in_place.ensures.cause.later

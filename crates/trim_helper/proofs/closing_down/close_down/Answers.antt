@@ -1,4 +1,4 @@
-use Rattle.std.proofs.Common.{◌≡◌, true, IfErr, IfOk, IsErrAnd, sym, subst}
+use Rattle.std.proofs.Common.{◌≡◌, ◌≤◌, true, IfErr, IfOk, IsErrAnd, sym, subst}
 use Rattle.monitor.specs.Words.{setting_of}
 use Rattle.trim_helper.specs.Closed.{IsClosedDown, Stood, disk_of}
 use Rattle.trim_helper.specs.Endings.{HoldNone, IsCloseWhy, IsComplete, IsOfSessions, parts_of}
@@ -33,3 +33,7 @@ returns-clause-failed g c =
     let was = c.helper.invariant in
     subst (λ x. x.store.known.has_failed ≡ true → HoldNone c.args.ended.items → IsComplete x.store.known.layout.lanes c.args.ended.items → IsErrAnd c.close_serving.result (λ back. back.1 ≡ CloseFailed)) c.helper.view_is
     (c.close_serving.ensures.failed was.setting was.past was.serving.taken)
+
+pub returns-clause-failures : goal.returns-clause-failures
+returns-clause-failures g c =
+    subst (λ x. IfOk c.close_serving.result (λ disk. (g.D.Disk.device x.store.disk).failures ≤ (g.D.Disk.device disk).failures)) c.helper.view_is c.close_serving.ensures.failures

@@ -1,4 +1,4 @@
-use Rattle.std.proofs.Common.{◌≡◌, Err, ap, sym, subst}
+use Rattle.std.proofs.Common.{◌≡◌, ◌≤◌, Err, ap, sym, subst}
 use Rattle.trim_helper.proofs.Rounds.{stood_still}
 use Rattle.trim_helper.proofs.Sent.{never_refused}
 use Rattle.trim_helper.specs.Closed.{IsClosedDown, Stood}
@@ -74,3 +74,7 @@ returns-clause-failed g c = λ s p has off none complete.
     let x = c.args.helper in
     let is = c.in-Err-finish.ensures.failed s p (subst (λ rings. HasTaken x.store.known (g.D.Disk.device x.store.disk) rings x.waiting s p) (sym c.deref_mut.ensures.value) has) off in
     let same : Err c.in-Err-finish.reason ≡ Err CloseFailed = is in cc
+
+pub returns-in-Ok-clause-failures : goal.returns-in-Ok-clause-failures
+returns-in-Ok-clause-failures g c =
+    subst (λ disk. (g.D.Disk.device c.args.helper.store.disk).failures ≤ (g.D.Disk.device disk).failures) (sym c.into_disk-in-Ok.ensures.disk) c.in-Ok.ensures.failures

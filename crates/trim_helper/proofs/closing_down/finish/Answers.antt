@@ -91,3 +91,9 @@ returns-clause-failed g c = λ s p taken off.
     let on = c.in_default.ensures.advances in
     let made = on.made s p (looks_taken _ _ _ _ _ s p c.meet.ensures.looks taken) in
     absurd (let no = c.in_default-settle_applied.ensures.failed s (applied_more made.0 p) made.2.has (on.running ∙ off) in cc)
+
+pub returns-clause-failures : goal.returns-clause-failures
+returns-clause-failures g c =
+    let rose = c.settle_applied.ensures.cause.later in
+    let same = ap (λ d. d.failures) c.in_default.ensures.advances.device in
+    omega (arith, rose, same)
