@@ -1,5 +1,5 @@
 //! The host's end of a deferred disk.
-ghost use Rattle.std.specs.Prelude.{◌≡◌, ◌<◌, [], ◌∷◌, ◌++◌, List, ℕ, true, false, length, IsSomeAnd, MatchOption};
+ghost use Rattle.std.specs.Prelude.{◌≡◌, ◌<◌, ◌≤◌, [], ◌∷◌, ◌++◌, List, ℕ, true, false, drop, length, IsSomeAnd, MatchOption};
 ghost use Rattle.block_disk.specs.Device.{Image, LeftSince};
 ghost use Rattle.block_disk.specs.Memory.{Stop, device_of, moment_after};
 ghost use Rattle.deferred_disk.specs.Deferred.{calls_in, onto, stop_of, stops_in};
@@ -78,9 +78,16 @@ impl HostCalls {
         self.left.front()
     }
 
+    /// The call at this place of those that were fetched: at 0 the one that the host has to make next.
+    pub fn call(&self, place: usize) -> Option<&DeviceCall>
+        ensures { MatchOption result (length self.now.left ≤ place) (λ call. (later : List DeviceCall) × (drop place self.now.left ≡ call.now ∷ later)) }
+    {
+        self.left.get(place)
+    }
+
     /// The host has made the call that [`next_call`](HostCalls::next_call) gave. Answers whether there was one.
     pub fn done(&mut self) -> bool
-        ensures ring { SameConsumer self.old.ring self.new.ring }
+        ensures ring { self.new.ring ≡ self.old.ring }
         ensures none { self.old.left ≡ [] → (result ≡ false) × (self.new ≡ self.old) }
         ensures one { (call : DeviceCall) (later : List DeviceCall) → self.old.left ≡ call ∷ later
             → (result ≡ true) × (self.new.left ≡ later) × (self.new.made ≡ stop_of call ∷ self.old.made) }

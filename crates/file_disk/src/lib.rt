@@ -3,7 +3,8 @@
 //! Each takes its bytes and the ranges written since the last sync, and no more, however long it runs. [`BufferedDisk`]
 //! keeps its bytes in memory and brings them to a file at each sync; [`FileDisk`] brings each write there at once and
 //! reads the file; [`VolatileDisk`] has no file. A [`BackingFile`] is what the first two need of a file, and [`read_there`]
-//! and [`write_there`] serve whoever makes one of what reads, writes and seeks.
+//! and [`write_there`] serve whoever makes one of what reads, writes and seeks. [`fill`] and [`read_whole`] serve whoever
+//! has a file's bytes in memory, and no disk over it.
 #![tactic(auto)]
 
 mod backing;
@@ -20,3 +21,4 @@ pub use buffered::BufferedDisk;
 pub use error::FileError;
 pub use file::FileDisk;
 pub use volatile::VolatileDisk;
+pub use whole::{fill, read_whole};

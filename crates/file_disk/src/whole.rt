@@ -28,8 +28,8 @@ fn fault(_error: io::Error) -> FileError {
     FileError::Fault
 }
 
-/// Makes these the file's bytes, durably.
-pub(crate) fn fill<F: BackingFile>(file: &mut F, bytes: &[u8]) -> Result<(), FileError>
+/// Makes these the file's bytes, durably. After `Fault` the file may have any bytes.
+pub fn fill<F: BackingFile>(file: &mut F, bytes: &[u8]) -> Result<(), FileError>
     ensures { OnOk result (ReadsForGood bytes.now (F.holds file.new)) }
 {
     file.empty().map_err(fault)?;
@@ -60,8 +60,11 @@ fn write_behind<F: BackingFile>(file: &mut F, at: u64, piece: &[u8]) -> io::Resu
     file.write_to(at, piece)
 }
 
-/// The file's bytes. They are synced before, so that what is read is what a crash leaves.
-pub(crate) fn read_whole<F: BackingFile>(alloc: Global, file: &mut F) -> Result<Vec<u8>, FileError>
+/// The file's bytes, as many as its length says. They are synced before, so that what is read is what a crash leaves.
+///
+/// The file is synced and measured first (`Fault`); then there is memory for the bytes or there isn't (`NoMemory`); then they
+/// are read (`Fault`).
+pub fn read_whole<F: BackingFile>(alloc: Global, file: &mut F) -> Result<Vec<u8>, FileError>
     ensures durable { IfOk result (λ bytes. ReadsForGood bytes.items (F.holds file.new)) }
     ensures given { IfOk result (λ bytes. Reads bytes.items (F.holds file.old)) }
 {

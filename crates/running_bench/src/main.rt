@@ -2,12 +2,13 @@
 //!
 //! `cost` lets 1, 2 and 4 workers, each in a thread of its own, do sections: an object of its own and one for all are taken, a
 //! field of each is stored, and both are given back. It prints how many a second all of them do beside a helper that makes them
-//! durable, over two disks in memory, and beside a thread that throws their records away; and how much processor time the helper,
-//! or that thread, takes for a section. Without it nothing is measured.
+//! durable, over two disks in memory, beside a thread that only writes their records into plain logs, and beside one that throws
+//! them away; and how much processor time the helper, or that thread, takes for a section. Without it nothing is measured.
 #![tactic(auto)]
 
 mod clock;
 mod heap;
+mod plain_logs;
 mod printing;
 mod serving;
 mod sides;

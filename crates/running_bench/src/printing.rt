@@ -3,7 +3,7 @@
 ghost use Rattle.std.specs.Prelude.{◌≤◌};
 
 use crate::heap::image_size;
-use crate::sides::{time_with_helper, time_without};
+use crate::sides::{time_with_helper, time_with_plain_logs, time_without};
 use crate::took::{MOST, Took};
 use crate::working::SECTIONS;
 use block_disk::MemDisk;
@@ -22,6 +22,7 @@ const RUNS: u32 = 5;
 struct Best {
     kept: Took,
     volatile: Took,
+    logged: Took,
     thrown: Took,
 }
 
@@ -54,6 +55,7 @@ fn measure<R: Threads + Wait + Sync + Clock + CpuClock>(rt: &R, alloc: Global, w
     let mut best = Best {
         kept: MOST,
         volatile: MOST,
+        logged: MOST,
         thrown: MOST,
     };
     for _ in 0..RUNS {
@@ -61,6 +63,9 @@ fn measure<R: Threads + Wait + Sync + Clock + CpuClock>(rt: &R, alloc: Global, w
         best.volatile = best
             .volatile
             .quicker(time_over_volatile(rt, alloc, workers));
+        best.logged = best
+            .logged
+            .quicker(time_with_plain_logs(rt, alloc, workers));
         best.thrown = best.thrown.quicker(time_without(rt, alloc, workers));
     }
     best
@@ -90,6 +95,7 @@ fn print_best<R: Print>(rt: &R, workers: u8, best: Best) -> io::Result<()> {
     let all = rate(workers, best.thrown);
     println!(rt; "workers: {workers}")?;
     print_row(rt, "records thrown away", workers, best.thrown, all)?;
+    print_row(rt, "records in plain logs", workers, best.logged, all)?;
     print_row(rt, "helper over VolatileDisk", workers, best.volatile, all)?;
     print_row(rt, "helper over MemDisk", workers, best.kept, all)
 }

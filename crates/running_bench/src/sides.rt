@@ -5,6 +5,7 @@ ghost use Rattle.running_heap.specs.Joined.{IsHelping};
 ghost use Rattle.session.specs.Sessions.{IsSessionOf};
 
 use crate::heap::{Unserved, open_on, open_unserved};
+use crate::plain_logs::log_plainly;
 use crate::serving::serve;
 use crate::signals::Signals;
 use crate::throwing::throw_away;
@@ -101,5 +102,46 @@ fn beside_thrower<R: Threads + Wait + Sync + Clock + CpuClock>(
     match took {
         Some(workers) => Some(Took { workers, serving }),
         None => None,
+    }
+}
+
+/// What they took beside a thread that writes their records into plain logs.
+pub fn time_with_plain_logs<R: Threads + Wait + Sync + Clock + CpuClock>(
+    rt: &R,
+    alloc: Global,
+    workers: u8,
+) -> Option<Took>
+    requires workers { workers ≤ 32 }
+{
+    let Unserved {
+        shared,
+        sessions,
+        rings,
+    } = open_unserved(alloc, workers)?;
+    beside_logger(rt, alloc, &shared, sessions, rings)
+}
+
+// The workers, and in this thread what writes their records.
+fn beside_logger<R: Threads + Wait + Sync + Clock + CpuClock>(
+    rt: &R,
+    alloc: Global,
+    shared: &Shared,
+    sessions: Vec<Session>,
+    rings: Vec<Consumer<Record>>,
+) -> Option<Took>
+    requires of { All (IsSessionOf shared.now) sessions.items }
+{
+    let signals = Signals::new();
+    let flags = &signals;
+    let (took, serving) = join(
+        rt,
+        || -> Option<u64>
+            requires { All (IsSessionOf shared.now) sessions.items }
+        { work_all(rt, shared, flags, sessions) },
+        || -> Option<u64> { log_plainly(rt, alloc, flags, rings) },
+    );
+    match (took, serving) {
+        (Some(workers), Some(serving)) => Some(Took { workers, serving }),
+        _ => None,
     }
 }

@@ -1,0 +1,3 @@
+-- The promise: what public clauses state.
+pub mod Joined
+pub mod Laws
