@@ -18,9 +18,9 @@ module _ {F J R : Type 0} (g : Shared F (J × Unit {0}) R) (f : F) (P : J → Ty
   jobs_keep of_job of_result [] [] long gives all step = refl
   jobs_keep of_job of_result (j ∷ js) [] long gives all step = absurd (omega (arith, long))
   jobs_keep of_job of_result js (r ∷ rs) long gives all step = ext_get_or 0 (map of_result (r ∷ rs)) (map of_job js)
-      (length-map of_result (r ∷ rs) ∙ long ∙ sym (length-map of_job js))
+      (length-map (r ∷ rs) of_result ∙ long ∙ sym (length-map js of_job))
       (λ i below.
-          let here : i < length (r ∷ rs) = subst (λ n. i < n) (length-map of_result (r ∷ rs)) below in
+          let here : i < length (r ∷ rs) = subst (λ n. i < n) (length-map (r ∷ rs) of_result) below in
           let low : i < length js = subst (λ n. i < n) long here in
           let given = (gives i r low).1 in
           let is = given.job_is given.job in
