@@ -1,7 +1,7 @@
 -- There is one worker a lane, from the sessions as they are opened to what they leave.
 use Rattle.std.proofs.Common.{ℕ, zero, suc, ◌≡◌, ◌+◌, ◌<◌, ◌≤◌, if◌then◌else◌, Bool, List, [], ◌∷◌, ◌++◌, drop, length, map, reverse, All, refl, sym, ap, ◌∙◌, subst, inl, inr, arith}
 use Rattle.std.proofs.lemmas.Bool.Decides.{eqb_tells}
-use Rattle.std.proofs.lemmas.List.{append_assoc, map-append, reverse-append}
+use Rattle.std.proofs.lemmas.List.{append-nil, append_assoc, map-append, reverse-append}
 use Rattle.std.specs.List.{range_with_len}
 use Rattle.running_heap.specs.Joined.{AreNew}
 use Rattle.session.specs.Sessions.{view_of}
@@ -33,6 +33,11 @@ moved of_x of_y xs left x ys y all is same before =
     ∙ ap (λ (n : ℕ). map of_y ys ++ n ∷ reverse (map of_x left)) same
     ∙ ap (λ (ns : List ℕ). map of_y ys ++ ns) (sym here)
     ∙ before
+
+-- none is left
+pub all_moved : {X Y : Type 0} (of_x : X → ℕ) (of_y : Y → ℕ) (xs : List X) (ys : List Y) (all : List ℕ) → length xs ≡ 0 → map of_y ys ++ reverse (map of_x xs) ≡ all → map of_y ys ≡ all
+all_moved of_x of_y [] ys all none before = sym (append-nil (map of_y ys)) ∙ before
+all_moved of_x of_y (x ∷ xs) ys all none before = absurd (omega (arith, none))
 
 abbrev head_of : List ℕ → ℕ
 head_of [] = 0

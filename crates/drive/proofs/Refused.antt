@@ -1,5 +1,5 @@
 -- What a refusal says, by the refusal of a part.
-use Rattle.std.proofs.Common.{ℕ, suc, ◌≡◌, ◌≢◌, ◌≤◌, ◌<◌, ◌⊎◌, List, Result, Ok, Err, IfErr, IfOk, inl, inr, length, slice_index, refl, sym, ap, subst, ◌∙◌, arith}
+use Rattle.std.proofs.Common.{ℕ, suc, ◌≡◌, ◌≢◌, ◌≤◌, ◌<◌, ◌⊎◌, List, [], ◌∷◌, Result, Ok, Err, IfErr, IfOk, inl, inr, length, slice_index, refl, sym, ap, subst, ◌∙◌, arith}
 use Rattle.block_disk.specs.Device.{Device, HasFailed, Moment, SameMoments}
 use Rattle.guards.specs.Schema.{Declarations, field_count, guard_of, object_count}
 use Rattle.image.specs.Calls.{Call, Write, Sync, after, after_one}
@@ -229,8 +229,8 @@ module _ {D : Type 0} (device : D → Device) where
   new_with workers old new NoMemory blank size refused = refused
   new_with workers old new (Schema e) blank size refused = refused.0
   new_with workers old new (Image e) blank size refused = image_with workers old new e size refused
-  new_with workers old new (Helper e) blank size refused = (refused.0, first_with workers old new (Helper e) blank refused.1)
-  new_with workers old new (Session e) blank size refused = (refused.0, first_with workers old new (Session e) blank refused.1)
-  new_with workers old new (Close e) blank size refused = (refused.0, first_with workers old new (Close e) blank refused.1)
-  new_with workers old new (Recover e) blank size refused = (refused.0, first_with workers old new (Recover e) blank refused.1)
-  new_with workers old new OtherSchema blank size refused = (refused.0, first_with workers old new OtherSchema blank refused.1)
+  new_with workers old new (Helper e) blank size refused = let stopped = first_with workers old new (Helper e) blank refused.1 in (refused.0, stopped.0, stopped.1)
+  new_with workers old new (Session e) blank size refused = let stopped = first_with workers old new (Session e) blank refused.1 in (refused.0, stopped.0, stopped.1)
+  new_with workers old new (Close e) blank size refused = let stopped = first_with workers old new (Close e) blank refused.1 in (refused.0, stopped.0, stopped.1)
+  new_with workers old new (Recover e) blank size refused = let stopped = first_with workers old new (Recover e) blank refused.1 in (refused.0, stopped.0, stopped.1)
+  new_with workers old new OtherSchema blank size refused = let stopped = first_with workers old new OtherSchema blank refused.1 in (refused.0, stopped.0, stopped.1)

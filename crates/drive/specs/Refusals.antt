@@ -49,7 +49,7 @@ RefusesFinding old new recover.Worn = IsWorn old.now.bytes
 RefusesFinding old new recover.NoMemory = Unit {0}
 RefusesFinding old new _ = ⊥
 
--- Where objects and fields are the workers' own, a session refuses only since the helper is behind, and has stopped, or since numbers have come to their end.
+-- Where objects and fields are the workers' own, a session refuses only since the helper is behind, or since numbers have come to their end.
 abbrev pub IsOwnStop : DriveError → Type 0
 IsOwnStop (Session e) = (e ≡ sessions.Behind) ⊎ (e ≡ sessions.Worn)
 IsOwnStop _ = Unit {0}

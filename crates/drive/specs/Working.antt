@@ -72,8 +72,7 @@ RefusesCount h f objects NotHeld = locks_of objects ((plan h).guard f.0) ≡ Non
 RefusesCount h f objects _ = ⊥
 
 -- Why a worker ends early, by the clauses of `Session::{enter, load, store, exit}`. Worker k counts in field k + 1 with object k + 1 held, and then in field 0
--- with object 0 held: the heap has too few objects or fields, or another object guards one of them; the helper is behind, and has stopped; or numbers have come
--- to their end.
+-- with object 0 held: the heap has too few objects or fields, or another object guards one of them; the helper is behind; or numbers have come to their end.
 abbrev pub StopsWorker : Home → (capacity : ℕ) → SessionError → Type 0
 StopsWorker h capacity UnknownObject = (plan h).objects ≤ h.plan.lanes
 StopsWorker h capacity UnknownField = (plan h).fields ≤ h.plan.lanes

@@ -1,5 +1,5 @@
 //! The workers, as they begin and as they end.
-ghost use Rattle.std.specs.Prelude.{ℕ, ◌≡◌, ◌≤◌, All, IfOk, IfSome, MatchOption, length, reverse};
+ghost use Rattle.std.specs.Prelude.{ℕ, ◌≡◌, ◌<◌, ◌≤◌, All, IfOk, IfSome, MatchOption, length, reverse};
 ghost use Rattle.drive.specs.Workers.{AreJoined, AreReady, AreWorked, HaveWorked, IsReady, IsWorked, lanes_begun, lanes_ended, lanes_opened, lanes_worked};
 ghost use Rattle.drive.specs.Working.{StopsWorker};
 ghost use Rattle.monitor.specs.Seats.{Home};
@@ -43,11 +43,17 @@ pub fn number_all(alloc: Global, sessions: Vec<Session>) -> Result<Vec<Worker>, 
     let mut left = sessions;
     let mut workers = Vec::new(alloc);
     'sessions: while let Some(session) = left.pop() {
-        // There are at most 32 lanes.
-        let number = u8::try_from(left.len()).unwrap_or(u8::MAX);
+        let number = number_of(left.len());
         workers.push(Worker { session, number })?;
     }
     Ok(workers)
+}
+
+// A lane's number. There are at most 32 lanes.
+fn number_of(lane: usize) -> u8
+    ensures { lane < 256 → result ≡ lane }
+{
+    u8::try_from(lane).unwrap_or(u8::MAX)
 }
 
 /// All work beside one another, each in a thread of its own. An error is want of memory; then some haven't worked.

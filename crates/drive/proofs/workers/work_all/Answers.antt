@@ -12,11 +12,11 @@ returns g c = record {
         let h = c.args.shared.now in
         ok_both c.map_vec-worked.result c.map_vec-worked.ensures.len c.map_vec-worked.ensures.each (λ v. AreWorked h k rings v.items)
         (λ v long gives. jobs_done _ _ (λ w. IsJoined h k rings w.session) (IsWorked h k rings) c.args.workers.items v.items
-        (sym v.ok.0 ∙ long ∙ c.args.workers.ok.0) gives joined (λ j r p given. given.worked k rings p));
+        (sym v.ok.0 ∙ long ∙ c.args.workers.ok.0) gives joined (λ j r p given. given.1 k rings p));
     lanes = λ k rings joined.
         let h = c.args.shared.now in
         ok_both c.map_vec-worked.result c.map_vec-worked.ensures.len c.map_vec-worked.ensures.each (λ v. lanes_worked v.items ≡ lanes_begun c.args.workers.items)
         (λ v long gives. jobs_keep _ _ (λ w. IsJoined h k rings w.session) (λ w. (view_of w.session).lane.0) (λ w. w.ended.lane.0) c.args.workers.items v.items
-        (sym v.ok.0 ∙ long ∙ c.args.workers.ok.0) gives joined (λ j r p given. given.lane k rings p));
+        (sym v.ok.0 ∙ long ∙ c.args.workers.ok.0) gives joined (λ j r p given. given.0 k rings p));
   };
 }
