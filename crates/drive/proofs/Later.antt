@@ -1,5 +1,5 @@
 -- What is known of workers by the helper as it was, by the helper as it is after its rounds.
-use Rattle.std.proofs.Common.{ℕ, List, Result, IfOk, sym, subst}
+use Rattle.std.proofs.Common.{List, Result, IfOk, sym, subst}
 use Rattle.std.proofs.lemmas.List.Elements.{All-weaker}
 use Rattle.block_disk.specs.Device.{Device}
 use Rattle.image.specs.declared.layout.Layout.{Layout}

@@ -1,6 +1,5 @@
 -- A recovery is one of every device with the same moments.
-use Rattle.std.proofs.Common.{◌≡◌, ℕ, List, [], ◌∷◌, sym, ap, subst, ◌∙◌}
-use Rattle.heap_model.specs.declared.ids.FieldId.{FieldId}
+use Rattle.std.proofs.Common.{ℕ, List, [], ◌∷◌, ap, subst}
 use Rattle.block_disk.specs.Bytes.{spliced}
 use Rattle.block_disk.specs.Device.{Device, Moment, SameMoments, range_of, synced}
 use Rattle.block_disk.proofs.Failures.{moments_trans}

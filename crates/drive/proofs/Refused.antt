@@ -1,5 +1,5 @@
 -- What a refusal says, by the refusal of a part.
-use Rattle.std.proofs.Common.{ℕ, suc, ◌≡◌, ◌≢◌, ◌≤◌, ◌<◌, ◌⊎◌, List, [], ◌∷◌, Result, Ok, Err, IfErr, IfOk, inl, inr, length, slice_index, refl, sym, ap, subst, ◌∙◌, arith}
+use Rattle.std.proofs.Common.{ℕ, suc, ◌≡◌, ◌≤◌, ◌<◌, ◌⊎◌, List, [], ◌∷◌, Result, Ok, Err, IfErr, IfOk, inl, inr, length, slice_index, refl, ap, subst, ◌∙◌, arith}
 use Rattle.block_disk.specs.Device.{Device, HasFailed, Moment, SameMoments}
 use Rattle.guards.specs.Schema.{Declarations, field_count, guard_of, object_count}
 use Rattle.image.specs.Calls.{Call, Write, Sync, after, after_one}
@@ -20,7 +20,7 @@ use Rattle.recover.specs.declared.studied.Study.{Study}
 use Rattle.session.specs.declared.error.SessionError.{SessionError}
 use Rattle.session.specs.declared.error.SessionError.TheVariants as sessions
 use Rattle.store_image.specs.Formatting.{RefusesFormat, layout_with}
-use Rattle.drive.specs.Refusals.{IsMakingRefused, IsOwnStop, IsStoppedFirst, IsStoppedLater, IsStoppedOf, RefusesFinding, RefusesGoingOn, RefusesLook, RefusesNew, RefusesOn, RefusesStudy, RefusesWith, blank_device}
+use Rattle.drive.specs.Refusals.{IsMakingRefused, IsOwnStop, IsStoppedFirst, IsStoppedLater, RefusesFinding, RefusesGoingOn, RefusesLook, RefusesNew, RefusesOn, RefusesStudy, RefusesWith, blank_device}
 use Rattle.drive.specs.Schemas.{HoldsWorkers, IsOfWorkers, MayHaveImage, schema_of}
 use Rattle.drive.specs.Stops.{IsHomeOf, StopsBy, StopsRun}
 use Rattle.drive.specs.Working.{StopsWorker}
@@ -170,10 +170,13 @@ module _ {D : Type 0} (device : D → Device) where
   going_as_on workers old seen new (Helper e) holds same low refused = (holds, later_alike workers old seen new (Helper e) same low refused)
   going_as_on workers old seen new (Session e) holds same low refused = (holds, later_alike workers old seen new (Session e) same low refused)
   going_as_on workers old seen new (Close e) holds same low refused = (holds, later_alike workers old seen new (Close e) same low refused)
-  going_as_on workers old seen new (Recover e) holds same low refused = inr (holds, elim refused [
-    | inl first ↦ inl (finding_alike old seen new e same low first)
-    | inr later ↦ inr (later_alike workers old seen new (Recover e) same low later)
-  ])
+  going_as_on workers old seen new (Recover e) holds same low refused = inr (
+    holds,
+    elim refused [
+      | inl first ↦ inl (finding_alike old seen new e same low first)
+      | inr later ↦ inr (later_alike workers old seen new (Recover e) same low later)
+    ],
+  )
   going_as_on workers old seen new OtherSchema holds same low refused = elim refused.stopped.stops.stops [ ]
 
   -- before it

@@ -42,13 +42,17 @@ module _ (h : Home) (c : ℕ) (v w : View) (o : ObjectId) (v-of : v.plan ≡ pla
 
   worn : (objects : List ℕ) (n : ℕ) → HoldsJust v objects n → Tries v w o (Err Worn) → Entered objects n (Err Worn)
   worn objects n holds tries = (
-    (w, w-of, inr (record {
-      object = o;
-      number = tries.0;
-      last = subst (λ (g : Setting). g.last ≤ tries.0) (sym tries.2.plan) tries.1;
-      older = v.events;
-      seen = tries.2.events;
-    })),
+    (
+      w,
+      w-of,
+      inr (record {
+        object = o;
+        number = tries.0;
+        last = subst (λ (g : Setting). g.last ≤ tries.0) (sym tries.2.plan) tries.1;
+        older = v.events;
+        seen = tries.2.events;
+      }),
+    ),
     saw v w o tries.0 objects n holds tries.2,
   )
 

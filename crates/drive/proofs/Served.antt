@@ -1,5 +1,5 @@
 -- A helper goes on over rounds, whatever they answer.
-use Rattle.std.proofs.Common.{ℕ, ◌≤◌, Result, Ok, Err, IfOk, OnErr, refl, ◌∙◌, arith}
+use Rattle.std.proofs.Common.{ℕ, Result, Ok, Err, IfOk, OnErr, refl, ◌∙◌, arith}
 use Rattle.block_disk.specs.Device.{Device}
 use Rattle.trim_helper.specs.Parts.{Parts}
 use Rattle.drive.specs.Serving.{HasStayed}

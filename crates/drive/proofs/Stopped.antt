@@ -1,5 +1,5 @@
 -- Why a run is stopped, by why a part of it is.
-use Rattle.std.proofs.Common.{ℕ, ◌≡◌, ◌≤◌, ◌⊎◌, ◌^◌, ◌-◌, Bool, true, false, List, [], ◌∷◌, Result, Ok, Err, IfErr, inl, inr, refl, sym, subst, ◌∙◌, arith}
+use Rattle.std.proofs.Common.{ℕ, ◌≡◌, ◌≤◌, ◌^◌, ◌-◌, true, false, List, [], ◌∷◌, Result, Ok, Err, IfErr, inl, inr, refl, sym, ◌∙◌, arith}
 use Rattle.block_disk.specs.Device.{Device, HasCause, HasFailed}
 use Rattle.durable.specs.Store.{Known}
 use Rattle.image.specs.declared.layout.Layout.{Layout}

@@ -1,12 +1,10 @@
 -- Which refusal of workers comes when.
-use Rattle.std.specs.Prelude.{ℕ, ◌≡◌, ◌⊎◌, ◌<◌, ◌≤◌, List, [], replicate, slice_index}
+use Rattle.std.specs.Prelude.{ℕ, ◌≡◌, ◌⊎◌, ◌<◌, ◌≤◌, [], replicate, slice_index}
 use Rattle.block_disk.specs.Device.{Device, HasFailed, SameMoments}
 use Rattle.guards.specs.Schema.{Declarations, field_count}
-use Rattle.guards.specs.declared.error.SchemaError.{SchemaError}
 use Rattle.guards.specs.declared.error.SchemaError.TheVariants as schemas
 use Rattle.image.specs.Layout.{size_of}
 use Rattle.image.specs.Recovered.{Parts}
-use Rattle.image.specs.declared.error.ImageError.{ImageError}
 use Rattle.image.specs.declared.error.ImageError.TheVariants as images
 use Rattle.recover.specs.Reading.{RefusesImage}
 use Rattle.recover.specs.Recovery.{IsRecovery, IsWorn}
@@ -18,7 +16,7 @@ use Rattle.store_image.specs.Formatting.{RefusesFormat, layout_with}
 use Rattle.drive.specs.Schemas.{HoldsOthers, HoldsWorkers, IsOfWorkers, MayHaveImage, schema_of}
 use Rattle.drive.specs.Stops.{StopsRun}
 use Rattle.drive.specs.declared.error.DriveError.{DriveError}
-use Rattle.drive.specs.declared.error.DriveError.TheVariants.{NoMemory, Schema, Image, Helper, Session, Close, Recover, OtherSchema}
+use Rattle.drive.specs.declared.error.DriveError.TheVariants.{NoMemory, Schema, Image, Session, Recover, OtherSchema}
 
 -- the size of so many workers' image isn't told
 abbrev pub RefusesSize : (workers : ℕ) → DriveError → Type 0

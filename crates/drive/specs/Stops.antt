@@ -18,7 +18,7 @@ use Rattle.trim_helper.specs.declared.close_error.CloseError.TheVariants as clos
 use Rattle.trim_helper.specs.declared.ended.Ended.{Ended}
 use Rattle.drive.specs.Working.{StopsWorker}
 use Rattle.drive.specs.declared.error.DriveError.{DriveError}
-use Rattle.drive.specs.declared.error.DriveError.TheVariants.{NoMemory, Schema, Image, Helper, Session, Close, Recover, OtherSchema}
+use Rattle.drive.specs.declared.error.DriveError.TheVariants.{NoMemory, Helper, Session, Close, Recover}
 
 -- A round of the helper is refused: the device's control is at its last sequence, or the device has failed since the run began. It isn't by `Failed`,
 -- since the first fault ends the rounds.

@@ -1,8 +1,8 @@
-use Rattle.std.proofs.Common.{◌≡◌, ◌≤◌, IfErr, IfOk, OnOk, ap, false, length, reverse, sym, ◌∙◌, subst, arith}
+use Rattle.std.proofs.Common.{◌≡◌, IfOk, ap, reverse, sym, ◌∙◌, subst, arith}
 use Rattle.std.proofs.lemmas.List.{reverse-reverse}
 use Rattle.image.specs.declared.layout.Layout.{Layout}
 use Rattle.std.specs.List.{range_with_len}
-use Rattle.drive.specs.Stops.{StopsBy, StopsRound}
+use Rattle.drive.specs.Stops.{StopsBy}
 use Rattle.drive.specs.Workers.{AreWorked, lanes_begun, lanes_worked}
 use Rattle.drive.proofs.Lanes.{lanes_up}
 use Rattle.drive.proofs.Later.{run_before, worked_later}
@@ -50,5 +50,5 @@ returns-in-Ok-worked-clause-cause g c =
     let stayed = c.in-Ok-race.ensures.raced.stayed in
     weaker c.end_all.result (λ back. StopsBy heap.shared after.store.known.layout (device after.store.disk) (device back.0) back.1) (λ back. StopsBy heap.shared heap.helper.store.known.layout (device heap.helper.store.disk) (device back.0) back.1)
     (λ back stops. stops_since heap.shared heap.helper.store.known.layout (device heap.helper.store.disk) (device after.store.disk) (device back.0) back.1 stayed.later
-        (subst (λ (l : Layout). StopsBy heap.shared l (device after.store.disk) (device back.0) back.1) stayed.layout stops))
+    (subst (λ (l : Layout). StopsBy heap.shared l (device after.store.disk) (device back.0) back.1) stayed.layout stops))
     c.end_all.ensures.cause

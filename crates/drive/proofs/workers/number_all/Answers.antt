@@ -1,4 +1,4 @@
-use Rattle.std.proofs.Common.{ℕ, ◌≡◌, ◌+◌, ◌<◌, List, [], ◌∷◌, ◌++◌, Some, length, reverse, length-append, refl, sym, ap, ◌∙◌, subst, arith}
+use Rattle.std.proofs.Common.{◌≡◌, ◌+◌, ◌<◌, List, [], ◌∷◌, ◌++◌, Some, length, reverse, length-append, refl, sym, ap, ◌∙◌, subst, arith}
 use Rattle.std.proofs.lemmas.List.Elements.{All-nil, All-pop, All-push}
 use Rattle.running_heap.specs.Joined.{AreNew, IsJoined}
 use Rattle.session.specs.Sessions.{view_of}
@@ -19,8 +19,7 @@ sessions-init c = (
 pub sessions-preserved : goal.sessions-preserved
 sessions-preserved c =
     let s = c.in-Some.session in
-    let items : c.sessions.left.items ≡ c.pop.new.self.items ++ s ∷ [] = c.in-Some.ensures.items in
-    (
+    let items : c.sessions.left.items ≡ c.pop.new.self.items ++ s ∷ [] = c.in-Some.ensures.items in (
       λ h k rings all.
           let was = c.sessions.invariant.0 h k rings all in
           let parts = All-pop (IsJoined h k rings) _ _ (Some s) c.in-Some.ensures.items was.0 in
@@ -33,15 +32,14 @@ sessions-preserved c =
           let under = was.1 in
           let len : c.len.result ≡ length c.pop.new.self.items = omega (arith, c.len.ensures, c.pop.new.self.ok) in
           let number : c.number_of-number.result ≡ c.len.result = c.number_of-number.ensures (omega (arith, len, long, under, low)) in
-          let low_number : c.number_of-number.result < h.plan.lanes = omega (arith, number, len, long, under) in
-          (
+          let low_number : c.number_of-number.result < h.plan.lanes = omega (arith, number, len, long, under) in (
             parts.0,
             omega (arith, long, under),
             subst (AreReady h) (sym c.in_ok-push.ensures.items) (All-push (IsReady h) _ _ was.2 (record { of = joined.1.of; free = at_first (view_of s).plan (view_of s).events parts.2; low = low_number })),
           ),
       subst (λ (ws : List Worker). lanes_begun ws ++ reverse (lanes_opened c.pop.new.self.items) ≡ reverse (lanes_opened c.args.sessions.items)) (sym c.in_ok-push.ensures.items)
-      (moved (λ (x : Session). (view_of x).lane.0) (λ (w : Worker). (view_of w.session).lane.0) c.sessions.left.items c.pop.new.self.items s c.sessions.workers.items
-      (record { session = s; number = c.number_of-number.result }) (reverse (lanes_opened c.args.sessions.items)) items refl c.sessions.invariant.2),
+          (moved (λ (x : Session). (view_of x).lane.0) (λ (w : Worker). (view_of w.session).lane.0) c.sessions.left.items c.pop.new.self.items s c.sessions.workers.items
+          (record { session = s; number = c.number_of-number.result }) (reverse (lanes_opened c.args.sessions.items)) items refl c.sessions.invariant.2),
     )
 
 pub returns : goal.returns

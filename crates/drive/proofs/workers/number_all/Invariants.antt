@@ -10,7 +10,7 @@ abbrev pub invariant-sessions : goal.invariant-sessions
 invariant-sessions l =
     ((h : Home) (capacity : ℕ) (rings : Rings) → All (IsJoined h capacity rings) l.fn.sessions.items → All (IsJoined h capacity rings) l.left.items × AreJoined h capacity rings l.workers.items)
     × ((h : Home) (capacity : ℕ) (rings : Rings) → All (IsJoined h capacity rings) l.fn.sessions.items → AreNew 0 l.fn.sessions.items → length l.fn.sessions.items ≤ h.plan.lanes → h.plan.lanes ≤ 32
-        → AreNew 0 l.left.items × (length l.left.items ≤ h.plan.lanes) × AreReady h l.workers.items)
+    → AreNew 0 l.left.items × (length l.left.items ≤ h.plan.lanes) × AreReady h l.workers.items)
     × (lanes_begun l.workers.items ++ reverse (lanes_opened l.left.items) ≡ reverse (lanes_opened l.fn.sessions.items))
 
 abbrev pub decreases-sessions : goal.decreases-sessions

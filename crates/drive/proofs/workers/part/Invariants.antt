@@ -9,7 +9,7 @@ use Rattle.drive.proofs.workers.part.Given as goal
 abbrev pub invariant-workers : goal.invariant-workers
 invariant-workers l =
     ((h : Home) (capacity : ℕ) (rings : Rings) → AreWorked h capacity rings l.fn.worked.items
-        → AreWorked h capacity rings l.left.items × All (IsEnded h capacity rings) l.ended.items × All (λ e. e.held ≡ 0) l.ended.items × IfSome l.first (StopsWorker h capacity))
+    → AreWorked h capacity rings l.left.items × All (IsEnded h capacity rings) l.ended.items × All (λ e. e.held ≡ 0) l.ended.items × IfSome l.first (StopsWorker h capacity))
     × (lanes_ended l.ended.items ++ reverse (lanes_worked l.left.items) ≡ reverse (lanes_worked l.fn.worked.items))
 
 abbrev pub decreases-workers : goal.decreases-workers

@@ -1,7 +1,7 @@
 use Rattle.std.proofs.Common.{◌≡◌, sym, ◌∙◌}
 use Rattle.running_heap.specs.Joined.{IsJoined}
 use Rattle.session.specs.Sessions.{view_of}
-use Rattle.drive.specs.Workers.{AreWorked, IsReady, IsWorked, lanes_begun, lanes_worked}
+use Rattle.drive.specs.Workers.{AreWorked, IsWorked, lanes_begun, lanes_worked}
 use Rattle.drive.proofs.Jobs.{jobs_done, jobs_keep, ok_both}
 use Rattle.drive.proofs.workers.work_all.Goals as goal
 

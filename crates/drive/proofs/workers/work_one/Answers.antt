@@ -1,4 +1,4 @@
-use Rattle.std.proofs.Common.{ℕ, IfSome, subst, sym, ◌∙◌}
+use Rattle.std.proofs.Common.{ℕ, IfSome, subst}
 use Rattle.drive.specs.Working.{StopsWorker}
 use Rattle.drive.proofs.Ending.{held_none, lane_kept}
 use Rattle.drive.proofs.workers.work_one.Goals as goal

@@ -1,6 +1,6 @@
-use Rattle.std.proofs.Common.{ℕ, ◌≡◌, ◌≢◌, ◌+◌, ◌<◌, List, [], ◌∷◌, Some, None, refl, sym, ap, arith}
+use Rattle.std.proofs.Common.{ℕ, ◌+◌, [], ◌∷◌, refl, sym, ap, arith}
 use Rattle.session.specs.Sessions.{capacity_of, view_of}
-use Rattle.drive.specs.Working.{HoldsJust, MayTake, RefusesCount, StopsWorker}
+use Rattle.drive.specs.Working.{MayTake, StopsWorker}
 use Rattle.drive.proofs.Holding.{other_lock, weaker}
 use Rattle.drive.proofs.Refusing.{count_stops, enter_stops, refused_as}
 use Rattle.drive.proofs.working.count_both.Goals as goal

@@ -1,4 +1,4 @@
-use Rattle.std.proofs.Common.{ℕ, ◌+◌, [], ◌∷◌, refl, sym, subst, arith}
+use Rattle.std.proofs.Common.{ℕ, ◌+◌, [], ◌∷◌, refl, sym, subst}
 use Rattle.session.specs.Sessions.{view_of}
 use Rattle.drive.specs.Working.{HoldsJust}
 use Rattle.drive.proofs.Holding.{free}
