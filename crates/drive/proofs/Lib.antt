@@ -1,6 +1,11 @@
 pub mod Served
 pub mod Jobs
 pub mod Later
+pub mod Holding
+pub mod Refusing
+pub mod Ending
+pub mod Lanes
+pub mod Stopped
 pub mod SchemaLemmas
 pub mod Theirs
 pub mod Recovered

@@ -1,6 +1,5 @@
 -- A recovery is one of every device with the same moments.
-use Rattle.std.proofs.Common.{◌≡◌, ℕ, List, [], ◌∷◌, sym, ap, subst, ◌∙◌}
-use Rattle.heap_model.specs.declared.ids.FieldId.{FieldId}
+use Rattle.std.proofs.Common.{ℕ, List, [], ◌∷◌, ap, subst}
 use Rattle.block_disk.specs.Bytes.{spliced}
 use Rattle.block_disk.specs.Device.{Device, Moment, SameMoments, range_of, synced}
 use Rattle.block_disk.proofs.Failures.{moments_trans}
@@ -41,7 +40,7 @@ made_alike s old seen new same made =
     let there : SameMoments (after (calls a.now.bytes) a) (after (calls b.now.bytes) b) = subst (λ (m : Moment). SameMoments (after (calls m.bytes) a) (after (calls b.now.bytes) b)) put.now ends in
     record { fields = made.fields; undone = made.undone; calls = moments_trans (after (calls a.now.bytes) a) (after (calls b.now.bytes) b) new there made.calls }
 
-recovery_alike : {D : Type 0} (old seen new : Device) (r : Parts D) (report : Report) → SameMoments old seen → IsRecovery seen new r report → IsRecovery old new r report
+pub recovery_alike : {D : Type 0} (old seen new : Device) (r : Parts D) (report : Report) → SameMoments old seen → IsRecovery seen new r report → IsRecovery old new r report
 recovery_alike old seen new r report same found = record {
   study = found.study;
   of = subst (λ (m : Moment). IsStudyOf m.bytes found.study) same.now found.of;

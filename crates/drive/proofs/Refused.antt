@@ -1,15 +1,34 @@
 -- What a refusal says, by the refusal of a part.
-use Rattle.std.proofs.Common.{ℕ, ◌≡◌, List, Option, IsSome, Result, Ok, Err, IfErr, IfOk, inl, inr, length, sym, subst, ◌∙◌, arith}
-use Rattle.block_disk.specs.Device.{Device, SameMoments}
-use Rattle.guards.specs.Schema.{Declarations}
+use Rattle.std.proofs.Common.{ℕ, suc, ◌≡◌, ◌≤◌, ◌<◌, ◌⊎◌, List, [], ◌∷◌, Result, Ok, Err, IfErr, IfOk, inl, inr, length, slice_index, refl, ap, subst, ◌∙◌, arith}
+use Rattle.block_disk.specs.Device.{Device, HasFailed, Moment, SameMoments}
+use Rattle.guards.specs.Schema.{Declarations, field_count, guard_of, object_count}
+use Rattle.image.specs.Calls.{Call, Write, Sync, after, after_one}
 use Rattle.image.specs.Layout.{size_of}
+use Rattle.image.specs.Recovered.{Parts}
 use Rattle.image.specs.declared.error.ImageError.{ImageError}
 use Rattle.image.specs.declared.error.ImageError.TheVariants as images
+use Rattle.image.specs.declared.layout.Layout.{Layout}
+use Rattle.monitor.specs.Seats.{Home}
+use Rattle.monitor.specs.declared.view.Plan.{Plan}
+use Rattle.recover.specs.Reading.{RefusesImage}
+use Rattle.recover.specs.Recovery.{IsRecovery, IsWorn, RefusesRecovery, StudiedLaw}
+use Rattle.recover.specs.Study.{IsStudyOf}
+use Rattle.recover.specs.declared.error.RecoverError.{RecoverError}
+use Rattle.recover.specs.declared.error.RecoverError.TheVariants as recover
+use Rattle.recover.specs.declared.report.Report.{Report}
+use Rattle.recover.specs.declared.studied.Study.{Study}
+use Rattle.session.specs.declared.error.SessionError.{SessionError}
+use Rattle.session.specs.declared.error.SessionError.TheVariants as sessions
 use Rattle.store_image.specs.Formatting.{RefusesFormat, layout_with}
-use Rattle.drive.specs.Refusals.{IsLater, IsMakingRefused, RefusesLook, RefusesNew, RefusesOn, RefusesWith}
-use Rattle.drive.specs.Schemas.{HoldsWorkers, MayHaveImage, schema_of}
+use Rattle.drive.specs.Refusals.{IsMakingRefused, IsOwnStop, IsStoppedFirst, IsStoppedLater, RefusesFinding, RefusesGoingOn, RefusesLook, RefusesNew, RefusesOn, RefusesStudy, RefusesWith, blank_device}
+use Rattle.drive.specs.Schemas.{HoldsWorkers, IsOfWorkers, MayHaveImage, schema_of}
+use Rattle.drive.specs.Stops.{IsHomeOf, StopsBy, StopsRun}
+use Rattle.drive.specs.Working.{StopsWorker}
 use Rattle.drive.specs.declared.error.DriveError.{DriveError}
 use Rattle.drive.specs.declared.error.DriveError.TheVariants.{NoMemory, Schema, Image, Helper, Session, Close, Recover, OtherSchema}
+use Rattle.drive.proofs.Recovered.{recovery_alike}
+use Rattle.drive.proofs.SchemaLemmas.{fields_are, guards_are, objects_are}
+use Rattle.drive.proofs.Stopped.{failed_since}
 
 -- what holds anyway
 pub anyway : {A E P : Type 0} (r : Result A E) → P → IfOk r (λ x. P)
@@ -20,67 +39,201 @@ pub weaker : {A E : Type 0} (r : Result A E) (P Q : E → Type 0) → ((e : E) �
 weaker (Ok x) P Q step p = tt
 weaker (Err e) P Q step p = step e p
 
--- behind the image
-pub later_on : (workers : ℕ) (old new : Device) (e : DriveError) → HoldsWorkers workers old.now.bytes → IsLater e → RefusesOn workers old new e
-later_on workers old new NoMemory holds later = (later, holds)
-later_on workers old new (Schema e) holds later = elim later [ ]
-later_on workers old new (Image e) holds later = elim later [ ]
-later_on workers old new (Helper e) holds later = (later, holds)
-later_on workers old new (Session e) holds later = (later, holds)
-later_on workers old new (Close e) holds later = (later, holds)
-later_on workers old new (Recover e) holds later = inr holds
-later_on workers old new OtherSchema holds later = elim later [ ]
+pub weaker_both : {A E : Type 0} (r : Result A E) (P Q S : E → Type 0) → ((e : E) → P e → Q e → S e) → IfErr r P → IfErr r Q → IfErr r S
+weaker_both (Ok x) P Q S step p q = tt
+weaker_both (Err e) P Q S step p q = step e p q
 
-pub later_new : (workers : ℕ) (old new : Device) (e : DriveError) → MayHaveImage workers → IsLater e → RefusesNew workers old new e
-later_new workers old new NoMemory may later = (later, may)
-later_new workers old new (Schema e) may later = elim later [ ]
-later_new workers old new (Image e) may later = elim later [ ]
-later_new workers old new (Helper e) may later = (later, may)
-later_new workers old new (Session e) may later = (later, may)
-later_new workers old new (Close e) may later = (later, may)
-later_new workers old new (Recover e) may later = (later, may)
-later_new workers old new OtherSchema may later = elim later [ ]
+-- calls that succeed leave the count of failures
+pub after_failures : (calls : List Call) (d : Device) → (after calls d).failures ≡ d.failures
+after_failures [] d = refl
+after_failures (Write at bytes ∷ calls) d = after_failures calls (after_one (Write at bytes) d)
+after_failures (Sync ∷ calls) d = after_failures calls (after_one Sync d)
 
--- before it
-pub look_on : (workers : ℕ) (old new : Device) (e : DriveError) → SameMoments old new → RefusesLook workers old.now.bytes e → RefusesOn workers old new e
-look_on workers old new NoMemory same refused = elim refused [ ]
-look_on workers old new (Schema e) same refused = elim refused [ ]
-look_on workers old new (Image e) same refused = elim refused [ ]
-look_on workers old new (Helper e) same refused = elim refused [ ]
-look_on workers old new (Session e) same refused = elim refused [ ]
-look_on workers old new (Close e) same refused = elim refused [ ]
-look_on workers old new (Recover e) same refused = inl (refused, same)
-look_on workers old new OtherSchema same refused = (refused, same)
+-- a study that is refused, and a recovery of what has a study
+pub study_stops : (old new : Device) (e : RecoverError) → RefusesImage old.now.bytes e → (e ≡ recover.Fault → HasFailed old.failures new.failures) → RefusesStudy old new e
+study_stops old new recover.Fault refused cause = cause refl
+study_stops old new recover.NotFormatted refused cause = refused
+study_stops old new recover.BadHeader refused cause = refused
+study_stops old new recover.TooSmall refused cause = refused
+study_stops old new recover.NoControl refused cause = refused
+study_stops old new recover.BadControl refused cause = refused
+study_stops old new recover.Worn refused cause = refused
+study_stops old new (recover.BadRecord lane place) refused cause = refused
+study_stops old new (recover.IllegalLog lane place) refused cause = refused
+study_stops old new recover.NoMemory refused cause = refused
 
-pub making_new : (schema : Declarations) (workers : ℕ) (old new : Device) (e : DriveError) → schema ≡ schema_of workers → IsMakingRefused schema workers old new e → RefusesNew workers old new e
-making_new schema workers old new NoMemory is refused = elim refused [ ]
-making_new schema workers old new (Schema e) is refused = elim refused [ ]
-making_new schema workers old new (Image e) is refused = subst (λ (s : Declarations). RefusesFormat s workers 4000 old new e) is refused
-making_new schema workers old new (Helper e) is refused = elim refused [ ]
-making_new schema workers old new (Session e) is refused = elim refused [ ]
-making_new schema workers old new (Close e) is refused = elim refused [ ]
-making_new schema workers old new (Recover e) is refused = elim refused [ ]
-making_new schema workers old new OtherSchema is refused = elim refused [ ]
+neither : {P : Type 0} (e : RecoverError) → (e ≡ recover.Fault → ⊥) → (e ≡ recover.NoMemory → ⊥) → (e ≡ recover.Fault) ⊎ (e ≡ recover.NoMemory) → P
+neither e fault memory either = elim either [
+  | inl is ↦ absurd (fault is)
+  | inr is ↦ absurd (memory is)
+]
 
--- on a disk of the image's size
-image_with : (workers : ℕ) (old new : Device) (e : ImageError) → length old.now.bytes ≡ size_of (layout_with (schema_of workers) workers 4000)
-    → RefusesFormat (schema_of workers) workers 4000 old new e → RefusesWith workers (Image e)
-image_with workers old new images.Fault size refused = refused.0
-image_with workers old new images.NotFormatted size refused = elim refused [ ]
-image_with workers old new images.BadHeader size refused = refused.0
-image_with workers old new images.NoControl size refused = elim refused [ ]
-image_with workers old new images.BadControl size refused = elim refused [ ]
-image_with workers old new images.Worn size refused = elim refused [ ]
-image_with workers old new images.TooSmall size refused = let small = refused.1 in omega (arith, size, small)
-image_with workers old new images.NoMemory size refused = refused.0
+pub finding_stops : (old new : Device) (s : Study) (e : RecoverError) → StudiedLaw → IsStudyOf old.now.bytes s → RefusesRecovery old.now.bytes e → (e ≡ recover.Fault → HasFailed old.failures new.failures) → RefusesFinding old new e
+finding_stops old new s recover.Fault law of refused cause = cause refl
+finding_stops old new s recover.NotFormatted law of refused cause = neither recover.NotFormatted (λ is. absurd cc) (λ is. absurd cc) (law old.now.bytes s recover.NotFormatted of refused)
+finding_stops old new s recover.BadHeader law of refused cause = neither recover.BadHeader (λ is. absurd cc) (λ is. absurd cc) (law old.now.bytes s recover.BadHeader of refused)
+finding_stops old new s recover.TooSmall law of refused cause = neither recover.TooSmall (λ is. absurd cc) (λ is. absurd cc) (law old.now.bytes s recover.TooSmall of refused)
+finding_stops old new s recover.NoControl law of refused cause = neither recover.NoControl (λ is. absurd cc) (λ is. absurd cc) (law old.now.bytes s recover.NoControl of refused)
+finding_stops old new s recover.BadControl law of refused cause = neither recover.BadControl (λ is. absurd cc) (λ is. absurd cc) (law old.now.bytes s recover.BadControl of refused)
+finding_stops old new s recover.Worn law of refused cause = refused
+finding_stops old new s (recover.BadRecord lane place) law of refused cause = neither (recover.BadRecord lane place) (λ is. absurd cc) (λ is. absurd cc) (law old.now.bytes s (recover.BadRecord lane place) of refused.1)
+finding_stops old new s (recover.IllegalLog lane place) law of refused cause = neither (recover.IllegalLog lane place) (λ is. absurd cc) (λ is. absurd cc) (law old.now.bytes s (recover.IllegalLog lane place) of refused.1)
+finding_stops old new s recover.NoMemory law of refused cause = tt
 
-pub new_with : (workers : ℕ) (old new : Device) (e : DriveError) → length old.now.bytes ≡ size_of (layout_with (schema_of workers) workers 4000)
-    → RefusesNew workers old new e → RefusesWith workers e
-new_with workers old new NoMemory size refused = refused
-new_with workers old new (Schema e) size refused = refused.0
-new_with workers old new (Image e) size refused = image_with workers old new e size refused
-new_with workers old new (Helper e) size refused = refused
-new_with workers old new (Session e) size refused = refused
-new_with workers old new (Close e) size refused = refused
-new_with workers old new (Recover e) size refused = refused
-new_with workers old new OtherSchema size refused = elim refused.0 [ ]
+-- the same of a device that was only read
+finding_alike : (old seen new : Device) (e : RecoverError) → SameMoments old seen → old.failures ≤ seen.failures → RefusesFinding seen new e → RefusesFinding old new e
+finding_alike old seen new recover.Fault same later refused = failed_since old.failures seen.failures new.failures later refused
+finding_alike old seen new recover.NotFormatted same later refused = absurd refused
+finding_alike old seen new recover.BadHeader same later refused = absurd refused
+finding_alike old seen new recover.TooSmall same later refused = absurd refused
+finding_alike old seen new recover.NoControl same later refused = absurd refused
+finding_alike old seen new recover.BadControl same later refused = absurd refused
+finding_alike old seen new recover.Worn same later refused = subst (λ (m : Moment). IsWorn m.bytes) same.now refused
+finding_alike old seen new (recover.BadRecord lane place) same later refused = absurd refused
+finding_alike old seen new (recover.IllegalLog lane place) same later refused = absurd refused
+finding_alike old seen new recover.NoMemory same later refused = tt
+
+-- a session refuses workers of their own schema only as behind or worn
+session_stops : (workers : ℕ) (h : Home) (capacity lanes : ℕ) (values : List ℕ) (e : SessionError) → lanes ≡ workers → IsHomeOf (schema_of workers) values lanes h → StopsWorker h capacity e → (e ≡ sessions.Behind) ⊎ (e ≡ sessions.Worn)
+session_stops workers h capacity lanes values sessions.UnknownObject are home stops =
+    let most : h.plan.lanes ≡ lanes = ap (λ (p : Plan). p.lanes) home in
+    let count : object_count h.plan.schema ≡ suc workers = ap (λ (p : Plan). object_count p.schema) home ∙ objects_are workers in
+    let few : object_count h.plan.schema ≤ h.plan.lanes = stops in
+    absurd (omega (arith, are, most, count, few))
+session_stops workers h capacity lanes values sessions.UnknownField are home stops =
+    let most : h.plan.lanes ≡ lanes = ap (λ (p : Plan). p.lanes) home in
+    let count : field_count h.plan.schema ≡ suc workers = ap (λ (p : Plan). field_count p.schema) home ∙ fields_are workers in
+    let few : field_count h.plan.schema ≤ h.plan.lanes = stops in
+    absurd (omega (arith, are, most, count, few))
+session_stops workers h capacity lanes values sessions.NotHeld are home stops =
+    let most : h.plan.lanes ≡ lanes = ap (λ (p : Plan). p.lanes) home in
+    let low : stops.0 ≤ h.plan.lanes = stops.1 in
+    absurd (stops.2 (ap (λ (p : Plan). guard_of p.schema stops.0) home ∙ guards_are workers stops.0 (omega (arith, are, most, low))))
+session_stops workers h capacity lanes values sessions.Behind are home stops = inl refl
+session_stops workers h capacity lanes values sessions.SectionFull are home stops = absurd stops
+session_stops workers h capacity lanes values sessions.TooMany are home stops = absurd stops
+session_stops workers h capacity lanes values sessions.TooDeep are home stops = absurd stops
+session_stops workers h capacity lanes values sessions.NoFat are home stops = absurd stops
+session_stops workers h capacity lanes values sessions.Worn are home stops = inr refl
+session_stops workers h capacity lanes values (sessions.Held x) are home stops = absurd stops
+
+module _ {D : Type 0} (device : D → Device) where
+  -- a run by the words of a heap, as the heap's
+  pub run_stops : (schema : Declarations) (was : Parts D) (h : Home) (l : Layout) (old new : Device) (e : DriveError) → IsHomeOf schema was.heap was.layout.lanes h → l ≡ was.layout → old ≡ device was.disk → StopsBy h l old new e → StopsRun device schema was new e
+  run_stops schema was h l old new NoMemory home layouts devices stops = tt
+  run_stops schema was h l old new (Schema e) home layouts devices stops = absurd stops
+  run_stops schema was h l old new (Image e) home layouts devices stops = absurd stops
+  run_stops schema was h l old new (Helper e) home layouts devices stops = record { shared = h; plan = home; stops = subst (λ (d : Device). StopsBy h was.layout d new (Helper e)) devices stops }
+  run_stops schema was h l old new (Session e) home layouts devices stops = record { shared = h; plan = home; stops = subst (λ (k : Layout). StopsWorker h k.capacity e) layouts stops }
+  run_stops schema was h l old new (Close e) home layouts devices stops = record { shared = h; plan = home; stops = subst (λ (d : Device). StopsBy h was.layout d new (Close e)) devices stops }
+  run_stops schema was h l old new (Recover e) home layouts devices stops =
+      record { shared = h; plan = home; stops = subst (λ (d : Device). StopsBy h was.layout d new (Recover e)) devices (subst (λ (k : Layout). StopsBy h k old new (Recover e)) layouts stops) }
+  run_stops schema was h l old new OtherSchema home layouts devices stops = absurd stops
+
+  pub own_stops : (workers : ℕ) (was : Parts D) (new : Device) (e : DriveError) → IsOfWorkers workers was.layout was.guards → StopsRun device (schema_of workers) was new e → IsOwnStop e
+  own_stops workers was new NoMemory theirs stops = tt
+  own_stops workers was new (Schema e) theirs stops = tt
+  own_stops workers was new (Image e) theirs stops = tt
+  own_stops workers was new (Helper e) theirs stops = tt
+  own_stops workers was new (Session e) theirs stops = session_stops workers stops.shared was.layout.capacity was.layout.lanes was.heap e theirs.lanes_are stops.plan stops.stops
+  own_stops workers was new (Close e) theirs stops = tt
+  own_stops workers was new (Recover e) theirs stops = tt
+  own_stops workers was new OtherSchema theirs stops = tt
+
+  -- behind the image that was found
+  pub going_on : (workers : ℕ) (old : Device) (was : Parts D) (report : Report) (new : Device) (e : DriveError) → IsRecovery old (device was.disk) was report → IsOfWorkers workers was.layout was.guards → old.failures ≤ (device was.disk).failures
+      → StopsRun device (schema_of workers) was new e → IsOwnStop e → RefusesGoingOn device workers old new e
+  going_on workers old was report new NoMemory found theirs later stops own = tt
+  going_on workers old was report new (Schema e) found theirs later stops own = record { was = was; report = report; found = found; stopped = record { theirs = theirs; later = later; stops = stops; own = own } }
+  going_on workers old was report new (Image e) found theirs later stops own = record { was = was; report = report; found = found; stopped = record { theirs = theirs; later = later; stops = stops; own = own } }
+  going_on workers old was report new (Helper e) found theirs later stops own = record { was = was; report = report; found = found; stopped = record { theirs = theirs; later = later; stops = stops; own = own } }
+  going_on workers old was report new (Session e) found theirs later stops own = record { was = was; report = report; found = found; stopped = record { theirs = theirs; later = later; stops = stops; own = own } }
+  going_on workers old was report new (Close e) found theirs later stops own = record { was = was; report = report; found = found; stopped = record { theirs = theirs; later = later; stops = stops; own = own } }
+  going_on workers old was report new (Recover e) found theirs later stops own = inr (record { was = was; report = report; found = found; stopped = record { theirs = theirs; later = later; stops = stops; own = own } })
+  going_on workers old was report new OtherSchema found theirs later stops own = record { was = was; report = report; found = found; stopped = record { theirs = theirs; later = later; stops = stops; own = own } }
+
+  -- the same of a device that was only read
+  later_alike : (workers : ℕ) (old seen new : Device) (e : DriveError) → SameMoments old seen → old.failures ≤ seen.failures → IsStoppedLater device workers seen new e → IsStoppedLater device workers old new e
+  later_alike workers old seen new e same low stopped =
+      let before = stopped.stopped.later in
+      record {
+        was = stopped.was;
+        report = stopped.report;
+        found = recovery_alike old seen (device stopped.was.disk) stopped.was stopped.report same stopped.found;
+        stopped = record { theirs = stopped.stopped.theirs; later = omega (arith, low, before); stops = stopped.stopped.stops; own = stopped.stopped.own };
+      }
+
+  pub going_as_on : (workers : ℕ) (old seen new : Device) (e : DriveError) → HoldsWorkers workers old.now.bytes → SameMoments old seen → old.failures ≤ seen.failures → RefusesGoingOn device workers seen new e → RefusesOn device workers old new e
+  going_as_on workers old seen new NoMemory holds same low refused = (holds, tt)
+  going_as_on workers old seen new (Schema e) holds same low refused = elim refused.stopped.stops.stops [ ]
+  going_as_on workers old seen new (Image e) holds same low refused = elim refused.stopped.stops.stops [ ]
+  going_as_on workers old seen new (Helper e) holds same low refused = (holds, later_alike workers old seen new (Helper e) same low refused)
+  going_as_on workers old seen new (Session e) holds same low refused = (holds, later_alike workers old seen new (Session e) same low refused)
+  going_as_on workers old seen new (Close e) holds same low refused = (holds, later_alike workers old seen new (Close e) same low refused)
+  going_as_on workers old seen new (Recover e) holds same low refused = inr (
+    holds,
+    elim refused [
+      | inl first ↦ inl (finding_alike old seen new e same low first)
+      | inr later ↦ inr (later_alike workers old seen new (Recover e) same low later)
+    ],
+  )
+  going_as_on workers old seen new OtherSchema holds same low refused = elim refused.stopped.stops.stops [ ]
+
+  -- before it
+  pub look_on : (workers : ℕ) (old new : Device) (e : DriveError) → SameMoments old new → RefusesLook workers old new e → RefusesOn device workers old new e
+  look_on workers old new NoMemory same refused = elim refused [ ]
+  look_on workers old new (Schema e) same refused = elim refused [ ]
+  look_on workers old new (Image e) same refused = elim refused [ ]
+  look_on workers old new (Helper e) same refused = elim refused [ ]
+  look_on workers old new (Session e) same refused = elim refused [ ]
+  look_on workers old new (Close e) same refused = elim refused [ ]
+  look_on workers old new (Recover e) same refused = inl (refused, same)
+  look_on workers old new OtherSchema same refused = (refused, same)
+
+  pub making_new : (schema : Declarations) (workers : ℕ) (old new : Device) (e : DriveError) → schema ≡ schema_of workers → IsMakingRefused schema workers old new e → RefusesNew device workers old new e
+  making_new schema workers old new NoMemory is refused = elim refused [ ]
+  making_new schema workers old new (Schema e) is refused = elim refused [ ]
+  making_new schema workers old new (Image e) is refused = subst (λ (s : Declarations). RefusesFormat s workers 4000 old new e) is refused
+  making_new schema workers old new (Helper e) is refused = elim refused [ ]
+  making_new schema workers old new (Session e) is refused = elim refused [ ]
+  making_new schema workers old new (Close e) is refused = elim refused [ ]
+  making_new schema workers old new (Recover e) is refused = elim refused [ ]
+  making_new schema workers old new OtherSchema is refused = elim refused [ ]
+
+  -- behind the image that was made
+  pub made_new : (workers : ℕ) (old : Device) (was : Parts D) (new : Device) (e : DriveError) → MayHaveImage workers → ((f : ℕ) → f < field_count (schema_of workers) → slice_index was.heap f ≡ 0) → IsOfWorkers workers was.layout was.guards → old.failures ≤ (device was.disk).failures
+      → StopsRun device (schema_of workers) was new e → IsOwnStop e → RefusesNew device workers old new e
+  made_new workers old was new NoMemory may first theirs later stops own = may
+  made_new workers old was new (Schema e) may first theirs later stops own = elim stops.stops [ ]
+  made_new workers old was new (Image e) may first theirs later stops own = elim stops.stops [ ]
+  made_new workers old was new (Helper e) may first theirs later stops own = (may, record { was = was; first = first; stopped = record { theirs = theirs; later = later; stops = stops; own = own } })
+  made_new workers old was new (Session e) may first theirs later stops own = (may, record { was = was; first = first; stopped = record { theirs = theirs; later = later; stops = stops; own = own } })
+  made_new workers old was new (Close e) may first theirs later stops own = (may, record { was = was; first = first; stopped = record { theirs = theirs; later = later; stops = stops; own = own } })
+  made_new workers old was new (Recover e) may first theirs later stops own = (may, record { was = was; first = first; stopped = record { theirs = theirs; later = later; stops = stops; own = own } })
+  made_new workers old was new OtherSchema may first theirs later stops own = elim stops.stops [ ]
+
+  -- on a new device of the image's size
+  image_with : (workers : ℕ) (old new : Device) (e : ImageError) → length old.now.bytes ≡ size_of (layout_with (schema_of workers) workers 4000)
+      → RefusesFormat (schema_of workers) workers 4000 old new e → RefusesWith device workers (Image e)
+  image_with workers old new images.Fault size refused = refused.0
+  image_with workers old new images.NotFormatted size refused = elim refused [ ]
+  image_with workers old new images.BadHeader size refused = refused.0
+  image_with workers old new images.NoControl size refused = elim refused [ ]
+  image_with workers old new images.BadControl size refused = elim refused [ ]
+  image_with workers old new images.Worn size refused = elim refused [ ]
+  image_with workers old new images.TooSmall size refused = let small = refused.1 in omega (arith, size, small)
+  image_with workers old new images.NoMemory size refused = refused.0
+
+  first_with : (workers : ℕ) (old new : Device) (e : DriveError) → old ≡ blank_device workers → IsStoppedFirst device workers old new e → (d : Device) × IsStoppedFirst device workers (blank_device workers) d e
+  first_with workers old new e blank stopped = (new, subst (λ (d : Device). IsStoppedFirst device workers d new e) blank stopped)
+
+  pub new_with : (workers : ℕ) (old new : Device) (e : DriveError) → old ≡ blank_device workers → length old.now.bytes ≡ size_of (layout_with (schema_of workers) workers 4000)
+      → RefusesNew device workers old new e → RefusesWith device workers e
+  new_with workers old new NoMemory blank size refused = refused
+  new_with workers old new (Schema e) blank size refused = refused.0
+  new_with workers old new (Image e) blank size refused = image_with workers old new e size refused
+  new_with workers old new (Helper e) blank size refused = let stopped = first_with workers old new (Helper e) blank refused.1 in (refused.0, stopped.0, stopped.1)
+  new_with workers old new (Session e) blank size refused = let stopped = first_with workers old new (Session e) blank refused.1 in (refused.0, stopped.0, stopped.1)
+  new_with workers old new (Close e) blank size refused = let stopped = first_with workers old new (Close e) blank refused.1 in (refused.0, stopped.0, stopped.1)
+  new_with workers old new (Recover e) blank size refused = let stopped = first_with workers old new (Recover e) blank refused.1 in (refused.0, stopped.0, stopped.1)
+  new_with workers old new OtherSchema blank size refused = let stopped = first_with workers old new OtherSchema blank refused.1 in (refused.0, stopped.0, stopped.1)

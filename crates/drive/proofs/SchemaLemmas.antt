@@ -1,9 +1,9 @@
 -- The names of workers' objects and fields are all different.
-use Rattle.std.proofs.Common.{ℕ, zero, suc, ◌≡◌, ◌<◌, ◌⊎◌, List, [], ◌∷◌, ◌++◌, get_or, slice_index, Contains, Result, Ok, Err, OnOk, codes, decimal, inl, inr, refl, sym, ap, ◌∙◌, subst, length-append, arith}
+use Rattle.std.proofs.Common.{ℕ, zero, suc, ◌≡◌, ◌+◌, ◌<◌, ◌⊎◌, List, [], ◌∷◌, ◌++◌, get_or, length, slice_index, Contains, Result, Ok, Err, OnOk, codes, decimal, inl, inr, refl, ap, ◌∙◌, subst, length-append, arith}
 use Rattle.std.proofs.lemmas.List.{append_cancel_left, map-append}
 use Rattle.std.proofs.lemmas.List.Elements.{Contains-push_cases}
 use Rattle.std.proofs.lemmas.Fmt.{decimal_injective}
-use Rattle.guards.specs.Schema.{Declarations, Field, IsNewName, field_count, first_of, firsts_of, names_of, object_count, with_field, with_object}
+use Rattle.guards.specs.Schema.{Declarations, Field, IsNewName, field_count, first_of, firsts_of, guard_of, guards_of, names_of, object_count, with_field, with_object}
 use Rattle.drive.specs.Schemas.{count_field, own_field, own_object, schema_of}
 
 pub objects_are : (n : ℕ) → object_count (schema_of n) ≡ suc n
@@ -113,3 +113,19 @@ pub first_is_zero : (n f : ℕ) → first_of (schema_of n) f ≡ 0
 first_is_zero zero zero = refl
 first_is_zero zero (suc f) = refl
 first_is_zero (suc n) f = zero_behind (schema_of n).fields (count_field (own_field n) (suc n)) refl (first_is_zero n) f
+
+-- each field is guarded by the object of its number
+numbered_behind : (a : ℕ) (fields : List Field) (more : Field) → more.guard ≡ a + length fields → ((f : ℕ) → f < length fields → slice_index (guards_of fields) f ≡ a + f)
+    → (f : ℕ) → f < length fields + 1 → slice_index (guards_of (fields ++ more ∷ [])) f ≡ a + f
+numbered_behind a [] more last before zero low = last
+numbered_behind a [] more last before (suc f) low = absurd (omega (arith, low))
+numbered_behind a (x ∷ fields) more last before zero low = before zero (omega arith)
+numbered_behind a (x ∷ fields) more last before (suc f) low =
+    numbered_behind (suc a) fields more (last ∙ omega arith) (λ i under. before (suc i) (omega (arith, under)) ∙ omega arith) f (omega (arith, low)) ∙ omega arith
+
+pub guards_are : (n f : ℕ) → f < suc n → guard_of (schema_of n) f ≡ f
+guards_are zero zero low = refl
+guards_are zero (suc f) low = absurd (omega (arith, low))
+guards_are (suc n) f low =
+    let count : length (schema_of n).fields ≡ suc n = fields_are n in
+    numbered_behind 0 (schema_of n).fields (count_field (own_field n) (suc n)) (omega (arith, count)) (λ i under. guards_are n i (omega (arith, under, count)) ∙ omega arith) f (omega (arith, low, count)) ∙ omega arith

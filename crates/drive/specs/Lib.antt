@@ -1,9 +1,11 @@
 -- The promise: what workers leave of a heap.
 pub mod Driven
--- Their schema and image, and which refusal comes when.
+-- Their schema and image, why a run is stopped, and which refusal comes when.
 pub mod Schemas
+pub mod Stops
 pub mod Refusals
 -- What workers and helper keep.
+pub mod Working
 pub mod Workers
 pub mod Serving
 pub mod Racing

@@ -1,28 +1,22 @@
 -- Which refusal of workers comes when.
-use Rattle.std.specs.Prelude.{ℕ, ◌≡◌, ◌⊎◌, List}
-use Rattle.block_disk.specs.Device.{Device, SameMoments}
-use Rattle.guards.specs.Schema.{Declarations}
-use Rattle.guards.specs.declared.error.SchemaError.{SchemaError}
+use Rattle.std.specs.Prelude.{ℕ, ◌≡◌, ◌⊎◌, ◌<◌, ◌≤◌, [], replicate, slice_index}
+use Rattle.block_disk.specs.Device.{Device, HasFailed, SameMoments}
+use Rattle.guards.specs.Schema.{Declarations, field_count}
 use Rattle.guards.specs.declared.error.SchemaError.TheVariants as schemas
-use Rattle.image.specs.declared.error.ImageError.{ImageError}
+use Rattle.image.specs.Layout.{size_of}
+use Rattle.image.specs.Recovered.{Parts}
 use Rattle.image.specs.declared.error.ImageError.TheVariants as images
 use Rattle.recover.specs.Reading.{RefusesImage}
-use Rattle.store_image.specs.Formatting.{RefusesFormat}
-use Rattle.trim_helper.specs.Settled.{IsStop}
-use Rattle.drive.specs.Schemas.{HoldsOthers, HoldsWorkers, MayHaveImage, schema_of}
+use Rattle.recover.specs.Recovery.{IsRecovery, IsWorn}
+use Rattle.recover.specs.declared.error.RecoverError.{RecoverError}
+use Rattle.recover.specs.declared.error.RecoverError.TheVariants as recover
+use Rattle.recover.specs.declared.report.Report.{Report}
+use Rattle.session.specs.declared.error.SessionError.TheVariants as sessions
+use Rattle.store_image.specs.Formatting.{RefusesFormat, layout_with}
+use Rattle.drive.specs.Schemas.{HoldsOthers, HoldsWorkers, IsOfWorkers, MayHaveImage, schema_of}
+use Rattle.drive.specs.Stops.{StopsRun}
 use Rattle.drive.specs.declared.error.DriveError.{DriveError}
-use Rattle.drive.specs.declared.error.DriveError.TheVariants.{NoMemory, Schema, Image, Helper, Session, Close, Recover, OtherSchema}
-
--- a refusal of workers that have an image of theirs: a round of the helper is refused by `Failed`, `Worn` or `Fault`
-abbrev pub IsLater : DriveError → Type 0
-IsLater NoMemory = Unit {0}
-IsLater (Schema e) = ⊥
-IsLater (Image e) = ⊥
-IsLater (Helper e) = IsStop e
-IsLater (Session e) = Unit {0}
-IsLater (Close e) = Unit {0}
-IsLater (Recover e) = Unit {0}
-IsLater OtherSchema = ⊥
+use Rattle.drive.specs.declared.error.DriveError.TheVariants.{NoMemory, Schema, Image, Session, Recover, OtherSchema}
 
 -- the size of so many workers' image isn't told
 abbrev pub RefusesSize : (workers : ℕ) → DriveError → Type 0
@@ -35,30 +29,80 @@ abbrev pub IsMakingRefused : (schema : Declarations) (lanes : ℕ) (old new : De
 IsMakingRefused schema lanes old new (Image e) = RefusesFormat schema lanes 4000 old new e
 IsMakingRefused schema lanes old new _ = ⊥
 
--- so many workers don't work on an image that is to be made of a device
-abbrev pub RefusesNew : (workers : ℕ) (old new : Device) → DriveError → Type 0
-RefusesNew workers old new (Schema e) = (e ≡ schemas.NoMemory) × (new ≡ old)
-RefusesNew workers old new (Image e) = RefusesFormat (schema_of workers) workers 4000 old new e
-RefusesNew workers old new e = IsLater e × MayHaveImage workers
+-- the image on a device isn't studied
+abbrev pub RefusesStudy : (old new : Device) → RecoverError → Type 0
+RefusesStudy old new recover.Fault = HasFailed old.failures new.failures
+RefusesStudy old new e = RefusesImage old.now.bytes e
 
 -- an image isn't one on which so many workers go on: it is only read
-abbrev pub RefusesLook : (workers : ℕ) (image : List ℕ) → DriveError → Type 0
-RefusesLook workers image (Recover e) = RefusesImage image e
-RefusesLook workers image OtherSchema = HoldsOthers workers image
-RefusesLook workers image _ = ⊥
+abbrev pub RefusesLook : (workers : ℕ) (old new : Device) → DriveError → Type 0
+RefusesLook workers old new (Recover e) = RefusesStudy old new e
+RefusesLook workers old new OtherSchema = HoldsOthers workers old.now.bytes
+RefusesLook workers old new _ = ⊥
 
--- so many workers don't go on with the image on a device
-abbrev pub RefusesOn : (workers : ℕ) (old new : Device) → DriveError → Type 0
-RefusesOn workers old new (Schema e) = (e ≡ schemas.NoMemory) × (new ≡ old)
-RefusesOn workers old new OtherSchema = HoldsOthers workers old.now.bytes × SameMoments old new
-RefusesOn workers old new (Recover e) = (RefusesImage old.now.bytes e × SameMoments old new) ⊎ HoldsWorkers workers old.now.bytes
-RefusesOn workers old new e = IsLater e × HoldsWorkers workers old.now.bytes
+-- an image that was studied isn't recovered
+abbrev pub RefusesFinding : (old new : Device) → RecoverError → Type 0
+RefusesFinding old new recover.Fault = HasFailed old.failures new.failures
+RefusesFinding old new recover.Worn = IsWorn old.now.bytes
+RefusesFinding old new recover.NoMemory = Unit {0}
+RefusesFinding old new _ = ⊥
 
--- so many workers don't work on a disk in memory
-abbrev pub RefusesWith : (workers : ℕ) → DriveError → Type 0
-RefusesWith workers (Schema e) = e ≡ schemas.NoMemory
-RefusesWith workers (Image images.BadHeader) = MayHaveImage workers → ⊥
-RefusesWith workers (Image images.NoMemory) = MayHaveImage workers
-RefusesWith workers (Image images.Fault) = MayHaveImage workers
-RefusesWith workers (Image _) = ⊥
-RefusesWith workers e = IsLater e × MayHaveImage workers
+-- Where objects and fields are the workers' own, a session refuses only since the helper is behind, or since numbers have come to their end.
+abbrev pub IsOwnStop : DriveError → Type 0
+IsOwnStop (Session e) = (e ≡ sessions.Behind) ⊎ (e ≡ sessions.Worn)
+IsOwnStop _ = Unit {0}
+
+-- zero bytes, of the size of so many workers' image, of which nothing was asked yet
+abbrev pub blank_device : (workers : ℕ) → Device
+blank_device workers = record { now = record { bytes = replicate (size_of (layout_with (schema_of workers) workers 4000)) 0; pending = [] }; past = []; failures = 0 }
+
+module _ {D : Type 0} (device : D → Device) where
+  -- A run of so many workers was stopped, on an image of theirs in this state. Until it began the device had failed no less often than at first.
+  pub record IsStoppedOf (workers : ℕ) (old : Device) (was : Parts D) (new : Device) (e : DriveError) : Type 0 where
+    pub theirs : IsOfWorkers workers was.layout was.guards
+    pub later : old.failures ≤ (device was.disk).failures
+    pub stops : StopsRun device (schema_of workers) was new e
+    pub own : IsOwnStop e
+
+  -- it had begun with each value 0
+  pub record IsStoppedFirst (workers : ℕ) (old new : Device) (e : DriveError) : Type 0 where
+    pub was : Parts D
+    pub first : (f : ℕ) → f < field_count (schema_of workers) → slice_index was.heap f ≡ 0
+    pub stopped : IsStoppedOf workers old was new e
+
+  -- it had begun from what recovery found on the device
+  pub record IsStoppedLater (workers : ℕ) (old new : Device) (e : DriveError) : Type 0 where
+    pub was : Parts D
+    pub report : Report
+    pub found : IsRecovery old (device was.disk) was report
+    pub stopped : IsStoppedOf workers old was new e
+
+  -- an image of so many workers isn't recovered, or their run on it was stopped
+  abbrev pub RefusesGoingOn : (workers : ℕ) (old new : Device) → DriveError → Type 0
+  RefusesGoingOn workers old new NoMemory = Unit {0}
+  RefusesGoingOn workers old new (Recover e) = RefusesFinding old new e ⊎ IsStoppedLater workers old new (Recover e)
+  RefusesGoingOn workers old new e = IsStoppedLater workers old new e
+
+  -- so many workers don't work on an image that is to be made of a device
+  abbrev pub RefusesNew : (workers : ℕ) (old new : Device) → DriveError → Type 0
+  RefusesNew workers old new NoMemory = MayHaveImage workers
+  RefusesNew workers old new (Schema e) = (e ≡ schemas.NoMemory) × (new ≡ old)
+  RefusesNew workers old new (Image e) = RefusesFormat (schema_of workers) workers 4000 old new e
+  RefusesNew workers old new e = MayHaveImage workers × IsStoppedFirst workers old new e
+
+  -- so many workers don't go on with the image on a device
+  abbrev pub RefusesOn : (workers : ℕ) (old new : Device) → DriveError → Type 0
+  RefusesOn workers old new (Schema e) = (e ≡ schemas.NoMemory) × (new ≡ old)
+  RefusesOn workers old new OtherSchema = HoldsOthers workers old.now.bytes × SameMoments old new
+  RefusesOn workers old new (Recover e) = (RefusesStudy old new e × SameMoments old new) ⊎ (HoldsWorkers workers old.now.bytes × RefusesGoingOn workers old new (Recover e))
+  RefusesOn workers old new e = HoldsWorkers workers old.now.bytes × RefusesGoingOn workers old new e
+
+  -- so many workers don't work on a new device of the size of their image
+  abbrev pub RefusesWith : (workers : ℕ) → DriveError → Type 0
+  RefusesWith workers NoMemory = MayHaveImage workers
+  RefusesWith workers (Schema e) = e ≡ schemas.NoMemory
+  RefusesWith workers (Image images.BadHeader) = MayHaveImage workers → ⊥
+  RefusesWith workers (Image images.NoMemory) = MayHaveImage workers
+  RefusesWith workers (Image images.Fault) = MayHaveImage workers
+  RefusesWith workers (Image _) = ⊥
+  RefusesWith workers e = MayHaveImage workers × (new : Device) × IsStoppedFirst workers (blank_device workers) new e

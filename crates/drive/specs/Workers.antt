@@ -1,27 +1,55 @@
 -- What is known of workers as they begin and as they end.
-use Rattle.std.specs.Prelude.{ℕ, ◌≡◌, List, length, All, Vec, Result, IfOk}
+use Rattle.std.specs.Prelude.{ℕ, ◌≡◌, ◌<◌, List, [], map, All, Vec, Result, IfOk, IfSome}
 use Rattle.std.specs.declared.alloc.Global.{Global}
 use Rattle.std.specs.declared.alloc.AllocError.{AllocError}
 use Rattle.monitor.specs.Seats.{Home}
-use Rattle.session.specs.Sessions.{IsSessionOf}
+use Rattle.session.specs.Sessions.{IsSessionOf, view_of}
+use Rattle.session.specs.declared.session.Session.{Session}
 use Rattle.running_heap.specs.Joined.{IsJoined}
 use Rattle.trim_helper.specs.Endings.{IsEnded, Rings}
+use Rattle.trim_helper.specs.declared.ended.Ended.{Ended}
+use Rattle.drive.specs.Working.{HoldsJust, StopsWorker}
 use Rattle.drive.specs.declared.workers.Worker.{Worker}
 use Rattle.drive.specs.declared.workers.Worked.{Worked}
 
--- each worker's session is of this heap
-abbrev pub AreOf : Home → List Worker → Type 0
-AreOf h workers = All (λ w. IsSessionOf h w.session) workers
+-- the worker's session is of this heap and holds nothing, and its number is that of a lane
+pub record IsReady (h : Home) (w : Worker) : Type 0 where
+  pub of : IsSessionOf h w.session
+  pub free : HoldsJust (view_of w.session) [] 0
+  pub low : w.number < h.plan.lanes
+
+-- each is
+abbrev pub AreReady : Home → List Worker → Type 0
+AreReady h workers = All (IsReady h) workers
 
 -- and is joined to the helper of these rings
 abbrev pub AreJoined : (h : Home) (capacity : ℕ) (rings : Rings) → List Worker → Type 0
 AreJoined h capacity rings workers = All (λ w. IsJoined h capacity rings w.session) workers
 
--- what each worker left is ready to meet it
-abbrev pub AreWorked : (h : Home) (capacity : ℕ) (rings : Rings) → List Worked → Type 0
-AreWorked h capacity rings worked = All (λ w. IsEnded h capacity rings w.ended) worked
+-- What a worker left is ready to meet the helper and holds no monitor; where it has ended early, its session has refused a call.
+pub record IsWorked (h : Home) (capacity : ℕ) (rings : Rings) (w : Worked) : Type 0 where
+  pub ended : IsEnded h capacity rings w.ended
+  pub free : w.ended.held ≡ 0
+  pub refused : IfSome w.refusal (StopsWorker h capacity)
 
--- What these workers answer: memory was wanting, or each has left what is ready to meet the helper that it was joined to.
+-- each did
+abbrev pub AreWorked : (h : Home) (capacity : ℕ) (rings : Rings) → List Worked → Type 0
+AreWorked h capacity rings worked = All (IsWorked h capacity rings) worked
+
+-- the lanes of these sessions, in order; of these workers; and of what they leave
+abbrev pub lanes_opened : List Session → List ℕ
+lanes_opened sessions = map (λ s. (view_of s).lane.0) sessions
+
+abbrev pub lanes_begun : List Worker → List ℕ
+lanes_begun workers = map (λ w. (view_of w.session).lane.0) workers
+
+abbrev pub lanes_worked : List Worked → List ℕ
+lanes_worked worked = map (λ w. w.ended.lane.0) worked
+
+abbrev pub lanes_ended : List Ended → List ℕ
+lanes_ended ended = map (λ e. e.lane.0) ended
+
+-- What these workers answer: memory was wanting, or each has left what is ready to meet the helper that it was joined to, by its lane.
 pub record HaveWorked (h : Home) (workers : List Worker) (answer : Result (Vec Worked Global) AllocError) : Type 0 where
-  pub all : IfOk answer (λ w. length w.items ≡ length workers)
   pub each : (capacity : ℕ) (rings : Rings) → AreJoined h capacity rings workers → IfOk answer (λ w. AreWorked h capacity rings w.items)
+  pub lanes : (capacity : ℕ) (rings : Rings) → AreJoined h capacity rings workers → IfOk answer (λ w. lanes_worked w.items ≡ lanes_begun workers)

@@ -1,10 +1,11 @@
 //! Workers on a device: one in memory, one on which an image is made, and one that has an image of theirs.
-ghost use Rattle.std.specs.Prelude.{ℕ, ◌≡◌, ◌<◌, ◌↔◌, IfErr, IfOk, IsTrue, OnOk, length, slice_index};
+ghost use Rattle.std.specs.Prelude.{ℕ, ◌≡◌, ◌<◌, ◌≤◌, ◌↔◌, IfErr, IfOk, IsTrue, OnOk, length, slice_index};
 ghost use Rattle.block_disk.specs.Device.{SameMoments};
 ghost use Rattle.block_disk.specs.Memory.{device_of};
 ghost use Rattle.drive.specs.Driven.{HasDriven, HasDrivenOn, IsDriven};
-ghost use Rattle.drive.specs.Refusals.{IsLater, IsMakingRefused, RefusesLook, RefusesNew, RefusesOn, RefusesSize, RefusesWith};
+ghost use Rattle.drive.specs.Refusals.{IsMakingRefused, IsOwnStop, RefusesFinding, RefusesGoingOn, RefusesLook, RefusesNew, RefusesOn, RefusesSize, RefusesWith};
 ghost use Rattle.drive.specs.Schemas.{HoldsWorkers, IsOfWorkers, MayHaveImage, schema_of};
+ghost use Rattle.drive.specs.Stops.{StopsRun};
 ghost use Rattle.guards.specs.Schema.{field_count, first_of};
 ghost use Rattle.image.specs.Layout.{size_of};
 ghost use Rattle.recover.specs.Recovery.{IsRecovery};
@@ -22,7 +23,7 @@ use block_disk::{Disk, MemDisk};
 use durable::Store;
 use guards::Schema;
 use image::{ImageError, Layout, Recovered};
-use recover::{RecoverError, Study, one_study_law, recover, study};
+use recover::{RecoverError, Study, one_study_law, recover, studied_law, study};
 use std::alloc::Global;
 use std::sync::Wait;
 use std::thread::Threads;
@@ -43,7 +44,7 @@ pub fn drive_with<M: Meet + Sync, R: Threads + Wait + Sync>(
 ) -> Result<Driven, DriveError>
     ensures ok { IfOk result (HasDriven device_of workers) }
     ensures workers { IfOk result (λ d. MayHaveImage workers) }
-    ensures refused { IfErr result (RefusesWith workers) }
+    ensures refused { IfErr result (RefusesWith device_of workers) }
 {
     let size = image_size(alloc, workers)?;
     let Ok(disk) = MemDisk::new(alloc, size) else {
@@ -103,7 +104,7 @@ pub fn drive_new<D: Disk + Drop, M: Meet + Sync, R: Threads + Wait + Sync>(
 ) -> Result<(Recovered<D>, Driven), (D, DriveError)>
     ensures ok { IfOk result (λ r. HasDriven D.device workers r.1) }
     ensures workers { IfOk result (λ r. MayHaveImage workers) }
-    ensures refused { IfErr result (λ back. RefusesNew workers (D.device disk) (D.device back.0) back.1) }
+    ensures refused { IfErr result (λ back. RefusesNew D.device workers (D.device disk) (D.device back.0) back.1) }
 {
     let schema = match declare(alloc, workers) {
         Ok(schema) => schema,
@@ -126,6 +127,7 @@ fn make<D: Disk>(
     ensures lanes { IfOk result (λ made. made.layout.lanes ≡ workers) }
     ensures first { IfOk result (λ made. (f : ℕ) → f < field_count schema.now → slice_index made.heap f ≡ first_of schema.now f) }
     ensures workers { IfOk result (λ made. MayHaveImage workers) }
+    ensures failures { IfOk result (λ made. (D.device disk).failures ≤ (D.device made.disk).failures) }
     ensures refused { IfErr result (λ back. IsMakingRefused schema.now workers (D.device disk) (D.device back.0) back.1) }
 {
     match Store::format(alloc, disk, schema, workers, CAPACITY) {
@@ -153,7 +155,7 @@ pub fn drive_on<D: Disk + Drop, M: Meet + Sync, R: Threads + Wait + Sync>(
 ) -> Result<(Recovered<D>, Driven), (D, DriveError)>
     ensures ok { IfOk result (λ r. HasDrivenOn D.device workers (D.device disk) r.1) }
     ensures theirs { IfOk result (λ r. HoldsWorkers workers (D.device disk).now.bytes) }
-    ensures refused { IfErr result (λ back. RefusesOn workers (D.device disk) (D.device back.0) back.1) }
+    ensures refused { IfErr result (λ back. RefusesOn D.device workers (D.device disk) (D.device back.0) back.1) }
 {
     let schema = match declare(alloc, workers) {
         Ok(schema) => schema,
@@ -175,8 +177,9 @@ fn look<D: Disk>(
 ) -> Result<(), DriveError>
     requires { schema.now ≡ schema_of workers }
     ensures ok { OnOk result (HoldsWorkers workers (D.device disk.old).now.bytes) }
-    ensures refused { IfErr result (RefusesLook workers (D.device disk.old).now.bytes) }
+    ensures refused { IfErr result (RefusesLook workers (D.device disk.old) (D.device disk.new)) }
     ensures same { SameMoments (D.device disk.old) (D.device disk.new) }
+    ensures failures { (D.device disk.old).failures ≤ (D.device disk.new).failures }
 {
     let study = match study(alloc, disk) {
         Ok(study) => study,
@@ -210,7 +213,7 @@ fn go_on<D: Disk + Drop, M: Meet + Sync, R: Threads + Wait + Sync>(
     requires schema { schema ≡ schema_of workers }
     requires theirs { HoldsWorkers workers (D.device disk).now.bytes }
     ensures ok { IfOk result (λ r. HasDrivenOn D.device workers (D.device disk) r.1) }
-    ensures refused { IfErr result (λ back. IsLater back.1) }
+    ensures refused { IfErr result (λ back. RefusesGoingOn D.device workers (D.device disk) (D.device back.0) back.1) }
 {
     match find(alloc, disk, workers) {
         Ok(found) => drive_made(rt, alloc, meet, schema, found, workers, rounds),
@@ -223,8 +226,11 @@ fn find<D: Disk>(alloc: Global, disk: D, workers: u8) -> Result<Recovered<D>, (D
     requires { HoldsWorkers workers (D.device disk).now.bytes }
     ensures theirs { IfOk result (λ found. IsOfWorkers workers found.layout found.guards) }
     ensures found { IfOk result (λ found. (report : Report) × IsRecovery (D.device disk) (D.device found.disk) found report) }
+    ensures failures { IfOk result (λ found. (D.device disk).failures ≤ (D.device found.disk).failures) }
+    ensures refused { IfErr result (λ back. RefusesFinding (D.device disk) (D.device back.0) back.1) }
 {
     one_study_law();
+    studied_law();
     let _workers = workers;
     match recover(alloc, disk) {
         Ok((found, _report)) => Ok(found),
@@ -245,7 +251,8 @@ fn drive_made<D: Disk + Drop, M: Meet + Sync, R: Threads + Wait + Sync>(
     requires schema { schema ≡ schema_of workers }
     requires theirs { IsOfWorkers workers made.layout made.guards }
     ensures ok { IfOk result (λ r. IsDriven D.device (schema_of workers) made r.0 r.1) }
-    ensures refused { IfErr result (λ back. IsLater back.1) }
+    ensures cause { IfErr result (λ back. StopsRun D.device (schema_of workers) made (D.device back.0) back.1) }
+    ensures own { IfErr result (λ back. IsOwnStop back.1) }
 {
     let _workers = workers;
     drive_heap(rt, alloc, meet, schema, made, rounds)

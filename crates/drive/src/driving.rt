@@ -1,10 +1,11 @@
 //! Workers on a heap, from its opening to its end.
-ghost use Rattle.std.specs.Prelude.{◌≡◌, All, IfErr, IfOk, take};
+ghost use Rattle.std.specs.Prelude.{◌≡◌, All, IfErr, IfOk, false, length, reverse, take};
+ghost use Rattle.std.specs.List.{range_with_len};
 ghost use Rattle.drive.specs.Driven.{IsDriven, IsRunBy, IsTold};
-ghost use Rattle.drive.specs.Refusals.{IsLater};
-ghost use Rattle.drive.specs.Workers.{AreWorked};
-ghost use Rattle.running_heap.specs.Joined.{IsHelping, IsJoined};
-ghost use Rattle.trim_helper.specs.Endings.{IsEnded};
+ghost use Rattle.drive.specs.Stops.{StopsBy, StopsRun, StopsTelling};
+ghost use Rattle.drive.specs.Workers.{AreWorked, lanes_worked};
+ghost use Rattle.running_heap.specs.Joined.{AreNew, IsHelping, IsJoined};
+ghost use Rattle.trim_helper.specs.Endings.{HoldNone, IsComplete, IsEnded};
 ghost use Rattle.trim_helper.specs.Opening.{FitsSchema};
 
 use crate::driven::Driven;
@@ -30,11 +31,13 @@ use trim_helper::{Ended, Helper};
 ///
 /// Refusals, in this order, each with the device as a stop leaves it; it may be recovered:
 /// - `NoMemory`: there was no room for what the threads share, or no thread could be made. No worker has worked then;
-/// - `Helper`: a round of the helper was refused, by `Failed`, `Worn` or `Fault`;
+/// - `Helper`: a round of the helper was refused, by `Worn`, with the control's sequence at its last value, or by `Fault`, after a
+///   failure of the device. Never by `Failed`: the first fault ends the rounds;
 /// - `NoMemory`: there was no room for what the workers leave;
-/// - `Session`: a worker's call was refused;
-/// - `Close`: the heap wasn't closed;
-/// - `Recover`: the device wasn't recovered;
+/// - `Session`: a worker's call was refused. Where each worker has its object and its field, as in a schema of [`declare`](crate::declare), that is by
+///   `Behind`, after the helper has stopped, or by `Worn`;
+/// - `Close`: the heap wasn't closed, by `Worn` or by `Fault`. No session is missing, and none holds a monitor;
+/// - `Recover`: the device wasn't recovered, as [`recover`] refuses it;
 /// - `NoMemory`: there was no room for what is told. The device is recovered.
 pub fn drive_heap<D: Disk + Drop, M: Meet + Sync, R: Threads + Wait + Sync>(
     rt: &R,
@@ -46,7 +49,7 @@ pub fn drive_heap<D: Disk + Drop, M: Meet + Sync, R: Threads + Wait + Sync>(
 ) -> Result<(Recovered<D>, Driven), (D, DriveError)>
     requires schema { FitsSchema schema recovered.layout recovered.guards }
     ensures ok { IfOk result (λ r. IsDriven D.device schema recovered r.0 r.1) }
-    ensures refused { IfErr result (λ back. IsLater back.1) }
+    ensures cause { IfErr result (λ back. StopsRun D.device schema recovered (D.device back.0) back.1) }
 {
     match open(alloc, schema, recovered, LAST_NUMBER) {
         Ok(heap) => run(rt, alloc, meet, heap, rounds),
@@ -63,9 +66,12 @@ fn run<D: Disk + Drop, M: Meet + Sync, R: Threads + Wait + Sync>(
     rounds: u32,
 ) -> Result<(Recovered<D>, Driven), (D, DriveError)>
     requires joined { All (IsJoined heap.shared heap.helper.store.known.layout.capacity heap.helper.rings) heap.sessions.items }
+    requires new { AreNew 0 heap.sessions.items }
+    requires count { length heap.sessions.items ≡ heap.helper.store.known.layout.lanes }
     requires helping { IsHelping D.device heap.shared heap.helper }
+    requires running { heap.helper.store.known.has_failed ≡ false }
     ensures ok { IfOk result (λ r. IsRunBy D.device heap.shared heap.helper.store.known.layout r.0 r.1) }
-    ensures refused { IfErr result (λ back. IsLater back.1) }
+    ensures cause { IfErr result (λ back. StopsBy heap.shared heap.helper.store.known.layout (D.device heap.helper.store.disk) (D.device back.0) back.1) }
 {
     joined_law();
     let RunningHeap {
@@ -91,7 +97,9 @@ fn run<D: Disk + Drop, M: Meet + Sync, R: Threads + Wait + Sync>(
 }
 
 // The helper's device.
-fn disk_of<D: Disk>(helper: Helper<D>) -> D {
+fn disk_of<D: Disk>(helper: Helper<D>) -> D
+    ensures { result ≡ helper.store.disk }
+{
     helper.into_store().into_disk()
 }
 
@@ -103,9 +111,11 @@ fn end_all<D: Disk>(
     helper: Helper<D>,
 ) -> Result<(Recovered<D>, Driven), (D, DriveError)>
     requires helper { IsHelping D.device shared helper }
+    requires running { helper.store.known.has_failed ≡ false }
     requires worked { AreWorked shared helper.store.known.layout.capacity helper.rings worked.items }
+    requires lanes { reverse (lanes_worked worked.items) ≡ range_with_len 0 helper.store.known.layout.lanes }
     ensures ok { IfOk result (λ r. IsRunBy D.device shared helper.store.known.layout r.0 r.1) }
-    ensures refused { IfErr result (λ back. IsLater back.1) }
+    ensures cause { IfErr result (λ back. StopsBy shared helper.store.known.layout (D.device helper.store.disk) (D.device back.0) back.1) }
 {
     let Ok((ended, refusal)) = part(alloc, worked) else {
         return Err((disk_of(helper), DriveError::NoMemory));
@@ -124,9 +134,12 @@ fn close_all<D: Disk>(
     helper: Helper<D>,
 ) -> Result<(Recovered<D>, Driven), (D, DriveError)>
     requires helper { IsHelping D.device shared helper }
+    requires running { helper.store.known.has_failed ≡ false }
     requires ended { All (IsEnded shared helper.store.known.layout.capacity helper.rings) ended.items }
+    requires none { HoldNone ended.items }
+    requires complete { IsComplete helper.store.known.layout.lanes ended.items }
     ensures ok { IfOk result (λ r. IsRunBy D.device shared helper.store.known.layout r.0 r.1) }
-    ensures refused { IfErr result (λ back. IsLater back.1) }
+    ensures cause { IfErr result (λ back. StopsBy shared helper.store.known.layout (D.device helper.store.disk) (D.device back.0) back.1) }
 {
     match close(shared, ended, helper) {
         Ok(disk) => tell(alloc, disk),
@@ -137,7 +150,7 @@ fn close_all<D: Disk>(
 // Recovers the device, and tells what is there.
 fn tell<D: Disk>(alloc: Global, disk: D) -> Result<(Recovered<D>, Driven), (D, DriveError)>
     ensures ok { IfOk result (λ r. IsTold D.device (D.device disk) r.0 r.1) }
-    ensures refused { IfErr result (λ back. IsLater back.1) }
+    ensures cause { IfErr result (λ back. StopsTelling (D.device disk) (D.device back.0) back.1) }
 {
     let (recovered, report) = match recover(alloc, disk) {
         Ok(found) => found,

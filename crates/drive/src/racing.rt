@@ -1,7 +1,7 @@
 //! Workers and helper side by side.
-ghost use Rattle.std.specs.Prelude.{◌≡◌, IfErr, IfOk};
+ghost use Rattle.std.specs.Prelude.{◌≡◌, IfErr, IfOk, false};
 ghost use Rattle.drive.specs.Racing.{HaveRaced};
-ghost use Rattle.drive.specs.Workers.{AreOf, HaveWorked};
+ghost use Rattle.drive.specs.Workers.{AreReady, HaveWorked};
 ghost use Rattle.running_heap.specs.Joined.{IsHelping};
 
 use crate::meet::Meet;
@@ -48,8 +48,9 @@ pub fn race<D: Disk + Drop, M: Meet + Sync, R: Threads + Wait + Sync>(
     helper: Helper<D>,
     rounds: u32,
 ) -> Result<Raced<D>, Helper<D>>
-    requires of { AreOf shared.now workers.items }
+    requires ready { AreReady shared.now workers.items }
     requires helping { IsHelping D.device shared.now helper }
+    requires running { helper.store.known.has_failed ≡ false }
     ensures raced { IfOk result (HaveRaced D.device shared.now workers.items helper) }
     ensures no_thread { IfErr result (λ back. back ≡ helper) }
 {
@@ -59,8 +60,9 @@ pub fn race<D: Disk + Drop, M: Meet + Sync, R: Threads + Wait + Sync>(
         thread::scope_env(),
         rt,
         |scope| -> Result<Raced<D>, Helper<D>>
-            requires of { AreOf shared.now workers.items }
+            requires ready { AreReady shared.now workers.items }
             requires helping { IsHelping D.device shared.now helper }
+            requires running { helper.store.known.has_failed ≡ false }
             ensures raced { IfOk result (HaveRaced D.device shared.entry.now workers.items helper) }
             ensures no_thread { IfErr result (λ back. back ≡ helper) }
         {
@@ -71,7 +73,7 @@ pub fn race<D: Disk + Drop, M: Meet + Sync, R: Threads + Wait + Sync>(
             let Ok(working) = scope.spawn_with(
                 promise,
                 move || -> Result<Vec<Worked>, AllocError>
-                    requires { AreOf shared.now workers.items }
+                    requires { AreReady shared.now workers.items }
                     ensures { HaveWorked shared.entry.now workers.items result }
                 { work_all(rt, shared, flags, meet, workers, rounds) },
             ) else {

@@ -1,7 +1,7 @@
 //! What the helper does beside the workers.
-ghost use Rattle.std.specs.Prelude.{IfErr};
+ghost use Rattle.std.specs.Prelude.{◌≡◌, IfErr, OnOk, false};
 ghost use Rattle.drive.specs.Serving.{HasStayed};
-ghost use Rattle.trim_helper.specs.Settled.{IsStop};
+ghost use Rattle.drive.specs.Stops.{StopsRound};
 ghost use Rattle.running_heap.specs.Joined.{IsHelping};
 
 use crate::signals::Signals;
@@ -28,9 +28,11 @@ pub fn serve<D: Disk, R: Wait>(
     helper: Helper<D>,
 ) -> Served<D>
     requires helping { IsHelping D.device shared.now helper }
+    requires running { helper.store.known.has_failed ≡ false }
     ensures helping { IsHelping D.device shared.now result.helper }
-    ensures stayed { HasStayed helper result.helper }
-    ensures refused { IfErr result.answer IsStop }
+    ensures stayed { HasStayed D.device helper result.helper }
+    ensures running { OnOk result.answer (result.helper.store.known.has_failed ≡ false) }
+    ensures cause { IfErr result.answer (StopsRound (D.device helper.store.disk) (D.device result.helper.store.disk)) }
 {
     let mut helper = helper;
     let answer = make_rounds(rt, shared, signals, &mut helper);
@@ -47,9 +49,11 @@ fn make_rounds<D: Disk, R: Wait>(
     helper: &mut Helper<D>,
 ) -> Result<(), StoreError>
     requires helping { IsHelping D.device shared.now helper.old }
+    requires running { helper.old.store.known.has_failed ≡ false }
     ensures helping { IsHelping D.device shared.now helper.new }
-    ensures stayed { HasStayed helper.old helper.new }
-    ensures refused { IfErr result IsStop }
+    ensures stayed { HasStayed D.device helper.old helper.new }
+    ensures running { OnOk result (helper.new.store.known.has_failed ≡ false) }
+    ensures cause { IfErr result (StopsRound (D.device helper.old.store.disk) (D.device helper.new.store.disk)) }
 {
     for _ in rt.forever() {
         if signals.has_ended() {
@@ -66,9 +70,11 @@ fn make_rounds<D: Disk, R: Wait>(
 // One round.
 fn make_round<D: Disk>(shared: &Shared, helper: &mut Helper<D>) -> Result<u64, StoreError>
     requires helping { IsHelping D.device shared.now helper.old }
+    requires running { helper.old.store.known.has_failed ≡ false }
     ensures helping { IsHelping D.device shared.now helper.new }
-    ensures stayed { HasStayed helper.old helper.new }
-    ensures refused { IfErr result IsStop }
+    ensures stayed { HasStayed D.device helper.old helper.new }
+    ensures running { OnOk result (helper.new.store.known.has_failed ≡ false) }
+    ensures cause { IfErr result (StopsRound (D.device helper.old.store.disk) (D.device helper.new.store.disk)) }
 {
     helping_law::<D>();
     helper.round(shared)

@@ -1,10 +1,11 @@
 //! The workers, as they begin and as they end.
-ghost use Rattle.std.specs.Prelude.{ℕ, All, IfOk};
-ghost use Rattle.drive.specs.Workers.{AreJoined, AreOf, AreWorked, HaveWorked};
+ghost use Rattle.std.specs.Prelude.{ℕ, ◌≡◌, ◌<◌, ◌≤◌, All, IfOk, IfSome, MatchOption, length, reverse};
+ghost use Rattle.drive.specs.Workers.{AreJoined, AreReady, AreWorked, HaveWorked, IsReady, IsWorked, lanes_begun, lanes_ended, lanes_opened, lanes_worked};
+ghost use Rattle.drive.specs.Working.{StopsWorker};
 ghost use Rattle.monitor.specs.Seats.{Home};
-ghost use Rattle.running_heap.specs.Joined.{IsJoined};
-ghost use Rattle.session.specs.Sessions.{IsSessionOf};
-ghost use Rattle.trim_helper.specs.Endings.{IsEnded, Rings};
+ghost use Rattle.running_heap.specs.Joined.{AreNew, IsJoined};
+ghost use Rattle.session.specs.Sessions.{view_of};
+ghost use Rattle.trim_helper.specs.Endings.{HoldNone, IsEnded, Rings};
 
 use crate::meet::Meet;
 use crate::signals::Signals;
@@ -36,15 +37,23 @@ pub struct Worked {
 /// The sessions, lane i's as the i-th, with their numbers.
 pub fn number_all(alloc: Global, sessions: Vec<Session>) -> Result<Vec<Worker>, AllocError>
     ensures joined { (h : Home) (capacity : ℕ) (rings : Rings) → All (IsJoined h capacity rings) sessions.items → IfOk result (λ w. AreJoined h capacity rings w.items) }
+    ensures ready { (h : Home) (capacity : ℕ) (rings : Rings) → All (IsJoined h capacity rings) sessions.items → AreNew 0 sessions.items → length sessions.items ≤ h.plan.lanes → h.plan.lanes ≤ 32 → IfOk result (λ w. AreReady h w.items) }
+    ensures lanes { IfOk result (λ w. lanes_begun w.items ≡ reverse (lanes_opened sessions.items)) }
 {
     let mut left = sessions;
     let mut workers = Vec::new(alloc);
     'sessions: while let Some(session) = left.pop() {
-        // There are at most 32 lanes.
-        let number = u8::try_from(left.len()).unwrap_or(u8::MAX);
+        let number = number_of(left.len());
         workers.push(Worker { session, number })?;
     }
     Ok(workers)
+}
+
+// A lane's number. There are at most 32 lanes.
+fn number_of(lane: usize) -> u8
+    ensures { lane < 256 → result ≡ lane }
+{
+    u8::try_from(lane).unwrap_or(u8::MAX)
 }
 
 /// All work beside one another, each in a thread of its own. An error is want of memory; then some haven't worked.
@@ -56,15 +65,16 @@ pub fn work_all<R: Threads + Wait + Sync, M: Meet + Sync>(
     workers: Vec<Worker>,
     rounds: u32,
 ) -> Result<Vec<Worked>, AllocError>
-    requires of { AreOf shared.now workers.items }
+    requires ready { AreReady shared.now workers.items }
     ensures worked { HaveWorked shared.now workers.items result }
 {
     let worked = map_vec(
         rt,
         workers,
         &|worker: Worker| -> Worked
-            requires { IsSessionOf shared.now worker.session }
-            ensures { (capacity : ℕ) (rings : Rings) → IsJoined shared.entry.now capacity rings worker.session → IsEnded shared.entry.now capacity rings result.ended }
+            requires { IsReady shared.now worker }
+            ensures lane { (capacity : ℕ) (rings : Rings) → IsJoined shared.entry.now capacity rings worker.session → result.ended.lane.0 ≡ (view_of worker.session).lane.0 }
+            ensures worked { (capacity : ℕ) (rings : Rings) → IsJoined shared.entry.now capacity rings worker.session → IsWorked shared.entry.now capacity rings result }
         { work_one(rt, shared, signals, meet, worker, rounds) },
     );
     signals.end();
@@ -80,8 +90,9 @@ fn work_one<R: Wait, M: Meet>(
     worker: Worker,
     rounds: u32,
 ) -> Worked
-    requires of { IsSessionOf shared.now worker.session }
-    ensures ended { (capacity : ℕ) (rings : Rings) → IsJoined shared.now capacity rings worker.session → IsEnded shared.now capacity rings result.ended }
+    requires ready { IsReady shared.now worker }
+    ensures lane { (capacity : ℕ) (rings : Rings) → IsJoined shared.now capacity rings worker.session → result.ended.lane.0 ≡ (view_of worker.session).lane.0 }
+    ensures worked { (capacity : ℕ) (rings : Rings) → IsJoined shared.now capacity rings worker.session → IsWorked shared.now capacity rings result }
 {
     joined_law();
     let Worker {
@@ -101,6 +112,9 @@ pub fn part(
     worked: Vec<Worked>,
 ) -> Result<(Vec<Ended>, Option<SessionError>), AllocError>
     ensures ended { (h : Home) (capacity : ℕ) (rings : Rings) → AreWorked h capacity rings worked.items → IfOk result (λ r. All (IsEnded h capacity rings) r.0.items) }
+    ensures none { (h : Home) (capacity : ℕ) (rings : Rings) → AreWorked h capacity rings worked.items → IfOk result (λ r. HoldNone r.0.items) }
+    ensures refused { (h : Home) (capacity : ℕ) (rings : Rings) → AreWorked h capacity rings worked.items → IfOk result (λ r. IfSome r.1 (StopsWorker h capacity)) }
+    ensures lanes { IfOk result (λ r. lanes_ended r.0.items ≡ reverse (lanes_worked worked.items)) }
 {
     let mut left = worked;
     let mut ended = Vec::new(alloc);
@@ -113,7 +127,9 @@ pub fn part(
 }
 
 // The first of two refusals, where there is one.
-fn first_of(one: Option<SessionError>, later: Option<SessionError>) -> Option<SessionError> {
+fn first_of(one: Option<SessionError>, later: Option<SessionError>) -> Option<SessionError>
+    ensures { MatchOption one (result ≡ later) (λ refusal. result ≡ one) }
+{
     match one {
         Some(refusal) => Some(refusal),
         None => later,

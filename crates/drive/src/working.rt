@@ -1,5 +1,9 @@
 //! What a worker does.
-ghost use Rattle.session.specs.Sessions.{IsSessionOf, SameRing};
+ghost use Rattle.std.specs.Prelude.{ℕ, ◌≡◌, ◌+◌, ◌<◌, ◌≤◌, ◌∷◌, [], List, None, IfErr, IfSome, MatchResult, length};
+ghost use Rattle.drive.specs.Working.{HoldsJust, MayTake, RefusesCount, RefusesEnter, StopsWorker, locks_of};
+ghost use Rattle.heap_model.specs.declared.limits.TheConstants.{SECTION_RECORDS};
+ghost use Rattle.session.specs.Sessions.{IsSessionOf, SameRing, capacity_of, view_of};
+ghost use Rattle.steps.specs.Views.{plan};
 
 use crate::meet::Meet;
 use crate::signals::Signals;
@@ -28,8 +32,12 @@ pub fn work<R: Wait, M: Meet>(
     rounds: u32,
 ) -> Option<SessionError>
     requires seat { IsSessionOf shared.now session.old }
+    requires lane { worker < shared.now.plan.lanes }
+    requires free { HoldsJust (view_of session.old) [] 0 }
     ensures seat { IsSessionOf shared.now session.new }
     ensures ring { SameRing session.old session.new }
+    ensures free { HoldsJust (view_of session.new) [] 0 }
+    ensures refused { IfSome result (StopsWorker shared.now (capacity_of session.old)) }
 {
     for _ in 0..rounds {
         if let Err(refusal) = work_round(rt, shared, signals, meet, session, worker) {
@@ -49,8 +57,12 @@ fn work_round<R: Wait, M: Meet>(
     worker: u8,
 ) -> Result<(), SessionError>
     requires seat { IsSessionOf shared.now session.old }
+    requires lane { worker < shared.now.plan.lanes }
+    requires free { HoldsJust (view_of session.old) [] 0 }
     ensures seat { IsSessionOf shared.now session.new }
     ensures ring { SameRing session.old session.new }
+    ensures free { HoldsJust (view_of session.new) [] 0 }
+    ensures refused { IfErr result (StopsWorker shared.now (capacity_of session.old)) }
 {
     for _ in rt.forever() {
         match pass(rt, shared, meet, session, worker) {
@@ -74,11 +86,15 @@ fn pass<R: Wait, M: Meet>(
     worker: u8,
 ) -> Result<(), SessionError>
     requires seat { IsSessionOf shared.now session.old }
+    requires lane { worker < shared.now.plan.lanes }
+    requires free { HoldsJust (view_of session.old) [] 0 }
     ensures seat { IsSessionOf shared.now session.new }
     ensures ring { SameRing session.old session.new }
+    ensures free { HoldsJust (view_of session.new) [] 0 }
+    ensures refused { IfErr result (StopsWorker shared.now (capacity_of session.old)) }
 {
     let own = ObjectId(u32::from(worker) + 1);
-    if let Err(refusal) = session.enter(rt, shared, own) {
+    if let Err(refusal) = take(rt, shared, session, own) {
         return Err(refusal);
     }
     let counted = count_both(rt, shared, meet, session, worker);
@@ -94,18 +110,39 @@ fn count_both<R: Wait, M: Meet>(
     worker: u8,
 ) -> Result<(), SessionError>
     requires seat { IsSessionOf shared.now session.old }
+    requires lane { worker < shared.now.plan.lanes }
+    requires held { HoldsJust (view_of session.old) ((worker + 1) ∷ []) 1 }
     ensures seat { IsSessionOf shared.now session.new }
     ensures ring { SameRing session.old session.new }
+    ensures held { HoldsJust (view_of session.new) ((worker + 1) ∷ []) 5 }
+    ensures refused { IfErr result (StopsWorker shared.now (capacity_of session.old)) }
 {
     if let Err(refusal) = count(shared, session, FieldId(u32::from(worker) + 1)) {
         return Err(refusal);
     }
     let _ = meet.inside(worker);
-    if let Err(refusal) = session.enter(rt, shared, ALL) {
+    if let Err(refusal) = take(rt, shared, session, ALL) {
         return Err(refusal);
     }
     let counted = count(shared, session, TOTAL);
     leave(shared, session, ALL, counted)
+}
+
+// Takes the monitor of an object that isn't held.
+fn take<R: Wait>(
+    rt: &R,
+    shared: &Shared,
+    session: &mut Session,
+    object: ObjectId,
+) -> Result<(), SessionError>
+    requires seat { IsSessionOf shared.now session.old }
+    ensures seat { IsSessionOf shared.now session.new }
+    ensures ring { SameRing session.old session.new }
+    ensures taken { (objects : List ℕ) (records : ℕ) → MayTake objects records object.0 → HoldsJust (view_of session.old) objects records
+        → MatchResult result (λ done. (object.0 < (plan shared.now).objects) × HoldsJust (view_of session.new) (object.0 ∷ objects) (records + 1))
+        (λ e. RefusesEnter shared.now (capacity_of session.old) object e × HoldsJust (view_of session.new) objects records) }
+{
+    session.enter(rt, shared, object)
 }
 
 // Adds one to the field.
@@ -113,6 +150,8 @@ fn count(shared: &Shared, session: &mut Session, field: FieldId) -> Result<(), S
     requires seat { IsSessionOf shared.now session.old }
     ensures seat { IsSessionOf shared.now session.new }
     ensures ring { SameRing session.old session.new }
+    ensures held { (objects : List ℕ) (records : ℕ) → 0 < length objects → HoldsJust (view_of session.old) objects records → HoldsJust (view_of session.new) objects (records + 1) }
+    ensures refused { (objects : List ℕ) (records : ℕ) → records + length objects < SECTION_RECORDS → HoldsJust (view_of session.old) objects records → IfErr result (RefusesCount shared.now field objects) }
 {
     match session.load(shared, field) {
         Ok(value) => session.store(shared, field, value.wrapping_add(1)),
@@ -128,8 +167,12 @@ fn leave(
     answer: Result<(), SessionError>,
 ) -> Result<(), SessionError>
     requires seat { IsSessionOf shared.now session.old }
+    requires object { object.0 < (plan shared.now).objects }
+    requires held { (objects : List ℕ) × (records : ℕ) × HoldsJust (view_of session.old) (object.0 ∷ objects) records }
     ensures seat { IsSessionOf shared.now session.new }
     ensures ring { SameRing session.old session.new }
+    ensures same { result ≡ answer }
+    ensures held { (objects : List ℕ) (records : ℕ) → locks_of objects object.0 ≡ None → HoldsJust (view_of session.old) (object.0 ∷ objects) records → HoldsJust (view_of session.new) objects (records + 1) }
 {
     let left = session.exit(shared, object);
     match answer {

@@ -1,11 +1,12 @@
-use Rattle.std.proofs.Common.{◌≡◌, ◌∙◌, ◌<◌, ℕ, ap, sym, subst}
+use Rattle.std.proofs.Common.{◌≡◌, ◌∙◌, ◌<◌, ap, sym, subst}
 use Rattle.std.proofs.lemmas.Result.{IfOk-weaker}
 use Rattle.guards.specs.Schema.{Declarations, field_count, first_of}
 use Rattle.trim_helper.specs.Opening.{FitsSchema}
 use Rattle.drive.specs.Schemas.{schema_of}
 use Rattle.drive.proofs.SchemaLemmas.{first_is_zero}
-use Rattle.drive.specs.Refusals.{IsLater, RefusesNew}
-use Rattle.drive.proofs.Refused.{anyway, later_new, making_new, weaker}
+use Rattle.drive.specs.Refusals.{IsOwnStop, RefusesNew}
+use Rattle.drive.specs.Stops.{StopsRun}
+use Rattle.drive.proofs.Refused.{anyway, made_new, weaker_both}
 use Rattle.drive.proofs.devices.drive_new.Goals as goal
 
 pub returns-in-Ok-make-clause-ok : goal.returns-in-Ok-make-clause-ok
@@ -27,6 +28,14 @@ returns-in-Ok-make-clause-workers g c = anyway c.drive_made.result c.in-Ok-make.
 
 pub returns-in-Ok-make-clause-refused : goal.returns-in-Ok-make-clause-refused
 returns-in-Ok-make-clause-refused g c =
-    let old = g.D.Disk.device c.args.disk in
-    weaker c.drive_made.result (λ back. IsLater back.1) (λ back. RefusesNew c.args.workers old (g.D.Disk.device back.0) back.1)
-    (λ back later. later_new c.args.workers old (g.D.Disk.device back.0) back.1 c.in-Ok-make.ensures.workers later) c.drive_made.ensures.refused
+    let device = g.D.Disk.device in
+    let old = device c.args.disk in
+    let made = c.in-Ok-make.made in
+    let workers = c.args.workers in
+    let is : c.in-Ok.schema ≡ schema_of workers = c.in-Ok.ensures.ok in
+    weaker_both c.drive_made.result (λ back. StopsRun device (schema_of workers) made (device back.0) back.1) (λ back. IsOwnStop back.1) (λ back. RefusesNew device workers old (device back.0) back.1)
+    (λ back stops own. made_new device workers old made (device back.0) back.1 c.in-Ok-make.ensures.workers
+    (λ f below. c.in-Ok-make.ensures.first f (subst (λ (s : Declarations). f < field_count s) (sym is) below) ∙ ap (λ (s : Declarations). first_of s f) is ∙ first_is_zero workers f)
+    (record { lanes_are = c.in-Ok-make.ensures.lanes; fits = subst (λ (s : Declarations). FitsSchema s made.layout made.guards) is c.in-Ok-make.ensures.fits })
+    c.in-Ok-make.ensures.failures stops own)
+    c.drive_made.ensures.cause c.drive_made.ensures.own

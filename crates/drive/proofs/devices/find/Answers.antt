@@ -1,3 +1,4 @@
+use Rattle.drive.proofs.Refused.{finding_stops}
 use Rattle.drive.proofs.Theirs.{found_theirs}
 use Rattle.drive.proofs.devices.find.Goals as goal
 
@@ -7,3 +8,8 @@ returns-in-Ok-clause-theirs g c =
 
 pub returns-in-Ok-clause-found : goal.returns-in-Ok-clause-found
 returns-in-Ok-clause-found g c = (c.in-Ok._report, c.in-Ok.ensures.ok)
+
+pub returns-in-Err-clause-refused : goal.returns-in-Err-clause-refused
+returns-in-Err-clause-refused g c =
+    let device = g.D.Disk.device in
+    finding_stops (device c.args.disk) (device c.in-Err.back.0) c.requires.0 c.in-Err.back.1 c.studied_law.ensures c.requires.1 c.in-Err.ensures.refused c.in-Err.ensures.cause

@@ -1,5 +1,11 @@
-use Rattle.std.proofs.Common.{◌≡◌, true, false, sym, ◌∙◌}
+use Rattle.std.proofs.Common.{◌≡◌, Err, true, false, ap, sym, ◌∙◌}
+use Rattle.drive.proofs.Refused.{study_stops}
 use Rattle.drive.proofs.devices.look.Goals as goal
+
+pub returns-in-Err-clause-refused : goal.returns-in-Err-clause-refused
+returns-in-Err-clause-refused g c =
+    let device = g.D.Disk.device in
+    study_stops (device c.args.disk.now) (device c.study.new.disk) c.in-Err.refusal c.in-Err.ensures.exact (λ is. c.study.ensures.cause.failed (c.in-Err.is ∙ ap Err is))
 
 pub returns-then-is_theirs-clause-ok : goal.returns-then-is_theirs-clause-ok
 returns-then-is_theirs-clause-ok g c = (c.in-Ok.study, c.in-Ok.ensures.exact, c.is_theirs.ensures.0 c.if-is_theirs.true)

@@ -1,13 +1,23 @@
-use Rattle.std.proofs.Common.{IfOk, subst}
-use Rattle.drive.specs.Workers.{AreWorked}
-use Rattle.drive.proofs.Later.{are_of, worked_later, run_before}
+use Rattle.std.proofs.Common.{◌≡◌, IfOk, ap, reverse, sym, ◌∙◌, subst, arith}
+use Rattle.std.proofs.lemmas.List.{reverse-reverse}
+use Rattle.image.specs.declared.layout.Layout.{Layout}
+use Rattle.std.specs.List.{range_with_len}
+use Rattle.drive.specs.Stops.{StopsBy}
+use Rattle.drive.specs.Workers.{AreWorked, lanes_begun, lanes_worked}
+use Rattle.drive.proofs.Lanes.{lanes_up}
+use Rattle.drive.proofs.Later.{run_before, worked_later}
+use Rattle.drive.proofs.Refused.{weaker}
+use Rattle.drive.proofs.Stopped.{stops_since}
 use Rattle.drive.proofs.driving.run.Goals as goal
 
-pub race-requires-clause-of : goal.race-requires-clause-of
-race-requires-clause-of g c κs within =
+pub race-requires-clause-ready : goal.race-requires-clause-ready
+race-requires-clause-ready g c κs within =
     let heap = c.args.heap in
     let capacity = heap.helper.store.known.layout.capacity in
-    are_of heap.shared capacity heap.helper.rings c.in-Ok.workers.items (c.in-Ok.ensures.joined heap.shared capacity heap.helper.rings c.requires.joined)
+    let helping = c.requires.helping in
+    let count = c.requires.count in
+    let lanes = helping.lanes in
+    c.in-Ok.ensures.ready heap.shared capacity heap.helper.rings c.requires.joined c.requires.new (omega (arith, count, lanes)) helping.seat.few
 
 pub end_all-requires-clause-worked : goal.end_all-requires-clause-worked
 end_all-requires-clause-worked g c =
@@ -15,9 +25,30 @@ end_all-requires-clause-worked g c =
     let capacity = heap.helper.store.known.layout.capacity in
     let raced = c.in-Ok-race.ensures.raced in
     let joined = c.in-Ok.ensures.joined heap.shared capacity heap.helper.rings c.requires.joined in
-    worked_later heap.shared heap.helper c.in-Ok-race.raced.served.helper c.in-Ok-worked.worked.items c.joined_law.ensures.ended raced.stayed
+    worked_later g.D.Disk.device heap.shared heap.helper c.in-Ok-race.raced.served.helper c.in-Ok-worked.worked.items c.joined_law.ensures.ended raced.stayed
     (subst (λ r. IfOk r (λ w. AreWorked heap.shared capacity heap.helper.rings w.items)) c.in-Ok-worked.is (raced.worked.each capacity heap.helper.rings joined))
+
+pub end_all-requires-clause-lanes : goal.end_all-requires-clause-lanes
+end_all-requires-clause-lanes g c =
+    let heap = c.args.heap in
+    let capacity = heap.helper.store.known.layout.capacity in
+    let raced = c.in-Ok-race.ensures.raced in
+    let joined = c.in-Ok.ensures.joined heap.shared capacity heap.helper.rings c.requires.joined in
+    let same = subst (λ r. IfOk r (λ w. lanes_worked w.items ≡ lanes_begun c.in-Ok.workers.items)) c.in-Ok-worked.is (raced.worked.lanes capacity heap.helper.rings joined) in
+    ap reverse (same ∙ c.in-Ok.ensures.lanes) ∙ reverse-reverse _ ∙ lanes_up 0 heap.sessions.items c.requires.new
+    ∙ ap (range_with_len 0) (c.requires.count ∙ ap (λ (l : Layout). l.lanes) (sym raced.stayed.layout))
 
 pub returns-in-Ok-worked-clause-ok : goal.returns-in-Ok-worked-clause-ok
 returns-in-Ok-worked-clause-ok g c =
     run_before g.D.Disk.device c.args.heap.shared c.args.heap.helper c.in-Ok-race.raced.served.helper c.end_all.result c.in-Ok-race.ensures.raced.stayed c.end_all.ensures.ok
+
+pub returns-in-Ok-worked-clause-cause : goal.returns-in-Ok-worked-clause-cause
+returns-in-Ok-worked-clause-cause g c =
+    let device = g.D.Disk.device in
+    let heap = c.args.heap in
+    let after = c.in-Ok-race.raced.served.helper in
+    let stayed = c.in-Ok-race.ensures.raced.stayed in
+    weaker c.end_all.result (λ back. StopsBy heap.shared after.store.known.layout (device after.store.disk) (device back.0) back.1) (λ back. StopsBy heap.shared heap.helper.store.known.layout (device heap.helper.store.disk) (device back.0) back.1)
+    (λ back stops. stops_since heap.shared heap.helper.store.known.layout (device heap.helper.store.disk) (device after.store.disk) (device back.0) back.1 stayed.later
+    (subst (λ (l : Layout). StopsBy heap.shared l (device after.store.disk) (device back.0) back.1) stayed.layout stops))
+    c.end_all.ensures.cause

@@ -1,5 +1,6 @@
 use Rattle.std.proofs.Common.{take, ap, ◌∙◌}
 use Rattle.image.specs.declared.layout.Layout.{Layout}
+use Rattle.drive.proofs.Stopped.{telling_stops}
 use Rattle.drive.proofs.driving.tell.Goals as goal
 
 pub returns-clause-ok : goal.returns-clause-ok
@@ -10,3 +11,8 @@ returns-clause-ok g c = record {
       ∙ ap (λ (l : Layout). take l.lanes c.in-Ok.found.1.kept.counts) c.layout.ensures.layout;
   heap = c.in-Ok-to_vec-2.ensures.items_if_clones_equal (λ x y same. same) ∙ c.heap.ensures.heap;
 }
+
+pub returns-in-Err-clause-cause : goal.returns-in-Err-clause-cause
+returns-in-Err-clause-cause g c =
+    let device = g.D.Disk.device in
+    telling_stops (device c.args.disk) (device c.in-Err.disk) c.in-Err.refusal c.in-Err.ensures.refused c.in-Err.ensures.cause

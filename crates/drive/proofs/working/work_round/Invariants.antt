@@ -1,6 +1,8 @@
-use Rattle.session.specs.Sessions.{IsSessionOf, SameRing}
+use Rattle.std.proofs.Common.{[]}
+use Rattle.session.specs.Sessions.{IsSessionOf, SameRing, view_of}
+use Rattle.drive.specs.Working.{HoldsJust}
 use Rattle.drive.proofs.working.work_round.Given as goal
 
 abbrev pub invariant-loop : goal.invariant-loop
 invariant-loop g l =
-    (goal.iterator-loop g).can_next l.iterator' × (goal.iterator-loop g).is_finite l.iterator' × IsSessionOf l.shared l.session × SameRing l.initial.session l.session
+    (goal.iterator-loop g).can_next l.iterator' × (goal.iterator-loop g).is_finite l.iterator' × IsSessionOf l.shared l.session × SameRing l.initial.session l.session × HoldsJust (view_of l.session) [] 0

@@ -30,6 +30,6 @@ returns-in-Err-drive_on-clause-refused g c =
       image = image;
       reads = reads_image image (g.F.BackingFile.holds c.args.file) c.in-Ok.ensures.given;
       after = c.in-Err-drive_on.back.0.device;
-      refused = subst (λ (e : DriveError). RefusesOn c.args.workers (new_device image) c.in-Err-drive_on.back.0.device e) (sym c.refusal_of.ensures)
-          (subst (λ (d : Device). RefusesOn c.args.workers d c.in-Err-drive_on.back.0.device c.in-Err-drive_on.back.1) c.in-Ok.ensures.ok c.in-Err-drive_on.ensures.refused);
+      refused = subst (λ (e : DriveError). RefusesOn file_device c.args.workers (new_device image) c.in-Err-drive_on.back.0.device e) (sym c.refusal_of.ensures)
+          (subst (λ (d : Device). RefusesOn file_device c.args.workers d c.in-Err-drive_on.back.0.device c.in-Err-drive_on.back.1) c.in-Ok.ensures.ok c.in-Err-drive_on.ensures.refused);
     }

@@ -1,0 +1,134 @@
+-- Why a run is stopped, by why a part of it is.
+use Rattle.std.proofs.Common.{ℕ, ◌≡◌, ◌≤◌, ◌^◌, ◌-◌, true, false, List, [], ◌∷◌, Result, Ok, Err, IfErr, inl, inr, refl, sym, ◌∙◌, arith}
+use Rattle.block_disk.specs.Device.{Device, HasCause, HasFailed}
+use Rattle.durable.specs.Store.{Known}
+use Rattle.image.specs.declared.layout.Layout.{Layout}
+use Rattle.monitor.specs.Seats.{Home}
+use Rattle.recover.specs.Recovery.{RefusesRecovery}
+use Rattle.recover.specs.declared.error.RecoverError.{RecoverError}
+use Rattle.recover.specs.declared.error.RecoverError.TheVariants as recover
+use Rattle.running_heap.specs.Closed.{IsClosed}
+use Rattle.running_heap.specs.Joined.{IsHelping}
+use Rattle.steps.specs.Views.{plan}
+use Rattle.store_past.specs.declared.error.StoreError.{StoreError}
+use Rattle.store_past.specs.declared.error.StoreError.TheVariants as store
+use Rattle.trim_helper.specs.Endings.{HasOpen, HoldNone, IsCloseWhy, IsComplete, IsWornOut, RefusesClosing}
+use Rattle.trim_helper.specs.Parts.{Parts}
+use Rattle.trim_helper.specs.Settled.{IsStop, IsWhy}
+use Rattle.trim_helper.specs.declared.close_error.CloseError.{CloseError}
+use Rattle.trim_helper.specs.declared.close_error.CloseError.TheVariants as close
+use Rattle.trim_helper.specs.declared.ended.Ended.{Ended}
+use Rattle.drive.specs.Stops.{RefusesTelling, StopsBy, StopsClosing, StopsRound, StopsTelling}
+use Rattle.drive.specs.declared.error.DriveError.{DriveError}
+use Rattle.drive.specs.declared.error.DriveError.TheVariants.{NoMemory, Schema, Image, Helper, Session, Close, Recover, OtherSchema}
+
+-- a failure since a later moment is one since an earlier one
+pub failed_since : (a b c : ℕ) → a ≤ b → HasFailed b c → HasFailed a c
+failed_since a b c low failed =
+    let later = failed.later in
+    record {
+      later = omega (arith, low, later);
+      rose = elim failed.rose [
+        | inl rose ↦ inl (omega (arith, low, rose))
+        | inr last ↦ inr last
+      ];
+    }
+
+pub round_since : (first old new : Device) (e : StoreError) → first.failures ≤ old.failures → StopsRound old new e → StopsRound first new e
+round_since first old new store.Failed low stops = absurd stops
+round_since first old new store.BadLane low stops = absurd stops
+round_since first old new store.BadId low stops = absurd stops
+round_since first old new store.Worn low stops = stops
+round_since first old new store.NotNext low stops = absurd stops
+round_since first old new store.TooLong low stops = absurd stops
+round_since first old new store.LogFull low stops = absurd stops
+round_since first old new store.Unwritten low stops = absurd stops
+round_since first old new store.Fault low stops = failed_since first.failures old.failures new.failures low stops
+round_since first old new store.Unfinished low stops = absurd stops
+
+-- nothing else stops a helper
+no_stop : (e : StoreError) → (e ≡ store.Failed → ⊥) → (e ≡ store.Worn → ⊥) → (e ≡ store.Fault → ⊥) → IsStop e → ⊥
+no_stop e failed worn fault stop = elim stop [
+  | inl is ↦ failed is
+  | inr other ↦ elim other [
+    | inl is ↦ worn is
+    | inr is ↦ fault is
+  ]
+]
+
+-- a round of a helper whose store hadn't failed
+pub round_stops : (old new : Device) (x y : Known) (r : Result ℕ StoreError) → x.has_failed ≡ false → IfErr r IsStop → IfErr r (λ e. IsWhy x y e) → HasCause old.failures new.failures store.Fault r
+    → (y.committed.sequence ≡ 2 ^ 64 - 1 → IsWornOut new) → IfErr r (λ e. StopsRound old new e)
+round_stops old new x y (Ok n) running stop why cause worn = tt
+round_stops old new x y (Err store.Failed) running stop why cause worn = absurd (let both : true ≡ false = sym (why.failed refl) ∙ running in cc)
+round_stops old new x y (Err store.BadLane) running stop why cause worn = no_stop store.BadLane (λ is. absurd cc) (λ is. absurd cc) (λ is. absurd cc) stop
+round_stops old new x y (Err store.BadId) running stop why cause worn = no_stop store.BadId (λ is. absurd cc) (λ is. absurd cc) (λ is. absurd cc) stop
+round_stops old new x y (Err store.Worn) running stop why cause worn = worn (why.worn refl)
+round_stops old new x y (Err store.NotNext) running stop why cause worn = no_stop store.NotNext (λ is. absurd cc) (λ is. absurd cc) (λ is. absurd cc) stop
+round_stops old new x y (Err store.TooLong) running stop why cause worn = no_stop store.TooLong (λ is. absurd cc) (λ is. absurd cc) (λ is. absurd cc) stop
+round_stops old new x y (Err store.LogFull) running stop why cause worn = no_stop store.LogFull (λ is. absurd cc) (λ is. absurd cc) (λ is. absurd cc) stop
+round_stops old new x y (Err store.Unwritten) running stop why cause worn = no_stop store.Unwritten (λ is. absurd cc) (λ is. absurd cc) (λ is. absurd cc) stop
+round_stops old new x y (Err store.Fault) running stop why cause worn = cause.failed refl
+round_stops old new x y (Err store.Unfinished) running stop why cause worn = no_stop store.Unfinished (λ is. absurd cc) (λ is. absurd cc) (λ is. absurd cc) stop
+
+-- a helper's device, where its store's control has the last sequence
+pub worn_out : {D : Type 0} (device : D → Device) (h : Home) (x : Parts D) → IsHelping device h x → x.store.known.committed.sequence ≡ 2 ^ 64 - 1 → IsWornOut (device x.store.disk)
+worn_out device h x helping last = record { known = x.store.known; setting = plan h; past = helping.past; has = helping.serving.taken.has; last = last }
+
+none_open : (lane : ℕ) (es : List Ended) → HoldNone es → HasOpen lane es → ⊥
+none_open lane [] none has = absurd has
+none_open lane (e ∷ es) none has = elim has [
+  | inl here ↦ (let zero : e.held ≡ 0 = none.0 in let some = here.1 in absurd (omega (arith, zero, some)))
+  | inr later ↦ none_open lane es none.1 later
+]
+
+-- the closing of a heap whose sessions have all come, where the store hadn't failed
+pub close_stops : (lanes : ℕ) (es : List Ended) (x : Known) (old new : Device) (e : CloseError) → x.has_failed ≡ false → HoldNone es → IsComplete lanes es → RefusesClosing lanes es e → IsCloseWhy x old new e → StopsClosing old new e
+close_stops lanes es x old new (close.Missing l) running none complete refused why = refused.1 (complete l.0 refused.0)
+close_stops lanes es x old new (close.Unfinished l) running none complete refused why = none_open l.0 es none refused.1
+close_stops lanes es x old new close.Failed running none complete refused why = absurd (let both : true ≡ false = sym (why.failed refl) ∙ running in cc)
+close_stops lanes es x old new close.Worn running none complete refused why = why.worn refl
+close_stops lanes es x old new close.Fault running none complete refused why = why.fault refl
+
+closing_since : (first old new : Device) (e : CloseError) → first.failures ≤ old.failures → StopsClosing old new e → StopsClosing first new e
+closing_since first old new (close.Missing l) low stops = absurd stops
+closing_since first old new (close.Unfinished l) low stops = absurd stops
+closing_since first old new close.Failed low stops = absurd stops
+closing_since first old new close.Worn low stops = stops
+closing_since first old new close.Fault low stops = failed_since first.failures old.failures new.failures low stops
+
+-- the recovery of what closing gave back
+pub telling_stops : (closed new : Device) (e : RecoverError) → RefusesRecovery closed.now.bytes e → (e ≡ recover.Fault → HasFailed closed.failures new.failures) → RefusesTelling closed new e
+telling_stops closed new recover.Fault refused cause = cause refl
+telling_stops closed new recover.NotFormatted refused cause = refused
+telling_stops closed new recover.BadHeader refused cause = refused
+telling_stops closed new recover.TooSmall refused cause = refused
+telling_stops closed new recover.NoControl refused cause = refused
+telling_stops closed new recover.BadControl refused cause = refused
+telling_stops closed new recover.Worn refused cause = refused
+telling_stops closed new (recover.BadRecord lane place) refused cause = refused
+telling_stops closed new (recover.IllegalLog lane place) refused cause = refused
+telling_stops closed new recover.NoMemory refused cause = refused
+
+pub told_stops : (h : Home) (l : Layout) (old closed new : Device) (es : List Ended) (e : DriveError) → HoldNone es → IsComplete l.lanes es → old.failures ≤ closed.failures → IsClosed h l es closed → StopsTelling closed new e → StopsBy h l old new e
+told_stops h l old closed new es NoMemory none complete later ran stops = tt
+told_stops h l old closed new es (Schema e) none complete later ran stops = absurd stops
+told_stops h l old closed new es (Image e) none complete later ran stops = absurd stops
+told_stops h l old closed new es (Helper e) none complete later ran stops = absurd stops
+told_stops h l old closed new es (Session e) none complete later ran stops = absurd stops
+told_stops h l old closed new es (Close e) none complete later ran stops = absurd stops
+told_stops h l old closed new es (Recover e) none complete later ran stops = record { ended = es; none = none; complete = complete; closed = closed; later = later; ran = ran; refused = stops }
+told_stops h l old closed new es OtherSchema none complete later ran stops = absurd stops
+
+-- a run's stop since a later moment is one since an earlier one
+pub stops_since : (h : Home) (l : Layout) (first old new : Device) (e : DriveError) → first.failures ≤ old.failures → StopsBy h l old new e → StopsBy h l first new e
+stops_since h l first old new NoMemory low stops = tt
+stops_since h l first old new (Schema e) low stops = absurd stops
+stops_since h l first old new (Image e) low stops = absurd stops
+stops_since h l first old new (Helper e) low stops = round_since first old new e low stops
+stops_since h l first old new (Session e) low stops = stops
+stops_since h l first old new (Close e) low stops = closing_since first old new e low stops
+stops_since h l first old new (Recover e) low stops =
+    let before = stops.later in
+    record { ended = stops.ended; none = stops.none; complete = stops.complete; closed = stops.closed; later = omega (arith, low, before); ran = stops.ran; refused = stops.refused }
+stops_since h l first old new OtherSchema low stops = absurd stops

@@ -1,0 +1,19 @@
+use Rattle.std.proofs.Common.{IfSome, Option, ◌∙◌, subst}
+use Rattle.session.specs.declared.error.SessionError.{SessionError}
+use Rattle.drive.specs.Working.{StopsWorker}
+use Rattle.drive.proofs.Lanes.{complete_of}
+use Rattle.drive.proofs.driving.end_all.Goals as goal
+
+pub close_all-requires-clause-ended : goal.close_all-requires-clause-ended
+close_all-requires-clause-ended g c = c.in-Ok.ensures.ended c.args.shared c.args.helper.store.known.layout.capacity c.args.helper.rings c.requires.worked
+
+pub close_all-requires-clause-none : goal.close_all-requires-clause-none
+close_all-requires-clause-none g c = c.in-Ok.ensures.none c.args.shared c.args.helper.store.known.layout.capacity c.args.helper.rings c.requires.worked
+
+pub close_all-requires-clause-complete : goal.close_all-requires-clause-complete
+close_all-requires-clause-complete g c = complete_of c.args.helper.store.known.layout.lanes c.in-Ok.ended.items (c.in-Ok.ensures.lanes ∙ c.requires.lanes)
+
+pub returns-in-Some-clause-cause : goal.returns-in-Some-clause-cause
+returns-in-Some-clause-cause g c =
+    let capacity = c.args.helper.store.known.layout.capacity in
+    subst (λ (x : Option SessionError). IfSome x (StopsWorker c.args.shared capacity)) c.in-Some.is (c.in-Ok.ensures.refused c.args.shared capacity c.args.helper.rings c.requires.worked)

@@ -1,0 +1,11 @@
+use Rattle.std.proofs.Common.{ℕ, ◌+◌, [], ◌∷◌, refl, sym, subst}
+use Rattle.session.specs.Sessions.{view_of}
+use Rattle.drive.specs.Working.{HoldsJust}
+use Rattle.drive.proofs.Holding.{free}
+use Rattle.drive.proofs.working.pass.Goals as goal
+
+pub returns-clause-free : goal.returns-clause-free
+returns-clause-free g c =
+    let seen = view_of c.leave.new.session in
+    let held = subst (λ (n : ℕ). HoldsJust (view_of c.count_both-counted.new.session) ((n + 1) ∷ []) 5) (sym c.from.ensures) c.count_both-counted.ensures.held in
+    free seen.plan seen.events 6 (c.leave.ensures.held [] 5 refl held)

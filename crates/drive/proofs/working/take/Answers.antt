@@ -1,0 +1,9 @@
+use Rattle.session.specs.Sessions.{capacity_of, view_of}
+use Rattle.drive.proofs.Refusing.{enters}
+use Rattle.drive.proofs.working.take.Goals as goal
+
+pub returns-clause-taken : goal.returns-clause-taken
+returns-clause-taken g c = λ objects n may holds.
+    let session = c.args.session.now in
+    enters c.args.shared.now (capacity_of session) (view_of session) (view_of c.enter.new.self) c.args.object c.enter.result objects n
+    c.requires.seat.1 c.enter.ensures.seat.1 c.enter.ensures.settled c.enter.ensures.unknown c.enter.ensures.first may holds
