@@ -18,8 +18,9 @@
  *  - no call comes from a signal handler, or in a child that was forked by a process with threads.
  * Everything else is answered by a status. No call waits, blocks, starts a thread or panics; each out-parameter is always set.
  *
- * The device. The library has no file: it works in memory, and asks the host to write and sync. zelamiku_next_call tells the next
- * call, the host makes it on a device of its own (a file, a block device, a volume), and zelamiku_call_done says that it has:
+ * The device. The library has no file: it works in memory, and asks the host to write and sync. On a file of the system zelamiku_file.h
+ * does that: zelamiku_open_file, zelamiku_format_file, zelamiku_make_calls. Elsewhere zelamiku_next_call tells the next call, the host
+ * makes it on a device of its own (a block device, a volume, a ring of requests), and zelamiku_call_done says that it has:
  *     uint8_t buffer[ZELAMIKU_MOST_BYTES];
  *     zelamiku_call call = {0};
  *     for (;;) {
@@ -95,7 +96,9 @@ typedef enum {
     ZELAMIKU_NO_CONTROL = 28,     /* the image has no control */
     ZELAMIKU_BAD_CONTROL = 29,    /* the image's control can't be read */
     ZELAMIKU_BAD_RECORD = 30,     /* the image has a record that can't be read */
-    ZELAMIKU_ILLEGAL_LOG = 31     /* no threads can have left the image's log */
+    ZELAMIKU_ILLEGAL_LOG = 31,    /* no threads can have left the image's log */
+    ZELAMIKU_DEVICE = 32,         /* of zelamiku_file.h alone: a call of the file has failed */
+    ZELAMIKU_LOST = 33            /* of zelamiku_file.h alone: a sync of the file has failed, and the heap was let go */
 } zelamiku_status;
 
 /* A field of a heap that is to be made. */
@@ -185,6 +188,8 @@ static inline const char *zelamiku_status_text(uint32_t status) {
     case ZELAMIKU_BAD_CONTROL: return "the image's control can't be read";
     case ZELAMIKU_BAD_RECORD: return "the image has a record that can't be read";
     case ZELAMIKU_ILLEGAL_LOG: return "no threads can have left the image's log";
+    case ZELAMIKU_DEVICE: return "a call of the file has failed";
+    case ZELAMIKU_LOST: return "a sync of the file has failed, and the heap was let go";
     default: return "no status of zelamiku.h";
     }
 }

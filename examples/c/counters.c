@@ -1,5 +1,5 @@
 /* A counter service: four threads count, each in a counter of its own and in the total, in one section. A helper thread makes rounds
- * and makes the calls of the device on a file. Killed at any time and started again on the same file, the total is the sum of its
+ * and makes their calls on a file. Killed at any time and started again on the same file, the total is the sum of its
  * parts, and no less than the total before and what was told as acknowledged since.
  *
  *     counters FILE [SECONDS]
@@ -17,10 +17,9 @@
 #include <stdio.h>
 #include <stdlib.h>
 #include <string.h>
-#include <sys/stat.h>
 #include <time.h>
 #include <unistd.h>
-#include "zelamiku.h"
+#include "zelamiku_file.h"
 
 #ifdef HELGRIND /* which knows nothing of C11's atomics */
 #include <valgrind/helgrind.h>
@@ -37,6 +36,8 @@ static atomic_bool ended;    /* for the helper */
 static void must(uint32_t status, const char *what) {
     if (status != ZELAMIKU_OK) {
         fprintf(stderr, "%s: %s\n", what, zelamiku_status_text(status));
+        /* A sync that failed isn't made again: a later one may succeed though the file has lost what was written. */
+        if (status == ZELAMIKU_LOST) fprintf(stderr, "Mount the file system again before you start on this file.\n");
         exit(2);
     }
 }
@@ -48,28 +49,10 @@ static void must_do(bool is_done, const char *what) {
     }
 }
 
-/* A sync that failed isn't made again: a later one may succeed though the file has lost what was written. */
-static void must_sync(bool is_done) {
-    if (!is_done) {
-        perror("sync");
-        fprintf(stderr, "What was written may be lost: mount the file system again before you start on this file.\n");
-        exit(2);
-    }
-}
-
 /* Makes all calls of the device that are left. */
 static void make_calls(zelamiku_handle *heap) {
-    static uint8_t bytes[ZELAMIKU_MOST_BYTES];
-    zelamiku_call call = {0};
-    for (;;) {
-        must(zelamiku_next_call(heap, &call, bytes, sizeof bytes), "next call");
-        if (call.kind == ZELAMIKU_NO_CALL) return;
-        if (call.kind == ZELAMIKU_WRITE)
-            must_do(pwrite(file, bytes, call.size, (off_t)call.at) == (ssize_t)call.size, "pwrite");
-        else
-            must_sync(fdatasync(file) == 0);
-        must(zelamiku_call_done(heap), "call done");
-    }
+    uint64_t made = 0;
+    must(zelamiku_make_calls(heap, file, &made), "make calls");
 }
 
 /* Enters, and tries again while another thread has the monitor or the helper is behind. */
@@ -131,38 +114,26 @@ static void *help(void *data) {
     return NULL;
 }
 
-/* Whether a heap may be made over these bytes: there are none, or only zeros, or the beginning of an image whose making was cut off. */
-static bool is_free(const uint8_t *bytes, size_t size) {
-    if (size >= 8 && memcmp(bytes, "MONIHEAP", 8) == 0) return true;
-    for (size_t i = 0; i < size; i++)
-        if (bytes[i] != 0) return false;
-    return true;
-}
-
-/* Makes a heap in the file, which has zeros then, durably. */
-static void make(zelamiku_handle *heap) {
-    zelamiku_field fields[WORKERS + 1];
-    for (uint32_t i = 0; i <= WORKERS; i++) fields[i] = (zelamiku_field){i, i, 0};
-    uint64_t size = 0;
-    must(zelamiku_format(heap, WORKERS + 1, fields, WORKERS + 1, WORKERS + 1, CAPACITY, &size), "format");
-    must_do(ftruncate(file, 0) == 0 && ftruncate(file, (off_t)size) == 0, "ftruncate");
-    must_sync(fsync(file) == 0);
+/* Whether a heap may be made in the file: it has no bytes, or only zeros, or the beginning of an image whose making was cut off. */
+static bool is_free(void) {
+    char bytes[4096];
+    ssize_t count;
+    for (off_t at = 0; (count = pread(file, bytes, sizeof bytes, at)) > 0; at += count) {
+        if (at == 0 && count >= 8 && memcmp(bytes, "MONIHEAP", 8) == 0) return true;
+        for (ssize_t i = 0; i < count; i++)
+            if (bytes[i] != 0) return false;
+    }
+    return count == 0;
 }
 
 /* Opens the heap of the file, or makes one. */
 static void begin(zelamiku_handle *heap, const char *name) {
-    /* What a killed run has written is in the system's cache: it has to be durable, and to be read from the device. */
-    must_sync(fdatasync(file) == 0);
-    posix_fadvise(file, 0, 0, POSIX_FADV_DONTNEED);
-    struct stat status;
-    must_do(fstat(file, &status) == 0, "fstat");
-    size_t size = (size_t)status.st_size;
-    uint8_t *image = malloc(size + 1);
-    must_do(image != NULL && pread(file, image, size, 0) == (ssize_t)size, "read");
     zelamiku_found found = {0};
-    uint32_t answer = zelamiku_open(heap, image, size, &found);
-    if (answer == ZELAMIKU_NOT_FORMATTED && is_free(image, size)) {
-        make(heap);
+    uint32_t answer = zelamiku_open_file(heap, file, &found);
+    if (answer == ZELAMIKU_NOT_FORMATTED && is_free()) {
+        zelamiku_field fields[WORKERS + 1];
+        for (uint32_t i = 0; i <= WORKERS; i++) fields[i] = (zelamiku_field){i, i, 0};
+        must(zelamiku_format_file(heap, file, WORKERS + 1, fields, WORKERS + 1, WORKERS + 1, CAPACITY), "format");
     } else if (answer == ZELAMIKU_NOT_FORMATTED) {
         fprintf(stderr, "%s has no heap, and isn't empty: it is left as it is\n", name);
         exit(2);
@@ -173,7 +144,6 @@ static void begin(zelamiku_handle *heap, const char *name) {
             exit(2);
         }
     }
-    free(image);
     make_calls(heap);
 }
 
