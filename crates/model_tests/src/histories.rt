@@ -66,6 +66,19 @@ fn stable(alloc: Global, records: &[LaneRecord]) -> Option<[[u64; 2]; 2]> {
     Some([first_two(&cut)?, heap])
 }
 
+// The same of the first so many records, and of all.
+fn stable_in_two(
+    alloc: Global,
+    records: &[LaneRecord],
+    first: usize,
+) -> [Option<[[u64; 2]; 2]>; 2] {
+    let begun = match records.get(..first) {
+        Some(part) => stable(alloc, part),
+        None => None,
+    };
+    [begun, stable(alloc, records)]
+}
+
 // The law holds of whatever is listed: an undo log's records are.
 #[test]
 fn the_earliest_is_found_of_any_type(_rt: HostRuntime) {
@@ -85,13 +98,8 @@ fn dependence_holds_a_section_back(rt: HostRuntime) {
         rel(1, 0, 1),
         rel(0, 1, 0),
     ];
-    assert_eq!(rt;
-        [
-            stable(rt.alloc(), &records[..7]),
-            stable(rt.alloc(), &records)
-        ],
-        [Some([[0, 0], [10, 20]]), Some([[1, 1], [2, 20]])]
-    );
+    let wanted = [Some([[0, 0], [10, 20]]), Some([[1, 1], [2, 20]])];
+    assert!(rt; stable_in_two(rt.alloc(), &records, 7) == wanted);
 }
 
 // Two sections that depend on each other become stable together.
@@ -109,16 +117,11 @@ fn a_circle_becomes_stable_as_a_whole(rt: HostRuntime) {
         rel(0, 0, 0),
         rel(1, 1, 1),
     ];
-    assert_eq!(rt;
-        [
-            stable(rt.alloc(), &records[..9]),
-            stable(rt.alloc(), &records)
-        ],
-        [Some([[0, 0], [10, 20]]), Some([[1, 1], [10, 20]])]
-    );
+    let wanted = [Some([[0, 0], [10, 20]]), Some([[1, 1], [10, 20]])];
+    assert!(rt; stable_in_two(rt.alloc(), &records, 9) == wanted);
 }
 
-// A wait that frees the last monitor ends a section, and one that keeps another monitor doesn't.
+// A wait that frees the last monitor ends a section.
 #[test]
 fn a_section_ends_at_a_wait(rt: HostRuntime) {
     let records = [
@@ -130,15 +133,15 @@ fn a_section_ends_at_a_wait(rt: HostRuntime) {
         acq(0, 0, 2),
         rel(0, 0, 2),
     ];
-    assert_eq!(rt;
-        [
-            stable(rt.alloc(), &records[..3]),
-            stable(rt.alloc(), &records)
-        ],
-        [Some([[1, 0], [7, 20]]), Some([[2, 1], [7, 20]])]
-    );
-    let inside = [acq(0, 0, 0), acq(0, 1, 0), wait(0, 0, 0)];
-    assert_eq!(rt; [stable(rt.alloc(), &inside)], [Some([[0, 0], [10, 20]])]);
+    let wanted = [Some([[1, 0], [7, 20]]), Some([[2, 1], [7, 20]])];
+    assert!(rt; stable_in_two(rt.alloc(), &records, 3) == wanted);
+}
+
+// One that keeps another monitor doesn't.
+#[test]
+fn no_section_ends_at_a_wait_inside(rt: HostRuntime) {
+    let records = [acq(0, 0, 0), acq(0, 1, 0), wait(0, 0, 0)];
+    assert!(rt; stable(rt.alloc(), &records) == Some([[0, 0], [10, 20]]));
 }
 
 // The heap that one section of lane 0 keeps.
@@ -162,7 +165,7 @@ fn a_cut_keeps_its_own_stores(rt: HostRuntime) {
         put(1, 0, 5, 6),
         rel(1, 0, 1),
     ];
-    assert_eq!(rt; kept_by_one(rt.alloc(), &records), Some([5, 20]));
+    assert!(rt; kept_by_one(rt.alloc(), &records) == Some([5, 20]));
 }
 
 // The first record of these whose undo record is another one.
@@ -247,12 +250,18 @@ fn first_unnumbered() -> Option<u8> {
     None
 }
 
+// The first of these threads that is a lane's.
+fn first_lane(threads: &[u64]) -> Option<u64> {
+    threads
+        .iter()
+        .copied()
+        .find(|thread| Lane::of_thread(*thread).is_some())
+}
+
 // Threads are shown from 1, and only the lanes that a heap may have are found.
 #[test]
 fn threads_are_numbered_from_one(rt: HostRuntime) {
-    assert!(rt; first_unnumbered().is_none());
-    assert!(rt; Lane(255).thread() == 256);
-    for thread in [0, LANES as u64 + 1, 256, 257, u64::MAX] {
-        assert!(rt; Lane::of_thread(thread).is_none());
-    }
+    let threads = [0, LANES as u64 + 1, 256, 257, u64::MAX];
+    let found = (first_unnumbered(), Lane(255).thread(), first_lane(&threads));
+    assert!(rt; found == (None, 256, None));
 }

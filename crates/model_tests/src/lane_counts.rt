@@ -27,44 +27,50 @@ fn numbers(count: LaneCount) -> [u64; 4] {
     [count.place, count.held, count.ended, count.since]
 }
 
-// JLS 17.2.1 and Atlas: a section goes from holding nothing to holding nothing, and a wait's release ends one too.
-#[test]
-fn a_lane_is_counted(rt: HostRuntime) {
+const TAKE_ANOTHER: UndoRecord = UndoRecord::Acq {
+    object: ObjectId(2),
+    number: 7,
+};
+
+const FREE: UndoRecord = UndoRecord::Rel {
+    object: OBJECT,
+    number: 7,
+};
+
+// A take, a store, a wait and a take: what is counted at first and behind each of them; and whether the lane may take the
+// object or another one while it waits, and free it in the end.
+fn told_of_lane() -> ([[u64; 4]; 5], [bool; 3]) {
     let new = LaneCount::new();
     let taken = new.after(TAKE);
     let stored = taken.after(STORE);
     let freed = stored.after(WAIT);
     let again = freed.after(TAKE);
-    assert!(rt;
-        [
-            numbers(new),
-            numbers(taken),
-            numbers(stored),
-            numbers(freed),
-            numbers(again)
-        ] == [
-            [0, 0, 0, 0],
-            [1, 1, 0, 1],
-            [2, 1, 0, 2],
-            [3, 0, 1, 0],
-            [4, 1, 1, 1]
-        ]
-    );
-    let of_another = UndoRecord::Acq {
-        object: ObjectId(2),
-        number: 7,
-    };
-    let free = UndoRecord::Rel {
-        object: OBJECT,
-        number: 7,
-    };
-    assert!(rt;
-        [
-            freed.may_follow(TAKE),
-            freed.may_follow(of_another),
-            again.may_follow(free)
-        ] == [true, false, true]
-    );
+    let counted = [
+        numbers(new),
+        numbers(taken),
+        numbers(stored),
+        numbers(freed),
+        numbers(again),
+    ];
+    let may_follow = [
+        freed.may_follow(TAKE),
+        freed.may_follow(TAKE_ANOTHER),
+        again.may_follow(FREE),
+    ];
+    (counted, may_follow)
+}
+
+// JLS 17.2.1 and Atlas: a section goes from holding nothing to holding nothing, and a wait's release ends one too.
+#[test]
+fn a_lane_is_counted(rt: HostRuntime) {
+    let counted = [
+        [0, 0, 0, 0],
+        [1, 1, 0, 1],
+        [2, 1, 0, 2],
+        [3, 0, 1, 0],
+        [4, 1, 1, 1],
+    ];
+    assert!(rt; told_of_lane() == (counted, [true, false, true]));
 }
 
 // Whether the lane may take the monitor at 5 and at 6, store under it, and free it at 5.
@@ -79,16 +85,28 @@ fn allowed(monitors: &Monitors, lane: Lane, object: ObjectId) -> [bool; 4]
     ]
 }
 
+// What the first lane may do at first, what it and the second may do once it has taken the monitor, and the second once it is
+// free again.
+fn told_of_monitor(first: Lane, second: Lane, object: ObjectId) -> [[bool; 4]; 4]
+    requires { object.0 < 4096 }
+{
+    let mut monitors = Monitors::free_at([5; 4096]);
+    let free = allowed(&monitors, first, object);
+    monitors.note(first, UndoRecord::Acq { object, number: 5 });
+    let held = allowed(&monitors, first, object);
+    let by_another = allowed(&monitors, second, object);
+    monitors.note(first, UndoRecord::Rel { object, number: 5 });
+    [free, held, by_another, allowed(&monitors, second, object)]
+}
+
 // JLS 17.1: one lane holds a monitor at a time. The release number rises by one with each release.
 #[test]
 fn a_monitor_goes_from_lane_to_lane(rt: HostRuntime) {
-    let object = ObjectId(4095);
-    let (first, second) = (Lane(0), Lane(31));
-    let mut monitors = Monitors::free_at([5; 4096]);
-    assert!(rt; allowed(&monitors, first, object) == [true, false, false, false]);
-    monitors.note(first, UndoRecord::Acq { object, number: 5 });
-    assert!(rt; allowed(&monitors, first, object) == [false, false, true, true]);
-    assert!(rt; allowed(&monitors, second, object) == [false; 4]);
-    monitors.note(first, UndoRecord::Rel { object, number: 5 });
-    assert!(rt; allowed(&monitors, second, object) == [false, true, false, false]);
+    let wanted = [
+        [true, false, false, false],
+        [false, false, true, true],
+        [false; 4],
+        [false, true, false, false],
+    ];
+    assert!(rt; told_of_monitor(Lane(0), Lane(31), ObjectId(4095)) == wanted);
 }

@@ -117,15 +117,13 @@ fn thin_filled() -> Option<[u64; 2]> {
 
 #[test]
 fn a_thin_lock_is_nested_and_released(rt: HostRuntime) {
-    assert!(rt; thin_filled() == Some([511, 16_777_216]));
     let once = LockWord::thin(1, 0, LAST_NUMBER);
-    assert!(rt;
-        [
-            once.can_unnest(),
-            once.can_release(),
-            LockWord::free(0).can_nest()
-        ] == [false; 3]
-    );
+    let can = [
+        once.can_unnest(),
+        once.can_release(),
+        LockWord::free(0).can_nest(),
+    ];
+    assert!(rt; (thin_filled(), can) == (Some([511, 16_777_216]), [false; 3]));
 }
 
 fn fat_nested() -> Option<[u64; 2]> {
@@ -148,14 +146,12 @@ fn fat_nested() -> Option<[u64; 2]> {
 
 #[test]
 fn a_fat_lock_is_nested_and_released(rt: HostRuntime) {
-    assert!(rt; fat_nested() == Some([65_537, 16_777_216]));
-    assert!(rt;
-        [
-            FatWord::held(1, 65_535, 0).can_nest(),
-            FatWord::held(1, 0, 0).can_unnest(),
-            FatWord::free(0).can_release()
-        ] == [false; 3]
-    );
+    let can = [
+        FatWord::held(1, 65_535, 0).can_nest(),
+        FatWord::held(1, 0, 0).can_unnest(),
+        FatWord::free(0).can_release(),
+    ];
+    assert!(rt; (fat_nested(), can) == (Some([65_537, 16_777_216]), [false; 3]));
 }
 
 #[test]
@@ -165,15 +161,18 @@ fn shapes_are_told(rt: HostRuntime) {
         again: 255,
         number: 7,
     };
-    assert!(rt; LockWord::thin(3, 255, 7).shape() == thin);
     let held = FatShape::Held {
         thread: 2,
         again: 0,
         number: 1,
     };
-    assert!(rt; FatWord::held(2, 0, 1).shape() == held);
-    assert!(rt; is_release_number(LAST_NUMBER));
-    assert!(rt; !is_release_number(LAST_NUMBER + 1));
+    let found = [
+        LockWord::thin(3, 255, 7).shape() == thin,
+        FatWord::held(2, 0, 1).shape() == held,
+        is_release_number(LAST_NUMBER),
+        is_release_number(LAST_NUMBER + 1),
+    ];
+    assert!(rt; found == [true, true, true, false]);
 }
 
 // The bits and the least of a set.
@@ -191,22 +190,19 @@ fn masks_are_sets_of_lanes(rt: HostRuntime) {
         .with(Lane(0))
         .with(Lane(31));
     let last = both.without(Lane(0)).without(Lane(5));
-    assert!(rt;
-        [told(both), told(last), told(WaitMask::empty())]
-            == [
-                (2_147_483_649, Some(0)),
-                (2_147_483_648, Some(31)),
-                (0, None)
-            ]
-    );
-    assert!(rt;
-        [
-            last.has(Lane(31)),
-            last.has(Lane(0)),
-            is_lane(Lane(31)),
-            is_lane(Lane(32))
-        ] == [true, false, true, false]
-    );
+    let sets = [told(both), told(last), told(WaitMask::empty())];
+    let has = [
+        last.has(Lane(31)),
+        last.has(Lane(0)),
+        is_lane(Lane(31)),
+        is_lane(Lane(32)),
+    ];
+    let wanted = [
+        (2_147_483_649, Some(0)),
+        (2_147_483_648, Some(31)),
+        (0, None),
+    ];
+    assert!(rt; (sets, has) == (wanted, [true, false, true, false]));
 }
 
 // The first of these that isn't read as the set with these bits.
@@ -232,13 +228,13 @@ fn first_mask(words: &[u64]) -> Option<u64> {
 // Only bits 0 to 31 are lanes.
 #[test]
 fn masks_have_32_bits(rt: HostRuntime) {
-    let words = [0, 1, 2_147_483_649, 4_294_967_295];
-    assert!(rt; first_no_mask(&words).is_none());
-    let words = [
+    let masks = [0, 1, 2_147_483_649, 4_294_967_295];
+    let others = [
         4_294_967_296,
         4_294_967_297,
         9_223_372_036_854_775_808,
         u64::MAX,
     ];
-    assert!(rt; first_mask(&words).is_none());
+    let found = [first_no_mask(&masks), first_mask(&others)];
+    assert!(rt; found == [None; 2]);
 }
