@@ -3,61 +3,64 @@ use heap_model::{Cut, Lane};
 use recover::{Dropped, Why};
 use script_machine::{Answer, Refusal, Report};
 use scripts::text;
-use std::alloc::{AllocError, Global};
-use std::test::Fail;
+use std::alloc::Global;
 
-fn printed(alloc: Global, answer: Answer) -> Result<Vec<u8>, AllocError> {
-    text(alloc, &answer)
+// Whether the answer prints so.
+fn is_printed_so(alloc: Global, answer: Answer, wanted: &[u8]) -> Option<bool> {
+    let printed = text(alloc, &answer).ok()?;
+    Some(printed.as_slice() == wanted)
+}
+
+fn acknowledged(alloc: Global) -> Option<bool> {
+    let counts = Vec::from_array(alloc, [1u64, 0]).ok()?;
+    is_printed_so(alloc, Answer::Acknowledged(counts), b"acknowledged 1 0\n")
+}
+
+fn dropped(lane: u8, why: Why) -> Dropped {
+    Dropped {
+        lane: Lane(lane),
+        section: 1,
+        why,
+    }
+}
+
+// The report of the example in which a section drags another along.
+fn report(alloc: Global) -> Option<Report> {
+    let after = Why::After {
+        lane: Lane(0),
+        section: 1,
+    };
+    let both = [dropped(0, Why::Unfinished), dropped(1, after)];
+    let found = recover::Report {
+        kept: Cut { counts: [0; 32] },
+        dropped: Vec::from_array(alloc, both).ok()?,
+        undone: 1,
+    };
+    Some(Report {
+        found,
+        lanes: 2,
+        heap: Vec::from_array(alloc, [10u64, 20]).ok()?,
+    })
+}
+
+fn recovered(alloc: Global) -> Option<bool> {
+    let lines =
+        b"kept 0 0\ndropped t1 1 unfinished\ndropped t2 1 after t1 1\nundone 1\nheap 10 20\n";
+    is_printed_so(alloc, Answer::Recovered(report(alloc)?), lines)
 }
 
 #[test]
-fn answers_print_as_documented(rt: HostRuntime) -> Result<(), Fail> {
+fn answers_print_as_documented(rt: HostRuntime) {
     let alloc = rt.alloc();
-    assert_eq!(rt;
-        printed(alloc, Answer::Formatted(130_208))?.as_slice(),
-        b"formatted 130208\n".as_slice()
-    );
-    let counts = Vec::from_array(alloc, [1u64, 0])?;
-    assert_eq!(rt;
-        printed(alloc, Answer::Acknowledged(counts))?.as_slice(),
-        b"acknowledged 1 0\n".as_slice()
-    );
-    let lane = Lane(1);
-    let place = 7;
-    let bad = Refusal::BadRecord { lane, place };
-    assert_eq!(rt;
-        printed(alloc, Answer::Refused(bad))?.as_slice(),
-        b"refused bad record t2 7\n".as_slice()
-    );
-    // The report of the example in which a section drags another along.
-    let first = Dropped {
-        lane: Lane(0),
-        section: 1,
-        why: Why::Unfinished,
+    let bad = Refusal::BadRecord {
+        lane: Lane(1),
+        place: 7,
     };
-    let second = Dropped {
-        lane,
-        section: 1,
-        why: Why::After {
-            lane: Lane(0),
-            section: 1,
-        },
-    };
-    let found = recover::Report {
-        kept: Cut { counts: [0; 32] },
-        dropped: Vec::from_array(alloc, [first, second])?,
-        undone: 1,
-    };
-    let report = Report {
-        found,
-        lanes: 2,
-        heap: Vec::from_array(alloc, [10u64, 20])?,
-    };
-    let lines =
-        b"kept 0 0\ndropped t1 1 unfinished\ndropped t2 1 after t1 1\nundone 1\nheap 10 20\n";
-    assert_eq!(rt;
-        printed(alloc, Answer::Recovered(report))?.as_slice(),
-        lines.as_slice()
-    );
-    Ok(())
+    let found = [
+        is_printed_so(alloc, Answer::Formatted(130_208), b"formatted 130208\n"),
+        acknowledged(alloc),
+        is_printed_so(alloc, Answer::Refused(bad), b"refused bad record t2 7\n"),
+        recovered(alloc),
+    ];
+    assert!(rt; found == [Some(true); 4]);
 }
