@@ -4,6 +4,7 @@ ghost use Rattle.std.specs.Prelude.{◌+◌, ◌-◌, ◌<◌, ◌≤◌, ◌^�
 use crate::format_tests::schema_or_none;
 use block_disk::{Disk, Fill, MemDisk};
 use durable::{Home, Store, StoreCall, StoreError};
+use guards::Schema;
 use heap_model::{FieldId, Lane, ObjectId, Record, UndoRecord};
 use image::{Control, LaneRow, Layout, choose_control};
 use std::alloc::Global;
@@ -67,20 +68,39 @@ fn store_on(
 ) -> Option<Store<MemDisk>>
     requires { last ≤ 2 ^ 40 - 1 }
 {
-    let schema = schema_or_none(alloc)?;
-    let Ok(made) = format(alloc, disk, &schema, lanes, capacity) else {
+    match schema_or_none(alloc) {
+        Some(schema) => adopted(alloc, disk, &schema, lanes, capacity, last),
+        None => None,
+    }
+}
+
+// The same of this schema.
+fn adopted(
+    alloc: Global,
+    disk: MemDisk,
+    schema: &Schema,
+    lanes: u8,
+    capacity: u32,
+    last: u64,
+) -> Option<Store<MemDisk>>
+    requires { last ≤ 2 ^ 40 - 1 }
+{
+    let Ok(made) = format(alloc, disk, schema, lanes, capacity) else {
         return None;
     };
-    let Ok(store) = Store::adopt(alloc, made, last) else {
-        return None;
-    };
-    Some(store)
+    match Store::adopt(alloc, made, last) {
+        Ok(store) => Some(store),
+        Err(_) => None,
+    }
 }
 
 fn fresh(alloc: Global, lanes: u8, last: u64) -> Option<Store<MemDisk>>
     requires { last ≤ 2 ^ 40 - 1 }
 {
-    store_on(alloc, MemDisk::new(alloc, 130_208).ok()?, lanes, 4000, last)
+    match MemDisk::new(alloc, 130_208) {
+        Ok(disk) => store_on(alloc, disk, lanes, 4000, last),
+        Err(_) => None,
+    }
 }
 
 // How many sections of the lane are acknowledged, if there is such a lane.
@@ -190,20 +210,24 @@ fn two_sections_are_kept(rt: HostRuntime) {
 }
 
 // Whether a section is played, how many of its records are logged, and what two home steps do then.
-fn logged_and_home(
-    alloc: Global,
-) -> Option<(bool, Result<u64, StoreError>, [Result<Home, StoreError>; 2])> {
-    let mut store = fresh(alloc, 2, 2)?;
+type LoggedHome = (bool, Result<u64, StoreError>, [Result<Home, StoreError>; 2]);
+
+fn logged_and_home(store: &mut Store<MemDisk>) -> LoggedHome {
     let is_played = store.play(&SECTION) == Ok(());
     let logged = store.log_step();
     let first = store.home_step();
-    Some((is_played, logged, [first, store.home_step()]))
+    (is_played, logged, [first, store.home_step()])
+}
+
+fn told_of_home(alloc: Global) -> Option<LoggedHome> {
+    let mut store = fresh(alloc, 2, 2)?;
+    Some(logged_and_home(&mut store))
 }
 
 #[test]
 fn a_store_is_logged_and_goes_home(rt: HostRuntime) {
     let home = [Ok(Home::Wrote(FieldId(0))), Ok(Home::Done)];
-    assert!(rt; logged_and_home(rt.alloc()) == Some((true, Ok(3), home)));
+    assert!(rt; told_of_home(rt.alloc()) == Some((true, Ok(3), home)));
 }
 
 // A section of 1,000 records: the acquire, 998 stores, of which the next is refused, and the release.
@@ -228,11 +252,10 @@ fn are_sections(store: &mut Store<MemDisk>, count: u64) -> bool {
 
 // Whether four sections are taken; what one more answers, and how many records are logged; and whether it is taken once
 // those are trimmed.
-fn fifth_section(
-    alloc: Global,
-) -> Option<(bool, Result<(), StoreError>, Result<u64, StoreError>, bool)> {
-    let mut store = fresh(alloc, 1, 9)?;
-    let four = are_sections(&mut store, 4);
+type Fifth = (bool, Result<(), StoreError>, Result<u64, StoreError>, bool);
+
+fn fifth_section(store: &mut Store<MemDisk>) -> Fifth {
+    let four = are_sections(store, 4);
     let fifth = store.apply(Lane(0), acq(0, 4));
     let logged = store.log_step();
     let calls = [
@@ -241,28 +264,30 @@ fn fifth_section(
         StoreCall::Trim,
         one(acq(0, 4)),
     ];
-    Some((four, fifth, logged, store.play(&calls) == Ok(())))
+    (four, fifth, logged, store.play(&calls) == Ok(()))
+}
+
+fn told_of_fifth(alloc: Global) -> Option<Fifth> {
+    let mut store = fresh(alloc, 1, 9)?;
+    Some(fifth_section(&mut store))
 }
 
 // An area of 4,000 records takes four sections of 1,000, and a fifth once they are trimmed.
 #[test]
 fn a_fifth_section_is_too_much(rt: HostRuntime) {
     let wanted = (true, Err(StoreError::LogFull), Ok(4000), true);
-    assert!(rt; fifth_section(rt.alloc()) == Some(wanted));
+    assert!(rt; told_of_fifth(rt.alloc()) == Some(wanted));
 }
 
-// So many sections of 1,000 records, which are then logged and acknowledged.
-fn settled_sections(store: &mut Store<MemDisk>, from: u64, count: u64) -> Result<(), StoreError>
+// Whether so many sections of 1,000 records are taken, and then logged and acknowledged.
+fn are_settled(store: &mut Store<MemDisk>, from: u64, count: u64) -> bool
     requires { from + count < 2 ^ 64 }
 {
+    let mut are_taken = true;
     for number in from..from + count {
-        if !section(store, number) {
-            return Err(StoreError::NotNext);
-        }
+        are_taken &= section(store, number);
     }
-    store.log_step()?;
-    store.home_step()?;
-    store.settle()
+    are_taken && store.log_step().is_ok() && store.home_step().is_ok() && store.settle().is_ok()
 }
 
 // The first place of the first lane that wasn't trimmed, and how often the device was called.
@@ -276,23 +301,26 @@ fn place_and_calls(store: &Store<MemDisk>) -> (u64, u64) {
 }
 
 // Two sections fill an area of 2,000 records. What is acknowledged of them is trimmed, and a third takes the places of the
-// first: the places and calls after each step.
-fn places_again(alloc: Global) -> Option<[(u64, u64); 5]> {
+// first: whether each step is taken, and the places and calls after it.
+fn places_again(store: &mut Store<MemDisk>) -> ([bool; 5], [(u64, u64); 5]) {
+    let two = are_settled(store, 0, 2)
+        && store.apply(Lane(0), acq(0, 2)) == Err(StoreError::LogFull);
+    let settled = place_and_calls(store);
+    let first = store.trim().is_ok();
+    let trimmed = place_and_calls(store);
+    let second = store.trim().is_ok();
+    let again = place_and_calls(store);
+    let one = are_settled(store, 2, 1);
+    let third = place_and_calls(store);
+    let last = store.trim().is_ok();
+    let steps = [settled, trimmed, again, third, place_and_calls(store)];
+    ([two, first, second, one, last], steps)
+}
+
+fn told_of_places(alloc: Global) -> Option<([bool; 5], [(u64, u64); 5])> {
     let disk = MemDisk::new(alloc, 130_208).ok()?;
     let mut store = store_on(alloc, disk, 1, 2000, 9)?;
-    settled_sections(&mut store, 0, 2).ok()?;
-    if store.apply(Lane(0), acq(0, 2)) != Err(StoreError::LogFull) {
-        return None;
-    }
-    let settled = place_and_calls(&store);
-    store.trim().ok()?;
-    let trimmed = place_and_calls(&store);
-    store.trim().ok()?;
-    let again = place_and_calls(&store);
-    settled_sections(&mut store, 2, 1).ok()?;
-    let third = place_and_calls(&store);
-    store.trim().ok()?;
-    Some([settled, trimmed, again, third, place_and_calls(&store)])
+    Some(places_again(&mut store))
 }
 
 // The format takes 13 calls; the first two sections 2,000 writes, a sync and a commit of 4, a home write, a sync and a commit of
@@ -306,7 +334,7 @@ fn a_trim_makes_room(rt: HostRuntime) {
         (2000, 3047),
         (3000, 3053),
     ];
-    assert!(rt; places_again(rt.alloc()) == Some(steps));
+    assert!(rt; told_of_places(rt.alloc()) == Some(([true; 5], steps)));
 }
 
 // How many of so many sections of an acquire and a release are taken.
@@ -323,48 +351,61 @@ fn short_sections(store: &mut Store<MemDisk>, from: u64, count: u64) -> u64
     count
 }
 
-// The sections that are taken before a trim and after it, those acknowledged, and the answer to one more.
-fn sections_by_trim(alloc: Global) -> Option<(u64, Option<u64>, u64, Result<(), StoreError>)> {
-    let mut store = fresh(alloc, 1, 9000)?;
-    let before = short_sections(&mut store, 0, 2000);
+// The sections that are taken before a trim and after it, those acknowledged, whether it is taken, and the answer to one more.
+type ByTrim = (u64, Option<u64>, u64, bool, Result<(), StoreError>);
+
+fn sections_by_trim(store: &mut Store<MemDisk>) -> ByTrim {
+    let before = short_sections(store, 0, 2000);
     let calls = [StoreCall::Log, StoreCall::Settle, StoreCall::Trim];
-    store.play(&calls).ok()?;
-    let acknowledged = kept(&store, 0);
-    let after = short_sections(&mut store, 1501, 2000);
+    let is_trimmed = store.play(&calls).is_ok();
+    let acknowledged = kept(store, 0);
+    let after = short_sections(store, 1501, 2000);
     let more = store.apply(Lane(0), acq(0, 3002));
-    Some((before, acknowledged, after, more))
+    (before, acknowledged, after, is_trimmed, more)
+}
+
+fn told_by_trim(alloc: Global) -> Option<ByTrim> {
+    let mut store = fresh(alloc, 1, 9000)?;
+    Some(sections_by_trim(&mut store))
 }
 
 // An area of 4,000 records begins no section where fewer than 1,000 are left.
 #[test]
 fn a_trimmed_store_takes_as_many_again(rt: HostRuntime) {
     let full = Err(StoreError::LogFull);
-    assert!(rt; sections_by_trim(rt.alloc()) == Some((1501, Some(1501), 1501, full)));
+    let wanted = (1501, Some(1501), 1501, true, full);
+    assert!(rt; told_by_trim(rt.alloc()) == Some(wanted));
 }
 
-// A trim whose commit fails keeps its places: how many places are trimmed, and the answers of it and of the calls after it.
-// Before it the device is called 31 times, two reads of a gate among them; it reads a gate and closes it, and the 35th call
-// writes the control.
-fn failed_trim(alloc: Global) -> Option<(u64, [Result<(), StoreError>; 4])> {
-    let mut disk = MemDisk::new(alloc, 130_208).ok()?;
-    disk.fail_call(35);
-    let mut store = store_on(alloc, disk, 1, 4000, 9)?;
-    store.play(&SECTION).ok()?;
+// Whether a section is played, logged and settled; how many places are trimmed by a trim whose commit fails; and the answers
+// of it and of the calls after it.
+type FailedTrim = (bool, u64, [Result<(), StoreError>; 4]);
+
+fn failed_trim(store: &mut Store<MemDisk>) -> FailedTrim {
     let calls = [StoreCall::Log, StoreCall::Home, StoreCall::Settle];
-    store.play(&calls).ok()?;
+    let is_played = store.play(&SECTION).is_ok() && store.play(&calls).is_ok();
     let first = store.trim();
-    let (place, _) = place_and_calls(&store);
+    let (place, _) = place_and_calls(store);
     let again = store.trim();
     let settled = store.settle();
     let applied = store.apply(Lane(0), acq(0, 1));
-    Some((place, [first, again, settled, applied]))
+    (is_played, place, [first, again, settled, applied])
+}
+
+// Before the trim the device is called 31 times, two reads of a gate among them; it reads a gate and closes it, and the 35th
+// call writes the control.
+fn told_of_failed_trim(alloc: Global) -> Option<FailedTrim> {
+    let mut disk = MemDisk::new(alloc, 130_208).ok()?;
+    disk.fail_call(35);
+    let mut store = store_on(alloc, disk, 1, 4000, 9)?;
+    Some(failed_trim(&mut store))
 }
 
 #[test]
 fn a_trim_whose_device_failed_keeps_its_places(rt: HostRuntime) {
     let failed = Err(StoreError::Failed);
     let answers = [Err(StoreError::Fault), failed, failed, failed];
-    assert!(rt; failed_trim(rt.alloc()) == Some((0, answers)));
+    assert!(rt; told_of_failed_trim(rt.alloc()) == Some((true, 0, answers)));
 }
 
 // A store of one field, inside a section.
@@ -420,8 +461,13 @@ fn a_store_whose_device_failed_takes_no_more(rt: HostRuntime) {
 fn played(alloc: Global, calls: &[StoreCall]) -> Option<(MemDisk, Layout)> {
     let mut store = fresh(alloc, 2, 9)?;
     let layout = store.layout();
-    store.play(calls).ok()?;
-    Some((store.into_disk(), layout))
+    let is_played = store.play(calls).is_ok();
+    let disk = store.into_disk();
+    if is_played {
+        Some((disk, layout))
+    } else {
+        None
+    }
 }
 
 // How many calls of the device there were when so many of the calls were made.
@@ -553,27 +599,59 @@ fn shows_either_from(
     is_so && shows_either(alloc, disk, layout, behind, new, new)
 }
 
+// How often the device was called by these calls, and what it shows then.
+fn shown_by(alloc: Global, calls: &[StoreCall]) -> Option<(u64, Contents)> {
+    let (mut disk, layout) = played(alloc, calls)?;
+    match shown(alloc, &mut disk, &layout) {
+        Some(contents) => Some((disk.stops(), contents)),
+        None => None,
+    }
+}
+
+// Whether each crash behind the first `from` calls of the device shows this or what it shows in the end, and a crash behind
+// the last shows the latter.
+fn shows_from(
+    alloc: Global,
+    disk: &mut MemDisk,
+    layout: &Layout,
+    from: u64,
+    old: &Contents,
+) -> bool {
+    match shown(alloc, disk, layout) {
+        Some(new) => shows_either_from(alloc, disk, layout, from, old, &new),
+        None => false,
+    }
+}
+
+// The same of the device on which these calls are made.
+fn plays_from(alloc: Global, calls: &[StoreCall], from: u64, old: &Contents) -> bool {
+    match played(alloc, calls) {
+        Some((mut disk, layout)) => shows_from(alloc, &mut disk, &layout, from, old),
+        None => false,
+    }
+}
+
 // Whether each crash while the last of these calls is made shows what the device shows before that call or after it, and a
 // crash behind it shows the latter.
-fn is_last_atomic(alloc: Global, calls: &[StoreCall]) -> Option<bool> {
-    let (_, earlier) = calls.split_last()?;
-    let (mut before, layout) = played(alloc, earlier)?;
-    let (mut after, _) = played(alloc, calls)?;
-    let old = shown(alloc, &mut before, &layout)?;
-    let new = shown(alloc, &mut after, &layout)?;
-    let from = before.stops();
-    Some(shows_either_from(alloc, &after, &layout, from, &old, &new))
+fn is_last_atomic(alloc: Global, calls: &[StoreCall]) -> bool {
+    let Some((_, earlier)) = calls.split_last() else {
+        return false;
+    };
+    match shown_by(alloc, earlier) {
+        Some((from, old)) => plays_from(alloc, calls, from, &old),
+        None => false,
+    }
 }
 
 // Whether each of these calls is so.
 fn are_all_atomic(alloc: Global, calls: &[StoreCall]) -> bool {
-    (0..calls.len()).all(|end| is_last_atomic(alloc, &calls[..end + 1]) == Some(true))
+    (0..calls.len()).all(|end| is_last_atomic(alloc, &calls[..end + 1]))
 }
 
 // The acknowledged sections of the two lanes behind the first so many calls.
 fn kept_after(alloc: Global, calls: &[StoreCall], count: usize) -> Option<[u64; 2]> {
-    let (mut disk, layout) = played(alloc, calls.get(..count)?)?;
-    let rows = shown(alloc, &mut disk, &layout)?.control.rows;
+    let (_, contents) = shown_by(alloc, calls.get(..count)?)?;
+    let rows = contents.control.rows;
     Some([rows[0].kept, rows[1].kept])
 }
 
@@ -659,8 +737,7 @@ fn a_wait_ends_a_section(rt: HostRuntime) {
 // By lane the first place that isn't trimmed and those behind what is settled and what is logged; and how many records are
 // live in all.
 fn places(alloc: Global, calls: &[StoreCall]) -> Option<[u64; 7]> {
-    let (mut disk, layout) = played(alloc, calls)?;
-    let found = shown(alloc, &mut disk, &layout)?;
+    let (_, found) = shown_by(alloc, calls)?;
     let [first, second] = [found.control.rows[0], found.control.rows[1]];
     Some([
         first.start,
@@ -675,7 +752,7 @@ fn places(alloc: Global, calls: &[StoreCall]) -> Option<[u64; 7]> {
 
 // The places behind these calls, and whether the last of them is atomic.
 fn places_and_last(alloc: Global, calls: &[StoreCall]) -> Option<([u64; 7], bool)> {
-    Some((places(alloc, calls)?, is_last_atomic(alloc, calls)?))
+    Some((places(alloc, calls)?, is_last_atomic(alloc, calls)))
 }
 
 // The second thread's section stays open, and the first one's second section depends on it. A trim goes up to what is settled,
