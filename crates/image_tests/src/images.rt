@@ -590,13 +590,10 @@ fn recovered(alloc: Global, schema: &Schema) -> Option<Recovered<MemDisk>> {
     Some(Recovered::of(disk, layout, guards, Slot::A, 1, heap))
 }
 
-// Its heap's two values, its slot, and its sequence, size and stops. Put together again, it is read as before.
-fn taken_apart(
-    alloc: Global,
-) -> Option<([u64; 2], Slot, [u64; 3], Result<(Slot, u64), ImageError>)> {
-    let schema = common_schema(alloc)?;
-    let made = recovered(alloc, &schema)?;
-    let heap = *made.heap().as_array::<2>()?;
+// Its slot, and its sequence, size and stops. Put together again, it is read as before.
+type Apart = (Slot, [u64; 3], Result<(Slot, u64), ImageError>);
+
+fn taken_apart(alloc: Global, made: Recovered<MemDisk>) -> Apart {
     let parts = made.into_parts();
     let (slot, sequence) = (parts.slot, parts.sequence);
     let numbers = [sequence, parts.layout.size(), parts.disk.stops()];
@@ -609,14 +606,29 @@ fn taken_apart(
         parts.heap,
     );
     let mut disk = made.into_disk();
-    Some((heap, slot, numbers, study(alloc, &mut disk)))
+    (slot, numbers, study(alloc, &mut disk))
+}
+
+// Whether its heap has the first values, and its parts.
+fn told_of_parts(alloc: Global, schema: &Schema) -> Option<(bool, Apart)> {
+    match recovered(alloc, schema) {
+        Some(made) => {
+            let is_first = made.heap() == [10, 20].as_slice();
+            Some((is_first, taken_apart(alloc, made)))
+        }
+        None => None,
+    }
+}
+
+fn told_of_fresh(alloc: Global) -> Option<(bool, Apart)> {
+    let schema = common_schema(alloc)?;
+    told_of_parts(alloc, &schema)
 }
 
 #[test]
 fn a_fresh_image_is_taken_apart(rt: HostRuntime) {
-    assert!(rt;
-        taken_apart(rt.alloc()) == Some(([10, 20], Slot::A, [1, 130_208, 13], Ok((Slot::A, 1))))
-    );
+    let apart = (Slot::A, [1, 130_208, 13], Ok((Slot::A, 1)));
+    assert!(rt; told_of_fresh(rt.alloc()) == Some((true, apart)));
 }
 
 fn count_guards(
