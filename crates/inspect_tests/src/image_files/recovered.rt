@@ -3,9 +3,11 @@ use super::{SCHEMA, format_there};
 use block_disk::{Fill, MemDisk};
 use declarations::read_schema;
 use durable::{Store, StoreCall};
+use guards::Schema;
 use heap_model::{FieldId, Lane, ObjectId, Record};
 use image_file::{FormatError, draw_file, recover_file, show_file};
 use recover::RecoverError;
+use std::alloc::Global;
 use std::io::Write;
 use std::{fs, io};
 
@@ -68,19 +70,35 @@ heap 10 20
     assert!(rt; file_round_there(&rt, lines) == Some(wanted));
 }
 
-// A store of the schema with two lanes of 4,000 records.
-fn store_there(rt: &HostRuntime) -> Option<Store<MemDisk>> {
-    let alloc = rt.alloc();
+fn schema_there(rt: &HostRuntime) -> Option<Schema> {
     fs::write(rt, "schema", SCHEMA).ok()?;
-    let schema = read_schema(alloc, &mut fs::open(rt, "schema").ok()?).ok()?;
-    let disk = MemDisk::new(alloc, 130_208).ok()?;
-    let Ok(made) = Store::format(alloc, disk, &schema, 2, 4000) else {
+    let mut file = fs::open(rt, "schema").ok()?;
+    read_schema(rt.alloc(), &mut file).ok()
+}
+
+// A store of the schema with two lanes of 4,000 records.
+fn store_of(alloc: Global, schema: &Schema) -> Option<Store<MemDisk>> {
+    let Ok(disk) = MemDisk::new(alloc, 130_208) else {
         return None;
     };
-    let Ok(store) = Store::adopt(alloc, made, 9) else {
+    let Ok(made) = Store::format(alloc, disk, schema, 2, 4000) else {
         return None;
     };
-    Some(store)
+    match Store::adopt(alloc, made, 9) {
+        Ok(store) => Some(store),
+        Err(_) => None,
+    }
+}
+
+fn store_there(rt: &HostRuntime) -> Option<Store<MemDisk>> {
+    let schema = schema_there(rt)?;
+    store_of(rt.alloc(), &schema)
+}
+
+// What a crash behind the last call leaves of the disk.
+fn left_by(disk: &MemDisk) -> Option<MemDisk> {
+    disk.crash_image(disk.stops().saturating_add(1), Fill::Lost)
+        .ok()?
 }
 
 fn acq(object: u32, number: u64) -> Record {

@@ -93,16 +93,21 @@ fn circle() -> [StoreCall; 14] {
     ]
 }
 
+// What a crash behind the last call leaves of the disk.
+fn left_by(disk: &MemDisk) -> Option<MemDisk> {
+    disk.crash_image(disk.stops().saturating_add(1), Fill::Lost)
+        .ok()?
+}
+
 // What a crash behind the last of these calls leaves of a store of two lanes.
 fn crashed(alloc: Global, calls: &[StoreCall]) -> Option<MemDisk> {
     let made = formatted(alloc)?;
     let Ok(mut store) = Store::adopt(alloc, made, 9) else {
         return None;
     };
-    store.play(calls).ok()?;
+    let is_played = store.play(calls).is_ok();
     let disk = store.into_disk();
-    disk.crash_image(disk.stops().saturating_add(1), Fill::Lost)
-        .ok()?
+    if is_played { left_by(&disk) } else { None }
 }
 
 // The image with the bytes at these places changed.
