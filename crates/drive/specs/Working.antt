@@ -54,7 +54,7 @@ pub record SawLast (v : View) : Type 0 where
 abbrev pub IsAtEnd : View → Type 0
 IsAtEnd v = (LAST_PLACE ≤ place v) ⊎ SawLast v
 
--- a view of a session of this heap
+-- a view by the plan of this heap; whose it is isn't said
 abbrev pub ViewOf : Home → (View → Type 0) → Type 0
 ViewOf h is = (v : View) × (v.plan ≡ plan h) × is v
 
