@@ -4,3 +4,4 @@ pub mod Images
 pub mod Kept
 pub mod Possible
 pub mod Ranges
+pub mod InUnits

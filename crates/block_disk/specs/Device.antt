@@ -1,6 +1,6 @@
 -- A block device that a crash may stop at any moment (after the asynchronous disk of FSCQ, SOSP 2015; ours tears writes anywhere).
 -- Between two syncs each written range may hold any bytes after a crash, and every other byte stays.
-use Rattle.std.specs.Prelude.{◌<◌, ◌≡◌, ◌⊎◌, ℕ, ◌+◌, ◌-◌, ◌^◌, ◌≤◌, List, [], ◌∷◌, length, slice_index, Result, IsErrOf}
+use Rattle.std.specs.Prelude.{◌<◌, ◌≡◌, ◌⊎◌, ℕ, zero, suc, ◌+◌, ◌-◌, ◌^◌, ◌≤◌, List, [], ◌∷◌, length, take, drop, slice_index, Result, IsErrOf}
 use Rattle.block_disk.specs.Bytes.{spliced}
 
 -- the bytes from start on, len of them
@@ -57,6 +57,16 @@ written at bytes d = record {
   past = d.now ∷ d.past;
   failures = d.failures;
 }
+
+-- what n writes that succeed make of it, of 16 bytes each, one right behind the other
+abbrev pub written_units : (n at : ℕ) → List ℕ → Device → Device
+written_units zero at bytes d = d
+written_units (suc n) at bytes d = written_units n (at + 16) (drop 16 bytes) (written at (take 16 bytes) d)
+
+-- their ranges
+abbrev pub unit_ranges : (n at : ℕ) → List Range
+unit_ranges zero at = []
+unit_ranges (suc n) at = record { start = at; len = 16 } ∷ unit_ranges n (at + 16)
 
 -- what a sync that succeeds makes of it
 abbrev pub synced : Device → Device

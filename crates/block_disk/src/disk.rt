@@ -1,7 +1,8 @@
 //! The contract of a block device.
-ghost use Rattle.std.specs.Prelude.{◌≡◌, ◌⊎◌, ◌+◌, ◌<◌, ◌≤◌, length, OnOk, IsErrOf};
+ghost use Rattle.std.specs.Prelude.{◌≡◌, ◌⊎◌, ◌+◌, ◌*◌, ◌<◌, ◌≤◌, length, OnOk, OnErr, IsErrOf};
 ghost use Rattle.block_disk.specs.Bytes.{part};
-ghost use Rattle.block_disk.specs.Device.{Device, written, synced, HasFailed, SameMoments, TornWrite};
+ghost use Rattle.block_disk.specs.Device.{Device, written, written_units, unit_ranges, synced, HasFailed, SameMoments, TornWrite};
+ghost use Rattle.block_disk.specs.Images.{ImageBut, LeavesOnly};
 ghost use Rattle.block_disk.specs.declared.error.DiskError.TheVariants.{Fault, OutOfRange};
 
 use crate::DiskError;
@@ -38,6 +39,27 @@ pub trait Disk {
         ensures fault { IsErrOf result Fault → SameMoments (device self.old) (device self.new)
             ⊎ TornWrite at (length bytes.now) (device self.old) (device self.new) }
         ensures cause { IsErrOf result Fault → HasFailed (device self.old).failures (device self.new).failures };
+
+    /// Writes these bytes at `at`, in `count` writes of 16 bytes each, the first bytes first. Each is a write of its own, as by
+    /// [`write_at`](Disk::write_at): a crash or a fault may come in any of them. A disk may do them in one go.
+    fn write_units(&mut self, at: u64, bytes: &[u8], count: usize) -> Result<(), crate::Fault>
+        requires some { 0 < count }
+        requires whole { length bytes.now ≡ count * 16 }
+        requires fits { at + length bytes.now ≤ length (device self.old).now.bytes }
+        ensures ok { OnOk result (device self.new ≡ written_units count at bytes.now (device self.old)) }
+        ensures any_moment { LeavesOnly (device self.old) (device self.new) (ImageBut (device self.old) (unit_ranges count at)) }
+        ensures cause { OnErr result (HasFailed (device self.old).failures (device self.new).failures) }
+    {
+        let _size = self.size();
+        for i in 0..count {
+            let from = i * 16;
+            match self.write_at(at + from as u64, &bytes[from..from + 16]) {
+                Ok(()) => {}
+                Err(_) => return Err(crate::Fault),
+            }
+        }
+        Ok(())
+    }
 
     /// Makes what was written durable: from then on a crash leaves what a read gives. `Fault` fixes nothing.
     fn sync(&mut self) -> Result<(), DiskError>

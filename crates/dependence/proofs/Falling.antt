@@ -198,7 +198,7 @@ search_done steps links start left answered candidates cut causes lanes low link
         | inl all ↦ absurd (omega (arith, walked steps links start left (IsTakenUp steps cut) cut lanes low linked sorted search.walk none i (releaser_in steps i j h) all out j h))
         | inr idle ↦
             let above : answered (slice_index (lanes_in steps) i) ≤ cut (slice_index (lanes_in steps) i) = search.above.greatest answered less answered_closed (slice_index (lanes_in steps) i) in
-            absurd (omega (arith, search.looked j i h (omega (arith, idle.1))))
+            absurd (omega (arith, search.looked j i h idle.0 (omega (arith, idle.1))))
       ]
     ]
 

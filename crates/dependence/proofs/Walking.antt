@@ -62,7 +62,7 @@ module _ (steps : List Step) (links : Links) (linked : IsLinked steps links) (st
     above = above_low steps candidates cut low old.above f.lower
         (λ other le closed. f.least other le (taker_out steps other place j closed takes (omega (arith, le (slice_index (lanes_in steps) place)))));
     why = why;
-    looked = λ k i t o. omega (arith, f.lower (slice_index (lanes_in steps) k), old.looked k i t o);
+    looked = λ k i t s o. omega (arith, f.lower (slice_index (lanes_in steps) k), old.looked k i t s o);
     walk = walk_step steps links linked start left left_too (IsTakenUp steps cut) (IsTakenUp steps low) lane place rows low_lane old.walk here at now
         (λ k h i t. omega (arith, f.lower (slice_index (lanes_in steps) i), h i t)) visit;
   }

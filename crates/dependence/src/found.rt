@@ -72,7 +72,8 @@ pub fn find(
     ensures causes { AreCauses steps.now (counts_of result.cut) causes.new }
 {
     let candidates = candidates(lanes, ended, answered, causes);
-    let search = greatest_cut(lanes, steps, links, answered, &candidates, *causes);
+    let are_all = candidates.counts == *ended;
+    let search = greatest_cut(lanes, steps, links, answered, &candidates, *causes, are_all);
     *causes = search.causes;
     let taken_up = sections_beyond(lanes, &candidates.counts, &answered.counts);
     let left_out = sections_beyond(lanes, &candidates.counts, &search.cut.counts);

@@ -13,7 +13,7 @@ use crate::lanes::{count, raise};
 use crate::links::Links;
 use crate::section::Dependence;
 use crate::step::Step;
-use crate::steps::retain;
+use crate::trimmed::retain;
 use crate::why::reason_of;
 use heap_model::{Cut, Lane, UndoRecord};
 use std::alloc::{AllocError, Global};
@@ -92,6 +92,7 @@ impl Graph {
     /// the object. A record that a legal list allows next is such ([`allowed_law`](crate::allowed_law)). A
     /// take whose release isn't in the graph depends on none. [`room`](Self::room) and
     /// [`lanes`](Self::lanes) tell what is asked of the numbers. The time is constant.
+    #[inline(always)]
     pub fn push(&mut self, lane: Lane, entry: &UndoRecord)
         requires room { 0 < self.old.room }
         requires lane { lane.0 < self.old.lanes }
@@ -136,7 +137,7 @@ impl Graph {
         let records = self.steps.len();
         raise(&mut self.base, &cut.counts);
         raise(&mut self.answered.counts, &cut.counts);
-        retain(&mut self.steps, &self.base);
+        retain(&mut self.steps, &self.links, &self.base, self.lanes);
         self.room += records - self.steps.len();
         self.links.again(&self.steps);
         self.causes = [None; 32];
@@ -147,9 +148,10 @@ impl Graph {
     ///
     /// A section that is left out keeps a dependence that keeps it out, by lane. Where that one is still
     /// out, the lane's sections are not taken up: so with a section open all the time the answer takes as
-    /// long as what is new. The time is linear in the records of the sections that are taken up, in
-    /// whatever order they depend on one another, and in those of the sections that these lanes have open;
-    /// after each record the lanes are looked through at most once. Where nothing was pushed or forgotten
+    /// long as what is new. Where no lane is kept out so, only what is left out is taken up. The time is
+    /// linear in the records of the sections that are taken up, in whatever order they depend on one
+    /// another, and in those of the sections that are open; after each record the lanes are looked through
+    /// at most once. Where nothing was pushed or forgotten
     /// since the last call, the answer is at hand.
     pub fn stable_cut(&mut self) -> Cut
         ensures stable { IsStableOf self.old (counts_of result) }
@@ -180,8 +182,9 @@ impl Graph {
         found.cut
     }
 
-    /// How many sections the last [`stable_cut`](Self::stable_cut) took up with their dependences, or a
-    /// [`reason`](Self::reason) since the answer before; a section taken up twice counts twice. 0 before
+    /// How many sections the last [`stable_cut`](Self::stable_cut) decided on, or a [`reason`](Self::reason)
+    /// since the answer before: at most so many were taken up with their dependences. One that is left out
+    /// counts twice. 0 before
     /// the first.
     pub fn last_looks(&self) -> u64
         ensures { result ≡ self.now.looks }
@@ -237,6 +240,7 @@ impl Graph {
 }
 
 // Leaves no cut at hand. The test saves a write of the whole cut for each record.
+#[inline(always)]
 fn forget(stable: &mut Option<Found>)
     ensures { stable.new ≡ None }
 {

@@ -9,6 +9,7 @@ use crate::step::Step;
 use heap_model::{Cut, Lane, UndoRecord};
 
 /// Counts the step: the objects that its lane holds, and the sections of it that have ended.
+#[inline(always)]
 pub fn count(ended: &mut [u64], held: &mut [usize], next: Step)
     requires lanes { length held.old ≡ 32 }
     requires same_lanes { length ended.old ≡ 32 }
@@ -25,6 +26,7 @@ pub fn count(ended: &mut [u64], held: &mut [usize], next: Step)
     ended[lane] = whole;
 }
 
+#[inline(always)]
 fn counted(entry: UndoRecord, held: usize, ended: u64) -> (usize, u64)
     requires holds { IsHeldBy (undo_action entry) held }
     requires fits { ended + 1 < 2 ^ 64 }

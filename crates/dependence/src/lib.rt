@@ -16,6 +16,7 @@ mod search;
 mod section;
 mod step;
 mod steps;
+mod trimmed;
 mod why;
 
 pub use graph::Graph;

@@ -44,6 +44,7 @@ impl Links {
     }
 
     /// Links the step that comes after these.
+    #[inline(always)]
     pub fn add(&mut self, steps: &[Step], next: Step)
         requires linked { IsLinked steps.now self.old }
         requires room { HasRoom self.old 1 }
@@ -89,6 +90,7 @@ impl Links {
 }
 
 // Puts the lane's next step at the end of its chain.
+#[inline(always)]
 fn chain(newest: &mut [usize], before: &mut Vec<usize>, lane: usize, place: usize)
     requires lane { lane < length newest.old }
     requires room { vec_len before.old < vec_capacity before.old }
@@ -103,6 +105,7 @@ fn chain(newest: &mut [usize], before: &mut Vec<usize>, lane: usize, place: usiz
 }
 
 // The place of the release that freed what the step takes, plus 1, or 0.
+#[inline(always)]
 fn last_release(freed: &[usize], steps: &[Step], next: Step) -> usize
     ensures { result ≡ checked_release (acts_in steps.now) (undo_action next.entry) (slice_index freed.now (object_of (undo_action next.entry))) }
 {
@@ -116,6 +119,7 @@ fn last_release(freed: &[usize], steps: &[Step], next: Step) -> usize
 }
 
 // The release, if it is there and frees what the step takes.
+#[inline(always)]
 fn if_freed(steps: &[Step], next: Step, release: usize) -> usize
     ensures { result ≡ checked_release (acts_in steps.now) (undo_action next.entry) release }
 {
@@ -128,6 +132,7 @@ fn if_freed(steps: &[Step], next: Step, release: usize) -> usize
 }
 
 // Puts the next step's partner at its place. If there is one, it gets the next step as its partner.
+#[inline(always)]
 fn pair(partner: &mut Vec<usize>, release: usize, place: usize)
     requires release { release ≤ length partner.old.items }
     requires room { vec_len partner.old < vec_capacity partner.old }
@@ -143,6 +148,7 @@ fn pair(partner: &mut Vec<usize>, release: usize, place: usize)
 }
 
 // Notes the place of an object's last release.
+#[inline(always)]
 fn note_release(freed: &mut [usize], entry: UndoRecord, place: usize)
     requires object { object_of (undo_action entry) < length freed.old }
     requires fits { place + 1 < 2 ^ 64 }

@@ -29,11 +29,67 @@ pub struct Search {
 
 /// The greatest cut of the candidates that is closed, above one that is closed.
 ///
-/// First each candidate is taken up with its dependences: what depends on a section that is no candidate
-/// is out. A section that is out takes with it the later ones of its lane, and the sections that took what
-/// it freed. So each candidate that is out is taken up once more, from the end of its lane: where it is a
-/// release, the section of the take after it is out too.
+/// Where all that has ended is a candidate, few sections are outside: those that are open. What they freed says who is
+/// out with them, and nobody else has to be looked at.
 pub fn greatest_cut(
+    lanes: u8,
+    steps: &[Step],
+    links: &Links,
+    answered: &Cut,
+    candidates: &Cut,
+    causes: [Option<Dependence>; 32],
+    are_all: bool,
+) -> Search
+    requires lanes { lanes ≤ 32 }
+    requires linked { IsLinked steps.now links.now }
+    requires sorted { IsSorted steps.now lanes }
+    requires closed { IsClosedOver reading steps.now (counts_of answered.now) }
+    requires less { (l : ℕ) → counts_of answered.now l ≤ counts_of candidates.now l }
+    requires causes { AreCauses steps.now (counts_of answered.now) causes }
+    ensures above { IsAbove steps.now (counts_of candidates.now) (counts_of result.cut) }
+    ensures closed { IsClosedOver reading steps.now (counts_of result.cut) }
+    ensures causes { AreCauses steps.now (counts_of result.cut) result.causes }
+{
+    if are_all {
+        look_outside(lanes, steps, links, answered, candidates, causes)
+    } else {
+        look_back(lanes, steps, links, answered, candidates, causes)
+    }
+}
+
+// A section that is out takes with it the later ones of its lane, and the sections that took what it freed. So each step that is
+// out is taken up, from the end of its lane: where it is a release, the section of the take after it is out too.
+fn look_outside(
+    lanes: u8,
+    steps: &[Step],
+    links: &Links,
+    answered: &Cut,
+    candidates: &Cut,
+    causes: [Option<Dependence>; 32],
+) -> Search
+    requires lanes { lanes ≤ 32 }
+    requires linked { IsLinked steps.now links.now }
+    requires sorted { IsSorted steps.now lanes }
+    requires closed { IsClosedOver reading steps.now (counts_of answered.now) }
+    requires less { (l : ℕ) → counts_of answered.now l ≤ counts_of candidates.now l }
+    requires causes { AreCauses steps.now (counts_of answered.now) causes }
+    ensures above { IsAbove steps.now (counts_of candidates.now) (counts_of result.cut) }
+    ensures closed { IsClosedOver reading steps.now (counts_of result.cut) }
+    ensures causes { AreCauses steps.now (counts_of result.cut) result.causes }
+{
+    let _answered = answered;
+    let mut search = Search {
+        cut: *candidates,
+        causes,
+        left: links.newest,
+    };
+    leave_out_all(lanes, steps, links, candidates, &mut search, &links.newest);
+    search
+}
+
+// First each candidate is taken up with its dependences: what depends on a section that is no candidate is out. Then each
+// candidate that is out is taken up once more, as in `look_outside`: so the sections of a lane that has no candidates aren't.
+fn look_back(
     lanes: u8,
     steps: &[Step],
     links: &Links,

@@ -9,7 +9,7 @@ use crate::step::Step;
 use heap_model::UndoRecord;
 
 /// Leaves out the steps of the sections that `base` counts.
-pub fn retain(steps: &mut Vec<Step>, base: &[u64])
+pub fn retain_past(steps: &mut Vec<Step>, base: &[u64])
     ensures kept { steps.new.items ≡ filter (λ s. nat_lt (slice_index base.now s.lane.0) s.section) steps.old.items }
     ensures capacity { vec_capacity steps.new ≡ vec_capacity steps.old }
     ensures fewer { vec_len steps.new ≤ vec_len steps.old }
@@ -17,7 +17,9 @@ pub fn retain(steps: &mut Vec<Step>, base: &[u64])
     steps.retain(|s| is_past(base, *s));
 }
 
-fn is_past(base: &[u64], step: Step) -> bool
+/// Whether the step is of a section that `base` doesn't count.
+#[inline(always)]
+pub fn is_past(base: &[u64], step: Step) -> bool
     ensures { result ≡ nat_lt (slice_index base.now step.lane.0) step.section }
 {
     match base.get(step.lane.0 as usize) {
@@ -27,6 +29,7 @@ fn is_past(base: &[u64], step: Step) -> bool
 }
 
 /// Whether the first record takes what the second freed.
+#[inline(always)]
 pub fn takes_what_frees(taken: UndoRecord, freed: UndoRecord) -> bool
     ensures { result ≡ takes_after (undo_action taken) (undo_action freed) }
 {

@@ -1,9 +1,12 @@
 -- What a buffered disk's bytes, ranges and file go on to be.
-use Rattle.std.proofs.Common.{◌≡◌, ℕ, Bool, true, ◌+◌, ◌≤◌, List, [], ◌∷◌, length, Option, Some, None, IfSome, option_map, sym, ap, subst, arith}
+use Rattle.std.proofs.Common.{◌≡◌, inl, inr, ℕ, zero, suc, Bool, true, ◌+◌, ◌*◌, ◌<◌, ◌≤◌, List, [], ◌∷◌, length, Option, Some, None, IfSome, option_map, refl, sym, ◌∙◌, ap, subst, arith, take, drop}
 use Rattle.file_disk.specs.Backing.{Held, Reads, ReadsBut, TornFile, put_at}
 use Rattle.block_disk.specs.Bytes.{spliced}
-use Rattle.block_disk.specs.Device.{Range, Device, range_of, written, Image, IsClear, IsOutside, SameOutside}
+use Rattle.std.proofs.lemmas.Bool.{cases_lt}
+use Rattle.block_disk.specs.Device.{Range, Device, range_of, written, written_units, Image, IsClear, IsOutside, SameOutside}
 use Rattle.block_disk.proofs.Bytes.{length_spliced}
+use Rattle.block_disk.proofs.InUnits.{head_long, rest_long, head_size, units_bytes}
+use Rattle.file_disk.specs.Trace.{failing}
 use Rattle.block_disk.proofs.Ranges.{outside_sym, outside_trans, outside_more, outside_rest, outside_first, spliced_same}
 use Rattle.file_disk.specs.Buffered.{AllWithin, GoesOn, HasNewest, IsBuffered, IsDeferred, IsMirrored, LastCovers}
 
@@ -44,6 +47,63 @@ deferred_write d bytes content rs ss file at fits kept within covered exact newe
   buffered = buffered_write d bytes content rs ss file at fits kept.buffered within covered exact;
   newest = newest;
 }
+
+-- Writes of 16 bytes each go into memory at once, and one range is kept.
+
+-- failures are counted elsewhere
+pub units_failing : (n at count : ℕ) (bytes : List ℕ) (d : Device) → failing count (written_units n at bytes d) ≡ written_units n at bytes (failing count d)
+units_failing zero at count bytes d = refl
+units_failing (suc n) at count bytes d = units_failing n (at + 16) count (drop 16 bytes) (written at (take 16 bytes) d)
+
+-- outside of all that is pending after them is outside of the whole
+units_pending : (n at : ℕ) (bytes : List ℕ) (d : Device) (i : ℕ) → length bytes ≡ n * 16 → IsClear i (written_units n at bytes d).now.pending → IsOutside i (record { start = at; len = n * 16 }) × IsClear i d.now.pending
+units_pending zero at bytes d i long clear = (elim (cases_lt i at) [ inl below ↦ inl below | inr from ↦ inr (omega arith) ], clear)
+units_pending (suc n) at bytes d i long clear =
+    let later : IsOutside i (record { start = at + 16; len = n * 16 }) × (IsOutside i (range_of at (take 16 bytes)) × IsClear i d.now.pending) =
+    units_pending n (at + 16) (drop 16 bytes) (written at (take 16 bytes) d) i (rest_long n bytes long) clear in
+    let head : length (take 16 bytes) ≡ 16 = head_long n bytes long in (
+      elim later.1.0 [
+        | inl below ↦ inl below
+        | inr from ↦ elim later.0 [ inl between ↦ absurd (omega (arith, from, head)) | inr past ↦ inr (omega arith) ]
+      ],
+      later.1.1,
+    )
+
+-- a range within one that the last covers
+covers_less : (r s : Range) (ss : List Range) → LastCovers r ss → r.start ≤ s.start → s.start + s.len ≤ r.start + r.len → LastCovers s ss
+covers_less r s [] covers low high = covers
+covers_less r s (t ∷ []) covers low high = (omega (arith, covers.0, low), omega (arith, covers.1, high))
+covers_less r s (t ∷ u ∷ ss) covers low high = covers_less r s (u ∷ ss) covers low high
+
+-- the newest of them lies within the whole
+units_newest : (n at : ℕ) (bytes : List ℕ) (d : Device) (r : Range) (ss : List Range) → length bytes ≡ n * 16 → r.start ≤ at → at + n * 16 ≤ r.start + r.len → LastCovers r ss → HasNewest d.now.pending ss
+    → HasNewest (written_units n at bytes d).now.pending ss
+units_newest zero at bytes d r ss long low high covers newest = newest
+units_newest (suc n) at bytes d r ss long low high covers newest =
+    let head : length (take 16 bytes) ≡ 16 = head_long n bytes long in
+    units_newest n (at + 16) (drop 16 bytes) (written at (take 16 bytes) d) r ss (rest_long n bytes long) (omega arith) (omega arith) covers
+    (covers_less r (range_of at (take 16 bytes)) ss covers low (omega (arith, head)))
+
+pub deferred_units : (n : ℕ) (d : Device) (bytes content : List ℕ) (rs ss : List Range) (file : Option Held) (at : ℕ) → 0 < n → length content ≡ n * 16 → at + length content ≤ length bytes
+    → IsDeferred d bytes rs file → AllWithin (length bytes) ss
+    → ((i : ℕ) → IsClear i ss → IsClear i (range_of at content ∷ rs)) → ((i : ℕ) → IsClear i (range_of at content ∷ rs) → IsClear i ss)
+    → LastCovers (range_of at content) ss → IsDeferred (written_units n at content d) (spliced bytes at content) ss file
+deferred_units zero d bytes content rs ss file at some long fits kept within covered exact newest = absurd (omega arith)
+deferred_units (suc n) d bytes content rs ss file at some long fits kept within covered exact newest =
+    let size : length d.now.bytes ≡ length bytes = ap (λ (xs : List ℕ). length xs) kept.buffered.reads in
+    let head : length (take 16 content) ≡ 16 = head_long n content long in
+    record {
+      buffered = record {
+        reads = units_bytes (suc n) at content d long (omega (arith, size, fits)) ∙ ap (λ (xs : List ℕ). spliced xs at content) kept.buffered.reads;
+        within = subst (λ (k : ℕ). AllWithin k ss) (sym (length_spliced bytes content at fits)) within;
+        near = near_write bytes content rs ss file at fits covered kept.buffered.near;
+        pending = λ i clear.
+            let parts = units_pending (suc n) at content d i long clear in
+            exact i (subst (λ (k : ℕ). IsOutside i (record { start = at; len = k })) (sym long) parts.0, kept.buffered.pending i parts.1);
+      };
+      newest = units_newest n (at + 16) (drop 16 content) (written at (take 16 content) d) (range_of at content) ss (rest_long n content long) (omega arith) (omega (arith, long)) newest
+          (covers_less (range_of at content) (range_of at (take 16 content)) ss newest (omega arith) (omega (arith, long, head)));
+    }
 
 -- the last range covers the pending one that a write goes on with
 pub goes_on_last : (at : ℕ) (pending rs : List Range) → GoesOn at pending → HasNewest pending rs

@@ -1,8 +1,9 @@
 //! A disk whose bytes reach a file at each sync.
-ghost use Rattle.std.specs.Prelude.{◌≡◌, ◌⊎◌, ◌+◌, ◌-◌, ◌^◌, ◌<◌, ◌≤◌, ◌∷◌, ◌++◌, [], ℕ, List, length, min, replicate, IfOk, IfSome, IsErrOf, OnErr, OnOk};
+ghost use Rattle.std.specs.Prelude.{◌≡◌, ◌⊎◌, ◌+◌, ◌-◌, ◌*◌, ◌^◌, ◌<◌, ◌≤◌, ◌∷◌, ◌++◌, [], ℕ, List, length, min, replicate, IfOk, IfSome, IsErrOf, IsOk, OnErr, OnOk};
 ghost use Rattle.block_disk.specs.Bytes.{part, spliced};
 ghost use Rattle.file_disk.specs.Backing.{Reads, ReadsBut, ReadsForGood};
-ghost use Rattle.block_disk.specs.Device.{Image, Range, HasFailed, SameMoments, TornWrite, synced, written};
+ghost use Rattle.block_disk.specs.Device.{Image, Range, HasFailed, SameMoments, TornWrite, synced, unit_ranges, written, written_units};
+ghost use Rattle.block_disk.specs.Images.{ImageBut, LeavesOnly};
 ghost use Rattle.file_disk.specs.Mirror.{new_device};
 ghost use Rattle.block_disk.specs.declared.error.DiskError.TheVariants.{Fault, OutOfRange};
 ghost use Rattle.file_disk.specs.Buffered.{AllWithin, GoesOn, IsWithin};
@@ -172,6 +173,30 @@ impl<F: BackingFile + Drop> Disk for BufferedDisk<F> {
         }
         put(&mut self.bytes, at, bytes);
         self.trace.write(at, bytes);
+        Ok(())
+    }
+
+    /// Writes the memory at once, and keeps one range. `Fault` is want of memory for it; nothing is written then.
+    fn write_units(&mut self, at: u64, bytes: &[u8], count: usize) -> Result<(), block_disk::Fault>
+        requires some { 0 < count }
+        requires whole { length bytes.now ≡ count * 16 }
+        requires fits { at + length bytes.now ≤ length self.old.device.now.bytes }
+        ensures ok { OnOk result (self.new.device ≡ written_units count at bytes.now self.old.device) }
+        ensures any_moment { LeavesOnly self.old.device self.new.device (ImageBut self.old.device (unit_ranges count at)) }
+        ensures cause { OnErr result (HasFailed self.old.device.failures self.new.device.failures) }
+        ensures untorn { OnErr result (SameMoments self.old.device self.new.device) }
+        ensures goes_on { GoesOn at self.old.device.now.pending → IsOk result }
+        ensures file { self.new.file ≡ self.old.file }
+    {
+        let size = self.bytes.len();
+        let units = bytes;
+        let len = bytes.len() as u64;
+        if !add(&mut self.unwritten, at, len, size as u64) {
+            fail(&mut self.failures);
+            return Err(block_disk::Fault);
+        }
+        put(&mut self.bytes, at, units);
+        self.trace.write_units(at, bytes, count);
         Ok(())
     }
 

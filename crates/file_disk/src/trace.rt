@@ -1,7 +1,7 @@
 //! The device that a disk is, as only clauses read it.
-ghost use Rattle.std.specs.Prelude.{◌≡◌, []};
+ghost use Rattle.std.specs.Prelude.{◌≡◌, ◌+◌, ◌*◌, ◌^◌, ◌<◌, [], length};
 ghost use Rattle.std.specs.Borrow.{ftrue};
-ghost use Rattle.block_disk.specs.Device.{Device, synced, written};
+ghost use Rattle.block_disk.specs.Device.{Device, synced, written, written_units};
 ghost use Rattle.file_disk.specs.Mirror.{new_device};
 ghost use Rattle.file_disk.specs.Trace.{noted};
 
@@ -53,6 +53,19 @@ impl Trace {
         ensures { self.new.device ≡ written at bytes.now self.old.device }
     {
         self.note(&[at], bytes);
+    }
+
+    /// Writes of these bytes at `at` succeed, of 16 bytes each.
+    #[inline(always)]
+    pub(crate) fn write_units(&mut self, at: u64, bytes: &[u8], count: usize)
+        requires whole { length bytes.now ≡ count * 16 }
+        requires fits { at + length bytes.now < 2 ^ 64 }
+        ensures { self.new.device ≡ written_units count at bytes.now self.old.device }
+    {
+        for i in 0..count {
+            let from = i * 16;
+            self.write(at + from as u64, &bytes[from..from + 16]);
+        }
     }
 
     /// A sync succeeds.

@@ -2,8 +2,9 @@
 ghost use Rattle.std.specs.Prelude.{◌≡◌, replicate, IfOk};
 ghost use Rattle.file_disk.specs.Mirror.{new_device};
 
+use crate::buffered::put;
 use crate::trace::Trace;
-use block_disk::{Disk, DiskError, copy_out, lies_within, overwrite};
+use block_disk::{Disk, DiskError, Fault, copy_out, lies_within, overwrite};
 use std::alloc::{AllocError, Global};
 use std::marker::Model;
 
@@ -59,6 +60,13 @@ impl Disk for VolatileDisk {
         }
         overwrite(&mut self.bytes, at, bytes);
         self.trace.write(at, bytes);
+        Ok(())
+    }
+
+    fn write_units(&mut self, at: u64, bytes: &[u8], count: usize) -> Result<(), Fault> {
+        let _size = self.bytes.len();
+        put(&mut self.bytes, at, bytes);
+        self.trace.write_units(at, bytes, count);
         Ok(())
     }
 

@@ -95,6 +95,36 @@ impl Applied {
         ensures err { OnErr result (self.new ≡ self.old) }
         ensures kept { KeepsLayout self.old self.new }
     {
+        // A case for each kind: the compiler then writes out what is done for that kind alone.
+        match record {
+            Record::Acq { object, number } => self.take(lane, Record::Acq { object, number }),
+            Record::Rel { object, number } => self.take(lane, Record::Rel { object, number }),
+            Record::WaitRel { object, number } => {
+                self.take(lane, Record::WaitRel { object, number })
+            }
+            Record::Put {
+                field,
+                before,
+                after,
+            } => self.take(
+                lane,
+                Record::Put {
+                    field,
+                    before,
+                    after,
+                },
+            ),
+        }
+    }
+
+    // Applies the lane's next record.
+    #[inline(always)]
+    fn take(&mut self, lane: Lane, record: Record) -> Result<(), StoreError>
+        ensures answer { (s : Setting) (p : Past) → Remembers s self.old p → Answers s self.old p lane.0 «record» result }
+        ensures ok { (s : Setting) (p : Past) → Remembers s self.old p → OnOk result (Remembers s self.new (after_apply p lane.0 «record»)) }
+        ensures err { OnErr result (self.new ≡ self.old) }
+        ensures kept { KeepsLayout self.old self.new }
+    {
         if let Err(reason) = check(
             self.last,
             self.capacity,

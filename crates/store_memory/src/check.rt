@@ -13,6 +13,7 @@ use heap_model::{FieldId, LAST_PLACE, Lane, ObjectId, Record, SECTION_RECORDS};
 use store_past::StoreError;
 
 /// The object's monitor.
+#[inline(always)]
 pub fn monitor_at(monitors: &[MonitorState], object: ObjectId) -> MonitorState
     requires { object.0 < length monitors.now }
     ensures { result ≡ monitor_in monitors.now object.0 }
@@ -21,6 +22,7 @@ pub fn monitor_at(monitors: &[MonitorState], object: ObjectId) -> MonitorState
 }
 
 /// The field.
+#[inline(always)]
 pub fn field_at(fields: &[FieldState], field: FieldId) -> FieldState
     requires { field.0 < length fields.now }
     ensures { result ≡ field_in fields.now field.0 }
@@ -29,6 +31,7 @@ pub fn field_at(fields: &[FieldState], field: FieldId) -> FieldState
 }
 
 /// The lane.
+#[inline(always)]
 pub fn lane_at(lanes: &[LaneState], lane: Lane) -> LaneState
     requires { lane.0 < length lanes.now }
     ensures { result ≡ lane_in lanes.now lane.0 }
@@ -37,6 +40,7 @@ pub fn lane_at(lanes: &[LaneState], lane: Lane) -> LaneState
 }
 
 /// Whether the record's object or field is one of so many.
+#[inline(always)]
 pub fn is_named(objects: usize, fields: usize, record: Record) -> bool
     ensures { IsTrue result ↔ IsNamed objects fields «record» }
 {
@@ -53,6 +57,7 @@ pub fn word_law(record: Record)
 {}
 
 // Whether the record's release number, if it has one, is the last or more.
+#[inline(always)]
 fn has_last_number(last: u64, record: Record) -> bool
     ensures { IsTrue result ↔ HasLastNumber last «record» }
 {
@@ -64,6 +69,7 @@ fn has_last_number(last: u64, record: Record) -> bool
 }
 
 /// Whether numbers or places have come to their end.
+#[inline(always)]
 pub fn is_worn(last: u64, state: LaneState, record: Record) -> bool
     ensures { IsTrue result ↔ IsWornIn last state «record» }
 {
@@ -71,6 +77,7 @@ pub fn is_worn(last: u64, state: LaneState, record: Record) -> bool
 }
 
 // Whether the lane holds the monitor.
+#[inline(always)]
 fn is_held_by(monitor: MonitorState, lane: Lane) -> bool
     ensures { IsTrue result ↔ (lane_number monitor.holder ≡ Some lane.0) }
 {
@@ -81,6 +88,7 @@ fn is_held_by(monitor: MonitorState, lane: Lane) -> bool
 }
 
 // Whether the lane may follow its wait with this record.
+#[inline(always)]
 fn may_follow(awaited: Option<ObjectId>, record: Record) -> bool
     ensures { IsTrue result ↔ MayFollow (object_number awaited) «record» }
 {
@@ -92,6 +100,7 @@ fn may_follow(awaited: Option<ObjectId>, record: Record) -> bool
 }
 
 // Whether the record takes a free object at its number, frees one that the lane holds, or stores to a field whose guard it holds.
+#[inline(always)]
 fn is_allowed(
     last: u64,
     monitors: &[MonitorState],
@@ -120,6 +129,7 @@ fn is_allowed(
 }
 
 // Whether the lane may do the record next.
+#[inline(always)]
 fn is_next(
     last: u64,
     monitors: &[MonitorState],
@@ -136,6 +146,7 @@ fn is_next(
 }
 
 /// How many monitors the lane holds after the record.
+#[inline(always)]
 pub fn held_after(record: Record, held: u32) -> u32
     requires { held + 1 < 2 ^ 32 }
     ensures { result ≡ held_after_record «record» held }
@@ -148,6 +159,7 @@ pub fn held_after(record: Record, held: u32) -> u32
 }
 
 // Whether the section's records, with this one and the releases that are then still needed, pass the limit.
+#[inline(always)]
 fn is_too_long(state: LaneState, record: Record) -> bool
     requires { state.held + 1 < 2 ^ 32 }
     ensures { IsTrue result ↔ IsTooLongIn state «record» }
@@ -156,6 +168,7 @@ fn is_too_long(state: LaneState, record: Record) -> bool
 }
 
 // Whether a section would begin for which the lane's area has no room.
+#[inline(always)]
 fn is_full(capacity: u32, state: LaneState) -> bool
     requires place { state.place + 1000 < 2 ^ 64 }
     requires start { state.start ≤ state.place }
@@ -165,6 +178,7 @@ fn is_full(capacity: u32, state: LaneState) -> bool
 }
 
 /// Whether the record is taken, and else why not.
+#[inline(always)]
 pub fn check(
     last: u64,
     capacity: u32,
@@ -198,6 +212,7 @@ pub fn check(
 }
 
 // Whether the record, whose lane and names are good, is taken, and else why not.
+#[inline(always)]
 fn judge(
     last: u64,
     capacity: u32,

@@ -21,6 +21,7 @@ pub fn slots(lanes: u8, capacity: u32) -> usize
 }
 
 // The slot of the lane's section with this number.
+#[inline(always)]
 fn slot(capacity: u32, lane: Lane, section: u64) -> usize
     ensures { result ≡ slot_of capacity lane.0 section }
 {
@@ -29,6 +30,7 @@ fn slot(capacity: u32, lane: Lane, section: u64) -> usize
 }
 
 /// Counts the lane's next record, and notes the place behind the section that ends with it.
+#[inline(always)]
 pub fn count(counts: &mut [LoggedLane], ends: &mut [u64], capacity: u32, lane: Lane, next: Record)
     requires lane { lane.0 < length counts.old }
     requires area { (lane.0 + 1) * (capacity + 1) ≤ length ends.old }
@@ -48,6 +50,7 @@ pub fn count(counts: &mut [LoggedLane], ends: &mut [u64], capacity: u32, lane: L
 }
 
 // The lane after its next record.
+#[inline(always)]
 fn counted(lane: LoggedLane, next: Record) -> LoggedLane
     requires holds { IsHeldBy (action next) lane.held }
     requires place { lane.place + 1 < 2 ^ 64 }

@@ -59,6 +59,7 @@ impl FreshRecords {
     }
 
     /// Adds a lane's next record.
+    #[inline(always)]
     pub fn push(&mut self, lane: Lane, next: Record)
         requires lane { lane.0 < self.old.lanes }
         requires room { length (lane_of lane.0 (log_from self.old.records)) < self.old.room }
@@ -105,6 +106,7 @@ impl FreshRecords {
 }
 
 // Puts the record at the end of what the lane's area has.
+#[inline(always)]
 fn put(areas: &mut [UndoRecord], counts: &mut [usize], room: u32, lane: Lane, entry: UndoRecord)
     requires lane { lane.0 < length counts.old }
     requires within { lane.0 * room + slice_index counts.old lane.0 < length areas.old }

@@ -9,6 +9,7 @@ use crate::states::{FieldState, LaneState, MonitorState};
 use heap_model::{Lane, ObjectId, Record};
 
 // The object on which the lane waits after the record.
+#[inline(always)]
 fn awaited_after(record: Record) -> Option<ObjectId>
     ensures { result ≡ awaited_after_record «record» }
 {
@@ -19,6 +20,7 @@ fn awaited_after(record: Record) -> Option<ObjectId>
 }
 
 // The lane after the record.
+#[inline(always)]
 fn lane_after(record: Record, state: LaneState) -> LaneState
     requires place { state.place + 1 < 2 ^ 64 }
     requires held { state.held + 1 < 2 ^ 32 }
@@ -36,6 +38,7 @@ fn lane_after(record: Record, state: LaneState) -> LaneState
 }
 
 /// Notes the record of its lane.
+#[inline(always)]
 pub fn note_lane(lanes: &mut [LaneState], lane: Lane, record: Record)
     requires lane { lane.0 < length lanes.old }
     requires place { (lane_in lanes.old lane.0).place + 1 < 2 ^ 64 }
@@ -47,6 +50,7 @@ pub fn note_lane(lanes: &mut [LaneState], lane: Lane, record: Record)
 }
 
 /// Notes who holds the record's monitor.
+#[inline(always)]
 pub fn note_monitor(monitors: &mut [MonitorState], fields: usize, lane: Lane, record: Record)
     requires named { IsNamed (length monitors.old) fields «record» }
     requires fits { NumberFits «record» }
@@ -65,6 +69,7 @@ pub fn note_monitor(monitors: &mut [MonitorState], fields: usize, lane: Lane, re
 }
 
 /// Notes the value that the record stores.
+#[inline(always)]
 pub fn note_store(fields: &mut [FieldState], objects: usize, record: Record)
     requires named { IsNamed objects (length fields.old) «record» }
     ensures { fields.new ≡ fields_after «record» fields.old }

@@ -82,6 +82,36 @@ impl LoggedSections {
         ensures lanes { self.new.lanes ≡ self.old.lanes }
         ensures capacity { self.new.capacity ≡ self.old.capacity }
     {
+        // A case for each kind: the compiler then writes out what is done for that kind alone.
+        match next {
+            Record::Acq { object, number } => self.add(lane, Record::Acq { object, number }),
+            Record::Rel { object, number } => self.add(lane, Record::Rel { object, number }),
+            Record::WaitRel { object, number } => {
+                self.add(lane, Record::WaitRel { object, number });
+            }
+            Record::Put {
+                field,
+                before,
+                after,
+            } => self.add(
+                lane,
+                Record::Put {
+                    field,
+                    before,
+                    after,
+                },
+            ),
+        }
+    }
+
+    // Adds a lane's next logged record.
+    #[inline(always)]
+    fn add(&mut self, lane: Lane, next: Record)
+        requires may { (s : Setting) × (base : ℕ → ℕ) × (log : List (ℕ × AnyRecord)) × MayBeLogged s self.old base log ((lane.0, next) ∷ []) }
+        ensures tells { (s : Setting) (base : ℕ → ℕ) (log : List (ℕ × AnyRecord)) → MayBeLogged s self.old base log ((lane.0, next) ∷ []) → TellsSections self.new base ((lane.0, next) ∷ log) }
+        ensures lanes { self.new.lanes ≡ self.old.lanes }
+        ensures capacity { self.new.capacity ≡ self.old.capacity }
+    {
         self.graph.push(lane, &next.undo());
         count(&mut self.counts, &mut self.ends, self.capacity, lane, next);
     }

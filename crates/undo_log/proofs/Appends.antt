@@ -37,7 +37,7 @@ has_more l lane place image (x ∷ xs) r has one =
     (has.0, has_more l lane (place + 1) image xs r has.1 (subst (λ (p : ℕ). HasRecord l lane p image r) here one))
 
 -- a write in one of n places is one in their ranges
-clear_one : (l : Layout) (lane place n i j : ℕ) → i < n → IsClear j (record_ranges l lane place n) → IsClear j (record_range l lane (place + i) ∷ [])
+pub clear_one : (l : Layout) (lane place n i j : ℕ) → i < n → IsClear j (record_ranges l lane place n) → IsClear j (record_range l lane (place + i) ∷ [])
 clear_one l lane place zero i j lt clear = absurd (omega arith)
 clear_one l lane place (suc n) zero j lt clear =
     let here : place ≡ place + 0 = omega arith in

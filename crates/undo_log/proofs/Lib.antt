@@ -7,3 +7,4 @@ pub mod Since
 pub mod Once
 pub mod OneHeap
 pub mod ImageStands
+pub mod AppendRuns

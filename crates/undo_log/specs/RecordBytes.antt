@@ -1,5 +1,5 @@
 -- The bytes of a record in the image. The format is this project's own (docs/FORMAT.md, "Records").
-use Rattle.std.specs.Prelude.{ℕ, List, ◌∷◌, ◌++◌, ◌<◌, ◌-◌, ◌^◌, ◌≡◌}
+use Rattle.std.specs.Prelude.{ℕ, List, [], ◌∷◌, ◌++◌, ◌<◌, ◌-◌, ◌^◌, ◌≡◌}
 use Rattle.std.specs.Int.{to_be_bytes, w32, w64}
 use Rattle.heap_model.specs.declared.record.UndoRecord.{UndoRecord}
 use Rattle.heap_model.specs.declared.record.UndoRecord.TheVariants.{Acq, Rel, WaitRel, Put}
@@ -28,6 +28,11 @@ word_of (Put field before) = before
 -- the kind, three zeros, the id in 4 bytes and the word in 8
 abbrev pub record_bytes : UndoRecord → List ℕ
 record_bytes r = kind_of r ∷ 0 ∷ 0 ∷ 0 ∷ to_be_bytes w32 (id_of r) ++ to_be_bytes w64 (word_of r)
+
+-- the bytes of these records, one behind the other
+abbrev pub run_bytes : List UndoRecord → List ℕ
+run_bytes [] = []
+run_bytes (r ∷ newer) = record_bytes r ++ run_bytes newer
 
 -- its object, its field and its number are within the limits of every image; the value before a store is any word
 abbrev pub IsInRange : UndoRecord → Type 0

@@ -1,19 +1,24 @@
 //! Records written behind the last of their lane.
-ghost use Rattle.std.specs.Prelude.{◌≡◌, ◌⊎◌, ◌↔◌, ◌+◌, ◌-◌, ◌<◌, ◌≤◌, ◌^◌, [], ◌∷◌, length, All, IfErr, IsErrOf, OnOk};
-ghost use Rattle.block_disk.specs.Device.{HasCause, written};
+ghost use Rattle.std.specs.Prelude.{◌≡◌, ◌⊎◌, ◌↔◌, ◌+◌, ◌-◌, ◌*◌, ◌%◌, ◌<◌, ◌≤◌, ◌^◌, length, All, IfErr, IsErrOf, OnOk};
+ghost use Rattle.block_disk.specs.Device.{HasCause};
 ghost use Rattle.block_disk.specs.Images.{Always, ImageBut, LeavesOnly};
 ghost use Rattle.image.specs.Calls.{after};
-ghost use Rattle.image.specs.Layout.{IsLayout, record_at, size_of};
+ghost use Rattle.image.specs.Layout.{IsLayout, size_of};
 ghost use Rattle.image.specs.Rows.{IsRow};
-ghost use Rattle.undo_log.specs.RecordBytes.{record_bytes};
-ghost use Rattle.undo_log.specs.Area.{IsLoggable, HasRecords, record_range, record_ranges, record_writes};
+ghost use Rattle.undo_log.specs.RecordBytes.{run_bytes};
+ghost use Rattle.undo_log.specs.Area.{IsLoggable, HasRecords, record_ranges, record_writes};
 ghost use Rattle.undo_log.specs.declared.error.LogError.TheVariants.{Fault, LogFull};
 
 use crate::error::LogError;
 use crate::record_bytes::{RECORD_BYTES, encode_record};
-use block_disk::{Disk, write_within};
+use block_disk::{Disk, overwrite};
 use heap_model::{Lane, UndoRecord};
 use image::{LaneRow, Layout};
+
+/// How many records one call of the device takes at most.
+const RUN_RECORDS: usize = 64;
+
+const RUN_BYTES: usize = 1024;
 
 /// Writes these records, the oldest first, at the places from the row's `logged` on, in one write each. Until the next
 /// sync that succeeds, a crash may leave any bytes in those places; no live place is written.
@@ -70,41 +75,63 @@ fn write_records<D: Disk>(
     ensures any_moment { LeavesOnly (D.device disk.old) (D.device disk.new) (ImageBut (D.device disk.old) (record_ranges layout.now lane.0 place (length records.now))) }
     ensures cause { HasCause (D.device disk.old).failures (D.device disk.new).failures Fault result }
 {
-    let mut at = layout.record(lane, place);
-    for (i, entry) in records.iter().enumerate() {
-        write_record(disk, at, entry)?;
-        at = behind(layout, lane, place + i as u64, at);
+    let _size = layout.size();
+    let mut done = 0;
+    while done < records.len() {
+        let here = place + done as u64;
+        let count = run_length(layout, here, records.len() - done);
+        write_run(disk, layout, lane, here, &records[done..done + count])?;
+        done += count;
     }
     Ok(())
 }
 
-// Where the place behind this one lies, which lies at `at`. Behind its last place an area begins again; to look for that
-// takes less than to divide.
-fn behind(layout: &Layout, lane: Lane, place: u64, at: u64) -> u64
+// How many of so many records from `place` on one call takes: it ends where the lane's area does.
+fn run_length(layout: &Layout, place: u64, left: usize) -> usize
     requires limits { IsLayout layout.now }
-    requires lane { lane.0 < layout.now.lanes }
-    requires here { at ≡ record_at layout.now lane.0 place }
-    ensures { result ≡ record_at layout.now lane.0 (place + 1) }
+    requires some { 0 < left }
+    ensures some { 0 < result }
+    ensures block { result ≤ 64 }
+    ensures within { result ≤ left }
+    ensures in_area { place % layout.now.capacity + result ≤ layout.now.capacity }
 {
-    let _place = place;
-    let _size = layout.size();
-    let start = layout.record(lane, 0);
-    let last = RECORD_BYTES as u64 * (u64::from(layout.capacity) - 1);
-    if at - start < last {
-        at + RECORD_BYTES as u64
-    } else {
-        start
-    }
+    let capacity = u64::from(layout.capacity);
+    let to_end = capacity - place % capacity;
+    to_end.min(left as u64).min(RUN_RECORDS as u64) as usize
 }
 
-// Writes the record at this offset of the image.
-fn write_record<D: Disk>(disk: &mut D, at: u64, entry: &UndoRecord) -> Result<(), LogError>
-    requires fits { at + 16 ≤ length (D.device disk.old).now.bytes }
-    ensures written { OnOk result (D.device disk.new ≡ written at (record_bytes entry.now) (D.device disk.old)) }
+// Writes these records at the places from `place` on, in one call of the device: a write for each.
+fn write_run<D: Disk>(
+    disk: &mut D,
+    layout: &Layout,
+    lane: Lane,
+    place: u64,
+    run: &[UndoRecord],
+) -> Result<(), LogError>
+    requires limits { IsLayout layout.now }
+    requires fits { size_of layout.now ≤ length (D.device disk.old).now.bytes }
+    requires lane { lane.0 < layout.now.lanes }
+    requires some { 0 < length run.now }
+    requires block { length run.now ≤ 64 }
+    requires in_area { place % layout.now.capacity + length run.now ≤ layout.now.capacity }
+    ensures written { OnOk result (D.device disk.new ≡ after (record_writes layout.now lane.0 place run.now) (D.device disk.old)) }
     ensures only_fault { IfErr result (λ e. e ≡ Fault) }
-    ensures any_moment { LeavesOnly (D.device disk.old) (D.device disk.new) (ImageBut (D.device disk.old) (record { start = at; len = 16 } ∷ [])) }
+    ensures any_moment { LeavesOnly (D.device disk.old) (D.device disk.new) (ImageBut (D.device disk.old) (record_ranges layout.now lane.0 place (length run.now))) }
     ensures cause { HasCause (D.device disk.old).failures (D.device disk.new).failures Fault result }
 {
-    write_within(disk, at, &encode_record(entry))?;
+    let mut bytes = [0; RUN_BYTES];
+    let bytes = &mut bytes[..RECORD_BYTES * run.len()];
+    encode_run(run, bytes);
+    disk.write_units(layout.record(lane, place), bytes, run.len())?;
     Ok(())
+}
+
+// The bytes of these records, one behind the other.
+fn encode_run(run: &[UndoRecord], bytes: &mut [u8])
+    requires { length bytes.old ≡ 16 * length run.now }
+    ensures { bytes.new ≡ run_bytes run.now }
+{
+    for (i, entry) in run.iter().enumerate() {
+        overwrite(bytes, (RECORD_BYTES * i) as u64, &encode_record(entry));
+    }
 }

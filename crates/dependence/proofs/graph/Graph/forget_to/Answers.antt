@@ -9,9 +9,13 @@ use Rattle.dependence.specs.Steps.{log_of}
 use Rattle.dependence.specs.Kept.{Rises, IsLinked}
 use Rattle.dependence.specs.Inside.{trace_of}
 use Rattle.dependence.proofs.Places.{length_map}
+use Rattle.dependence.proofs.Keeping.{sorted_steps}
 use Rattle.dependence.proofs.Trimming.{IsPart, part_of, part_whole, stable_before, stable_after}
 use Rattle.dependence.proofs.Forgetting.{raised_by, left_log, left_rises, left_lanes, left_named, kept_forget}
 use Rattle.dependence.proofs.graph.Graph.forget_to.Goals as goal
+
+pub retain-requires-clause-sorted : goal.retain-requires-clause-sorted
+retain-requires-clause-sorted c = sorted_steps c.self.inside c.self.invariant
 
 pub again-requires-clause-lanes : goal.again-requires-clause-lanes
 again-requires-clause-lanes c = subst (λ (xs : List Step). All (λ s. s.lane.0 < 32) xs) (sym c.deref.ensures.value) (left_lanes c.self.inside c.args.cut.now c.raise.new.base c.retain.new.steps.items c.self.invariant c.raise.ensures c.retain.ensures.kept)
