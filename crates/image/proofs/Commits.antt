@@ -30,7 +30,7 @@ whole bytes = record { bytes = bytes; pending = [] }
 pub now_whole : (old new : Device) (at : ℕ) (bytes : List ℕ) → new ≡ synced (written at bytes old) → new.now ≡ whole (spliced old.now.bytes at bytes)
 now_whole old new at bytes is i = (is i).now
 
-only : {m : Moment} {bytes image : List ℕ} → m ≡ whole bytes → Image m image → image ≡ bytes
+pub only : {m : Moment} {bytes image : List ℕ} → m ≡ whole bytes → Image m image → image ≡ bytes
 only {m} {bytes} {image} is left = outside_none bytes image (subst (λ (m : Moment). Image m image) is left)
 
 -- before a commit each image shows the old control
@@ -44,15 +44,15 @@ shows_other l image A old new room was newer is_open is = record { room = room; 
 shows_other l image B old new room was newer is_open is = record { room = room; is_open = is_open; greater = λ g. omega (arith, sequence_spelled l (body B image) old was); spells = is }
 
 -- a change of one slot leaves the other one
-gate_apart : (t : Slot) (xs ys : List ℕ) → SameOutside (slot_range (other t) ∷ []) xs ys → gate t ys ≡ gate t xs
+pub gate_apart : (t : Slot) (xs ys : List ℕ) → SameOutside (slot_range (other t) ∷ []) xs ys → gate t ys ≡ gate t xs
 gate_apart A xs ys same = same.same 64 (inl (omega arith), tt)
 gate_apart B xs ys same = same.same 1112 (inr (omega arith), tt)
 
-body_apart : (t : Slot) (xs ys : List ℕ) → 2160 ≤ length xs → SameOutside (slot_range (other t) ∷ []) xs ys → body t ys ≡ body t xs
+pub body_apart : (t : Slot) (xs ys : List ℕ) → 2160 ≤ length xs → SameOutside (slot_range (other t) ∷ []) xs ys → body t ys ≡ body t xs
 body_apart A xs ys long same = part_same 72 1040 (slot_range B ∷ []) xs ys same (inl (omega arith), tt) (omega arith)
 body_apart B xs ys long same = part_same 1120 1040 (slot_range A ∷ []) xs ys same (inr (omega arith), tt) (omega arith)
 
-room : (t : Slot) (n : ℕ) → 2160 ≤ n → slot_at t + 8 + 1040 ≤ n
+pub room : (t : Slot) (n : ℕ) → 2160 ≤ n → slot_at t + 8 + 1040 ≤ n
 room A n long = omega arith
 room B n long = omega arith
 

@@ -2,6 +2,9 @@ pub mod Numbers
 pub mod Comparisons
 pub mod Controls
 pub mod Commits
+pub mod Spares
+pub mod Turning
+pub mod Opening
 pub mod Choices
 pub mod GuardLemmas
 pub mod Puts

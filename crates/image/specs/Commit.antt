@@ -1,6 +1,6 @@
 -- A commit of a control: it is written into the slot that isn't chosen, behind a closed gate (this project's own).
 use Rattle.std.specs.Prelude.{◌≡◌, ◌≢◌, ◌⊎◌, ◌==◌, ℕ, ◌≤◌, List, [], ◌∷◌, ◌++◌, length, slice_index, if◌then◌else◌}
-use Rattle.block_disk.specs.Device.{Device}
+use Rattle.block_disk.specs.Device.{Device, Range, SameOutside}
 use Rattle.block_disk.specs.Images.{ImageBut, Always}
 use Rattle.image.specs.Calls.{Call, Write, Sync}
 use Rattle.image.specs.Slots.{other, slot_at, body_at, slot_range, gate, Shows}
@@ -35,3 +35,32 @@ pub record OldOrNew (l : Layout) (d : Device) (chosen : Slot) (old new : Control
 pub record ClosedOrSame (d : Device) (at : ℕ) (image : List ℕ) : Type 0 where
   pub from : ImageBut d (record { start = at; len = 1 } ∷ []) image
   pub closed : (slice_index image at ≢ 165) ⊎ (slice_index image at ≡ slice_index d.now.bytes at)
+
+-- closing a gate with no sync of its own: one that reads closed is left alone
+abbrev pub shutting_calls : ℕ → List ℕ → List Call
+shutting_calls at image = if slice_index image at == 165 then Write at (0 ∷ []) ∷ [] else []
+
+-- a commit over writes that are still pending: the closed gate is made durable together with them
+abbrev pub pending_calls : Slot → List ℕ → List ℕ → List Call
+pending_calls chosen image bytes = shutting_calls (slot_at (other chosen)) image ++ Sync ∷ body_calls (other chosen) bytes
+
+-- an image from before, but for the slot that isn't chosen; it shows the control that counts
+pub record StillShows (l : Layout) (d : Device) (chosen : Slot) (c : Control) (image : List ℕ) : Type 0 where
+  pub from : ImageBut d (slot_range (other chosen) ∷ []) image
+  pub shows : Shows l image chosen c
+
+-- an image from before the commit, but for the slot that isn't chosen; it shows the old control, or the new one, and then
+-- all that was written before the commit is there
+pub record OldOrDurable (l : Layout) (d : Device) (chosen : Slot) (old new : Control) (image : List ℕ) : Type 0 where
+  pub from : ImageBut d (slot_range (other chosen) ∷ []) image
+  pub shows : Shows l image chosen old ⊎ (Shows l image (other chosen) new × SameOutside (slot_range (other chosen) ∷ []) d.now.bytes image)
+
+-- both slots
+abbrev pub slots_range : Range
+slots_range = record { start = 64; len = 2096 }
+
+-- an image from before, but for the slots; it shows the old control, or the new one, and then all that was written before
+-- the commit is there
+pub record OldOrTurned (l : Layout) (d : Device) (chosen : Slot) (old new : Control) (image : List ℕ) : Type 0 where
+  pub from : ImageBut d (slots_range ∷ []) image
+  pub shows : Shows l image chosen old ⊎ (Shows l image (other chosen) new × SameOutside (slots_range ∷ []) d.now.bytes image)

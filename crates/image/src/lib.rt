@@ -24,7 +24,9 @@ mod slot;
 
 pub use cells::{get_cell, put_cell};
 pub use choice::choose_control;
-pub use commit::commit_control;
+pub use commit::{
+    close_spare, commit_by_closing, commit_by_opening, commit_control, commit_pending,
+};
 pub use control::Control;
 pub use error::ImageError;
 pub use format::write_header;

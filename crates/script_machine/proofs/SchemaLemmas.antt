@@ -19,7 +19,7 @@ use Rattle.image.proofs.Reading.{guards_are_read, one_layout}
 use Rattle.store_past.specs.Past.{Past, after_log, after_settle, after_trim}
 use Rattle.store_image.specs.Consistent.{HasParts}
 use Rattle.durable.specs.Store.{FitsImage, Parts, ShowsStep}
-use Rattle.durable.specs.Store.ShowsStep.{Shows, ShowsLogged, ShowsSettled, ShowsTrimmed}
+use Rattle.durable.specs.Store.ShowsStep.{Shows, ShowsLogged, ShowsSettled, ShowsTrimmed, ShowsAcknowledged}
 use Rattle.durable.specs.declared.doubt.Doubt.{Doubt}
 use Rattle.plain_monitors.specs.Table.{Table}
 use Rattle.recover.specs.Reading.{HasFront}
@@ -62,6 +62,7 @@ shown_fits a first l p w image fits (Shows shown) = parts_fit a first l p.logged
 shown_fits a first l p w image fits (ShowsLogged doubt shown) = let q = after_log p in parts_fit a first l q.logged q.base q.cut image fits shown.parts
 shown_fits a first l p w image fits (ShowsSettled doubt clean cut stable shown) = let q = after_settle p cut in parts_fit a first l q.logged q.base q.cut image fits shown.parts
 shown_fits a first l p w image fits (ShowsTrimmed doubt shown) = let q = after_trim p in parts_fit a first l q.logged q.base q.cut image fits shown.parts
+shown_fits a first l p w image fits (ShowsAcknowledged doubt clean cut stable shown) = let q = after_trim (after_settle p cut) in parts_fit a first l q.logged q.base q.cut image fits shown.parts
 
 -- a call of the store leaves it so
 pub called_of : (a : Table) (first : ℕ → ℕ) (l : Layout) (p : Past) (w : Doubt) (x y : Memory) → FitsImage l (setting_from a first)

@@ -28,7 +28,7 @@ slot_behind : (t : Slot) → IsApart 0 64 (slot_range t ∷ [])
 slot_behind A = (inl (omega arith), tt)
 slot_behind B = (inl (omega arith), tt)
 
-slot_spared : (l : Layout) (s : Setting) (log : List (ℕ × Record)) (base cut : ℕ → ℕ) (t : Slot) → Spared l s log base cut (slot_range t ∷ [])
+pub slot_spared : (l : Layout) (s : Setting) (log : List (ℕ × Record)) (base cut : ℕ → ℕ) (t : Slot) → Spared l s log base cut (slot_range t ∷ [])
 slot_spared l s log base cut t = record {
   header = slot_behind t;
   guards = slot_before t 2160 (16 * l.fields) (omega arith);

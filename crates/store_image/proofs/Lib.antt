@@ -9,6 +9,8 @@ pub mod Growing
 pub mod Counting
 pub mod Recording
 pub mod Committing
+pub mod Pending
 pub mod Acknowledging
 pub mod Rewriting
 pub mod Freeing
+pub mod Round

@@ -25,6 +25,6 @@ pub use committed::Committed;
 pub use formatting::format;
 pub use home::{Home, write_home};
 pub use laws::standing_law;
-pub use logging::log_records;
-pub use settling::settle;
+pub use logging::{log_at_once, log_records};
+pub use settling::{settle, settle_and_trim};
 pub use trimming::{is_trimmed, trim};

@@ -6,19 +6,22 @@ use Rattle.heap_model.specs.declared.record.UndoRecord.{UndoRecord}
 use Rattle.heap_model.specs.Setting.{Setting}
 use Rattle.heap_model.specs.Sections.{actions, ended, undo_action}
 use Rattle.heap_model.specs.Cuts.{IsStable}
+use Rattle.cut_laws.specs.Laws.{StayLaw}
 use Rattle.block_disk.specs.Device.{Device}
 use Rattle.block_disk.specs.Images.{LeavesOnly}
 use Rattle.block_disk.proofs.Images.{and_then, weaker}
 use Rattle.image.specs.declared.layout.Layout.{Layout}
 use Rattle.undo_log.specs.Dropped.{undo_logs, records_in}
 use Rattle.store_image.specs.KeptHeap.{StandsForCut}
+use Rattle.store_image.proofs.Growing.{places_grown}
 use Rattle.store_image.proofs.Places.{in_sections, past_sections, records_within}
-use Rattle.store_past.specs.Past.{Past, IsTrimmed, applied, after_trim}
+use Rattle.store_past.specs.Past.{Past, IsPast, IsTrimmed, applied, after_log, after_settle, after_trim}
 use Rattle.store_past.specs.declared.error.StoreError.{StoreError}
 use Rattle.store_past.specs.declared.error.StoreError.TheVariants.{Failed, BadLane, BadId, Worn, NotNext, TooLong, LogFull, Unwritten, Fault, Unfinished}
 use Rattle.durable.specs.Calls.{RefusesTrim}
 use Rattle.durable.specs.Store.{Known, HasPast}
-use Rattle.trim_helper.specs.Settled.{HasSame, IsSettled, IsStop, IsWhy, StandsForRound, StandsAfter}
+use Rattle.trim_helper.specs.Settled.{HasClean, HasSame, IsSettled, IsStop, IsWhy, StandsForRound, StandsAfter}
+use Rattle.trim_helper.proofs.Homes.{dirtied}
 
 -- more sections have no fewer records
 more_records : (n m : ℕ) (xs : List UndoRecord) → n ≤ m → records_in n xs ≤ records_in m xs
@@ -49,6 +52,27 @@ module _ (x y : Known) (d e : Device) (s : Setting) (p : Past) (h : HasSame x d 
     record { logged = is.logged; clean = is.clean; stable = is.stable },
     λ l. refl,
   )
+
+-- the stable cut was acknowledged and forgotten
+pub acknowledged_now : (x y : Known) (d e : Device) (s : Setting) (p : Past) → StayLaw → IsPast s p → (was : HasClean x d s (after_log p) s.fields) (cut : ℕ → ℕ) → IsStable (actions (applied p)) cut
+    → HasPast y s (after_trim (after_settle (dirtied (after_log p) was.dirty) cut)) e → (h : HasSame y e s p) × IsSettled s h.now × IsTrimmed h.now
+acknowledged_now x y d e s p stay had was cut stable has =
+    let stays = stay s p.fresh p.logged p.cut had.legal had.whole had.closed in
+    let up : (l : ℕ) → p.cut l ≤ cut l = λ l. stable.greatest p.cut stays.0 stays.1 l in (
+      record {
+        now = after_trim (after_settle (dirtied (after_log p) was.dirty) cut);
+        has = has;
+        same = refl;
+        cut = up;
+        places = λ l. omega (
+          arith,
+          places_grown (p.base l) p.fresh p.logged l (had.base_whole l),
+          more_records (p.base l) (cut l) (undo_logs (applied p) l) (omega (arith, had.within l, up l)),
+        );
+      },
+      record { logged = refl; clean = was.clean; stable = stable },
+      λ l. refl,
+    )
 
 module _ (x : Known) (d : Device) (s : Setting) (p : Past) (h : HasSame x d s p) where
   -- meanwhile each image stands for the stable cut

@@ -58,7 +58,8 @@ pub fn settle_applied<D: Disk>(store: &mut Store<D>) -> Result<(), StoreError>
     store.settle()
 }
 
-/// Logs what was applied, writes it home, acknowledges its stable cut, and then forgets what is acknowledged.
+/// Logs what was applied, writes it home, and then acknowledges its stable cut and forgets it, both at once. It takes six
+/// syncs.
 pub fn settle_and_trim<D: Disk>(store: &mut Store<D>) -> Result<(), StoreError>
     ensures settled { (s : Setting) (p : Past) → HasPast store.old.known s p (D.device store.old.disk) → OnOk result ((h : HasSame store.new.known (D.device store.new.disk) s p) × IsSettled s h.now × IsTrimmed h.now) }
     ensures kept { (s : Setting) (p : Past) → HasPast store.old.known s p (D.device store.old.disk) → OnErr result (HasSame store.new.known (D.device store.new.disk) s p) }
@@ -70,9 +71,13 @@ pub fn settle_and_trim<D: Disk>(store: &mut Store<D>) -> Result<(), StoreError>
     ensures any_moment { (s : Setting) (p : Past) → HasPast store.old.known s p (D.device store.old.disk) → LeavesOnly (D.device store.old.disk) (D.device store.new.disk) (StandsForRound store.old.known.layout s (applied p) p.cut) }
     ensures cause { HasCause (D.device store.old.disk).failures (D.device store.new.disk).failures Fault result }
 {
-    if let Err(reason) = settle_applied(store) {
+    stable_law();
+    stay_law();
+    if let Err(reason) = store.log_at_once() {
         return Err(reason);
     }
-    // Not before: what isn't acknowledged is still needed to undo it.
-    store.trim()
+    if let Err(reason) = write_home(store) {
+        return Err(reason);
+    }
+    store.settle_and_trim()
 }

@@ -1,43 +1,92 @@
-use Rattle.std.proofs.Common.{◌∙◌, ap, inl, inr, ⊎_elim}
-use Rattle.block_disk.proofs.Failures.{cause_since}
-use Rattle.store_past.specs.Past.{IsTrimmed}
-use Rattle.durable.specs.Calls.{RefusesTrim}
+use Rattle.std.proofs.Common.{◌∙◌, ◌≡◌, Err, true, false, refl, sym, ap, inl, inr, ⊎_elim, arith}
+use Rattle.heap_model.specs.Sections.{actions}
+use Rattle.store_past.specs.Past.{IsTrimmed, applied, after_log}
 use Rattle.trim_helper.specs.Settled.{HasSame, IsSettled, IsStop}
-use Rattle.trim_helper.proofs.Homes.{err_weaker, if_err_match, if_err_more, ok_weaker}
-use Rattle.trim_helper.proofs.Trims.{round_trims, same_kept, settled_trimmed, stops_trim, why_trim}
+use Rattle.durable.specs.Calls.{RefusesSettle}
+use Rattle.trim_helper.proofs.Homes.{round_logs, round_homes, round_settles, passed_on, same_stay, same_dirtied, same_clean, dirtied, stops_log, stops_settle, ok_weaker, err_weaker, if_err_match, if_err_more, failed_log, why_log, why_settle}
+use Rattle.trim_helper.proofs.Trims.{acknowledged_now}
+use Rattle.block_disk.proofs.Failures.{cause_since}
 use Rattle.trim_helper.proofs.settling.settle_and_trim.Goals as goal
+
+pub returns-in-Err-clause-kept : goal.returns-in-Err-clause-kept
+returns-in-Err-clause-kept g c = λ s p has. same_stay c.args.store.now.known _ (g.D.Disk.device c.args.store.now.disk) _ s p (c.in-Err.ensures.kept s p has)
+
+pub returns-in-Err-clause-stop : goal.returns-in-Err-clause-stop
+returns-in-Err-clause-stop g c = λ s p has. stops_log c.args.store.now.known p c.in-Err.reason (c.in-Err.ensures.answer s p has)
+
+pub returns-in-Err-write_home-clause-kept : goal.returns-in-Err-write_home-clause-kept
+returns-in-Err-write_home-clause-kept g c = λ s p has. same_clean c.args.store.now.known _ (g.D.Disk.device c.args.store.now.disk) _ s p 0 has.past (c.in-Err-write_home.ensures.kept s (after_log p) (c.in_default.ensures.ok s p has))
+
+pub returns-in-Err-write_home-clause-stop : goal.returns-in-Err-write_home-clause-stop
+returns-in-Err-write_home-clause-stop g c = λ s p has. c.in-Err-write_home.ensures.stop s (after_log p) (c.in_default.ensures.ok s p has)
 
 pub returns-clause-settled : goal.returns-clause-settled
 returns-clause-settled g c = λ s p has.
-    let was = c.in_default.ensures.settled s p has in
-    ok_weaker c.trim.result _ ((h : HasSame c.trim.new.self.known (g.D.Disk.device c.trim.new.self.disk) s p) × IsSettled s h.now × IsTrimmed h.now)
-    (settled_trimmed _ _ _ _ s p was.0 was.1) (c.trim.ensures.ok s was.0.now was.0.has)
+    let was = c.in_default-write_home.ensures.clean s (after_log p) (c.in_default.ensures.ok s p has) in
+    let cut = c.stable_law.ensures.exists (actions (applied p)) in
+    ok_weaker c.settle_and_trim.result _ ((h : HasSame c.settle_and_trim.new.self.known (g.D.Disk.device c.settle_and_trim.new.self.disk) s p) × IsSettled s h.now × IsTrimmed h.now)
+    (acknowledged_now _ _ _ _ s p c.stay_law.ensures has.past was cut.0 cut.1)
+    (c.settle_and_trim.ensures.ok s (dirtied (after_log p) was.dirty) cut.0 was.has cut.1)
 
 pub returns-clause-kept : goal.returns-clause-kept
 returns-clause-kept g c = λ s p has.
-    let was = c.in_default.ensures.settled s p has in
-    err_weaker c.trim.result _ (HasSame c.trim.new.self.known (g.D.Disk.device c.trim.new.self.disk) s p)
-    (same_kept _ _ _ _ s p was.0) (c.trim.ensures.kept s was.0.now was.0.has)
+    let was = c.in_default-write_home.ensures.clean s (after_log p) (c.in_default.ensures.ok s p has) in
+    err_weaker c.settle_and_trim.result _ (HasSame c.settle_and_trim.new.self.known (g.D.Disk.device c.settle_and_trim.new.self.disk) s p)
+    (λ had. same_dirtied c.args.store.now.known c.settle_and_trim.new.self.known (g.D.Disk.device c.args.store.now.disk) (g.D.Disk.device c.settle_and_trim.new.self.disk) s p was.dirty has.past had)
+    (c.settle_and_trim.ensures.kept s (dirtied (after_log p) was.dirty) was.has)
 
 pub returns-clause-stop : goal.returns-clause-stop
 returns-clause-stop g c = λ s p has.
-    let was = c.in_default.ensures.settled s p has in
-    if_err_match c.trim.result _ (RefusesTrim c.settle_applied.new.store.known was.0.now) IsStop (λ e h. stops_trim c.settle_applied.new.store.known was.0.now e h)
-    (c.trim.ensures.answer s was.0.now was.0.has)
+    let was = c.in_default-write_home.ensures.clean s (after_log p) (c.in_default.ensures.ok s p has) in
+    if_err_match c.settle_and_trim.result _ (RefusesSettle c.write_home.new.store.known s (dirtied (after_log p) was.dirty)) IsStop (λ e h. stops_settle c.write_home.new.store.known s (dirtied (after_log p) was.dirty) e was.clean h)
+    (c.settle_and_trim.ensures.answer s (dirtied (after_log p) was.dirty) was.has)
 
-pub returns-clause-why : goal.returns-clause-why
-returns-clause-why g c = λ s p has.
-    let was = c.in_default.ensures.settled s p has in
-    why_trim c.args.store.now.known c.settle_applied.new.store.known c.trim.new.self.known was.0.now c.trim.result c.in_default.ensures.running (c.trim.ensures.answer s was.0.now was.0.has)
-    (if_err_more c.trim.result _ _ (λ e h. ⊎_elim (λ is. inl is) (λ same. inr (ap (λ z. z.known) same)) h) c.trim.ensures.refused)
+pub returns-in-Err-clause-any_moment : goal.returns-in-Err-clause-any_moment
+returns-in-Err-clause-any_moment g c = λ s p has. round_logs _ c.args.store.now.known.layout s p has.past _ _ (c.in-Err.ensures.any_moment s p has)
+
+pub returns-in-Err-write_home-clause-any_moment : goal.returns-in-Err-write_home-clause-any_moment
+returns-in-Err-write_home-clause-any_moment g c = λ s p has.
+    round_homes _ c.log_at_once.new.self.known.layout s p has.past _ _ _ c.log_at_once.ensures.layout (round_logs _ c.args.store.now.known.layout s p has.past _ _ (c.in_default.ensures.any_moment s p has))
+    (c.in-Err-write_home.ensures.any_moment s (after_log p) (c.in_default.ensures.ok s p has))
 
 pub returns-clause-any_moment : goal.returns-clause-any_moment
 returns-clause-any_moment g c = λ s p has.
-    let was = c.in_default.ensures.settled s p has in
-    round_trims _ _ s p was.0 _ c.settle_applied.new.store.known.layout _ _ was.1 c.settle_applied.ensures.layout (c.in_default.ensures.any_moment s p has) (c.trim.ensures.any_moment s was.0.now was.0.has)
+    let was = c.in_default-write_home.ensures.clean s (after_log p) (c.in_default.ensures.ok s p has) in
+    let cut = c.stable_law.ensures.exists (actions (applied p)) in
+    round_settles _ c.write_home.new.store.known.layout s p has.past _ _ _ cut.0 cut.1 (c.write_home.ensures.layout ∙ c.log_at_once.ensures.layout)
+    (round_homes _ c.log_at_once.new.self.known.layout s p has.past _ _ _ c.log_at_once.ensures.layout (round_logs _ c.args.store.now.known.layout s p has.past _ _ (c.in_default.ensures.any_moment s p has))
+    (c.in_default-write_home.ensures.any_moment s (after_log p) (c.in_default.ensures.ok s p has)))
+    (c.settle_and_trim.ensures.any_moment s (dirtied (after_log p) was.dirty) cut.0 was.has cut.1)
 
-pub returns-clause-layout : goal.returns-clause-layout
-returns-clause-layout g c = c.trim.ensures.layout ∙ c.settle_applied.ensures.layout
+pub returns-in-Err-clause-cause : goal.returns-in-Err-clause-cause
+returns-in-Err-clause-cause g c = passed_on _ _ _ c.log_at_once.result _ _ c.in-Err.reason c.in-Err.is refl (omega arith) c.log_at_once.ensures.cause
+
+pub returns-in-Err-write_home-clause-cause : goal.returns-in-Err-write_home-clause-cause
+returns-in-Err-write_home-clause-cause g c = passed_on _ _ _ c.write_home.result _ _ c.in-Err-write_home.reason c.in-Err-write_home.is refl c.log_at_once.ensures.cause.later c.write_home.ensures.cause
 
 pub returns-clause-cause : goal.returns-clause-cause
-returns-clause-cause g c = cause_since _ _ _ _ c.trim.result c.settle_applied.ensures.cause.later c.trim.ensures.cause
+returns-clause-cause g c = cause_since _ _ _ _ c.settle_and_trim.result (omega (arith, c.log_at_once.ensures.cause.later, c.write_home.ensures.cause.later)) c.settle_and_trim.ensures.cause
+
+pub returns-in-Err-clause-why : goal.returns-in-Err-clause-why
+returns-in-Err-clause-why g c = λ s p has. why_log c.args.store.now.known _ p c.in-Err.reason (c.in-Err.ensures.answer s p has) (⊎_elim (λ is. inl is) (λ same. inr (ap (λ z. z.known) same)) c.in-Err.ensures.refused)
+
+pub returns-in-Err-write_home-clause-why : goal.returns-in-Err-write_home-clause-why
+returns-in-Err-write_home-clause-why g c = λ s p has.
+    let why = c.in-Err-write_home.ensures.why s (after_log p) (c.in_default.ensures.ok s p has) in
+    record { failed = λ is. absurd (let no : false ≡ true = sym c.in_default.ensures.running.1 ∙ why.0 is in cc); worn = λ is. absurd (why.1 is) }
+
+pub returns-clause-why : goal.returns-clause-why
+returns-clause-why g c = λ s p has.
+    let was = c.in_default-write_home.ensures.clean s (after_log p) (c.in_default.ensures.ok s p has) in
+    why_settle c.args.store.now.known c.write_home.new.store.known c.settle_and_trim.new.self.known s (dirtied (after_log p) was.dirty) c.settle_and_trim.result
+    (c.in_default-write_home.ensures.running ∙ c.in_default.ensures.running.1) (c.settle_and_trim.ensures.answer s (dirtied (after_log p) was.dirty) was.has)
+    (if_err_more c.settle_and_trim.result _ _ (λ e h. ⊎_elim (λ is. inl is) (λ same. inr (ap (λ z. z.known) same)) h) c.settle_and_trim.ensures.refused)
+
+pub returns-in-Err-clause-failed : goal.returns-in-Err-clause-failed
+returns-in-Err-clause-failed g c = λ s p has off. ap Err (failed_log c.args.store.now.known p c.in-Err.reason off (c.in-Err.ensures.answer s p has))
+
+pub returns-in-Err-write_home-clause-failed : goal.returns-in-Err-write_home-clause-failed
+returns-in-Err-write_home-clause-failed g c = λ s p has off. absurd (let no : false ≡ true = sym c.in_default.ensures.running.0 ∙ off in cc)
+
+pub returns-clause-failed : goal.returns-clause-failed
+returns-clause-failed g c = λ s p has off. absurd (let no : false ≡ true = sym c.in_default.ensures.running.0 ∙ off in cc)

@@ -1,0 +1,65 @@
+use Rattle.std.proofs.Common.{sym, subst}
+use Rattle.store_past.specs.Past.{after_log}
+use Rattle.store_image.specs.Consistent.{IsConsistent}
+use Rattle.store_image.specs.declared.committed.Committed.{Committed}
+use Rattle.store_image.proofs.Recording.{each_row, append_leaves, append_shows, rows_fit, steady_one, at_once_shows, at_once_leaves, at_once_done}
+use Rattle.store_image.proofs.Answered.{on_ok_four}
+use Rattle.store_image.proofs.logging.log_all_at_once.Goals as goal
+
+pub append_lanes-requires-clause-rows : goal.append_lanes-requires-clause-rows
+append_lanes-requires-clause-rows g c =
+    let r = c.requires.logs in
+    each_row c.args.layout.now r.0 r.1 c.args.committed.now (g.D.Disk.device c.args.disk.now) (g.F.NewRecords.fresh c.args.fresh.now) r.2
+
+pub returns-in_err-append_lanes-clause-any_moment : goal.returns-in_err-append_lanes-clause-any_moment
+returns-in_err-append_lanes-clause-any_moment g c = λ s p may.
+    append_leaves c.args.layout.now s p c.args.committed.now (g.D.Disk.device c.args.disk.now) (g.F.NewRecords.fresh c.args.fresh.now) may
+    (g.D.Disk.device c.append_lanes.new.disk) c.append_lanes.ensures.any_moment
+
+pub returns-in_err-append_lanes-clause-shown : goal.returns-in_err-append_lanes-clause-shown
+returns-in_err-append_lanes-clause-shown g c = λ s p may.
+    append_shows c.args.layout.now s p c.args.committed.now (g.D.Disk.device c.args.disk.now) (g.F.NewRecords.fresh c.args.fresh.now) may
+    (g.D.Disk.device c.append_lanes.new.disk) c.append_lanes.ensures.any_moment
+
+pub logged_rows-rows-requires-clause-limit : goal.logged_rows-rows-requires-clause-limit
+logged_rows-rows-requires-clause-limit g c = λ lane below. (c.requires.logs.2.fits lane below).limit
+
+pub commit_written-requires-clause-rows : goal.commit_written-requires-clause-rows
+commit_written-requires-clause-rows g c =
+    let r = c.requires.logs in
+    rows_fit c.args.layout.now r.0 r.1 c.args.committed.now (g.D.Disk.device c.args.disk.now) (g.F.NewRecords.fresh c.args.fresh.now) r.2
+    (g.D.Disk.device c.append_lanes.new.disk) c.append_lanes.ensures.any_moment c.logged_rows-rows.result
+    (record { size = c.logged_rows-rows.ensures.size; lanes = c.logged_rows-rows.ensures.lanes; rest = c.logged_rows-rows.ensures.rest })
+
+pub commit_written-requires-clause-steady : goal.commit_written-requires-clause-steady
+commit_written-requires-clause-steady g c =
+    let r = c.requires.logs in
+    steady_one c.args.layout.now r.0 r.1 c.args.committed.now (g.D.Disk.device c.args.disk.now) (g.F.NewRecords.fresh c.args.fresh.now) r.2
+    (g.D.Disk.device c.append_lanes.new.disk) c.append_lanes.ensures.any_moment c.logged_rows-rows.result
+    (record { size = c.logged_rows-rows.ensures.size; lanes = c.logged_rows-rows.ensures.lanes; rest = c.logged_rows-rows.ensures.rest })
+
+pub returns-clause-ok : goal.returns-clause-ok
+returns-clause-ok g c = λ s p may.
+    let l = c.args.layout.now in
+    let d3 = g.D.Disk.device c.commit_written.new.disk in
+    on_ok_four c.commit_written.result
+    (λ is rest same steady. subst (λ (committed : Committed). IsConsistent l s (after_log p) committed d3) (sym is)
+    (at_once_done c.args.layout.now s p c.args.committed.now (g.D.Disk.device c.args.disk.now) (g.F.NewRecords.fresh c.args.fresh.now) may
+    (g.D.Disk.device c.append_lanes.new.disk) c.append_lanes.ensures.any_moment c.logged_rows-rows.result
+    (record { size = c.logged_rows-rows.ensures.size; lanes = c.logged_rows-rows.ensures.lanes; rest = c.logged_rows-rows.ensures.rest })
+    c.in_ok-append_lanes.ensures.ok d3 c.commit_written.ensures.any_moment rest same steady))
+    c.commit_written.ensures.ok c.commit_written.ensures.durable c.commit_written.ensures.same c.commit_written.ensures.steady
+
+pub returns-clause-any_moment : goal.returns-clause-any_moment
+returns-clause-any_moment g c = λ s p may.
+    at_once_leaves c.args.layout.now s p c.args.committed.now (g.D.Disk.device c.args.disk.now) (g.F.NewRecords.fresh c.args.fresh.now) may
+    (g.D.Disk.device c.append_lanes.new.disk) c.append_lanes.ensures.any_moment c.logged_rows-rows.result
+    (record { size = c.logged_rows-rows.ensures.size; lanes = c.logged_rows-rows.ensures.lanes; rest = c.logged_rows-rows.ensures.rest })
+    c.in_ok-append_lanes.ensures.ok (g.D.Disk.device c.commit_written.new.disk) c.commit_written.ensures.any_moment
+
+pub returns-clause-shown : goal.returns-clause-shown
+returns-clause-shown g c = λ s p may.
+    at_once_shows c.args.layout.now s p c.args.committed.now (g.D.Disk.device c.args.disk.now) (g.F.NewRecords.fresh c.args.fresh.now) may
+    (g.D.Disk.device c.append_lanes.new.disk) c.append_lanes.ensures.any_moment c.logged_rows-rows.result
+    (record { size = c.logged_rows-rows.ensures.size; lanes = c.logged_rows-rows.ensures.lanes; rest = c.logged_rows-rows.ensures.rest })
+    c.in_ok-append_lanes.ensures.ok (g.D.Disk.device c.commit_written.new.disk) c.commit_written.ensures.any_moment
