@@ -1,9 +1,11 @@
 //! The seats, by which threads step on the shared words.
 
-ghost use Rattle.std.specs.Prelude.{◌≡◌, ◌<◌};
+ghost use Rattle.std.specs.Prelude.{◌≡◌, ◌<◌, [], ◌∷◌};
+ghost use Rattle.monitor.specs.Seats.{Sitting};
 ghost use Rattle.monitor.specs.Views.{lane_of, Stands};
 
 use crate::view::View;
+use atomic_table::Badge;
 use heap_model::{LANES, Lane};
 use std::marker::Model;
 
@@ -41,6 +43,72 @@ impl Model for HelperSeat {
     ghost view = { λ s. record { table = s.seat.table_id; id = s.seat.id; view = s.seat.me.0; next = s.next } };
 
     ghost invariant = { λ s. IsHelper s.seat s.next };
+}
+
+/// A seat that steps no more. It tells what its lane had had, and may cross to the helper's thread. It has no bytes.
+/// Contracts see it as a `Sitting`.
+#[derive(Drop)]
+pub struct Witness {
+    pub(crate) seat: atomic_table::Seat<(), View>,
+}
+
+impl Model for Witness {
+    ghost use Rattle.monitor.specs.Seats.{Sitting, IsAttest};
+
+    ghost Value = { Sitting };
+
+    ghost view = { λ s. record { table = s.seat.table_id; id = s.seat.id; view = s.seat.me.0 } };
+
+    ghost invariant = { λ s. IsAttest s.seat };
+}
+
+/// A witness, or none. It has no bytes. Contracts see it as a list of a `Sitting`, or of none.
+#[derive(Drop)]
+pub struct Told {
+    pub(crate) badge: Badge<View>,
+}
+
+impl Model for Told {
+    ghost use Rattle.std.specs.Prelude.{List};
+    ghost use Rattle.monitor.specs.Seats.{Sitting, IsTold, seats_of};
+
+    ghost Value = { List Sitting };
+
+    ghost view = { λ t. seats_of t.badge.table_id t.badge.id t.badge.views };
+
+    ghost invariant = { λ t. IsTold t.badge.views };
+}
+
+impl Told {
+    /// No witness.
+    pub fn nothing() -> Told
+        ensures { result ≡ [] }
+    {
+        Told {
+            badge: Badge::blank(),
+        }
+    }
+
+    /// This witness.
+    pub fn of(witness: Witness) -> Told
+        ensures { result ≡ witness ∷ [] }
+    {
+        let Witness { seat } = witness;
+        Told {
+            badge: seat.into_badge(),
+        }
+    }
+
+    /// The witness that it is.
+    pub fn into_witness(self) -> Witness
+        requires { (w : Sitting) × (self ≡ w ∷ []) }
+        ensures { self ≡ result ∷ [] }
+    {
+        let Told { badge } = self;
+        Witness {
+            seat: badge.into_seat::<()>(),
+        }
+    }
 }
 
 impl Seat {

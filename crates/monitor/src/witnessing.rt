@@ -1,0 +1,81 @@
+//! What lanes had had, told to the helper while their threads go on.
+
+ghost use Rattle.std.specs.Prelude.{◌≡◌};
+ghost use Rattle.monitor.specs.Words.{setting_of};
+ghost use Rattle.monitor.specs.Views.{witness_for, hearing, caught_up, GoesOn, HasHeard};
+ghost use Rattle.heap_model.specs.History.{IsLegalHistory};
+ghost use Rattle.monitor.specs.Seats.{IsSeatOf, IsHelperOf};
+
+use crate::seat::{HelperSeat, Seat, Witness};
+use crate::shared::Shared;
+use crate::view::View;
+use atomic_table::{Join, Play, Split};
+
+/// A seat leaves a witness.
+pub struct Attest;
+
+impl Split<View> for Attest {
+    ghost use Rattle.monitor.specs.Views.{unchanged, witness_for};
+
+    ghost left = { unchanged };
+
+    ghost right = { witness_for };
+}
+
+/// The helper's seat hears a witness.
+pub struct Hears;
+
+impl Join<View> for Hears {
+    ghost use Rattle.monitor.specs.Views.{hearing, spent};
+
+    ghost both = { hearing };
+
+    ghost spent = { spent };
+}
+
+/// A load by which the helper's seat sees the history so far.
+pub struct CatchesUp;
+
+impl Play<(), View> for CatchesUp {
+    ghost use Rattle.monitor.specs.Kinds.{catches_up};
+
+    ghost then = { catches_up };
+}
+
+impl Shared {
+    /// A witness of what the seat's lane has had so far. One load.
+    pub fn witness(&self, seat: &mut Seat) -> Witness
+        requires seat { IsSeatOf self.now seat.old }
+        ensures seat { IsSeatOf self.now seat.new }
+        ensures same { seat.new.view ≡ seat.old.view }
+        ensures witness { IsSeatOf self.now result × (result.view ≡ witness_for seat.old.view) }
+    {
+        let _lane = seat.lane;
+        let witness = self.table.shared.split_seat::<Attest>(&mut seat.seat);
+        Witness { seat: witness }
+    }
+
+    /// The helper hears a witness. One load.
+    pub fn hear(&self, helper: &mut HelperSeat, witness: Witness)
+        requires helper { IsHelperOf self.now helper.old }
+        requires witness { IsSeatOf self.now witness }
+        ensures helper { IsHelperOf self.now helper.new × (helper.new.view ≡ hearing helper.old.view witness.view) × (helper.new.next ≡ helper.old.next) }
+    {
+        let Witness { seat } = witness;
+        self.table.shared.join_seat::<Hears>(&mut helper.seat, seat);
+    }
+
+    /// The helper sees the one history so far. It is legal, goes on from what the helper had seen, and of each lane that
+    /// a witness was heard of it goes on from what that had told. One load.
+    pub fn catch_up(&self, helper: &mut HelperSeat)
+        requires helper { IsHelperOf self.now helper.old }
+        ensures helper { IsHelperOf self.now helper.new × (helper.new.next ≡ helper.old.next) }
+        ensures seen { helper.new.view ≡ caught_up helper.old.view helper.new.view.history }
+        ensures legal { IsLegalHistory (setting_of self.now.plan) helper.new.view.history }
+        ensures goes_on { GoesOn helper.new.view.history helper.old.view.history }
+        ensures heard { HasHeard helper.new.view.history helper.old.view }
+    {
+        let place = self.count_place();
+        self.table.shared.load::<CatchesUp>(&mut helper.seat, place);
+    }
+}
