@@ -40,8 +40,9 @@ pub trait Disk {
             ⊎ TornWrite at (length bytes.now) (device self.old) (device self.new) }
         ensures cause { IsErrOf result Fault → HasFailed (device self.old).failures (device self.new).failures };
 
-    /// Writes these bytes at `at`, in `count` writes of 16 bytes each, the first bytes first. Each is a write of its own, as by
-    /// [`write_at`](Disk::write_at): a crash or a fault may come in any of them. A disk may do them in one go.
+    /// Writes these bytes, `count` units of 16 each, from `at` on. Each unit is a write of its own, the first one first: a crash
+    /// or a fault may come in any of them, and until the next sync that succeeds a crash may leave any bytes in the range of
+    /// each that was begun. A disk may make them in one go.
     fn write_units(&mut self, at: u64, bytes: &[u8], count: usize) -> Result<(), crate::Fault>
         requires some { 0 < count }
         requires whole { length bytes.now ≡ count * 16 }

@@ -73,11 +73,12 @@ pub record IsLooking (steps : List Step) (start left : List ℕ) (candidates cut
   pub why : AreCauses steps cut causes
   pub walk : IsWalk steps start left (IsLookedAt steps candidates cut)
 
--- the second: back over what is out. What took from a section that is no candidate, of a lane where the walk doesn't begin, is out already
+-- the second: back over what is out. Where it doesn't begin at a lane, what took from a section of it that is no candidate is out already
 pub record IsSearch (steps : List Step) (start left : List ℕ) (candidates cut : ℕ → ℕ) (causes : List (Option Dependence)) : Type 0 where
   pub above : IsAbove steps candidates cut
   pub why : AreCauses steps cut causes
-  pub looked : (j i : ℕ) → Takes steps j i → slice_index start (slice_index (lanes_in steps) i) ≡ 0 → candidates (slice_index (lanes_in steps) i) < slice_index (sections_in steps) i → cut (slice_index (lanes_in steps) j) < slice_index (sections_in steps) j
+  pub looked : (j i : ℕ) → Takes steps j i → slice_index start (slice_index (lanes_in steps) i) ≡ 0
+      → candidates (slice_index (lanes_in steps) i) < slice_index (sections_in steps) i → cut (slice_index (lanes_in steps) j) < slice_index (sections_in steps) j
   pub walk : IsWalk steps start left (IsTakenUp steps cut)
 
 -- the newest step that is left of the lane is of a section outside the cut

@@ -51,8 +51,9 @@ pub fn at_hand(
 
 /// The stable cut of the steps, beyond the one that was answered before.
 ///
-/// Each candidate is taken up once with its dependences, and those that are out once more: so that one
-/// which is in is taken up once, and a section whose cause is out isn't taken up.
+/// Where all sections that have ended are candidates, what is outside alone is taken up. Else each candidate is taken up once
+/// with its dependences, and those that are out once more: so that one which is in is taken up once, and a section
+/// whose cause is out isn't taken up.
 pub fn find(
     lanes: u8,
     steps: &[Step],

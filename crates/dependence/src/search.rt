@@ -29,8 +29,8 @@ pub struct Search {
 
 /// The greatest cut of the candidates that is closed, above one that is closed.
 ///
-/// Where all that has ended is a candidate, few sections are outside: those that are open. What they freed says who is
-/// out with them, and nobody else has to be looked at.
+/// `are_all` says that all sections that have ended are candidates. Then those outside are the open ones, which are few: what
+/// they freed says who is out with them, and no other is taken up. The answer is the same without it.
 pub fn greatest_cut(
     lanes: u8,
     steps: &[Step],

@@ -1,4 +1,4 @@
-//! The steps that are forgotten.
+//! The steps that stay when a part of the log is forgotten.
 
 ghost use Rattle.std.specs.Prelude.{◌≡◌, ◌≤◌, ◌-◌, ◌<◌, ℕ, false, IsFalse, length, slice_index, nat_lt, vec_len, vec_capacity};
 ghost use Rattle.std.specs.List.{filter};
@@ -20,7 +20,7 @@ pub fn retain(steps: &mut Vec<Step>, links: &Links, base: &[u64], lanes: u8)
     ensures capacity { vec_capacity steps.new ≡ vec_capacity steps.old }
     ensures fewer { vec_len steps.new ≤ vec_len steps.old }
 {
-    if is_one_past(steps, links, base, lanes) {
+    if has_one_past(steps, links, base, lanes) {
         retain_past(steps, base);
     } else {
         steps.clear();
@@ -28,10 +28,11 @@ pub fn retain(steps: &mut Vec<Step>, links: &Links, base: &[u64], lanes: u8)
 }
 
 // Whether `base` doesn't count the newest step of a lane.
-fn is_one_past(steps: &[Step], links: &Links, base: &[u64], lanes: u8) -> bool
+fn has_one_past(steps: &[Step], links: &Links, base: &[u64], lanes: u8) -> bool
     requires lanes { lanes ≤ 32 }
     requires linked { IsLinked steps.now links.now }
-    ensures { IsFalse result → (l : ℕ) → l < lanes → 0 < slice_index links.now.newest l → slice_index (sections_in steps.now) (slice_index links.now.newest l - 1) ≤ slice_index base.now (slice_index (lanes_in steps.now) (slice_index links.now.newest l - 1)) }
+    ensures { IsFalse result → (l : ℕ) → l < lanes → 0 < slice_index links.now.newest l
+        → slice_index (sections_in steps.now) (slice_index links.now.newest l - 1) ≤ slice_index base.now (slice_index (lanes_in steps.now) (slice_index links.now.newest l - 1)) }
 {
     for lane in 0..lanes as usize {
         let newest = links.newest[lane];

@@ -23,7 +23,7 @@ ghost use Rattle.store_memory.specs.Sections.{TellsSections};
 ghost use Rattle.durable.specs.Store.{HasPast, ShowsStep, StandsForStep};
 ghost use Rattle.store_past.specs.declared.error.StoreError.TheVariants.{Fault, Worn};
 ghost use Rattle.store_image.specs.declared.home.Home.TheVariants.{Done};
-ghost use Rattle.durable.specs.declared.doubt.Doubt.TheVariants.{Nothing, Logging, Settling, Trimming, Acknowledging};
+ghost use Rattle.durable.specs.declared.doubt.Doubt.TheVariants.{Nothing, Logging, Settling, Trimming};
 
 use crate::beginning::fields_of;
 use crate::doubt::Doubt;
@@ -32,10 +32,7 @@ use heap_model::{Cut, FieldId, Lane, Record};
 use image::{GuardRow, LaneRow, Layout, Recovered, RecoveredParts};
 use std::alloc::{AllocError, Global};
 use std::marker::Model;
-use store_image::{
-    Committed, Home, is_trimmed, log_at_once, log_records, settle, settle_and_trim, trim,
-    write_home,
-};
+use store_image::{Committed, Home, Syncs, is_trimmed, log_records, settle, trim, write_home};
 use store_memory::{Applied, LoggedSections};
 use store_past::StoreError;
 
@@ -51,13 +48,13 @@ use store_past::StoreError;
 /// became of that. After a `Fault` every call that applies or writes answers `Failed`; what there is to read stays.
 #[derive(Drop)]
 pub struct Store<D: Disk> {
-    disk: D,
-    layout: Layout,
-    committed: Committed,
-    applied: Applied,
-    sections: LoggedSections,
-    has_failed: bool,
-    doubt: Doubt,
+    pub(crate) disk: D,
+    pub(crate) layout: Layout,
+    pub(crate) committed: Committed,
+    pub(crate) applied: Applied,
+    pub(crate) sections: LoggedSections,
+    pub(crate) has_failed: bool,
+    pub(crate) doubt: Doubt,
 }
 
 impl<D: Disk> Model for Store<D> {
@@ -163,39 +160,11 @@ impl<D: Disk> Store<D> {
         ensures cause { HasCause (D.device self.old.disk).failures (D.device self.new.disk).failures Fault result }
         ensures layout { self.new.known.layout ≡ self.old.known.layout }
     {
-        if self.has_failed {
-            return Err(StoreError::Failed);
-        }
-        let fresh = self.applied.fresh();
-        match log_records(
-            &mut self.disk,
-            &self.layout,
-            &mut self.committed,
-            &self.applied,
-        ) {
-            Ok(count) => {
-                self.sections.push_all(fresh);
-                self.applied.logged_all();
-                Ok(count)
-            }
-            Err(reason) => match reason {
-                StoreError::Fault => {
-                    self.has_failed = true;
-                    self.doubt = Doubt::Logging;
-                    Err(reason)
-                }
-                _ => Err(reason),
-            },
-        }
+        self.log_by(Syncs::Apart)
     }
 
-    /// Makes all applied records of all lanes durable, and answers how many there were.
-    ///
-    /// It does what [`log_step`](Store::log_step) does, by a write for each record and three syncs, where that takes four; with no
-    /// record it takes no call. The time is linear
-    /// in the records. Refusals, in this order: `Failed`; `Worn`: there are records, and the control's sequence is at its last
-    /// value; `Fault`. After the first two nothing has changed.
-    pub fn log_at_once(&mut self) -> Result<u64, StoreError>
+    // Makes all applied records durable, by these syncs.
+    pub(crate) fn log_by(&mut self, syncs: Syncs) -> Result<u64, StoreError>
         ensures ok { (s : Setting) (p : Past) → HasPast self.old.known s p (D.device self.old.disk)
             → OnOk result (HasPast self.new.known s (after_log p) (D.device self.new.disk)) }
         ensures running { OnOk result ((self.old.known.has_failed ≡ false) × (self.new.known.has_failed ≡ false)) }
@@ -221,11 +190,12 @@ impl<D: Disk> Store<D> {
             return Err(StoreError::Failed);
         }
         let fresh = self.applied.fresh();
-        match log_at_once(
+        match log_records(
             &mut self.disk,
             &self.layout,
             &mut self.committed,
             &self.applied,
+            syncs,
         ) {
             Ok(count) => {
                 self.sections.push_all(fresh);
@@ -332,63 +302,6 @@ impl<D: Disk> Store<D> {
                 StoreError::Fault => {
                     self.has_failed = true;
                     self.doubt = Doubt::Settling;
-                    Err(reason)
-                }
-                _ => Err(reason),
-            },
-        }
-    }
-
-    /// Makes the home cells durable, and then acknowledges the stable cut of what is logged and forgets it, both at once: what
-    /// [`settle`](Store::settle) and then [`trim`](Store::trim) do.
-    ///
-    /// It takes three syncs. The time is linear in the records since the lanes' starts. Refusals, in this
-    /// order: `Failed`; `Unwritten`: a field is dirty; `Worn`: the control's sequence is at its last value; `Fault`. But for
-    /// the last nothing has changed.
-    pub fn settle_and_trim(&mut self) -> Result<(), StoreError>
-        ensures ok { (s : Setting) (p : Past) (cut : ℕ → ℕ) → HasPast self.old.known s p (D.device self.old.disk) → IsStable (actions p.logged) cut
-            → OnOk result (HasPast self.new.known s (after_trim (after_settle p cut)) (D.device self.new.disk)) }
-        ensures running { OnOk result ((self.old.known.has_failed ≡ false) × (self.new.known.has_failed ≡ false)) }
-        ensures answer { (s : Setting) (p : Past) → HasPast self.old.known s p (D.device self.old.disk)
-            → MatchResult result (λ done. (self.old.known.has_failed ≡ false) × IsClean s p) (RefusesSettle self.old.known s p) }
-        ensures worn { (s : Setting) (p : Past) → HasPast self.old.known s p (D.device self.old.disk)
-            → self.old.known.has_failed ≡ false → IsClean s p → self.old.known.committed.sequence ≡ 2 ^ 64 - 1 → IsErrOf result Worn }
-        ensures kept { (s : Setting) (p : Past) → HasPast self.old.known s p (D.device self.old.disk)
-            → OnErr result (HasPast self.new.known s p (D.device self.new.disk)) }
-        ensures refused { IfErr result (λ e. (e ≡ Fault) ⊎ (self.new ≡ self.old)) }
-        ensures failed { IsErrOf result Fault → self.new.known.has_failed ≡ true }
-        ensures in_doubt { IsErrOf result Fault → self.new.known.doubt ≡ Acknowledging }
-        ensures any_moment { (s : Setting) (p : Past) (cut : ℕ → ℕ) → HasPast self.old.known s p (D.device self.old.disk) → IsStable (actions p.logged) cut
-            → LeavesOnly (D.device self.old.disk) (D.device self.new.disk) (StandsForEither self.old.known.layout s p.logged p.cut cut) }
-        ensures shown { (s : Setting) (p : Past) → HasPast self.old.known s p (D.device self.old.disk)
-            → LeavesOnly (D.device self.old.disk) (D.device self.new.disk) (ShowsStep self.old.known.layout s p Acknowledging) }
-        ensures cause { HasCause (D.device self.old.disk).failures (D.device self.new.disk).failures Fault result }
-        ensures layout { self.new.known.layout ≡ self.old.known.layout }
-    {
-        if self.has_failed {
-            return Err(StoreError::Failed);
-        }
-        if self.applied.least_dirty().is_some() {
-            return Err(StoreError::Unwritten);
-        }
-        let stable = self.sections.stable();
-        match settle_and_trim(
-            &mut self.disk,
-            &self.layout,
-            &mut self.committed,
-            &stable.cut,
-            &stable.places,
-        ) {
-            Ok(()) => {
-                // Not before: until the new control is durable, the old one counts, and wants the records at these places.
-                self.applied.start_at(&starts(&self.committed.rows));
-                self.sections.forget_to(&kept_cut(&self.committed.rows));
-                Ok(())
-            }
-            Err(reason) => match reason {
-                StoreError::Fault => {
-                    self.has_failed = true;
-                    self.doubt = Doubt::Acknowledging;
                     Err(reason)
                 }
                 _ => Err(reason),
@@ -576,7 +489,7 @@ fn memory(
 }
 
 // The lanes' starts by these rows.
-fn starts(rows: &[LaneRow; 32]) -> [u64; 32]
+pub(crate) fn starts(rows: &[LaneRow; 32]) -> [u64; 32]
     ensures { (l : ℕ) → l < 32 → slice_index result l ≡ (row_of rows.now l).start }
 {
     let mut places = [0; 32];
@@ -587,7 +500,7 @@ fn starts(rows: &[LaneRow; 32]) -> [u64; 32]
 }
 
 // The acknowledged sections by these rows.
-fn kept_cut(rows: &[LaneRow; 32]) -> Cut
+pub(crate) fn kept_cut(rows: &[LaneRow; 32]) -> Cut
     ensures kept { (l : ℕ) → l < 32 → counts_of result l ≡ (row_of rows.now l).kept }
     ensures size { length result.counts ≡ 32 }
 {

@@ -176,12 +176,12 @@ impl<F: BackingFile + Drop> Disk for BufferedDisk<F> {
         Ok(())
     }
 
-    /// Writes the memory at once, and keeps one range. `Fault` is want of memory for it; nothing is written then.
-    fn write_units(&mut self, at: u64, bytes: &[u8], count: usize) -> Result<(), block_disk::Fault>
+    /// Writes the memory at once, and keeps one range for all. `Fault` is want of memory for that; nothing is written then.
+    fn write_units(&mut self, at: u64, units: &[u8], count: usize) -> Result<(), block_disk::Fault>
         requires some { 0 < count }
-        requires whole { length bytes.now ≡ count * 16 }
-        requires fits { at + length bytes.now ≤ length self.old.device.now.bytes }
-        ensures ok { OnOk result (self.new.device ≡ written_units count at bytes.now self.old.device) }
+        requires whole { length units.now ≡ count * 16 }
+        requires fits { at + length units.now ≤ length self.old.device.now.bytes }
+        ensures ok { OnOk result (self.new.device ≡ written_units count at units.now self.old.device) }
         ensures any_moment { LeavesOnly self.old.device self.new.device (ImageBut self.old.device (unit_ranges count at)) }
         ensures cause { OnErr result (HasFailed self.old.device.failures self.new.device.failures) }
         ensures untorn { OnErr result (SameMoments self.old.device self.new.device) }
@@ -189,14 +189,13 @@ impl<F: BackingFile + Drop> Disk for BufferedDisk<F> {
         ensures file { self.new.file ≡ self.old.file }
     {
         let size = self.bytes.len();
-        let units = bytes;
-        let len = bytes.len() as u64;
+        let len = units.len() as u64;
         if !add(&mut self.unwritten, at, len, size as u64) {
             fail(&mut self.failures);
             return Err(block_disk::Fault);
         }
         put(&mut self.bytes, at, units);
-        self.trace.write_units(at, bytes, count);
+        self.trace.write_units(at, units, count);
         Ok(())
     }
 

@@ -1,13 +1,12 @@
 //! A commit of a control: at every moment a crash leaves the old one or the new one.
-ghost use Rattle.std.specs.Prelude.{◌≡◌, ◌≢◌, ◌⊎◌, ◌↔◌, ◌+◌, ◌++◌, ◌-◌, ◌<◌, ◌≤◌, ◌^◌, [], Err, IfErr, IfOk, OnOk, length, slice_index};
+ghost use Rattle.std.specs.Prelude.{◌≡◌, ◌≢◌, ◌⊎◌, ◌↔◌, ◌+◌, ◌-◌, ◌<◌, ◌≤◌, ◌^◌, [], Err, IfErr, IfOk, OnOk, length, slice_index};
 ghost use Rattle.block_disk.specs.Device.{HasCause};
 ghost use Rattle.block_disk.specs.Images.{Always, LeavesOnly};
 ghost use Rattle.image.specs.Calls.{after};
-ghost use Rattle.image.specs.Commit.{ClosedOrSame, IsSteady, OldOrDurable, OldOrNew, OldOrTurned, StillShows, closing_calls, commit_calls, pending_calls, shutting_calls};
+ghost use Rattle.image.specs.Commit.{ClosedOrSame, IsSteady, OldOrNew, closing_calls, commit_calls};
 ghost use Rattle.image.specs.Control.{AreRows, Spells, control_bytes, control_of};
 ghost use Rattle.image.specs.Layout.{IsLayout};
-ghost use Rattle.block_disk.specs.Bytes.{part};
-ghost use Rattle.image.specs.Slots.{body_at, other, slot_at};
+ghost use Rattle.image.specs.Slots.{other};
 ghost use Rattle.image.specs.declared.control.Control.{Control as Content};
 ghost use Rattle.image.specs.declared.error.ImageError.TheVariants.{Fault, Worn};
 ghost use Rattle.image.specs.declared.layout.Layout.{Layout as Shape};
@@ -18,7 +17,7 @@ use crate::header::{CLOSED, OPEN};
 use crate::lane_row::LaneRow;
 use crate::layout::Layout;
 use crate::slot::Slot;
-use block_disk::{Disk, make_durable, read_within, write_through, write_within};
+use block_disk::{Disk, read_within, write_through};
 
 /// Commits a control with these rows and the next sequence into the slot that isn't chosen, and answers that slot.
 ///
@@ -63,148 +62,6 @@ pub fn commit_control<D: Disk>(
     let mut content = [0; BODY_BYTES];
     encode_control(&control, &mut content);
     replace(disk, layout, chosen, &content)
-}
-
-/// Makes all that was written durable, and then commits a control with these rows and the next sequence, as
-/// [`commit_control`] does. A closing of the other slot's gate becomes durable together with what was written before, so
-/// it takes three syncs.
-///
-/// At every moment a crash leaves the control that counted, or the new one, and that one over all that was written before.
-///
-/// Refusals, in this order:
-/// - `Worn`: the sequence is at its last value, 2^64 - 1. No call is made;
-/// - `Fault`: a call failed. A crash may leave either control.
-pub fn commit_pending<D: Disk>(
-    disk: &mut D,
-    layout: &Layout,
-    chosen: Slot,
-    sequence: u64,
-    rows: &[LaneRow; 32],
-) -> Result<Slot, ImageError>
-    requires limits { IsLayout layout.now }
-    requires rows { AreRows layout.now rows.now }
-    requires steady { (old : Content) × IsSteady layout.now (D.device disk.old) chosen old × (old.sequence ≡ sequence) }
-    ensures slot { IfOk result (λ slot. slot ≡ other chosen) }
-    ensures ok { OnOk result (IsSteady layout.now (D.device disk.new) (other chosen) (control_of (sequence + 1) rows.now)) }
-    ensures durable { OnOk result ((D.device disk.new).now.pending ≡ []) }
-    ensures calls { OnOk result (D.device disk.new ≡ after (pending_calls chosen (D.device disk.old).now.bytes (control_bytes (control_of (sequence + 1) rows.now))) (D.device disk.old)) }
-    ensures worn { (result ≡ Err Worn) ↔ (sequence ≡ 2 ^ 64 - 1) }
-    ensures no_call { result ≡ Err Worn → D.device disk.new ≡ D.device disk.old }
-    ensures no_other { IfErr result (λ e. (e ≡ Worn) ⊎ (e ≡ Fault)) }
-    ensures any_moment { (old : Content) → IsSteady layout.now (D.device disk.old) chosen old → old.sequence ≡ sequence
-        → LeavesOnly (D.device disk.old) (D.device disk.new) (OldOrDurable layout.now (D.device disk.old) chosen old (control_of (sequence + 1) rows.now)) }
-    ensures cause { HasCause (D.device disk.old).failures (D.device disk.new).failures Fault result }
-{
-    if sequence == u64::MAX {
-        return Err(ImageError::Worn);
-    }
-    close_spare(disk, layout, chosen)?;
-    // What was written has to be durable before the control that counts it, and the closed gate before the body.
-    make_durable(disk)?;
-    commit_control(disk, layout, chosen, sequence, rows)
-}
-
-/// Makes all that was written durable, and then commits a control with these bytes by opening the gate of the slot that
-/// isn't chosen, which reads closed; both by two syncs.
-///
-/// At every moment a crash leaves the control that counted, or the new one, and that one over all that was written before.
-/// `Fault` is the one refusal.
-pub fn commit_by_opening<D: Disk>(
-    disk: &mut D,
-    layout: &Layout,
-    chosen: Slot,
-    content: &[u8],
-) -> Result<Slot, ImageError>
-    requires long { length content.now ≡ 1040 }
-    requires closed { slice_index (D.device disk.old).now.bytes (slot_at (other chosen)) ≢ 165 }
-    requires steady { (old : Content) × (new : Content) × IsSteady layout.now (D.device disk.old) chosen old × Spells layout.now content.now new × (old.sequence < new.sequence) }
-    ensures slot { IfOk result (λ slot. slot ≡ other chosen) }
-    ensures ok { (new : Content) → Spells layout.now content.now new → OnOk result (IsSteady layout.now (D.device disk.new) (other chosen) new) }
-    ensures durable { OnOk result ((D.device disk.new).now.pending ≡ []) }
-    ensures only_fault { IfErr result (λ e. e ≡ Fault) }
-    ensures any_moment { (old new : Content) → IsSteady layout.now (D.device disk.old) chosen old → Spells layout.now content.now new → old.sequence < new.sequence
-        → LeavesOnly (D.device disk.old) (D.device disk.new) (OldOrTurned layout.now (D.device disk.old) chosen old new) }
-    ensures cause { HasCause (D.device disk.old).failures (D.device disk.new).failures Fault result }
-{
-    // The layout is the contract's alone: it says which bytes are a control.
-    let _layout = layout;
-    let slot = chosen.other();
-    // The body has to be durable before the gate opens over it, and so has what it counts.
-    write_through(disk, slot.body(), content)?;
-    // Once this write may have reached the device, the new control may count; once it is durable, it does.
-    write_through(disk, slot.start(), &[OPEN])?;
-    Ok(slot)
-}
-
-/// Makes all that was written durable, and then commits a control by closing the gate of the one that counts; both by two
-/// syncs. The other slot's gate reads open, so its sequence is smaller, and what stands behind that sequence isn't looked at:
-/// `rest` is written there first.
-///
-/// At every moment a crash leaves the control that counted, or the new one, and that one over all that was written before.
-/// `Fault` is the one refusal.
-pub fn commit_by_closing<D: Disk>(
-    disk: &mut D,
-    layout: &Layout,
-    chosen: Slot,
-    rest: &[u8],
-) -> Result<Slot, ImageError>
-    requires long { length rest.now ≡ 1032 }
-    requires open { slice_index (D.device disk.old).now.bytes (slot_at (other chosen)) ≡ 165 }
-    requires steady { (old : Content) × IsSteady layout.now (D.device disk.old) chosen old }
-    ensures slot { IfOk result (λ slot. slot ≡ other chosen) }
-    ensures ok { (new : Content) → Spells layout.now (part (body_at (other chosen)) 8 (D.device disk.old).now.bytes ++ rest.now) new
-        → OnOk result (IsSteady layout.now (D.device disk.new) (other chosen) new) }
-    ensures durable { OnOk result ((D.device disk.new).now.pending ≡ []) }
-    ensures only_fault { IfErr result (λ e. e ≡ Fault) }
-    ensures any_moment { (old new : Content) → IsSteady layout.now (D.device disk.old) chosen old
-        → Spells layout.now (part (body_at (other chosen)) 8 (D.device disk.old).now.bytes ++ rest.now) new
-        → LeavesOnly (D.device disk.old) (D.device disk.new) (OldOrTurned layout.now (D.device disk.old) chosen old new) }
-    ensures cause { HasCause (D.device disk.old).failures (D.device disk.new).failures Fault result }
-{
-    // The layout is the contract's alone: it says which bytes are a control.
-    let _layout = layout;
-    let slot = chosen.other();
-    // The sequence stays: until the gate closes it has to be the smaller one.
-    write_through(disk, slot.body() + 8, rest)?;
-    // Once this write may have reached the device, the new control may count; once it is durable, it does.
-    write_through(disk, chosen.start(), &[CLOSED])?;
-    Ok(slot)
-}
-
-/// Closes the gate of the slot that isn't chosen, if it reads open, and leaves it to the next sync to make that durable.
-/// At each moment a crash leaves the control that counts: until then the other slot is closed, or as it was.
-///
-/// `Fault` is the one refusal.
-pub fn close_spare<D: Disk>(disk: &mut D, layout: &Layout, chosen: Slot) -> Result<(), ImageError>
-    requires steady { (old : Content) × IsSteady layout.now (D.device disk.old) chosen old }
-    ensures closed { OnOk result (slice_index (D.device disk.new).now.bytes (slot_at (other chosen)) ≢ 165) }
-    ensures calls { OnOk result (D.device disk.new ≡ after (shutting_calls (slot_at (other chosen)) (D.device disk.old).now.bytes) (D.device disk.old)) }
-    ensures only_fault { IfErr result (λ e. e ≡ Fault) }
-    ensures any_moment { (old : Content) → IsSteady layout.now (D.device disk.old) chosen old
-        → LeavesOnly (D.device disk.old) (D.device disk.new) (StillShows layout.now (D.device disk.old) chosen old) }
-    ensures cause { HasCause (D.device disk.old).failures (D.device disk.new).failures Fault result }
-{
-    // The layout is the contract's alone: it says which bytes are a control.
-    let _layout = layout;
-    let slot = chosen.other();
-    shut(disk, slot.start())
-}
-
-// Writes a closed gate at this place, if it reads open. At each moment it is closed or as it was.
-fn shut<D: Disk>(disk: &mut D, at: u64) -> Result<(), ImageError>
-    requires fits { at < length (D.device disk.old).now.bytes }
-    ensures closed { OnOk result (slice_index (D.device disk.new).now.bytes at ≢ 165) }
-    ensures calls { OnOk result (D.device disk.new ≡ after (shutting_calls at (D.device disk.old).now.bytes) (D.device disk.old)) }
-    ensures only_fault { IfErr result (λ e. e ≡ Fault) }
-    ensures any_moment { LeavesOnly (D.device disk.old) (D.device disk.new) (ClosedOrSame (D.device disk.old) at) }
-    ensures cause { HasCause (D.device disk.old).failures (D.device disk.new).failures Fault result }
-{
-    let mut gate = [CLOSED];
-    read_within(disk, at, &mut gate)?;
-    if gate[0] == OPEN {
-        write_within(disk, at, &[CLOSED])?;
-    }
-    Ok(())
 }
 
 // Writes a control with a greater sequence into the slot that isn't chosen.

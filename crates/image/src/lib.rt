@@ -2,8 +2,9 @@
 //!
 //! [`Layout`] says where each part lies. [`write_header`] makes an image; [`read_header`], [`read_guards`] and
 //! [`choose_control`] read one, whatever its bytes, and refuse it by the first thing that is wrong. [`commit_control`]
-//! replaces the control: at every moment a crash leaves the old one or the new one. What logs hold is no matter of
-//! this crate.
+//! replaces the control: at every moment a crash leaves the old one or the new one. So do [`commit_pending`],
+//! [`commit_by_opening`] and [`commit_by_closing`], with fewer syncs where other writes are still pending. What logs hold is
+//! no matter of this crate.
 #![tactic(auto)]
 
 mod bytes;
@@ -19,14 +20,14 @@ mod header;
 mod lane_row;
 mod laws;
 mod layout;
+mod one_gate;
+mod pending;
 mod recovered;
 mod slot;
 
 pub use cells::{get_cell, put_cell};
 pub use choice::choose_control;
-pub use commit::{
-    close_spare, commit_by_closing, commit_by_opening, commit_control, commit_pending,
-};
+pub use commit::commit_control;
 pub use control::Control;
 pub use error::ImageError;
 pub use format::write_header;
@@ -38,5 +39,7 @@ pub use laws::{
     empty_rows_law, fresh_law, place_law, reading_law, spelling_law, steady_law, survival_law,
 };
 pub use layout::Layout;
+pub use one_gate::{commit_by_closing, commit_by_opening};
+pub use pending::{close_spare, commit_pending};
 pub use recovered::{Recovered, RecoveredParts};
 pub use slot::Slot;

@@ -45,24 +45,25 @@ impl Model for HelperSeat {
     ghost invariant = { λ s. IsHelper s.seat s.next };
 }
 
-/// A seat that steps no more. It tells what its lane had had, and may cross to the helper's thread. It has no bytes.
-/// Contracts see it as a `Sitting`.
+/// What tells the helper which events a lane had had when its seat left this. It steps no more, may cross to the helper's
+/// thread with what the lane sends, and takes no bytes. Contracts see it as a `Sitting`.
 #[derive(Drop)]
 pub struct Witness {
     pub(crate) seat: atomic_table::Seat<(), View>,
 }
 
 impl Model for Witness {
-    ghost use Rattle.monitor.specs.Seats.{Sitting, IsAttest};
+    ghost use Rattle.monitor.specs.Seats.{Sitting, IsWitness};
 
     ghost Value = { Sitting };
 
     ghost view = { λ s. record { table = s.seat.table_id; id = s.seat.id; view = s.seat.me.0 } };
 
-    ghost invariant = { λ s. IsAttest s.seat };
+    ghost invariant = { λ s. IsWitness s.seat };
 }
 
-/// A witness, or none. It has no bytes. Contracts see it as a list of a `Sitting`, or of none.
+/// A witness, or none, so that each item of a queue may have one. It takes no bytes. Contracts see it as a list of a `Sitting`,
+/// or of none.
 #[derive(Drop)]
 pub struct Told {
     pub(crate) badge: Badge<View>,

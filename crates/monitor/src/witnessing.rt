@@ -43,7 +43,7 @@ impl Play<(), View> for CatchesUp {
 }
 
 impl Shared {
-    /// A witness of what the seat's lane has had so far. One load.
+    /// Leaves a witness of what the seat's lane has had so far; the seat goes on as it was. One load.
     pub fn witness(&self, seat: &mut Seat) -> Witness
         requires seat { IsSeatOf self.now seat.old }
         ensures seat { IsSeatOf self.now seat.new }
@@ -55,7 +55,7 @@ impl Shared {
         Witness { seat: witness }
     }
 
-    /// The helper hears a witness. One load.
+    /// Notes what a witness tells. From then on the helper may count on it: [`catch_up`](Self::catch_up) says for what. One load.
     pub fn hear(&self, helper: &mut HelperSeat, witness: Witness)
         requires helper { IsHelperOf self.now helper.old }
         requires witness { IsSeatOf self.now witness }
@@ -65,8 +65,8 @@ impl Shared {
         self.table.shared.join_seat::<Hears>(&mut helper.seat, seat);
     }
 
-    /// The helper sees the one history so far. It is legal, goes on from what the helper had seen, and of each lane that
-    /// a witness was heard of it goes on from what that had told. One load.
+    /// Sees the one history so far. It is legal, goes on from what the helper had seen before, and for each witness that was
+    /// heard since, the part of its lane goes on from what that one told. One load.
     pub fn catch_up(&self, helper: &mut HelperSeat)
         requires helper { IsHelperOf self.now helper.old }
         ensures helper { IsHelperOf self.now helper.new × (helper.new.next ≡ helper.old.next) }

@@ -69,6 +69,18 @@ module _ (l : Layout) (s : Setting) (p : Past) (c : Committed) (d : Device) (cut
     pub lanes : (k : ℕ) → k < l.lanes → row_of rows k ≡ record (row_of c.rows k) { start = slice_index places k; settled = slice_index places k; kept = slice_index cut.counts k }
     pub rest : (k : ℕ) → l.lanes ≤ k → row_of rows k ≡ row_of c.rows k
 
+  -- they are the settled rows, each started behind what is settled
+  pub closed_both : (settled rows : List LaneRow) → length settled ≡ length c.rows → length rows ≡ length settled
+      → ((k : ℕ) → k < l.lanes → row_of settled k ≡ record (row_of c.rows k) { settled = slice_index places k; kept = slice_index cut.counts k })
+      → ((k : ℕ) → l.lanes ≤ k → row_of settled k ≡ row_of c.rows k)
+      → ((k : ℕ) → k < l.lanes → row_of rows k ≡ record (row_of settled k) { start = (row_of settled k).settled })
+      → ((k : ℕ) → l.lanes ≤ k → row_of rows k ≡ row_of settled k) → AreClosed rows
+  closed_both settled rows size again lanes rest started others = record {
+    size = again ∙ size;
+    lanes = λ k below. started k below ∙ ap (λ (r : LaneRow). record r { start = r.settled }) (lanes k below);
+    rest = λ k from. others k from ∙ rest k from;
+  }
+
   old_rows : AreRows l c.rows
   old_rows = (may.consistent.steady.shows d.now.bytes (image_now d)).spells.valid.rows
 

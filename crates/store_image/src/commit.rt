@@ -13,6 +13,15 @@ use block_disk::Disk;
 use image::{LaneRow, Layout, commit_control, commit_pending};
 use store_past::StoreError;
 
+/// How what was written and the control that counts it become durable, one before the other.
+#[derive(Clone, Copy, Debug, PartialEq, Eq)]
+pub enum Syncs {
+    /// What was written has a sync of its own, behind which a commit begins.
+    Apart,
+    /// It shares the sync of the gate that a commit closes first.
+    Joined,
+}
+
 /// Commits a control with these rows. At every moment a crash leaves the old control or the new one.
 pub fn commit<D: Disk>(
     disk: &mut D,

@@ -1,8 +1,9 @@
 //! The image of a store: the steps by which what a store was told reaches its device.
 //!
 //! [`format`] makes an image. [`log_records`] makes new records durable, [`write_home`] brings a logged value to its home
-//! cell, [`settle`] acknowledges the stable cut, and [`trim`] frees the places of what is acknowledged. Each says which past the device agrees with afterwards, and what every
-//! image that a crash may leave stands for at every moment until then. [`standing_law`] says what such an image is worth.
+//! cell, [`settle`] acknowledges the stable cut, and [`trim`] frees the places of what is acknowledged; [`settle_and_trim`]
+//! does both by one commit. Each says which past the device agrees with afterwards, and what every image that a crash may
+//! leave stands for at every moment until then. [`standing_law`] says what such an image is worth.
 #![tactic(auto)]
 
 mod formatting;
@@ -13,6 +14,7 @@ mod committed;
 mod sync;
 
 // The steps.
+mod ending_round;
 mod home;
 mod logging;
 mod settling;
@@ -21,10 +23,12 @@ mod trimming;
 // What an image of a store is worth.
 mod laws;
 
+pub use commit::Syncs;
 pub use committed::Committed;
+pub use ending_round::settle_and_trim;
 pub use formatting::format;
 pub use home::{Home, write_home};
 pub use laws::standing_law;
-pub use logging::{log_at_once, log_records};
-pub use settling::{settle, settle_and_trim};
+pub use logging::log_records;
+pub use settling::settle;
 pub use trimming::{is_trimmed, trim};

@@ -15,7 +15,7 @@ ghost use Rattle.store_past.specs.Past.{Past, after_log};
 ghost use Rattle.store_image.specs.Steps.{MayLog};
 ghost use Rattle.store_past.specs.declared.error.StoreError.TheVariants.{Fault, Worn};
 
-use crate::commit::{commit, commit_written};
+use crate::commit::{Syncs, commit, commit_written};
 use crate::committed::Committed;
 use crate::sync::sync;
 use block_disk::Disk;
@@ -25,7 +25,8 @@ use store_past::{NewRecords, StoreError};
 use undo_log::append;
 
 /// Makes the lanes' new records durable, and then the control that counts them. Answers how many there were. It takes a
-/// write for each record, a sync and the calls of a commit; with no record it takes no call.
+/// write for each record and the calls of a commit, with a sync before them or one that both share; with no record it takes
+/// no call.
 ///
 /// Refusals, in this order:
 /// - `Worn`: there are records, and the control's sequence is at its last value, 2^64 - 1. The device isn't called;
@@ -35,6 +36,7 @@ pub fn log_records<D: Disk, F: NewRecords>(
     layout: &Layout,
     committed: &mut Committed,
     fresh: &F,
+    syncs: Syncs,
 ) -> Result<u64, StoreError>
     requires lanes { layout.now.lanes ≤ F.lanes fresh.now }
     requires logs { (s : Setting) × (p : Past) × MayLog layout.now s p committed.old (D.device disk.old) (F.fresh fresh.now) }
@@ -64,51 +66,7 @@ pub fn log_records<D: Disk, F: NewRecords>(
     if committed.sequence == u64::MAX {
         return Err(StoreError::Worn);
     }
-    log_all(disk, layout, committed, fresh)?;
-    Ok(count)
-}
-
-/// Makes the lanes' new records durable, and then the control that counts them. Answers how many there were. It takes a
-/// write for each record and three syncs; with no record it takes no call.
-///
-/// Refusals, in this order:
-/// - `Worn`: there are records, and the control's sequence is at its last value, 2^64 - 1. The device isn't called;
-/// - `Fault`: a call failed. A crash may leave either control.
-pub fn log_at_once<D: Disk, F: NewRecords>(
-    disk: &mut D,
-    layout: &Layout,
-    committed: &mut Committed,
-    fresh: &F,
-) -> Result<u64, StoreError>
-    requires lanes { layout.now.lanes ≤ F.lanes fresh.now }
-    requires logs { (s : Setting) × (p : Past) × MayLog layout.now s p committed.old (D.device disk.old) (F.fresh fresh.now) }
-    ensures ok { (s : Setting) (p : Past) → MayLog layout.now s p committed.old (D.device disk.old) (F.fresh fresh.now)
-        → OnOk result (IsConsistent layout.now s (after_log p) committed.new (D.device disk.new)) }
-    ensures count { (s : Setting) (p : Past) → MayLog layout.now s p committed.old (D.device disk.old) (F.fresh fresh.now)
-        → IfOk result (λ count. count ≡ length p.fresh) }
-    ensures none { (s : Setting) (p : Past) → MayLog layout.now s p committed.old (D.device disk.old) (F.fresh fresh.now)
-        → p.fresh ≡ [] → (result ≡ Ok 0) × (committed.new ≡ committed.old) × (D.device disk.new ≡ D.device disk.old) }
-    ensures worn { (s : Setting) (p : Past) → MayLog layout.now s p committed.old (D.device disk.old) (F.fresh fresh.now)
-        → IsErrOf result Worn ↔ ((committed.old.sequence ≡ 2 ^ 64 - 1) × (p.fresh ≢ [])) }
-    ensures no_call { IsErrOf result Worn → disk.new ≡ disk.old }
-    ensures no_other { IfErr result (λ e. (e ≡ Worn) ⊎ (e ≡ Fault)) }
-    ensures err { OnErr result (committed.new ≡ committed.old) }
-    ensures any_moment { (s : Setting) (p : Past) → MayLog layout.now s p committed.old (D.device disk.old) (F.fresh fresh.now)
-        → LeavesOnly (D.device disk.old) (D.device disk.new) (StandsForCut layout.now s p.logged p.cut) }
-    ensures shown { (s : Setting) (p : Past) → MayLog layout.now s p committed.old (D.device disk.old) (F.fresh fresh.now)
-        → LeavesOnly (D.device disk.old) (D.device disk.new) (ShowsEither layout.now s p (after_log p)) }
-    ensures crash { (s : Setting) (p : Past) → MayLog layout.now s p committed.old (D.device disk.old) (F.fresh fresh.now)
-        → Always (D.device disk.new) (StandsForCut layout.now s p.logged p.cut) }
-    ensures cause { HasCause (D.device disk.old).failures (D.device disk.new).failures Fault result }
-{
-    let count = count_fresh(layout.lanes, fresh);
-    if count == 0 {
-        return Ok(0);
-    }
-    if committed.sequence == u64::MAX {
-        return Err(StoreError::Worn);
-    }
-    log_all_at_once(disk, layout, committed, fresh)?;
+    log_all(disk, layout, committed, fresh, syncs)?;
     Ok(count)
 }
 
@@ -131,6 +89,7 @@ fn log_all<D: Disk, F: NewRecords>(
     layout: &Layout,
     committed: &mut Committed,
     fresh: &F,
+    syncs: Syncs,
 ) -> Result<(), StoreError>
     requires lanes { layout.now.lanes ≤ F.lanes fresh.now }
     requires sequence { committed.old.sequence < 2 ^ 64 - 1 }
@@ -146,36 +105,15 @@ fn log_all<D: Disk, F: NewRecords>(
     ensures cause { HasCause (D.device disk.old).failures (D.device disk.new).failures Fault result }
 {
     append_lanes(disk, layout, &committed.rows, fresh)?;
+    let rows = logged_rows(layout.lanes, &committed.rows, fresh);
     // The records have to be durable before the control that counts them.
-    sync(disk)?;
-    let rows = logged_rows(layout.lanes, &committed.rows, fresh);
-    commit(disk, layout, committed, &rows)
-}
-
-// Makes the lanes' new records durable, and then the control that counts them.
-fn log_all_at_once<D: Disk, F: NewRecords>(
-    disk: &mut D,
-    layout: &Layout,
-    committed: &mut Committed,
-    fresh: &F,
-) -> Result<(), StoreError>
-    requires lanes { layout.now.lanes ≤ F.lanes fresh.now }
-    requires sequence { committed.old.sequence < 2 ^ 64 - 1 }
-    requires logs { (s : Setting) × (p : Past) × MayLog layout.now s p committed.old (D.device disk.old) (F.fresh fresh.now) }
-    ensures ok { (s : Setting) (p : Past) → MayLog layout.now s p committed.old (D.device disk.old) (F.fresh fresh.now)
-        → OnOk result (IsConsistent layout.now s (after_log p) committed.new (D.device disk.new)) }
-    ensures only_fault { IfErr result (λ e. e ≡ Fault) }
-    ensures err { OnErr result (committed.new ≡ committed.old) }
-    ensures any_moment { (s : Setting) (p : Past) → MayLog layout.now s p committed.old (D.device disk.old) (F.fresh fresh.now)
-        → LeavesOnly (D.device disk.old) (D.device disk.new) (StandsForCut layout.now s p.logged p.cut) }
-    ensures shown { (s : Setting) (p : Past) → MayLog layout.now s p committed.old (D.device disk.old) (F.fresh fresh.now)
-        → LeavesOnly (D.device disk.old) (D.device disk.new) (ShowsEither layout.now s p (after_log p)) }
-    ensures cause { HasCause (D.device disk.old).failures (D.device disk.new).failures Fault result }
-{
-    append_lanes(disk, layout, &committed.rows, fresh)?;
-    let rows = logged_rows(layout.lanes, &committed.rows, fresh);
-    // It makes the records durable before the control that counts them.
-    commit_written(disk, layout, committed, &rows)
+    match syncs {
+        Syncs::Apart => {
+            sync(disk)?;
+            commit(disk, layout, committed, &rows)
+        }
+        Syncs::Joined => commit_written(disk, layout, committed, &rows),
+    }
 }
 
 // Writes the lanes' new records behind their logged ones, lane by lane.

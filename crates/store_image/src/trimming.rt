@@ -68,8 +68,8 @@ pub fn trim<D: Disk>(
     commit(disk, layout, committed, &rows)
 }
 
-// The rows with each lane's start behind its settled records.
-fn trimmed_rows(lanes: u8, rows: &[LaneRow; 32]) -> [LaneRow; 32]
+/// The rows with each lane's start behind its settled records.
+pub(crate) fn trimmed_rows(lanes: u8, rows: &[LaneRow; 32]) -> [LaneRow; 32]
     requires { lanes ≤ 32 }
     ensures lanes { (lane : ℕ) → lane < lanes → row_of result lane ≡ record (row_of rows.now lane) { start = (row_of rows.now lane).settled } }
     ensures rest { (lane : ℕ) → lanes ≤ lane → row_of result lane ≡ row_of rows.now lane }

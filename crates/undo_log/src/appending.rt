@@ -18,7 +18,7 @@ use image::{LaneRow, Layout};
 /// How many records one call of the device takes at most.
 const RUN_RECORDS: usize = 64;
 
-const RUN_BYTES: usize = 1024;
+const RUN_BYTES: usize = RUN_RECORDS * RECORD_BYTES;
 
 /// Writes these records, the oldest first, at the places from the row's `logged` on, in one write each. Until the next
 /// sync that succeeds, a crash may leave any bytes in those places; no live place is written.

@@ -34,12 +34,12 @@ counted steps links base lanes linked sorted newest i s lt is =
     let same : slice_index base (slice_index (lanes_in steps) top) ≡ slice_index base s.lane.0 = ap (slice_index base) (there.1 ∙ of_lane) in
     le-ltb _ _ (omega arith)
 
-pub returns-else-is_one_past-clause-kept : goal.returns-else-is_one_past-clause-kept
-returns-else-is_one_past-clause-kept c =
+pub returns-else-has_one_past-clause-kept : goal.returns-else-has_one_past-clause-kept
+returns-else-has_one_past-clause-kept c =
     let steps : List Step = c.args.steps.now.items in
     let links : Links = c.args.links.now in
     let base : List ℕ = c.args.base.now in
     c.clear.ensures.items ∙ sym (none_left steps (λ s. nat_lt (slice_index base s.lane.0) s.section)
     (counted steps links base c.args.lanes c.requires.linked c.requires.sorted
     (subst (λ (xs : List Step). (l : ℕ) → l < c.args.lanes → 0 < slice_index links.newest l → slice_index (sections_in xs) (slice_index links.newest l - 1) ≤ slice_index base (slice_index (lanes_in xs) (slice_index links.newest l - 1)))
-    c.deref.ensures.value (c.if-is_one_past.ensures refl))))
+    c.deref.ensures.value (c.if-has_one_past.ensures refl))))

@@ -2,8 +2,8 @@ use Rattle.std.proofs.Common.{sym, subst}
 use Rattle.store_past.specs.Past.{after_log}
 use Rattle.store_image.specs.Consistent.{IsConsistent}
 use Rattle.store_image.specs.declared.committed.Committed.{Committed}
-use Rattle.store_image.proofs.Recording.{each_row, append_leaves, sync_leaves, rows_fit, steady_two, log_leaves, log_done, append_shows, sync_shows, log_shows}
-use Rattle.store_image.proofs.Answered.{on_ok_two}
+use Rattle.store_image.proofs.Recording.{each_row, append_leaves, append_shows, sync_leaves, sync_shows, rows_fit, steady_one, steady_two, log_leaves, log_done, log_shows, at_once_shows, at_once_leaves, at_once_done}
+use Rattle.store_image.proofs.Answered.{on_ok_two, on_ok_four}
 use Rattle.store_image.proofs.logging.log_all.Goals as goal
 
 pub append_lanes-requires-clause-rows : goal.append_lanes-requires-clause-rows
@@ -16,8 +16,8 @@ returns-in_err-append_lanes-clause-any_moment g c = λ s p may.
     append_leaves c.args.layout.now s p c.args.committed.now (g.D.Disk.device c.args.disk.now) (g.F.NewRecords.fresh c.args.fresh.now) may
     (g.D.Disk.device c.append_lanes.new.disk) c.append_lanes.ensures.any_moment
 
-pub returns-in_err-sync-clause-any_moment : goal.returns-in_err-sync-clause-any_moment
-returns-in_err-sync-clause-any_moment g c = λ s p may.
+pub returns-in_err-sync-in-Apart-clause-any_moment : goal.returns-in_err-sync-in-Apart-clause-any_moment
+returns-in_err-sync-in-Apart-clause-any_moment g c = λ s p may.
     sync_leaves c.args.layout.now s p c.args.committed.now (g.D.Disk.device c.args.disk.now) (g.F.NewRecords.fresh c.args.fresh.now) may
     (g.D.Disk.device c.append_lanes.new.disk) c.append_lanes.ensures.any_moment (g.D.Disk.device c.sync.new.disk) c.sync.ensures.any_moment
 
@@ -37,10 +37,10 @@ commit-requires-clause-steady g c =
     steady_two c.args.layout.now r.0 r.1 c.args.committed.now (g.D.Disk.device c.args.disk.now) (g.F.NewRecords.fresh c.args.fresh.now) r.2
     (g.D.Disk.device c.append_lanes.new.disk) c.append_lanes.ensures.any_moment c.logged_rows-rows.result
     (record { size = c.logged_rows-rows.ensures.size; lanes = c.logged_rows-rows.ensures.lanes; rest = c.logged_rows-rows.ensures.rest })
-    c.in_ok-append_lanes.ensures.ok (g.D.Disk.device c.sync.new.disk) c.in_ok-sync.ensures.ok
+    c.in_ok-append_lanes.ensures.ok (g.D.Disk.device c.sync.new.disk) c.in_ok-sync-in-Apart.ensures.ok
 
-pub returns-clause-ok : goal.returns-clause-ok
-returns-clause-ok g c = λ s p may.
+pub returns-in_ok-sync-in-Apart-clause-ok : goal.returns-in_ok-sync-in-Apart-clause-ok
+returns-in_ok-sync-in-Apart-clause-ok g c = λ s p may.
     let l = c.args.layout.now in
     let d3 = g.D.Disk.device c.commit.new.disk in
     on_ok_two c.commit.result
@@ -48,29 +48,69 @@ returns-clause-ok g c = λ s p may.
     (log_done l s p c.args.committed.now (g.D.Disk.device c.args.disk.now) (g.F.NewRecords.fresh c.args.fresh.now) may
     (g.D.Disk.device c.append_lanes.new.disk) c.append_lanes.ensures.any_moment c.logged_rows-rows.result
     (record { size = c.logged_rows-rows.ensures.size; lanes = c.logged_rows-rows.ensures.lanes; rest = c.logged_rows-rows.ensures.rest })
-    c.in_ok-append_lanes.ensures.ok (g.D.Disk.device c.sync.new.disk) c.in_ok-sync.ensures.ok d3 c.commit.ensures.any_moment steady))
+    c.in_ok-append_lanes.ensures.ok (g.D.Disk.device c.sync.new.disk) c.in_ok-sync-in-Apart.ensures.ok d3 c.commit.ensures.any_moment steady))
     c.commit.ensures.ok c.commit.ensures.steady
 
-pub returns-clause-any_moment : goal.returns-clause-any_moment
-returns-clause-any_moment g c = λ s p may.
+pub returns-in_ok-sync-in-Apart-clause-any_moment : goal.returns-in_ok-sync-in-Apart-clause-any_moment
+returns-in_ok-sync-in-Apart-clause-any_moment g c = λ s p may.
     log_leaves c.args.layout.now s p c.args.committed.now (g.D.Disk.device c.args.disk.now) (g.F.NewRecords.fresh c.args.fresh.now) may
     (g.D.Disk.device c.append_lanes.new.disk) c.append_lanes.ensures.any_moment c.logged_rows-rows.result
     (record { size = c.logged_rows-rows.ensures.size; lanes = c.logged_rows-rows.ensures.lanes; rest = c.logged_rows-rows.ensures.rest })
-    c.in_ok-append_lanes.ensures.ok (g.D.Disk.device c.sync.new.disk) c.in_ok-sync.ensures.ok (g.D.Disk.device c.commit.new.disk) c.commit.ensures.any_moment
+    c.in_ok-append_lanes.ensures.ok (g.D.Disk.device c.sync.new.disk) c.in_ok-sync-in-Apart.ensures.ok (g.D.Disk.device c.commit.new.disk) c.commit.ensures.any_moment
 
 pub returns-in_err-append_lanes-clause-shown : goal.returns-in_err-append_lanes-clause-shown
 returns-in_err-append_lanes-clause-shown g c = λ s p may.
     append_shows c.args.layout.now s p c.args.committed.now (g.D.Disk.device c.args.disk.now) (g.F.NewRecords.fresh c.args.fresh.now) may
     (g.D.Disk.device c.append_lanes.new.disk) c.append_lanes.ensures.any_moment
 
-pub returns-in_err-sync-clause-shown : goal.returns-in_err-sync-clause-shown
-returns-in_err-sync-clause-shown g c = λ s p may.
+pub returns-in_err-sync-in-Apart-clause-shown : goal.returns-in_err-sync-in-Apart-clause-shown
+returns-in_err-sync-in-Apart-clause-shown g c = λ s p may.
     sync_shows c.args.layout.now s p c.args.committed.now (g.D.Disk.device c.args.disk.now) (g.F.NewRecords.fresh c.args.fresh.now) may
     (g.D.Disk.device c.append_lanes.new.disk) c.append_lanes.ensures.any_moment (g.D.Disk.device c.sync.new.disk) c.sync.ensures.any_moment
 
-pub returns-clause-shown : goal.returns-clause-shown
-returns-clause-shown g c = λ s p may.
+pub returns-in_ok-sync-in-Apart-clause-shown : goal.returns-in_ok-sync-in-Apart-clause-shown
+returns-in_ok-sync-in-Apart-clause-shown g c = λ s p may.
     log_shows c.args.layout.now s p c.args.committed.now (g.D.Disk.device c.args.disk.now) (g.F.NewRecords.fresh c.args.fresh.now) may
     (g.D.Disk.device c.append_lanes.new.disk) c.append_lanes.ensures.any_moment c.logged_rows-rows.result
     (record { size = c.logged_rows-rows.ensures.size; lanes = c.logged_rows-rows.ensures.lanes; rest = c.logged_rows-rows.ensures.rest })
-    c.in_ok-append_lanes.ensures.ok (g.D.Disk.device c.sync.new.disk) c.in_ok-sync.ensures.ok (g.D.Disk.device c.commit.new.disk) c.commit.ensures.any_moment
+    c.in_ok-append_lanes.ensures.ok (g.D.Disk.device c.sync.new.disk) c.in_ok-sync-in-Apart.ensures.ok (g.D.Disk.device c.commit.new.disk) c.commit.ensures.any_moment
+
+pub commit_written-requires-clause-rows : goal.commit_written-requires-clause-rows
+commit_written-requires-clause-rows g c =
+    let r = c.requires.logs in
+    rows_fit c.args.layout.now r.0 r.1 c.args.committed.now (g.D.Disk.device c.args.disk.now) (g.F.NewRecords.fresh c.args.fresh.now) r.2
+    (g.D.Disk.device c.append_lanes.new.disk) c.append_lanes.ensures.any_moment c.logged_rows-rows.result
+    (record { size = c.logged_rows-rows.ensures.size; lanes = c.logged_rows-rows.ensures.lanes; rest = c.logged_rows-rows.ensures.rest })
+
+pub commit_written-requires-clause-steady : goal.commit_written-requires-clause-steady
+commit_written-requires-clause-steady g c =
+    let r = c.requires.logs in
+    steady_one c.args.layout.now r.0 r.1 c.args.committed.now (g.D.Disk.device c.args.disk.now) (g.F.NewRecords.fresh c.args.fresh.now) r.2
+    (g.D.Disk.device c.append_lanes.new.disk) c.append_lanes.ensures.any_moment c.logged_rows-rows.result
+    (record { size = c.logged_rows-rows.ensures.size; lanes = c.logged_rows-rows.ensures.lanes; rest = c.logged_rows-rows.ensures.rest })
+
+pub returns-in-Joined-clause-ok : goal.returns-in-Joined-clause-ok
+returns-in-Joined-clause-ok g c = λ s p may.
+    let l = c.args.layout.now in
+    let d3 = g.D.Disk.device c.commit_written.new.disk in
+    on_ok_four c.commit_written.result
+    (λ is rest same steady. subst (λ (committed : Committed). IsConsistent l s (after_log p) committed d3) (sym is)
+    (at_once_done c.args.layout.now s p c.args.committed.now (g.D.Disk.device c.args.disk.now) (g.F.NewRecords.fresh c.args.fresh.now) may
+    (g.D.Disk.device c.append_lanes.new.disk) c.append_lanes.ensures.any_moment c.logged_rows-rows.result
+    (record { size = c.logged_rows-rows.ensures.size; lanes = c.logged_rows-rows.ensures.lanes; rest = c.logged_rows-rows.ensures.rest })
+    c.in_ok-append_lanes.ensures.ok d3 c.commit_written.ensures.any_moment rest same steady))
+    c.commit_written.ensures.ok c.commit_written.ensures.durable c.commit_written.ensures.same c.commit_written.ensures.steady
+
+pub returns-in-Joined-clause-any_moment : goal.returns-in-Joined-clause-any_moment
+returns-in-Joined-clause-any_moment g c = λ s p may.
+    at_once_leaves c.args.layout.now s p c.args.committed.now (g.D.Disk.device c.args.disk.now) (g.F.NewRecords.fresh c.args.fresh.now) may
+    (g.D.Disk.device c.append_lanes.new.disk) c.append_lanes.ensures.any_moment c.logged_rows-rows.result
+    (record { size = c.logged_rows-rows.ensures.size; lanes = c.logged_rows-rows.ensures.lanes; rest = c.logged_rows-rows.ensures.rest })
+    c.in_ok-append_lanes.ensures.ok (g.D.Disk.device c.commit_written.new.disk) c.commit_written.ensures.any_moment
+
+pub returns-in-Joined-clause-shown : goal.returns-in-Joined-clause-shown
+returns-in-Joined-clause-shown g c = λ s p may.
+    at_once_shows c.args.layout.now s p c.args.committed.now (g.D.Disk.device c.args.disk.now) (g.F.NewRecords.fresh c.args.fresh.now) may
+    (g.D.Disk.device c.append_lanes.new.disk) c.append_lanes.ensures.any_moment c.logged_rows-rows.result
+    (record { size = c.logged_rows-rows.ensures.size; lanes = c.logged_rows-rows.ensures.lanes; rest = c.logged_rows-rows.ensures.rest })
+    c.in_ok-append_lanes.ensures.ok (g.D.Disk.device c.commit_written.new.disk) c.commit_written.ensures.any_moment

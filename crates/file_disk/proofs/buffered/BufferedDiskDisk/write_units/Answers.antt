@@ -12,24 +12,24 @@ pub invariant_of-self-2 : goal.invariant_of-self-2
 invariant_of-self-2 g c =
     let d = c.self.inside in
     let size : c.len-size.result ≡ length d.bytes.items = search rules in
-    let fits : c.args.at + length c.args.bytes.now ≤ length d.bytes.items = search rules in
+    let fits : c.args.at + length c.args.units.now ≤ length d.bytes.items = search rules in
     let within = subst (λ (n : ℕ). AllWithin n c.add.new.spans.items) size c.add.ensures.within in
     rw (c.put.ensures, c.write_units.ensures)
-    (deferred_units c.args.count d.trace.device d.bytes.items c.args.bytes.now d.unwritten.items c.add.new.spans.items (g.F.BackingFile.holds d.file) c.args.at
+    (deferred_units c.args.count d.trace.device d.bytes.items c.args.units.now d.unwritten.items c.add.new.spans.items (g.F.BackingFile.holds d.file) c.args.at
     c.requires.some c.requires.whole fits c.self.invariant within (c.add.ensures.covered c.if-not-add.false) (c.add.ensures.exact c.if-not-add.false)
     (c.add.ensures.newest c.if-not-add.false))
 
 pub returns-clause-ok : goal.returns-clause-ok
 returns-clause-ok g c =
     let d = c.self.inside in
-    ap (failing d.failures) c.write_units.ensures ∙ units_failing c.args.count c.args.at d.failures c.args.bytes.now d.trace.device
-    ∙ ap (λ (m : Mirror). written_units c.args.count c.args.at c.args.bytes.now m.device) c.self.view_is
+    ap (failing d.failures) c.write_units.ensures ∙ units_failing c.args.count c.args.at d.failures c.args.units.now d.trace.device
+    ∙ ap (λ (m : Mirror). written_units c.args.count c.args.at c.args.units.now m.device) c.self.view_is
 
 pub returns-clause-any_moment : goal.returns-clause-any_moment
 returns-clause-any_moment g c =
     let old : Device = c.args.self.now.device in
     subst (λ (x : Device). LeavesOnly old x (ImageBut old (unit_ranges c.args.count c.args.at))) (sym (returns-clause-ok g c))
-    (units_leave c.args.count c.args.at c.args.bytes.now old c.requires.whole c.requires.fits)
+    (units_leave c.args.count c.args.at c.args.units.now old c.requires.whole c.requires.fits)
 
 pub returns-then-not-add-clause-goes_on : goal.returns-then-not-add-clause-goes_on
 returns-then-not-add-clause-goes_on g c goes =

@@ -2,7 +2,7 @@ use Rattle.std.proofs.Common.{◌≡◌, ◌<◌, [], ◌∷◌, ap, ◌∙◌, 
 use Rattle.image.specs.Slots.{other, body_at, slot_at}
 use Rattle.image.proofs.Commits.{now_whole, sequence_spelled}
 use Rattle.image.proofs.Opening.{after_body, after_opening, steady_opened}
-use Rattle.image.proofs.commit.commit_by_opening.Goals as goal
+use Rattle.image.proofs.one_gate.commit_by_opening.Goals as goal
 
 pub returns-in_err-write_through-clause-any_moment : goal.returns-in_err-write_through-clause-any_moment
 returns-in_err-write_through-clause-any_moment g c = λ old new steady spelled newer.

@@ -1,6 +1,6 @@
 use Rattle.std.proofs.Common.{ℕ, ◌-◌, ◌<◌, ◌≤◌, slice_index}
 use Rattle.dependence.specs.Links.{lanes_in, sections_in}
-use Rattle.dependence.proofs.trimmed.is_one_past.Given as goal
+use Rattle.dependence.proofs.trimmed.has_one_past.Given as goal
 
 -- the newest step of each lane so far is counted
 abbrev pub invariant-loop-lane : goal.invariant-loop-lane

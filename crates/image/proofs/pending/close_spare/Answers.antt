@@ -3,7 +3,7 @@ use Rattle.block_disk.specs.Images.{LeavesOnly}
 use Rattle.image.specs.Commit.{ClosedOrSame}
 use Rattle.image.specs.Slots.{other, slot_at}
 use Rattle.image.proofs.Spares.{spare_shuts}
-use Rattle.image.proofs.commit.close_spare.Goals as goal
+use Rattle.image.proofs.pending.close_spare.Goals as goal
 
 pub returns-clause-any_moment : goal.returns-clause-any_moment
 returns-clause-any_moment g c = λ old steady.

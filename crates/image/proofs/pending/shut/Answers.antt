@@ -4,7 +4,7 @@ use Rattle.block_disk.specs.Bytes.{part}
 use Rattle.block_disk.specs.Device.{Device, written}
 use Rattle.image.proofs.Commits.{closes}
 use Rattle.image.proofs.Spares.{shutting_open, shutting_shut}
-use Rattle.image.proofs.commit.shut.Goals as goal
+use Rattle.image.proofs.pending.shut.Goals as goal
 
 read : (xs out : List ℕ) (at : ℕ) → out ≡ part at 1 xs → get_or out 0 0 ≡ 165 → get_or xs at 0 ≡ 165
 read xs out at is was =

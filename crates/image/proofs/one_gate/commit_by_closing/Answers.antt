@@ -2,7 +2,7 @@ use Rattle.std.proofs.Common.{◌≡◌, ◌+◌, ℕ, [], ◌∷◌, ap, ◌∙
 use Rattle.image.specs.Slots.{other, body_at}
 use Rattle.image.proofs.Commits.{now_whole}
 use Rattle.image.proofs.Turning.{after_rest, after_turn, steady_turned}
-use Rattle.image.proofs.commit.commit_by_closing.Goals as goal
+use Rattle.image.proofs.one_gate.commit_by_closing.Goals as goal
 
 pub returns-in_err-write_through-clause-any_moment : goal.returns-in_err-write_through-clause-any_moment
 returns-in_err-write_through-clause-any_moment g c = λ old new steady spelled.

@@ -2,7 +2,7 @@ use Rattle.std.proofs.Common.{◌+◌}
 use Rattle.std.proofs.lemmas.Result.{on_ok_weaker}
 use Rattle.image.specs.Control.{control_bytes, control_of}
 use Rattle.image.proofs.Spares.{after_closing, after_commit, after_syncing, pending_made, steady_synced}
-use Rattle.image.proofs.commit.commit_pending.Goals as goal
+use Rattle.image.proofs.pending.commit_pending.Goals as goal
 
 pub returns-in_err-close_spare-clause-any_moment : goal.returns-in_err-close_spare-clause-any_moment
 returns-in_err-close_spare-clause-any_moment g c = λ old steady is.

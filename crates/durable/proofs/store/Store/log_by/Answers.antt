@@ -12,7 +12,7 @@ use Rattle.store_past.specs.declared.error.StoreError.TheVariants.{Worn, Fault}
 use Rattle.durable.specs.Calls.{RefusesLog}
 use Rattle.store_memory.specs.Sections.{TellsSections, MayBeLogged}
 use Rattle.durable.proofs.Storing.{to_parts, from_parts, logged_has, failed_has, kept_has, logs_now, logs_then, log_refused, may_log, may_be_logged}
-use Rattle.durable.proofs.store.Store.log_step.Goals as goal
+use Rattle.durable.proofs.store.Store.log_by.Goals as goal
 
 pub log_records-requires-clause-logs : goal.log_records-requires-clause-logs
 log_records-requires-clause-logs g c =

@@ -1,0 +1,58 @@
+//! The stable cut is acknowledged, and its records are given up, by one commit.
+ghost use Rattle.std.specs.Prelude.{◌≡◌, ◌⊎◌, ◌↔◌, ◌-◌, ◌^◌, ℕ, IfErr, IsErrOf, OnErr, OnOk};
+ghost use Rattle.block_disk.specs.Device.{HasCause};
+ghost use Rattle.block_disk.specs.Images.{Always, LeavesOnly};
+ghost use Rattle.heap_model.specs.Cuts.{counts_of};
+ghost use Rattle.heap_model.specs.Setting.{Setting};
+ghost use Rattle.store_image.specs.Consistent.{IsConsistent, ShowsEither};
+ghost use Rattle.store_image.specs.KeptHeap.{StandsForEither};
+ghost use Rattle.store_past.specs.Past.{Past, after_settle, after_trim};
+ghost use Rattle.store_image.specs.Steps.{MaySettle};
+ghost use Rattle.store_past.specs.declared.error.StoreError.TheVariants.{Fault, Worn};
+
+use crate::commit::commit_written;
+use crate::committed::Committed;
+use crate::settling::settled_rows;
+use crate::trimming::trimmed_rows;
+use block_disk::Disk;
+use heap_model::Cut;
+use image::Layout;
+use store_past::StoreError;
+
+/// Makes the home cells durable, and then the control that acknowledges this cut and starts each lane behind it: what
+/// [`settle`](crate::settle) and then [`trim`](crate::trim) do. `places` has, by lane, the place behind the cut's last section.
+/// It takes three syncs.
+///
+/// Refusals, in this order:
+/// - `Worn`: the control's sequence is at its last value, 2^64 - 1. The device isn't called;
+/// - `Fault`: a call failed. A crash may leave either control.
+pub fn settle_and_trim<D: Disk>(
+    disk: &mut D,
+    layout: &Layout,
+    committed: &mut Committed,
+    cut: &Cut,
+    places: &[u64; 32],
+) -> Result<(), StoreError>
+    requires settles { (s : Setting) × (p : Past) × MaySettle layout.now s p committed.old (D.device disk.old) cut.now places.now }
+    ensures ok { (s : Setting) (p : Past) → MaySettle layout.now s p committed.old (D.device disk.old) cut.now places.now
+        → OnOk result (IsConsistent layout.now s (after_trim (after_settle p (counts_of cut.now))) committed.new (D.device disk.new)) }
+    ensures worn { IsErrOf result Worn ↔ (committed.old.sequence ≡ 2 ^ 64 - 1) }
+    ensures no_call { IsErrOf result Worn → disk.new ≡ disk.old }
+    ensures no_other { IfErr result (λ e. (e ≡ Worn) ⊎ (e ≡ Fault)) }
+    ensures err { OnErr result (committed.new ≡ committed.old) }
+    ensures any_moment { (s : Setting) (p : Past) → MaySettle layout.now s p committed.old (D.device disk.old) cut.now places.now
+        → LeavesOnly (D.device disk.old) (D.device disk.new) (StandsForEither layout.now s p.logged p.cut (counts_of cut.now)) }
+    ensures shown { (s : Setting) (p : Past) → MaySettle layout.now s p committed.old (D.device disk.old) cut.now places.now
+        → LeavesOnly (D.device disk.old) (D.device disk.new) (ShowsEither layout.now s p (after_trim (after_settle p (counts_of cut.now)))) }
+    ensures crash { (s : Setting) (p : Past) → MaySettle layout.now s p committed.old (D.device disk.old) cut.now places.now
+        → Always (D.device disk.new) (StandsForEither layout.now s p.logged p.cut (counts_of cut.now)) }
+    ensures cause { HasCause (D.device disk.old).failures (D.device disk.new).failures Fault result }
+{
+    if committed.sequence == u64::MAX {
+        return Err(StoreError::Worn);
+    }
+    let settled = settled_rows(layout.lanes, &committed.rows, &cut.counts, places);
+    let rows = trimmed_rows(layout.lanes, &settled);
+    // Its first sync makes the home cells durable, before the control that gives up the undo records of what it acknowledges.
+    commit_written(disk, layout, committed, &rows)
+}
