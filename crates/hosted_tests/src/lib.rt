@@ -1,0 +1,10 @@
+//! Tests of a hosted heap, by its public calls alone: what recovery keeps of its host's device, at the end of a life and
+//! where the host stops between two calls.
+#![tactic(auto)]
+
+#[cfg(test)]
+mod device;
+#[cfg(test)]
+mod host;
+#[cfg(test)]
+mod lives;
