@@ -1,10 +1,13 @@
 -- Why a run is stopped, by why a part of it is.
-use Rattle.std.proofs.Common.{ℕ, ◌≡◌, ◌≤◌, ◌^◌, ◌-◌, true, false, List, [], ◌∷◌, Result, Ok, Err, IfErr, inl, inr, refl, sym, ◌∙◌, arith}
+use Rattle.std.proofs.Common.{ℕ, ◌≡◌, ◌≤◌, ◌^◌, ◌-◌, true, false, List, [], ◌∷◌, Result, Ok, Err, IfErr, inl, inr, ⊎_elim, refl, sym, ◌∙◌, arith}
 use Rattle.block_disk.specs.Device.{Device, HasCause, HasFailed}
+use Rattle.block_disk.proofs.Images.{image_now}
 use Rattle.durable.specs.Store.{Known}
 use Rattle.image.specs.declared.layout.Layout.{Layout}
 use Rattle.monitor.specs.Seats.{Home}
+use Rattle.recover.specs.Reading.{RefusesImage}
 use Rattle.recover.specs.Recovery.{RefusesRecovery}
+use Rattle.survival.specs.Accepted.{AcceptedLaw}
 use Rattle.recover.specs.declared.error.RecoverError.{RecoverError}
 use Rattle.recover.specs.declared.error.RecoverError.TheVariants as recover
 use Rattle.running_heap.specs.Closed.{IsClosed}
@@ -18,7 +21,7 @@ use Rattle.trim_helper.specs.Settled.{IsStop, IsWhy}
 use Rattle.trim_helper.specs.declared.close_error.CloseError.{CloseError}
 use Rattle.trim_helper.specs.declared.close_error.CloseError.TheVariants as close
 use Rattle.trim_helper.specs.declared.ended.Ended.{Ended}
-use Rattle.drive.specs.Stops.{RefusesTelling, StopsBy, StopsClosing, StopsRound, StopsTelling}
+use Rattle.drive.specs.Stops.{LosesClosed, RefusesTelling, StopsBy, StopsClosing, StopsRound, StopsTelling}
 use Rattle.drive.specs.declared.error.DriveError.{DriveError}
 use Rattle.drive.specs.declared.error.DriveError.TheVariants.{NoMemory, Schema, Image, Helper, Session, Close, Recover, OtherSchema}
 
@@ -110,15 +113,32 @@ telling_stops closed new (recover.BadRecord lane place) refused cause = refused
 telling_stops closed new (recover.IllegalLog lane place) refused cause = refused
 telling_stops closed new recover.NoMemory refused cause = refused
 
-pub told_stops : (h : Home) (l : Layout) (old closed new : Device) (es : List Ended) (e : DriveError) → HoldNone es → IsComplete l.lanes es → old.failures ≤ closed.failures → IsClosed h l es closed → StopsTelling closed new e → StopsBy h l old new e
-told_stops h l old closed new es NoMemory none complete later ran stops = tt
-told_stops h l old closed new es (Schema e) none complete later ran stops = absurd stops
-told_stops h l old closed new es (Image e) none complete later ran stops = absurd stops
-told_stops h l old closed new es (Helper e) none complete later ran stops = absurd stops
-told_stops h l old closed new es (Session e) none complete later ran stops = absurd stops
-told_stops h l old closed new es (Close e) none complete later ran stops = absurd stops
-told_stops h l old closed new es (Recover e) none complete later ran stops = record { ended = es; none = none; complete = complete; closed = closed; later = later; ran = ran; refused = stops }
-told_stops h l old closed new es OtherSchema none complete later ran stops = absurd stops
+-- no such image is refused by itself
+no_other : (h : Home) (l : Layout) (es : List Ended) (closed : Device) (e : RecoverError) → AcceptedLaw → IsClosed h l es closed → RefusesImage closed.now.bytes e → (e ≡ recover.Fault → ⊥) → (e ≡ recover.NoMemory → ⊥) → ⊥
+no_other h l es closed e law ran refused fault memory = ⊎_elim fault memory (law l (plan h) ran.now closed.now.bytes e (ran.left closed.now.bytes (image_now closed)) refused)
+
+-- recovery takes what a good closing gave back
+loses_closed : (h : Home) (l : Layout) (es : List Ended) (closed new : Device) (e : RecoverError) → AcceptedLaw → IsClosed h l es closed → RefusesTelling closed new e → LosesClosed closed new e
+loses_closed h l es closed new recover.Fault law ran refused = refused
+loses_closed h l es closed new recover.NotFormatted law ran refused = no_other h l es closed recover.NotFormatted law ran refused (λ is. absurd cc) (λ is. absurd cc)
+loses_closed h l es closed new recover.BadHeader law ran refused = no_other h l es closed recover.BadHeader law ran refused (λ is. absurd cc) (λ is. absurd cc)
+loses_closed h l es closed new recover.TooSmall law ran refused = no_other h l es closed recover.TooSmall law ran refused (λ is. absurd cc) (λ is. absurd cc)
+loses_closed h l es closed new recover.NoControl law ran refused = no_other h l es closed recover.NoControl law ran refused (λ is. absurd cc) (λ is. absurd cc)
+loses_closed h l es closed new recover.BadControl law ran refused = no_other h l es closed recover.BadControl law ran refused (λ is. absurd cc) (λ is. absurd cc)
+loses_closed h l es closed new recover.Worn law ran refused = refused
+loses_closed h l es closed new (recover.BadRecord lane place) law ran refused = no_other h l es closed (recover.BadRecord lane place) law ran refused.1 (λ is. absurd cc) (λ is. absurd cc)
+loses_closed h l es closed new (recover.IllegalLog lane place) law ran refused = no_other h l es closed (recover.IllegalLog lane place) law ran refused.1 (λ is. absurd cc) (λ is. absurd cc)
+loses_closed h l es closed new recover.NoMemory law ran refused = tt
+
+pub told_stops : (h : Home) (l : Layout) (old closed new : Device) (es : List Ended) (e : DriveError) → HoldNone es → IsComplete l.lanes es → old.failures ≤ closed.failures → IsClosed h l es closed → AcceptedLaw → StopsTelling closed new e → StopsBy h l old new e
+told_stops h l old closed new es NoMemory none complete later ran law stops = tt
+told_stops h l old closed new es (Schema e) none complete later ran law stops = absurd stops
+told_stops h l old closed new es (Image e) none complete later ran law stops = absurd stops
+told_stops h l old closed new es (Helper e) none complete later ran law stops = absurd stops
+told_stops h l old closed new es (Session e) none complete later ran law stops = absurd stops
+told_stops h l old closed new es (Close e) none complete later ran law stops = absurd stops
+told_stops h l old closed new es (Recover e) none complete later ran law stops = record { ended = es; none = none; complete = complete; closed = closed; later = later; ran = ran; refused = loses_closed h l es closed new e law ran stops }
+told_stops h l old closed new es OtherSchema none complete later ran law stops = absurd stops
 
 -- a run's stop since a later moment is one since an earlier one
 pub stops_since : (h : Home) (l : Layout) (first old new : Device) (e : DriveError) → first.failures ≤ old.failures → StopsBy h l old new e → StopsBy h l first new e

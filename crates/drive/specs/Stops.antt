@@ -6,7 +6,7 @@ use Rattle.heap_model.specs.declared.limits.TheConstants.{LAST_NUMBER}
 use Rattle.image.specs.Recovered.{Parts}
 use Rattle.image.specs.declared.layout.Layout.{Layout}
 use Rattle.monitor.specs.Seats.{Home}
-use Rattle.recover.specs.Recovery.{RefusesRecovery}
+use Rattle.recover.specs.Recovery.{IsWorn, RefusesRecovery}
 use Rattle.recover.specs.declared.error.RecoverError.{RecoverError}
 use Rattle.recover.specs.declared.error.RecoverError.TheVariants as recover
 use Rattle.running_heap.specs.Closed.{IsClosed}
@@ -44,6 +44,13 @@ StopsTelling closed new NoMemory = Unit {0}
 StopsTelling closed new (Recover e) = RefusesTelling closed new e
 StopsTelling closed new _ = ⊥
 
+-- Recovery takes what a good closing gave back, so that only a call may fail, memory be wanting, or the control be at its last sequence.
+abbrev pub LosesClosed : (closed new : Device) → RecoverError → Type 0
+LosesClosed closed new recover.Fault = HasFailed closed.failures new.failures
+LosesClosed closed new recover.Worn = IsWorn closed.now.bytes
+LosesClosed closed new recover.NoMemory = Unit {0}
+LosesClosed closed new _ = ⊥
+
 -- The heap ran to its end and was closed, one session a lane, and then the device wasn't recovered.
 pub record IsLostAfter (h : Home) (l : Layout) (old new : Device) (e : RecoverError) : Type 0 where
   pub ended : List Ended
@@ -52,7 +59,7 @@ pub record IsLostAfter (h : Home) (l : Layout) (old new : Device) (e : RecoverEr
   pub closed : Device
   pub later : old.failures ≤ closed.failures
   pub ran : IsClosed h l ended closed
-  pub refused : RefusesTelling closed new e
+  pub refused : LosesClosed closed new e
 
 -- why a run by these words is stopped, that began on the one device and leaves the other
 abbrev pub StopsBy : Home → Layout → (old new : Device) → DriveError → Type 0

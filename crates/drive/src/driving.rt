@@ -24,6 +24,7 @@ use running_heap::{RunningHeap, close, joined_law, open};
 use std::alloc::Global;
 use std::sync::Wait;
 use std::thread::Threads;
+use survival::accepted_law;
 use trim_helper::{Ended, Helper};
 
 /// Lets a worker for each lane work so many rounds on a heap of this schema that was recovered, closes the heap, and recovers the
@@ -37,7 +38,8 @@ use trim_helper::{Ended, Helper};
 /// - `Session`: a worker's call was refused. Where each worker has its object and its field, as in a schema of [`declare`](crate::declare), that is by
 ///   `Behind`, after the helper has stopped, or by `Worn`;
 /// - `Close`: the heap wasn't closed, by `Worn` or by `Fault`. No session is missing, and none holds a monitor;
-/// - `Recover`: the device wasn't recovered, as [`recover`] refuses it;
+/// - `Recover`: the device wasn't recovered: a call of it failed, memory was wanting, or its control is at its last sequence.
+///   Never because of what the closing left: recovery takes that;
 /// - `NoMemory`: there was no room for what is told. The device is recovered.
 pub fn drive_heap<D: Disk + Drop, M: Meet + Sync, R: Threads + Wait + Sync>(
     rt: &R,
@@ -141,6 +143,7 @@ fn close_all<D: Disk>(
     ensures ok { IfOk result (λ r. IsRunBy D.device shared helper.store.known.layout r.0 r.1) }
     ensures cause { IfErr result (λ back. StopsBy shared helper.store.known.layout (D.device helper.store.disk) (D.device back.0) back.1) }
 {
+    accepted_law();
     match close(shared, ended, helper) {
         Ok(disk) => tell(alloc, disk),
         Err((disk, refusal)) => Err((disk, DriveError::Close(refusal))),

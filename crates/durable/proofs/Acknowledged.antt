@@ -1,5 +1,5 @@
 -- What a store has once the stable cut is acknowledged and trimmed.
-use Rattle.std.proofs.Common.{◌≡◌, ⊎_elim, refl, ℕ, ◌≤◌, ◌-◌, ◌<◌, ◌^◌, Bool, true, false, List, length, sym, ◌∙◌, ap, subst, inl, inr, arith}
+use Rattle.std.proofs.Common.{◌≡◌, ⊎_elim, refl, ℕ, ◌≤◌, ◌<◌, List, length, sym, ◌∙◌, ap, subst, inl, inr, arith}
 use Rattle.std.specs.Prelude.{slice_index}
 use Rattle.std.proofs.lemmas.Bool.{cases_lt}
 use Rattle.std.proofs.lemmas.List.{get_or_past}

@@ -60,7 +60,7 @@ same_first [] (suc n) call le = absurd (omega (arith, le))
 same_first (c ∷ calls) (suc n) call le = ap (λ (cs : List StoreCall). c ∷ cs) (same_first calls n call (omega (arith, le)))
 
 -- what shows the past with nothing in doubt shows it with whatever is
-no_doubt : (l : Layout) (s : Setting) (p : Past) (w : Doubt) (image : List ℕ) → ShowsStep l s p Nothing image → ShowsStep l s p w image
+pub no_doubt : (l : Layout) (s : Setting) (p : Past) (w : Doubt) (image : List ℕ) → ShowsStep l s p Nothing image → ShowsStep l s p w image
 no_doubt l s p w image (Shows shown) = Shows shown
 no_doubt l s p w image (ShowsLogged doubt shown) = absurd cc
 no_doubt l s p w image (ShowsSettled doubt clean cut stable shown) = absurd cc

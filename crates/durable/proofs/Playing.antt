@@ -99,7 +99,7 @@ played_none old d calls = record {
 }
 
 -- one call more
-made_more : (s : Setting) (p q r : Past) (calls : List StoreCall) (call : StoreCall) → MakeAll s p calls q → Makes s q call r → MakeAll s p (calls ++ call ∷ []) r
+pub made_more : (s : Setting) (p q r : Past) (calls : List StoreCall) (call : StoreCall) → MakeAll s p calls q → Makes s q call r → MakeAll s p (calls ++ call ∷ []) r
 made_more s p q r [] call made makes = (r, subst (λ (m : Past). Makes s m call r) made makes, refl)
 made_more s p q r (first ∷ calls) call (mid, one, made) makes = (mid, one, made_more s mid q r calls call made makes)
 

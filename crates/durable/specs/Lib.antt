@@ -4,3 +4,4 @@ pub mod Store
 pub mod Moments
 pub mod Calls
 pub mod Closed
+pub mod Runs

@@ -11,15 +11,20 @@ use Rattle.trim_helper.specs.declared.ended.Ended.{Ended}
 use Rattle.trim_helper.specs.Endings.{IsEnded, Rings, part_at, parts_of}
 use Rattle.trim_helper.specs.Serving.{Among, Part}
 use Rattle.trim_helper.proofs.Gathering.{end_below}
-use Rattle.running_heap.specs.Closed.{IsClosed, WasTold, WereTold}
+use Rattle.store_past.specs.Past.{Past}
+use Rattle.trim_helper.specs.Taken.{trimmed_of}
+use Rattle.running_heap.specs.Closed.{IsClosed, IsClosedFrom, WasTold, WereTold}
 use Rattle.running_heap.proofs.Ending.{of_parts}
 
-pub closed_of : (h : Home) (l : Layout) (es : List Ended) (acknowledged trimmed : ℕ → ℕ) (d : Device) → IsClosedDown (plan h) h.plan.lanes l (parts_of es) acknowledged trimmed d → IsClosed h l es d
-closed_of h l es acknowledged trimmed d down = record {
+pub closed_of : (h : Home) (l : Layout) (es : List Ended) (p : Past) (since d : Device) → IsClosedDown (plan h) h.plan.lanes l (parts_of es) p since d → IsClosed h l es d
+closed_of h l es p since d down = record {
   history = down.history;
   legal = down.one.legal;
   told = of_parts (λ x. lane x.lane down.history ≡ x.events) es down.one.part;
   no_other = down.one.no_other;
+  now = down.now;
+  logs = down.logs;
+  left = down.left;
   stands = down.stands;
   values = down.values;
 }
@@ -34,6 +39,15 @@ told_of h c lanes rings acknowledged trimmed (e ∷ es) count all counts places 
     All-cons (WasTold acknowledged trimmed) e es
     (record { stable = counts (part_at e.seat) (inl refl) (omega (arith, low, same, count)); trimmed_to = places (part_at e.seat) (inl refl) (omega (arith, low, same, count)) })
     (told_of h c lanes rings acknowledged trimmed es count (All-tail (IsEnded h c rings) e es all) (λ x among. counts x (inr among)) (λ x among. places x (inr among)))
+
+pub closed_from : (h : Home) (l : Layout) (c : ℕ) (rings : Rings) (es : List Ended) (p : Past) (since d : Device) → length rings ≡ h.plan.lanes → All (IsEnded h c rings) es → IsClosedDown (plan h) h.plan.lanes l (parts_of es) p since d →
+    IsClosedFrom h l es p since d
+unfolding closed_of
+closed_from h l c rings es p since d count all down = record {
+  closed = closed_of h l es p since d down;
+  ran = down.ran;
+  told = told_of h c h.plan.lanes rings p.cut (trimmed_of p) es count all down.told down.places;
+}
 
 -- an answer that says more
 pub ok_more : {A E : Type 0} (P Q : A → Type 0) (r : Result A E) → ((x : A) → P x → Q x) → IfOk r P → IfOk r Q

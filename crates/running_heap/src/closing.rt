@@ -2,14 +2,14 @@
 ghost use Rattle.std.specs.Prelude.{◌≡◌, ◌≤◌, ℕ, All, IfErr, IfOk, IsErrAnd, MatchResult, true};
 ghost use Rattle.heap_model.specs.Setting.{Setting};
 ghost use Rattle.monitor.specs.Seats.{Home};
-ghost use Rattle.running_heap.specs.Closed.{IsClosed, WereTold};
+ghost use Rattle.running_heap.specs.Closed.{IsClosed, IsClosedFrom};
 ghost use Rattle.running_heap.specs.Joined.{IsHelping, IsJoined};
 ghost use Rattle.steps.specs.Views.{plan};
 ghost use Rattle.store_past.specs.Past.{Past};
 ghost use Rattle.trim_helper.specs.Closed.{Stood, disk_of};
 ghost use Rattle.trim_helper.specs.Endings.{HoldNone, IsCloseWhy, IsComplete, IsEnded, IsOfSessions, RefusesClosing, Rings};
 ghost use Rattle.trim_helper.specs.Parts.{IsServing};
-ghost use Rattle.trim_helper.specs.Taken.{HasTaken, trimmed_of};
+ghost use Rattle.trim_helper.specs.Taken.{HasTaken};
 
 use block_disk::Disk;
 use monitor::Shared;
@@ -33,7 +33,8 @@ pub fn end(session: Session) -> Ended
 }
 
 /// Lets the sessions that have ended meet their helper: all that they sent is applied, made durable and acknowledged, and the
-/// device is given back. One legal history has what each session was told as its part, and the device stands for its heap.
+/// device is given back. One legal history has what each session was told as its part, recovery takes the device, whatever a crash
+/// leaves of it, and the device stands for the history's heap.
 ///
 /// Refusals, in this order, each with the device, as a stop leaves it:
 /// - `Missing`: the least lane that hasn't just one session in the list. Nothing was done;
@@ -49,7 +50,7 @@ pub fn close<D: Disk>(
     requires helper { IsHelping D.device shared helper }
     requires ended { All (IsEnded shared helper.store.known.layout.capacity helper.rings) ended.items }
     ensures ok { IfOk result (λ disk. IsClosed shared helper.store.known.layout ended.items (D.device disk)) }
-    ensures told { (p : Past) → IsServing D.device helper (plan shared) p → IfOk result (λ disk. WereTold p.cut (trimmed_of p) ended.items) }
+    ensures from { (p : Past) → IsServing D.device helper (plan shared) p → IfOk result (λ disk. IsClosedFrom shared helper.store.known.layout ended.items p (D.device helper.store.disk) (D.device disk)) }
     ensures refused { MatchResult result (λ disk. HoldNone ended.items × IsComplete helper.store.known.layout.lanes ended.items) (λ back. RefusesClosing helper.store.known.layout.lanes ended.items back.1) }
     ensures untouched { IfErr result (λ back. IsOfSessions back.1 → back.0 ≡ helper.store.disk) }
     ensures failed { helper.store.known.has_failed ≡ true → HoldNone ended.items → IsComplete helper.store.known.layout.lanes ended.items → IsErrAnd result (λ back. back.1 ≡ CloseError.Failed) }

@@ -15,8 +15,6 @@ use Rattle.cut_laws.proofs.Chain.{In, holds_in}
 use Rattle.cut_laws.proofs.Next.{legal_before}
 use Rattle.history_laws.proofs.Rebase.{until_ends}
 use Rattle.history_laws.proofs.Reorder.{rest_after_until}
-use Rattle.block_disk.specs.Device.{Device}
-use Rattle.block_disk.specs.Images.{Always}
 use Rattle.image.specs.Guards.{HasGuards}
 use Rattle.image.specs.Header.{HasHeader, ReadsHeader}
 use Rattle.image.specs.Layout.{size_of}
@@ -34,11 +32,10 @@ use Rattle.undo_log.specs.Dropped.{undo_logs, records_in}
 use Rattle.undo_log.specs.StandsFor.{row_of, settled_of, guard_in, HasLive, StandsFor}
 use Rattle.undo_log.proofs.OneHeap.{one_span, one_heap}
 use Rattle.store_past.specs.Past.{Past}
-use Rattle.store_image.specs.Consistent.{TellsCut, IsConsistent}
+use Rattle.store_image.specs.Consistent.{TellsCut}
 use Rattle.store_image.specs.KeptHeap.{kept_heap}
-use Rattle.store_image.specs.declared.committed.Committed.{Committed}
 use Rattle.store_image.proofs.Places.{live_size, cut_place}
-use Rattle.store_image.proofs.Stands.{empty, none_logged, stands, shows_always}
+use Rattle.store_image.proofs.Stands.{empty, stands}
 use Rattle.survival.specs.Accepted.{IsLeftBy, FindsPast}
 use Rattle.recover.specs.Logs.{AreLogs, IsBadAt, lanes_of}
 use Rattle.recover.specs.Reading.{HasLayout, HasControl, RefusesRows, RefusesImage, Holds}
@@ -302,7 +299,3 @@ module _ (l : Layout) (s : Setting) (p : Past) (image : List ℕ) (left : IsLeft
       one_heap l image heap (kept_heap l s p.logged p.cut)
       (subst (λ (k : Layout). StandsFor k image heap) (layout_is found.layout found.guards.items found.slot found.control holds.control) for_it)
       (stands l s p left.past left.lanes image left.shows).heap
-
--- what a crash leaves of a store is such an image
-pub left_always : (l : Layout) (s : Setting) (p : Past) (c : Committed) (d : Device) → IsConsistent l s p c d → Always d (IsLeftBy l s p)
-left_always l s p c d consistent image is = record { past = consistent.past; lanes = none_logged l s p c d consistent; shows = shows_always l s p c d consistent image is }

@@ -147,7 +147,7 @@ made_one s p q HomeStep calls (Done, answers, same) = ap (λ (x : Past). applied
 made_one s p q Settle calls made = ap (λ (x : Past). applied_by calls (applied x)) made.3
 made_one s p q Trim calls made = ap (λ (x : Past). applied_by calls (applied x)) made
 
-made_all : (s : Setting) (p q : Past) (calls : List StoreCall) → MakeAll s p calls q → applied q ≡ applied_by calls (applied p)
+pub made_all : (s : Setting) (p q : Past) (calls : List StoreCall) → MakeAll s p calls q → applied q ≡ applied_by calls (applied p)
 made_all s p q [] made = ap applied made
 made_all s p q (call ∷ calls) (mid, one, rest) = made_all s mid q calls rest ∙ made_one s p mid call calls one
 

@@ -18,3 +18,4 @@ pub mod Earlier
 pub mod SideLemmas
 pub mod RunAgain
 pub mod Histories
+pub mod Running

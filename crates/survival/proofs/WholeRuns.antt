@@ -61,16 +61,16 @@ settles_by o (inl is) = settles o is
 settles_by o (inr is) = settles_too o is
 
 -- the image shows what the first n calls make of the past, or what is in doubt then; only a settling that was cut off leaves a settling in doubt
-record ShowsSome (x : Known) (s : Setting) (p : Past) (calls : List StoreCall) (image : List ℕ) : Type 0 where
-  n : ℕ
-  within : n ≤ length calls
-  then : Past
-  made : MakeAll s p (take n calls) then
-  is : IsPast s then
-  of_lanes : IsOfLanes x.layout.lanes (applied then)
-  doubt : Doubt
-  settling : MayAcknowledge doubt → IsSettling x calls n
-  shows : ShowsStep x.layout s then doubt image
+pub record ShowsSome (x : Known) (s : Setting) (p : Past) (calls : List StoreCall) (image : List ℕ) : Type 0 where
+  pub n : ℕ
+  pub within : n ≤ length calls
+  pub then : Past
+  pub made : MakeAll s p (take n calls) then
+  pub is : IsPast s then
+  pub of_lanes : IsOfLanes x.layout.lanes (applied then)
+  pub doubt : Doubt
+  pub settling : MayAcknowledge doubt → IsSettling x calls n
+  pub shows : ShowsStep x.layout s then doubt image
 
 -- before the first call
 shows_first : (x : Known) (s : Setting) (p : Past) (calls : List StoreCall) (old : Device) (image : List ℕ) → HasPast x s p old → (w : Doubt) → (MayAcknowledge w → IsSettling x calls 0) → ShowsStep x.layout s p w image →
@@ -108,7 +108,7 @@ shows_either x s p calls old image has = ⊎_elim
     })
 
 -- what a crash leaves of a run shows what some of its calls made of the past
-shows_some : (x : Known) (s : Setting) (p : Past) (calls : List StoreCall) (old new : Device) (image : List ℕ) → HasPast x s p old → LeavesOnly old new (ShowsAfterSome x.layout s p calls) → MayBeLeft old new image →
+pub shows_some : (x : Known) (s : Setting) (p : Past) (calls : List StoreCall) (old new : Device) (image : List ℕ) → HasPast x s p old → LeavesOnly old new (ShowsAfterSome x.layout s p calls) → MayBeLeft old new image →
     ShowsSome x s p calls image
 shows_some x s p calls old new image has leaves left = shows_either x s p calls old image has (leaves.each (length old.past) image (omega arith) left)
 
@@ -117,13 +117,13 @@ abbrev pub KeepsEither : Setting → Past → Doubt → (ℕ → ℕ) → Type 0
 KeepsEither s p w cut = (cut ≡ p.cut) ⊎ (MayAcknowledge w × IsClean s p × IsStable (actions p.logged) cut)
 
 -- such an image is one that a store of some past leaves, whose acknowledged cut is the one before or the stable one
-record Left (l : Layout) (s : Setting) (p : Past) (w : Doubt) (image : List ℕ) : Type 0 where
-  past : Past
-  is : IsLeftBy l s past image
-  acknowledged : KeepsEither s p w past.cut
-  heap : kept_heap l s past.logged past.cut ≡ kept_heap l s p.logged past.cut
+pub record Left (l : Layout) (s : Setting) (p : Past) (w : Doubt) (image : List ℕ) : Type 0 where
+  pub past : Past
+  pub is : IsLeftBy l s past image
+  pub acknowledged : KeepsEither s p w past.cut
+  pub heap : kept_heap l s past.logged past.cut ≡ kept_heap l s p.logged past.cut
 
-left_by : (l : Layout) (s : Setting) (p : Past) (w : Doubt) (image : List ℕ) → IsPast s p → IsOfLanes l.lanes (applied p) → ShowsStep l s p w image → Left l s p w image
+pub left_by : (l : Layout) (s : Setting) (p : Past) (w : Doubt) (image : List ℕ) → IsPast s p → IsOfLanes l.lanes (applied p) → ShowsStep l s p w image → Left l s p w image
 left_by l s p w image is of (Shows shown) = record {
   past = p;
   is = record { past = is; lanes = λ k from. undone_beyond l.lanes k p.logged (of_lanes_before l.lanes p.fresh p.logged of) from; shows = shown };
@@ -160,7 +160,7 @@ left_by l s p w image is of (ShowsTrimmed doubt shown) = record {
 }
 
 -- why it isn't recovered
-cannot : (image : List ℕ) → ((e : RecoverError) → RefusesImage image e → (e ≡ Fault) ⊎ (e ≡ NoMemory)) → (e : RecoverError) → RefusesRecovery image e → CannotRecover image e
+pub cannot : (image : List ℕ) → ((e : RecoverError) → RefusesImage image e → (e ≡ Fault) ⊎ (e ≡ NoMemory)) → (e : RecoverError) → RefusesRecovery image e → CannotRecover image e
 cannot image takes Fault refuses = inl refl
 cannot image takes NotFormatted refuses = ⊎_elim (λ is. inl is) (λ is. inr (inl is)) (takes NotFormatted refuses)
 cannot image takes BadHeader refuses = ⊎_elim (λ is. inl is) (λ is. inr (inl is)) (takes BadHeader refuses)
@@ -210,7 +210,7 @@ pub record Keeps (l : Layout) (s : Setting) (p : Past) (w : Doubt) (heap : List 
   pub kept_are : (lane : ℕ) → lane < l.lanes → kept lane ≡ cut lane
 
 -- what a study of an image finds
-found : (l : Layout) (s : Setting) (p : Past) (w : Doubt) (image : List ℕ) → IsPast s p → IsOfLanes l.lanes (applied p) → ShowsStep l s p w image → (study : Study) → IsStudyOf image study →
+pub found : (l : Layout) (s : Setting) (p : Past) (w : Doubt) (image : List ℕ) → IsPast s p → IsOfLanes l.lanes (applied p) → ShowsStep l s p w image → (study : Study) → IsStudyOf image study →
     Keeps l s p w study.heap.items (counts_of study.report.kept)
 found l s p w image is of_lanes shows study of =
     let left = left_by l s p w image is of_lanes shows in
@@ -234,7 +234,7 @@ keeps l s p w device image is of_lanes shows (Err back) done refused =
     cannot image.now.bytes (λ e refuses. accepted l s by.past image.now.bytes by.is e refuses) back.1 refused
 
 -- after a run
-of_run : (x : Known) (s : Setting) (p : Past) (calls : List StoreCall) (image heap : List ℕ) (kept : ℕ → ℕ) → IsPast s p → (some : ShowsSome x s p calls image) → Keeps x.layout s some.then some.doubt heap kept →
+pub of_run : (x : Known) (s : Setting) (p : Past) (calls : List StoreCall) (image heap : List ℕ) (kept : ℕ → ℕ) → IsPast s p → (some : ShowsSome x s p calls image) → Keeps x.layout s some.then some.doubt heap kept →
     Survives x s p calls heap kept
 of_run x s p calls image heap kept was some keeps =
     let cut = whole_closed s some.then some.doubt keeps.cut some.is keeps.acknowledged in

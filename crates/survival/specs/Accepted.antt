@@ -1,6 +1,6 @@
 -- No image that a store leaves is refused; what it holds is what the store's past says, and its heap the kept one (this
 -- project's own).
-use Rattle.std.specs.Prelude.{ℕ, ◌≡◌, ◌<◌, ◌≤◌, ◌⊎◌, List, []}
+use Rattle.std.specs.Prelude.{ℕ, ◌≡◌, ◌<◌, ◌⊎◌, List}
 use Rattle.heap_model.specs.Setting.{Setting}
 use Rattle.heap_model.specs.Base.{records_since}
 use Rattle.block_disk.specs.Device.{Device}
@@ -8,21 +8,16 @@ use Rattle.block_disk.specs.Images.{Always}
 use Rattle.image.specs.declared.layout.Layout.{Layout}
 use Rattle.undo_log.specs.Dropped.{undo_logs}
 use Rattle.undo_log.specs.StandsFor.{guard_in, StandsFor}
-use Rattle.store_past.specs.Past.{Past, IsPast}
-use Rattle.store_image.specs.Consistent.{TellsCut, ShowsPast, IsConsistent}
+use Rattle.store_past.specs.Past.{Past}
+use Rattle.store_image.specs.Consistent.{TellsCut, IsConsistent}
 use Rattle.store_image.specs.KeptHeap.{kept_heap}
 use Rattle.store_image.specs.declared.committed.Committed.{Committed}
+pub use Rattle.durable.specs.Runs.{IsLeftBy}
 use Rattle.recover.specs.Logs.{lanes_of}
 use Rattle.recover.specs.Reading.{Holds, RefusesImage}
 use Rattle.recover.specs.declared.error.RecoverError.{RecoverError}
 use Rattle.recover.specs.declared.error.RecoverError.TheVariants.{Fault, NoMemory}
 use Rattle.recover.specs.declared.logged_image.LoggedImage.{LoggedImage}
-
--- a store of this past leaves this image: it shows the past, whose records are of the image's lanes
-pub record IsLeftBy (l : Layout) (s : Setting) (p : Past) (image : List ℕ) : Type 0 where
-  pub past : IsPast s p
-  pub lanes : (lane : ℕ) → l.lanes ≤ lane → undo_logs p.logged lane ≡ []
-  pub shows : ShowsPast l s p image
 
 -- Whatever a crash leaves of a store's device is such an image.
 abbrev pub LeftLaw : Type 0

@@ -6,3 +6,4 @@ pub mod Unsettled
 pub mod Again
 pub mod EachImage
 pub mod History
+pub mod Running

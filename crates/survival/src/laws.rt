@@ -2,6 +2,7 @@
 ghost use Rattle.survival.specs.Accepted.{AcceptedLaw, FoundHeapLaw, FoundLaw, LeftLaw};
 ghost use Rattle.survival.specs.EachImage.{EachImageLaw, HeldStudyLaw};
 ghost use Rattle.survival.specs.History.{HistoryLaw};
+ghost use Rattle.survival.specs.Running.{RunLaw};
 ghost use Rattle.survival.specs.Unsettled.{UnsettledLaw};
 ghost use Rattle.survival.specs.Sides.{SidesLaw};
 ghost use Rattle.survival.specs.Again.{HasStudyLaw, KeptAcceptedLaw, KeptAgainLaw, KeptHeapLaw, KeptOnLaw, KeptReportLaw, TriedLaw};
@@ -39,6 +40,16 @@ pub fn history_law()
 {
     log_law();
     order_law();
+}
+
+/// What a crash leaves of a run is of the threads' history: whoever made the calls, and at whatever moment it came, recovery takes the
+/// image, and the sections that it keeps are whole ones of the history, each with all that it depends on there.
+pub fn run_law()
+    ensures { RunLaw }
+{
+    log_law();
+    order_law();
+    has_study_law();
 }
 
 /// Each image that a store leaves, or a recovery on the way, has a study. So whatever is said of a study of such an image is said

@@ -6,14 +6,15 @@
 //! ([`each_image_law`]).
 //! [`play_and_recover`] says the whole of it: the heap after a crash is that of the acknowledged sections, and of nothing else;
 //! calls that acknowledge nothing leave it as it was ([`unsettled_law`]). Where the calls apply the records of a legal history
-//! of threads, in whatever order is allowed, that heap is the history's ([`history_law`]).
+//! of threads, in whatever order is allowed, that heap is the history's ([`history_law`]); so it is where the calls were made one
+//! after another by whomever, a thread's helper say ([`run_law`]).
 #![tactic(auto)]
 
 mod laws;
 mod whole_run;
 
 pub use laws::{
-    accepted_law, again_law, each_image_law, found_law, has_study_law, history_law, sides_law,
-    unsettled_law,
+    accepted_law, again_law, each_image_law, found_law, has_study_law, history_law, run_law,
+    sides_law, unsettled_law,
 };
 pub use whole_run::{WholeRun, play_and_recover};

@@ -22,7 +22,9 @@ use Rattle.block_disk.proofs.Images.{always_weaker}
 use Rattle.undo_log.specs.StandsFor.{StandsFor}
 use Rattle.store_image.specs.KeptHeap.{StandsForCut, values_below}
 use Rattle.store_past.specs.Past.{Past, applied}
+use Rattle.durable.specs.Runs.{HasRun}
 use Rattle.durable.specs.Store.{Known, HasPast}
+use Rattle.durable.proofs.Running.{left_always}
 use Rattle.store_image.proofs.Stands.{same_heap, stands_always}
 use Rattle.trim_helper.specs.Rings.{received_of, known_of, stream}
 use Rattle.trim_helper.specs.Limits.{KeepsLimits}
@@ -94,9 +96,8 @@ module _ {A P : Type 0} (s : Setting) (lanes capacity : ℕ) (place : ℕ → �
       )
 
 module _ (s : Setting) (lanes : ℕ) (parts : List Part) (h : List (ℕ × Event)) (one : IsOneHistory s lanes parts h) (log_law : LogLaw) (order_law : OrderLaw) (all_kept : AllKeptLaw) (one_stable : OneStableLaw) (keeps : (f : ℕ) → s.is_logged f ≡ true)
-    (words : Final) (spelled : Spells words (state_after s h)) (acknowledged : ℕ → ℕ) (told : (x : Part) → Among parts x → x.lane < lanes → x.count ≤ acknowledged x.lane)
-    (trimmed : ℕ → ℕ) (places : (x : Part) → Among parts x → x.lane < lanes → x.place ≤ trimmed x.lane)
-    (x : Known) (d : Device) (now : Past) (has : HasPast x s now d) (running : x.has_failed ≡ false) (settled : IsSettled s now)
+    (words : Final) (spelled : Spells words (state_after s h)) (p : Past) (told : (x : Part) → Among parts x → x.lane < lanes → x.count ≤ p.cut x.lane) (places : (x : Part) → Among parts x → x.lane < lanes → x.place ≤ trimmed_of p x.lane)
+    (x : Known) (since d : Device) (now : Past) (ran : HasRun x.layout s p since now d false) (has : HasPast x s now d) (running : x.has_failed ≡ false) (settled : IsSettled s now)
     (same : (l : ℕ) → lane l (applied now) ≡ lane l (log_of s h)) (free : (l : ℕ) → length (holding (map action (lane l (log_of s h)))) ≡ 0) where
   abbrev cut : ℕ → ℕ
   cut = all_ended (actions (log_of s h))
@@ -136,10 +137,14 @@ module _ (s : Setting) (lanes : ℕ) (parts : List Part) (h : List (ℕ × Event
   values : (f : ℕ) → kept_value s.first cut f (log_of s h) ≡ (state_after s h).value f
   values f = (all_kept s (log_of s h) (log_law s h one.legal) free_log).1 f ∙ value_log s h f (keeps f)
 
-  closed_down : IsClosedDown s lanes x.layout parts acknowledged trimmed d
+  closed_down : IsClosedDown s lanes x.layout parts p since d
   closed_down = record {
     history = h;
     one = one;
+    now = now;
+    ran = ran;
+    logs = same;
+    left = left_always x.layout s now x.committed d (has.agrees running);
     stands = stands;
     values = always_weaker d (StandsForCut x.layout s (log_of s h) cut) (λ image. StandsFor x.layout image (values_below (state_after s h).value x.layout.fields))
         (λ image st. subst (λ (v : ℕ → ℕ). StandsFor x.layout image (values_below v x.layout.fields)) (λ i f. values f i) st.heap) stands;
@@ -147,7 +152,7 @@ module _ (s : Setting) (lanes : ℕ) (parts : List Part) (h : List (ℕ × Event
     places = places;
   }
 
-  pub has_spelled : HasSpelled s lanes x.layout parts acknowledged trimmed d words
+  pub has_spelled : HasSpelled s lanes x.layout parts p since d words
   unfolding closed_down
   has_spelled = record { closed = closed_down; spelled = spelled }
 

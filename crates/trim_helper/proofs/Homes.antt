@@ -1,5 +1,5 @@
 -- Logged values go home, and the stable cut is acknowledged.
-use Rattle.std.proofs.Common.{ℕ, ◌≡◌, ◌≢◌, ◌⊎◌, ◌+◌, ◌≤◌, ◌==◌, if◌then◌else◌, Bool, true, false, List, Result, Ok, Err, OnOk, OnErr, IfErr, IsErrOf, MatchResult, refl, sym, ap, ◌∙◌, subst, inl, inr, ⊎_elim, arith}
+use Rattle.std.proofs.Common.{ℕ, ◌≡◌, ◌≢◌, ◌⊎◌, ◌+◌, ◌<◌, ◌≤◌, ◌==◌, [], if◌then◌else◌, Bool, true, false, List, Result, Ok, Err, OnOk, OnErr, IfErr, IsErrOf, MatchResult, refl, sym, ap, ◌∙◌, subst, inl, inr, ⊎_elim, arith}
 use Rattle.std.proofs.lemmas.Bool.{cases_lt}
 use Rattle.std.proofs.lemmas.Bool.Decides.{eqb_tells}
 use Rattle.heap_model.specs.Setting.{Setting}
@@ -19,7 +19,13 @@ use Rattle.durable.proofs.Showing.{logged_heap}
 use Rattle.store_memory.specs.Begin.{IsLeastDirtyOf}
 use Rattle.durable.specs.Calls.{IsClean, AnswersHome, after_home_step, RefusesLog, RefusesHome, RefusesSettle}
 use Rattle.store_past.specs.Past.{Past, IsPast, applied, after_log, after_settle}
-use Rattle.durable.specs.Store.{Known, HasPast}
+use Rattle.durable.specs.Runs.{HasRun}
+use Rattle.durable.specs.Store as stores
+use Rattle.durable.specs.Store.{Known, HasPast, ShowsStep, Shows}
+use Rattle.durable.specs.declared.doubt.Doubt.TheVariants.{Nothing, Logging}
+use Rattle.durable.specs.declared.store_call.StoreCall.TheVariants.{Log, Home as HomeStep}
+use Rattle.durable.proofs.Running.{failed_or_still, ran_none, ran_one, ran_refused, ran_then}
+use Rattle.store_image.specs.Consistent.{ShowsPast}
 use Rattle.store_past.specs.declared.error.StoreError.{StoreError}
 use Rattle.store_past.specs.declared.error.StoreError.TheVariants.{Failed, BadLane, BadId, Worn, NotNext, TooLong, LogFull, Unwritten, Fault, Unfinished}
 use Rattle.store_image.specs.declared.home.Home.{Home}
@@ -27,33 +33,36 @@ use Rattle.store_image.specs.declared.home.Home.TheVariants.{Wrote, Done}
 use Rattle.heap_model.specs.declared.ids.FieldId.{FieldId}
 use Rattle.trim_helper.specs.Settled.{HasClean, HasSame, IsSettled, IsStop, IsWhy, StandsForRound, StandsBefore, StandsAfter}
 
-module _ (x : Known) (d : Device) (s : Setting) (p : Past) where
-  pub clean_none : HasPast x s p d → HasClean x d s p 0
-  clean_none has = record { dirty = p.is_dirty; has = has; clean = λ f lt. absurd (omega arith) }
+pub clean_none : (x : Known) (d : Device) (s : Setting) (p : Past) → HasPast x s p d → (h : HasClean d x d s p 0) × (h.ran.cut_off ≡ [])
+clean_none x d s p has = (record { dirty = p.is_dirty; has = has; clean = λ f lt. absurd (omega arith); ran = ran_none x.layout s p d x.has_failed }, refl)
 
-  pub clean_less : (n : ℕ) → HasClean x d s p n → HasClean x d s p 0
-  clean_less n was = record { dirty = was.dirty; has = was.has; clean = λ f lt. absurd (omega arith) }
-
-  pub clean_most : (n : ℕ) → s.fields ≤ n → HasClean x d s p n → HasClean x d s p s.fields
-  clean_most n le was = record { dirty = was.dirty; has = was.has; clean = λ f lt. was.clean f (omega arith) }
+pub clean_most : (o : Device) (x : Known) (d : Device) (s : Setting) (p : Past) (n : ℕ) → s.fields ≤ n → HasClean o x d s p n → HasClean o x d s p s.fields
+clean_most o x d s p n le was = record { dirty = was.dirty; has = was.has; clean = λ f lt. was.clean f (omega arith); ran = was.ran }
 
 -- the past with these fields dirty
 abbrev pub dirtied : Past → (ℕ → Bool) → Past
 dirtied p dirty = record p { is_dirty = dirty }
 
-module _ (x y : Known) (d e : Device) (s : Setting) (p : Past) (n : ℕ) (was : HasClean x d s p n) where
+module _ (o : Device) (x y : Known) (d e : Device) (s : Setting) (p : Past) (n : ℕ) (was : HasClean o x d s p n) (layout : y.layout ≡ x.layout) (runs : x.has_failed ≡ false) (shown : LeavesOnly d e (ShowsPast x.layout s (dirtied p was.dirty))) where
   -- the past as it is now
   abbrev now : Past
   now = dirtied p was.dirty
 
-  pub clean_done : (h : Home) → h ≡ Done → HasPast y s (after_home_step now h) e → AnswersHome s now h → HasClean y e s p s.fields
+  shown_so : LeavesOnly d e (ShowsStep x.layout s now Nothing)
+  shown_so = weaker d e (ShowsPast x.layout s now) (ShowsStep x.layout s now Nothing) (λ image shows. Shows shows) shown
+
+  ran_on : (q : Past) → HasRun y.layout s now d q e y.has_failed → HasRun y.layout s p o q e y.has_failed
+  ran_on q on = ran_then x.layout y.layout s p now q o d e x.has_failed y.has_failed layout was.ran (was.ran.whole runs) on
+
+  pub clean_done : (h : Home) → h ≡ Done → HasPast y s (after_home_step now h) e → AnswersHome s now h → HasClean o y e s p s.fields
   clean_done h is has clean = record {
     dirty = was.dirty;
     has = subst (λ k. HasPast y s (after_home_step now k) e) is has;
     clean = subst (λ k. AnswersHome s now k) is clean;
+    ran = ran_on now (ran_one x y s now d e layout was.has now HomeStep y.has_failed (Done, subst (λ k. AnswersHome s now k) is clean, refl) shown_so);
   }
 
-  pub clean_more : (h : Home) (f : FieldId) → h ≡ Wrote f → HasPast y s (after_home_step now h) e → AnswersHome s now h → HasClean y e s p (n + 1)
+  pub clean_more : (h : Home) (f : FieldId) → h ≡ Wrote f → HasPast y s (after_home_step now h) e → AnswersHome s now h → HasClean o y e s p (n + 1)
   clean_more h f is has answer =
       let least : IsLeastDirtyOf s now f.0 = subst (λ k. AnswersHome s now k) is answer in
       record {
@@ -69,10 +78,20 @@ module _ (x y : Known) (d e : Device) (s : Setting) (p : Past) (n : ℕ) (was : 
             ]
           ]
         ];
+        ran = ran_on (after_home_step now (Wrote f)) (ran_one x y s now d e layout was.has (after_home_step now (Wrote f)) HomeStep y.has_failed (Wrote f, subst (λ k. AnswersHome s now k) is answer, refl) shown_so);
       }
 
-  pub clean_kept : HasPast y s now e → HasClean y e s p 0
-  clean_kept has = record { dirty = was.dirty; has = has; clean = λ f lt. absurd (omega arith) }
+module _ (o : Device) (x y : Known) (d e : Device) (s : Setting) (p : Past) (n : ℕ) (was : HasClean o x d s p n) (layout : y.layout ≡ x.layout) where
+  -- whatever was refused: nothing was cut off before, but where the store had failed, and then nothing was called
+  pub clean_kept : was.ran.cut_off ≡ [] → (y.has_failed ≡ true) ⊎ (e ≡ d) → LeavesOnly d e (ShowsPast x.layout s (dirtied p was.dirty)) → HasPast y s (dirtied p was.dirty) e → HasClean o y e s p 0
+  clean_kept none why shown has = record {
+    dirty = was.dirty;
+    has = has;
+    clean = λ f lt. absurd (omega arith);
+    ran = ran_then x.layout y.layout s p (dirtied p was.dirty) (dirtied p was.dirty) o d e x.has_failed y.has_failed layout was.ran none
+        (ran_refused x y s (dirtied p was.dirty) d e layout was.has HomeStep tt why
+        (weaker d e (ShowsPast x.layout s (dirtied p was.dirty)) (ShowsStep x.layout s (dirtied p was.dirty) Nothing) (λ image shows. Shows shows) shown));
+  }
 
 -- why the helper stops
 pub stops_home : (x : Known) (e : StoreError) → RefusesHome x e → IsStop e
@@ -113,34 +132,53 @@ stops_settle x s p Unfinished clean h = elim h [ ]
 
 -- the stable cut has what was acknowledged
 module _ (x y : Known) (d e : Device) (s : Setting) (p : Past) where
-  pub same_stay : HasPast y s p e → HasSame y e s p
-  same_stay has = record { now = p; has = has; same = refl; cut = λ l. omega arith; places = λ l. omega arith }
+  pub same_stay : HasPast y s p e → HasRun y.layout s p d p e y.has_failed → HasSame d y e s p
+  same_stay has ran = record { now = p; has = has; same = refl; cut = λ l. omega arith; places = λ l. omega arith; ran = ran }
 
-  pub same_dirtied : (dirty : ℕ → Bool) → IsPast s p → HasPast y s (dirtied (after_log p) dirty) e → HasSame y e s p
-  same_dirtied dirty was has = record {
+  pub same_dirtied : (dirty : ℕ → Bool) → IsPast s p → HasPast y s (dirtied (after_log p) dirty) e → HasRun y.layout s p d (dirtied (after_log p) dirty) e y.has_failed → HasSame d y e s p
+  same_dirtied dirty was has ran = record {
     now = dirtied (after_log p) dirty;
     has = has;
     same = refl;
     cut = λ l. omega arith;
     places = λ l. omega (arith, places_grown (p.base l) p.fresh p.logged l (was.base_whole l));
+    ran = ran;
   }
 
-  pub same_clean : (n : ℕ) → IsPast s p → HasClean y e s (after_log p) n → HasSame y e s p
-  same_clean n is was = same_dirtied was.dirty is was.has
-
-  pub settled_now : StayLaw → IsPast s p → (was : HasClean x d s (after_log p) s.fields) (cut : ℕ → ℕ) → IsStable (actions (applied p)) cut → HasPast y s (after_settle (dirtied (after_log p) was.dirty) cut) e →
-      (h : HasSame y e s p) × IsSettled s h.now
-  settled_now stay had was cut stable has =
+  pub settled_now : StayLaw → IsPast s p → (dirty : ℕ → Bool) → ((f : ℕ) → f < s.fields → dirty f ≡ false) → (cut : ℕ → ℕ) → IsStable (actions (applied p)) cut → HasPast y s (after_settle (dirtied (after_log p) dirty) cut) e →
+      HasRun y.layout s p d (after_settle (dirtied (after_log p) dirty) cut) e y.has_failed → (h : HasSame d y e s p) × IsSettled s h.now
+  settled_now stay had dirty clean cut stable has ran =
       let stays = stay s p.fresh p.logged p.cut had.legal had.whole had.closed in (
         record {
-          now = after_settle (dirtied (after_log p) was.dirty) cut;
+          now = after_settle (dirtied (after_log p) dirty) cut;
           has = has;
           same = refl;
           cut = λ l. stable.greatest p.cut stays.0 stays.1 l;
           places = λ l. omega (arith, places_grown (p.base l) p.fresh p.logged l (had.base_whole l));
+          ran = ran;
         },
-        record { logged = refl; clean = was.clean; stable = stable },
+        record { logged = refl; clean = clean; stable = stable },
       )
+
+-- the records were logged, and then the store went on
+pub logged_then : (x y z : Known) (s : Setting) (p : Past) (d e f : Device) → y.layout ≡ x.layout → z.layout ≡ y.layout → HasPast x s p d → LeavesOnly d e (ShowsStep x.layout s p Logging) → (q : Past) → HasRun z.layout s (after_log p) e q f z.has_failed →
+    HasRun z.layout s p d q f z.has_failed
+logged_then x y z s p d e f first second has shown q on =
+    let log : HasRun y.layout s p d (after_log p) e false = ran_one x y s p d e first has (after_log p) Log false refl shown in
+    ran_then y.layout z.layout s p (after_log p) q d e f false z.has_failed second log (log.whole refl) on
+
+-- and the values were written home before that
+pub homes_then : (x y z w : Known) (s : Setting) (p : Past) (d e f g : Device) (n : ℕ) → y.layout ≡ x.layout → z.layout ≡ y.layout → w.layout ≡ z.layout → HasPast x s p d → LeavesOnly d e (ShowsStep x.layout s p Logging) → (was : HasClean e z f s (after_log p) n) →
+    z.has_failed ≡ false → (q : Past) → HasRun w.layout s (dirtied (after_log p) was.dirty) f q g w.has_failed → HasRun w.layout s p d q g w.has_failed
+homes_then x y z w s p d e f g n first second third has shown was runs q on =
+    logged_then x y w s p d e g first (third ∙ second) has shown q
+    (ran_then z.layout w.layout s (after_log p) (dirtied (after_log p) was.dirty) q e f g z.has_failed w.has_failed third was.ran (was.ran.whole runs) on)
+
+-- where the last call is refused
+pub refused_then : {D T : Type 0} (device : D → Device) (x y : stores.Parts D) (r : Result T StoreError) (P Q : Type 0) → IfErr r (λ e. (e ≡ Fault) ⊎ (y ≡ x)) → (IsErrOf r Fault → y.known.has_failed ≡ true) →
+    ((y.known.has_failed ≡ true) ⊎ (device y.disk ≡ device x.disk) → P → Q) → OnErr r P → OnErr r Q
+refused_then device x y (Ok t) P Q refused failed more h = tt
+refused_then device x y (Err e) P Q refused failed more h = more (failed_or_still device x y (Err e) e refl refused failed) h
 
 module _ {T E : Type 0} where
   pub ok_weaker : (r : Result T E) (P Q : Type 0) → (P → Q) → OnOk r P → OnOk r Q

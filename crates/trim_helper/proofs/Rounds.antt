@@ -11,8 +11,10 @@ use Rattle.block_disk.proofs.Images.{begin}
 use Rattle.image.specs.declared.layout.Layout.{Layout}
 use Rattle.store_image.specs.KeptHeap.{StandsForCut}
 use Rattle.store_image.proofs.Stands.{stands_always}
-use Rattle.store_past.specs.Past.{Past, IsTrimmed, applied}
+use Rattle.store_past.specs.Past.{Past, IsPast, IsTrimmed, applied}
+use Rattle.durable.specs.Runs.{HasRun}
 use Rattle.durable.specs.Store.{Known, HasPast}
+use Rattle.durable.proofs.Running.{ran_applied, ran_less, ran_none, ran_then}
 use Rattle.heap_model.specs.declared.limits.TheConstants.{RING_RECORDS}
 use Rattle.trim_helper.specs.Rings.{received_of, known_of, held_back, waiting_in, stream}
 use Rattle.trim_helper.specs.Moves.{Looks, SameRings, most_room}
@@ -50,6 +52,20 @@ rests_by x d s p log has runs settled same =
     let logged : p.logged ≡ applied p = ap (λ (xs : List (ℕ × Record)). xs ++ p.logged) (sym settled.logged) in
     subst (λ (xs : List (ℕ × Record)). Always d (StandsForCut x.layout s xs p.cut)) (logged ∙ same) (stands_always x.layout s p x.committed d (has.agrees runs))
 
+-- so many records were applied, and the device wasn't called
+pub applied_ran : (l : Layout) (s : Setting) (p : Past) (d e : Device) (newer : List (ℕ × Record)) (failed : Bool) → e ≡ d → IsPast s (applied_more newer p) → HasRun l s p d (applied_more newer p) e failed
+applied_ran l s p d e newer failed same is = subst (λ (f : Device). HasRun l s p d (applied_more newer p) f failed) (sym same) (ran_applied l s p d newer failed is.legal)
+
+-- and then other calls were made
+pub applied_then : (l m : Layout) (s : Setting) (p q : Past) (d e f : Device) (newer : List (ℕ × Record)) (failed : Bool) → e ≡ d → IsPast s (applied_more newer p) → m ≡ l → HasRun m s (applied_more newer p) e q f failed → HasRun m s p d q f failed
+applied_then l m s p q d e f newer failed same is layout on =
+    let before = applied_ran l s p d e newer false same is in
+    ran_then l m s p (applied_more newer p) q d e f false failed layout before (before.whole refl) on
+
+-- and the store goes on
+pub settled_then : (l m : Layout) (s : Setting) (p q : Past) (d e f : Device) (newer : List (ℕ × Record)) (failed : Bool) → failed ≡ false → e ≡ d → IsPast s (applied_more newer p) → m ≡ l → HasRun m s (applied_more newer p) e q f failed → HasRun m s p d q f false
+settled_then l m s p q d e f newer failed runs same is layout on = subst (λ (b : Bool). HasRun m s p d q f b) runs (applied_then l m s p q d e f newer failed same is layout on)
+
 module _ {A P : Type 0} where
   pub looks_taken : (x : Known) (d : Device) (r0 r1 : List (Consumer Record A P)) (w : List (Option Record)) (s : Setting) (p : Past) → Looks r0 r1 → HasTaken x d r0 w s p → HasTaken x d r1 w s p
   looks_taken x d r0 r1 w s p looks was = record { has = was.has; taken = λ l. looks.received l ∙ was.taken l }
@@ -82,6 +98,7 @@ module _ {A P : Type 0} where
           trimmed = λ is. was.trimmed (quiet is).0;
           published = λ is l lt. was.published (quiet is).0 l (omega arith);
         };
+        ran = applied_ran x'.layout s p d d' now.0 x'.has_failed drains.advances.device now.2.has.past;
         rests = λ is.
             let q = quiet is in
             rests_by x' d' s (applied_more now.0 p) (now.0 ++ applied p) now.2.has (drains.advances.running ∙ was.running q.0) (subst (λ xs. IsSettled s (applied_more xs p)) (sym (none_of now.0 (now.1 ∙ q.1))) (was.settled q.0)) (append_assoc now.0 p.fresh p.logged);
@@ -89,15 +106,15 @@ module _ {A P : Type 0} where
       }
 
   -- the store goes on with the same records
-  pub same_taken : (x x' : Known) (d d' : Device) (r : List (Consumer Record A P)) (w : List (Option Record)) (s : Setting) (p : Past) → HasTaken x d r w s p → (h : HasSame x' d' s p) → HasTaken x' d' r w s h.now
+  pub same_taken : (x x' : Known) (d d' : Device) (r : List (Consumer Record A P)) (w : List (Option Record)) (s : Setting) (p : Past) → HasTaken x d r w s p → (h : HasSame d x' d' s p) → HasTaken x' d' r w s h.now
   same_taken x x' d d' r w s p was h = record {
     has = h.has;
     taken = λ l. was.taken l ∙ ap (λ (xs : List (ℕ × Record)). stream l xs ++ held_back (waiting_in w l)) (sym h.same);
   }
 
-  pub same_served : (d0 : Device) (x x' : Known) (d d' : Device) (r : List (Consumer Record A P)) (w : List (Option Record)) (b : Bool) (count place : ℕ → ℕ) (s : Setting) (p : Past) (n : ℕ) → x'.layout ≡ x.layout → (was : Served d0 x d r w b count place s p n) → HasSame x' d' s was.now →
-      LeavesOnly d0 d' (StandsForRound x.layout s (was.newer ++ applied p) p.cut) → Served d0 x' d' r w false count place s p n
-  same_served d0 x x' d d' r w b count place s p n layout was h moments =
+  pub same_served : (d0 : Device) (x x' : Known) (d d' : Device) (r : List (Consumer Record A P)) (w : List (Option Record)) (b : Bool) (count place : ℕ → ℕ) (s : Setting) (p : Past) (n : ℕ) → x'.layout ≡ x.layout → (was : Served d0 x d r w b count place s p n) → (h : HasSame d x' d' s was.now) →
+      HasRun x'.layout s p d0 h.now d' x'.has_failed → LeavesOnly d0 d' (StandsForRound x.layout s (was.newer ++ applied p) p.cut) → Served d0 x' d' r w false count place s p n
+  same_served d0 x x' d d' r w b count place s p n layout was h ran moments =
       let lanes : x'.layout.lanes ≡ x.layout.lanes = ap (λ l. l.lanes) layout in
       record {
         newer = was.newer;
@@ -115,14 +132,15 @@ module _ {A P : Type 0} where
           trimmed = λ is. absurd (let no : false ≡ true = is in cc);
           published = λ is l lt. absurd (let no : false ≡ true = is in cc);
         };
+        ran = ran;
         rests = λ is. absurd (let no : false ≡ true = is in cc);
         moments = subst (λ l. LeavesOnly d0 d' (StandsForRound l s (was.newer ++ applied p) p.cut)) (sym layout) moments;
       }
 
   pub published_served : (d0 : Device) (x x' : Known) (d d' : Device) (r : List (Consumer Record A P)) (w : List (Option Record)) (b : Bool) (count place count' place' : ℕ → ℕ) (s : Setting) (p : Past) (n : ℕ) → x'.layout ≡ x.layout →
-      (was : Served d0 x d r w b count place s p n) → (h : HasSame x' d' s was.now) → x'.has_failed ≡ false → IsSettled s h.now → IsTrimmed h.now →
+      (was : Served d0 x d r w b count place s p n) → (h : HasSame d x' d' s was.now) → HasRun x'.layout s p d0 h.now d' x'.has_failed → x'.has_failed ≡ false → IsSettled s h.now → IsTrimmed h.now →
       ((l : ℕ) → l < x'.layout.lanes → (count' l ≡ h.now.cut l) × (place' l ≡ trimmed_of h.now l)) → LeavesOnly d0 d' (StandsForRound x.layout s (was.newer ++ applied p) p.cut) → Served d0 x' d' r w true count' place' s p n
-  published_served d0 x x' d d' r w b count place count' place' s p n layout was h runs settled trimmed published moments = record {
+  published_served d0 x x' d d' r w b count place count' place' s p n layout was h ran runs settled trimmed published moments = record {
     newer = was.newer;
     long = was.long;
     now = h.now;
@@ -138,6 +156,7 @@ module _ {A P : Type 0} where
       trimmed = λ is. trimmed;
       published = λ is l lt. published l lt;
     };
+    ran = ran;
     rests = λ is. rests_by x' d' s h.now (was.newer ++ applied p) h.has runs settled (h.same ∙ was.same);
     moments = subst (λ l. LeavesOnly d0 d' (StandsForRound l s (was.newer ++ applied p) p.cut)) (sym layout) moments;
   }
@@ -153,6 +172,7 @@ module _ {A P : Type 0} where
     cut = was.cut;
     places = was.places;
     serves = subst (λ (k : H). Serves x d r w b (count k) (place k) s was.now) (sym same) was.serves;
+    ran = was.ran;
     rests = was.rests;
     moments = was.moments;
   }
@@ -182,19 +202,33 @@ pub taken_follows : {A P : Type 0} (x : Known) (d : Device) (r : List (Consumer 
 taken_follows x d r w s p was = λ l.
     (held_back (waiting_in w l) ++ known_of r l, ap (λ (xs : List Record). xs ++ known_of r l) (was.taken l) ∙ append_assoc (stream l (applied p)) (held_back (waiting_in w l)) (known_of r l))
 
-pub stood_round : {A P : Type 0} (x x' : Known) (d d' : Device) (r0 r1 : List (Consumer Record A P)) (w0 w1 : List (Option Record)) (n : ℕ) (s : Setting) (p : Past) (e : Device) (ended : List Ended) → (drains : Drains x d r0 w0 x' d' r1 w1 n) → (taken : HasTaken x d r0 w0 s p) →
-    ((log : List (ℕ × Record)) → Follows r1 log → AreSent ended log) → ((s : Setting) (p : Past) → HasPast x' s p d' → LeavesOnly d' e (StandsForRound x'.layout s (applied p) p.cut)) → Stood x.layout s p ended d e
-stood_round x x' d d' r0 r1 w0 w1 n s p e ended drains taken meets moment =
+pub stood_round : {A P : Type 0} (x x' x2 : Known) (d d' : Device) (r0 r1 : List (Consumer Record A P)) (w0 w1 : List (Option Record)) (n : ℕ) (s : Setting) (p : Past) (e : Device) (ended : List Ended) → (drains : Drains x d r0 w0 x' d' r1 w1 n) → (taken : HasTaken x d r0 w0 s p) →
+    ((log : List (ℕ × Record)) → Follows r1 log → AreSent ended log) → x2.layout ≡ x'.layout → ((s : Setting) (p : Past) → HasPast x' s p d' → HasSame d' x2 e s p) →
+    ((s : Setting) (p : Past) → HasPast x' s p d' → LeavesOnly d' e (StandsForRound x'.layout s (applied p) p.cut)) → Stood x.layout s p ended d e
+stood_round x x' x2 d d' r0 r1 w0 w1 n s p e ended drains taken meets layout same moment =
     let now = drains_taken x x' d d' r0 r1 w0 w1 n s p drains taken in
+    let h = same s (applied_more now.0 p) now.2.has in
+    let ran : HasRun x2.layout s p d h.now e true = applied_then x'.layout x2.layout s p h.now d d' e now.0 true drains.advances.device now.2.has.past layout (ran_less x2.layout s (applied_more now.0 p) h.now d' e x2.has_failed h.ran) in
     record {
       newer = now.0;
       legal = subst (IsLegal s) (append_assoc now.0 p.fresh p.logged) now.2.has.past.legal;
       sent = λ none complete. meets (now.0 ++ applied p) (subst (λ (log : List (ℕ × Record)). Follows r1 log) (append_assoc now.0 p.fresh p.logged) (taken_follows x' d' r1 w1 s (applied_more now.0 p) now.2));
+      then = h.now;
+      same = h.same ∙ append_assoc now.0 p.fresh p.logged;
+      ran = subst (λ (l : Layout). HasRun l s p d h.now e true) (layout ∙ drains.advances.layout) ran;
       leaves = subst (λ l. LeavesOnly d e (StandsForRound l s (now.0 ++ applied p) p.cut)) drains.advances.layout (moment_round x x' d d' r0 r1 w0 w1 n s p e drains taken moment);
     }
 
 pub stood_still : (l : Layout) (s : Setting) (p : Past) (ended : List Ended) (d e : Device) → IsLegal s (applied p) → (HoldNone ended → IsComplete l.lanes ended → AreSent ended (applied p)) → e ≡ d → Stood l s p ended d e
-stood_still l s p ended d e legal sent same = record { newer = []; legal = legal; sent = sent; leaves = moment_drained d e l s (applied p) p.cut same }
+stood_still l s p ended d e legal sent same = record {
+  newer = [];
+  legal = legal;
+  sent = sent;
+  then = p;
+  same = refl;
+  ran = subst (λ (f : Device). HasRun l s p d p f true) (sym same) (ran_none l s p d true);
+  leaves = moment_drained d e l s (applied p) p.cut same;
+}
 
 -- whatever a drain answered, the helper goes on
 pub drains_either : {A P E : Type 0} (x x' : Known) (d d' : Device) (r0 r1 : List (Consumer Record A P)) (w0 w1 : List (Option Record)) (b b' : Bool) (count place : ℕ → ℕ) (s : Setting) (p : Past) (answer : Result ℕ E) → IfOk answer (λ n. Drains x d r0 w0 x' d' r1 w1 n) →

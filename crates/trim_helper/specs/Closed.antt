@@ -1,5 +1,5 @@
 -- What stands once both ends have met.
-use Rattle.std.specs.Prelude.{ℕ, ◌≡◌, ◌<◌, ◌≤◌, ◌++◌, List, All, Result, Ok, Err}
+use Rattle.std.specs.Prelude.{ℕ, ◌≡◌, ◌<◌, ◌≤◌, ◌++◌, true, false, List, All, Result, Ok, Err}
 use Rattle.rtrb.specs.Ring.{sent}
 use Rattle.heap_model.specs.declared.event.Event.{Event}
 use Rattle.heap_model.specs.Setting.{Setting}
@@ -9,7 +9,8 @@ use Rattle.heap_model.specs.Cuts.{all_ended}
 use Rattle.block_disk.specs.Device.{Device}
 use Rattle.block_disk.specs.Images.{Always, LeavesOnly}
 use Rattle.heap_model.specs.declared.record.Record.{Record}
-use Rattle.heap_model.specs.Log.{IsLegal}
+use Rattle.heap_model.specs.Log.{IsLegal, lane}
+use Rattle.durable.specs.Runs.{HasRun, IsLeftBy}
 use Rattle.store_past.specs.Past.{Past, applied}
 use Rattle.trim_helper.specs.Settled.{StandsForRound}
 use Rattle.image.specs.declared.layout.Layout.{Layout}
@@ -21,20 +22,27 @@ use Rattle.trim_helper.specs.Serving.{Among, Part, IsOneHistory}
 use Rattle.trim_helper.specs.declared.ended.Ended.{Ended}
 use Rattle.trim_helper.specs.Endings.{HoldNone, IsComplete}
 use Rattle.trim_helper.specs.Rings.{stream}
+use Rattle.trim_helper.specs.Taken.{trimmed_of}
 
--- One legal history has these threads' views as its parts, and the device stands for its heap with all its sections, which is
--- the heap after it. None of them was told of more sections than were acknowledged, nor of a place past what was trimmed.
-pub record IsClosedDown (s : Setting) (lanes : ℕ) (l : Layout) (parts : List Part) (acknowledged trimmed : ℕ → ℕ) (d : Device) : Type 0 where
+-- One legal history has these threads' views as its parts, and the store calls that were made since have applied its logs, lane by
+-- lane. Whatever a crash leaves now, a store of that past leaves, so that recovery takes it, and it stands for the history's heap with
+-- all its sections, which is the heap after it. None of the threads was told of more sections than were acknowledged before, nor of a
+-- place past what was trimmed.
+pub record IsClosedDown (s : Setting) (lanes : ℕ) (l : Layout) (parts : List Part) (p : Past) (since d : Device) : Type 0 where
   pub history : List (ℕ × Event)
   pub one : IsOneHistory s lanes parts history
+  pub now : Past
+  pub ran : HasRun l s p since now d false
+  pub logs : (k : ℕ) → lane k (applied now) ≡ lane k (log_of s history)
+  pub left : Always d (IsLeftBy l s now)
   pub stands : Always d (StandsForCut l s (log_of s history) (all_ended (actions (log_of s history))))
   pub values : Always d (λ image. StandsFor l image (values_below (state_after s history).value l.fields))
-  pub told : (x : Part) → Among parts x → x.lane < lanes → x.count ≤ acknowledged x.lane
-  pub places : (x : Part) → Among parts x → x.lane < lanes → x.place ≤ trimmed x.lane
+  pub told : (x : Part) → Among parts x → x.lane < lanes → x.count ≤ p.cut x.lane
+  pub places : (x : Part) → Among parts x → x.lane < lanes → x.place ≤ trimmed_of p x.lane
 
 -- So it is, and the words at the end spell the state after that history.
-pub record HasSpelled (s : Setting) (lanes : ℕ) (l : Layout) (parts : List Part) (acknowledged trimmed : ℕ → ℕ) (d : Device) (words : Final) : Type 0 where
-  pub closed : IsClosedDown s lanes l parts acknowledged trimmed d
+pub record HasSpelled (s : Setting) (lanes : ℕ) (l : Layout) (parts : List Part) (p : Past) (since d : Device) (words : Final) : Type 0 where
+  pub closed : IsClosedDown s lanes l parts p since d
   pub spelled : Spells words (state_after s closed.history)
 
 -- the session sent the records that the log has of its lane, in their order, and maybe more
@@ -45,12 +53,16 @@ WasSent log e = (later : List Record) × (sent e.producer ≡ stream e.lane.0 lo
 abbrev pub AreSent : List Ended → List (ℕ × Record) → Type 0
 AreSent ended log = All (WasSent log) ended
 
--- Since the one moment a crash may have left what stands for the heap of what was acknowledged, or of the stable cut, of these records
--- and those applied since. Once the sessions were let meet, all of these are what they had sent.
+-- Some store calls were made since the one moment, and one may have been cut off by a fault. Whatever a crash left since then shows what
+-- some of them make of the past, so that recovery takes it, and stands for the heap of what was acknowledged, or of the stable cut, of
+-- these records and those applied since. Once the sessions were let meet, all of these are what they had sent.
 pub record Stood (l : Layout) (s : Setting) (p : Past) (ended : List Ended) (since now : Device) : Type 0 where
   pub newer : List (ℕ × Record)
   pub legal : IsLegal s (newer ++ applied p)
   pub sent : HoldNone ended → IsComplete l.lanes ended → AreSent ended (newer ++ applied p)
+  pub then : Past
+  pub same : applied then ≡ newer ++ applied p
+  pub ran : HasRun l s p since then now true
   pub leaves : LeavesOnly since now (StandsForRound l s (newer ++ applied p) p.cut)
 
 -- the device that is given back, whatever is answered

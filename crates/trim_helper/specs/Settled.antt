@@ -8,24 +8,27 @@ use Rattle.block_disk.specs.Device.{Device}
 use Rattle.image.specs.declared.layout.Layout.{Layout}
 use Rattle.store_image.specs.KeptHeap.{StandsForCut}
 use Rattle.store_past.specs.Past.{Past, applied}
+use Rattle.durable.specs.Runs.{HasRun}
 use Rattle.durable.specs.Store.{Known, HasPast}
 use Rattle.trim_helper.specs.Taken.{trimmed_of}
 use Rattle.store_past.specs.declared.error.StoreError.{StoreError}
 use Rattle.store_past.specs.declared.error.StoreError.TheVariants.{Failed, Worn, Fault}
 
--- No field is dirty but those past these; else the past is as it was.
-pub record HasClean (x : Known) (d : Device) (s : Setting) (p : Past) (fields : ℕ) : Type 0 where
+-- No field is dirty but those past these; else the past is as it was, and so many home steps were made since the first device.
+pub record HasClean (old : Device) (x : Known) (d : Device) (s : Setting) (p : Past) (fields : ℕ) : Type 0 where
   pub dirty : ℕ → Bool
   pub has : HasPast x s (record p { is_dirty = dirty }) d
   pub clean : (f : ℕ) → f < fields → dirty f ≡ false
+  pub ran : HasRun x.layout s p old (record p { is_dirty = dirty }) d x.has_failed
 
--- The same records were applied; what was acknowledged still is, and what was trimmed stays so.
-pub record HasSame (x : Known) (d : Device) (s : Setting) (p : Past) : Type 0 where
+-- By calls since the first device the same records were applied; what was acknowledged still is, and what was trimmed stays so.
+pub record HasSame (old : Device) (x : Known) (d : Device) (s : Setting) (p : Past) : Type 0 where
   pub now : Past
   pub has : HasPast x s now d
   pub same : applied now ≡ applied p
   pub cut : (l : ℕ) → p.cut l ≤ now.cut l
   pub places : (l : ℕ) → trimmed_of p l ≤ trimmed_of now l
+  pub ran : HasRun x.layout s p old now d x.has_failed
 
 -- All that was applied is logged and at home, and its stable cut is acknowledged.
 pub record IsSettled (s : Setting) (p : Past) : Type 0 where

@@ -104,7 +104,7 @@ fn finish<D: Disk>(
     requires complete { IsComplete store.old.known.layout.lanes ended.items }
     requires nothing { taken_in seat ≡ [] }
     ensures ok { (p : Past) → HasTaken store.old.known (D.device store.old.disk) rings.old waiting.old (setting_of shared.plan) p → ((l : ℕ) → l < store.old.known.layout.lanes → (count_published seat l ≤ p.cut l) × (place_published seat l ≤ trimmed_of p l))
-        → IfOk result (HasSpelled (setting_of shared.plan) shared.plan.lanes store.old.known.layout (parts_of ended.items) p.cut (trimmed_of p) (D.device store.new.disk)) }
+        → IfOk result (HasSpelled (setting_of shared.plan) shared.plan.lanes store.old.known.layout (parts_of ended.items) p (D.device store.old.disk) (D.device store.new.disk)) }
     ensures stop { IfErr result IsCloseStop }
     ensures failures { OnOk result ((D.device store.old.disk).failures ≤ (D.device store.new.disk).failures) }
     ensures why { (s : Setting) (p : Past) → HasTaken store.old.known (D.device store.old.disk) rings.old waiting.old s p
@@ -149,7 +149,7 @@ pub fn close_down<D: Disk>(
     requires ended { AreEnded shared helper.store.known.layout.capacity helper.rings ended.items }
     requires nothing { taken_in helper.seat ≡ [] }
     ensures ok { (p : Past) → IsServing D.device helper (setting_of shared.plan) p
-        → IfOk result (λ disk. IsClosedDown (setting_of shared.plan) shared.plan.lanes helper.store.known.layout (parts_of ended.items) p.cut (trimmed_of p) (D.device disk)) }
+        → IfOk result (λ disk. IsClosedDown (setting_of shared.plan) shared.plan.lanes helper.store.known.layout (parts_of ended.items) p (D.device helper.store.disk) (D.device disk)) }
     ensures refused { MatchResult result (λ disk. HoldNone ended.items × IsComplete helper.store.known.layout.lanes ended.items) (λ back. RefusesClosing helper.store.known.layout.lanes ended.items back.1) }
     ensures untouched { IfErr result (λ back. IsOfSessions back.1 → back.0 ≡ helper.store.disk) }
     ensures failed { helper.store.known.has_failed ≡ true → HoldNone ended.items → IsComplete helper.store.known.layout.lanes ended.items → IsErrAnd result (λ back. back.1 ≡ CloseError.Failed) }
@@ -173,7 +173,7 @@ fn close_serving<D: Disk>(
     requires ended { AreEnded shared helper.store.known.layout.capacity helper.rings.items ended.items }
     requires nothing { taken_in helper.seat ≡ [] }
     ensures ok { (p : Past) → Serves helper.store.known (D.device helper.store.disk) helper.rings.items helper.waiting helper.is_settled (count_published helper.seat) (place_published helper.seat) (setting_of shared.plan) p
-        → IfOk result (λ disk. IsClosedDown (setting_of shared.plan) shared.plan.lanes helper.store.known.layout (parts_of ended.items) p.cut (trimmed_of p) (D.device disk)) }
+        → IfOk result (λ disk. IsClosedDown (setting_of shared.plan) shared.plan.lanes helper.store.known.layout (parts_of ended.items) p (D.device helper.store.disk) (D.device disk)) }
     ensures refused { MatchResult result (λ disk. HoldNone ended.items × IsComplete helper.store.known.layout.lanes ended.items) (λ back. RefusesClosing helper.store.known.layout.lanes ended.items back.1) }
     ensures why { (s : Setting) (p : Past) → HasTaken helper.store.known (D.device helper.store.disk) helper.rings.items helper.waiting s p
         → IfErr result (λ back. IsCloseWhy helper.store.known (D.device helper.store.disk) (D.device back.0) back.1) }

@@ -15,8 +15,8 @@ use durable::{Home, Store, StoreError};
 
 // Writes each dirty field's logged value home.
 fn write_home<D: Disk>(store: &mut Store<D>) -> Result<(), StoreError>
-    ensures clean { (s : Setting) (p : Past) → HasPast store.old.known s p (D.device store.old.disk) → OnOk result (HasClean store.new.known (D.device store.new.disk) s p s.fields) }
-    ensures kept { (s : Setting) (p : Past) → HasPast store.old.known s p (D.device store.old.disk) → OnErr result (HasClean store.new.known (D.device store.new.disk) s p 0) }
+    ensures clean { (s : Setting) (p : Past) → HasPast store.old.known s p (D.device store.old.disk) → OnOk result (HasClean (D.device store.old.disk) store.new.known (D.device store.new.disk) s p s.fields) }
+    ensures kept { (s : Setting) (p : Past) → HasPast store.old.known s p (D.device store.old.disk) → OnErr result (HasClean (D.device store.old.disk) store.new.known (D.device store.new.disk) s p 0) }
     ensures stop { (s : Setting) (p : Past) → HasPast store.old.known s p (D.device store.old.disk) → IfErr result IsStop }
     ensures why { (s : Setting) (p : Past) → HasPast store.old.known s p (D.device store.old.disk) → IfErr result (λ e. (e ≡ Failed → store.old.known.has_failed ≡ true) × (e ≢ Worn)) }
     ensures running { OnOk result (store.new.known.has_failed ≡ store.old.known.has_failed) }
@@ -37,8 +37,8 @@ fn write_home<D: Disk>(store: &mut Store<D>) -> Result<(), StoreError>
 
 /// Logs what was applied, writes it home, and acknowledges its stable cut.
 pub fn settle_applied<D: Disk>(store: &mut Store<D>) -> Result<(), StoreError>
-    ensures settled { (s : Setting) (p : Past) → HasPast store.old.known s p (D.device store.old.disk) → OnOk result ((h : HasSame store.new.known (D.device store.new.disk) s p) × IsSettled s h.now) }
-    ensures kept { (s : Setting) (p : Past) → HasPast store.old.known s p (D.device store.old.disk) → OnErr result (HasSame store.new.known (D.device store.new.disk) s p) }
+    ensures settled { (s : Setting) (p : Past) → HasPast store.old.known s p (D.device store.old.disk) → OnOk result ((h : HasSame (D.device store.old.disk) store.new.known (D.device store.new.disk) s p) × IsSettled s h.now) }
+    ensures kept { (s : Setting) (p : Past) → HasPast store.old.known s p (D.device store.old.disk) → OnErr result (HasSame (D.device store.old.disk) store.new.known (D.device store.new.disk) s p) }
     ensures stop { (s : Setting) (p : Past) → HasPast store.old.known s p (D.device store.old.disk) → IfErr result IsStop }
     ensures why { (s : Setting) (p : Past) → HasPast store.old.known s p (D.device store.old.disk) → IfErr result (λ e. IsWhy store.old.known store.new.known e) }
     ensures failed { (s : Setting) (p : Past) → HasPast store.old.known s p (D.device store.old.disk) → store.old.known.has_failed ≡ true → IsErrOf result Failed }
@@ -61,8 +61,8 @@ pub fn settle_applied<D: Disk>(store: &mut Store<D>) -> Result<(), StoreError>
 /// Logs what was applied, writes it home, and then acknowledges its stable cut and forgets it, both at once. It takes six
 /// syncs.
 pub fn settle_and_trim<D: Disk>(store: &mut Store<D>) -> Result<(), StoreError>
-    ensures settled { (s : Setting) (p : Past) → HasPast store.old.known s p (D.device store.old.disk) → OnOk result ((h : HasSame store.new.known (D.device store.new.disk) s p) × IsSettled s h.now × IsTrimmed h.now) }
-    ensures kept { (s : Setting) (p : Past) → HasPast store.old.known s p (D.device store.old.disk) → OnErr result (HasSame store.new.known (D.device store.new.disk) s p) }
+    ensures settled { (s : Setting) (p : Past) → HasPast store.old.known s p (D.device store.old.disk) → OnOk result ((h : HasSame (D.device store.old.disk) store.new.known (D.device store.new.disk) s p) × IsSettled s h.now × IsTrimmed h.now) }
+    ensures kept { (s : Setting) (p : Past) → HasPast store.old.known s p (D.device store.old.disk) → OnErr result (HasSame (D.device store.old.disk) store.new.known (D.device store.new.disk) s p) }
     ensures stop { (s : Setting) (p : Past) → HasPast store.old.known s p (D.device store.old.disk) → IfErr result IsStop }
     ensures why { (s : Setting) (p : Past) → HasPast store.old.known s p (D.device store.old.disk) → IfErr result (λ e. IsWhy store.old.known store.new.known e) }
     ensures failed { (s : Setting) (p : Past) → HasPast store.old.known s p (D.device store.old.disk) → store.old.known.has_failed ≡ true → IsErrOf result Failed }

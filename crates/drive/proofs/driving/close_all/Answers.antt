@@ -16,7 +16,7 @@ returns-in-Ok-clause-cause g c =
     let l = c.args.helper.store.known.layout in
     let closed = device c.in-Ok.disk in
     weaker c.tell.result (λ back. StopsTelling closed (device back.0) back.1) (λ back. StopsBy c.args.shared l (device c.args.helper.store.disk) (device back.0) back.1)
-    (λ back stops. told_stops c.args.shared l (device c.args.helper.store.disk) closed (device back.0) c.args.ended.items back.1 c.requires.none c.requires.complete c.in-Ok.ensures.failures c.in-Ok.ensures.ok stops)
+    (λ back stops. told_stops c.args.shared l (device c.args.helper.store.disk) closed (device back.0) c.args.ended.items back.1 c.requires.none c.requires.complete c.in-Ok.ensures.failures c.in-Ok.ensures.ok c.accepted_law.ensures.accepted stops)
     c.tell.ensures.cause
 
 pub returns-in-Err-clause-cause : goal.returns-in-Err-clause-cause

@@ -1,4 +1,5 @@
-use Rattle.survival.proofs.Accepts.{left_always, accepted}
+use Rattle.durable.proofs.Running.{left_always}
+use Rattle.survival.proofs.Accepts.{accepted}
 use Rattle.survival.proofs.laws.accepted_law.Goals as goal
 
 pub returns-clause-left : goal.returns-clause-left

@@ -3,14 +3,14 @@ use Rattle.monitor.specs.Words.{setting_of}
 use Rattle.trim_helper.specs.Closed.{IsClosedDown, Stood, disk_of}
 use Rattle.trim_helper.specs.Endings.{HoldNone, IsCloseWhy, IsComplete, IsOfSessions, parts_of}
 use Rattle.trim_helper.specs.Parts.{IsServing}
-use Rattle.trim_helper.specs.Taken.{HasTaken, trimmed_of}
+use Rattle.trim_helper.specs.Taken.{HasTaken}
 use Rattle.trim_helper.specs.declared.close_error.CloseError.TheVariants.{Failed as CloseFailed}
 use Rattle.trim_helper.proofs.closing_down.close_down.Goals as goal
 
 pub returns-clause-ok : goal.returns-clause-ok
 returns-clause-ok g c = λ p has.
     let s = setting_of c.args.shared.plan in
-    subst (λ x. IfOk c.close_serving.result (λ disk. IsClosedDown s c.args.shared.plan.lanes x.store.known.layout (parts_of c.args.ended.items) p.cut (trimmed_of p) (g.D.Disk.device disk))) c.helper.view_is
+    subst (λ x. IfOk c.close_serving.result (λ disk. IsClosedDown s c.args.shared.plan.lanes x.store.known.layout (parts_of c.args.ended.items) p (g.D.Disk.device x.store.disk) (g.D.Disk.device disk))) c.helper.view_is
     (c.close_serving.ensures.ok p (subst (λ x. IsServing g.D.Disk.device x s p) (sym c.helper.view_is) has))
 
 pub returns-clause-any_moment : goal.returns-clause-any_moment

@@ -5,14 +5,14 @@ use Rattle.trim_helper.specs.Closed.{IsClosedDown, Stood}
 use Rattle.trim_helper.specs.Endings.{HoldNone, IsCloseWhy, IsComplete, RefusesEnded, parts_of}
 use Rattle.trim_helper.proofs.Gathering.{closing_refused, ended_refused}
 use Rattle.monitor.specs.Words.{setting_of}
-use Rattle.trim_helper.specs.Taken.{HasTaken, trimmed_of}
+use Rattle.trim_helper.specs.Taken.{HasTaken}
 use Rattle.trim_helper.proofs.ClosingReasons.{not_sessions}
 use Rattle.trim_helper.specs.declared.close_error.CloseError.TheVariants.{Failed as CloseFailed}
 use Rattle.trim_helper.proofs.closing_down.close_serving.Goals as goal
 
 pub returns-in-Ok-clause-ok : goal.returns-in-Ok-clause-ok
 returns-in-Ok-clause-ok g c = λ p has.
-    subst (λ disk. IsClosedDown (setting_of c.args.shared.plan) c.args.shared.plan.lanes c.args.helper.store.known.layout (parts_of c.args.ended.items) p.cut (trimmed_of p) (g.D.Disk.device disk)) (sym c.into_disk-in-Ok.ensures.disk)
+    subst (λ disk. IsClosedDown (setting_of c.args.shared.plan) c.args.shared.plan.lanes c.args.helper.store.known.layout (parts_of c.args.ended.items) p (g.D.Disk.device c.args.helper.store.disk) (g.D.Disk.device disk)) (sym c.into_disk-in-Ok.ensures.disk)
     (c.in-Ok.ensures.ok p (subst (λ rings. HasTaken c.args.helper.store.known (g.D.Disk.device c.args.helper.store.disk) rings c.args.helper.waiting (setting_of c.args.shared.plan) p) (sym c.deref_mut.ensures.value) has.taken) (λ l lt. (has.counts l lt, has.places l lt))).closed
 
 pub returns-in-Ok-clause-any_moment : goal.returns-in-Ok-clause-any_moment

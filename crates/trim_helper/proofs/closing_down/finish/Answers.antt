@@ -3,10 +3,10 @@ use Rattle.trim_helper.specs.Closed.{HasSpelled}
 use Rattle.monitor.specs.Words.{setting_of}
 use Rattle.trim_helper.specs.Helping.{place_published, taken_in}
 use Rattle.trim_helper.specs.Meeting.{HasPart}
-use Rattle.trim_helper.specs.Taken.{applied_more, trimmed_of}
+use Rattle.trim_helper.specs.Taken.{applied_more}
 use Rattle.block_disk.specs.Device.{HasFailed}
 use Rattle.trim_helper.proofs.ClosingReasons.{why_drained, why_settled}
-use Rattle.trim_helper.proofs.Rounds.{looks_drains, looks_taken, stood_round, stood_still, taken_follows}
+use Rattle.trim_helper.proofs.Rounds.{settled_then, looks_drains, looks_taken, stood_round, stood_still, taken_follows}
 use Rattle.trim_helper.proofs.Sent.{HasMet, are_sent}
 use Rattle.trim_helper.specs.Serving.{Among, Part}
 use Rattle.trim_helper.specs.Endings.{parts_of}
@@ -17,6 +17,7 @@ use Rattle.trim_helper.proofs.closing_down.finish.Goals as goal
 
 pub returns-clause-ok : goal.returns-clause-ok
 returns-clause-ok g c = λ p has places.
+    let s = setting_of c.args.shared.plan in
     let layout = c.layout-layout.ensures in
     let lanes : c.args.shared.plan.lanes ≡ c.args.store.now.known.layout.lanes = c.requires.lanes in
     let history = c.close-words.ensures.history in
@@ -30,13 +31,18 @@ returns-clause-ok g c = λ p has places.
     let free = all_free (setting_of c.args.shared.plan) c.args.shared.plan.lanes c.layout-layout.result.capacity (place_published c.meet.new.seat) (taken_in c.meet.new.seat) history.0 history.1 c.meet.new.rings c.meet.ensures.met present count
     c.log_law.ensures c.own_log_law.ensures in
     let settled = c.in_default-settle_applied.ensures.settled (setting_of c.args.shared.plan) (applied_more all.0 p) all.1.has in
-    subst (λ parts. HasSpelled (setting_of c.args.shared.plan) c.args.shared.plan.lanes c.args.store.now.known.layout parts p.cut (trimmed_of p) (g.D.Disk.device c.settle_applied.new.store.disk) c.close-words.result) c.meet.ensures.gathered
-    (subst (λ l. HasSpelled (setting_of c.args.shared.plan) c.args.shared.plan.lanes l (taken_in c.meet.new.seat) p.cut (trimmed_of p) (g.D.Disk.device c.settle_applied.new.store.disk) c.close-words.result) (c.settle_applied.ensures.layout ∙ c.in_default.ensures.advances.layout)
-    (has_spelled (setting_of c.args.shared.plan) c.args.shared.plan.lanes (taken_in c.meet.new.seat) history.0 history.1 c.log_law.ensures c.order_law.ensures c.all_kept_law.ensures c.stable_law.ensures.one (λ f. refl) c.close-words.result history.2 p.cut
+    let now = settled.0.now in
+    let on = c.in_default.ensures.advances in
+    let known = c.settle_applied.new.store.known in
+    let since = g.D.Disk.device c.args.store.now.disk in
+    let device = g.D.Disk.device c.settle_applied.new.store.disk in
+    let ran = settled_then _ known.layout s p now since _ device all.0 known.has_failed c.in_default-settle_applied.ensures.running on.device all.1.has.past c.settle_applied.ensures.layout settled.0.ran in
+    subst (λ parts. HasSpelled s c.args.shared.plan.lanes c.args.store.now.known.layout parts p since device c.close-words.result) c.meet.ensures.gathered
+    (subst (λ l. HasSpelled s c.args.shared.plan.lanes l (taken_in c.meet.new.seat) p since device c.close-words.result) (c.settle_applied.ensures.layout ∙ on.layout)
+    (has_spelled s c.args.shared.plan.lanes (taken_in c.meet.new.seat) history.0 history.1 c.log_law.ensures c.order_law.ensures c.all_kept_law.ensures c.stable_law.ensures.one (λ f. refl) c.close-words.result history.2 p
     (λ x among lt. let counts = c.meet.ensures.count x.lane in omega (arith, (c.close-words.ensures.read x among).0, (places x.lane (omega arith)).0))
-    (trimmed_of p)
     (λ x among lt. let place = c.meet.ensures.place x.lane in omega (arith, (c.close-words.ensures.read x among).1, (places x.lane (omega arith)).1))
-    c.settle_applied.new.store.known (g.D.Disk.device c.settle_applied.new.store.disk) settled.0.now settled.0.has c.in_default-settle_applied.ensures.running settled.1 (same_lanes _ _ _ settled.0.same all.2) free))
+    known since device now ran settled.0.has c.in_default-settle_applied.ensures.running settled.1 (same_lanes _ _ _ settled.0.same all.2) free))
 
 pub returns-in-Err-clause-any_moment : goal.returns-in-Err-clause-any_moment
 returns-in-Err-clause-any_moment g c = λ s p has.
@@ -49,15 +55,17 @@ pub returns-in-Err-settle_applied-clause-any_moment : goal.returns-in-Err-settle
 returns-in-Err-settle_applied-clause-any_moment g c = λ s p has.
     let on = c.in_default.ensures.advances in
     let each : (x : Part) → Among (parts_of c.args.ended.items) x → HasMet c.args.shared c.drain_known.new.rings x = λ x among. on.whole x.lane ∙ c.meet.ensures.met.whole x (subst (λ parts. Among parts x) (sym c.meet.ensures.gathered) among) in
-    stood_round _ _ _ _ _ _ _ _ _ s p _ c.args.ended.items (looks_drains _ _ _ _ _ c.meet.new.rings _ _ _ _ c.requires.room c.meet.ensures.looks on) has
-    (λ log follows. are_sent c.args.shared _ c.args.rings.now c.drain_known.new.rings c.args.ended.items log c.requires.ended each follows) c.in-Err-settle_applied.ensures.any_moment
+    stood_round _ _ c.settle_applied.new.store.known _ _ _ _ _ _ _ s p _ c.args.ended.items (looks_drains _ _ _ _ _ c.meet.new.rings _ _ _ _ c.requires.room c.meet.ensures.looks on) has
+    (λ log follows. are_sent c.args.shared _ c.args.rings.now c.drain_known.new.rings c.args.ended.items log c.requires.ended each follows) c.settle_applied.ensures.layout
+    c.in-Err-settle_applied.ensures.kept c.in-Err-settle_applied.ensures.any_moment
 
 pub returns-clause-any_moment : goal.returns-clause-any_moment
 returns-clause-any_moment g c = λ s p has.
     let on = c.in_default.ensures.advances in
     let each : (x : Part) → Among (parts_of c.args.ended.items) x → HasMet c.args.shared c.drain_known.new.rings x = λ x among. on.whole x.lane ∙ c.meet.ensures.met.whole x (subst (λ parts. Among parts x) (sym c.meet.ensures.gathered) among) in
-    stood_round _ _ _ _ _ _ _ _ _ s p _ c.args.ended.items (looks_drains _ _ _ _ _ c.meet.new.rings _ _ _ _ c.requires.room c.meet.ensures.looks on) has
-    (λ log follows. are_sent c.args.shared _ c.args.rings.now c.drain_known.new.rings c.args.ended.items log c.requires.ended each follows) c.in_default-settle_applied.ensures.any_moment
+    stood_round _ _ c.settle_applied.new.store.known _ _ _ _ _ _ _ s p _ c.args.ended.items (looks_drains _ _ _ _ _ c.meet.new.rings _ _ _ _ c.requires.room c.meet.ensures.looks on) has
+    (λ log follows. are_sent c.args.shared _ c.args.rings.now c.drain_known.new.rings c.args.ended.items log c.requires.ended each follows) c.settle_applied.ensures.layout
+    (λ s p has. (c.in_default-settle_applied.ensures.settled s p has).0) c.in_default-settle_applied.ensures.any_moment
 
 pub returns-in-Err-clause-why : goal.returns-in-Err-clause-why
 returns-in-Err-clause-why g c = λ s p taken.

@@ -1,21 +1,30 @@
 use Rattle.std.proofs.Common.{◌∙◌, ◌≡◌, Err, true, false, refl, sym, ap, inl, inr, ⊎_elim, arith}
 use Rattle.heap_model.specs.Sections.{actions}
-use Rattle.store_past.specs.Past.{IsTrimmed, applied, after_log}
+use Rattle.store_past.specs.Past.{IsTrimmed, applied, after_log, after_settle, after_trim}
 use Rattle.trim_helper.specs.Settled.{HasSame, IsSettled, IsStop}
 use Rattle.durable.specs.Calls.{RefusesSettle}
-use Rattle.trim_helper.proofs.Homes.{round_logs, round_homes, round_settles, passed_on, same_stay, same_dirtied, same_clean, dirtied, stops_log, stops_settle, ok_weaker, err_weaker, if_err_match, if_err_more, failed_log, why_log, why_settle}
+use Rattle.trim_helper.proofs.Homes.{round_logs, round_homes, round_settles, passed_on, logged_then, homes_then, refused_then, same_stay, same_dirtied, dirtied, stops_log, stops_settle, ok_weaker, if_err_match, if_err_more, failed_log, why_log, why_settle}
 use Rattle.trim_helper.proofs.Trims.{acknowledged_now}
 use Rattle.block_disk.proofs.Failures.{cause_since}
+use Rattle.durable.proofs.Running.{failed_or_still, ran_both, ran_both_refused, ran_refused}
+use Rattle.durable.specs.declared.store_call.StoreCall.TheVariants.{Log}
 use Rattle.trim_helper.proofs.settling.settle_and_trim.Goals as goal
 
 pub returns-in-Err-clause-kept : goal.returns-in-Err-clause-kept
-returns-in-Err-clause-kept g c = λ s p has. same_stay c.args.store.now.known _ (g.D.Disk.device c.args.store.now.disk) _ s p (c.in-Err.ensures.kept s p has)
+returns-in-Err-clause-kept g c = λ s p has.
+    let x = c.args.store.now in
+    let y = c.log_at_once.new.self in
+    let why = failed_or_still g.D.Disk.device x y c.log_at_once.result c.in-Err.reason c.in-Err.is c.in-Err.ensures.refused c.log_at_once.ensures.failed in
+    same_stay x.known y.known (g.D.Disk.device x.disk) (g.D.Disk.device y.disk) s p (c.in-Err.ensures.kept s p has) (ran_refused x.known y.known s p _ _ c.log_at_once.ensures.layout has Log tt why (c.log_at_once.ensures.shown s p has))
 
 pub returns-in-Err-clause-stop : goal.returns-in-Err-clause-stop
 returns-in-Err-clause-stop g c = λ s p has. stops_log c.args.store.now.known p c.in-Err.reason (c.in-Err.ensures.answer s p has)
 
 pub returns-in-Err-write_home-clause-kept : goal.returns-in-Err-write_home-clause-kept
-returns-in-Err-write_home-clause-kept g c = λ s p has. same_clean c.args.store.now.known _ (g.D.Disk.device c.args.store.now.disk) _ s p 0 has.past (c.in-Err-write_home.ensures.kept s (after_log p) (c.in_default.ensures.ok s p has))
+returns-in-Err-write_home-clause-kept g c = λ s p has.
+    let was = c.in-Err-write_home.ensures.kept s (after_log p) (c.in_default.ensures.ok s p has) in
+    same_dirtied c.args.store.now.known c.write_home.new.store.known (g.D.Disk.device c.args.store.now.disk) (g.D.Disk.device c.write_home.new.store.disk) s p was.dirty has.past was.has
+    (logged_then c.args.store.now.known c.log_at_once.new.self.known c.write_home.new.store.known s p _ _ _ c.log_at_once.ensures.layout c.write_home.ensures.layout has (c.log_at_once.ensures.shown s p has) _ was.ran)
 
 pub returns-in-Err-write_home-clause-stop : goal.returns-in-Err-write_home-clause-stop
 returns-in-Err-write_home-clause-stop g c = λ s p has. c.in-Err-write_home.ensures.stop s (after_log p) (c.in_default.ensures.ok s p has)
@@ -24,16 +33,34 @@ pub returns-clause-settled : goal.returns-clause-settled
 returns-clause-settled g c = λ s p has.
     let was = c.in_default-write_home.ensures.clean s (after_log p) (c.in_default.ensures.ok s p has) in
     let cut = c.stable_law.ensures.exists (actions (applied p)) in
-    ok_weaker c.settle_and_trim.result _ ((h : HasSame c.settle_and_trim.new.self.known (g.D.Disk.device c.settle_and_trim.new.self.disk) s p) × IsSettled s h.now × IsTrimmed h.now)
-    (acknowledged_now _ _ _ _ s p c.stay_law.ensures has.past was cut.0 cut.1)
-    (c.settle_and_trim.ensures.ok s (dirtied (after_log p) was.dirty) cut.0 was.has cut.1)
+    let now = dirtied (after_log p) was.dirty in
+    let x = c.args.store.now in
+    let z = c.write_home.new.store.known in
+    let w = c.settle_and_trim.new.self.known in
+    let f = g.D.Disk.device c.write_home.new.store.disk in
+    let e = g.D.Disk.device c.settle_and_trim.new.self.disk in
+    ok_weaker c.settle_and_trim.result _ ((h : HasSame (g.D.Disk.device x.disk) w e s p) × IsSettled s h.now × IsTrimmed h.now)
+    (λ had. acknowledged_now w (g.D.Disk.device x.disk) e s p c.stay_law.ensures has.past was.dirty was.clean cut.0 cut.1 had
+    (homes_then x.known c.log_at_once.new.self.known z w s p _ _ f e _ c.log_at_once.ensures.layout c.write_home.ensures.layout c.settle_and_trim.ensures.layout has (c.log_at_once.ensures.shown s p has) was
+    (c.in_default-write_home.ensures.running ∙ c.in_default.ensures.running.1) (after_trim (after_settle now cut.0))
+    (ran_both z w s now f e c.settle_and_trim.ensures.layout was.has cut.0 w.has_failed was.clean cut.1 (c.settle_and_trim.ensures.shown s now was.has))))
+    (c.settle_and_trim.ensures.ok s now cut.0 was.has cut.1)
 
 pub returns-clause-kept : goal.returns-clause-kept
 returns-clause-kept g c = λ s p has.
     let was = c.in_default-write_home.ensures.clean s (after_log p) (c.in_default.ensures.ok s p has) in
-    err_weaker c.settle_and_trim.result _ (HasSame c.settle_and_trim.new.self.known (g.D.Disk.device c.settle_and_trim.new.self.disk) s p)
-    (λ had. same_dirtied c.args.store.now.known c.settle_and_trim.new.self.known (g.D.Disk.device c.args.store.now.disk) (g.D.Disk.device c.settle_and_trim.new.self.disk) s p was.dirty has.past had)
-    (c.settle_and_trim.ensures.kept s (dirtied (after_log p) was.dirty) was.has)
+    let now = dirtied (after_log p) was.dirty in
+    let x = c.args.store.now in
+    let z = c.write_home.new.store.known in
+    let w = c.settle_and_trim.new.self.known in
+    let f = g.D.Disk.device c.write_home.new.store.disk in
+    let e = g.D.Disk.device c.settle_and_trim.new.self.disk in
+    refused_then g.D.Disk.device c.write_home.new.store c.settle_and_trim.new.self c.settle_and_trim.result _ (HasSame (g.D.Disk.device x.disk) w e s p) c.settle_and_trim.ensures.refused c.settle_and_trim.ensures.failed
+    (λ why had. same_dirtied x.known w (g.D.Disk.device x.disk) e s p was.dirty has.past had
+    (homes_then x.known c.log_at_once.new.self.known z w s p _ _ f e _ c.log_at_once.ensures.layout c.write_home.ensures.layout c.settle_and_trim.ensures.layout has (c.log_at_once.ensures.shown s p has) was
+    (c.in_default-write_home.ensures.running ∙ c.in_default.ensures.running.1) now
+    (ran_both_refused z w s now f e c.settle_and_trim.ensures.layout was.has why (c.settle_and_trim.ensures.shown s now was.has))))
+    (c.settle_and_trim.ensures.kept s now was.has)
 
 pub returns-clause-stop : goal.returns-clause-stop
 returns-clause-stop g c = λ s p has.

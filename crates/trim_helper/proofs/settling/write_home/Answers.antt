@@ -1,5 +1,6 @@
 use Rattle.std.proofs.Common.{◌∙◌, ◌≡◌, ap, refl, sym, arith}
 use Rattle.block_disk.proofs.Images.{begin}
+use Rattle.durable.proofs.Running.{failed_or_still}
 use Rattle.store_image.specs.KeptHeap.{StandsForCut}
 use Rattle.trim_helper.proofs.Homes.{moment_more, no_fault, passed_on, clean_none, clean_most, clean_done, clean_more, clean_kept, dirtied, stops_home, why_home}
 use Rattle.trim_helper.proofs.settling.write_home.Goals as goal
@@ -9,20 +10,22 @@ loop-field-init g c = record { clean = λ s p has. clean_none _ _ s p has; momen
 
 pub returns-in-Ok-Done-clause-clean : goal.returns-in-Ok-Done-clause-clean
 returns-in-Ok-Done-clause-clean g c = λ s p has.
-    let was = c.loop-field.invariant.clean s p has in
-    clean_done _ _ _ _ s p _ was c.in-Ok-Done.field-0 c.in-Ok-Done.field-0-is (c.in-Ok-Done.ensures.ok s (dirtied p was.dirty) was.has) (c.in-Ok-Done.ensures.answer s (dirtied p was.dirty) was.has).1
+    let was = (c.loop-field.invariant.clean s p has).0 in
+    clean_done _ _ _ _ _ s p _ was c.home_step.ensures.layout c.in-Ok-Done.ensures.running.0 (c.home_step.ensures.shown s (dirtied p was.dirty) was.has) c.in-Ok-Done.field-0 c.in-Ok-Done.field-0-is (c.in-Ok-Done.ensures.ok s (dirtied p was.dirty) was.has) (c.in-Ok-Done.ensures.answer s (dirtied p was.dirty) was.has).1
 
 pub returns-in-Ok-Done-clause-layout : goal.returns-in-Ok-Done-clause-layout
 returns-in-Ok-Done-clause-layout g c = c.home_step.ensures.layout ∙ c.loop-field.invariant.layout
 
 pub returns-in-Err-clause-kept : goal.returns-in-Err-clause-kept
 returns-in-Err-clause-kept g c = λ s p has.
-    let was = c.loop-field.invariant.clean s p has in
-    clean_kept _ _ _ _ s p _ was (c.in-Err.ensures.kept s (dirtied p was.dirty) was.has)
+    let all = c.loop-field.invariant.clean s p has in
+    let was = all.0 in
+    clean_kept _ _ _ _ _ s p _ was c.home_step.ensures.layout all.1 (failed_or_still g.D.Disk.device c.loop-field.store c.home_step.new.self c.home_step.result c.in-Err.reason c.in-Err.is c.in-Err.ensures.refused c.home_step.ensures.failed)
+    (c.home_step.ensures.shown s (dirtied p was.dirty) was.has) (c.in-Err.ensures.kept s (dirtied p was.dirty) was.has)
 
 pub returns-in-Err-clause-stop : goal.returns-in-Err-clause-stop
 returns-in-Err-clause-stop g c = λ s p has.
-    let was = c.loop-field.invariant.clean s p has in
+    let was = (c.loop-field.invariant.clean s p has).0 in
     stops_home c.loop-field.store.known c.in-Err.reason (c.in-Err.ensures.answer s (dirtied p was.dirty) was.has)
 
 pub returns-in-Err-clause-layout : goal.returns-in-Err-clause-layout
@@ -31,10 +34,12 @@ returns-in-Err-clause-layout g c = c.home_step.ensures.layout ∙ c.loop-field.i
 pub loop-field-preserved : goal.loop-field-preserved
 loop-field-preserved g c = record {
   clean = λ s p has.
-      let was = c.loop-field.invariant.clean s p has in
-      clean_more _ _ _ _ s p _ was c.in-Ok-Wrote.field-0 c.in-Ok-Wrote.field-0-0 c.in-Ok-Wrote.field-0-is (c.in-Ok-Wrote.ensures.ok s (dirtied p was.dirty) was.has) (c.in-Ok-Wrote.ensures.answer s (dirtied p was.dirty) was.has).1;
+      let was = (c.loop-field.invariant.clean s p has).0 in
+      let more = clean_more _ _ _ _ _ s p _ was c.home_step.ensures.layout c.in-Ok-Wrote.ensures.running.0 (c.home_step.ensures.shown s (dirtied p was.dirty) was.has) c.in-Ok-Wrote.field-0 c.in-Ok-Wrote.field-0-0 c.in-Ok-Wrote.field-0-is
+      (c.in-Ok-Wrote.ensures.ok s (dirtied p was.dirty) was.has) (c.in-Ok-Wrote.ensures.answer s (dirtied p was.dirty) was.has).1 in
+      (more, more.ran.whole c.in-Ok-Wrote.ensures.running.1);
   moment = λ s p has.
-      let was = c.loop-field.invariant.clean s p has in
+      let was = (c.loop-field.invariant.clean s p has).0 in
       moment_more _ _ _ _ c.loop-field.store.known.layout s p.logged p.cut c.loop-field.invariant.layout (c.loop-field.invariant.moment s p has) (c.home_step.ensures.any_moment s (dirtied p was.dirty) was.has);
   later = omega (arith, c.loop-field.invariant.later, c.home_step.ensures.cause.later);
   running = c.in-Ok-Wrote.ensures.running.1 ∙ sym c.in-Ok-Wrote.ensures.running.0 ∙ c.loop-field.invariant.running;
@@ -43,24 +48,24 @@ loop-field-preserved g c = record {
 
 pub returns-clause-clean : goal.returns-clause-clean
 returns-clause-clean g c = λ s p has.
-    let was = c.loop-field.invariant.clean s p has in
+    let was = (c.loop-field.invariant.clean s p has).0 in
     let fields : s.fields ≡ c.loop-field.store.known.layout.fields = was.has.setting.fields in
     let same = c.loop-field.invariant.layout in
     let at : c.layout-fields.result.fields ≡ c.args.store.now.known.layout.fields = ap (λ l. l.fields) c.layout-fields.ensures in
     let now : c.loop-field.store.known.layout.fields ≡ c.args.store.now.known.layout.fields = ap (λ l. l.fields) same in
-    clean_most _ _ s p _ (omega (arith, c.loop-field-test.false)) was
+    clean_most _ _ _ s p _ (omega (arith, c.loop-field-test.false)) was
 
 pub returns-clause-layout : goal.returns-clause-layout
 returns-clause-layout g c = c.loop-field.invariant.layout
 
 pub returns-in-Ok-Done-clause-any_moment : goal.returns-in-Ok-Done-clause-any_moment
 returns-in-Ok-Done-clause-any_moment g c = λ s p has.
-    let was = c.loop-field.invariant.clean s p has in
+    let was = (c.loop-field.invariant.clean s p has).0 in
     moment_more _ _ _ _ c.loop-field.store.known.layout s p.logged p.cut c.loop-field.invariant.layout (c.loop-field.invariant.moment s p has) (c.home_step.ensures.any_moment s (dirtied p was.dirty) was.has)
 
 pub returns-in-Err-clause-any_moment : goal.returns-in-Err-clause-any_moment
 returns-in-Err-clause-any_moment g c = λ s p has.
-    let was = c.loop-field.invariant.clean s p has in
+    let was = (c.loop-field.invariant.clean s p has).0 in
     moment_more _ _ _ _ c.loop-field.store.known.layout s p.logged p.cut c.loop-field.invariant.layout (c.loop-field.invariant.moment s p has) (c.home_step.ensures.any_moment s (dirtied p was.dirty) was.has)
 
 pub returns-in-Ok-Done-clause-cause : goal.returns-in-Ok-Done-clause-cause
@@ -83,6 +88,6 @@ returns-clause-running g c = c.loop-field.invariant.running
 
 pub returns-in-Err-clause-why : goal.returns-in-Err-clause-why
 returns-in-Err-clause-why g c = λ s p has.
-    let was = c.loop-field.invariant.clean s p has in
+    let was = (c.loop-field.invariant.clean s p has).0 in
     let why = why_home c.loop-field.store.known c.in-Err.reason (c.in-Err.ensures.answer s (dirtied p was.dirty) was.has) in
     (λ is. sym c.loop-field.invariant.running ∙ why.0 is, why.1)

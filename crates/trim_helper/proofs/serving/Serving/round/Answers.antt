@@ -1,7 +1,7 @@
 use Rattle.std.proofs.Common.{◌≡◌, Err, true, false, ◌∙◌, sym, ap, arith}
 use Rattle.trim_helper.specs.Helping.{count_published, place_published}
 use Rattle.store_past.specs.declared.error.StoreError.TheVariants.{Failed, Worn}
-use Rattle.trim_helper.proofs.Rounds.{emptied_of, moment_round, known_settled, drains_served, same_served, published_served, moved_seat}
+use Rattle.trim_helper.proofs.Rounds.{emptied_of, moment_round, known_settled, drains_served, applied_then, same_served, published_served, moved_seat}
 use Rattle.trim_helper.proofs.serving.Serving.round.Goals as goal
 
 pub returns-in-Err-clause-err : goal.returns-in-Err-clause-err
@@ -22,9 +22,10 @@ returns-then-self-clause-ok g c = λ s p has.
 pub returns-in-Err-settle_and_trim-clause-err : goal.returns-in-Err-settle_and_trim-clause-err
 returns-in-Err-settle_and_trim-clause-err g c = λ s p has.
     let was = moved_seat count_published place_published _ _ _ _ _ false s p _ _ _ c.drain.ensures.seat
-    (drains_served _ _ _ _ _ _ _ _ _ _ false _ _ s p c.in-Ok.ensures.applied (λ is. absurd (let no : false ≡ true = is in cc)) has) in (
+    (drains_served _ _ _ _ _ _ _ _ _ _ false _ _ s p c.in-Ok.ensures.applied (λ is. absurd (let no : false ≡ true = is in cc)) has) in
+    let same = c.in-Err-settle_and_trim.ensures.kept s was.now was.serves.taken.has in (
       c.in-Ok.count,
-      same_served _ _ _ _ _ _ _ false _ _ s p _ c.settle_and_trim.ensures.layout was (c.in-Err-settle_and_trim.ensures.kept s was.now was.serves.taken.has)
+      same_served _ _ _ _ _ _ _ false _ _ s p _ c.settle_and_trim.ensures.layout was same (applied_then _ _ s p same.now _ _ _ was.newer _ c.in-Ok.ensures.applied.advances.device was.serves.taken.has.past c.settle_and_trim.ensures.layout same.ran)
           (moment_round _ _ _ _ _ _ _ _ _ s p _ c.in-Ok.ensures.applied has.taken c.in-Err-settle_and_trim.ensures.any_moment),
     )
 
@@ -48,7 +49,7 @@ returns-clause-ok g c = λ s p has.
     let was = moved_seat count_published place_published _ _ _ _ _ false s p _ _ _ c.drain.ensures.seat
     (drains_served _ _ _ _ _ _ _ _ _ _ false _ _ s p c.in-Ok.ensures.applied (λ is. absurd (let no : false ≡ true = is in cc)) has) in
     let h = c.in_default.ensures.settled s was.now was.serves.taken.has in
-    published_served _ _ _ _ _ _ _ false _ _ _ _ s p _ c.settle_and_trim.ensures.layout was h.0 c.in_default.ensures.running h.1 h.2 (c.publish_all.ensures.published s h.0.now h.0.has)
+    published_served _ _ _ _ _ _ _ false _ _ _ _ s p _ c.settle_and_trim.ensures.layout was h.0 (applied_then _ _ s p h.0.now _ _ _ was.newer _ c.in-Ok.ensures.applied.advances.device was.serves.taken.has.past c.settle_and_trim.ensures.layout h.0.ran) c.in_default.ensures.running h.1 h.2 (c.publish_all.ensures.published s h.0.now h.0.has)
     (moment_round _ _ _ _ _ _ _ _ _ s p _ c.in-Ok.ensures.applied has.taken c.in_default.ensures.any_moment)
 
 pub returns-clause-quiet : goal.returns-clause-quiet
@@ -71,9 +72,10 @@ returns-then-self-clause-serves g c = λ s p has. (
 pub returns-in-Err-settle_and_trim-clause-serves : goal.returns-in-Err-settle_and_trim-clause-serves
 returns-in-Err-settle_and_trim-clause-serves g c = λ s p has.
     let was = moved_seat count_published place_published _ _ _ _ _ false s p _ _ _ c.drain.ensures.seat
-    (drains_served _ _ _ _ _ _ _ _ _ _ false _ _ s p c.in-Ok.ensures.applied (λ is. absurd (let no : false ≡ true = is in cc)) has) in (
+    (drains_served _ _ _ _ _ _ _ _ _ _ false _ _ s p c.in-Ok.ensures.applied (λ is. absurd (let no : false ≡ true = is in cc)) has) in
+    let same = c.in-Err-settle_and_trim.ensures.kept s was.now was.serves.taken.has in (
       c.in-Ok.count,
-      known_settled count_published place_published _ _ _ _ _ false _ s p _ c.drain.new.self.seat (sym c.if-self.false) (same_served _ _ _ _ _ _ _ false _ _ s p _ c.settle_and_trim.ensures.layout was (c.in-Err-settle_and_trim.ensures.kept s was.now was.serves.taken.has)
+      known_settled count_published place_published _ _ _ _ _ false _ s p _ c.drain.new.self.seat (sym c.if-self.false) (same_served _ _ _ _ _ _ _ false _ _ s p _ c.settle_and_trim.ensures.layout was same (applied_then _ _ s p same.now _ _ _ was.newer _ c.in-Ok.ensures.applied.advances.device was.serves.taken.has.past c.settle_and_trim.ensures.layout same.ran)
           (moment_round _ _ _ _ _ _ _ _ _ s p _ c.in-Ok.ensures.applied has.taken c.in-Err-settle_and_trim.ensures.any_moment)),
     )
 
