@@ -56,12 +56,37 @@
 extern "C" {
 #endif
 
-/* A handle: of a heap, or of a session. */
+/* Of this header and the library that it came with; and of the images that they read and write. */
+#define ZELAMIKU_VERSION "0.1.0"
+#define ZELAMIKU_VERSION_NUMBER 100 /* 10,000 times the first, 100 times the second, and the third */
+#define ZELAMIKU_IMAGE_VERSION 1
+
+/* Limits. */
+#define ZELAMIKU_MOST_LANES 32
+#define ZELAMIKU_MOST_OBJECTS 4096
+#define ZELAMIKU_MOST_FIELDS 16384
+#define ZELAMIKU_LEAST_CAPACITY 2000
+#define ZELAMIKU_MOST_CAPACITY 1048576
+#define ZELAMIKU_MOST_RECORDS 1000 /* of a section: one for each monitor that is taken, each that is freed, and each store */
+#define ZELAMIKU_MOST_HELD 16      /* monitors, by one session at once */
+
+/* A handle: of a heap, or of a session. One of static storage begins as ZELAMIKU_NONE by itself. */
 typedef struct {
     void *at;
     bool is_open;
 } zelamiku_handle;
-#define ZELAMIKU_NONE {NULL, false}
+#ifdef __cplusplus
+#define ZELAMIKU_NONE (zelamiku_handle{nullptr, false})
+#else
+#define ZELAMIKU_NONE ((zelamiku_handle){NULL, false})
+#endif
+
+/* A status that is dropped may be the only word of a heap that has stopped: the compiler warns. */
+#if defined(__GNUC__)
+#define ZELAMIKU_MUST_USE __attribute__((warn_unused_result))
+#else
+#define ZELAMIKU_MUST_USE
+#endif
 
 /* What a call answers. zelamiku_status_text has a text of each. */
 typedef enum {
@@ -201,30 +226,30 @@ static inline const char *zelamiku_status_text(uint32_t status) {
  * Needs: before the first call of zelamiku_next_call is made, the device has `size` zero bytes, durably.
  * OPEN, EMPTY, UNKNOWN_OBJECT, TOO_MANY, BAD_HEADER, NO_MEMORY, FAULT (want of memory too): the handle is as it was, and `size`
  * is 0. */
-uint32_t zelamiku_format(zelamiku_handle *heap, uint32_t objects, const zelamiku_field *fields, size_t count, uint32_t lanes,
-                         uint32_t capacity, uint64_t *size);
+ZELAMIKU_MUST_USE uint32_t zelamiku_format(zelamiku_handle *heap, uint32_t objects, const zelamiku_field *fields, size_t count,
+                                           uint32_t lanes, uint32_t capacity, uint64_t *size);
 
 /* Recovers the heap of these bytes, and opens it.
  * Needs: the device has these bytes, all of them, durably.
  * OPEN, NOT_FORMATTED, BAD_HEADER, TOO_SMALL, NO_CONTROL, BAD_CONTROL, WORN, BAD_RECORD, ILLEGAL_LOG, NO_MEMORY, FAULT (want of
  * memory too): the handle is as it was, and `found` is all 0. Nothing was asked of the device. */
-uint32_t zelamiku_open(zelamiku_handle *heap, const uint8_t *image, size_t size, zelamiku_found *found);
+ZELAMIKU_MUST_USE uint32_t zelamiku_open(zelamiku_handle *heap, const uint8_t *image, size_t size, zelamiku_found *found);
 
 /* Hands out the session of the next lane, from 0 on.
  * OPEN: `session` has something behind it. CLOSED, WRONG_KIND: of `heap`. NONE_LEFT: each lane's was handed out, or the heap is
  * closed. NO_MEMORY: none was handed out, and it may be asked for again. The handles are as they were. */
-uint32_t zelamiku_session(zelamiku_handle *heap, zelamiku_handle *session);
+ZELAMIKU_MUST_USE uint32_t zelamiku_session(zelamiku_handle *heap, zelamiku_handle *session);
 
 /* Tells the call of the device that the host makes next, and copies its bytes. It tells the same call until zelamiku_call_done.
  * `call->kind` is ZELAMIKU_NO_CALL where none is left; another round may leave more. Into a buffer of fewer bytes than the call has,
  * which one of ZELAMIKU_MOST_BYTES never is, only the first of them are copied, though `call` tells all of it: the host may look at
  * such a call, and can't make it.
  * CLOSED, WRONG_KIND: `call` is ZELAMIKU_NO_CALL. */
-uint32_t zelamiku_next_call(zelamiku_handle *heap, zelamiku_call *call, uint8_t *bytes, size_t size);
+ZELAMIKU_MUST_USE uint32_t zelamiku_next_call(zelamiku_handle *heap, zelamiku_call *call, uint8_t *bytes, size_t size);
 
 /* Says that the host has made the call that zelamiku_next_call told.
  * CLOSED, WRONG_KIND. NONE_LEFT: no call was told. */
-uint32_t zelamiku_call_done(zelamiku_handle *heap);
+ZELAMIKU_MUST_USE uint32_t zelamiku_call_done(zelamiku_handle *heap);
 
 /* Takes what the sessions have done, writes it to the log, acknowledges each section that has ended and depends on none that hasn't,
  * and leaves the calls of that to zelamiku_next_call: make them after each round, or in a thread that orders its calls with this one.
@@ -232,18 +257,18 @@ uint32_t zelamiku_call_done(zelamiku_handle *heap);
  * CLOSED, WRONG_KIND, NONE_LEFT (the heap is closed): nothing was done. CALLS_LEFT: the host hasn't made its calls for so many rounds
  * that those of one more might have no room: nothing was done; make them, and go on. FAULT, FAILED, WORN: the heap has stopped; what
  * was acknowledged stays: free the handles, and open it again. */
-uint32_t zelamiku_round(zelamiku_handle *heap, uint64_t *applied);
+ZELAMIKU_MUST_USE uint32_t zelamiku_round(zelamiku_handle *heap, uint64_t *applied);
 
 /* How many sections of the lane are acknowledged since the heap was opened: no crash of the device loses them.
  * CLOSED, WRONG_KIND, NONE_LEFT (the heap is closed), BAD_LANE. CALLS_LEFT: make the calls that are left, and ask again.
  * `sections` is 0 then. */
-uint32_t zelamiku_acknowledged(zelamiku_handle *heap, uint32_t lane, uint64_t *sections);
+ZELAMIKU_MUST_USE uint32_t zelamiku_acknowledged(zelamiku_handle *heap, uint32_t lane, uint64_t *sections);
 
 /* Closes the heap, once each session that was handed out has ended: the last round. Make the calls that are left, and then free it.
  * RUNNING: a session hasn't ended; the heap goes on. CALLS_LEFT: the calls of the last round might have no room: make those that are
  * left, and close it then; the heap goes on. UNFINISHED, NO_MEMORY, FAULT, FAILED, WORN: the heap has stopped; what was acknowledged
  * stays. CLOSED, WRONG_KIND, NONE_LEFT (it is closed): nothing was done. */
-uint32_t zelamiku_close(zelamiku_handle *heap);
+ZELAMIKU_MUST_USE uint32_t zelamiku_close(zelamiku_handle *heap);
 
 /* Lets go of what is behind a handle. A heap stops, as if the process had: what was acknowledged stays. A session that is freed
  * never ends, so that its heap isn't closed any more. The handle is as at the beginning. */
@@ -255,48 +280,48 @@ void zelamiku_free(zelamiku_handle *handle);
 
 /* Takes the object's monitor, or one lock more of it. The first of a section needs room for a whole one.
  * UNKNOWN_OBJECT, BEHIND, SECTION_FULL, TOO_MANY, TOO_DEEP, NO_FAT, WORN, HELD: what is held stays as it was. */
-uint32_t zelamiku_try_enter(zelamiku_handle *session, uint32_t object);
+ZELAMIKU_MUST_USE uint32_t zelamiku_try_enter(zelamiku_handle *session, uint32_t object);
 
 /* Gives one lock back, and with the last one the monitor. With the last monitor the section ends.
  * UNKNOWN_OBJECT, NOT_HELD: nothing was done. */
-uint32_t zelamiku_exit(zelamiku_handle *session, uint32_t object);
+ZELAMIKU_MUST_USE uint32_t zelamiku_exit(zelamiku_handle *session, uint32_t object);
 
 /* Loads a field whose guard is held.
  * UNKNOWN_FIELD, NOT_HELD: `value` is 0. */
-uint32_t zelamiku_load(zelamiku_handle *session, uint32_t field, uint64_t *value);
+ZELAMIKU_MUST_USE uint32_t zelamiku_load(zelamiku_handle *session, uint32_t field, uint64_t *value);
 
 /* Stores a field whose guard is held.
  * UNKNOWN_FIELD, NOT_HELD, SECTION_FULL: nothing was stored. */
-uint32_t zelamiku_store(zelamiku_handle *session, uint32_t field, uint64_t value);
+ZELAMIKU_MUST_USE uint32_t zelamiku_store(zelamiku_handle *session, uint32_t field, uint64_t value);
 
 /* Joins the wait set of a monitor that is held, and frees it, whatever the count of its locks. Resume it then.
  * UNKNOWN_OBJECT, NOT_HELD, BEHIND, SECTION_FULL, NO_FAT, WORN: the monitor is held as before. */
-uint32_t zelamiku_begin_wait(zelamiku_handle *session, uint32_t object);
+ZELAMIKU_MUST_USE uint32_t zelamiku_begin_wait(zelamiku_handle *session, uint32_t object);
 
 /* Takes the monitor again, by as many locks as before, if the session was notified and the monitor is free.
  * IN_SET: nobody has notified it. HELD: another session has the monitor, or had it when this one tried; or the monitor has its last
  * number, 2^40 - 1, and can't be taken again. It waits on. WRONG_KIND: the session doesn't wait. */
-uint32_t zelamiku_try_resume(zelamiku_handle *session);
+ZELAMIKU_MUST_USE uint32_t zelamiku_try_resume(zelamiku_handle *session);
 
 /* Takes one session out of the wait set of a monitor that is held; `lane` gets its lane, or ZELAMIKU_NOBODY.
  * UNKNOWN_OBJECT, NOT_HELD: `lane` is ZELAMIKU_NOBODY. */
-uint32_t zelamiku_notify(zelamiku_handle *session, uint32_t object, uint32_t *lane);
+ZELAMIKU_MUST_USE uint32_t zelamiku_notify(zelamiku_handle *session, uint32_t object, uint32_t *lane);
 
 /* Takes all sessions out of the wait set of a monitor that is held; `lanes` gets a bit for each, 1 << its lane.
  * UNKNOWN_OBJECT, NOT_HELD: `lanes` is 0. */
-uint32_t zelamiku_notify_all(zelamiku_handle *session, uint32_t object, uint64_t *lanes);
+ZELAMIKU_MUST_USE uint32_t zelamiku_notify_all(zelamiku_handle *session, uint32_t object, uint64_t *lanes);
 
 /* Looks at a monitor, which needn't be held.
  * UNKNOWN_OBJECT: `sight` is that of a free monitor. */
-uint32_t zelamiku_look(zelamiku_handle *session, uint32_t object, zelamiku_sight *sight);
+ZELAMIKU_MUST_USE uint32_t zelamiku_look(zelamiku_handle *session, uint32_t object, zelamiku_sight *sight);
 
 /* How many sections of the session's lane the last round acknowledged. They are durable once the host has made that round's calls;
  * zelamiku_acknowledged tells only of such. */
-uint32_t zelamiku_stable(zelamiku_handle *session, uint64_t *sections);
+ZELAMIKU_MUST_USE uint32_t zelamiku_stable(zelamiku_handle *session, uint64_t *sections);
 
 /* Ends the session. Its handle has nothing behind it then. Exit all monitors first: else its heap can't be closed.
  * WAITING, WRONG_KIND: the handle is as it was. */
-uint32_t zelamiku_end(zelamiku_handle *session);
+ZELAMIKU_MUST_USE uint32_t zelamiku_end(zelamiku_handle *session);
 
 #ifdef __cplusplus
 }

@@ -14,6 +14,9 @@
  * A call that a signal interrupts is made again, and a short one goes on where it ended. */
 #ifndef ZELAMIKU_FILE_H
 #define ZELAMIKU_FILE_H
+#if !defined(_GNU_SOURCE) && (!defined(_POSIX_C_SOURCE) || _POSIX_C_SOURCE < 200809L)
+#error "define _POSIX_C_SOURCE as 200809L, or _GNU_SOURCE, before the first #include: zelamiku_file.h calls pread, pwrite and fdatasync"
+#endif
 #include <errno.h>
 #include <fcntl.h>
 #include <stdlib.h>
@@ -70,8 +73,9 @@ static inline bool zelamiku_file_resize(int descriptor, uint64_t size) {
  * left to zelamiku_make_calls.
  * As zelamiku_format: the handle and the file are as they were. DEVICE: a call of the file has failed; the handle is as it was, and the
  * file may be shorter, or have zeros. */
-static inline uint32_t zelamiku_format_file(zelamiku_handle *heap, int descriptor, uint32_t objects, const zelamiku_field *fields,
-                                            size_t count, uint32_t lanes, uint32_t capacity) {
+ZELAMIKU_MUST_USE static inline uint32_t zelamiku_format_file(zelamiku_handle *heap, int descriptor, uint32_t objects,
+                                                              const zelamiku_field *fields, size_t count, uint32_t lanes,
+                                                              uint32_t capacity) {
     uint64_t size = 0;
     uint32_t status = zelamiku_format(heap, objects, fields, count, lanes, capacity, &size);
     if (status != ZELAMIKU_OK) return status;
@@ -83,7 +87,7 @@ static inline uint32_t zelamiku_format_file(zelamiku_handle *heap, int descripto
 /* Syncs a file, reads it, and opens the heap of its bytes as zelamiku_open does. The calls of its recovery are left to
  * zelamiku_make_calls.
  * As zelamiku_open; and DEVICE: the file can't be synced or read. The handle is as it was, `found` is all 0, and nothing was written. */
-static inline uint32_t zelamiku_open_file(zelamiku_handle *heap, int descriptor, zelamiku_found *found) {
+ZELAMIKU_MUST_USE static inline uint32_t zelamiku_open_file(zelamiku_handle *heap, int descriptor, zelamiku_found *found) {
     memset(found, 0, sizeof *found);
     struct stat info;
     /* What a process before this one wrote may be in the system's cache alone: it is made durable, and then read from the device. */
@@ -102,7 +106,7 @@ static inline uint32_t zelamiku_open_file(zelamiku_handle *heap, int descriptor,
  * with it. LOST: a sync has failed, and no call may follow (zelamiku.h): the heap was let go, and nothing is behind the handle. Free its
  * sessions, and open the heap again once the file has what its device has: after the file system was mounted again.
  * `made` is how many were made before that. */
-static inline uint32_t zelamiku_make_calls(zelamiku_handle *heap, int descriptor, uint64_t *made) {
+ZELAMIKU_MUST_USE static inline uint32_t zelamiku_make_calls(zelamiku_handle *heap, int descriptor, uint64_t *made) {
     uint8_t bytes[ZELAMIKU_MOST_BYTES] = {0};
     zelamiku_call call = {ZELAMIKU_NO_CALL, 0, 0};
     for (*made = 0;; ++*made) {

@@ -1,41 +1,28 @@
-/* A counter service: four threads count, each in a counter of its own and in the total, in one section. A helper thread makes rounds
- * and makes their calls on a file. Killed at any time and started again on the same file, the total is the sum of its
- * parts, and no less than the total before and what was told as acknowledged since.
+/* A counter service: four threads count, each in a counter of its own and in the total, in one section. Killed at any time and started
+ * again on the same file, the total is the sum of its parts, and no less than the total before and what was told as acknowledged since.
  *
  *     counters FILE [SECONDS]
- * prints the counters that it finds, and after each round how many counts are acknowledged since then. It counts for so long (for ever
+ * prints the counters that it finds, and then how many counts are acknowledged since, again and again. It counts for so long (for ever
  * without SECONDS), closes the heap, and prints the counters again. A file that is empty or has only zeros gets a heap.
  *
  * After a power failure soon after the file was made there may be no file: a program that minds syncs its folder too. */
 #define _GNU_SOURCE
-#include <errno.h>
-#include <fcntl.h>
 #include <inttypes.h>
-#include <pthread.h>
-#include <sched.h>
 #include <stdatomic.h>
 #include <stdio.h>
-#include <stdlib.h>
-#include <string.h>
-#include <time.h>
-#include <unistd.h>
-#include "zelamiku_file.h"
+#include "zelamiku_threads.h"
 
-#ifdef HELGRIND /* which knows nothing of C11's atomics */
-#include <valgrind/helgrind.h>
-#else
-#define VALGRIND_HG_DISABLE_CHECKING(at, size) ((void)0)
-#endif
-
-enum { WORKERS = 4, TOTAL = 0, CAPACITY = 20000 };
+enum { WORKERS = 4, TOTAL = 0, CAPACITY = 4096, LINGER = 5000 };
 
 static int file;
-static atomic_bool stopping; /* for the workers */
-static atomic_bool ended;    /* for the helper */
+static zelamiku_threads heap;
+static atomic_bool stopping;
 
 static void must(uint32_t status, const char *what) {
     if (status != ZELAMIKU_OK) {
+        int cause = errno;
         fprintf(stderr, "%s: %s\n", what, zelamiku_status_text(status));
+        if (status == ZELAMIKU_DEVICE || status == ZELAMIKU_LOST) fprintf(stderr, "%s\n", strerror(cause));
         /* A sync that failed isn't made again: a later one may succeed though the file has lost what was written. */
         if (status == ZELAMIKU_LOST) fprintf(stderr, "Mount the file system again before you start on this file.\n");
         exit(2);
@@ -49,67 +36,26 @@ static void must_do(bool is_done, const char *what) {
     }
 }
 
-/* Makes all calls of the device that are left. */
-static void make_calls(zelamiku_handle *heap) {
-    uint64_t made = 0;
-    must(zelamiku_make_calls(heap, file, &made), "make calls");
-}
-
-/* Enters, and tries again while another thread has the monitor or the helper is behind. */
-static void enter(zelamiku_handle *session, uint32_t object) {
-    uint32_t status;
-    for (unsigned spins = 0; (status = zelamiku_try_enter(session, object)) != ZELAMIKU_OK; spins++) {
-        if (status != ZELAMIKU_HELD && status != ZELAMIKU_BEHIND) must(status, "enter");
-        if (spins > 100) sched_yield();
-    }
-}
-
-static void count(zelamiku_handle *session, uint32_t field) {
+static void count(zelamiku_thread *thread, uint32_t field) {
     uint64_t value = 0;
-    must(zelamiku_load(session, field, &value), "load");
-    must(zelamiku_store(session, field, value + 1), "store");
+    must(zelamiku_thread_load(thread, field, &value), "load");
+    must(zelamiku_thread_store(thread, field, value + 1), "store");
 }
 
 typedef struct {
-    zelamiku_handle session;
-    uint32_t own; /* its object, its field and its lane */
+    zelamiku_thread thread;
+    uint32_t own; /* its object and its field */
 } worker;
 
 static void *work(void *data) {
     worker *w = data;
     while (!stopping) {
-        enter(&w->session, w->own);
-        count(&w->session, w->own);
-        enter(&w->session, TOTAL);
-        count(&w->session, TOTAL);
-        must(zelamiku_exit(&w->session, TOTAL), "exit");
-        must(zelamiku_exit(&w->session, w->own), "exit");
-    }
-    must(zelamiku_end(&w->session), "end");
-    return NULL;
-}
-
-/* How many of the workers' sections are acknowledged: each counts one. All calls were made. */
-static uint64_t acknowledged(zelamiku_handle *heap) {
-    uint64_t sum = 0, sections = 0;
-    for (uint32_t lane = 1; lane <= WORKERS; lane++) {
-        must(zelamiku_acknowledged(heap, lane, &sections), "acknowledged");
-        sum += sections;
-    }
-    return sum;
-}
-
-static void *help(void *data) {
-    zelamiku_handle *heap = data;
-    uint64_t applied = 0;
-    while (!ended) {
-        uint32_t status = zelamiku_round(heap, &applied);
-        if (status != ZELAMIKU_CALLS_LEFT) must(status, "round");
-        make_calls(heap);
-        if (applied > 0)
-            printf("acknowledged %" PRIu64 "\n", acknowledged(heap));
-        else
-            sched_yield();
+        must(zelamiku_thread_enter(&w->thread, w->own), "enter");
+        count(&w->thread, w->own);
+        must(zelamiku_thread_enter(&w->thread, TOTAL), "enter");
+        count(&w->thread, TOTAL);
+        must(zelamiku_thread_exit(&w->thread, TOTAL), "exit");
+        must(zelamiku_thread_exit(&w->thread, w->own), "exit");
     }
     return NULL;
 }
@@ -117,23 +63,24 @@ static void *help(void *data) {
 /* Whether a heap may be made in the file: it has no bytes, or only zeros, or the beginning of an image whose making was cut off. */
 static bool is_free(void) {
     char bytes[4096];
-    ssize_t count;
-    for (off_t at = 0; (count = pread(file, bytes, sizeof bytes, at)) > 0; at += count) {
-        if (at == 0 && count >= 8 && memcmp(bytes, "MONIHEAP", 8) == 0) return true;
-        for (ssize_t i = 0; i < count; i++)
+    ssize_t size;
+    for (off_t at = 0; (size = pread(file, bytes, sizeof bytes, at)) > 0; at += size) {
+        if (at == 0 && size >= 8 && memcmp(bytes, "MONIHEAP", 8) == 0) return true;
+        for (ssize_t i = 0; i < size; i++)
             if (bytes[i] != 0) return false;
     }
-    return count == 0;
+    return size == 0;
 }
 
-/* Opens the heap of the file, or makes one. */
-static void begin(zelamiku_handle *heap, const char *name) {
+/* Opens the heap of the file, or makes one, and starts its helper. */
+static void begin(const char *name) {
+    zelamiku_handle handle = ZELAMIKU_NONE;
     zelamiku_found found = {0};
-    uint32_t answer = zelamiku_open_file(heap, file, &found);
+    uint32_t answer = zelamiku_open_file(&handle, file, &found);
     if (answer == ZELAMIKU_NOT_FORMATTED && is_free()) {
         zelamiku_field fields[WORKERS + 1];
         for (uint32_t i = 0; i <= WORKERS; i++) fields[i] = (zelamiku_field){i, i, 0};
-        must(zelamiku_format_file(heap, file, WORKERS + 1, fields, WORKERS + 1, WORKERS + 1, CAPACITY), "format");
+        must(zelamiku_format_file(&handle, file, WORKERS + 1, fields, WORKERS + 1, WORKERS + 1, CAPACITY), "format");
     } else if (answer == ZELAMIKU_NOT_FORMATTED) {
         fprintf(stderr, "%s has no heap, and isn't empty: it is left as it is\n", name);
         exit(2);
@@ -144,7 +91,7 @@ static void begin(zelamiku_handle *heap, const char *name) {
             exit(2);
         }
     }
-    make_calls(heap);
+    must(zelamiku_threads_start(&heap, &handle, file, LINGER), "start");
 }
 
 typedef struct {
@@ -152,12 +99,12 @@ typedef struct {
 } counters;
 
 /* Reads all counters in one section. It takes the monitors in the workers' order: the total's last. */
-static counters look(zelamiku_handle *session) {
+static counters look(zelamiku_thread *own) {
     counters found = {{0}};
-    for (uint32_t i = 1; i <= WORKERS; i++) enter(session, i);
-    enter(session, TOTAL);
-    for (uint32_t i = 0; i <= WORKERS; i++) must(zelamiku_load(session, i, &found.value[i]), "load");
-    for (uint32_t i = 0; i <= WORKERS; i++) must(zelamiku_exit(session, i), "exit");
+    for (uint32_t i = 1; i <= WORKERS; i++) must(zelamiku_thread_enter(own, i), "enter");
+    must(zelamiku_thread_enter(own, TOTAL), "enter");
+    for (uint32_t i = 0; i <= WORKERS; i++) must(zelamiku_thread_load(own, i, &found.value[i]), "load");
+    for (uint32_t i = 0; i <= WORKERS; i++) must(zelamiku_thread_exit(own, i), "exit");
     return found;
 }
 
@@ -173,23 +120,18 @@ static void tell(counters found) {
     if (sum != found.value[TOTAL]) exit(1);
 }
 
-static void start(pthread_t *thread, void *(*body)(void *), void *data) {
-    errno = pthread_create(thread, NULL, body, data);
-    must_do(errno == 0, "pthread_create");
-}
-
-static void end_thread(pthread_t thread) {
-    errno = pthread_join(thread, NULL);
-    must_do(errno == 0, "pthread_join");
-}
-
-/* Sleeps for so long, or for ever. */
-static void rest(const char *seconds) {
-    if (seconds == NULL)
-        for (;;) pause();
-    double whole = strtod(seconds, NULL);
-    struct timespec left = {(time_t)whole, (long)((whole - (double)(time_t)whole) * 1e9)};
-    while (nanosleep(&left, &left) != 0 && errno == EINTR) {}
+/* Tells how many of the workers' sections are acknowledged, each of which counts one, until the seconds are over, or for ever. */
+static void tell_acknowledged(const worker *workers, const char *seconds) {
+    struct timespec nap = {0, 10000000}, now;
+    clock_gettime(CLOCK_MONOTONIC, &now);
+    double until = (double)now.tv_sec + 1e-9 * (double)now.tv_nsec + (seconds != NULL ? strtod(seconds, NULL) : 0);
+    while (seconds == NULL || (double)now.tv_sec + 1e-9 * (double)now.tv_nsec < until) {
+        uint64_t sum = 0;
+        for (uint32_t i = 0; i < WORKERS; i++) sum += zelamiku_thread_durable(&workers[i].thread);
+        if (sum > 0) printf("acknowledged %" PRIu64 "\n", sum);
+        nanosleep(&nap, NULL);
+        clock_gettime(CLOCK_MONOTONIC, &now);
+    }
 }
 
 int main(int argc, char **argv) {
@@ -197,34 +139,26 @@ int main(int argc, char **argv) {
         fprintf(stderr, "counters FILE [SECONDS]\n");
         return 2;
     }
-    VALGRIND_HG_DISABLE_CHECKING(&stopping, sizeof stopping);
-    VALGRIND_HG_DISABLE_CHECKING(&ended, sizeof ended);
+    ZELAMIKU_IS_ATOMIC(stopping);
     setvbuf(stdout, NULL, _IOLBF, 0);
     file = open(argv[1], O_RDWR | O_CREAT, 0644);
     must_do(file >= 0, argv[1]);
-    zelamiku_handle heap = ZELAMIKU_NONE;
-    begin(&heap, argv[1]);
-    zelamiku_handle own = ZELAMIKU_NONE; /* lane 0 */
-    must(zelamiku_session(&heap, &own), "session");
+    begin(argv[1]);
+    zelamiku_thread own;
+    must(zelamiku_thread_begin(&own, &heap), "begin");
     tell(look(&own));
     static worker workers[WORKERS];
-    pthread_t threads[WORKERS], helper;
+    pthread_t threads[WORKERS];
     for (uint32_t i = 0; i < WORKERS; i++) {
-        must(zelamiku_session(&heap, &workers[i].session), "session");
+        must(zelamiku_thread_begin(&workers[i].thread, &heap), "begin");
         workers[i].own = i + 1;
     }
-    for (int i = 0; i < WORKERS; i++) start(&threads[i], work, &workers[i]);
-    start(&helper, help, &heap);
-    rest(argc > 2 ? argv[2] : NULL);
+    for (uint32_t i = 0; i < WORKERS; i++) must_do((errno = pthread_create(&threads[i], NULL, work, &workers[i])) == 0, "thread");
+    tell_acknowledged(workers, argc > 2 ? argv[2] : NULL);
     stopping = true;
-    for (int i = 0; i < WORKERS; i++) end_thread(threads[i]);
-    ended = true;
-    end_thread(helper);
+    for (uint32_t i = 0; i < WORKERS; i++) must_do((errno = pthread_join(threads[i], NULL)) == 0, "join");
     counters last = look(&own);
-    must(zelamiku_end(&own), "end");
-    must(zelamiku_close(&heap), "close");
-    make_calls(&heap);
-    zelamiku_free(&heap);
+    must(zelamiku_threads_stop(&heap), "stop");
     tell(last); /* durable now */
     must_do(close(file) == 0, "close");
     return 0;

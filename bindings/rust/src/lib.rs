@@ -5,14 +5,19 @@
 //! is a [`Closed`], which can only tell the last calls of the device. No call waits but `enter` and `resume`, which try again.
 //!
 //! A heap whose device fails to sync has stopped for good: see [`Device`].
+#![deny(unsafe_code)]
 use std::fmt;
 use std::io;
 
+#[allow(unsafe_code)]
 mod raw;
 mod refusal;
+#[cfg(unix)]
+pub mod service;
 
 pub use raw::Found;
 pub use refusal::Refusal;
+use raw::Owned;
 
 fn answer(status: u32) -> Result<(), Refusal> {
     if status == 0 {
@@ -21,25 +26,6 @@ fn answer(status: u32) -> Result<(), Refusal> {
         Err(Refusal::from(status))
     }
 }
-
-// What is behind it is let go with it.
-struct Owned(raw::Handle);
-
-impl Owned {
-    fn none() -> Owned {
-        Owned(raw::Handle::NONE)
-    }
-}
-
-impl Drop for Owned {
-    fn drop(&mut self) {
-        // SAFETY: only this value has the handle.
-        unsafe { raw::zelamiku_free(&mut self.0) }
-    }
-}
-
-// SAFETY: the header lets a handle go to another thread. One call at a time has it, since each takes `&mut`.
-unsafe impl Send for Owned {}
 
 macro_rules! opaque {
     ($($name:ident)*) => {
@@ -121,11 +107,7 @@ impl Hosted {
         loop {
             self.must_go_on().map_err(io::Error::other)?;
             let mut call = raw::Call::default();
-            // SAFETY (here and below): the pointers are those of references that are borrowed for the call and don't overlap.
-            let told = unsafe {
-                raw::zelamiku_next_call(&mut self.handle.0, &mut call, bytes.as_mut_ptr(), bytes.len())
-            };
-            answer(told).map_err(io::Error::other)?;
+            answer(self.handle.next_call(&mut call, &mut bytes)).map_err(io::Error::other)?;
             match call.kind {
                 raw::NO_CALL => return Ok(made),
                 raw::WRITE if call.size > bytes.len() as u64 => {
@@ -136,7 +118,7 @@ impl Hosted {
                 raw::WRITE => device.write_at(call.at, &bytes[..call.size as usize])?,
                 _ => self.sync(device)?,
             }
-            answer(unsafe { raw::zelamiku_call_done(&mut self.handle.0) }).map_err(io::Error::other)?;
+            answer(self.handle.call_done()).map_err(io::Error::other)?;
             made += 1;
         }
     }
@@ -168,6 +150,11 @@ pub struct Closed {
 }
 
 impl Heap {
+    // Whether a sync of the device has failed.
+    fn has_failed(&self) -> bool {
+        self.hosted.has_failed
+    }
+
     fn of(handle: Owned) -> Heap {
         Heap {
             hosted: Hosted {
@@ -190,9 +177,7 @@ impl Heap {
             .collect();
         let mut handle = Owned::none();
         let mut size = 0;
-        answer(unsafe {
-            raw::zelamiku_format(&mut handle.0, objects, rows.as_ptr(), rows.len(), lanes, capacity, &mut size)
-        })?;
+        answer(handle.format(objects, &rows, lanes, capacity, &mut size))?;
         Ok((Heap::of(handle), size))
     }
 
@@ -200,14 +185,14 @@ impl Heap {
     pub fn open(image: &[u8]) -> Result<(Heap, Found), Refusal> {
         let mut handle = Owned::none();
         let mut found = Found::default();
-        answer(unsafe { raw::zelamiku_open(&mut handle.0, image.as_ptr(), image.len(), &mut found) })?;
+        answer(handle.open(image, &mut found))?;
         Ok((Heap::of(handle), found))
     }
 
     /// Hands out the session of the next lane, from 0 on; [`Refusal::NoneLeft`] once all were.
     pub fn session(&mut self) -> Result<Session, Refusal> {
         let mut handle = Owned::none();
-        answer(unsafe { raw::zelamiku_session(&mut self.hosted.handle.0, &mut handle.0) })?;
+        answer(self.hosted.handle.session(&mut handle))?;
         Ok(Session { handle })
     }
 
@@ -218,7 +203,7 @@ impl Heap {
     pub fn round(&mut self) -> Result<u64, Refusal> {
         self.hosted.must_go_on()?;
         let mut applied = 0;
-        answer(unsafe { raw::zelamiku_round(&mut self.hosted.handle.0, &mut applied) })?;
+        answer(self.hosted.handle.round(&mut applied))?;
         Ok(applied)
     }
 
@@ -235,7 +220,7 @@ impl Heap {
     pub fn acknowledged(&mut self, lane: u32) -> Result<u64, Refusal> {
         self.hosted.must_go_on()?;
         let mut sections = 0;
-        answer(unsafe { raw::zelamiku_acknowledged(&mut self.hosted.handle.0, lane, &mut sections) })?;
+        answer(self.hosted.handle.acknowledged(lane, &mut sections))?;
         Ok(sections)
     }
 
@@ -246,7 +231,7 @@ impl Heap {
         if let Err(refusal) = self.hosted.must_go_on() {
             return Err((None, refusal));
         }
-        match answer(unsafe { raw::zelamiku_close(&mut self.hosted.handle.0) }) {
+        match answer(self.hosted.handle.close()) {
             Ok(()) => Ok(Closed { hosted: self.hosted }),
             Err(refusal @ (Refusal::Running | Refusal::CallsLeft)) => Err((Some(self), refusal)),
             Err(refusal) => Err((None, refusal)),
@@ -255,6 +240,11 @@ impl Heap {
 }
 
 impl Closed {
+    // Whether a sync of the device has failed.
+    fn has_failed(&self) -> bool {
+        self.hosted.has_failed
+    }
+
     /// Makes the last calls. Then the device has all that the sessions did. It fails as [`Heap::make_calls`] does.
     pub fn make_calls(&mut self, device: &mut dyn Device) -> io::Result<u64> {
         self.hosted.make_calls(device)
@@ -274,7 +264,7 @@ pub struct Waiting {
 impl Session {
     /// Takes the object's monitor, or one lock more of it.
     pub fn try_enter(&mut self, object: u32) -> Result<(), Refusal> {
-        answer(unsafe { raw::zelamiku_try_enter(&mut self.handle.0, object) })
+        answer(self.handle.try_enter(object))
     }
 
     /// Takes the monitor, and backs off while another session has it or the helper is behind: for ever, where that one never gives it
@@ -297,24 +287,24 @@ impl Session {
 
     /// Gives one lock back, and with the last one the monitor.
     pub fn exit(&mut self, object: u32) -> Result<(), Refusal> {
-        answer(unsafe { raw::zelamiku_exit(&mut self.handle.0, object) })
+        answer(self.handle.exit(object))
     }
 
     /// Loads a field whose guard is held.
     pub fn load(&mut self, field: u32) -> Result<u64, Refusal> {
         let mut value = 0;
-        answer(unsafe { raw::zelamiku_load(&mut self.handle.0, field, &mut value) })?;
+        answer(self.handle.load(field, &mut value))?;
         Ok(value)
     }
 
     /// Stores a field whose guard is held.
     pub fn store(&mut self, field: u32, value: u64) -> Result<(), Refusal> {
-        answer(unsafe { raw::zelamiku_store(&mut self.handle.0, field, value) })
+        answer(self.handle.store(field, value))
     }
 
     /// Joins the wait set of a monitor that is held, and frees it. After a refusal the session comes back.
     pub fn begin_wait(mut self, object: u32) -> Result<Waiting, (Session, Refusal)> {
-        match answer(unsafe { raw::zelamiku_begin_wait(&mut self.handle.0, object) }) {
+        match answer(self.handle.begin_wait(object)) {
             Ok(()) => Ok(Waiting { handle: self.handle }),
             Err(refusal) => Err((self, refusal)),
         }
@@ -323,21 +313,21 @@ impl Session {
     /// Takes one session out of the monitor's wait set, and answers its lane.
     pub fn notify(&mut self, object: u32) -> Result<Option<u32>, Refusal> {
         let mut woken = 0;
-        answer(unsafe { raw::zelamiku_notify(&mut self.handle.0, object, &mut woken) })?;
+        answer(self.handle.notify(object, &mut woken))?;
         Ok(lane(woken))
     }
 
     /// Takes all sessions out of the monitor's wait set, and answers a bit for each lane.
     pub fn notify_all(&mut self, object: u32) -> Result<u64, Refusal> {
         let mut lanes = 0;
-        answer(unsafe { raw::zelamiku_notify_all(&mut self.handle.0, object, &mut lanes) })?;
+        answer(self.handle.notify_all(object, &mut lanes))?;
         Ok(lanes)
     }
 
     /// Looks at a monitor, which needn't be held.
     pub fn look(&mut self, object: u32) -> Result<Sight, Refusal> {
         let mut sight = raw::Sight::default();
-        answer(unsafe { raw::zelamiku_look(&mut self.handle.0, object, &mut sight) })?;
+        answer(self.handle.look(object, &mut sight))?;
         Ok(Sight {
             owner: lane(sight.owner),
             locks: sight.locks,
@@ -348,20 +338,20 @@ impl Session {
     /// How many sections of the lane the last round acknowledged. They are durable once that round's calls are made.
     pub fn stable(&mut self) -> Result<u64, Refusal> {
         let mut sections = 0;
-        answer(unsafe { raw::zelamiku_stable(&mut self.handle.0, &mut sections) })?;
+        answer(self.handle.stable(&mut sections))?;
         Ok(sections)
     }
 
     /// Ends the session. Exit all monitors first: else its heap can't be closed. One that is dropped doesn't end.
     pub fn end(mut self) -> Result<(), Refusal> {
-        answer(unsafe { raw::zelamiku_end(&mut self.handle.0) })
+        answer(self.handle.end())
     }
 }
 
 impl Waiting {
     /// Takes the monitor again, if the session was notified and the monitor is free. After a refusal it waits on.
     pub fn try_resume(mut self) -> Result<Session, (Waiting, Refusal)> {
-        match answer(unsafe { raw::zelamiku_try_resume(&mut self.handle.0) }) {
+        match answer(self.handle.try_resume()) {
             Ok(()) => Ok(Session { handle: self.handle }),
             Err(refusal) => Err((self, refusal)),
         }

@@ -1,4 +1,4 @@
-//! The functions of `zelamiku.h`.
+//! The functions of `zelamiku.h`, and calls of them that keep the header's rules: all that is unsafe is here.
 use std::ffi::c_void;
 
 pub const NO_CALL: u32 = 0;
@@ -15,7 +15,7 @@ pub struct Handle {
 }
 
 impl Handle {
-    pub const NONE: Handle = Handle {
+    const NONE: Handle = Handle {
         at: std::ptr::null_mut(),
         is_open: false,
     };
@@ -63,7 +63,7 @@ pub struct Sight {
 }
 
 extern "C" {
-    pub fn zelamiku_format(
+    fn zelamiku_format(
         heap: *mut Handle,
         objects: u32,
         fields: *const Field,
@@ -72,23 +72,88 @@ extern "C" {
         capacity: u32,
         size: *mut u64,
     ) -> u32;
-    pub fn zelamiku_open(heap: *mut Handle, image: *const u8, size: usize, found: *mut Found) -> u32;
-    pub fn zelamiku_session(heap: *mut Handle, session: *mut Handle) -> u32;
-    pub fn zelamiku_next_call(heap: *mut Handle, call: *mut Call, bytes: *mut u8, size: usize) -> u32;
-    pub fn zelamiku_call_done(heap: *mut Handle) -> u32;
-    pub fn zelamiku_round(heap: *mut Handle, applied: *mut u64) -> u32;
-    pub fn zelamiku_acknowledged(heap: *mut Handle, lane: u32, sections: *mut u64) -> u32;
-    pub fn zelamiku_close(heap: *mut Handle) -> u32;
-    pub fn zelamiku_free(handle: *mut Handle);
-    pub fn zelamiku_try_enter(session: *mut Handle, object: u32) -> u32;
-    pub fn zelamiku_exit(session: *mut Handle, object: u32) -> u32;
-    pub fn zelamiku_load(session: *mut Handle, field: u32, value: *mut u64) -> u32;
-    pub fn zelamiku_store(session: *mut Handle, field: u32, value: u64) -> u32;
-    pub fn zelamiku_begin_wait(session: *mut Handle, object: u32) -> u32;
-    pub fn zelamiku_try_resume(session: *mut Handle) -> u32;
-    pub fn zelamiku_notify(session: *mut Handle, object: u32, lane: *mut u32) -> u32;
-    pub fn zelamiku_notify_all(session: *mut Handle, object: u32, lanes: *mut u64) -> u32;
-    pub fn zelamiku_look(session: *mut Handle, object: u32, sight: *mut Sight) -> u32;
-    pub fn zelamiku_stable(session: *mut Handle, sections: *mut u64) -> u32;
-    pub fn zelamiku_end(session: *mut Handle) -> u32;
+    fn zelamiku_open(heap: *mut Handle, image: *const u8, size: usize, found: *mut Found) -> u32;
+    fn zelamiku_session(heap: *mut Handle, session: *mut Handle) -> u32;
+    fn zelamiku_next_call(heap: *mut Handle, call: *mut Call, bytes: *mut u8, size: usize) -> u32;
+    fn zelamiku_call_done(heap: *mut Handle) -> u32;
+    fn zelamiku_round(heap: *mut Handle, applied: *mut u64) -> u32;
+    fn zelamiku_acknowledged(heap: *mut Handle, lane: u32, sections: *mut u64) -> u32;
+    fn zelamiku_close(heap: *mut Handle) -> u32;
+    fn zelamiku_free(handle: *mut Handle);
+    fn zelamiku_try_enter(session: *mut Handle, object: u32) -> u32;
+    fn zelamiku_exit(session: *mut Handle, object: u32) -> u32;
+    fn zelamiku_load(session: *mut Handle, field: u32, value: *mut u64) -> u32;
+    fn zelamiku_store(session: *mut Handle, field: u32, value: u64) -> u32;
+    fn zelamiku_begin_wait(session: *mut Handle, object: u32) -> u32;
+    fn zelamiku_try_resume(session: *mut Handle) -> u32;
+    fn zelamiku_notify(session: *mut Handle, object: u32, lane: *mut u32) -> u32;
+    fn zelamiku_notify_all(session: *mut Handle, object: u32, lanes: *mut u64) -> u32;
+    fn zelamiku_look(session: *mut Handle, object: u32, sight: *mut Sight) -> u32;
+    fn zelamiku_stable(session: *mut Handle, sections: *mut u64) -> u32;
+    fn zelamiku_end(session: *mut Handle) -> u32;
+}
+
+/// A handle, whose memory only this value has. What is behind it is let go with it.
+pub struct Owned(Handle);
+
+impl Drop for Owned {
+    fn drop(&mut self) {
+        // SAFETY: only this value has the handle.
+        unsafe { zelamiku_free(&mut self.0) }
+    }
+}
+
+// SAFETY: the header lets a handle go to another thread. One call at a time has it, since each takes `&mut`.
+unsafe impl Send for Owned {}
+
+// SAFETY (of each call below): a handle begins as none and is changed by these calls alone, of which `&mut` lets one at a time have it;
+// the pointers are those of references and slices that are borrowed for the call, and don't overlap.
+macro_rules! calls {
+    ($($name:ident($($argument:ident: $type:ty),*) = $function:ident;)*) => {
+        impl Owned {
+            $(pub fn $name(&mut self, $($argument: $type),*) -> u32 {
+                unsafe { $function(&mut self.0, $($argument),*) }
+            })*
+        }
+    };
+}
+
+calls! {
+    call_done() = zelamiku_call_done;
+    round(applied: &mut u64) = zelamiku_round;
+    acknowledged(lane: u32, sections: &mut u64) = zelamiku_acknowledged;
+    close() = zelamiku_close;
+    try_enter(object: u32) = zelamiku_try_enter;
+    exit(object: u32) = zelamiku_exit;
+    load(field: u32, value: &mut u64) = zelamiku_load;
+    store(field: u32, value: u64) = zelamiku_store;
+    begin_wait(object: u32) = zelamiku_begin_wait;
+    try_resume() = zelamiku_try_resume;
+    notify(object: u32, lane: &mut u32) = zelamiku_notify;
+    notify_all(object: u32, lanes: &mut u64) = zelamiku_notify_all;
+    look(object: u32, sight: &mut Sight) = zelamiku_look;
+    stable(sections: &mut u64) = zelamiku_stable;
+    end() = zelamiku_end;
+}
+
+impl Owned {
+    pub fn none() -> Owned {
+        Owned(Handle::NONE)
+    }
+
+    pub fn format(&mut self, objects: u32, fields: &[Field], lanes: u32, capacity: u32, size: &mut u64) -> u32 {
+        unsafe { zelamiku_format(&mut self.0, objects, fields.as_ptr(), fields.len(), lanes, capacity, size) }
+    }
+
+    pub fn open(&mut self, image: &[u8], found: &mut Found) -> u32 {
+        unsafe { zelamiku_open(&mut self.0, image.as_ptr(), image.len(), found) }
+    }
+
+    pub fn session(&mut self, session: &mut Owned) -> u32 {
+        unsafe { zelamiku_session(&mut self.0, &mut session.0) }
+    }
+
+    pub fn next_call(&mut self, call: &mut Call, bytes: &mut [u8]) -> u32 {
+        unsafe { zelamiku_next_call(&mut self.0, call, bytes.as_mut_ptr(), bytes.len()) }
+    }
 }

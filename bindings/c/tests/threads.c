@@ -1,0 +1,269 @@
+/* Tests of zelamiku_threads.h, on a file whose writes and syncs may fail.
+ *
+ *     threads FOLDER      prints nothing but a last line, and answers 0, where all is as it must be */
+#define _GNU_SOURCE
+#include <errno.h>
+#include <fcntl.h>
+#include <stdio.h>
+#include <stdlib.h>
+#include <sched.h>
+#include <sys/resource.h>
+#include <sys/types.h>
+#include <time.h>
+#include <unistd.h>
+
+static int writes_fail, syncs_fail; /* by the helper's thread, and set while it rests */
+static unsigned syncs;
+
+static ssize_t flaky_pwrite(int file, const void *bytes, size_t size, off_t at) {
+    if (__atomic_load_n(&writes_fail, __ATOMIC_SEQ_CST)) {
+        errno = ENOSPC;
+        return -1;
+    }
+    return pwrite(file, bytes, size, at);
+}
+
+static int flaky_fdatasync(int file) {
+    __atomic_add_fetch(&syncs, 1, __ATOMIC_SEQ_CST);
+    if (__atomic_load_n(&syncs_fail, __ATOMIC_SEQ_CST)) {
+        errno = EIO;
+        return -1;
+    }
+    return fdatasync(file);
+}
+
+#define pwrite flaky_pwrite
+#define fdatasync flaky_fdatasync
+#include "zelamiku_threads.h"
+
+#define MUST(is_so) \
+    do { \
+        if (!(is_so)) { \
+            fprintf(stderr, "line %d: %s\n", __LINE__, #is_so); \
+            exit(1); \
+        } \
+    } while (0)
+
+enum { LANES = 8, TOTAL = 0, LIST = 1, COUNT = 1, TAKEN = 2, ROUNDS = 500 };
+
+static const zelamiku_field FIELDS[] = {{TOTAL, TOTAL, 0}, {LIST, LIST, 0}, {LIST, LIST, 0}};
+
+static int file;
+static zelamiku_threads all;
+
+static void begin_anew(void) {
+    zelamiku_handle heap = ZELAMIKU_NONE;
+    MUST(zelamiku_format_file(&heap, file, 2, FIELDS, 3, LANES, 4000) == ZELAMIKU_OK);
+    MUST(zelamiku_threads_start(&all, &heap, file, 1000) == ZELAMIKU_OK && all.lanes == LANES);
+}
+
+static void begin_again(void) {
+    zelamiku_handle heap = ZELAMIKU_NONE;
+    zelamiku_found found = {0};
+    MUST(zelamiku_open_file(&heap, file, &found) == ZELAMIKU_OK);
+    MUST(zelamiku_threads_start(&all, &heap, file, 1000) == ZELAMIKU_OK);
+}
+
+static uint64_t add(zelamiku_thread *own, uint32_t object, uint32_t field, uint64_t more) {
+    uint64_t value = 0;
+    MUST(zelamiku_thread_enter(own, object) == ZELAMIKU_OK && zelamiku_thread_load(own, field, &value) == ZELAMIKU_OK);
+    if (more > 0) MUST(zelamiku_thread_store(own, field, value + more) == ZELAMIKU_OK);
+    MUST(zelamiku_thread_exit(own, object) == ZELAMIKU_OK);
+    return value;
+}
+
+static uint64_t look(uint32_t object, uint32_t field) {
+    zelamiku_thread own;
+    MUST(zelamiku_thread_begin(&own, &all) == ZELAMIKU_OK);
+    uint64_t value = add(&own, object, field, 0);
+    MUST(zelamiku_thread_end(&own) == ZELAMIKU_OK);
+    return value;
+}
+
+static void run(void *(*body)(void *), unsigned count) {
+    pthread_t threads[LANES];
+    for (unsigned i = 0; i < count; i++) MUST(pthread_create(&threads[i], NULL, body, (void *)(uintptr_t)i) == 0);
+    for (unsigned i = 0; i < count; i++) MUST(pthread_join(threads[i], NULL) == 0);
+}
+
+static void *count(void *data) {
+    zelamiku_thread own;
+    MUST(zelamiku_thread_begin(&own, &all) == ZELAMIKU_OK);
+    for (unsigned i = 1; i <= ROUNDS; i++) {
+        add(&own, TOTAL, 0, 1);
+        MUST(zelamiku_thread_sections(&own) == i);
+        if ((uintptr_t)data < 4 && i % 8 == 0)
+            MUST(zelamiku_thread_await(&own) == ZELAMIKU_OK && zelamiku_thread_durable(&own) == i);
+    }
+    MUST(zelamiku_thread_end(&own) == ZELAMIKU_OK);
+    return NULL;
+}
+
+/* Even ones put, odd ones take, and at most four are there. */
+static void *pass(void *data) {
+    bool puts = (uintptr_t)data % 2 == 0;
+    zelamiku_thread own;
+    uint64_t value = 0;
+    MUST(zelamiku_thread_begin(&own, &all) == ZELAMIKU_OK);
+    for (unsigned i = 0; i < ROUNDS; i++) {
+        MUST(zelamiku_thread_enter(&own, LIST) == ZELAMIKU_OK);
+        for (;;) {
+            MUST(zelamiku_thread_load(&own, COUNT, &value) == ZELAMIKU_OK);
+            if (value != (puts ? 4 : 0)) break;
+            MUST(zelamiku_thread_wait(&own, LIST) == ZELAMIKU_OK);
+        }
+        MUST(zelamiku_thread_store(&own, COUNT, puts ? value + 1 : value - 1) == ZELAMIKU_OK);
+        if (!puts) {
+            MUST(zelamiku_thread_load(&own, TAKEN, &value) == ZELAMIKU_OK);
+            MUST(zelamiku_thread_store(&own, TAKEN, value + 1) == ZELAMIKU_OK);
+        }
+        MUST(zelamiku_thread_notify_all(&own, LIST) == ZELAMIKU_OK && zelamiku_thread_exit(&own, LIST) == ZELAMIKU_OK);
+    }
+    MUST(zelamiku_thread_end(&own) == ZELAMIKU_OK);
+    return NULL;
+}
+
+static void lives(void) {
+    begin_anew();
+    run(count, LANES);
+    run(pass, LANES);
+    MUST(zelamiku_threads_stop(&all) == ZELAMIKU_OK);
+    begin_again();
+    MUST(look(TOTAL, 0) == LANES * ROUNDS && look(LIST, COUNT) == 0 && look(LIST, TAKEN) == LANES / 2 * ROUNDS);
+    MUST(zelamiku_threads_stop(&all) == ZELAMIKU_OK);
+}
+
+static void *wait_once(void *data) {
+    zelamiku_thread own;
+    MUST(zelamiku_thread_begin(&own, &all) == ZELAMIKU_OK && zelamiku_thread_enter(&own, TOTAL) == ZELAMIKU_OK);
+    MUST(zelamiku_thread_enter(&own, TOTAL) == ZELAMIKU_OK && zelamiku_thread_store(&own, 0, 1) == ZELAMIKU_OK);
+    uint32_t status = zelamiku_thread_wait(&own, TOTAL);
+    if (status != ZELAMIKU_OK) return (void *)(uintptr_t)status;
+    MUST(zelamiku_thread_exit(&own, TOTAL) == ZELAMIKU_OK && zelamiku_thread_exit(&own, TOTAL) == ZELAMIKU_OK);
+    MUST(zelamiku_thread_exit(&own, TOTAL) == ZELAMIKU_NOT_HELD);
+    MUST(zelamiku_thread_sections(&own) == 2 && zelamiku_thread_await(&own) == ZELAMIKU_OK);
+    MUST(zelamiku_thread_end(&own) == ZELAMIKU_OK);
+    (void)data;
+    return NULL;
+}
+
+static void await_waiter(zelamiku_thread *own) {
+    while (add(own, TOTAL, 0, 0) == 0) sched_yield();
+}
+
+/* A heap isn't stopped while a session waits or a section is open, and lanes come and go. */
+static void refusals(void) {
+    begin_anew();
+    zelamiku_thread own, others[LANES];
+    pthread_t waiter;
+    bool is_woken = true;
+    MUST(zelamiku_thread_begin(&own, &all) == ZELAMIKU_OK);
+    MUST(pthread_create(&waiter, NULL, wait_once, NULL) == 0);
+    await_waiter(&own);
+    MUST(zelamiku_threads_stop(&all) == ZELAMIKU_RUNNING);
+    MUST(zelamiku_thread_enter(&own, 2) == ZELAMIKU_UNKNOWN_OBJECT && zelamiku_thread_notify(&own, TOTAL, &is_woken) == ZELAMIKU_NOT_HELD);
+    MUST(!is_woken && zelamiku_thread_enter(&own, TOTAL) == ZELAMIKU_OK);
+    MUST(zelamiku_thread_store(&own, 3, 0) == ZELAMIKU_UNKNOWN_FIELD);
+    MUST(zelamiku_thread_notify(&own, TOTAL, &is_woken) == ZELAMIKU_OK && is_woken);
+    MUST(zelamiku_thread_notify(&own, TOTAL, &is_woken) == ZELAMIKU_OK && !is_woken);
+    MUST(zelamiku_thread_end(&own) == ZELAMIKU_UNFINISHED && zelamiku_thread_exit(&own, TOTAL) == ZELAMIKU_OK);
+    MUST(pthread_join(waiter, NULL) == 0);
+    for (unsigned i = 0; i < LANES - 1; i++) MUST(zelamiku_thread_begin(&others[i], &all) == ZELAMIKU_OK);
+    MUST(zelamiku_thread_begin(&others[LANES - 1], &all) == ZELAMIKU_NONE_LEFT);
+    MUST(zelamiku_thread_end(&others[0]) == ZELAMIKU_OK && zelamiku_thread_begin(&others[0], &all) == ZELAMIKU_OK);
+    MUST(zelamiku_thread_sections(&others[0]) == 0 && zelamiku_thread_await(&others[0]) == ZELAMIKU_OK);
+    MUST(zelamiku_thread_enter(&others[0], LIST) == ZELAMIKU_OK && zelamiku_threads_stop(&all) == ZELAMIKU_RUNNING);
+    MUST(zelamiku_thread_exit(&others[0], LIST) == ZELAMIKU_OK);
+    /* Those that are lent and have nothing open don't matter. */
+    MUST(zelamiku_threads_stop(&all) == ZELAMIKU_OK);
+}
+
+static void failing_writes(void) {
+    begin_anew();
+    zelamiku_thread own;
+    MUST(zelamiku_thread_begin(&own, &all) == ZELAMIKU_OK);
+    add(&own, TOTAL, 0, 1);
+    MUST(zelamiku_thread_await(&own) == ZELAMIKU_OK);
+    __atomic_store_n(&writes_fail, 1, __ATOMIC_SEQ_CST);
+    add(&own, TOTAL, 0, 1);
+    for (int i = 0; i < 3; i++) {
+        errno = 0;
+        MUST(zelamiku_thread_await(&own) == ZELAMIKU_DEVICE && errno == ENOSPC);
+    }
+    MUST(zelamiku_thread_durable(&own) == 1 && zelamiku_threads_stop(&all) == ZELAMIKU_DEVICE);
+    /* A lane without room is told too. */
+    uint32_t status = ZELAMIKU_OK;
+    while ((status = zelamiku_thread_enter(&own, TOTAL)) == ZELAMIKU_OK)
+        MUST(zelamiku_thread_store(&own, 0, 7) == ZELAMIKU_OK && zelamiku_thread_exit(&own, TOTAL) == ZELAMIKU_OK);
+    MUST(status == ZELAMIKU_DEVICE);
+    __atomic_store_n(&writes_fail, 0, __ATOMIC_SEQ_CST);
+    MUST(zelamiku_thread_await(&own) == ZELAMIKU_OK && zelamiku_thread_durable(&own) == zelamiku_thread_sections(&own));
+    MUST(zelamiku_threads_stop(&all) == ZELAMIKU_OK);
+    begin_again();
+    MUST(look(TOTAL, 0) == 7 && zelamiku_threads_stop(&all) == ZELAMIKU_OK);
+}
+
+static void failing_syncs(void) {
+    begin_anew();
+    zelamiku_thread own;
+    pthread_t waiter;
+    void *answer = NULL;
+    MUST(zelamiku_thread_begin(&own, &all) == ZELAMIKU_OK && pthread_create(&waiter, NULL, wait_once, NULL) == 0);
+    await_waiter(&own);
+    add(&own, TOTAL, 0, 1);
+    MUST(zelamiku_thread_await(&own) == ZELAMIKU_OK);
+    __atomic_store_n(&syncs_fail, 1, __ATOMIC_SEQ_CST);
+    add(&own, TOTAL, 0, 1);
+    MUST(zelamiku_thread_await(&own) == ZELAMIKU_LOST);
+    __atomic_store_n(&syncs_fail, 0, __ATOMIC_SEQ_CST);
+    unsigned before = __atomic_load_n(&syncs, __ATOMIC_SEQ_CST);
+    MUST(pthread_join(waiter, &answer) == 0 && (uintptr_t)answer == ZELAMIKU_LOST);
+    zelamiku_thread other;
+    MUST(zelamiku_thread_enter(&own, TOTAL) == ZELAMIKU_LOST && zelamiku_thread_begin(&other, &all) == ZELAMIKU_LOST);
+    MUST(zelamiku_thread_await(&own) == ZELAMIKU_LOST && zelamiku_threads_stop(&all) == ZELAMIKU_LOST);
+    MUST(__atomic_load_n(&syncs, __ATOMIC_SEQ_CST) == before);
+    begin_again();
+    uint64_t value = look(TOTAL, 0);
+    MUST((value == 2 || value == 3) && zelamiku_threads_stop(&all) == ZELAMIKU_OK);
+}
+
+static double processor_time(void) {
+    struct rusage usage;
+    MUST(getrusage(RUSAGE_SELF, &usage) == 0);
+    return (double)(usage.ru_utime.tv_sec + usage.ru_stime.tv_sec) + 1e-6 * (double)(usage.ru_utime.tv_usec + usage.ru_stime.tv_usec);
+}
+
+/* A heap with nothing to do, and a thread that waits, take no processor time. */
+static void rest(unsigned milliseconds) {
+    begin_anew();
+    zelamiku_thread own;
+    pthread_t waiter;
+    struct timespec pause = {milliseconds / 1000, (long)(milliseconds % 1000) * 1000000};
+    bool is_woken = false;
+    MUST(zelamiku_thread_begin(&own, &all) == ZELAMIKU_OK && pthread_create(&waiter, NULL, wait_once, NULL) == 0);
+    await_waiter(&own);
+    MUST(zelamiku_thread_await(&own) == ZELAMIKU_OK);
+    struct timespec settle = {0, 50000000};
+    nanosleep(&settle, NULL);
+    double before = processor_time();
+    nanosleep(&pause, NULL);
+    double taken = processor_time() - before;
+    printf("at rest for %u ms: %.6f s of processor time\n", milliseconds, taken);
+    MUST(taken < 0.01);
+    MUST(zelamiku_thread_enter(&own, TOTAL) == ZELAMIKU_OK && zelamiku_thread_notify(&own, TOTAL, &is_woken) == ZELAMIKU_OK && is_woken);
+    MUST(zelamiku_thread_exit(&own, TOTAL) == ZELAMIKU_OK && pthread_join(waiter, NULL) == 0);
+    MUST(zelamiku_threads_stop(&all) == ZELAMIKU_OK);
+}
+
+int main(int argc, char **argv) {
+    MUST(argc >= 2 && chdir(argv[1]) == 0);
+    file = open("threads.image", O_RDWR | O_CREAT | O_TRUNC, 0644);
+    MUST(file >= 0);
+    lives();
+    refusals();
+    failing_writes();
+    failing_syncs();
+    rest(argc > 2 ? (unsigned)strtoul(argv[2], NULL, 10) : 200);
+    printf("threads: lives of %d threads, refusals, writes and syncs that fail, and rest\n", LANES);
+    return 0;
+}

@@ -1,0 +1,675 @@
+/* Zelamiku for threads: a helper's thread, and threads that sleep where they wait, over zelamiku_file.h.
+ *
+ * Over these calls a program's threads use a heap in a file as they use mutexes and condition variables. The helper makes rounds while
+ * there is work, and their calls on the file; without work it sleeps. Nothing spins but for a moment. Like zelamiku_file.h this is C,
+ * and nothing proves it. Define _POSIX_C_SOURCE as 200809L, or _GNU_SOURCE, before the first #include, and link with -pthread.
+ *
+ *     zelamiku_threads all;                                                  not to be moved or copied
+ *     zelamiku_handle heap = ZELAMIKU_NONE;
+ *     if (zelamiku_open_file(&heap, file, &found) != ZELAMIKU_OK) ...       or zelamiku_format_file
+ *     if (zelamiku_threads_start(&all, &heap, file, 5000) != ZELAMIKU_OK) ...
+ *     zelamiku_thread own;
+ *     if (zelamiku_thread_begin(&own, &all) != ZELAMIKU_OK) ...              in each thread
+ *     if (zelamiku_thread_enter(&own, ACCOUNT) != ZELAMIKU_OK) ...           sleeps while another thread has the monitor
+ *     if (zelamiku_thread_store(&own, BALANCE, 90) != ZELAMIKU_OK) ...
+ *     if (zelamiku_thread_exit(&own, ACCOUNT) != ZELAMIKU_OK) ...            the section ends
+ *     if (zelamiku_thread_await(&own) != ZELAMIKU_OK) ...                    sleeps until no crash loses it
+ *     zelamiku_thread_end(&own);
+ *     if (zelamiku_threads_stop(&all) != ZELAMIKU_OK) ...                    closes the heap; then close the file
+ *
+ * What the caller upholds besides the rules of zelamiku.h and zelamiku_file.h:
+ *  - between start and stop nothing else uses the heap's handle or the file;
+ *  - one call at a time has a zelamiku_thread, which may go to another thread, as a handle may;
+ *  - a thread ends the sections that it begins: one that holds a monitor for ever keeps all that depends on its section from ever being
+ *    acknowledged, and zelamiku_threads_stop answers RUNNING.
+ *
+ * When the heap ends. A write that fails is answered DEVICE by those that wait for a round, with errno as the system left it. Nothing is
+ * lost: it is made again by the next call that waits for a round, and by the helper each second. A sync that fails is never made again:
+ * the heap is let go, and every call answers LOST from then on (zelamiku_make_calls). FAULT, FAILED and WORN of a round end it too. What
+ * was acknowledged stays. Then zelamiku_threads_stop answers the same, and lets all go. */
+#ifndef ZELAMIKU_THREADS_H
+#define ZELAMIKU_THREADS_H
+#include <pthread.h>
+#include <time.h>
+#include "zelamiku_file.h"
+#ifdef HELGRIND /* which knows nothing of atomics */
+#include <valgrind/helgrind.h>
+#define ZELAMIKU_IS_ATOMIC(place) VALGRIND_HG_DISABLE_CHECKING(&(place), sizeof(place))
+#else
+#define ZELAMIKU_IS_ATOMIC(place) ((void)0)
+#endif
+#ifdef __cplusplus
+extern "C" {
+#endif
+
+enum {
+    ZELAMIKU_THREADS_BUCKETS = 64,
+    ZELAMIKU_THREADS_TRIES = 40,   /* before a thread sleeps for a monitor */
+    ZELAMIKU_THREADS_DEMANDS = 3,  /* rounds that one without room asks for; a later one follows the end of another section */
+    ZELAMIKU_THREADS_RECORDS = 1000, /* of a lane, after which a round is asked for at a section's end: about a quarter of its ring */
+    ZELAMIKU_THREADS_CLOSING = 255 /* no status: zelamiku_threads_stop looks whether it may */
+};
+
+/* What others tell the thread that has a lane, and what it keeps of itself. The words that say "atomic" are read and written by __atomic
+ * builtins, those that say "mutex" under that of the heap, and the others by the thread that has the lane. */
+typedef struct {
+    zelamiku_handle session;
+    pthread_mutex_t mutex; /* of the bell, on which this thread sleeps alone, so that a wake wakes one */
+    pthread_cond_t bell;
+    bool is_rung;
+    bool is_lent;          /* mutex */
+    uint32_t wanted;       /* mutex: the object whose monitor it waits for, plus one; 0: none */
+    uint64_t turn;         /* mutex: who waits for it longest has the least */
+    uint32_t awaits;       /* atomic: it sleeps until `ended` sections are acknowledged */
+    uint32_t is_behind;    /* atomic: it sleeps until a round has ended */
+    uint32_t is_busy;      /* atomic: a section is open, or it waits */
+    uint64_t ended;        /* atomic: how many sections the lane has ended */
+    uint64_t acknowledged; /* atomic: how many of them are durable */
+    uint32_t records;      /* about how many it has sent since it last asked for a round */
+    uint32_t held_count;
+    struct {
+        uint32_t object, locks;
+    } held[ZELAMIKU_MOST_HELD];
+} zelamiku_seat;
+
+typedef struct {
+    zelamiku_handle heap;
+    int descriptor;
+    uint32_t lanes;
+    uint64_t linger; /* nanoseconds */
+    pthread_t helper;
+    pthread_mutex_t mutex;
+    pthread_cond_t bell; /* the helper's */
+    pthread_cond_t told; /* of whom stops */
+    uint32_t over;       /* atomic: the status that all calls answer; 0 while the heap goes on */
+    uint32_t has_work;   /* atomic: a section has ended since the last round began */
+    uint32_t awaiting;   /* atomic: how many threads wait for a round */
+    uint64_t rounds;     /* atomic: how many have ended */
+    uint64_t troubles;   /* atomic: of how many a write has failed */
+    int error;           /* atomic: the errno of the last of these */
+    uint32_t waiting[ZELAMIKU_THREADS_BUCKETS]; /* atomic: how many wait for monitors, by the object modulo the buckets */
+    uint64_t turns;                             /* mutex: how many turns were given */
+    bool is_urgent, is_ending, is_troubled, is_asleep; /* mutex: of the helper */
+    zelamiku_seat seats[ZELAMIKU_MOST_LANES];
+} zelamiku_threads;
+
+/* One thread's use of the heap: a lane of it. */
+typedef struct {
+    zelamiku_threads *all;
+    uint32_t lane;
+    uint64_t before; /* the sections that the lane had ended when it was handed out */
+} zelamiku_thread;
+
+/* ---- what the calls below are made of ---- */
+
+static inline zelamiku_seat *zelamiku_seat_of(const zelamiku_thread *thread) {
+    return &thread->all->seats[thread->lane];
+}
+
+/* The status with which the heap has ended, 0 where it goes on. While a stop looks, the answer is awaited. */
+static inline uint32_t zelamiku_threads_over(zelamiku_threads *all) {
+    uint32_t over = __atomic_load_n(&all->over, __ATOMIC_SEQ_CST);
+    if (over != ZELAMIKU_THREADS_CLOSING) return over;
+    pthread_mutex_lock(&all->mutex);
+    over = __atomic_load_n(&all->over, __ATOMIC_SEQ_CST);
+    pthread_mutex_unlock(&all->mutex);
+    return over;
+}
+
+/* Sleeps until somebody rings, or has since the last sleep. It may have been for a reason that is past: look again. */
+static inline void zelamiku_seat_sleep(zelamiku_seat *seat) {
+    pthread_mutex_lock(&seat->mutex);
+    while (!seat->is_rung) pthread_cond_wait(&seat->bell, &seat->mutex);
+    seat->is_rung = false;
+    pthread_mutex_unlock(&seat->mutex);
+}
+
+static inline void zelamiku_seat_ring(zelamiku_seat *seat) {
+    pthread_mutex_lock(&seat->mutex);
+    if (!seat->is_rung) pthread_cond_signal(&seat->bell);
+    seat->is_rung = true;
+    pthread_mutex_unlock(&seat->mutex);
+}
+
+/* Tells the helper, of work, or that somebody waits for a round. */
+static inline void zelamiku_threads_call(zelamiku_threads *all, bool is_urgent) {
+    pthread_mutex_lock(&all->mutex);
+    all->is_urgent |= is_urgent;
+    if (all->is_asleep) pthread_cond_signal(&all->bell);
+    pthread_mutex_unlock(&all->mutex);
+}
+
+/* Wakes the one that waits longest for the object's monitor. It stays where it waits until it has the monitor, so it may be woken twice,
+ * and another one not at all: whoever has the monitor then wakes it. */
+static inline void zelamiku_threads_wake(zelamiku_threads *all, uint32_t object) {
+    zelamiku_seat *first = NULL;
+    pthread_mutex_lock(&all->mutex);
+    for (uint32_t lane = 0; lane < all->lanes; lane++) {
+        zelamiku_seat *seat = &all->seats[lane];
+        if (seat->wanted == object + 1 && (first == NULL || seat->turn < first->turn)) first = seat;
+    }
+    pthread_mutex_unlock(&all->mutex);
+    if (first != NULL) zelamiku_seat_ring(first);
+}
+
+/* The lane waits for the object's monitor from now on; whether it didn't before. A try comes after it, so that whoever frees the monitor
+ * behind that try finds the lane here. */
+static inline bool zelamiku_threads_want(zelamiku_threads *all, zelamiku_seat *seat, uint32_t object) {
+    pthread_mutex_lock(&all->mutex);
+    bool is_new = seat->wanted == 0;
+    if (is_new) {
+        seat->wanted = object + 1;
+        seat->turn = ++all->turns;
+        __atomic_add_fetch(&all->waiting[object % ZELAMIKU_THREADS_BUCKETS], 1, __ATOMIC_SEQ_CST);
+    }
+    pthread_mutex_unlock(&all->mutex);
+    __atomic_thread_fence(__ATOMIC_SEQ_CST);
+    return is_new;
+}
+
+/* The lane waits for no monitor any more. One that hasn't taken it hands its wake on. */
+static inline void zelamiku_threads_want_no_more(zelamiku_threads *all, zelamiku_seat *seat, bool has_taken) {
+    pthread_mutex_lock(&all->mutex);
+    uint32_t wanted = seat->wanted;
+    seat->wanted = 0;
+    if (wanted != 0) __atomic_sub_fetch(&all->waiting[(wanted - 1) % ZELAMIKU_THREADS_BUCKETS], 1, __ATOMIC_SEQ_CST);
+    pthread_mutex_unlock(&all->mutex);
+    if (wanted != 0 && !has_taken) zelamiku_threads_wake(all, wanted - 1);
+}
+
+/* A monitor was freed, and with it a section may have ended, after which the thread has nothing open unless it waits. The fence orders
+ * these before the looks at who waits for the monitor and at whether the helper knows of work. */
+static inline void zelamiku_threads_freed(zelamiku_threads *all, zelamiku_seat *seat, uint32_t object, bool waits) {
+    bool has_ended = seat->held_count == 0;
+    if (has_ended) __atomic_store_n(&seat->ended, seat->ended + 1, __ATOMIC_SEQ_CST);
+    bool is_urgent = has_ended && seat->records >= ZELAMIKU_THREADS_RECORDS;
+    if (is_urgent) seat->records = 0;
+    __atomic_thread_fence(__ATOMIC_SEQ_CST);
+    if (__atomic_load_n(&all->waiting[object % ZELAMIKU_THREADS_BUCKETS], __ATOMIC_RELAXED) > 0) zelamiku_threads_wake(all, object);
+    if (is_urgent || (has_ended && __atomic_load_n(&all->has_work, __ATOMIC_RELAXED) == 0 &&
+                      __atomic_exchange_n(&all->has_work, 1, __ATOMIC_SEQ_CST) == 0))
+        zelamiku_threads_call(all, is_urgent);
+    if (has_ended && !waits) __atomic_store_n(&seat->is_busy, 0, __ATOMIC_SEQ_CST);
+}
+
+/* DEVICE, and the cause in errno, where a write has failed since there were so many troubles. */
+static inline uint32_t zelamiku_threads_trouble(zelamiku_threads *all, uint64_t troubles) {
+    if (__atomic_load_n(&all->troubles, __ATOMIC_SEQ_CST) == troubles) return ZELAMIKU_OK;
+    errno = __atomic_load_n(&all->error, __ATOMIC_SEQ_CST);
+    return ZELAMIKU_DEVICE;
+}
+
+/* Sleeps until a round has ended after that one. */
+static inline uint32_t zelamiku_threads_sleep(zelamiku_threads *all, zelamiku_seat *seat, uint64_t rounds, unsigned *demands) {
+    uint64_t troubles = __atomic_load_n(&all->troubles, __ATOMIC_SEQ_CST);
+    uint32_t status;
+    __atomic_add_fetch(&all->awaiting, 1, __ATOMIC_SEQ_CST);
+    __atomic_store_n(&seat->is_behind, 1, __ATOMIC_SEQ_CST);
+    if (*demands < ZELAMIKU_THREADS_DEMANDS) {
+        ++*demands;
+        zelamiku_threads_call(all, true);
+    }
+    while ((status = zelamiku_threads_trouble(all, troubles)) == ZELAMIKU_OK && (status = zelamiku_threads_over(all)) == ZELAMIKU_OK &&
+           __atomic_load_n(&all->rounds, __ATOMIC_SEQ_CST) == rounds)
+        zelamiku_seat_sleep(seat);
+    __atomic_store_n(&seat->is_behind, 0, __ATOMIC_SEQ_CST);
+    __atomic_sub_fetch(&all->awaiting, 1, __ATOMIC_SEQ_CST);
+    return status;
+}
+
+/* ---- the helper ---- */
+
+/* Makes the calls that a failed write left, a round, and its calls. */
+static inline uint32_t zelamiku_threads_round(zelamiku_threads *all) {
+    uint64_t count = 0;
+    __atomic_store_n(&all->has_work, 0, __ATOMIC_SEQ_CST);
+    __atomic_thread_fence(__ATOMIC_SEQ_CST);
+    uint32_t status = zelamiku_make_calls(&all->heap, all->descriptor, &count);
+    if (status == ZELAMIKU_OK) status = zelamiku_round(&all->heap, &count);
+    if (status == ZELAMIKU_OK) status = zelamiku_make_calls(&all->heap, all->descriptor, &count);
+    for (uint32_t lane = 0; status == ZELAMIKU_OK && lane < all->lanes; lane++) {
+        uint64_t sections = 0;
+        status = zelamiku_acknowledged(&all->heap, lane, &sections);
+        if (status == ZELAMIKU_OK) __atomic_store_n(&all->seats[lane].acknowledged, sections, __ATOMIC_SEQ_CST);
+    }
+    return status;
+}
+
+static inline bool zelamiku_seat_is_durable(zelamiku_seat *seat) {
+    return __atomic_load_n(&seat->acknowledged, __ATOMIC_SEQ_CST) >= __atomic_load_n(&seat->ended, __ATOMIC_SEQ_CST);
+}
+
+/* Wakes those that waited for this round, and all where it went wrong. */
+static inline void zelamiku_threads_tell(zelamiku_threads *all, uint32_t status, int error) {
+    if (status == ZELAMIKU_DEVICE) {
+        __atomic_store_n(&all->error, error, __ATOMIC_SEQ_CST);
+        __atomic_add_fetch(&all->troubles, 1, __ATOMIC_SEQ_CST);
+    } else if (status != ZELAMIKU_OK) {
+        __atomic_store_n(&all->over, status, __ATOMIC_SEQ_CST);
+    }
+    __atomic_add_fetch(&all->rounds, 1, __ATOMIC_SEQ_CST);
+    for (uint32_t lane = 0; lane < all->lanes; lane++) {
+        zelamiku_seat *seat = &all->seats[lane];
+        bool is_told = status != ZELAMIKU_OK || __atomic_load_n(&seat->is_behind, __ATOMIC_SEQ_CST) != 0 ||
+                       (__atomic_load_n(&seat->awaits, __ATOMIC_SEQ_CST) != 0 && zelamiku_seat_is_durable(seat));
+        if (is_told) zelamiku_seat_ring(seat);
+    }
+}
+
+static inline struct timespec zelamiku_threads_after(uint64_t nanoseconds) {
+    struct timespec due = {0, 0};
+    (void)clock_gettime(CLOCK_MONOTONIC, &due);
+    due.tv_sec += (time_t)(nanoseconds / 1000000000u);
+    due.tv_nsec += (long)(nanoseconds % 1000000000u);
+    if (due.tv_nsec >= 1000000000) {
+        due.tv_sec++;
+        due.tv_nsec -= 1000000000;
+    }
+    return due;
+}
+
+/* Under the mutex: sleeps until there is something to do. A section that nobody waits for may lie for the linger, and calls of which a
+ * write failed are made again after a second. */
+static inline void zelamiku_threads_rest(zelamiku_threads *all) {
+    bool has_due = false;
+    struct timespec due = {0, 0};
+    while (!all->is_ending && !all->is_urgent) {
+        bool has_work = __atomic_load_n(&all->has_work, __ATOMIC_SEQ_CST) != 0;
+        if (has_work && __atomic_load_n(&all->awaiting, __ATOMIC_SEQ_CST) > 0 && !all->is_troubled) return;
+        if (!has_due && (all->is_troubled || has_work)) {
+            due = zelamiku_threads_after(all->is_troubled ? 1000000000u : all->linger);
+            has_due = true;
+        }
+        all->is_asleep = true;
+        int answer = has_due ? pthread_cond_timedwait(&all->bell, &all->mutex, &due) : pthread_cond_wait(&all->bell, &all->mutex);
+        all->is_asleep = false;
+        if (answer == ETIMEDOUT) return;
+    }
+}
+
+static inline void *zelamiku_threads_help(void *data) {
+    zelamiku_threads *all = (zelamiku_threads *)data;
+    pthread_mutex_lock(&all->mutex);
+    for (;;) {
+        zelamiku_threads_rest(all);
+        if (all->is_ending) break;
+        all->is_urgent = false;
+        pthread_mutex_unlock(&all->mutex);
+        uint32_t status = zelamiku_threads_round(all);
+        int error = errno;
+        zelamiku_threads_tell(all, status, error);
+        pthread_mutex_lock(&all->mutex);
+        all->is_troubled = status == ZELAMIKU_DEVICE;
+        pthread_cond_broadcast(&all->told);
+        if (status != ZELAMIKU_OK && !all->is_troubled) break;
+    }
+    pthread_mutex_unlock(&all->mutex);
+    return NULL;
+}
+
+/* Lets go of the heap, the sessions, and what they sleep on. */
+static inline void zelamiku_threads_let_go(zelamiku_threads *all) {
+    zelamiku_free(&all->heap);
+    for (uint32_t lane = 0; lane < all->lanes; lane++) {
+        zelamiku_free(&all->seats[lane].session);
+        pthread_cond_destroy(&all->seats[lane].bell);
+        pthread_mutex_destroy(&all->seats[lane].mutex);
+    }
+    pthread_cond_destroy(&all->bell);
+    pthread_cond_destroy(&all->told);
+    pthread_mutex_destroy(&all->mutex);
+}
+
+/* ---- the heap ---- */
+
+/* Takes over a heap that was opened or made on the file, and starts its helper. A section that nobody waits for is durable at the
+ * latest so many microseconds, and a round, after its end; 5,000 is a good number, and a less one makes more syncs.
+ * CLOSED, WRONG_KIND, NO_MEMORY (no thread could be started, too: errno says why): the heap's handle may only be freed. */
+ZELAMIKU_MUST_USE static inline uint32_t zelamiku_threads_start(zelamiku_threads *all, zelamiku_handle *heap, int descriptor,
+                                                                uint32_t linger) {
+    memset(all, 0, sizeof *all);
+    all->descriptor = descriptor;
+    all->linger = (uint64_t)linger * 1000;
+    uint32_t status = ZELAMIKU_OK;
+    while (all->lanes < ZELAMIKU_MOST_LANES &&
+           (status = zelamiku_session(heap, &all->seats[all->lanes].session)) == ZELAMIKU_OK)
+        all->lanes++;
+    if (status != ZELAMIKU_OK && status != ZELAMIKU_NONE_LEFT) {
+        for (uint32_t lane = 0; lane < all->lanes; lane++) zelamiku_free(&all->seats[lane].session);
+        return status;
+    }
+    pthread_condattr_t monotonic;
+    (void)pthread_condattr_init(&monotonic);
+    (void)pthread_condattr_setclock(&monotonic, CLOCK_MONOTONIC);
+    (void)pthread_cond_init(&all->bell, &monotonic);
+    (void)pthread_condattr_destroy(&monotonic);
+    (void)pthread_cond_init(&all->told, NULL);
+    (void)pthread_mutex_init(&all->mutex, NULL);
+    ZELAMIKU_IS_ATOMIC(all->over);
+    ZELAMIKU_IS_ATOMIC(all->has_work);
+    ZELAMIKU_IS_ATOMIC(all->awaiting);
+    ZELAMIKU_IS_ATOMIC(all->rounds);
+    ZELAMIKU_IS_ATOMIC(all->troubles);
+    ZELAMIKU_IS_ATOMIC(all->error);
+    ZELAMIKU_IS_ATOMIC(all->waiting);
+    for (uint32_t lane = 0; lane < all->lanes; lane++) {
+        zelamiku_seat *seat = &all->seats[lane];
+        (void)pthread_mutex_init(&seat->mutex, NULL);
+        (void)pthread_cond_init(&seat->bell, NULL);
+        ZELAMIKU_IS_ATOMIC(seat->awaits);
+        ZELAMIKU_IS_ATOMIC(seat->is_behind);
+        ZELAMIKU_IS_ATOMIC(seat->is_busy);
+        ZELAMIKU_IS_ATOMIC(seat->ended);
+        ZELAMIKU_IS_ATOMIC(seat->acknowledged);
+    }
+    all->heap = *heap;
+    memset(heap, 0, sizeof *heap);
+    /* What opening or making left to be called is made with the first round. */
+    all->is_urgent = true;
+    errno = pthread_create(&all->helper, NULL, zelamiku_threads_help, all);
+    if (errno == 0) return ZELAMIKU_OK;
+    zelamiku_threads_let_go(all);
+    return ZELAMIKU_NO_MEMORY;
+}
+
+/* Under the mutex: whether nothing is open and all is durable, so that no section begins any more. RUNNING: a section is open or a
+ * session waits. CALLS_LEFT: a section has ended since the last round. */
+static inline uint32_t zelamiku_threads_try_stop(zelamiku_threads *all) {
+    uint32_t status = ZELAMIKU_OK;
+    __atomic_store_n(&all->over, ZELAMIKU_THREADS_CLOSING, __ATOMIC_SEQ_CST);
+    for (uint32_t lane = 0; lane < all->lanes; lane++) {
+        zelamiku_seat *seat = &all->seats[lane];
+        if (__atomic_load_n(&seat->is_busy, __ATOMIC_SEQ_CST) != 0)
+            status = ZELAMIKU_RUNNING;
+        else if (status == ZELAMIKU_OK && !zelamiku_seat_is_durable(seat))
+            status = ZELAMIKU_CALLS_LEFT;
+    }
+    __atomic_store_n(&all->over, status == ZELAMIKU_OK ? (uint32_t)ZELAMIKU_CLOSED : 0u, __ATOMIC_SEQ_CST);
+    return status;
+}
+
+/* Closes the heap, whose sections have all ended, makes all of them durable, ends the helper and lets all go. Other threads' calls answer
+ * CLOSED from then on, and no thread may be in one when this returns.
+ * RUNNING: a section is open or a session waits; DEVICE: a write has failed: the heap goes on, and may be stopped later. What the heap
+ * has ended with, as LOST: all was let go. */
+ZELAMIKU_MUST_USE static inline uint32_t zelamiku_threads_stop(zelamiku_threads *all) {
+    pthread_mutex_lock(&all->mutex);
+    uint64_t troubles = __atomic_load_n(&all->troubles, __ATOMIC_SEQ_CST);
+    uint32_t status = __atomic_load_n(&all->over, __ATOMIC_SEQ_CST);
+    while (status == ZELAMIKU_OK && (status = zelamiku_threads_try_stop(all)) == ZELAMIKU_CALLS_LEFT) {
+        uint64_t rounds = __atomic_load_n(&all->rounds, __ATOMIC_SEQ_CST);
+        all->is_urgent = true;
+        pthread_cond_signal(&all->bell);
+        while (__atomic_load_n(&all->rounds, __ATOMIC_SEQ_CST) == rounds) pthread_cond_wait(&all->told, &all->mutex);
+        status = zelamiku_threads_trouble(all, troubles);
+        if (status == ZELAMIKU_OK) status = __atomic_load_n(&all->over, __ATOMIC_SEQ_CST);
+    }
+    all->is_ending = status != ZELAMIKU_RUNNING && status != ZELAMIKU_DEVICE;
+    bool is_clean = status == ZELAMIKU_OK;
+    pthread_cond_signal(&all->bell);
+    pthread_mutex_unlock(&all->mutex);
+    if (status == ZELAMIKU_RUNNING || status == ZELAMIKU_DEVICE) return status;
+    (void)pthread_join(all->helper, NULL);
+    for (uint32_t lane = 0; status == ZELAMIKU_OK && lane < all->lanes; lane++) status = zelamiku_end(&all->seats[lane].session);
+    if (status == ZELAMIKU_OK) status = zelamiku_close(&all->heap);
+    uint64_t made = 0;
+    if (status == ZELAMIKU_OK) status = zelamiku_make_calls(&all->heap, all->descriptor, &made);
+    int error = errno;
+    zelamiku_threads_let_go(all);
+    errno = error;
+    /* All sections are durable, whatever became of the closing's own calls: what they leave is recovered. */
+    return is_clean && status == ZELAMIKU_DEVICE ? (uint32_t)ZELAMIKU_OK : status;
+}
+
+/* ---- a thread's use of the heap ---- */
+
+/* Each call of a thread also answers CLOSED once the heap was stopped, and what it has ended with, as LOST; nothing was done then, but
+ * that a wait is over, after which the thread doesn't hold that monitor. */
+
+/* Hands out a lane that nobody has. NONE_LEFT: each is lent. */
+ZELAMIKU_MUST_USE static inline uint32_t zelamiku_thread_begin(zelamiku_thread *thread, zelamiku_threads *all) {
+    thread->all = NULL;
+    uint32_t status = zelamiku_threads_over(all);
+    if (status != ZELAMIKU_OK) return status;
+    status = ZELAMIKU_NONE_LEFT;
+    pthread_mutex_lock(&all->mutex);
+    for (uint32_t lane = 0; lane < all->lanes && status != ZELAMIKU_OK; lane++) {
+        zelamiku_seat *seat = &all->seats[lane];
+        if (seat->is_lent) continue;
+        seat->is_lent = true;
+        thread->all = all;
+        thread->lane = lane;
+        thread->before = __atomic_load_n(&seat->ended, __ATOMIC_SEQ_CST);
+        status = ZELAMIKU_OK;
+    }
+    pthread_mutex_unlock(&all->mutex);
+    return status;
+}
+
+/* Gives the lane back, which may be handed out again. UNFINISHED: it holds a monitor: nothing was done. */
+ZELAMIKU_MUST_USE static inline uint32_t zelamiku_thread_end(zelamiku_thread *thread) {
+    zelamiku_threads *all = thread->all;
+    zelamiku_seat *seat = zelamiku_seat_of(thread);
+    uint32_t over = zelamiku_threads_over(all);
+    if (over != ZELAMIKU_OK) return over;
+    if (seat->held_count > 0) return ZELAMIKU_UNFINISHED;
+    pthread_mutex_lock(&all->mutex);
+    seat->is_lent = false;
+    pthread_mutex_unlock(&all->mutex);
+    thread->all = NULL;
+    return ZELAMIKU_OK;
+}
+
+/* Sleeps until the monitor can be taken. */
+static inline uint32_t zelamiku_thread_enter_slowly(zelamiku_threads *all, zelamiku_seat *seat, uint32_t object) {
+    unsigned demands = 0;
+    uint32_t status;
+    for (;;) {
+        uint64_t rounds = __atomic_load_n(&all->rounds, __ATOMIC_SEQ_CST);
+        status = zelamiku_threads_over(all);
+        if (status == ZELAMIKU_OK) status = zelamiku_try_enter(&seat->session, object);
+        if (status == ZELAMIKU_HELD) {
+            if (!zelamiku_threads_want(all, seat, object)) zelamiku_seat_sleep(seat);
+        } else if (status == ZELAMIKU_BEHIND) {
+            zelamiku_threads_want_no_more(all, seat, false);
+            status = zelamiku_threads_sleep(all, seat, rounds, &demands);
+            if (status != ZELAMIKU_OK) break;
+        } else {
+            break;
+        }
+    }
+    zelamiku_threads_want_no_more(all, seat, status == ZELAMIKU_OK);
+    return status;
+}
+
+/* Takes the object's monitor, or one lock more of it, and sleeps while another thread has it or the lane has no room before a round. Take
+ * monitors in one order everywhere: two threads that wait for each other's wait for ever.
+ * UNKNOWN_OBJECT, SECTION_FULL, TOO_MANY, TOO_DEEP, NO_FAT, WORN; DEVICE, where a round that was waited for can't write: what is held
+ * stays as it was. */
+ZELAMIKU_MUST_USE static inline uint32_t zelamiku_thread_enter(zelamiku_thread *thread, uint32_t object) {
+    zelamiku_threads *all = thread->all;
+    zelamiku_seat *seat = zelamiku_seat_of(thread);
+    bool begins = seat->held_count == 0;
+    if (begins) __atomic_store_n(&seat->is_busy, 1, __ATOMIC_SEQ_CST);
+    uint32_t status = zelamiku_threads_over(all);
+    bool goes_on = status == ZELAMIKU_OK;
+    for (unsigned tries = 0; goes_on && tries < ZELAMIKU_THREADS_TRIES; tries++) {
+        status = zelamiku_try_enter(&seat->session, object);
+        if (status != ZELAMIKU_HELD) break;
+    }
+    if (goes_on && (status == ZELAMIKU_HELD || status == ZELAMIKU_BEHIND)) status = zelamiku_thread_enter_slowly(all, seat, object);
+    if (status != ZELAMIKU_OK) {
+        if (begins) __atomic_store_n(&seat->is_busy, 0, __ATOMIC_SEQ_CST);
+        return status;
+    }
+    uint32_t place = 0;
+    while (place < seat->held_count && seat->held[place].object != object) place++;
+    if (place == seat->held_count) {
+        seat->held[place].object = object;
+        seat->held[place].locks = 0;
+        seat->held_count++;
+        seat->records++;
+    }
+    seat->held[place].locks++;
+    return ZELAMIKU_OK;
+}
+
+/* The lane has freed the monitor, by all its locks. */
+static inline void zelamiku_thread_forget(zelamiku_seat *seat, uint32_t place) {
+    seat->held[place] = seat->held[--seat->held_count];
+    seat->records++;
+}
+
+/* Gives one lock back, and with the last one the monitor. With the last monitor the section ends.
+ * UNKNOWN_OBJECT, NOT_HELD: nothing was done. */
+ZELAMIKU_MUST_USE static inline uint32_t zelamiku_thread_exit(zelamiku_thread *thread, uint32_t object) {
+    zelamiku_threads *all = thread->all;
+    zelamiku_seat *seat = zelamiku_seat_of(thread);
+    uint32_t status = zelamiku_exit(&seat->session, object);
+    if (status == ZELAMIKU_OK) {
+        uint32_t place = 0;
+        while (seat->held[place].object != object) place++;
+        if (--seat->held[place].locks == 0) {
+            zelamiku_thread_forget(seat, place);
+            zelamiku_threads_freed(all, seat, object, false);
+        }
+    }
+    uint32_t over = zelamiku_threads_over(all);
+    return over != ZELAMIKU_OK ? over : status;
+}
+
+/* Loads a field whose guard is held.
+ * UNKNOWN_FIELD, NOT_HELD: `value` is 0. */
+ZELAMIKU_MUST_USE static inline uint32_t zelamiku_thread_load(zelamiku_thread *thread, uint32_t field, uint64_t *value) {
+    *value = 0;
+    uint32_t over = zelamiku_threads_over(thread->all);
+    return over != ZELAMIKU_OK ? over : zelamiku_load(&zelamiku_seat_of(thread)->session, field, value);
+}
+
+/* Stores a field whose guard is held.
+ * UNKNOWN_FIELD, NOT_HELD, SECTION_FULL: nothing was stored. */
+ZELAMIKU_MUST_USE static inline uint32_t zelamiku_thread_store(zelamiku_thread *thread, uint32_t field, uint64_t value) {
+    zelamiku_seat *seat = zelamiku_seat_of(thread);
+    uint32_t over = zelamiku_threads_over(thread->all);
+    if (over != ZELAMIKU_OK) return over;
+    seat->records++;
+    return zelamiku_store(&seat->session, field, value);
+}
+
+/* Sleeps until the session was notified and has taken the monitor again. */
+static inline uint32_t zelamiku_thread_resume(zelamiku_threads *all, zelamiku_seat *seat, uint32_t object) {
+    uint32_t status;
+    for (;;) {
+        status = zelamiku_threads_over(all);
+        if (status == ZELAMIKU_OK) status = zelamiku_try_resume(&seat->session);
+        if (status != ZELAMIKU_HELD && status != ZELAMIKU_IN_SET) break;
+        if (status == ZELAMIKU_IN_SET || !zelamiku_threads_want(all, seat, object)) zelamiku_seat_sleep(seat);
+    }
+    zelamiku_threads_want_no_more(all, seat, status == ZELAMIKU_OK);
+    return status;
+}
+
+/* Joins the monitor's wait set, unless there is no room for it. */
+static inline uint32_t zelamiku_thread_begin_wait(zelamiku_threads *all, zelamiku_seat *seat, uint32_t object) {
+    unsigned demands = 0;
+    for (;;) {
+        uint64_t rounds = __atomic_load_n(&all->rounds, __ATOMIC_SEQ_CST);
+        uint32_t status = zelamiku_threads_over(all);
+        if (status == ZELAMIKU_OK) status = zelamiku_begin_wait(&seat->session, object);
+        /* What holds the monitor may be what the room waits for. */
+        if (status != ZELAMIKU_BEHIND || demands == ZELAMIKU_THREADS_DEMANDS) return status;
+        status = zelamiku_threads_sleep(all, seat, rounds, &demands);
+        if (status != ZELAMIKU_OK) return status;
+    }
+}
+
+/* Frees a monitor that is held, by all its locks, sleeps until another thread notifies this one, and takes it again by as many. It isn't
+ * woken by anything else. Where no other monitor is held the section ends, and the next one begins when it goes on.
+ * UNKNOWN_OBJECT, NOT_HELD, BEHIND, SECTION_FULL, NO_FAT, WORN, DEVICE: the monitor is held as before. */
+ZELAMIKU_MUST_USE static inline uint32_t zelamiku_thread_wait(zelamiku_thread *thread, uint32_t object) {
+    zelamiku_threads *all = thread->all;
+    zelamiku_seat *seat = zelamiku_seat_of(thread);
+    uint32_t status = zelamiku_thread_begin_wait(all, seat, object);
+    if (status != ZELAMIKU_OK) return status;
+    uint32_t place = 0;
+    while (seat->held[place].object != object) place++;
+    uint32_t locks = seat->held[place].locks;
+    zelamiku_thread_forget(seat, place);
+    zelamiku_threads_freed(all, seat, object, true);
+    status = zelamiku_thread_resume(all, seat, object);
+    if (status != ZELAMIKU_OK) return status;
+    seat->held[seat->held_count].object = object;
+    seat->held[seat->held_count++].locks = locks;
+    seat->records++;
+    return ZELAMIKU_OK;
+}
+
+/* Those that were notified wait for the monitor from now on: they are woken when it is free, and not before. */
+static inline void zelamiku_thread_put(zelamiku_threads *all, uint64_t lanes, uint32_t object) {
+    for (uint32_t lane = 0; lanes != 0 && lane < all->lanes; lane++)
+        if (lanes >> lane & 1) (void)zelamiku_threads_want(all, &all->seats[lane], object);
+}
+
+/* Wakes one thread that waits for a monitor that is held; `is_woken` gets whether there was one. It goes on once the monitor is free.
+ * UNKNOWN_OBJECT, NOT_HELD: `is_woken` is false. */
+ZELAMIKU_MUST_USE static inline uint32_t zelamiku_thread_notify(zelamiku_thread *thread, uint32_t object, bool *is_woken) {
+    uint32_t lane = ZELAMIKU_NOBODY;
+    *is_woken = false;
+    uint32_t status = zelamiku_threads_over(thread->all);
+    if (status == ZELAMIKU_OK) status = zelamiku_notify(&zelamiku_seat_of(thread)->session, object, &lane);
+    if (status != ZELAMIKU_OK || lane == ZELAMIKU_NOBODY) return status;
+    *is_woken = true;
+    zelamiku_thread_put(thread->all, (uint64_t)1 << lane, object);
+    return ZELAMIKU_OK;
+}
+
+/* Wakes all threads that wait for a monitor that is held.
+ * UNKNOWN_OBJECT, NOT_HELD: nobody is woken. */
+ZELAMIKU_MUST_USE static inline uint32_t zelamiku_thread_notify_all(zelamiku_thread *thread, uint32_t object) {
+    uint64_t lanes = 0;
+    uint32_t status = zelamiku_threads_over(thread->all);
+    if (status == ZELAMIKU_OK) status = zelamiku_notify_all(&zelamiku_seat_of(thread)->session, object, &lanes);
+    zelamiku_thread_put(thread->all, lanes, object);
+    return status;
+}
+
+/* How many sections the thread has ended since zelamiku_thread_begin. Any thread may ask, until zelamiku_thread_end. */
+static inline uint64_t zelamiku_thread_sections(const zelamiku_thread *thread) {
+    return __atomic_load_n(&zelamiku_seat_of(thread)->ended, __ATOMIC_SEQ_CST) - thread->before;
+}
+
+/* How many of these are durable, from the first on: no crash loses them. Any thread may ask, until zelamiku_thread_end. */
+static inline uint64_t zelamiku_thread_durable(const zelamiku_thread *thread) {
+    uint64_t acknowledged = __atomic_load_n(&zelamiku_seat_of(thread)->acknowledged, __ATOMIC_SEQ_CST);
+    return acknowledged > thread->before ? acknowledged - thread->before : 0;
+}
+
+/* Sleeps until all sections that the thread has ended are durable: it asks for a round, and sleeps on while a section that one of them
+ * depends on is open.
+ * DEVICE: a write has failed: call again. LOST, or what else the heap has ended with, CLOSED among it: they weren't durable before. */
+ZELAMIKU_MUST_USE static inline uint32_t zelamiku_thread_await(zelamiku_thread *thread) {
+    zelamiku_threads *all = thread->all;
+    zelamiku_seat *seat = zelamiku_seat_of(thread);
+    uint32_t status = ZELAMIKU_OK;
+    if (zelamiku_seat_is_durable(seat)) return ZELAMIKU_OK;
+    uint64_t troubles = __atomic_load_n(&all->troubles, __ATOMIC_SEQ_CST);
+    __atomic_add_fetch(&all->awaiting, 1, __ATOMIC_SEQ_CST);
+    __atomic_store_n(&seat->awaits, 1, __ATOMIC_SEQ_CST);
+    zelamiku_threads_call(all, true);
+    for (;;) {
+        /* Before the sections are looked at, since what a last round acknowledges comes before it says so. */
+        status = zelamiku_threads_over(all);
+        bool is_durable = zelamiku_seat_is_durable(seat);
+        if (is_durable) status = ZELAMIKU_OK;
+        if (is_durable || status != ZELAMIKU_OK || (status = zelamiku_threads_trouble(all, troubles)) != ZELAMIKU_OK) break;
+        zelamiku_seat_sleep(seat);
+    }
+    __atomic_store_n(&seat->awaits, 0, __ATOMIC_SEQ_CST);
+    __atomic_sub_fetch(&all->awaiting, 1, __ATOMIC_SEQ_CST);
+    return status;
+}
+
+#ifdef __cplusplus
+}
+#endif
+#endif

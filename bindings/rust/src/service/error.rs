@@ -1,0 +1,200 @@
+//! Why a call of a service failed.
+use crate::Refusal;
+use std::fmt;
+use std::io;
+use std::path::Path;
+use std::sync::Arc;
+
+/// What kind of failure it is, and whether the heap goes on.
+#[non_exhaustive]
+#[derive(Clone, Copy, Debug, PartialEq, Eq)]
+pub enum ErrorKind {
+    /// The file couldn't be opened, locked, read or made. There is no heap; the file has what it had, or less where it was being made.
+    File,
+    /// The file has other bytes than a heap's. It was left as it is.
+    NotAHeap,
+    /// The file has a heap, and not the one that was asked for: other numbers of objects or fields, or fewer lanes. It was left as it is.
+    OtherHeap,
+    /// The heap can't be made, or the file's can't be recovered: the cause is the library's refusal.
+    Opening,
+    /// All lanes are in use: a session is free once another one is dropped.
+    NoneLeft,
+    /// A call was refused, and nothing was done: the cause is the library's refusal. The heap and the session go on.
+    Refused,
+    /// A write to the file failed, as on a full disk. Nothing is lost: it is made again by the next call that waits for it, and by the
+    /// helper each second. What isn't acknowledged isn't durable yet.
+    Write,
+    /// A section is open, a session waits, or a section depends on such a one: the heap wasn't closed, and goes on.
+    Running,
+    /// The heap was closed, or stopped.
+    Closed,
+    /// A sync of the file failed, and the heap was let go: what was acknowledged stays, and anything else may be lost, though the file
+    /// still reads as it was written. Mount the file system again, and open the heap again.
+    Sync,
+    /// The heap has stopped, mostly for want of memory: the cause is the library's refusal. What was acknowledged stays. Open it again.
+    Stopped,
+    /// A thread panicked in a section, or let a section go without its end. The heap has stopped as a crash stops it: that section is
+    /// dropped when the heap is opened again, with all that depends on it. Anything else that had ended was made durable.
+    Panicked,
+}
+
+impl ErrorKind {
+    /// Whether the heap of this opening is at its end: all its sessions answer the same from then on, and it may be opened again.
+    ///
+    /// ```
+    /// use zelamiku::service::ErrorKind;
+    /// assert!(ErrorKind::Sync.is_final());
+    /// assert!(!ErrorKind::Write.is_final());
+    /// ```
+    #[must_use]
+    pub fn is_final(self) -> bool {
+        matches!(
+            self,
+            ErrorKind::Closed | ErrorKind::Sync | ErrorKind::Stopped | ErrorKind::Panicked
+        )
+    }
+
+    fn text(self) -> &'static str {
+        match self {
+            ErrorKind::File => "the file can't be used",
+            ErrorKind::NotAHeap => "it has no heap, and isn't empty: it was left as it is",
+            ErrorKind::OtherHeap => "it has the heap of another program",
+            ErrorKind::Opening => "its heap can't be opened",
+            ErrorKind::NoneLeft => "all lanes are in use",
+            ErrorKind::Refused => "refused",
+            ErrorKind::Write => "a write failed, and will be made again",
+            ErrorKind::Running => "a section is open or a session waits",
+            ErrorKind::Closed => "the heap was closed or stopped",
+            ErrorKind::Sync => {
+                "a sync failed, and the heap was let go; mount the file system again before it is opened"
+            }
+            ErrorKind::Stopped => "the heap has stopped; it may be opened again",
+            ErrorKind::Panicked => "a thread panicked in a section, and the heap has stopped; it may be opened again",
+        }
+    }
+}
+
+#[derive(Clone)]
+enum Cause {
+    None,
+    Refusal(Refusal),
+    System(Arc<io::Error>),
+    // What differs.
+    Told(Arc<str>),
+}
+
+struct Inner {
+    kind: ErrorKind,
+    path: Arc<Path>,
+    cause: Cause,
+}
+
+/// Why a call failed: the kind, the path of the heap's file, and the cause.
+///
+/// ```
+/// use std::error::Error;
+/// use zelamiku::service::{ErrorKind, Heap};
+/// let error = Heap::options().objects(1).field(0, 0, 0).open("/no such folder/heap").unwrap_err();
+/// assert_eq!(error.kind(), ErrorKind::File);
+/// assert_eq!(error.path().to_str(), Some("/no such folder/heap"));
+/// assert!(error.source().is_some());
+/// assert!(error.to_string().starts_with("/no such folder/heap: the file can't be used: "));
+/// ```
+#[derive(Clone)]
+pub struct Error(Arc<Inner>);
+
+impl Error {
+    fn new(kind: ErrorKind, path: &Arc<Path>, cause: Cause) -> Error {
+        Error(Arc::new(Inner {
+            kind,
+            path: Arc::clone(path),
+            cause,
+        }))
+    }
+
+    pub(super) fn bare(kind: ErrorKind, path: &Arc<Path>) -> Error {
+        Error::new(kind, path, Cause::None)
+    }
+
+    pub(super) fn refused(kind: ErrorKind, path: &Arc<Path>, refusal: Refusal) -> Error {
+        Error::new(kind, path, Cause::Refusal(refusal))
+    }
+
+    pub(super) fn system(kind: ErrorKind, path: &Arc<Path>, error: io::Error) -> Error {
+        Error::new(kind, path, Cause::System(Arc::new(error)))
+    }
+
+    pub(super) fn told(kind: ErrorKind, path: &Arc<Path>, text: String) -> Error {
+        Error::new(kind, path, Cause::Told(text.into()))
+    }
+
+    /// What kind of failure it is.
+    ///
+    /// ```
+    /// # use zelamiku::service::{ErrorKind, Heap};
+    /// let error = Heap::options().open("/tmp").unwrap_err();
+    /// assert_eq!(error.kind(), ErrorKind::File);
+    /// ```
+    #[must_use]
+    pub fn kind(&self) -> ErrorKind {
+        self.0.kind
+    }
+
+    /// The path of the heap's file, as it was given to `open`.
+    ///
+    /// ```
+    /// # use zelamiku::service::Heap;
+    /// let error = Heap::options().open("/tmp").unwrap_err();
+    /// assert_eq!(error.path().to_str(), Some("/tmp"));
+    /// ```
+    #[must_use]
+    pub fn path(&self) -> &Path {
+        &self.0.path
+    }
+
+    /// The library's refusal, where one is the cause.
+    ///
+    /// ```
+    /// # use zelamiku::service::Heap;
+    /// # let path = std::env::temp_dir().join(format!("zelamiku-refusal-{}", std::process::id()));
+    /// // A heap of no object.
+    /// let error = Heap::options().open(&path).unwrap_err();
+    /// assert_eq!(error.refusal(), Some(zelamiku::Refusal::Empty));
+    /// # let _ = std::fs::remove_file(path);
+    /// ```
+    #[must_use]
+    pub fn refusal(&self) -> Option<Refusal> {
+        match self.0.cause {
+            Cause::Refusal(refusal) => Some(refusal),
+            _ => None,
+        }
+    }
+}
+
+impl fmt::Display for Error {
+    fn fmt(&self, f: &mut fmt::Formatter<'_>) -> fmt::Result {
+        write!(f, "{}: {}", self.0.path.display(), self.0.kind.text())?;
+        match &self.0.cause {
+            Cause::None => Ok(()),
+            Cause::Refusal(refusal) => write!(f, ": {refusal}"),
+            Cause::System(error) => write!(f, ": {error}"),
+            Cause::Told(text) => write!(f, ": {text}"),
+        }
+    }
+}
+
+impl fmt::Debug for Error {
+    fn fmt(&self, f: &mut fmt::Formatter<'_>) -> fmt::Result {
+        write!(f, "{:?} ({self})", self.0.kind)
+    }
+}
+
+impl std::error::Error for Error {
+    fn source(&self) -> Option<&(dyn std::error::Error + 'static)> {
+        match &self.0.cause {
+            Cause::Refusal(refusal) => Some(refusal),
+            Cause::System(error) => Some(error.as_ref()),
+            Cause::None | Cause::Told(_) => None,
+        }
+    }
+}

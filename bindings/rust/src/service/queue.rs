@@ -1,0 +1,79 @@
+//! Who waits for which monitor, first come first.
+use super::seat::lock;
+use std::collections::VecDeque;
+use std::sync::atomic::{fence, AtomicU32, Ordering};
+use std::sync::Mutex;
+
+/// The lanes that wait for monitors. The library's `try_enter` answers `Held` and doesn't wait; here a lane is put down before it tries
+/// for the last time, and whoever frees the monitor afterwards finds it.
+///
+/// A lane stands in the queue once at most. The fences order a lane that is put down and then tries, and a monitor that is freed and
+/// then looked up here: one of the two sees the other.
+pub struct Queue {
+    waiting: Mutex<VecDeque<(u32, usize)>>,
+    // How many wait for each object, so that an exit that nobody waits for takes no mutex.
+    counts: Box<[AtomicU32]>,
+}
+
+impl Queue {
+    pub fn new(objects: u32) -> Queue {
+        Queue {
+            waiting: Mutex::new(VecDeque::new()),
+            counts: (0..objects).map(|_| AtomicU32::new(0)).collect(),
+        }
+    }
+
+    fn count(&self, object: u32) -> Option<&AtomicU32> {
+        self.counts.get(object as usize)
+    }
+
+    /// Puts the lane down for the object's monitor, at the front where it was woken and came too late. The caller tries once more then.
+    pub fn put(&self, object: u32, lane: usize, at_front: bool) {
+        let Some(count) = self.count(object) else { return };
+        let mut waiting = lock(&self.waiting);
+        if waiting.iter().any(|(_, other)| *other == lane) {
+            return;
+        }
+        if at_front {
+            waiting.push_front((object, lane));
+        } else {
+            waiting.push_back((object, lane));
+        }
+        count.fetch_add(1, Ordering::SeqCst);
+        drop(waiting);
+        fence(Ordering::SeqCst);
+    }
+
+    /// Takes the lane out, which waits no more; whether it was still there.
+    pub fn remove(&self, lane: usize) -> bool {
+        let mut waiting = lock(&self.waiting);
+        let Some(place) = waiting.iter().position(|(_, other)| *other == lane) else {
+            return false;
+        };
+        if let Some((object, _)) = waiting.remove(place) {
+            self.lower(object);
+        }
+        true
+    }
+
+    /// Whether somebody may wait for the object's monitor. A fence comes before it, and before that the monitor was freed.
+    pub fn has(&self, object: u32) -> bool {
+        self.count(object)
+            .is_some_and(|count| count.load(Ordering::Relaxed) > 0)
+    }
+
+    /// Takes out the first lane that waits for the object's monitor.
+    pub fn take_first(&self, object: u32) -> Option<usize> {
+        let mut waiting = lock(&self.waiting);
+        let place = waiting.iter().position(|(other, _)| *other == object)?;
+        let (_, lane) = waiting.remove(place)?;
+        self.lower(object);
+        Some(lane)
+    }
+
+    fn lower(&self, object: u32) {
+        if let Some(count) = self.count(object) {
+            count.fetch_sub(1, Ordering::SeqCst);
+        }
+    }
+}

@@ -1,0 +1,712 @@
+//! A session of a service, and the monitors that it holds.
+use super::error::{Error, ErrorKind};
+use super::seat::{lock, Seat};
+use super::shared::{Shared, Spare};
+use crate as handles;
+use crate::{Refusal, Sight};
+use std::fmt;
+use std::hint::spin_loop;
+use std::sync::atomic::Ordering;
+use std::sync::Arc;
+
+// A monitor that is held for a moment is waited for by so many tries, before the thread sleeps.
+const TRIES: u32 = 40;
+
+// How often a round is asked for by one that has no room. A later one gives room once other sections have ended.
+const DEMANDS: u32 = 3;
+
+/// One thread's use of the heap: a lane of it. It may go to another thread, and one thread uses it at a time.
+///
+/// What it does from its first monitor to the moment that it holds none is a section. A session that is dropped gives its lane back to
+/// the heap, which hands it out again.
+///
+/// ```
+/// use zelamiku::service::Heap;
+/// # let path = std::env::temp_dir().join(format!("zelamiku-session-{}", std::process::id()));
+/// # let _ = std::fs::remove_file(&path);
+/// const ACCOUNT: u32 = 0;
+/// const BALANCE: u32 = 0;
+/// let heap = Heap::options().lanes(2).objects(1).field(BALANCE, ACCOUNT, 100).open(&path)?;
+/// let mut session = heap.session()?;
+/// session.synchronized(ACCOUNT, |account| {
+///     let balance = account.load(BALANCE)?;
+///     account.store(BALANCE, balance - 10)
+/// })?;
+/// session.durable()?;
+/// drop(session);
+/// heap.close()?;
+/// # std::fs::remove_file(path)?;
+/// # Ok::<(), Box<dyn std::error::Error>>(())
+/// ```
+pub struct Session {
+    shared: Arc<Shared>,
+    // None once it is lost to a heap that has stopped.
+    inner: Option<handles::Session>,
+    lane: usize,
+    // The objects of the monitors that are held, each as often as it was entered.
+    held: Vec<u32>,
+    // The sections of the lane that have ended, and those that had when the lane was handed out.
+    ended: u64,
+    before: u64,
+    // About how many records were sent since that round, and after how many the next is asked for.
+    records: u32,
+    rounds: u64,
+    most_records: u32,
+}
+
+impl fmt::Debug for Session {
+    fn fmt(&self, f: &mut fmt::Formatter<'_>) -> fmt::Result {
+        f.debug_struct("Session")
+            .field("lane", &self.lane)
+            .field("sections", &self.sections())
+            .finish_non_exhaustive()
+    }
+}
+
+impl Session {
+    pub(super) fn new(shared: Arc<Shared>, spare: Spare, most_records: u32) -> Session {
+        Session {
+            shared,
+            inner: Some(spare.session),
+            lane: spare.lane,
+            held: Vec::new(),
+            ended: spare.ended,
+            before: spare.ended,
+            records: 0,
+            rounds: 0,
+            most_records,
+        }
+    }
+
+    fn seat(&self) -> &Seat {
+        &self.shared.seats[self.lane]
+    }
+
+    fn handle(&mut self) -> Result<&mut handles::Session, Error> {
+        self.shared.must_go_on()?;
+        let shared = &self.shared;
+        self.inner.as_mut().ok_or_else(|| shared.why())
+    }
+
+    fn refused(&self, refusal: Refusal) -> Error {
+        Error::refused(ErrorKind::Refused, &self.shared.path, refusal)
+    }
+
+    /// Takes the object's monitor and answers a guard of it, which gives it back when it is dropped. The thread sleeps while another one
+    /// has the monitor, and while the lane has no room before a round.
+    ///
+    /// [`ErrorKind::Refused`] by `UnknownObject` or `Worn`; [`ErrorKind::Write`] where a round that was waited for can't write; each
+    /// final kind.
+    ///
+    /// ```
+    /// # use zelamiku::service::Heap;
+    /// # let path = std::env::temp_dir().join(format!("zelamiku-enter-{}", std::process::id()));
+    /// # let _ = std::fs::remove_file(&path);
+    /// # let heap = Heap::options().objects(1).field(0, 0, 0).open(&path)?;
+    /// # let mut session = heap.session()?;
+    /// let mut guard = session.enter(0)?;
+    /// guard.store(0, 7)?;
+    /// guard.exit()?;
+    /// # std::fs::remove_file(path)?;
+    /// # Ok::<(), Box<dyn std::error::Error>>(())
+    /// ```
+    pub fn enter(&mut self, object: u32) -> Result<Held<'_>, Error> {
+        let begins = self.held.is_empty();
+        if begins {
+            self.seat().is_busy.store(true, Ordering::SeqCst);
+        }
+        if let Err(error) = self.await_monitor(object) {
+            if begins {
+                self.seat().is_busy.store(false, Ordering::SeqCst);
+            }
+            return Err(error);
+        }
+        self.held.push(object);
+        self.records += 1;
+        Ok(Held {
+            session: self,
+            object,
+            was_panicking: std::thread::panicking(),
+        })
+    }
+
+    /// Does the work while the object's monitor is held. With the outermost monitor a section ends: also where the work answers an
+    /// error, as Java's does where it throws. What was stored by then stays stored, so look before you store, or store back.
+    ///
+    /// It fails as [`enter`](Session::enter) and the work do.
+    ///
+    /// ```
+    /// # use zelamiku::service::Heap;
+    /// # let path = std::env::temp_dir().join(format!("zelamiku-synchronized-{}", std::process::id()));
+    /// # let _ = std::fs::remove_file(&path);
+    /// # let heap = Heap::options().objects(2).field(0, 0, 100).field(1, 1, 0).open(&path)?;
+    /// # let mut session = heap.session()?;
+    /// // One section of two monitors: it is there whole or not at all.
+    /// session.synchronized(0, |from| {
+    ///     let balance = from.load(0)?;
+    ///     from.store(0, balance - 10)?;
+    ///     from.synchronized(1, |to| {
+    ///         let balance = to.load(1)?;
+    ///         to.store(1, balance + 10)
+    ///     })
+    /// })?;
+    /// # assert_eq!(session.synchronized(1, |to| to.load(1))?, 10);
+    /// # std::fs::remove_file(path)?;
+    /// # Ok::<(), Box<dyn std::error::Error>>(())
+    /// ```
+    pub fn synchronized<T>(
+        &mut self,
+        object: u32,
+        work: impl FnOnce(&mut Held<'_>) -> Result<T, Error>,
+    ) -> Result<T, Error> {
+        let mut held = self.enter(object)?;
+        let answer = work(&mut held)?;
+        held.exit()?;
+        Ok(answer)
+    }
+
+    /// How many sections this session has ended.
+    ///
+    /// ```
+    /// # use zelamiku::service::Heap;
+    /// # let path = std::env::temp_dir().join(format!("zelamiku-sections-{}", std::process::id()));
+    /// # let _ = std::fs::remove_file(&path);
+    /// # let heap = Heap::options().objects(1).field(0, 0, 0).open(&path)?;
+    /// let mut session = heap.session()?;
+    /// session.synchronized(0, |s| s.store(0, 1))?;
+    /// assert_eq!(session.sections(), 1);
+    /// # std::fs::remove_file(path)?;
+    /// # Ok::<(), Box<dyn std::error::Error>>(())
+    /// ```
+    #[must_use]
+    pub fn sections(&self) -> u64 {
+        self.ended - self.before
+    }
+
+    /// Whether the session's section of this number, from 1 on, is durable: no crash loses it. One that hasn't ended isn't.
+    ///
+    /// ```
+    /// # use zelamiku::service::Heap;
+    /// # let path = std::env::temp_dir().join(format!("zelamiku-is-durable-{}", std::process::id()));
+    /// # let _ = std::fs::remove_file(&path);
+    /// # let heap = Heap::options().objects(1).field(0, 0, 0).open(&path)?;
+    /// # let mut session = heap.session()?;
+    /// session.synchronized(0, |s| s.store(0, 1))?;
+    /// let number = session.sections();
+    /// session.durable()?;
+    /// assert!(session.is_durable(number));
+    /// assert!(!session.is_durable(number + 1));
+    /// # std::fs::remove_file(path)?;
+    /// # Ok::<(), Box<dyn std::error::Error>>(())
+    /// ```
+    #[must_use]
+    pub fn is_durable(&self, number: u64) -> bool {
+        let acknowledged = self.seat().acknowledged.load(Ordering::SeqCst);
+        number <= self.sections() && self.before + number <= acknowledged
+    }
+
+    /// Sleeps until all sections that this session has ended are durable: no crash loses them. It asks for a round, and sleeps on while
+    /// a section that one of them depends on is open.
+    ///
+    /// [`ErrorKind::Write`] where a write failed, which leaves the session as it was: ask again. Each final kind, where the heap stopped
+    /// before they were durable.
+    ///
+    /// ```
+    /// # use zelamiku::service::Heap;
+    /// # let path = std::env::temp_dir().join(format!("zelamiku-durable-{}", std::process::id()));
+    /// # let _ = std::fs::remove_file(&path);
+    /// # let heap = Heap::options().objects(1).field(0, 0, 0).open(&path)?;
+    /// # let mut session = heap.session()?;
+    /// session.synchronized(0, |s| s.store(0, 1))?;
+    /// session.durable()?;
+    /// # std::fs::remove_file(path)?;
+    /// # Ok::<(), Box<dyn std::error::Error>>(())
+    /// ```
+    pub fn durable(&mut self) -> Result<(), Error> {
+        let seat = self.seat();
+        if seat.acknowledged.load(Ordering::SeqCst) >= self.ended {
+            return Ok(());
+        }
+        let troubles = self.shared.troubles.load(Ordering::SeqCst);
+        self.shared.awaiting.fetch_add(1, Ordering::SeqCst);
+        seat.wanted.store(self.ended, Ordering::SeqCst);
+        self.shared.demand();
+        let answer = self.sleep_until_durable(troubles);
+        seat.wanted.store(0, Ordering::SeqCst);
+        self.shared.awaiting.fetch_sub(1, Ordering::SeqCst);
+        answer
+    }
+
+    fn sleep_until_durable(&self, troubles: u64) -> Result<(), Error> {
+        let seat = self.seat();
+        loop {
+            // Before the sections are looked at, since the helper's last round comes before it says so.
+            let is_settled = self.shared.is_settled.load(Ordering::SeqCst);
+            if seat.acknowledged.load(Ordering::SeqCst) >= self.ended {
+                return Ok(());
+            }
+            if is_settled {
+                return Err(self.shared.why());
+            }
+            if self.shared.troubles.load(Ordering::SeqCst) != troubles {
+                return Err(self.shared.trouble());
+            }
+            seat.sleep();
+        }
+    }
+
+    /// Looks at a monitor, which needn't be held.
+    ///
+    /// ```
+    /// # use zelamiku::service::Heap;
+    /// # let path = std::env::temp_dir().join(format!("zelamiku-look-{}", std::process::id()));
+    /// # let _ = std::fs::remove_file(&path);
+    /// # let heap = Heap::options().objects(1).field(0, 0, 0).open(&path)?;
+    /// # let mut session = heap.session()?;
+    /// assert_eq!(session.look(0)?.owner, None);
+    /// # std::fs::remove_file(path)?;
+    /// # Ok::<(), Box<dyn std::error::Error>>(())
+    /// ```
+    pub fn look(&mut self, object: u32) -> Result<Sight, Error> {
+        match self.handle()?.look(object) {
+            Ok(sight) => Ok(sight),
+            Err(refusal) => Err(self.refused(refusal)),
+        }
+    }
+
+    // Takes the monitor, or sleeps until it can.
+    fn await_monitor(&mut self, object: u32) -> Result<(), Error> {
+        for _ in 0..TRIES {
+            match self.handle()?.try_enter(object) {
+                Ok(()) => return Ok(()),
+                Err(Refusal::Held) => spin_loop(),
+                Err(Refusal::Behind) => break,
+                Err(refusal) => return Err(self.refused(refusal)),
+            }
+        }
+        let answer = self.sleep_for_monitor(object);
+        self.shared.queue.remove(self.lane);
+        if answer.is_err() {
+            // It may have been woken for a monitor that it doesn't take.
+            self.shared.wake_first(object);
+        }
+        answer
+    }
+
+    fn sleep_for_monitor(&mut self, object: u32) -> Result<(), Error> {
+        let (mut is_down, mut was_woken, mut demands) = (false, false, 0);
+        loop {
+            let rounds = self.shared.rounds.load(Ordering::SeqCst);
+            match self.handle()?.try_enter(object) {
+                Ok(()) => return Ok(()),
+                Err(Refusal::Held) if is_down => {
+                    self.seat().sleep();
+                    (is_down, was_woken) = (false, true);
+                }
+                // It is put down before the next try, so that whoever has the monitor then finds it there.
+                Err(Refusal::Held) => {
+                    self.shared.queue.put(object, self.lane, was_woken);
+                    is_down = true;
+                }
+                Err(Refusal::Behind) => {
+                    if self.shared.queue.remove(self.lane) || was_woken {
+                        self.shared.wake_first(object);
+                    }
+                    (is_down, was_woken) = (false, false);
+                    self.sleep_for_round(rounds, &mut demands)?;
+                }
+                Err(refusal) => return Err(self.refused(refusal)),
+            }
+        }
+    }
+
+    // Sleeps until a round has ended after that one. It asks for the first few: what a round of one's own can't give, only the end of
+    // another section can, after which there is a round.
+    fn sleep_for_round(&self, rounds: u64, demands: &mut u32) -> Result<(), Error> {
+        let (shared, seat) = (&self.shared, self.seat());
+        let troubles = shared.troubles.load(Ordering::SeqCst);
+        shared.awaiting.fetch_add(1, Ordering::SeqCst);
+        seat.is_behind.store(true, Ordering::SeqCst);
+        if *demands < DEMANDS {
+            *demands += 1;
+            shared.demand();
+        }
+        let answer = loop {
+            if shared.troubles.load(Ordering::SeqCst) != troubles {
+                break Err(shared.trouble());
+            }
+            if let Err(error) = shared.must_go_on() {
+                break Err(error);
+            }
+            if shared.rounds.load(Ordering::SeqCst) != rounds {
+                break Ok(());
+            }
+            seat.sleep();
+        };
+        seat.is_behind.store(false, Ordering::SeqCst);
+        shared.awaiting.fetch_sub(1, Ordering::SeqCst);
+        answer
+    }
+
+    // Gives one lock back. One that a wait has lost with its heap isn't there any more.
+    fn leave(&mut self, object: u32) -> Result<(), Error> {
+        let Some(place) = self.held.iter().rposition(|other| *other == object) else {
+            return self.shared.must_go_on();
+        };
+        if let Some(session) = self.inner.as_mut() {
+            if let Err(refusal) = session.exit(object) {
+                return Err(self.refused(refusal));
+            }
+        }
+        self.held.remove(place);
+        if !self.held.contains(&object) {
+            self.records += 1;
+            self.tell_freed(object, false);
+        }
+        self.shared.must_go_on()
+    }
+
+    // Of a monitor that was freed, and of the section that ended with it, after which nothing is open unless the session waits.
+    fn tell_freed(&mut self, object: u32, waits: bool) {
+        let has_ended = self.held.is_empty();
+        if has_ended {
+            self.ended += 1;
+            self.seat().ended.store(self.ended, Ordering::SeqCst);
+            self.seat().is_busy.store(waits, Ordering::SeqCst);
+        }
+        let is_urgent = has_ended && self.is_half_full();
+        self.shared.tell_freed(object, has_ended, is_urgent);
+    }
+
+    // Whether a round should come before the lane has no room.
+    fn is_half_full(&mut self) -> bool {
+        let rounds = self.shared.rounds.load(Ordering::Relaxed);
+        if rounds != self.rounds {
+            (self.rounds, self.records) = (rounds, 0);
+        }
+        let is_half_full = self.records >= self.most_records;
+        if is_half_full {
+            self.records = 0;
+        }
+        is_half_full
+    }
+
+    // Frees the monitor, sleeps until the session is notified, and takes the monitor again by as many locks.
+    fn wait_for(&mut self, object: u32) -> Result<(), Error> {
+        let waiting = self.begin_wait(object)?;
+        let locks = self.held.iter().filter(|other| **other == object).count();
+        self.held.retain(|other| *other != object);
+        self.records += 2;
+        self.tell_freed(object, true);
+        let answer = self.sleep_for_notice(waiting, object);
+        self.shared.queue.remove(self.lane);
+        if answer.is_err() {
+            self.shared.wake_first(object);
+            self.seat().is_busy.store(!self.held.is_empty(), Ordering::SeqCst);
+        }
+        self.inner = Some(answer?);
+        self.held.extend(std::iter::repeat(object).take(locks));
+        Ok(())
+    }
+
+    fn begin_wait(&mut self, object: u32) -> Result<handles::Waiting, Error> {
+        let mut demands = 0;
+        loop {
+            self.shared.must_go_on()?;
+            let rounds = self.shared.rounds.load(Ordering::SeqCst);
+            let session = self.inner.take().ok_or_else(|| self.shared.why())?;
+            let (session, refusal) = match session.begin_wait(object) {
+                Ok(waiting) => return Ok(waiting),
+                Err(refused) => refused,
+            };
+            self.inner = Some(session);
+            // What holds the monitor may be what the room waits for.
+            if refusal != Refusal::Behind || demands == DEMANDS {
+                return Err(self.refused(refusal));
+            }
+            self.sleep_for_round(rounds, &mut demands)?;
+        }
+    }
+
+    fn sleep_for_notice(&mut self, mut waiting: handles::Waiting, object: u32) -> Result<handles::Session, Error> {
+        let (mut is_down, mut was_woken) = (false, false);
+        loop {
+            let refusal;
+            (waiting, refusal) = match waiting.try_resume() {
+                Ok(session) => return Ok(session),
+                Err(refused) => refused,
+            };
+            self.shared.must_go_on()?;
+            match refusal {
+                Refusal::Held if !is_down => {
+                    self.shared.queue.put(object, self.lane, was_woken);
+                    is_down = true;
+                    continue;
+                }
+                Refusal::Held | Refusal::InSet => {}
+                other => return Err(self.refused(other)),
+            }
+            self.seat().sleep();
+            (is_down, was_woken) = (false, refusal == Refusal::Held);
+        }
+    }
+}
+
+impl Drop for Session {
+    fn drop(&mut self) {
+        if !self.held.is_empty() {
+            // A guard was forgotten: nobody will give its monitor back.
+            self.shared.stop(Error::bare(ErrorKind::Panicked, &self.shared.path));
+        } else if let Some(session) = self.inner.take() {
+            lock(&self.shared.free).push(Spare {
+                lane: self.lane,
+                session,
+                ended: self.ended,
+            });
+        }
+    }
+}
+
+/// A monitor that a session holds. It is given back when this is dropped, and with the outermost the section ends.
+///
+/// A panic while it is held stops the heap, as a crash would: the section is dropped when the heap is opened again, so that nobody ever
+/// sees a half of it. All other threads' calls answer [`ErrorKind::Panicked`] from then on. One that is forgotten (`mem::forget`) does
+/// the same once its session is dropped.
+///
+/// ```
+/// use zelamiku::service::{ErrorKind, Heap};
+/// # let path = std::env::temp_dir().join(format!("zelamiku-panic-{}", std::process::id()));
+/// # let _ = std::fs::remove_file(&path);
+/// let heap = Heap::options().objects(1).field(0, 0, 5).open(&path)?;
+/// let mut session = heap.session()?;
+/// let thread = std::thread::spawn(move || {
+///     let mut guard = session.enter(0).unwrap();
+///     guard.store(0, 6).unwrap();
+///     panic!("in the middle of a section");
+/// });
+/// assert!(thread.join().is_err());
+/// assert_eq!(heap.session().unwrap_err().kind(), ErrorKind::Panicked);
+/// drop(heap);
+/// let heap = Heap::options().objects(1).field(0, 0, 5).open(&path)?;
+/// assert_eq!(heap.session()?.synchronized(0, |s| s.load(0))?, 5);
+/// # std::fs::remove_file(path)?;
+/// # Ok::<(), Box<dyn std::error::Error>>(())
+/// ```
+#[must_use = "the monitor is given back as soon as this is dropped"]
+pub struct Held<'session> {
+    session: &'session mut Session,
+    object: u32,
+    // A monitor that is taken while a panic unwinds is no part of it.
+    was_panicking: bool,
+}
+
+impl fmt::Debug for Held<'_> {
+    fn fmt(&self, f: &mut fmt::Formatter<'_>) -> fmt::Result {
+        f.debug_struct("Held")
+            .field("object", &self.object)
+            .finish_non_exhaustive()
+    }
+}
+
+impl Held<'_> {
+    /// Loads a field whose guard is held, by this or by an outer one. [`ErrorKind::Refused`] by `UnknownField` or `NotHeld`.
+    ///
+    /// ```
+    /// # use zelamiku::service::Heap;
+    /// # let path = std::env::temp_dir().join(format!("zelamiku-load-{}", std::process::id()));
+    /// # let _ = std::fs::remove_file(&path);
+    /// let heap = Heap::options().objects(1).field(0, 0, 100).open(&path)?;
+    /// assert_eq!(heap.session()?.synchronized(0, |s| s.load(0))?, 100);
+    /// # std::fs::remove_file(path)?;
+    /// # Ok::<(), Box<dyn std::error::Error>>(())
+    /// ```
+    pub fn load(&mut self, field: u32) -> Result<u64, Error> {
+        match self.session.handle()?.load(field) {
+            Ok(value) => Ok(value),
+            Err(refusal) => Err(self.session.refused(refusal)),
+        }
+    }
+
+    /// Stores a field whose guard is held. [`ErrorKind::Refused`] by `UnknownField`, `NotHeld`, or `SectionFull` where the section
+    /// would have more than 1,000 records: nothing was stored then, and what was stored before stays.
+    ///
+    /// ```
+    /// # use zelamiku::service::Heap;
+    /// # let path = std::env::temp_dir().join(format!("zelamiku-store-{}", std::process::id()));
+    /// # let _ = std::fs::remove_file(&path);
+    /// # let heap = Heap::options().objects(1).field(0, 0, 100).open(&path)?;
+    /// # let mut session = heap.session()?;
+    /// session.synchronized(0, |s| s.store(0, 7))?;
+    /// let error = session.synchronized(0, |s| s.store(1, 7)).unwrap_err();
+    /// assert_eq!(error.refusal(), Some(zelamiku::Refusal::UnknownField));
+    /// # std::fs::remove_file(path)?;
+    /// # Ok::<(), Box<dyn std::error::Error>>(())
+    /// ```
+    pub fn store(&mut self, field: u32, value: u64) -> Result<(), Error> {
+        match self.session.handle()?.store(field, value) {
+            Ok(()) => {
+                self.session.records += 1;
+                Ok(())
+            }
+            Err(refusal) => Err(self.session.refused(refusal)),
+        }
+    }
+
+    /// Takes one more monitor, or this one once more, inside of this one. Besides what [`Session::enter`] refuses,
+    /// [`ErrorKind::Refused`] by `SectionFull`, by `TooMany` where 16 are held, and by `TooDeep` or `NoFat` for a lock more. Take
+    /// monitors in one order everywhere: two threads that wait for each other's wait for ever.
+    ///
+    /// ```
+    /// # use zelamiku::service::Heap;
+    /// # let path = std::env::temp_dir().join(format!("zelamiku-nested-{}", std::process::id()));
+    /// # let _ = std::fs::remove_file(&path);
+    /// # let heap = Heap::options().objects(2).field(0, 0, 1).field(1, 1, 2).open(&path)?;
+    /// # let mut session = heap.session()?;
+    /// let mut first = session.enter(0)?;
+    /// let mut second = first.enter(1)?;
+    /// let sum = second.load(0)? + second.load(1)?;
+    /// second.exit()?;
+    /// first.exit()?;
+    /// assert_eq!((sum, session.sections()), (3, 1));
+    /// # std::fs::remove_file(path)?;
+    /// # Ok::<(), Box<dyn std::error::Error>>(())
+    /// ```
+    pub fn enter(&mut self, object: u32) -> Result<Held<'_>, Error> {
+        self.session.enter(object)
+    }
+
+    /// Does the work while one more monitor is held, as [`Session::synchronized`] does.
+    ///
+    /// ```
+    /// # use zelamiku::service::Heap;
+    /// # let path = std::env::temp_dir().join(format!("zelamiku-nested-work-{}", std::process::id()));
+    /// # let _ = std::fs::remove_file(&path);
+    /// # let heap = Heap::options().objects(2).field(0, 0, 1).field(1, 1, 2).open(&path)?;
+    /// # let mut session = heap.session()?;
+    /// let sum = session.synchronized(0, |s| s.synchronized(1, |s| Ok(s.load(0)? + s.load(1)?)))?;
+    /// assert_eq!(sum, 3);
+    /// # std::fs::remove_file(path)?;
+    /// # Ok::<(), Box<dyn std::error::Error>>(())
+    /// ```
+    pub fn synchronized<T>(
+        &mut self,
+        object: u32,
+        work: impl FnOnce(&mut Held<'_>) -> Result<T, Error>,
+    ) -> Result<T, Error> {
+        self.session.synchronized(object, work)
+    }
+
+    /// Frees this monitor, by all its locks, sleeps until another session notifies it, and takes it again by as many (JLS 17.2.1). It
+    /// isn't woken by anything else. Where no other monitor is held the section ends with it, and the next one begins when it goes on:
+    /// what was loaded before may be otherwise by then.
+    ///
+    /// [`ErrorKind::Refused`] by `Behind`, `SectionFull`, `NoFat` or `Worn`: the monitor is held as before. Each final kind: it isn't.
+    ///
+    /// ```
+    /// # use zelamiku::service::Heap;
+    /// # let path = std::env::temp_dir().join(format!("zelamiku-wait-{}", std::process::id()));
+    /// # let _ = std::fs::remove_file(&path);
+    /// let heap = Heap::options().objects(1).field(0, 0, 0).open(&path)?;
+    /// let (mut producer, mut consumer) = (heap.session()?, heap.session()?);
+    /// let thread = std::thread::spawn(move || {
+    ///     consumer.synchronized(0, |s| {
+    ///         while s.load(0)? == 0 {
+    ///             s.wait()?;
+    ///         }
+    ///         s.load(0)
+    ///     })
+    /// });
+    /// producer.synchronized(0, |s| {
+    ///     s.store(0, 7)?;
+    ///     s.notify_all()
+    /// })?;
+    /// assert_eq!(thread.join().unwrap()?, 7);
+    /// # std::fs::remove_file(path)?;
+    /// # Ok::<(), Box<dyn std::error::Error>>(())
+    /// ```
+    pub fn wait(&mut self) -> Result<(), Error> {
+        self.session.wait_for(self.object)
+    }
+
+    /// Wakes one session that waits for this monitor; whether there was one. It goes on once the monitor is free.
+    ///
+    /// ```
+    /// # use zelamiku::service::Heap;
+    /// # let path = std::env::temp_dir().join(format!("zelamiku-notify-{}", std::process::id()));
+    /// # let _ = std::fs::remove_file(&path);
+    /// # let heap = Heap::options().objects(1).field(0, 0, 0).open(&path)?;
+    /// # let mut session = heap.session()?;
+    /// assert_eq!(session.synchronized(0, |s| s.notify())?, false);
+    /// # std::fs::remove_file(path)?;
+    /// # Ok::<(), Box<dyn std::error::Error>>(())
+    /// ```
+    pub fn notify(&mut self) -> Result<bool, Error> {
+        match self.session.handle()?.notify(self.object) {
+            Ok(lane) => {
+                self.put_notified(lane);
+                Ok(lane.is_some())
+            }
+            Err(refusal) => Err(self.session.refused(refusal)),
+        }
+    }
+
+    /// Wakes all sessions that wait for this monitor, and answers how many.
+    ///
+    /// ```
+    /// # use zelamiku::service::Heap;
+    /// # let path = std::env::temp_dir().join(format!("zelamiku-notify-all-{}", std::process::id()));
+    /// # let _ = std::fs::remove_file(&path);
+    /// # let heap = Heap::options().objects(1).field(0, 0, 0).open(&path)?;
+    /// # let mut session = heap.session()?;
+    /// assert_eq!(session.synchronized(0, |s| s.notify_all())?, 0);
+    /// # std::fs::remove_file(path)?;
+    /// # Ok::<(), Box<dyn std::error::Error>>(())
+    /// ```
+    pub fn notify_all(&mut self) -> Result<u32, Error> {
+        match self.session.handle()?.notify_all(self.object) {
+            Ok(lanes) => {
+                self.put_notified((0..64).filter(|lane| lanes >> lane & 1 == 1));
+                Ok(lanes.count_ones())
+            }
+            Err(refusal) => Err(self.session.refused(refusal)),
+        }
+    }
+
+    // Those that were notified wait for the monitor from now on: they are woken when it is free, and not before.
+    fn put_notified(&self, lanes: impl IntoIterator<Item = u32>) {
+        for lane in lanes {
+            self.session.shared.queue.put(self.object, lane as usize, false);
+        }
+    }
+
+    /// Gives the monitor back, as dropping it does, and tells whether the heap goes on.
+    ///
+    /// ```
+    /// # use zelamiku::service::Heap;
+    /// # let path = std::env::temp_dir().join(format!("zelamiku-exit-{}", std::process::id()));
+    /// # let _ = std::fs::remove_file(&path);
+    /// # let heap = Heap::options().objects(1).field(0, 0, 0).open(&path)?;
+    /// # let mut session = heap.session()?;
+    /// session.enter(0)?.exit()?;
+    /// assert_eq!(session.sections(), 1);
+    /// # std::fs::remove_file(path)?;
+    /// # Ok::<(), Box<dyn std::error::Error>>(())
+    /// ```
+    pub fn exit(self) -> Result<(), Error> {
+        let mut held = std::mem::ManuallyDrop::new(self);
+        let object = held.object;
+        held.session.leave(object)
+    }
+}
+
+impl Drop for Held<'_> {
+    fn drop(&mut self) {
+        if !self.was_panicking && std::thread::panicking() {
+            let error = Error::bare(ErrorKind::Panicked, &self.session.shared.path);
+            self.session.shared.stop(error);
+        } else {
+            // A guard can't say that the heap has stopped: the session's next call does.
+            let _ = self.session.leave(self.object);
+        }
+    }
+}

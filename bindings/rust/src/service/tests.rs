@@ -1,0 +1,221 @@
+//! Devices that fail beneath a service.
+use super::file::{Opened, Plan};
+use super::{ErrorKind, Heap};
+use crate as handles;
+use crate::{Device, Field, Refusal};
+use std::error::Error;
+use std::io;
+use std::path::Path;
+use std::sync::{Arc, Mutex};
+use std::time::Duration;
+
+// The calls that a device fails, and the bytes that are durable on it.
+#[derive(Default)]
+struct State {
+    durable: Vec<u8>,
+    pending: Vec<(usize, Vec<u8>)>,
+    writes_fail: bool,
+    syncs_fail: bool,
+    syncs: u64,
+}
+
+#[derive(Clone, Default)]
+struct Failing(Arc<Mutex<State>>);
+
+impl Failing {
+    fn with<T>(&self, work: impl FnOnce(&mut State) -> T) -> T {
+        work(&mut self.0.lock().unwrap())
+    }
+}
+
+impl Device for Failing {
+    fn write_at(&mut self, at: u64, bytes: &[u8]) -> io::Result<()> {
+        self.with(|state| {
+            if state.writes_fail {
+                return Err(io::Error::other("full"));
+            }
+            state.pending.push((at as usize, bytes.to_vec()));
+            Ok(())
+        })
+    }
+
+    // One that fails drops what was written.
+    fn sync(&mut self) -> io::Result<()> {
+        self.with(|state| {
+            state.syncs += 1;
+            let pending = std::mem::take(&mut state.pending);
+            if state.syncs_fail {
+                return Err(io::Error::other("lost"));
+            }
+            for (at, bytes) in pending {
+                state.durable[at..at + bytes.len()].copy_from_slice(&bytes);
+            }
+            Ok(())
+        })
+    }
+}
+
+const FIELD: Field = Field {
+    owner: 0,
+    guard: 0,
+    first: 5,
+};
+
+fn start(heap: handles::Heap, device: &Failing, lanes: u32) -> Heap {
+    let plan = Plan {
+        objects: 1,
+        fields: vec![FIELD],
+        lanes,
+        capacity: 2_000,
+    };
+    let opened = Opened {
+        heap,
+        device: Box::new(device.clone()),
+        found: None,
+    };
+    Heap::start(Path::new("heap").into(), opened, &plan, Duration::ZERO).unwrap()
+}
+
+fn make(lanes: u32) -> (Heap, Failing) {
+    let mut device = Failing::default();
+    let (mut heap, size) = handles::Heap::format(1, &[FIELD], lanes, 2_000).unwrap();
+    device.with(|state| state.durable = vec![0; size as usize]);
+    heap.make_calls(&mut device).unwrap();
+    (start(heap, &device, lanes), device)
+}
+
+// The value of the field that recovery finds on the device.
+fn found_on(device: &Failing) -> u64 {
+    let image = device.with(|state| state.durable.clone());
+    let (mut heap, _) = handles::Heap::open(&image).unwrap();
+    let mut session = heap.session().unwrap();
+    session.enter(0).unwrap();
+    session.load(0).unwrap()
+}
+
+#[test]
+fn a_write_that_failed_is_told_and_made_again() {
+    let (heap, device) = make(2);
+    let mut session = heap.session().unwrap();
+    device.with(|state| state.writes_fail = true);
+    session.synchronized(0, |s| s.store(0, 7)).unwrap();
+    for _ in 0..3 {
+        let error = session.durable().unwrap_err();
+        assert_eq!(error.kind(), ErrorKind::Write);
+        assert!(!error.kind().is_final());
+        assert_eq!(error.source().unwrap().to_string(), "full");
+    }
+    assert_eq!(heap.close().unwrap_err().kind(), ErrorKind::Write);
+    assert!(!session.is_durable(1));
+    device.with(|state| state.writes_fail = false);
+    session.durable().unwrap();
+    assert!(session.is_durable(1));
+    assert_eq!(found_on(&device), 7);
+    drop(session);
+    heap.close().unwrap();
+    assert_eq!(found_on(&device), 7);
+}
+
+#[test]
+fn a_lane_without_room_is_told_of_a_write_that_failed() {
+    let (heap, device) = make(1);
+    let mut session = heap.session().unwrap();
+    device.with(|state| state.writes_fail = true);
+    let error = (0..10_000)
+        .find_map(|value| session.synchronized(0, |s| s.store(0, value)).err())
+        .unwrap();
+    assert_eq!(error.kind(), ErrorKind::Write);
+    device.with(|state| state.writes_fail = false);
+    session.synchronized(0, |s| s.store(0, 7)).unwrap();
+    session.durable().unwrap();
+    assert_eq!(found_on(&device), 7);
+}
+
+#[test]
+fn a_sync_that_failed_ends_the_heap_for_all() {
+    let (heap, device) = make(3);
+    let mut first = heap.session().unwrap();
+    let mut waiting = heap.session().unwrap();
+    let waiter = std::thread::spawn(move || {
+        waiting.synchronized(0, |s| {
+            s.store(0, 6)?;
+            s.wait()
+        })
+    });
+    // The other thread waits once its store is seen.
+    while first.synchronized(0, |s| s.load(0)).unwrap() == 5 {
+        std::thread::yield_now();
+    }
+    first.synchronized(0, |s| s.store(0, 6)).unwrap();
+    first.durable().unwrap();
+    device.with(|state| state.syncs_fail = true);
+    first.synchronized(0, |s| s.store(0, 7)).unwrap();
+    let error = first.durable().unwrap_err();
+    assert_eq!(error.kind(), ErrorKind::Sync);
+    assert_eq!(error.source().unwrap().to_string(), "lost");
+    assert_eq!(waiter.join().unwrap().unwrap_err().kind(), ErrorKind::Sync);
+    // No later sync is made, though it would succeed.
+    let syncs = device.with(|state| {
+        state.syncs_fail = false;
+        state.syncs
+    });
+    assert_eq!(
+        first.synchronized(0, |s| s.load(0)).unwrap_err().kind(),
+        ErrorKind::Sync
+    );
+    assert_eq!(heap.session().unwrap_err().kind(), ErrorKind::Sync);
+    assert_eq!(heap.close().unwrap_err().kind(), ErrorKind::Sync);
+    assert!(first.is_durable(first.sections() - 1) && !first.is_durable(first.sections()));
+    drop((first, heap));
+    assert_eq!(device.with(|state| state.syncs), syncs);
+    let found = found_on(&device);
+    assert!(found == 6 || found == 7);
+}
+
+#[test]
+fn a_panic_drops_its_section_and_keeps_what_had_ended() {
+    let (heap, device) = make(2);
+    let mut first = heap.session().unwrap();
+    let mut second = heap.session().unwrap();
+    first.synchronized(0, |s| s.store(0, 6)).unwrap();
+    let panicking = std::thread::spawn(move || {
+        second.synchronized(0, |s| {
+            s.store(0, 7)?;
+            if s.load(0)? == 7 {
+                panic!("planned");
+            }
+            Ok(())
+        })
+    });
+    assert!(panicking.join().is_err());
+    assert_eq!(
+        first.synchronized(0, |s| s.load(0)).unwrap_err().kind(),
+        ErrorKind::Panicked
+    );
+    // It had ended before the panic, so the helper's last round made it durable.
+    first.durable().unwrap();
+    assert_eq!(heap.close().unwrap_err().kind(), ErrorKind::Panicked);
+    drop(heap);
+    assert_eq!(found_on(&device), 6);
+}
+
+#[test]
+fn what_the_library_refuses_is_told_and_nothing_is_done() {
+    let (heap, _device) = make(1);
+    let mut session = heap.session().unwrap();
+    assert_eq!(session.enter(1).unwrap_err().refusal(), Some(Refusal::UnknownObject));
+    let error = session.synchronized(0, |s| s.load(1)).unwrap_err();
+    assert_eq!(
+        (error.kind(), error.refusal()),
+        (ErrorKind::Refused, Some(Refusal::UnknownField))
+    );
+    assert_eq!(error.to_string(), "heap: refused: there is no such field");
+    // A section of 1,000 records takes no more, and goes on.
+    let full = session.synchronized(0, |s| {
+        let refusals: Vec<_> = (0..1_001).filter_map(|value| s.store(0, value).err()).collect();
+        Ok(refusals.len())
+    });
+    assert!((1..10).contains(&full.unwrap()));
+    session.durable().unwrap();
+    heap.close().unwrap();
+}

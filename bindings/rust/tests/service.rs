@@ -1,0 +1,329 @@
+//! Threads over a service, on a file.
+use std::path::PathBuf;
+use std::sync::atomic::{AtomicU64, Ordering};
+use std::sync::Arc;
+use std::time::{Duration, Instant};
+use zelamiku::service::{ErrorKind, Heap, Options, Session};
+
+// A file of its own for each test, which is removed with it.
+struct Scratch(PathBuf);
+
+impl Scratch {
+    fn new(name: &str) -> Scratch {
+        let path = std::env::temp_dir().join(format!("zelamiku-service-{name}-{}", std::process::id()));
+        let _ = std::fs::remove_file(&path);
+        Scratch(path)
+    }
+}
+
+impl Drop for Scratch {
+    fn drop(&mut self) {
+        let _ = std::fs::remove_file(&self.0);
+    }
+}
+
+fn counters(lanes: u32) -> Options {
+    Heap::options().lanes(lanes).objects(2).field(0, 0, 0).field(1, 1, 0)
+}
+
+fn count(session: &mut Session, field: u32) {
+    let counted = session.synchronized(field, |s| {
+        let value = s.load(field)?;
+        s.store(field, value + 1)
+    });
+    counted.unwrap();
+}
+
+#[test]
+fn threads_that_want_one_monitor_count_in_turn() {
+    let scratch = Scratch::new("count");
+    let heap = counters(8).open(&scratch.0).unwrap();
+    std::thread::scope(|scope| {
+        for _ in 0..8 {
+            let mut session = heap.session().unwrap();
+            scope.spawn(move || (0..2_000).for_each(|_| count(&mut session, 0)));
+        }
+    });
+    heap.close().unwrap();
+    let heap = counters(8).open(&scratch.0).unwrap();
+    assert_eq!(heap.session().unwrap().synchronized(0, |s| s.load(0)).unwrap(), 16_000);
+}
+
+#[test]
+fn more_threads_than_processors_sleep_for_a_monitor_that_is_held_long() {
+    let scratch = Scratch::new("long");
+    let heap = counters(16).open(&scratch.0).unwrap();
+    std::thread::scope(|scope| {
+        for _ in 0..16 {
+            let mut session = heap.session().unwrap();
+            scope.spawn(move || {
+                for _ in 0..10 {
+                    let slept = session.synchronized(0, |s| {
+                        let value = s.load(0)?;
+                        std::thread::sleep(Duration::from_millis(1));
+                        s.store(0, value + 1)
+                    });
+                    slept.unwrap();
+                }
+            });
+        }
+    });
+    assert_eq!(heap.session().unwrap().synchronized(0, |s| s.load(0)).unwrap(), 160);
+}
+
+#[test]
+fn each_section_that_is_awaited_is_durable() {
+    let scratch = Scratch::new("durable");
+    let heap = counters(8).open(&scratch.0).unwrap();
+    std::thread::scope(|scope| {
+        for thread in 0..8 {
+            let mut session = heap.session().unwrap();
+            scope.spawn(move || {
+                for section in 1..=50 {
+                    count(&mut session, thread % 2);
+                    session.durable().unwrap();
+                    assert!(session.is_durable(section));
+                }
+            });
+        }
+    });
+}
+
+#[test]
+fn a_section_that_nobody_awaits_is_durable_in_time() {
+    let scratch = Scratch::new("linger");
+    let heap = counters(1).linger(Duration::from_millis(1)).open(&scratch.0).unwrap();
+    let mut session = heap.session().unwrap();
+    count(&mut session, 0);
+    let begin = Instant::now();
+    while !session.is_durable(1) {
+        assert!(begin.elapsed() < Duration::from_secs(20));
+        std::thread::sleep(Duration::from_millis(1));
+    }
+}
+
+#[test]
+fn sessions_come_and_go() {
+    let scratch = Scratch::new("come");
+    let heap = Arc::new(counters(2).open(&scratch.0).unwrap());
+    for round in 1..=100 {
+        let threads = [0, 1].map(|field| {
+            let heap = Arc::clone(&heap);
+            std::thread::spawn(move || {
+                let mut session = heap.session().unwrap();
+                assert_eq!(session.sections(), 0);
+                count(&mut session, field);
+                assert_eq!(session.sections(), 1);
+                session.durable().unwrap();
+                assert!(session.is_durable(1) && !session.is_durable(2));
+            })
+        });
+        threads.into_iter().for_each(|thread| thread.join().unwrap());
+        assert_eq!(heap.session().unwrap().synchronized(0, |s| s.load(0)).unwrap(), round);
+    }
+    let all = [heap.session().unwrap(), heap.session().unwrap()];
+    assert_eq!(heap.session().unwrap_err().kind(), ErrorKind::NoneLeft);
+    drop(all);
+    heap.close().unwrap();
+    assert_eq!(heap.close().unwrap_err().kind(), ErrorKind::Closed);
+}
+
+#[test]
+fn producers_and_consumers_wait_and_notify() {
+    const LIST: u32 = 0;
+    const COUNT: u32 = 0;
+    const TAKEN: u32 = 1;
+    let scratch = Scratch::new("notify");
+    let options = || {
+        Heap::options()
+            .lanes(8)
+            .objects(1)
+            .field(COUNT, LIST, 0)
+            .field(TAKEN, LIST, 0)
+    };
+    let heap = options().open(&scratch.0).unwrap();
+    let taken = AtomicU64::new(0);
+    std::thread::scope(|scope| {
+        for _ in 0..4 {
+            let (mut producer, mut consumer) = (heap.session().unwrap(), heap.session().unwrap());
+            let taken = &taken;
+            scope.spawn(move || {
+                for _ in 0..500 {
+                    let put = producer.synchronized(LIST, |s| {
+                        while s.load(COUNT)? == 4 {
+                            s.wait()?;
+                        }
+                        let count = s.load(COUNT)?;
+                        s.store(COUNT, count + 1)?;
+                        s.notify_all()
+                    });
+                    put.unwrap();
+                }
+            });
+            scope.spawn(move || {
+                for _ in 0..500 {
+                    let took = consumer.synchronized(LIST, |s| {
+                        while s.load(COUNT)? == 0 {
+                            s.wait()?;
+                        }
+                        let count = s.load(COUNT)?;
+                        s.store(COUNT, count - 1)?;
+                        let taken = s.load(TAKEN)?;
+                        s.store(TAKEN, taken + 1)?;
+                        s.notify_all()
+                    });
+                    took.unwrap();
+                    taken.fetch_add(1, Ordering::SeqCst);
+                }
+            });
+        }
+    });
+    heap.close().unwrap();
+    let heap = options().open(&scratch.0).unwrap();
+    let told = heap
+        .session()
+        .unwrap()
+        .synchronized(LIST, |s| Ok((s.load(COUNT)?, s.load(TAKEN)?)));
+    assert_eq!((told.unwrap(), taken.load(Ordering::SeqCst)), ((0, 2_000), 2_000));
+}
+
+#[test]
+fn a_wait_frees_all_locks_of_one_monitor_and_keeps_others() {
+    let scratch = Scratch::new("locks");
+    let heap = counters(2).open(&scratch.0).unwrap();
+    let (mut waiter, mut other) = (heap.session().unwrap(), heap.session().unwrap());
+    let thread = std::thread::spawn(move || {
+        let waited = waiter.synchronized(1, |outer| {
+            outer.synchronized(0, |s| {
+                s.synchronized(0, |s| {
+                    s.store(0, 1)?;
+                    while s.load(0)? == 1 {
+                        s.wait()?;
+                    }
+                    s.store(1, 9)
+                })
+            })
+        });
+        waited.unwrap();
+        waiter.sections()
+    });
+    while other.synchronized(0, |s| s.load(0)).unwrap() == 0 {
+        std::thread::yield_now();
+    }
+    assert_eq!(other.look(1).unwrap().locks, 1);
+    other
+        .synchronized(0, |s| {
+            s.store(0, 2)?;
+            assert!(s.notify()?);
+            assert!(!s.notify()?);
+            Ok(())
+        })
+        .unwrap();
+    // All of it was one section, since the outer monitor was held.
+    assert_eq!(thread.join().unwrap(), 1);
+    assert_eq!(other.synchronized(1, |s| s.load(1)).unwrap(), 9);
+    other.durable().unwrap();
+    drop(other);
+    heap.close().unwrap();
+}
+
+#[test]
+fn a_wait_with_one_monitor_ends_a_section() {
+    let scratch = Scratch::new("ends");
+    let heap = counters(2).open(&scratch.0).unwrap();
+    let (mut waiter, mut other) = (heap.session().unwrap(), heap.session().unwrap());
+    let thread = std::thread::spawn(move || {
+        let waited = waiter.synchronized(0, |s| {
+            s.store(0, 1)?;
+            while s.load(0)? == 1 {
+                s.wait()?;
+            }
+            Ok(())
+        });
+        waited.unwrap();
+        assert_eq!(waiter.sections(), 2);
+        waiter.durable().unwrap();
+        assert!(waiter.is_durable(2));
+    });
+    while other.synchronized(0, |s| s.load(0)).unwrap() == 0 {
+        std::thread::yield_now();
+    }
+    // What the waiting session has ended is durable while it waits, and the heap isn't closed.
+    other.durable().unwrap();
+    assert_eq!(heap.close().unwrap_err().kind(), ErrorKind::Running);
+    let notified = other.synchronized(0, |s| {
+        s.store(0, 2)?;
+        s.notify_all()
+    });
+    assert_eq!(notified.unwrap(), 1);
+    thread.join().unwrap();
+}
+
+#[test]
+fn a_heap_that_is_dropped_ends_those_that_wait() {
+    let scratch = Scratch::new("dropped");
+    let heap = counters(2).open(&scratch.0).unwrap();
+    let (mut waiter, mut other) = (heap.session().unwrap(), heap.session().unwrap());
+    let thread = std::thread::spawn(move || {
+        waiter.synchronized(0, |s| {
+            s.store(0, 1)?;
+            s.wait()
+        })
+    });
+    while other.synchronized(0, |s| s.load(0)).unwrap() == 0 {
+        std::thread::yield_now();
+    }
+    drop(heap);
+    assert_eq!(thread.join().unwrap().unwrap_err().kind(), ErrorKind::Closed);
+    assert_eq!(
+        other.synchronized(0, |s| s.load(0)).unwrap_err().kind(),
+        ErrorKind::Closed
+    );
+    let heap = counters(2).open(&scratch.0).unwrap();
+    assert_eq!(heap.session().unwrap().synchronized(0, |s| s.load(0)).unwrap(), 1);
+}
+
+#[test]
+fn a_session_that_goes_to_another_thread_works_on() {
+    let scratch = Scratch::new("moved");
+    let heap = counters(1).open(&scratch.0).unwrap();
+    let mut session = heap.session().unwrap();
+    for _ in 0..5 {
+        session = std::thread::spawn(move || {
+            count(&mut session, 1);
+            session.durable().unwrap();
+            session
+        })
+        .join()
+        .unwrap();
+    }
+    assert_eq!(session.sections(), 5);
+    heap.close().unwrap();
+}
+
+#[test]
+fn files_that_are_no_such_heap_are_left_as_they_are() {
+    let scratch = Scratch::new("other");
+    counters(2).open(&scratch.0).unwrap().close().unwrap();
+    let before = std::fs::read(&scratch.0).unwrap();
+    let others = [
+        counters(3),
+        counters(2).field(2, 0, 0),
+        Heap::options().lanes(2).objects(3).field(0, 0, 0).field(1, 1, 0),
+    ];
+    for other in others {
+        let error = other.open(&scratch.0).unwrap_err();
+        assert_eq!(error.kind(), ErrorKind::OtherHeap);
+        assert!(error.to_string().contains("2 objects, 2 fields and 2 lanes"), "{error}");
+    }
+    assert_eq!(std::fs::read(&scratch.0).unwrap(), before);
+    // More lanes than were asked for are there to be used.
+    assert_eq!(counters(1).open(&scratch.0).unwrap().lanes(), 2);
+    // One whose making was cut off is made anew.
+    std::fs::write(&scratch.0, [b"MONIHEAP", &[0u8; 100][..]].concat()).unwrap();
+    counters(2).open(&scratch.0).unwrap().close().unwrap();
+    std::fs::write(&scratch.0, [0; 5_000]).unwrap();
+    counters(2).open(&scratch.0).unwrap().close().unwrap();
+    let error = Heap::options().objects(1).field(1, 0, 0).open(&scratch.0).unwrap_err();
+    assert_eq!(error.kind(), ErrorKind::Opening);
+}

@@ -1,0 +1,135 @@
+//! A durable work queue: producers put jobs, consumers take them, do them and say so. Killed at any time and started again on the same
+//! file, no job is lost, none is done twice, and each producer's are done in its order.
+//!
+//!     jobs FILE [JOBS]
+//!
+//! prints for each producer what it finds, then `put PRODUCER NUMBER` and `done PRODUCER NUMBER` once no crash loses it. With JOBS each
+//! producer puts jobs until it has put so many in all, and the program ends when all are done; without, it goes on for ever. A file
+//! that isn't there, is empty or has only zeros gets a queue.
+//!
+//! The queue is a ring of slots in a heap's fields, which are made with it: `queue.rs`.
+mod queue;
+
+use std::process::ExitCode;
+use std::sync::atomic::{AtomicBool, Ordering};
+use std::thread;
+use zelamiku::service::{Error, Heap, Session};
+
+const CONSUMERS: u32 = 3;
+
+type Failure = Box<dyn std::error::Error + Send + Sync>;
+
+// What the producer's job of this number carries.
+fn payload(producer: u32, number: u64) -> u64 {
+    number * 1_000 + u64::from(producer)
+}
+
+// Tells what the queue has, and fails where it isn't what the producers put and the consumers did.
+fn tell(found: &[queue::Found]) -> Result<(), Failure> {
+    for (producer, found) in (0..).zip(found) {
+        let queue::Found { put, done, sum, open } = found;
+        println!("found {producer} put {put} done {done}");
+        let is_open = (done + 1..=*put)
+            .map(|number| payload(producer, number))
+            .eq(open.iter().copied());
+        let done_sum = (1..=*done).fold(0u64, |sum, number| sum.wrapping_add(payload(producer, number)));
+        if !is_open || *sum != done_sum {
+            return Err(format!("producer {producer}'s jobs aren't those that were put and done: {found:?}").into());
+        }
+    }
+    Ok(())
+}
+
+fn produce(mut session: Session, producer: u32, put_before: u64, most: u64) -> Result<(), Error> {
+    let mut number = put_before;
+    while number < most {
+        number = queue::put(&mut session, producer, |number| payload(producer, number))?;
+        session.durable()?;
+        println!("put {producer} {number}");
+    }
+    Ok(())
+}
+
+fn consume(mut session: Session, mut last: u32, is_over: &AtomicBool) -> Result<(), Error> {
+    while let Some(job) = queue::take(&mut session, last, || is_over.load(Ordering::SeqCst))? {
+        // Here a job would be done as far as that can be done twice: after a crash it is handed out again.
+        queue::finish(&mut session, job)?;
+        session.durable()?;
+        println!("done {} {}", job.producer, job.number);
+        last = job.producer;
+    }
+    Ok(())
+}
+
+// What a thread's work answers. One that has failed leaves others that would wait for it: they are told.
+fn tell_others(heap: &Heap, answer: Result<(), Error>) -> Result<(), Error> {
+    if answer.is_err() {
+        heap.stop();
+    }
+    answer
+}
+
+// All producers and consumers, until the last job is done.
+fn work(heap: &Heap, own: &mut Session, found: &[queue::Found], most: u64) -> Result<(), Failure> {
+    let is_over = AtomicBool::new(false);
+    let sessions = (0..queue::PRODUCERS + CONSUMERS)
+        .map(|_| heap.session())
+        .collect::<Result<Vec<_>, _>>()?;
+    thread::scope(|scope| {
+        let mut sessions = sessions.into_iter();
+        let producers: Vec<_> = (0..)
+            .zip(found)
+            .zip(sessions.by_ref())
+            .map(|((producer, found), session)| {
+                scope.spawn(move || tell_others(heap, produce(session, producer, found.put, most)))
+            })
+            .collect();
+        let is_over = &is_over;
+        let consumers: Vec<_> = (0..)
+            .zip(sessions)
+            .map(|(consumer, session)| scope.spawn(move || tell_others(heap, consume(session, consumer, is_over))))
+            .collect();
+        let produced: Vec<_> = producers
+            .into_iter()
+            .map(|producer| producer.join().expect("no panic"))
+            .collect();
+        is_over.store(true, Ordering::SeqCst);
+        let woken = queue::wake_all(own);
+        let consumed: Vec<_> = consumers
+            .into_iter()
+            .map(|consumer| consumer.join().expect("no panic"))
+            .collect();
+        produced
+            .into_iter()
+            .chain(consumed)
+            .chain([woken])
+            .collect::<Result<(), Error>>()
+    })?;
+    Ok(())
+}
+
+fn run(path: &str, jobs: Option<u64>) -> Result<(), Failure> {
+    let heap = queue::options(queue::PRODUCERS + CONSUMERS + 1).open(path)?;
+    let mut session = heap.session()?;
+    let found = queue::begin(&mut session)?;
+    tell(&found)?;
+    work(&heap, &mut session, &found, jobs.unwrap_or(u64::MAX))?;
+    tell(&queue::begin(&mut session)?)?;
+    Ok(heap.close()?)
+}
+
+fn main() -> ExitCode {
+    let words: Vec<String> = std::env::args().collect();
+    let jobs = words.get(2).map(|word| word.parse()).transpose();
+    let (Some(path), Ok(jobs)) = (words.get(1), jobs) else {
+        eprintln!("jobs FILE [JOBS]");
+        return ExitCode::from(2);
+    };
+    match run(path, jobs) {
+        Ok(()) => ExitCode::SUCCESS,
+        Err(failure) => {
+            eprintln!("jobs: {failure}");
+            ExitCode::from(2)
+        }
+    }
+}
