@@ -45,17 +45,10 @@ impl Model for HostedSession {
 }
 
 impl HostedSession {
-    ghost use Rattle.std.specs.Prelude.{◌≡◌, ◌<◌, ◌≤◌, ◌↔◌, List, [], ◌∷◌, ◌++◌, None, Ok, Err, true, Contains, IfOk, MatchResult};
-    ghost use Rattle.std.specs.FinSet as set;
-    ghost use Rattle.heap_model.specs.declared.event.Event.TheVariants as event;
-    ghost use Rattle.heap_model.specs.declared.ids.Lane.{Lane};
+    ghost use Rattle.std.specs.Prelude.{◌≡◌, [], ◌∷◌, ◌++◌, MatchResult};
     ghost use Rattle.hosted_heap.specs.Sessions.{inner_wait};
-    ghost use Rattle.hosted_heap.specs.Calls.{AsksToWait, Enters, Exits, Loads, Notifies, StoresAs};
-    ghost use Rattle.lock_word.specs.Spelling.{sight_of};
-    ghost use Rattle.session.specs.Calls.{IsQuiet};
+    ghost use Rattle.session.specs.Calls.{AsksToWait, Enters, Exits, IsQuiet, Loads, Looks, Notifies, NotifiesAll, StoresAs};
     ghost use Rattle.session.specs.Sessions.{view_of};
-    ghost use Rattle.session.specs.declared.error.SessionError.TheVariants as error;
-    ghost use Rattle.steps.specs.Views.{IsHeld, IsLasting, IsWhole, Lengthens, hold, plan};
 
     /// Takes the monitor, or one lock more of it ([`Session::try_enter`]).
     pub fn try_enter(&mut self, object: ObjectId) -> Result<(), SessionError>
@@ -100,12 +93,7 @@ impl HostedSession {
     /// Takes all lanes out of the monitor's wait set ([`Session::notify_all`]).
     pub fn notify_all(&mut self, object: ObjectId) -> Result<WaitMask, SessionError>
         ensures home { self.new.home ≡ self.old.home }
-        ensures unknown { (plan self.old.home).objects ≤ object.0 → (result ≡ Err error.UnknownObject) × IsQuiet (view_of self.old.session) (view_of self.new.session) }
-        ensures not_held { object.0 < (plan self.old.home).objects → hold (view_of self.old.session) object.0 ≡ None
-            → (result ≡ Err error.NotHeld) × IsQuiet (view_of self.old.session) (view_of self.new.session) }
-        ensures held { object.0 < (plan self.old.home).objects → IsHeld (view_of self.old.session) object.0
-            → (mask : _) × (woken : List Lane) × (result ≡ Ok mask) × Lengthens (view_of self.old.session) (view_of self.new.session) (event.NotifyAll object woken ∷ [])
-            × ((l : Lane) → Contains woken l ↔ (set.contains mask l.0 ≡ true)) }
+        ensures told { NotifiesAll self.old.home self.old.session self.new.session object result }
     {
         self.session.notify_all(&self.shared, object)
     }
@@ -113,10 +101,7 @@ impl HostedSession {
     /// What the monitor's words say ([`Session::look`]).
     pub fn look(&mut self, object: ObjectId) -> Result<(LockWord, Option<FatWord>), SessionError>
         ensures home { self.new.home ≡ self.old.home }
-        ensures unknown { (plan self.old.home).objects ≤ object.0 → (result ≡ Err error.UnknownObject) × IsQuiet (view_of self.old.session) (view_of self.new.session) }
-        ensures known { object.0 < (plan self.old.home).objects → (lock : _) × (fat : _) × (result ≡ Ok (lock, fat)) × IsWhole (view_of self.new.session) object lock fat
-            × Lengthens (view_of self.old.session) (view_of self.new.session) (event.Look object (sight_of lock fat) ∷ []) }
-        ensures lasting { IfOk result (λ words. IsLasting (view_of self.new.session) object words.0) }
+        ensures told { Looks self.old.home self.old.session self.new.session object result }
     {
         self.session.look(&self.shared, object)
     }

@@ -37,7 +37,7 @@ impl Model for HostedWaiting {
 
 impl HostedWaiting {
     ghost use Rattle.std.specs.Prelude.{◌≡◌, MatchResult};
-    ghost use Rattle.hosted_heap.specs.Calls.{AsksToResume};
+    ghost use Rattle.session.specs.Calls.{AsksToResume};
     ghost use Rattle.hosted_heap.specs.Sessions.{inner_resume};
 
     /// Takes the monitor again, if the thread was removed from its wait set and the monitor is free ([`Waiting::try_resume`]).

@@ -1,5 +1,5 @@
 -- The cases of a resume.
-use Rattle.std.proofs.Common.{ℕ, ◌<◌, ◌⊎◌, inl, inr, [], ◌∷◌, Some, None, Result, Ok, Err, MatchResult, refl, sym, ap, ◌∙◌, arith}
+use Rattle.std.proofs.Common.{ℕ, ◌≡◌, ◌<◌, ◌⊎◌, inl, inr, [], ◌∷◌, Some, None, Result, Ok, Err, IfErr, MatchResult, refl, sym, ap, ◌∙◌, arith}
 use Rattle.heap_model.specs.declared.ids.ObjectId.{ObjectId}
 use Rattle.heap_model.specs.declared.event.Event.TheVariants.{Resume, Look}
 use Rattle.heap_model.specs.declared.event.Sight.TheVariants.{Found}
@@ -10,22 +10,32 @@ use Rattle.session.specs.declared.waiting.Waiting.{Waiting}
 use Rattle.session.specs.declared.error.Still.{Still}
 use Rattle.session.specs.declared.error.Still.TheVariants as still
 use Rattle.steps.specs.Views.{Lengthens, IsSlot}
-use Rattle.session.specs.Calls.{SeesAnother, SeesLast, Resumes, WaitsOn}
+use Rattle.session.specs.Calls.{AsksToResume, SeesAnother, SeesLast, WaitsOn}
 use Rattle.session.specs.Steps.{MissesResume}
-use Rattle.session.specs.Sessions.{view_of, view_waiting}
+use Rattle.session.specs.Sessions.{awaited, view_of, view_waiting}
 use Rattle.session.proofs.Lengthening.{after_quiet, after_both}
 use Rattle.session.proofs.Trying.{of_slot, sees_change}
 
 -- the try after a look that showed the monitor free
-pub resumed : (u v w : View) (o : ObjectId) (n slot : ℕ) (x : Result Session (Waiting × Still)) → IsSlot u o (Some slot) → Lengthens u v [] → Lengthens v w (Look o (Found None 0 n) ∷ []) → n < u.plan.last →
-    MatchResult x (λ s. Lengthens w (view_of s) (Resume o n ∷ [])) (λ e. MissesResume w (view_waiting e.0) o n e.1) →
-    MatchResult x (λ s. Resumes u (view_of s) o) (λ e. WaitsOn u (view_waiting e.0) o e.1)
-resumed u v w o n slot (Ok s) named quiet look low told = (n, low, after_both u w (view_of s) (Look o (Found None 0 n) ∷ []) (Resume o n ∷ []) (after_quiet u v w _ quiet look) told)
-resumed u v w o n slot (Err e) named quiet look low told = missed e.1 told
+pub resumed : (s : Waiting) (v w : View) (n : ℕ) (x : Result Session (Waiting × Still)) → let u = view_waiting s in let o = awaited s in
+    IsSlot u o (Some s.slot) → Lengthens u v [] → Lengthens v w (Look o (Found None 0 n) ∷ []) → n < u.plan.last →
+    MatchResult x (λ t. Lengthens w (view_of t) (Resume o n ∷ [])) (λ e. MissesResume w (view_waiting e.0) o n e.1) →
+    IfErr x (λ e. awaited e.0 ≡ o) → AsksToResume s x
+resumed s v w n (Ok t) named quiet look low told same =
+    let o = awaited s in let u = view_waiting s in
+    (n, low, after_both u w (view_of t) (Look o (Found None 0 n) ∷ []) (Resume o n ∷ []) (after_quiet u v w _ quiet look) told)
+resumed s v w n (Err e) named quiet look low told same = (same, missed e.1 told)
   where
-    missed : (s : Still) → MissesResume w (view_waiting e.0) o n s → WaitsOn u (view_waiting e.0) o s
+    u : View
+    u = view_waiting s
+
+    o : ObjectId
+    o = awaited s
+
+    missed : (why : Still) → MissesResume w (view_waiting e.0) o n why → WaitsOn u (view_waiting e.0) o why
     missed still.InSet no_ = absurd no_
-    missed (still.Held x) m = (m.0, inr (sees_change u w (view_waiting e.0) o (Found None 0 n) (Some slot) n x refl low (after_quiet u v w _ quiet look) (look.fats o.0 slot (quiet.fats o.0 slot named)) (of_slot slot x m.0) m.1))
+    missed (still.Held x) m =
+        (m.0, inr (sees_change u w (view_waiting e.0) o (Found None 0 n) (Some s.slot) n x refl low (after_quiet u v w _ quiet look) (look.fats o.0 s.slot (quiet.fats o.0 s.slot named)) (of_slot s.slot x m.0) m.1))
 
 -- the look that showed it held, or worn
 pub looked : (u v w : View) (o : ObjectId) (x : Seen) → Lengthens u v [] → SeesAnother v w o x ⊎ SeesLast v w o x → SeesAnother u w o x ⊎ SeesLast u w o x

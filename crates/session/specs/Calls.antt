@@ -1,27 +1,39 @@
--- What the calls of a session answer: `v` is the view before a call, and `w` the view after it.
-use Rattle.std.specs.Prelude.{ℕ, ◌≡◌, ◌≢◌, ◌+◌, ◌<◌, ◌≤◌, ◌⊎◌, List, [], ◌∷◌, ◌++◌, Some, None, Result, Ok, Err, IfOk}
+-- What the calls of a session answer. First by views: `v` is the view before a call, and `w` the view after it. Then, each call as one
+-- relation that all floors above cite: `h` is the heap, `x` the session before the call, `y` the session after it, and `r` the answer.
+use Rattle.std.specs.Prelude.{ℕ, ◌≡◌, ◌≢◌, ◌+◌, ◌<◌, ◌≤◌, ◌⊎◌, ◌↔◌, List, [], ◌∷◌, ◌++◌, Option, Some, None, true, Result, Ok, Err, Contains, IfErr, IfOk, IsErrAnd, MatchResult}
+use Rattle.std.specs.FinSet as set
+use Rattle.std.specs.Ordering.{nat_cmp}
 use Rattle.heap_model.specs.declared.limits.TheConstants.{SECTION_RECORDS, RING_RECORDS, LAST_PLACE}
 use Rattle.heap_model.specs.declared.ids.ObjectId.{ObjectId}
 use Rattle.heap_model.specs.declared.ids.FieldId.{FieldId}
 use Rattle.heap_model.specs.declared.ids.Lane.{Lane}
 use Rattle.heap_model.specs.declared.event.Event.{Event}
 use Rattle.heap_model.specs.declared.event.Event.TheVariants.{Enter, NestedEnter, Store, Wait, Resume, Look}
+use Rattle.heap_model.specs.declared.event.Event.TheVariants as event
 use Rattle.heap_model.specs.declared.event.Sight.{Sight}
 use Rattle.heap_model.specs.declared.event.Sight.TheVariants.{Found, StillInSet}
+use Rattle.heap_model.specs.Known.{known_value}
 use Rattle.heap_model.specs.Own.{Hold}
+use Rattle.lock_word.specs.declared.fat_word.FatShape.{FatShape}
+use Rattle.lock_word.specs.declared.lock_word.Shape.{Shape}
 use Rattle.lock_word.specs.declared.lock_word.Shape.TheVariants as thin
-use Rattle.steps.specs.Views.{View}
+use Rattle.lock_word.specs.declared.lock_word.TheConstants.{FAT_SLOTS}
+use Rattle.lock_word.specs.Spelling.{fat_sight, lane_of_thread, sight_of}
+use Rattle.monitor.specs.Seats.{Home}
+use Rattle.steps.specs.Views.{View, IsHeld, IsLasting, IsWhole, hold, plan}
+use Rattle.steps.specs.Views.{Lengthens, slot_in, miss_events, IsAnother, IsLastingSeen, IsOfSlot}
 use Rattle.steps.specs.declared.grip.Seen.{Seen}
 use Rattle.steps.specs.declared.grip.Seen.TheVariants as seen
 use Rattle.session.specs.declared.error.SessionError.{SessionError}
 use Rattle.session.specs.declared.error.SessionError.TheVariants.{Behind, SectionFull, TooMany, TooDeep, NoFat, Worn, Held}
+use Rattle.session.specs.declared.error.SessionError.TheVariants as error
 use Rattle.session.specs.declared.error.Still.{Still}
 use Rattle.session.specs.declared.error.Still.TheVariants as still
-use Rattle.lock_word.specs.declared.lock_word.TheConstants.{FAT_SLOTS}
-use Rattle.lock_word.specs.Spelling.{fat_sight, lane_of_thread}
-use Rattle.steps.specs.Views.{Lengthens, slot_in, miss_events, IsAnother, IsLastingSeen, IsOfSlot}
 use Rattle.session.specs.declared.limits.TheConstants.{MOST_HELD, THIN_LOCKS, FAT_LOCKS}
+use Rattle.session.specs.declared.session.Session.{Session}
+use Rattle.session.specs.declared.waiting.Waiting.{Waiting}
 use Rattle.session.specs.Logs.{held_count, place, section_records}
+use Rattle.session.specs.Sessions.{awaited, capacity_of, free_of, free_waiting, view_of, view_waiting}
 
 -- nothing is told
 abbrev pub IsQuiet : View → View → Type 0
@@ -192,3 +204,139 @@ IsSettled _ = Unit {0}
 -- a wait that has come back: it was begun, then there were looks, and then the resume
 abbrev pub Waits : (capacity : ℕ) → View → View → ObjectId → Hold → Type 0
 Waits c v w o h = (t : View) × (u : View) × BeginsWait c v t o h × OnlyLooks t u o × Resumes u w o
+
+-- it is refused for this, and nothing was told
+abbrev pub Refuses : {A : Type 0} → Session → Session → SessionError → Result A SessionError → Type 0
+Refuses x y e r = (r ≡ Err e) × IsQuiet (view_of x) (view_of y)
+
+-- it is Ok with this answer, and these events of it were told
+abbrev pub Tells : {A : Type 0} → Session → Session → (A → List Event) → Result A SessionError → Type 0
+Tells x y events r = (a : _) × (r ≡ Ok a) × Lengthens (view_of x) (view_of y) (events a)
+
+-- the session holds the monitor by these locks, or by none
+abbrev pub Owns : Session → ObjectId → Hold → Type 0
+Owns x o k = hold (view_of x) o.0 ≡ Some k
+
+abbrev pub Lacks : Session → ObjectId → Type 0
+Lacks x o = hold (view_of x) o.0 ≡ None
+
+-- the ring has room for all records of the section that has begun, or that is why none begins
+abbrev pub LeavesRing : Session → Session → Result (Unit {0}) SessionError → Type 0
+LeavesRing x y r = MatchResult r (λ _. SECTION_RECORDS ≤ free_of y + 1) (HasRing (capacity_of x) SECTION_RECORDS (free_of y) (view_of y))
+
+-- An enter: one lock more of a monitor that is held, or a first lock, which begins a section where none was held.
+pub record Enters (h : Home) (x y : Session) (o : ObjectId) (r : Result (Unit {0}) SessionError) : Type 0 where
+  pub unknown : (plan h).objects ≤ o.0 → Refuses x y error.UnknownObject r
+  pub again : (k : Hold) → o.0 < (plan h).objects → Owns x o k → EntersAgain (view_of x) (view_of y) o k r
+  pub first : o.0 < (plan h).objects → Lacks x o → EntersFirst (capacity_of x) (view_of x) (view_of y) o r
+  pub ring_room : o.0 < (plan h).objects → Lacks x o → held_count (view_of x) ≡ 0 → LeavesRing x y r
+  -- a slot's name that was met is that of the monitor for good
+  pub lasting : IfErr r (IsLastingHeld (view_of y) o)
+
+-- An enter that waits while another thread has the monitor: it is never refused as held.
+pub record WaitsToEnter (h : Home) (x y : Session) (o : ObjectId) (r : Result (Unit {0}) SessionError) : Type 0 where
+  pub settled : IsSettled r
+  pub unknown : (plan h).objects ≤ o.0 → Refuses x y error.UnknownObject r
+  pub again : (k : Hold) → o.0 < (plan h).objects → Owns x o k → EntersAgain (view_of x) (view_of y) o k r
+  pub first : o.0 < (plan h).objects → Lacks x o → EntersWaiting (capacity_of x) (view_of x) (view_of y) o r
+  pub ring_room : o.0 < (plan h).objects → Lacks x o → held_count (view_of x) ≡ 0 → LeavesRing x y r
+
+-- An exit: one lock less, and with the last one the monitor is free.
+pub record Exits (h : Home) (x y : Session) (o : ObjectId) (r : Result (Unit {0}) SessionError) : Type 0 where
+  pub unknown : (plan h).objects ≤ o.0 → Refuses x y error.UnknownObject r
+  pub not_held : o.0 < (plan h).objects → Lacks x o → Refuses x y error.NotHeld r
+  pub nested : (k : Hold) → o.0 < (plan h).objects → Owns x o k → 1 < k.count → Tells x y (λ _. event.NestedExit o ∷ []) r
+  pub last : (k : Hold) → o.0 < (plan h).objects → Owns x o k → k.count ≡ 1 → Tells x y (λ _. event.Exit o k.number ∷ []) r
+
+-- the session holds the monitor of the field's guard, or doesn't
+abbrev pub HoldsGuard : Home → Session → FieldId → Type 0
+HoldsGuard h x f = IsHeld (view_of x) ((plan h).guard f.0)
+
+abbrev pub LacksGuard : Home → Session → FieldId → Type 0
+LacksGuard h x f = hold (view_of x) ((plan h).guard f.0) ≡ None
+
+-- what the thread's own events say of the field since it took the guard
+abbrev pub KnowsValue : Home → Session → FieldId → ℕ → Type 0
+KnowsValue h x f value = known_value (plan h) (view_of x).events f.0 ≡ Some value
+
+-- A load, under the guard.
+pub record Loads (h : Home) (x y : Session) (f : FieldId) (r : Result ℕ SessionError) : Type 0 where
+  pub unknown : (plan h).fields ≤ f.0 → Refuses x y error.UnknownField r
+  pub not_held : f.0 < (plan h).fields → LacksGuard h x f → Refuses x y error.NotHeld r
+  pub held : f.0 < (plan h).fields → HoldsGuard h x f → Tells x y (λ value. event.Load f value ∷ []) r
+  pub known : (value : ℕ) → f.0 < (plan h).fields → HoldsGuard h x f → KnowsValue h x f value → r ≡ Ok value
+
+-- A store of a value: under the guard, and where the section has room for its record.
+pub record StoresAs (h : Home) (x y : Session) (f : FieldId) (value : ℕ) (r : Result (Unit {0}) SessionError) : Type 0 where
+  pub unknown : (plan h).fields ≤ f.0 → Refuses x y error.UnknownField r
+  pub not_held : f.0 < (plan h).fields → LacksGuard h x f → Refuses x y error.NotHeld r
+  pub held : f.0 < (plan h).fields → HoldsGuard h x f → Stores (view_of x) (view_of y) f value r
+
+-- A notification of one: some lane leaves the wait set, or none where that is empty.
+pub record Notifies (h : Home) (x y : Session) (o : ObjectId) (r : Result (Option Lane) SessionError) : Type 0 where
+  pub unknown : (plan h).objects ≤ o.0 → Refuses x y error.UnknownObject r
+  pub not_held : o.0 < (plan h).objects → Lacks x o → Refuses x y error.NotHeld r
+  pub held : o.0 < (plan h).objects → IsHeld (view_of x) o.0 → Tells x y (λ woken. event.Notify o woken ∷ []) r
+
+-- the lanes of this mask left the monitor's wait set, all of them
+abbrev pub WakesAll : Session → Session → ObjectId → set.FinSet nat_cmp → Type 0
+WakesAll x y o mask = (woken : List Lane)
+    × Lengthens (view_of x) (view_of y) (event.NotifyAll o woken ∷ []) × ((l : Lane) → Contains woken l ↔ (set.contains mask l.0 ≡ true))
+
+-- A notification of all: the wait set is empty then.
+pub record NotifiesAll (h : Home) (x y : Session) (o : ObjectId) (r : Result (set.FinSet nat_cmp) SessionError) : Type 0 where
+  pub unknown : (plan h).objects ≤ o.0 → Refuses x y error.UnknownObject r
+  pub not_held : o.0 < (plan h).objects → Lacks x o → Refuses x y error.NotHeld r
+  pub held : o.0 < (plan h).objects → IsHeld (view_of x) o.0 → (mask : set.FinSet nat_cmp) × (r ≡ Ok mask) × WakesAll x y o mask
+
+-- these words are the monitor's, and the look that they show was told
+pub record Shows (x y : Session) (o : ObjectId) (lock : Shape) (fat : Option FatShape) : Type 0 where
+  pub whole : IsWhole (view_of y) o lock fat
+  pub lasting : IsLasting (view_of y) o lock
+  pub told : Lengthens (view_of x) (view_of y) (event.Look o (sight_of lock fat) ∷ [])
+
+-- A look, at a monitor that the session needn't hold.
+pub record Looks (h : Home) (x y : Session) (o : ObjectId) (r : Result (Shape × Option FatShape) SessionError) : Type 0 where
+  pub unknown : (plan h).objects ≤ o.0 → Refuses x y error.UnknownObject r
+  pub known : o.0 < (plan h).objects → (lock : Shape) × (fat : Option FatShape) × (r ≡ Ok (lock, fat)) × Shows x y o lock fat
+
+-- the session comes back with this refusal, and nothing was told
+abbrev pub ComesBack : {A : Type 0} → Session → SessionError → Result A (Session × SessionError) → Type 0
+ComesBack x why r = IsErrAnd r (λ e. (e.1 ≡ why) × IsQuiet (view_of x) (view_of e.0))
+
+-- a wait on a monitor that is held: it is begun, or the session comes back with the reason
+abbrev pub AsksHeld : Session → ObjectId → Hold → Result Waiting (Session × SessionError) → Type 0
+AsksHeld x o k (Ok w) = (awaited w ≡ o) × BeginsWait (capacity_of x) (view_of x) (view_waiting w) o k
+AsksHeld x o k (Err e) = RefusesWait (capacity_of x) (view_of x) (view_of e.0) o k e.1
+
+-- the ring of the session that comes back has room for a wait and the section behind it, or that is the reason
+abbrev pub HasRingToWait : Session → Session × SessionError → Type 0
+HasRingToWait x e = HasRing (capacity_of x) (SECTION_RECORDS + 1) (free_of e.0) (view_of e.0) e.1
+
+-- the ring has room for the section behind the wait, or says why there is no wait
+abbrev pub LeavesRingToWait : Session → Result Waiting (Session × SessionError) → Type 0
+LeavesRingToWait x r = MatchResult r (λ w. SECTION_RECORDS ≤ free_waiting w) (HasRingToWait x)
+
+-- A wait that is begun, or refused.
+pub record AsksToWait (h : Home) (x : Session) (o : ObjectId) (r : Result Waiting (Session × SessionError)) : Type 0 where
+  pub unknown : (plan h).objects ≤ o.0 → ComesBack x error.UnknownObject r
+  pub not_held : o.0 < (plan h).objects → Lacks x o → ComesBack x error.NotHeld r
+  pub held : (k : Hold) → o.0 < (plan h).objects → Owns x o k → AsksHeld x o k r
+  pub ring_room : (k : Hold) → o.0 < (plan h).objects → Owns x o k → held_count (view_of x) ≡ 1 → LeavesRingToWait x r
+
+-- A wait that has ended, or goes on for the same monitor, with the reason.
+abbrev pub AsksToResume : (w : Waiting) → Result Session (Waiting × Still) → Type 0
+AsksToResume w (Ok y) = Resumes (view_waiting w) (view_of y) (awaited w)
+AsksToResume w (Err e) = (awaited e.0 ≡ awaited w) × WaitsOn (view_waiting w) (view_waiting e.0) (awaited w) e.1
+
+-- a wait from its beginning to its end, on a monitor that is held; or the session comes back with the reason
+abbrev pub WaitsHeld : Session → ObjectId → Hold → Result Session (Session × SessionError) → Type 0
+WaitsHeld x o k (Ok y) = Waits (capacity_of x) (view_of x) (view_of y) o k
+WaitsHeld x o k (Err e) = RefusesWait (capacity_of x) (view_of x) (view_of e.0) o k e.1
+
+-- A wait, from its beginning to its end.
+pub record WaitsFor (h : Home) (x : Session) (o : ObjectId) (r : Result Session (Session × SessionError)) : Type 0 where
+  pub unknown : (plan h).objects ≤ o.0 → ComesBack x error.UnknownObject r
+  pub not_held : o.0 < (plan h).objects → Lacks x o → ComesBack x error.NotHeld r
+  pub held : (k : Hold) → o.0 < (plan h).objects → Owns x o k → WaitsHeld x o k r
+  pub ring_room : (k : Hold) → o.0 < (plan h).objects → Owns x o k → held_count (view_of x) ≡ 1 → IfErr r (HasRingToWait x)

@@ -1,14 +1,34 @@
 -- What the parts of a call keep of a session.
-use Rattle.std.specs.Prelude.{ℕ, ◌≡◌, ◌+◌, ◌<◌, ◌≤◌, Some, length}
+use Rattle.std.specs.Prelude.{ℕ, ◌≡◌, ◌+◌, ◌<◌, ◌≤◌, ◌⊎◌, Bool, true, [], ◌∷◌, Option, Some, None, Result, MatchBool, MatchOption, MatchResult, length}
 use Rattle.rtrb.specs.Ring.{known_free}
 use Rattle.heap_model.specs.declared.limits.TheConstants.{SECTION_RECORDS}
+use Rattle.heap_model.specs.declared.event.Event.TheVariants.{Look, Resume}
+use Rattle.heap_model.specs.declared.event.Sight.TheVariants.{Found, StillInSet}
 use Rattle.heap_model.specs.declared.ids.ObjectId.{ObjectId}
 use Rattle.heap_model.specs.Own.{Hold}
+use Rattle.lock_word.specs.declared.lock_word.TheConstants.{FAT_SLOTS}
+use Rattle.steps.specs.Views.{Fattens, Lengthens}
 use Rattle.steps.specs.declared.grip.Grip.{Grip}
+use Rattle.steps.specs.declared.grip.Seen.{Seen}
+use Rattle.session.specs.declared.error.SessionError.{SessionError}
+use Rattle.session.specs.declared.error.Still.{Still}
 use Rattle.session.specs.declared.session.Session.{Session}
-use Rattle.session.specs.Sits.{Finds}
-use Rattle.session.specs.Calls.{IsWaitWorn}
-use Rattle.session.specs.Sessions.{view_of}
+use Rattle.session.specs.declared.waiting.Waiting.{Waiting}
+use Rattle.session.specs.Sits.{Finds, FindsNone}
+use Rattle.session.specs.Calls.{IsQuiet, IsWaitWorn, RefusesWait, SeesAnother, SeesLast}
+use Rattle.session.specs.Sessions.{awaited, capacity_of, view_of, view_waiting}
+use Rattle.session.specs.Steps.{MissesResume, RefusesFat, RefusesRoom}
+
+-- the hold that a grip is of
+abbrev pub hold_of : Grip → Hold
+hold_of g = record { count = g.count; number = g.number }
+
+-- the session has this grip on the object, or none
+abbrev pub HasGrip : Session → ObjectId → Grip → Type 0
+HasGrip s o g = Finds (view_of s) s.held.items o g
+
+abbrev pub HasNoGrip : Session → ObjectId → Type 0
+HasNoGrip s o = FindsNone (view_of s) s.held.items o
 
 -- nothing was pushed or counted
 pub record SameNumbers (s t : Session) : Type 0 where
@@ -32,3 +52,37 @@ pub record MayWait (s : Session) (o : ObjectId) (h : Hold) (g : Grip) : Type 0 w
   pub fat : (i : ℕ) × (g.slot ≡ Some i)
   pub room : HasRoomToWait s
   pub fresh : ¬ IsWaitWorn (view_of s) h
+
+-- the monitor of this grip was made fat, or no slot is left
+abbrev pub MakesFat : Session → Grip → Option Grip → Type 0
+MakesFat t g x = MatchOption x (FAT_SLOTS ≤ (view_of t).slots) (λ fat. Fattens (view_of t) g fat × HasGrip t g.object fat)
+
+-- whether there is room for a wait: `s` is the session before the test, and `t` after it
+abbrev pub FindsRoom : (s t : Session) → Result (Unit {0}) SessionError → Type 0
+FindsRoom s t x = MatchResult x (λ _. HasRoomToWait t) (RefusesRoom (capacity_of s) (view_of s) (view_of t))
+
+-- the fat grip by which the session may wait, or the reason
+abbrev pub FindsFat : (s t : Session) → Grip → Result Grip SessionError → Type 0
+FindsFat s t g x = MatchResult x (MayWait t g.object (hold_of g)) (RefusesFat (view_of s) (view_of t) g.object (hold_of g))
+
+-- both tests
+abbrev pub PreparesWait : (s t : Session) → ObjectId → Hold → Result Grip SessionError → Type 0
+PreparesWait s t o h x = MatchResult x (MayWait t o h) (RefusesWait (capacity_of s) (view_of s) (view_of t) o h)
+
+-- still in the wait set, by a look; or out of it, of which nothing more is told
+abbrev pub TellsOfSet : (w x : Waiting) → (still : Bool) → Type 0
+TellsOfSet w x still = MatchBool still
+    (Lengthens (view_waiting w) (view_waiting x) (Look (awaited w) StillInSet ∷ []))
+    (IsQuiet (view_waiting w) (view_waiting x) × (x.removed ≡ true))
+
+-- a look at the monitor: free at this number, or held or worn
+abbrev pub LooksAgain : (w x : Waiting) → (last : ℕ) → Result ℕ Seen → Type 0
+LooksAgain w x last r = MatchResult r
+    (λ n. (n < last) × Lengthens (view_waiting w) (view_waiting x) (Look (awaited w) (Found None 0 n) ∷ []))
+    (λ found. SeesAnother (view_waiting w) (view_waiting x) (awaited w) found ⊎ SeesLast (view_waiting w) (view_waiting x) (awaited w) found)
+
+-- a try to take it at this number
+abbrev pub Retakes : Waiting → (number : ℕ) → Result Session (Waiting × Still) → Type 0
+Retakes w n r = MatchResult r
+    (λ s. Lengthens (view_waiting w) (view_of s) (Resume (awaited w) n ∷ []))
+    (λ e. MissesResume (view_waiting w) (view_waiting e.0) (awaited w) n e.1)

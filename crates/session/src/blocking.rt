@@ -10,14 +10,11 @@ use std::sync::Wait;
 use std::thread;
 
 impl Session {
-    ghost use Rattle.std.specs.Prelude.{◌≡◌, ◌<◌, ◌≤◌, ◌+◌, Some, None, Ok, Err, IfOk, IfErr, IsErrAnd, MatchResult};
-    ghost use Rattle.heap_model.specs.Own.{Hold};
-    ghost use Rattle.session.specs.declared.error.SessionError.TheVariants as error;
-    ghost use Rattle.session.specs.Sits.{FindsNone};
-    ghost use Rattle.steps.specs.Views.{View, plan, hold, IsHeld};
-    ghost use Rattle.heap_model.specs.declared.limits.TheConstants.{SECTION_RECORDS};
+    ghost use Rattle.std.specs.Prelude.{◌≡◌, ◌<◌, IfOk, MatchResult};
+    ghost use Rattle.session.specs.Keeping.{HasNoGrip};
+    ghost use Rattle.steps.specs.Views.{View, plan, IsHeld};
     ghost use Rattle.session.specs.Logs.{held_count};
-    ghost use Rattle.session.specs.Calls.{IsQuiet, HasRing, OnlyLooks, EntersAgain, EntersFirst, EntersWaiting, IsFatOrFull, IsSettled, Waits, RefusesWait};
+    ghost use Rattle.session.specs.Calls.{IsQuiet, OnlyLooks, EntersFirst, EntersWaiting, IsFatOrFull, IsSettled, LeavesRing, WaitsFor, WaitsToEnter};
     ghost use Rattle.session.specs.Sessions.{SameRing, IsSessionOf, view_of, capacity_of, free_of};
 
     /// Takes the monitor, or one lock more of it, and waits while another thread holds it (JLS 17.1). After such a wait it makes
@@ -34,14 +31,8 @@ impl Session {
         requires seat { IsSessionOf shared.now self.old }
         ensures seat { IsSessionOf shared.now self.new }
         ensures ring { SameRing self.old self.new }
-        ensures settled { IsSettled result }
-        ensures unknown { (plan shared.now).objects ≤ object.0 → (result ≡ Err error.UnknownObject) × IsQuiet (view_of self.old) (view_of self.new) }
-        ensures again { (h : Hold) → object.0 < (plan shared.now).objects → hold (view_of self.old) object.0 ≡ Some h
-            → EntersAgain (view_of self.old) (view_of self.new) object h result }
-        ensures first { object.0 < (plan shared.now).objects → hold (view_of self.old) object.0 ≡ None
-            → EntersWaiting (capacity_of self.old) (view_of self.old) (view_of self.new) object result }
-        ensures ring_room { object.0 < (plan shared.now).objects → hold (view_of self.old) object.0 ≡ None → held_count (view_of self.old) ≡ 0
-            → MatchResult result (λ _. SECTION_RECORDS ≤ free_of self.new + 1) (HasRing (capacity_of self.old) SECTION_RECORDS (free_of self.new) (view_of self.new)) }
+        // As of an enter, but for looks before it, and never that another thread has the monitor.
+        ensures told { WaitsToEnter shared.now self.old self.new object result }
     {
         if u64::from(object.0) >= steps::objects(shared) {
             seldom();
@@ -63,12 +54,12 @@ impl Session {
     ) -> Result<(), SessionError>
         requires seat { IsSessionOf shared.now self.old }
         requires object { object.0 < (plan shared.now).objects }
-        requires free { FindsNone (view_of self.old) self.old.held.items object }
+        requires free { HasNoGrip self.old object }
         ensures seat { IsSessionOf shared.now self.new }
         ensures ring { SameRing self.old self.new }
         ensures settled { IsSettled result }
         ensures first { EntersWaiting (capacity_of self.old) (view_of self.old) (view_of self.new) object result }
-        ensures ring_room { held_count (view_of self.old) ≡ 0 → MatchResult result (λ _. SECTION_RECORDS ≤ free_of self.new + 1) (HasRing (capacity_of self.old) SECTION_RECORDS (free_of self.new) (view_of self.new)) }
+        ensures ring_room { held_count (view_of self.old) ≡ 0 → LeavesRing self.old self.new result }
     {
         match self.enter_first(shared, object) {
             Ok(()) => Ok(()),
@@ -88,13 +79,13 @@ impl Session {
     ) -> Result<(), SessionError>
         requires seat { IsSessionOf shared.now self.old }
         requires object { object.0 < (plan shared.now).objects }
-        requires free { FindsNone (view_of self.old) self.old.held.items object }
+        requires free { HasNoGrip self.old object }
         ensures seat { IsSessionOf shared.now self.new }
         ensures ring { SameRing self.old self.new }
         ensures settled { IsSettled result }
         ensures first { (u : View) × OnlyLooks (view_of self.old) u object × EntersFirst (capacity_of self.old) u (view_of self.new) object result }
         ensures fat { IfOk result (λ done. IsFatOrFull (view_of self.new) object) }
-        ensures ring_room { held_count (view_of self.old) ≡ 0 → MatchResult result (λ _. SECTION_RECORDS ≤ free_of self.new + 1) (HasRing (capacity_of self.old) SECTION_RECORDS (free_of self.new) (view_of self.new)) }
+        ensures ring_room { held_count (view_of self.old) ≡ 0 → LeavesRing self.old self.new result }
     {
         for _ in rt.forever() {
             match self.enter_first(shared, object) {
@@ -141,13 +132,8 @@ impl Session {
         requires seat { IsSessionOf shared.now self }
         ensures seat { MatchResult result (IsSessionOf shared.now) (λ e. IsSessionOf shared.now e.0) }
         ensures ring { MatchResult result (SameRing self) (λ e. SameRing self e.0) }
-        ensures unknown { (plan shared.now).objects ≤ object.0 → IsErrAnd result (λ e. (e.1 ≡ error.UnknownObject) × IsQuiet (view_of self) (view_of e.0)) }
-        ensures not_held { object.0 < (plan shared.now).objects → hold (view_of self) object.0 ≡ None
-            → IsErrAnd result (λ e. (e.1 ≡ error.NotHeld) × IsQuiet (view_of self) (view_of e.0)) }
-        ensures held { (h : Hold) → object.0 < (plan shared.now).objects → hold (view_of self) object.0 ≡ Some h
-            → MatchResult result (λ session. Waits (capacity_of self) (view_of self) (view_of session) object h) (λ e. RefusesWait (capacity_of self) (view_of self) (view_of e.0) object h e.1) }
-        ensures ring_room { (h : Hold) → object.0 < (plan shared.now).objects → hold (view_of self) object.0 ≡ Some h → held_count (view_of self) ≡ 1
-            → IfErr result (λ e. HasRing (capacity_of self) (SECTION_RECORDS + 1) (free_of e.0) (view_of e.0) e.1) }
+        // The wait was begun, then there were looks alone, and then the thread took the monitor again.
+        ensures told { WaitsFor shared.now self object result }
     {
         match self.begin_wait(shared, object) {
             Ok(waiting) => Ok(waiting.resume(rt, shared)),

@@ -11,19 +11,16 @@ use monitor::Shared;
 use steps::Grip;
 
 impl Session {
-    ghost use Rattle.std.specs.Prelude.{◌≡◌, ◌+◌, ◌<◌, ◌≤◌, length, [], ◌∷◌, Some, None, Err, IfErr, MatchOption, MatchResult};
-    ghost use Rattle.heap_model.specs.Own.{Hold};
+    ghost use Rattle.std.specs.Prelude.{◌≡◌, ◌+◌, ◌<◌, ◌≤◌, length, [], ◌∷◌, None, IfErr, MatchResult};
     ghost use Rattle.heap_model.specs.declared.event.Event.TheVariants as event;
-    ghost use Rattle.session.specs.declared.error.SessionError.TheVariants as error;
     ghost use Rattle.heap_model.specs.declared.limits.TheConstants.{SECTION_RECORDS};
-    ghost use Rattle.lock_word.specs.declared.lock_word.TheConstants.{FAT_SLOTS};
     ghost use Rattle.rtrb.specs.Ring.{known_free};
-    ghost use Rattle.steps.specs.Views.{plan, Lengthens, hold, room_of, Fattens};
+    ghost use Rattle.steps.specs.Views.{plan, Lengthens, room_of};
     ghost use Rattle.session.specs.declared.limits.TheConstants.{MOST_HELD};
-    ghost use Rattle.session.specs.Sits.{Finds, FindsNone, HasRoom};
+    ghost use Rattle.session.specs.Sits.{HasRoom};
     ghost use Rattle.session.specs.Logs.{held_count};
-    ghost use Rattle.session.specs.Calls.{IsQuiet, HasRing, IsLastingHeld, Tries, Begins, GoesOn, EntersAgain};
-    ghost use Rattle.session.specs.Keeping.{SameNumbers};
+    ghost use Rattle.session.specs.Calls.{IsQuiet, IsLastingHeld, Tries, Begins, LeavesRing, Enters, EntersAgain, EntersFirst};
+    ghost use Rattle.session.specs.Keeping.{HasGrip, HasNoGrip, MakesFat, SameNumbers, hold_of};
     ghost use Rattle.session.specs.Sessions.{SameRing, IsSessionOf, view_of, capacity_of, free_of};
 
     /// Takes the monitor, or one lock more of it (JLS 17.1). It looks once and, where that showed the monitor free, tries
@@ -40,16 +37,8 @@ impl Session {
         requires seat { IsSessionOf shared.now self.old }
         ensures seat { IsSessionOf shared.now self.new }
         ensures ring { SameRing self.old self.new }
-        ensures unknown { (plan shared.now).objects ≤ object.0 → (result ≡ Err error.UnknownObject) × IsQuiet (view_of self.old) (view_of self.new) }
-        ensures again { (h : Hold) → object.0 < (plan shared.now).objects → hold (view_of self.old) object.0 ≡ Some h
-            → EntersAgain (view_of self.old) (view_of self.new) object h result }
-        ensures begins { object.0 < (plan shared.now).objects → hold (view_of self.old) object.0 ≡ None → held_count (view_of self.old) ≡ 0
-            → Begins (capacity_of self.old) (view_of self.old) (view_of self.new) object result }
-        ensures goes_on { object.0 < (plan shared.now).objects → hold (view_of self.old) object.0 ≡ None → 0 < held_count (view_of self.old)
-            → GoesOn (view_of self.old) (view_of self.new) object result }
-        ensures ring_room { object.0 < (plan shared.now).objects → hold (view_of self.old) object.0 ≡ None → held_count (view_of self.old) ≡ 0
-            → MatchResult result (λ _. SECTION_RECORDS ≤ free_of self.new + 1) (HasRing (capacity_of self.old) SECTION_RECORDS (free_of self.new) (view_of self.new)) }
-        ensures lasting { IfErr result (IsLastingHeld (view_of self.new) object) }
+        // What the answer says of monitor and section, and that nothing else was told.
+        ensures told { Enters shared.now self.old self.new object result }
     {
         if u64::from(object.0) >= steps::objects(shared) {
             seldom();
@@ -65,10 +54,10 @@ impl Session {
     #[inline(never)]
     pub(crate) fn enter_again(&mut self, shared: &Shared, grip: Grip) -> Result<(), SessionError>
         requires seat { IsSessionOf shared.now self.old }
-        requires found { Finds (view_of self.old) self.old.held.items grip.object grip }
+        requires found { HasGrip self.old grip.object grip }
         ensures seat { IsSessionOf shared.now self.new }
         ensures ring { SameRing self.old self.new }
-        ensures again { EntersAgain (view_of self.old) (view_of self.new) grip.object (record { count = grip.count; number = grip.number }) result }
+        ensures again { EntersAgain (view_of self.old) (view_of self.new) grip.object (hold_of grip) result }
     {
         if grip.count == FAT_LOCKS {
             return Err(SessionError::TooDeep);
@@ -87,7 +76,7 @@ impl Session {
     // One lock more, for which the monitor's word has room.
     fn nest(&mut self, shared: &Shared, grip: Grip)
         requires seat { IsSessionOf shared.now self.old }
-        requires found { Finds (view_of self.old) self.old.held.items grip.object grip }
+        requires found { HasGrip self.old grip.object grip }
         requires room { grip.count < room_of grip.slot }
         ensures seat { IsSessionOf shared.now self.new }
         ensures ring { SameRing self.old self.new }
@@ -101,13 +90,13 @@ impl Session {
     #[inline(never)]
     pub(crate) fn fatten(&mut self, shared: &Shared, grip: Grip) -> Option<Grip>
         requires seat { IsSessionOf shared.now self.old }
-        requires found { Finds (view_of self.old) self.old.held.items grip.object grip }
+        requires found { HasGrip self.old grip.object grip }
         requires thin { grip.slot ≡ None }
         ensures seat { IsSessionOf shared.now self.new }
         ensures ring { SameRing self.old self.new }
         ensures quiet { IsQuiet (view_of self.old) (view_of self.new) }
         ensures numbers { SameNumbers self.old self.new }
-        ensures made { MatchOption result (FAT_SLOTS ≤ (view_of self.new).slots) (λ fat. Fattens (view_of self.new) grip fat × Finds (view_of self.new) self.new.held.items grip.object fat) }
+        ensures made { MakesFat self.new grip result }
     {
         let Some(fat) = steps::inflate(shared, &mut self.seat, grip) else {
             return None;
@@ -125,12 +114,11 @@ impl Session {
     ) -> Result<(), SessionError>
         requires seat { IsSessionOf shared.now self.old }
         requires object { object.0 < (plan shared.now).objects }
-        requires free { FindsNone (view_of self.old) self.old.held.items object }
+        requires free { HasNoGrip self.old object }
         ensures seat { IsSessionOf shared.now self.new }
         ensures ring { SameRing self.old self.new }
-        ensures begins { held_count (view_of self.old) ≡ 0 → Begins (capacity_of self.old) (view_of self.old) (view_of self.new) object result }
-        ensures goes_on { 0 < held_count (view_of self.old) → GoesOn (view_of self.old) (view_of self.new) object result }
-        ensures ring_room { held_count (view_of self.old) ≡ 0 → MatchResult result (λ _. SECTION_RECORDS ≤ free_of self.new + 1) (HasRing (capacity_of self.old) SECTION_RECORDS (free_of self.new) (view_of self.new)) }
+        ensures first { EntersFirst (capacity_of self.old) (view_of self.old) (view_of self.new) object result }
+        ensures ring_room { held_count (view_of self.old) ≡ 0 → LeavesRing self.old self.new result }
         ensures lasting { IfErr result (IsLastingHeld (view_of self.new) object) }
     {
         let count = self.held.len();
@@ -153,12 +141,12 @@ impl Session {
     fn begin(&mut self, shared: &Shared, object: ObjectId) -> Result<(), SessionError>
         requires seat { IsSessionOf shared.now self.old }
         requires object { object.0 < (plan shared.now).objects }
-        requires free { FindsNone (view_of self.old) self.old.held.items object }
+        requires free { HasNoGrip self.old object }
         requires empty { self.old.held.items ≡ [] }
         ensures seat { IsSessionOf shared.now self.new }
         ensures ring { SameRing self.old self.new }
         ensures begins { Begins (capacity_of self.old) (view_of self.old) (view_of self.new) object result }
-        ensures ring_room { MatchResult result (λ _. SECTION_RECORDS ≤ free_of self.new + 1) (HasRing (capacity_of self.old) SECTION_RECORDS (free_of self.new) (view_of self.new)) }
+        ensures ring_room { LeavesRing self.old self.new result }
         ensures lasting { IfErr result (IsLastingHeld (view_of self.new) object) }
     {
         if !ring_has_room(&mut self.ring, SECTION_RECORDS as usize) {
@@ -188,7 +176,7 @@ impl Session {
     fn take(&mut self, shared: &Shared, object: ObjectId) -> Result<(), SessionError>
         requires seat { IsSessionOf shared.now self.old }
         requires object { object.0 < (plan shared.now).objects }
-        requires free { FindsNone (view_of self.old) self.old.held.items object }
+        requires free { HasNoGrip self.old object }
         requires few { length self.old.held.items < MOST_HELD }
         requires short { self.old.records + length self.old.held.items + 2 ≤ SECTION_RECORDS }
         requires room { HasRoom self.old.records self.old.place self.old.capacity self.old.trimmed (known_free self.old.ring) }

@@ -6,14 +6,11 @@ use heap_model::{FieldId, Record, SECTION_RECORDS};
 use monitor::Shared;
 
 impl Session {
-    ghost use Rattle.std.specs.Prelude.{◌≡◌, ◌+◌, ◌<◌, ◌≤◌, length, [], ◌∷◌, Some, None, Ok, Err};
-    ghost use Rattle.heap_model.specs.Own.{Hold};
+    ghost use Rattle.std.specs.Prelude.{◌≡◌, ◌+◌, ◌<◌, ◌≤◌, length, [], ◌∷◌};
     ghost use Rattle.heap_model.specs.declared.event.Event.TheVariants as event;
-    ghost use Rattle.session.specs.declared.error.SessionError.TheVariants as error;
-    ghost use Rattle.heap_model.specs.Known.{known_value};
     ghost use Rattle.heap_model.specs.declared.limits.TheConstants.{SECTION_RECORDS};
-    ghost use Rattle.steps.specs.Views.{plan, IsHeld, Lengthens, hold};
-    ghost use Rattle.session.specs.Calls.{IsQuiet, Stores};
+    ghost use Rattle.steps.specs.Views.{plan, IsHeld, Lengthens};
+    ghost use Rattle.session.specs.Calls.{Loads, StoresAs};
     ghost use Rattle.session.specs.Sessions.{SameRing, IsSessionOf, view_of};
 
     /// Loads a field. One load.
@@ -25,12 +22,8 @@ impl Session {
         requires seat { IsSessionOf shared.now self.old }
         ensures seat { IsSessionOf shared.now self.new }
         ensures ring { SameRing self.old self.new }
-        ensures unknown { (plan shared.now).fields ≤ field.0 → (result ≡ Err error.UnknownField) × IsQuiet (view_of self.old) (view_of self.new) }
-        ensures not_held { field.0 < (plan shared.now).fields → hold (view_of self.old) ((plan shared.now).guard field.0) ≡ None
-            → (result ≡ Err error.NotHeld) × IsQuiet (view_of self.old) (view_of self.new) }
-        ensures held { field.0 < (plan shared.now).fields → IsHeld (view_of self.old) ((plan shared.now).guard field.0)
-            → (value : _) × (result ≡ Ok value) × Lengthens (view_of self.old) (view_of self.new) (event.Load field value ∷ []) }
-        ensures known { (value : _) → field.0 < (plan shared.now).fields → IsHeld (view_of self.old) ((plan shared.now).guard field.0) → known_value (plan shared.now) (view_of self.old).events field.0 ≡ Some value → result ≡ Ok value }
+        // The value is the field's in one legal history of all threads: the one that the thread knows, where it knows one.
+        ensures told { Loads shared.now self.old self.new field result }
     {
         if u64::from(field.0) >= steps::fields(shared) {
             seldom();
@@ -56,11 +49,8 @@ impl Session {
         requires seat { IsSessionOf shared.now self.old }
         ensures seat { IsSessionOf shared.now self.new }
         ensures ring { SameRing self.old self.new }
-        ensures unknown { (plan shared.now).fields ≤ field.0 → (result ≡ Err error.UnknownField) × IsQuiet (view_of self.old) (view_of self.new) }
-        ensures not_held { field.0 < (plan shared.now).fields → hold (view_of self.old) ((plan shared.now).guard field.0) ≡ None
-            → (result ≡ Err error.NotHeld) × IsQuiet (view_of self.old) (view_of self.new) }
-        ensures held { field.0 < (plan shared.now).fields → IsHeld (view_of self.old) ((plan shared.now).guard field.0)
-            → Stores (view_of self.old) (view_of self.new) field value result }
+        // What was told is the store, with the value that it found; refused, nothing.
+        ensures told { StoresAs shared.now self.old self.new field value result }
     {
         if u64::from(field.0) >= steps::fields(shared) {
             seldom();

@@ -129,15 +129,13 @@ pub fn after_release(left: usize, records: u64, sections: u64) -> (u64, u64)
 impl Session {
     ghost use Rattle.std.specs.Prelude.{◌≡◌, IfSome, MatchOption};
     ghost use Rattle.session.specs.Grips.{place_in};
-    ghost use Rattle.session.specs.Sits.{Finds, FindsNone};
+    ghost use Rattle.session.specs.Keeping.{HasGrip, HasNoGrip};
     ghost use Rattle.session.specs.Sessions.{view_of};
 
     // The grip on the object, if there is one, with its place.
     #[inline(always)]
     pub(crate) fn find(&self, object: ObjectId) -> Option<(usize, Grip)>
-        ensures found { MatchOption result
-            (FindsNone (view_of self.now) self.now.held.items object)
-            (λ r. Finds (view_of self.now) self.now.held.items object r.1) }
+        ensures found { MatchOption result (HasNoGrip self.now object) (λ r. HasGrip self.now object r.1) }
         ensures place { IfSome result (λ r. r.0 ≡ place_in object.0 self.now.held.items) }
     {
         grip_for(self.held.as_slice(), object)
@@ -146,9 +144,7 @@ impl Session {
     // The grip on the object, if there is one.
     #[inline(always)]
     pub(crate) fn grip_on(&self, object: ObjectId) -> Option<Grip>
-        ensures { MatchOption result
-            (FindsNone (view_of self.now) self.now.held.items object)
-            (Finds (view_of self.now) self.now.held.items object) }
+        ensures { MatchOption result (HasNoGrip self.now object) (HasGrip self.now object) }
     {
         match self.find(object) {
             None => None,

@@ -8,14 +8,12 @@ use monitor::Shared;
 use steps::Grip;
 
 impl Session {
-    ghost use Rattle.std.specs.Prelude.{◌≡◌, ◌<◌, ◌≤◌, [], ◌∷◌, Some, None, Err, IsOk};
-    ghost use Rattle.heap_model.specs.Own.{Hold};
+    ghost use Rattle.std.specs.Prelude.{◌≡◌, ◌<◌, [], ◌∷◌};
     ghost use Rattle.heap_model.specs.declared.event.Event.TheVariants as event;
-    ghost use Rattle.session.specs.declared.error.SessionError.TheVariants as error;
-    ghost use Rattle.steps.specs.Views.{plan, Lengthens, hold};
+    ghost use Rattle.steps.specs.Views.{Lengthens};
     ghost use Rattle.session.specs.Grips.{place_in};
-    ghost use Rattle.session.specs.Sits.{Finds};
-    ghost use Rattle.session.specs.Calls.{IsQuiet};
+    ghost use Rattle.session.specs.Keeping.{HasGrip};
+    ghost use Rattle.session.specs.Calls.{Exits};
     ghost use Rattle.session.specs.Sessions.{SameRing, IsSessionOf, view_of};
 
     /// Gives one lock back, and with the last one the monitor (JLS 17.1). One store. The section ends with the last monitor.
@@ -26,13 +24,8 @@ impl Session {
         requires seat { IsSessionOf shared.now self.old }
         ensures seat { IsSessionOf shared.now self.new }
         ensures ring { SameRing self.old self.new }
-        ensures unknown { (plan shared.now).objects ≤ object.0 → (result ≡ Err error.UnknownObject) × IsQuiet (view_of self.old) (view_of self.new) }
-        ensures not_held { object.0 < (plan shared.now).objects → hold (view_of self.old) object.0 ≡ None
-            → (result ≡ Err error.NotHeld) × IsQuiet (view_of self.old) (view_of self.new) }
-        ensures nested { (h : Hold) → object.0 < (plan shared.now).objects → hold (view_of self.old) object.0 ≡ Some h → 1 < h.count
-            → IsOk result × Lengthens (view_of self.old) (view_of self.new) (event.NestedExit object ∷ []) }
-        ensures last { (h : Hold) → object.0 < (plan shared.now).objects → hold (view_of self.old) object.0 ≡ Some h → h.count ≡ 1
-            → IsOk result × Lengthens (view_of self.old) (view_of self.new) (event.Exit object h.number ∷ []) }
+        // What the answer says of the monitor, and that nothing else was told.
+        ensures told { Exits shared.now self.old self.new object result }
     {
         if u64::from(object.0) >= steps::objects(shared) {
             seldom();
@@ -54,7 +47,7 @@ impl Session {
     #[inline(never)]
     fn unnest(&mut self, shared: &Shared, grip: Grip)
         requires seat { IsSessionOf shared.now self.old }
-        requires found { Finds (view_of self.old) self.old.held.items grip.object grip }
+        requires found { HasGrip self.old grip.object grip }
         requires several { 1 < grip.count }
         ensures seat { IsSessionOf shared.now self.new }
         ensures ring { SameRing self.old self.new }
@@ -68,7 +61,7 @@ impl Session {
     #[inline(always)]
     fn release(&mut self, shared: &Shared, grip: Grip, place: usize)
         requires seat { IsSessionOf shared.now self.old }
-        requires found { Finds (view_of self.old) self.old.held.items grip.object grip }
+        requires found { HasGrip self.old grip.object grip }
         requires place { place ≡ place_in grip.object.0 self.old.held.items }
         requires last { grip.count ≡ 1 }
         ensures seat { IsSessionOf shared.now self.new }

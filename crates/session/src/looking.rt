@@ -7,13 +7,8 @@ use lock_word::{FatWord, LockWord};
 use monitor::Shared;
 
 impl Session {
-    ghost use Rattle.std.specs.Prelude.{◌≡◌, ◌<◌, ◌≤◌, [], ◌∷◌, Ok, Err, IfOk};
-    ghost use Rattle.heap_model.specs.Own.{Hold};
-    ghost use Rattle.heap_model.specs.declared.event.Event.TheVariants as event;
-    ghost use Rattle.session.specs.declared.error.SessionError.TheVariants as error;
-    ghost use Rattle.lock_word.specs.Spelling.{sight_of};
-    ghost use Rattle.steps.specs.Views.{plan, Lengthens, IsWhole, IsLasting};
-    ghost use Rattle.session.specs.Calls.{IsQuiet};
+    ghost use Rattle.std.specs.Prelude.{◌≡◌, ◌<◌};
+    ghost use Rattle.session.specs.Calls.{IsQuiet, Looks};
     ghost use Rattle.session.specs.Sessions.{SameRing, HasRoomLeft, IsSessionOf, view_of, seat_of, ring_of};
     ghost use Rattle.session.specs.Logs.{sent_in, held_count, sections_ended};
     ghost use Rattle.monitor.specs.Views.{Stands};
@@ -48,10 +43,8 @@ impl Session {
         requires seat { IsSessionOf shared.now self.old }
         ensures seat { IsSessionOf shared.now self.new }
         ensures ring { SameRing self.old self.new }
-        ensures unknown { (plan shared.now).objects ≤ object.0 → (result ≡ Err error.UnknownObject) × IsQuiet (view_of self.old) (view_of self.new) }
-        ensures known { object.0 < (plan shared.now).objects
-            → (lock : _) × (fat : _) × (result ≡ Ok (lock, fat)) × IsWhole (view_of self.new) object lock fat × Lengthens (view_of self.old) (view_of self.new) (event.Look object (sight_of lock fat) ∷ []) }
-        ensures lasting { IfOk result (λ words. IsLasting (view_of self.new) object words.0) }
+        // The words are the monitor's at one moment of the history.
+        ensures told { Looks shared.now self.old self.new object result }
     {
         if u64::from(object.0) >= steps::objects(shared) {
             return Err(SessionError::UnknownObject);

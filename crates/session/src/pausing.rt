@@ -27,18 +27,17 @@ fn is_wait_worn(held: usize, place: u64, number: u64, last: u64) -> bool
 }
 
 impl Session {
-    ghost use Rattle.std.specs.Prelude.{◌≡◌, ◌+◌, ◌<◌, ◌≤◌, ◌≢◌, length, [], ◌∷◌, Some, None, Ok, Err, IfErr, IsErrAnd, MatchResult};
+    ghost use Rattle.std.specs.Prelude.{◌≡◌, ◌+◌, ◌<◌, ◌≤◌, length, [], ◌∷◌, Err, IfErr, MatchResult};
     ghost use Rattle.heap_model.specs.Own.{Hold};
     ghost use Rattle.heap_model.specs.declared.event.Event.TheVariants as event;
     ghost use Rattle.session.specs.declared.error.SessionError.TheVariants as error;
-    ghost use Rattle.session.specs.Sits.{Finds};
-    ghost use Rattle.steps.specs.Views.{plan, KeepsEach, Lengthens, hold};
+    ghost use Rattle.steps.specs.Views.{plan, KeepsEach, Lengthens};
     ghost use Rattle.heap_model.specs.declared.limits.TheConstants.{SECTION_RECORDS};
     ghost use Rattle.session.specs.Logs.{held_count};
-    ghost use Rattle.session.specs.Calls.{IsQuiet, HasRing, IsWaitWorn, RefusesWait, BeginsWait};
+    ghost use Rattle.session.specs.Calls.{AsksToWait, HasRingToWait, IsQuiet, IsWaitWorn, Lacks, Owns};
     ghost use Rattle.session.specs.Sessions.{SameRing, SameRingWaiting, IsSessionOf, IsWaitingOf, view_of, view_waiting, capacity_of, awaited, free_of, free_waiting};
-    ghost use Rattle.session.specs.Keeping.{HasRoomToWait, MayWait};
-    ghost use Rattle.session.specs.Steps.{RefusesRoom, RefusesFat};
+    ghost use Rattle.session.specs.Keeping.{FindsFat, FindsRoom, HasGrip, HasRoomToWait, MayWait, PreparesWait, hold_of};
+    ghost use Rattle.session.specs.Steps.{RefusesFat};
 
     /// Joins the monitor's wait set and frees the monitor, whatever the count of its locks, which comes back with it (JLS
     /// 17.2.1). The section ends here where no other monitor is held. The monitor gets fat, if it isn't.
@@ -60,13 +59,8 @@ impl Session {
         requires seat { IsSessionOf shared.now self }
         ensures seat { MatchResult result (IsWaitingOf shared.now) (λ e. IsSessionOf shared.now e.0) }
         ensures ring { MatchResult result (SameRingWaiting self) (λ e. SameRing self e.0) }
-        ensures unknown { (plan shared.now).objects ≤ object.0 → IsErrAnd result (λ e. (e.1 ≡ error.UnknownObject) × IsQuiet (view_of self) (view_of e.0)) }
-        ensures not_held { object.0 < (plan shared.now).objects → hold (view_of self) object.0 ≡ None
-            → IsErrAnd result (λ e. (e.1 ≡ error.NotHeld) × IsQuiet (view_of self) (view_of e.0)) }
-        ensures held { (h : Hold) → object.0 < (plan shared.now).objects → hold (view_of self) object.0 ≡ Some h
-            → MatchResult result (λ waiting. (awaited waiting ≡ object) × BeginsWait (capacity_of self) (view_of self) (view_waiting waiting) object h) (λ e. RefusesWait (capacity_of self) (view_of self) (view_of e.0) object h e.1) }
-        ensures ring_room { (h : Hold) → object.0 < (plan shared.now).objects → hold (view_of self) object.0 ≡ Some h → held_count (view_of self) ≡ 1
-            → MatchResult result (λ waiting. SECTION_RECORDS ≤ free_waiting waiting) (λ e. HasRing (capacity_of self) (SECTION_RECORDS + 1) (free_of e.0) (view_of e.0) e.1) }
+        // The thread is in the wait set and the monitor free; or the session comes back, and nothing was told.
+        ensures told { AsksToWait shared.now self object result }
     {
         let mut session = self;
         match session.prepare_wait(shared, object) {
@@ -82,11 +76,10 @@ impl Session {
         ensures ring { SameRing self.old self.new }
         ensures quiet { IsQuiet (view_of self.old) (view_of self.new) }
         ensures unknown { (plan shared.now).objects ≤ object.0 → result ≡ Err error.UnknownObject }
-        ensures not_held { object.0 < (plan shared.now).objects → hold (view_of self.old) object.0 ≡ None → result ≡ Err error.NotHeld }
-        ensures held { (h : Hold) → object.0 < (plan shared.now).objects → hold (view_of self.old) object.0 ≡ Some h
-            → MatchResult result (MayWait self.new object h) (RefusesWait (capacity_of self.old) (view_of self.old) (view_of self.new) object h) }
-        ensures ring_room { (h : Hold) → object.0 < (plan shared.now).objects → hold (view_of self.old) object.0 ≡ Some h → held_count (view_of self.old) ≡ 1
-            → IfErr result (HasRing (capacity_of self.old) (SECTION_RECORDS + 1) (free_of self.new) (view_of self.new)) }
+        ensures not_held { object.0 < (plan shared.now).objects → Lacks self.old object → result ≡ Err error.NotHeld }
+        ensures held { (h : Hold) → object.0 < (plan shared.now).objects → Owns self.old object h → PreparesWait self.old self.new object h result }
+        ensures ring_room { (h : Hold) → object.0 < (plan shared.now).objects → Owns self.old object h → held_count (view_of self.old) ≡ 1
+            → IfErr result (λ e. HasRingToWait self.old (self.new, e)) }
     {
         if u64::from(object.0) >= steps::objects(shared) {
             return Err(SessionError::UnknownObject);
@@ -109,8 +102,8 @@ impl Session {
         ensures quiet { IsQuiet (view_of self.old) (view_of self.new) }
         ensures grips { KeepsEach (view_of self.old) (view_of self.new) }
         ensures held { self.new.held ≡ self.old.held }
-        ensures room { MatchResult result (λ _. HasRoomToWait self.new) (RefusesRoom (capacity_of self.old) (view_of self.old) (view_of self.new)) }
-        ensures ring_room { held_count (view_of self.old) ≡ 1 → IfErr result (HasRing (capacity_of self.old) (SECTION_RECORDS + 1) (free_of self.new) (view_of self.new)) }
+        ensures room { FindsRoom self.old self.new result }
+        ensures ring_room { held_count (view_of self.old) ≡ 1 → IfErr result (λ e. HasRingToWait self.old (self.new, e)) }
     {
         let count = self.held.len();
         if count > 1 {
@@ -138,14 +131,12 @@ impl Session {
     // The grip on the monitor, fat, unless the wait is refused.
     fn fatten_to_wait(&mut self, shared: &Shared, grip: Grip) -> Result<Grip, SessionError>
         requires seat { IsSessionOf shared.now self.old }
-        requires found { Finds (view_of self.old) self.old.held.items grip.object grip }
+        requires found { HasGrip self.old grip.object grip }
         requires room { HasRoomToWait self.old }
         ensures seat { IsSessionOf shared.now self.new }
         ensures ring { SameRing self.old self.new }
         ensures quiet { IsQuiet (view_of self.old) (view_of self.new) }
-        ensures fat { MatchResult result
-            (MayWait self.new grip.object (record { count = grip.count; number = grip.number }))
-            (RefusesFat (view_of self.old) (view_of self.new) grip.object (record { count = grip.count; number = grip.number })) }
+        ensures fat { FindsFat self.old self.new grip result }
         ensures free { free_of self.new ≡ free_of self.old }
     {
         if is_wait_worn(
@@ -168,12 +159,11 @@ impl Session {
     // Why a wait is refused whose numbers have come to their end: a slot that is wanting comes first.
     fn why_worn(&mut self, shared: &Shared, grip: Grip) -> SessionError
         requires seat { IsSessionOf shared.now self.old }
-        requires found { Finds (view_of self.old) self.old.held.items grip.object grip }
+        requires found { HasGrip self.old grip.object grip }
         ensures seat { IsSessionOf shared.now self.new }
         ensures ring { SameRing self.old self.new }
         ensures quiet { IsQuiet (view_of self.old) (view_of self.new) }
-        ensures why { IsWaitWorn (view_of self.old) (record { count = grip.count; number = grip.number })
-            → RefusesFat (view_of self.old) (view_of self.new) grip.object (record { count = grip.count; number = grip.number }) result }
+        ensures why { IsWaitWorn (view_of self.old) (hold_of grip) → RefusesFat (view_of self.old) (view_of self.new) grip.object (hold_of grip) result }
         ensures free { free_of self.new ≡ free_of self.old }
     {
         if let Some(_slot) = grip.slot {
@@ -188,7 +178,7 @@ impl Session {
     // Waits: the two steps, and their record.
     fn join(self, shared: &Shared, grip: Grip) -> Waiting
         requires seat { IsSessionOf shared.now self }
-        requires may { MayWait self grip.object (record { count = grip.count; number = grip.number }) grip }
+        requires may { MayWait self grip.object (hold_of grip) grip }
         ensures seat { IsWaitingOf shared.now result }
         ensures ring { SameRingWaiting self result }
         ensures object { awaited result ≡ grip.object }

@@ -9,14 +9,11 @@ use monitor::Shared;
 use steps::Seen;
 
 impl Waiting {
-    ghost use Rattle.std.specs.Prelude.{◌≡◌, ◌+◌, ◌<◌, ◌≤◌, ◌⊎◌, [], ◌∷◌, Some, None, Ok, Err, true, IfErr, MatchBool, MatchResult};
-    ghost use Rattle.heap_model.specs.declared.event.Event.TheVariants as event;
-    ghost use Rattle.heap_model.specs.declared.event.Sight.TheVariants.{Found, StillInSet};
-    ghost use Rattle.session.specs.declared.error.Still.TheVariants as still;
-    ghost use Rattle.steps.specs.Views.{plan, Lengthens};
-    ghost use Rattle.session.specs.Calls.{IsFatSeen, IsQuiet, Resumes, SeesAnother, SeesLast, WaitsOn};
-    ghost use Rattle.session.specs.Steps.{MissesResume};
-    ghost use Rattle.session.specs.Sessions.{SameRingResumed, SameRingStill, IsSessionOf, IsWaitingOf, view_of, view_waiting, seat_waiting, ring_waiting, awaited};
+    ghost use Rattle.std.specs.Prelude.{◌≡◌, ◌<◌, true, IfErr, MatchResult};
+    ghost use Rattle.steps.specs.Views.{plan};
+    ghost use Rattle.session.specs.Calls.{AsksToResume, IsFatSeen};
+    ghost use Rattle.session.specs.Keeping.{LooksAgain, Retakes, TellsOfSet};
+    ghost use Rattle.session.specs.Sessions.{SameRingResumed, SameRingStill, IsSessionOf, IsWaitingOf, view_waiting, seat_waiting, ring_waiting, awaited};
     ghost use Rattle.session.specs.Logs.{sent_in};
     ghost use Rattle.monitor.specs.Views.{Stands};
     ghost use Rattle.rtrb.specs.Ring.{sent};
@@ -36,8 +33,8 @@ impl Waiting {
         requires seat { IsWaitingOf shared.now self }
         ensures seat { MatchResult result (IsSessionOf shared.now) (λ e. IsWaitingOf shared.now e.0) }
         ensures ring { MatchResult result (SameRingResumed self) (λ e. SameRingStill self e.0) }
-        ensures resumes { MatchResult result (λ session. Resumes (view_waiting self) (view_of session) (awaited self)) (λ e. WaitsOn (view_waiting self) (view_waiting e.0) (awaited self) e.1) }
-        ensures object { IfErr result (λ e. awaited e.0 ≡ awaited self) }
+        // The thread has the monitor as before its wait; or it waits on for the same one, and is told why.
+        ensures told { AsksToResume self result }
     {
         let mut waiting = self;
         if waiting.is_in_set(shared) {
@@ -55,9 +52,7 @@ impl Waiting {
         ensures seat { IsWaitingOf shared.now self.new }
         ensures ring { SameRingStill self.old self.new }
         ensures object { awaited self.new ≡ awaited self.old }
-        ensures told { MatchBool result
-            (Lengthens (view_waiting self.old) (view_waiting self.new) (event.Look (awaited self.old) StillInSet ∷ []))
-            (IsQuiet (view_waiting self.old) (view_waiting self.new) × (self.new.removed ≡ true)) }
+        ensures told { TellsOfSet self.old self.new result }
     {
         if self.removed {
             return false;
@@ -77,9 +72,7 @@ impl Waiting {
         ensures ring { SameRingStill self.old self.new }
         ensures object { awaited self.new ≡ awaited self.old }
         ensures removed { self.new.removed ≡ true }
-        ensures told { MatchResult result
-            (λ n. (n < (plan shared.now).last) × Lengthens (view_waiting self.old) (view_waiting self.new) (event.Look (awaited self.old) (Found None 0 n) ∷ []))
-            (λ x. SeesAnother (view_waiting self.old) (view_waiting self.new) (awaited self.old) x ⊎ SeesLast (view_waiting self.old) (view_waiting self.new) (awaited self.old) x) }
+        ensures told { LooksAgain self.old self.new (plan shared.now).last result }
         ensures fat { IfErr result IsFatSeen }
     {
         let found = steps::look(shared, &mut self.seat, self.object);
@@ -100,9 +93,7 @@ impl Waiting {
         ensures seat { MatchResult result (IsSessionOf shared.now) (λ e. IsWaitingOf shared.now e.0) }
         ensures ring { MatchResult result (SameRingResumed self) (λ e. SameRingStill self e.0) }
         ensures object { IfErr result (λ e. awaited e.0 ≡ awaited self) }
-        ensures told { MatchResult result
-            (λ session. Lengthens (view_waiting self) (view_of session) (event.Resume (awaited self) number ∷ []))
-            (λ e. MissesResume (view_waiting self) (view_waiting e.0) (awaited self) number e.1) }
+        ensures told { Retakes self number result }
     {
         let Waiting {
             mut seat,

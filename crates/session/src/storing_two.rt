@@ -6,12 +6,8 @@ use heap_model::{FieldId, SECTION_RECORDS};
 use monitor::Shared;
 
 impl Session {
-    ghost use Rattle.std.specs.Prelude.{◌≡◌, ◌<◌, ◌≤◌, ◌⊎◌, None, Err};
-    ghost use Rattle.session.specs.declared.error.SessionError.TheVariants as error;
-    ghost use Rattle.steps.specs.Views.{plan, IsHeld, hold};
-    ghost use Rattle.session.specs.Calls.{IsQuiet};
-    ghost use Rattle.session.specs.TwoStores.{StoresTwo};
-    ghost use Rattle.session.specs.Sessions.{SameRing, IsSessionOf, view_of};
+    ghost use Rattle.session.specs.TwoStores.{StoresBoth};
+    ghost use Rattle.session.specs.Sessions.{SameRing, IsSessionOf};
 
     /// Stores `one` in the first field and then `two` in the second, and sends both records; or, refused, does neither. One
     /// field named twice takes `two`. Two swaps.
@@ -30,14 +26,8 @@ impl Session {
         requires seat { IsSessionOf shared.now self.old }
         ensures seat { IsSessionOf shared.now self.new }
         ensures ring { SameRing self.old self.new }
-        ensures unknown { ((plan shared.now).fields ≤ first.0) ⊎ ((plan shared.now).fields ≤ second.0)
-            → (result ≡ Err error.UnknownField) × IsQuiet (view_of self.old) (view_of self.new) }
-        ensures not_held { first.0 < (plan shared.now).fields → second.0 < (plan shared.now).fields
-            → (hold (view_of self.old) ((plan shared.now).guard first.0) ≡ None) ⊎ (hold (view_of self.old) ((plan shared.now).guard second.0) ≡ None)
-            → (result ≡ Err error.NotHeld) × IsQuiet (view_of self.old) (view_of self.new) }
-        ensures held { first.0 < (plan shared.now).fields → second.0 < (plan shared.now).fields
-            → IsHeld (view_of self.old) ((plan shared.now).guard first.0) → IsHeld (view_of self.old) ((plan shared.now).guard second.0)
-            → StoresTwo (view_of self.old) (view_of self.new) first one second two result }
+        // Both stores were told, the first and then the second; refused, neither.
+        ensures told { StoresBoth shared.now self.old self.new first second one two result }
     {
         let fields = steps::fields(shared);
         if u64::from(first.0) >= fields || u64::from(second.0) >= fields {

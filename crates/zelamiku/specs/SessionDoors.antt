@@ -1,32 +1,31 @@
 -- The calls of a session, as C makes them: the calls of `hosted_heap` on what is behind a handle (this project's own). Each is told by
 -- what is behind the handle before it and after it, and by the status that C gets.
-use Rattle.std.specs.Prelude.{ℕ, ◌≡◌, ◌<◌, ◌≤◌, ◌↔◌, List, [], ◌∷◌, ◌++◌, Option, Some, None, Result, Ok, Err, Contains}
+use Rattle.std.specs.Prelude.{ℕ, ◌≡◌, List, [], ◌∷◌, ◌++◌, Option, Some, None, Result, Ok, Err, IfOk}
+use Rattle.std.specs.FinSet as set
 use Rattle.std.specs.Int.{bit_at}
+use Rattle.std.specs.Ordering.{nat_cmp}
 use Rattle.std.specs.Result.{result_unwrap_or}
-use Rattle.heap_model.specs.declared.event.Event.TheVariants as event
 use Rattle.heap_model.specs.declared.event.Sight.{Sight}
 use Rattle.heap_model.specs.declared.event.Sight.TheVariants.{Found, StillInSet}
 use Rattle.heap_model.specs.declared.ids.Lane.{Lane}
-use Rattle.heap_model.specs.declared.ids.ObjectId.{ObjectId}
-use Rattle.hosted_heap.specs.Calls.{AsksToResume, AsksToWait, Enters, Exits, Loads, Notifies, StoresAs}
 use Rattle.hosted_heap.specs.Sessions.{Seated, SeatedWaiting, inner_resume, inner_wait}
 use Rattle.lock_word.specs.Spelling.{sight_of}
+use Rattle.lock_word.specs.WaitMask.{bit_of}
 use Rattle.lock_word.specs.declared.fat_word.FatShape.{FatShape}
 use Rattle.lock_word.specs.declared.lock_word.Shape.{Shape}
 use Rattle.monitor.specs.Seats.{Home}
-use Rattle.session.specs.Calls.{IsQuiet}
+use Rattle.session.specs.Calls.{AsksToResume, AsksToWait, Enters, Exits, IsQuiet, Loads, Looks, Notifies, NotifiesAll, StoresAs}
 use Rattle.session.specs.Sessions.{view_of}
 use Rattle.session.specs.declared.error.SessionError.{SessionError}
 use Rattle.session.specs.declared.error.Still.{Still}
 use Rattle.session.specs.declared.session.Session.{Session}
-use Rattle.steps.specs.Views.{IsHeld, IsLasting, IsWhole, Lengthens, hold, plan}
 use Rattle.zelamiku.specs.Behind.{Answers, behind, nothing_behind, session_behind, waiting_behind}
 use Rattle.zelamiku.specs.Own.{Held}
 use Rattle.zelamiku.specs.SessionStatuses.{refusal_status, status_of, still_status}
 use Rattle.zelamiku.specs.declared.session_calls.TheConstants.{NOBODY}
 use Rattle.zelamiku.specs.declared.state.Open.{Open}
 use Rattle.zelamiku.specs.declared.state.Open.TheVariants as kind
-use Rattle.zelamiku.specs.declared.status.TheConstants.{NOT_HELD, OK, UNKNOWN_OBJECT, WAITING, WRONG_KIND}
+use Rattle.zelamiku.specs.declared.status.TheConstants.{OK, WAITING, WRONG_KIND}
 use Rattle.zelamiku.specs.declared.words.Sight as words
 
 -- no session is there that could make a call: the status says so, and what is there stays
@@ -78,15 +77,14 @@ abbrev pub NotifiesAt : (object lane : ℕ) → Seated → Seated → ℕ → Ty
 NotifiesAt object lane s t status = (answer : Result (Option Lane) SessionError)
     × Notifies s.home s.session t.session (record { 0 = object }) answer × (lane ≡ lane_told answer) × (status ≡ status_of answer)
 
--- a notification of all: a lane's bit is set where the lane was taken out
-pub record NotifiesAll (h : Home) (x y : Session) (o : ObjectId) (lanes status : ℕ) : Type 0 where
-  pub unknown : (plan h).objects ≤ o.0 → (status ≡ UNKNOWN_OBJECT) × IsQuiet (view_of x) (view_of y)
-  pub not_held : o.0 < (plan h).objects → hold (view_of x) o.0 ≡ None → (status ≡ NOT_HELD) × IsQuiet (view_of x) (view_of y)
-  pub held : o.0 < (plan h).objects → IsHeld (view_of x) o.0 → (woken : List Lane) × (status ≡ OK)
-      × Lengthens (view_of x) (view_of y) (event.NotifyAll o woken ∷ []) × ((l : Lane) → Contains woken l ↔ (bit_at lanes l.0 ≡ 1))
+-- a lane's bit is set where the lane is in the mask
+abbrev pub AreBitsOf : (lanes : ℕ) → set.FinSet nat_cmp → Type 0
+AreBitsOf lanes mask = (l : ℕ) → bit_at lanes l ≡ bit_of mask l
 
+-- a notification of all
 abbrev pub NotifiesAllAt : (object lanes : ℕ) → Seated → Seated → ℕ → Type 0
-NotifiesAllAt object lanes s t status = NotifiesAll s.home s.session t.session (record { 0 = object }) lanes status
+NotifiesAllAt object lanes s t status = (answer : Result (set.FinSet nat_cmp) SessionError)
+    × NotifiesAll s.home s.session t.session (record { 0 = object }) answer × IfOk answer (AreBitsOf lanes) × (status ≡ status_of answer)
 
 -- the sight of a free monitor
 abbrev pub free_sight : (number : ℕ) → words.Sight
@@ -99,13 +97,9 @@ sight_told (Found (Some lane) count number) = record { owner = lane.0; locks = c
 sight_told StillInSet = free_sight 0
 
 -- a look
-pub record Looks (h : Home) (x y : Session) (o : ObjectId) (sight : words.Sight) (status : ℕ) : Type 0 where
-  pub unknown : (plan h).objects ≤ o.0 → (status ≡ UNKNOWN_OBJECT) × IsQuiet (view_of x) (view_of y)
-  pub known : o.0 < (plan h).objects → (lock : Shape) × (fat : Option FatShape) × (status ≡ OK) × (sight ≡ sight_told (sight_of lock fat))
-      × IsWhole (view_of y) o lock fat × IsLasting (view_of y) o lock × Lengthens (view_of x) (view_of y) (event.Look o (sight_of lock fat) ∷ [])
-
 abbrev pub LooksAt : (object : ℕ) (sight : words.Sight) → Seated → Seated → ℕ → Type 0
-LooksAt object sight s t status = Looks s.home s.session t.session (record { 0 = object }) sight status
+LooksAt object sight s t status = (answer : Result (Shape × Option FatShape) SessionError) × Looks s.home s.session t.session (record { 0 = object }) answer
+    × IfOk answer (λ found. sight ≡ sight_told (sight_of found.0 found.1)) × (status ≡ status_of answer)
 
 -- what the session learns of its lane's acknowledged sections
 abbrev pub ReadsStable : (sections : ℕ) → Seated → Seated → ℕ → Type 0

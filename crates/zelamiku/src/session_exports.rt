@@ -1,5 +1,5 @@
 //! What C calls of a session. Each export is one call of `session_calls` on what is behind the handle.
-ghost use Rattle.std.specs.Prelude.{◌≡◌, ◌≢◌, None};
+ghost use Rattle.std.specs.Prelude.{◌≡◌, ◌≢◌};
 ghost use Rattle.zelamiku.specs.Behind.{Answers};
 ghost use Rattle.zelamiku.specs.SessionDoors.{AnswersAs, Ends, EntersAt, ExitsAt, LoadsAt, LooksAt, NotifiesAllAt, NotifiesAt, ReadsStable, Resumes, StoresAt, WaitsAt, free_sight};
 ghost use Rattle.zelamiku.specs.declared.session_calls.TheConstants.{NOBODY};
@@ -13,7 +13,6 @@ use std::alloc::Global;
 /// Takes the monitor, or one lock more of it.
 #[unsafe(no_mangle)]
 pub extern "C" fn zelamiku_try_enter(alloc: Global, place: &mut Slot, object: u32) -> u32
-    ensures closed { place.old.handle.state ≡ None → (result ≡ 1) × (place.new.handle.state ≡ None) }
     ensures told { AnswersAs (EntersAt object) place.old.handle.state place.new.handle.state result }
 {
     let Some(mut state) = take(alloc, place) else {
@@ -27,7 +26,6 @@ pub extern "C" fn zelamiku_try_enter(alloc: Global, place: &mut Slot, object: u3
 /// Gives one lock back, and with the last one the monitor.
 #[unsafe(no_mangle)]
 pub extern "C" fn zelamiku_exit(alloc: Global, place: &mut Slot, object: u32) -> u32
-    ensures closed { place.old.handle.state ≡ None → (result ≡ 1) × (place.new.handle.state ≡ None) }
     ensures told { AnswersAs (ExitsAt object) place.old.handle.state place.new.handle.state result }
 {
     let Some(mut state) = take(alloc, place) else {
@@ -41,7 +39,6 @@ pub extern "C" fn zelamiku_exit(alloc: Global, place: &mut Slot, object: u32) ->
 /// Loads a field.
 #[unsafe(no_mangle)]
 pub extern "C" fn zelamiku_load(alloc: Global, place: &mut Slot, field: u32, value: &mut u64) -> u32
-    ensures closed { place.old.handle.state ≡ None → (result ≡ 1) × (place.new.handle.state ≡ None) }
     ensures told { AnswersAs (LoadsAt field value.new) place.old.handle.state place.new.handle.state result }
     ensures refused { result ≢ OK → value.new ≡ 0 }
 {
@@ -58,7 +55,6 @@ pub extern "C" fn zelamiku_load(alloc: Global, place: &mut Slot, field: u32, val
 /// Stores a field.
 #[unsafe(no_mangle)]
 pub extern "C" fn zelamiku_store(alloc: Global, place: &mut Slot, field: u32, value: u64) -> u32
-    ensures closed { place.old.handle.state ≡ None → (result ≡ 1) × (place.new.handle.state ≡ None) }
     ensures told { AnswersAs (StoresAt field value) place.old.handle.state place.new.handle.state result }
 {
     let Some(mut state) = take(alloc, place) else {
@@ -72,7 +68,6 @@ pub extern "C" fn zelamiku_store(alloc: Global, place: &mut Slot, field: u32, va
 /// Joins the monitor's wait set and frees the monitor.
 #[unsafe(no_mangle)]
 pub extern "C" fn zelamiku_begin_wait(alloc: Global, place: &mut Slot, object: u32) -> u32
-    ensures closed { place.old.handle.state ≡ None → (result ≡ 1) × (place.new.handle.state ≡ None) }
     ensures told { Answers (WaitsAt object) place.old.handle.state place.new.handle.state result }
 {
     let Some(mut state) = take(alloc, place) else {
@@ -86,7 +81,6 @@ pub extern "C" fn zelamiku_begin_wait(alloc: Global, place: &mut Slot, object: u
 /// Takes the monitor again, once the thread is out of the wait set.
 #[unsafe(no_mangle)]
 pub extern "C" fn zelamiku_try_resume(alloc: Global, place: &mut Slot) -> u32
-    ensures closed { place.old.handle.state ≡ None → (result ≡ 1) × (place.new.handle.state ≡ None) }
     ensures told { Answers Resumes place.old.handle.state place.new.handle.state result }
 {
     let Some(mut state) = take(alloc, place) else {
@@ -105,7 +99,6 @@ pub extern "C" fn zelamiku_notify(
     object: u32,
     lane: &mut u32,
 ) -> u32
-    ensures closed { place.old.handle.state ≡ None → (result ≡ 1) × (place.new.handle.state ≡ None) }
     ensures told { AnswersAs (NotifiesAt object lane.new) place.old.handle.state place.new.handle.state result }
     ensures refused { result ≢ OK → lane.new ≡ NOBODY }
 {
@@ -127,7 +120,6 @@ pub extern "C" fn zelamiku_notify_all(
     object: u32,
     lanes: &mut u64,
 ) -> u32
-    ensures closed { place.old.handle.state ≡ None → (result ≡ 1) × (place.new.handle.state ≡ None) }
     ensures told { AnswersAs (NotifiesAllAt object lanes.new) place.old.handle.state place.new.handle.state result }
     ensures refused { result ≢ OK → lanes.new ≡ 0 }
 {
@@ -149,7 +141,6 @@ pub extern "C" fn zelamiku_look(
     object: u32,
     sight: &mut Sight,
 ) -> u32
-    ensures closed { place.old.handle.state ≡ None → (result ≡ 1) × (place.new.handle.state ≡ None) }
     ensures told { AnswersAs (LooksAt object sight.new) place.old.handle.state place.new.handle.state result }
     ensures refused { result ≢ OK → sight.new ≡ free_sight 0 }
 {
@@ -166,7 +157,6 @@ pub extern "C" fn zelamiku_look(
 /// How many sections of the session's lane the last round acknowledged.
 #[unsafe(no_mangle)]
 pub extern "C" fn zelamiku_stable(alloc: Global, place: &mut Slot, sections: &mut u64) -> u32
-    ensures closed { place.old.handle.state ≡ None → (result ≡ 1) × (place.new.handle.state ≡ None) }
     ensures told { AnswersAs (ReadsStable sections.new) place.old.handle.state place.new.handle.state result }
     ensures refused { result ≢ OK → sections.new ≡ 0 }
 {
@@ -183,7 +173,6 @@ pub extern "C" fn zelamiku_stable(alloc: Global, place: &mut Slot, sections: &mu
 /// Ends the session. Its handle has nothing behind it then.
 #[unsafe(no_mangle)]
 pub extern "C" fn zelamiku_end(alloc: Global, place: &mut Slot) -> u32
-    ensures closed { place.old.handle.state ≡ None → (result ≡ 1) × (place.new.handle.state ≡ None) }
     ensures told { Answers Ends place.old.handle.state place.new.handle.state result }
 {
     let Some(mut state) = take(alloc, place) else {

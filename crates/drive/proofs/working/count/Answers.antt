@@ -10,12 +10,12 @@ returns-in-Ok-clause-held c = λ objects n some holds.
     let h = c.args.shared.now in
     let f = c.args.field in
     let seen = view_of c.load.new.self in
-    let one = loads h (view_of c.args.session.now) seen f c.load.result objects n c.load.ensures.unknown c.load.ensures.not_held c.load.ensures.held holds in
+    let one = loads h (view_of c.args.session.now) seen f c.load.result objects n c.load.ensures.told.unknown c.load.ensures.told.not_held c.load.ensures.told.held holds in
     let ok = subst (λ r. IfOk r (λ value. (f.0 < (plan h).fields) × IsHeld seen ((plan h).guard f.0))) c.in-Ok.is one.ok in
-    stores seen (view_of c.store.new.self) f _ objects n c.store.result one.holds (c.store.ensures.held ok.0 ok.1)
+    stores seen (view_of c.store.new.self) f _ objects n c.store.result one.holds (c.store.ensures.told.held ok.0 ok.1)
 
 pub returns-in-Err-clause-held : goal.returns-in-Err-clause-held
 returns-in-Err-clause-held c = λ objects n some holds.
     let seen = view_of c.load.new.self in
-    let one = loads c.args.shared.now (view_of c.args.session.now) seen c.args.field c.load.result objects n c.load.ensures.unknown c.load.ensures.not_held c.load.ensures.held holds in
+    let one = loads c.args.shared.now (view_of c.args.session.now) seen c.args.field c.load.result objects n c.load.ensures.told.unknown c.load.ensures.told.not_held c.load.ensures.told.held holds in
     weaker seen.plan seen.events objects n (n + 1) (omega arith) one.holds

@@ -4,11 +4,11 @@ use Rattle.pool_in_section.proofs.Loading.{when_ok, when_err, loads}
 use Rattle.pool_in_section.proofs.in_section.InSectionCells.load.Goals as goal
 
 pub returns-clause-ok : goal.returns-clause-ok
-returns-clause-ok c = let e = c.load.ensures in
+returns-clause-ok c = let e = c.load.ensures.told in
     when_ok (plan c.args.self.now.shared.now) (view_of c.args.self.now.session) (view_of c.load.new.self) c.args.field c.load.result
     (loads (plan c.args.self.now.shared.now) (view_of c.args.self.now.session) (view_of c.load.new.self) c.args.field c.load.result e.unknown e.not_held e.held e.known)
 
 pub returns-clause-fault : goal.returns-clause-fault
-returns-clause-fault c = let e = c.load.ensures in
+returns-clause-fault c = let e = c.load.ensures.told in
     when_err (plan c.args.self.now.shared.now) (view_of c.args.self.now.session) (view_of c.load.new.self) c.args.field c.load.result
     (loads (plan c.args.self.now.shared.now) (view_of c.args.self.now.session) (view_of c.load.new.self) c.args.field c.load.result e.unknown e.not_held e.held e.known)
