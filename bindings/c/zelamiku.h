@@ -123,7 +123,8 @@ typedef enum {
     ZELAMIKU_BAD_RECORD = 30,     /* the image has a record that can't be read */
     ZELAMIKU_ILLEGAL_LOG = 31,    /* no threads can have left the image's log */
     ZELAMIKU_DEVICE = 32,         /* of zelamiku_file.h alone: a call of the file has failed */
-    ZELAMIKU_LOST = 33            /* of zelamiku_file.h alone: a sync of the file has failed, and the heap was let go */
+    ZELAMIKU_LOST = 33,           /* of zelamiku_file.h alone: a sync of the file has failed, and the heap was let go */
+    ZELAMIKU_BUSY = 34            /* of zelamiku_file.h alone: another open of the file has its heap, or the file was replaced or removed */
 } zelamiku_status;
 
 /* A field of a heap that is to be made. */
@@ -215,6 +216,7 @@ static inline const char *zelamiku_status_text(uint32_t status) {
     case ZELAMIKU_ILLEGAL_LOG: return "no threads can have left the image's log";
     case ZELAMIKU_DEVICE: return "a call of the file has failed";
     case ZELAMIKU_LOST: return "a sync of the file has failed, and the heap was let go";
+    case ZELAMIKU_BUSY: return "another process has the heap of the file, or the file was replaced or removed";
     default: return "no status of zelamiku.h";
     }
 }

@@ -7,11 +7,18 @@
  *     if (zelamiku_open_file(&heap, file, &found) != ZELAMIKU_OK) ...                      or zelamiku_format_file
  *     if (zelamiku_make_calls(&heap, file, &made) != ZELAMIKU_OK) ...                      then, and after each round and the closing
  *
+ * One open has a file's heap at a time. Opening and making lock the file (flock, for its open alone), as heapctl and the Rust crate do,
+ * and answer ZELAMIKU_BUSY where another open has locked it. The lock stays, also after another refusal, until the descriptor and its
+ * copies are closed: a child that is forked and keeps one keeps the lock. A file that has no name any more is BUSY too: heapctl may
+ * have replaced it between the caller's open and this lock, and what went there would be lost. Open it again then.
+ *
  * What the caller upholds besides the rules of zelamiku.h, for each call:
- *  - the descriptor is that of a regular file, open for reading and writing and not for appending, always the same file for one heap;
- *  - nothing else writes the file, and no other call has the heap meanwhile.
- * The caller opens the file and closes it, and syncs the folder of a new one. These calls block while the file is written and synced.
- * A call that a signal interrupts is made again, and a short one goes on where it ended. */
+ *  - the descriptor is that of a regular file with a name, open for reading and writing and not for appending, always the same for one
+ *    heap; its file system has locks (local ones do);
+ *  - no program writes the file that doesn't lock it so, and no other call has the heap meanwhile.
+ * The caller opens the file and closes it, and syncs the folder of a new one. These calls block while the file is written and synced,
+ * and never for the lock. A call that a signal interrupts is made again, and a short one goes on where it ended. After DEVICE and LOST
+ * errno has the system's cause. */
 #ifndef ZELAMIKU_FILE_H
 #define ZELAMIKU_FILE_H
 #if !defined(_GNU_SOURCE) && (!defined(_POSIX_C_SOURCE) || _POSIX_C_SOURCE < 200809L)
@@ -21,6 +28,7 @@
 #include <fcntl.h>
 #include <stdlib.h>
 #include <string.h>
+#include <sys/file.h>
 #include <sys/stat.h>
 #include <sys/types.h>
 #include <unistd.h>
@@ -30,6 +38,10 @@ extern "C" {
 #endif
 
 /* ---- what the calls below are made of ---- */
+
+/* An image's header; and what the largest image has, of 32 lanes of 1,048,576 records and 16,384 fields. */
+#define ZELAMIKU_HEADER_BYTES 64
+#define ZELAMIKU_MOST_IMAGE_BYTES (2160 + 24 * 16384 + 16 * 32 * 1048576)
 
 static inline bool zelamiku_file_write(int descriptor, const uint8_t *bytes, size_t size, uint64_t at) {
     while (size > 0) {
@@ -67,36 +79,78 @@ static inline bool zelamiku_file_resize(int descriptor, uint64_t size) {
     return answer == 0;
 }
 
+/* Reserves so many bytes from the beginning on: zeros, where the file has none yet. */
+static inline bool zelamiku_file_reserve(int descriptor, uint64_t size) {
+    int answer;
+    while ((answer = posix_fallocate(descriptor, 0, (off_t)size)) == EINTR) {}
+    /* Some file systems can't: the space is taken as it is written. */
+    if (answer == EOPNOTSUPP || answer == ENOSYS) return zelamiku_file_resize(descriptor, size);
+    if (answer != 0) errno = answer;
+    return answer == 0;
+}
+
+/* Locks the file for this open alone: OK, BUSY or DEVICE. */
+static inline uint32_t zelamiku_file_lock(int descriptor) {
+    struct stat info;
+    int answer;
+    while ((answer = flock(descriptor, LOCK_EX | LOCK_NB)) != 0 && errno == EINTR) {}
+    if (answer != 0) return errno == EWOULDBLOCK ? ZELAMIKU_BUSY : ZELAMIKU_DEVICE;
+    if (fstat(descriptor, &info) != 0) return ZELAMIKU_DEVICE;
+    return info.st_nlink == 0 ? ZELAMIKU_BUSY : ZELAMIKU_OK;
+}
+
+/* How many bytes of the file its image has, by its header; or just the header's, where these can't be an image's. */
+static inline uint64_t zelamiku_file_image_size(const uint8_t *header, uint64_t size) {
+    uint64_t told = 0;
+    for (int i = 24; i < 32; i++) told = told << 8 | header[i];
+    if (told > ZELAMIKU_MOST_IMAGE_BYTES) return ZELAMIKU_HEADER_BYTES;
+    return told < size ? told : size;
+}
+
 /* ---- the calls ---- */
 
-/* Makes a heap as zelamiku_format does, in a file, which has as many zeros as the image has bytes then, durably. Its first calls are
- * left to zelamiku_make_calls.
- * As zelamiku_format: the handle and the file are as they were. DEVICE: a call of the file has failed; the handle is as it was, and the
- * file may be shorter, or have zeros. */
+/* Makes a heap as zelamiku_format does, in a file, which has as many zeros as the image has bytes then, reserved and durably. Its first
+ * calls are left to zelamiku_make_calls. Whatever the file had is gone.
+ * BUSY, and then as zelamiku_format: the handle and the file are as they were. DEVICE: a call of the file has failed, by a full disk for
+ * one; the handle is as it was, and the file may be shorter, or have zeros. */
 ZELAMIKU_MUST_USE static inline uint32_t zelamiku_format_file(zelamiku_handle *heap, int descriptor, uint32_t objects,
                                                               const zelamiku_field *fields, size_t count, uint32_t lanes,
                                                               uint32_t capacity) {
     uint64_t size = 0;
-    uint32_t status = zelamiku_format(heap, objects, fields, count, lanes, capacity, &size);
+    uint32_t status = zelamiku_file_lock(descriptor);
     if (status != ZELAMIKU_OK) return status;
-    if (zelamiku_file_resize(descriptor, 0) && zelamiku_file_resize(descriptor, size) && zelamiku_file_sync(descriptor)) return ZELAMIKU_OK;
+    status = zelamiku_format(heap, objects, fields, count, lanes, capacity, &size);
+    if (status != ZELAMIKU_OK) return status;
+    if (zelamiku_file_resize(descriptor, 0) && zelamiku_file_reserve(descriptor, size) && zelamiku_file_sync(descriptor)) return ZELAMIKU_OK;
+    int cause = errno;
     zelamiku_free(heap);
+    errno = cause;
     return ZELAMIKU_DEVICE;
 }
 
-/* Syncs a file, reads it, and opens the heap of its bytes as zelamiku_open does. The calls of its recovery are left to
- * zelamiku_make_calls.
- * As zelamiku_open; and DEVICE: the file can't be synced or read. The handle is as it was, `found` is all 0, and nothing was written. */
+/* Locks a file, syncs it, reads it, and opens the heap of its bytes as zelamiku_open does. The calls of its recovery are left to
+ * zelamiku_make_calls. It takes memory for 64 bytes where the file begins with no header of an image, and else for the image.
+ * BUSY; as zelamiku_open; and DEVICE: the file can't be locked, synced or read. The handle is as it was, `found` is all 0, and nothing
+ * was written. */
 ZELAMIKU_MUST_USE static inline uint32_t zelamiku_open_file(zelamiku_handle *heap, int descriptor, zelamiku_found *found) {
     memset(found, 0, sizeof *found);
     struct stat info;
+    uint8_t header[ZELAMIKU_HEADER_BYTES] = {0};
+    uint32_t status = zelamiku_file_lock(descriptor);
+    if (status != ZELAMIKU_OK) return status;
     /* What a process before this one wrote may be in the system's cache alone: it is made durable, and then read from the device. */
     if (!zelamiku_file_sync(descriptor) || fstat(descriptor, &info) != 0 || info.st_size < 0) return ZELAMIKU_DEVICE;
     (void)posix_fadvise(descriptor, 0, 0, POSIX_FADV_DONTNEED);
-    size_t size = (size_t)info.st_size;
-    uint8_t *image = (uint8_t *)malloc(size > 0 ? size : 1);
+    uint64_t size = (uint64_t)info.st_size;
+    size_t begun = size < sizeof header ? (size_t)size : sizeof header;
+    if (!zelamiku_file_read(descriptor, header, begun)) return ZELAMIKU_DEVICE;
+    /* No image is so small: of an image's header alone it is told, and what isn't one is refused by it. */
+    status = zelamiku_open(heap, header, begun, found);
+    if (status != ZELAMIKU_TOO_SMALL) return status;
+    size_t whole = (size_t)zelamiku_file_image_size(header, size);
+    uint8_t *image = (uint8_t *)malloc(whole > 0 ? whole : 1);
     if (image == NULL) return ZELAMIKU_NO_MEMORY;
-    uint32_t status = zelamiku_file_read(descriptor, image, size) ? zelamiku_open(heap, image, size, found) : (uint32_t)ZELAMIKU_DEVICE;
+    status = zelamiku_file_read(descriptor, image, whole) ? zelamiku_open(heap, image, whole, found) : (uint32_t)ZELAMIKU_DEVICE;
     free(image);
     return status;
 }
@@ -114,7 +168,9 @@ ZELAMIKU_MUST_USE static inline uint32_t zelamiku_make_calls(zelamiku_handle *he
         if (status != ZELAMIKU_OK || call.kind == ZELAMIKU_NO_CALL) return status;
         if (call.kind == ZELAMIKU_SYNC) {
             if (!zelamiku_file_sync(descriptor)) {
+                int cause = errno;
                 zelamiku_free(heap);
+                errno = cause;
                 return ZELAMIKU_LOST;
             }
         } else if (call.size > sizeof bytes || !zelamiku_file_write(descriptor, bytes, (size_t)call.size, call.at)) {

@@ -3,7 +3,8 @@
  *
  *     counters FILE [SECONDS]
  * prints the counters that it finds, and then how many counts are acknowledged since, again and again. It counts for so long (for ever
- * without SECONDS), closes the heap, and prints the counters again. A file that is empty or has only zeros gets a heap.
+ * without SECONDS), closes the heap, and prints the counters again. A file that is empty or has only zeros gets a heap. One process may
+ * count at a time: another is told so, and ends.
  *
  * After a power failure soon after the file was made there may be no file: a program that minds syncs its folder too. */
 #define _GNU_SOURCE

@@ -1,10 +1,12 @@
-/* Tests of zelamiku_file.h on a file that moves a byte at a time, is interrupted, and fails at each call in turn.
+/* Tests of zelamiku_file.h on a file that moves a byte at a time, is interrupted, fails at each call in turn, and is another's.
  *
  *     file FOLDER      prints nothing but a last line, and answers 0, where all is as it must be */
 #define _GNU_SOURCE
 #include <errno.h>
 #include <fcntl.h>
 #include <stdio.h>
+#include <stdlib.h>
+#include <sys/file.h>
 #include <sys/types.h>
 #include <unistd.h>
 
@@ -43,9 +45,17 @@ static int flaky_fdatasync(int file) {
     return is_interrupted() || is_due() ? -1 : fdatasync(file);
 }
 
+static size_t most; /* the most bytes that were asked of malloc at once */
+
+static void *watched_malloc(size_t size) {
+    if (size > most) most = size;
+    return malloc(size);
+}
+
 #define pwrite flaky_pwrite
 #define pread flaky_pread
 #define fdatasync flaky_fdatasync
+#define malloc watched_malloc
 #include "zelamiku_file.h"
 
 #define MUST(is_so) \
@@ -140,6 +150,61 @@ static void refusals(void) {
     MUST(zelamiku_format_file(&heap, -1, 1, &FIELD, 1, 2, 2000) == ZELAMIKU_DEVICE && !heap.is_open);
 }
 
+/* One open has the file's heap at a time, whatever it has of it; and one that was replaced or removed has none. */
+static void others(void) {
+    zelamiku_handle heap = ZELAMIKU_NONE, other = ZELAMIKU_NONE;
+    zelamiku_found what = {1, 1, 1, 1, 1, 1, 1};
+    const zelamiku_found nothing = {0};
+    uint64_t made = 0;
+    make_heap(&heap);
+    store(&heap, 9);
+    int again = open("file.image", O_RDWR), copy = dup(file);
+    MUST(again >= 0 && copy >= 0);
+    MUST(zelamiku_open_file(&other, again, &what) == ZELAMIKU_BUSY && !other.is_open && memcmp(&what, &nothing, sizeof what) == 0);
+    MUST(zelamiku_format_file(&other, again, 1, &FIELD, 1, 2, 2000) == ZELAMIKU_BUSY && !other.is_open);
+    MUST(flock(again, LOCK_SH | LOCK_NB) != 0 && errno == EWOULDBLOCK);
+    MUST(zelamiku_make_calls(&heap, file, &made) == ZELAMIKU_OK && made > 0);
+    zelamiku_free(&heap);
+    /* The lock is the open's, and ends with its last descriptor. */
+    close(file);
+    MUST(zelamiku_open_file(&other, again, &what) == ZELAMIKU_BUSY);
+    close(copy);
+    file = again;
+    MUST(found() == 9);
+    MUST(rename("file.image", "file.old") == 0);
+    MUST(found() == 9);
+    MUST(unlink("file.old") == 0);
+    MUST(zelamiku_open_file(&other, file, &what) == ZELAMIKU_BUSY && !other.is_open);
+    MUST(zelamiku_format_file(&other, file, 1, &FIELD, 1, 2, 2000) == ZELAMIKU_BUSY && !other.is_open);
+    close(file);
+    file = open("file.image", O_RDWR | O_CREAT | O_TRUNC, 0644);
+    MUST(file >= 0);
+}
+
+/* Of a large file that has no image 64 bytes are read, and of one that has, the image. */
+static void sizes(void) {
+    zelamiku_handle heap = ZELAMIKU_NONE;
+    zelamiku_found what = {0};
+    MUST(ftruncate(file, 0) == 0 && ftruncate(file, (off_t)1 << 40) == 0);
+    most = 0;
+    MUST(zelamiku_open_file(&heap, file, &what) == ZELAMIKU_NOT_FORMATTED && most <= 64);
+    make_heap(&heap);
+    zelamiku_free(&heap);
+    MUST(ftruncate(file, (off_t)1 << 40) == 0);
+    most = 0;
+    MUST(zelamiku_open_file(&heap, file, &what) == ZELAMIKU_OK && most == what.size);
+    zelamiku_free(&heap);
+    /* Its header tells another size. */
+    MUST(zelamiku_file_write(file, (const uint8_t *)"\xff", 1, 24));
+    most = 0;
+    MUST(zelamiku_open_file(&heap, file, &what) == ZELAMIKU_BAD_HEADER && most <= 64);
+    MUST(ftruncate(file, 0) == 0);
+    make_heap(&heap);
+    zelamiku_free(&heap);
+    MUST(ftruncate(file, 5000) == 0 && zelamiku_open_file(&heap, file, &what) == ZELAMIKU_TOO_SMALL);
+    MUST(ftruncate(file, 0) == 0);
+}
+
 /* Each write and sync of one round fails in turn: a write is made again, and a sync lets the heap go. What was acknowledged before stays.
  * Answers how many calls there were. */
 static int faults(void) {
@@ -206,6 +271,8 @@ int main(int argc, char **argv) {
     MUST(file >= 0);
     life();
     refusals();
+    others();
+    sizes();
     bytes();
     int calls = faults();
     MUST(calls > 2);
@@ -213,6 +280,6 @@ int main(int argc, char **argv) {
     moves_one_byte = 1;
     life();
     bytes();
-    printf("file: a life, its refusals, a fault at each of %d calls, and calls that are short and interrupted\n", calls);
+    printf("file: a life, its refusals, other opens, large files, a fault at each of %d calls, and calls that are short and interrupted\n", calls);
     return 0;
 }

@@ -4,17 +4,22 @@
 //! another thread (`Send`, not `Sync`). A session that waits is a [`Waiting`], which can do nothing but resume. A heap that was closed
 //! is a [`Closed`], which can only tell the last calls of the device. No call waits but `enter` and `resume`, which try again.
 //!
-//! A heap whose device fails to sync has stopped for good: see [`Device`].
+//! A heap whose device fails to sync has stopped for good: see [`Device`]. In a file of the system a heap is opened by
+//! [`Heap::open_file`] and made by [`Heap::format_file`], for one process at a time.
 #![deny(unsafe_code)]
 use std::fmt;
 use std::io;
 
+#[cfg(unix)]
+mod file;
 #[allow(unsafe_code)]
 mod raw;
 mod refusal;
 #[cfg(unix)]
 pub mod service;
 
+#[cfg(unix)]
+pub use file::FileError;
 pub use raw::Found;
 pub use refusal::Refusal;
 use raw::Owned;

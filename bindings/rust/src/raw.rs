@@ -8,6 +8,25 @@ pub const MOST_BYTES: usize = 4096;
 /// The owner of a monitor that is free.
 pub const NOBODY: u32 = 64;
 
+// For `flock`, the same on each Unix that has it: alone, and without waiting.
+#[cfg(unix)]
+const LOCK_EX: i32 = 2;
+#[cfg(unix)]
+const LOCK_NB: i32 = 4;
+
+// Of the system's C library. `File::try_lock`, which calls it, came with Rust 1.89.
+#[cfg(unix)]
+extern "C" {
+    fn flock(descriptor: i32, how: i32) -> i32;
+}
+
+/// Locks the file for this open alone, without waiting; whether it could. The system's last error says why not.
+#[cfg(unix)]
+pub fn lock_alone(file: &std::fs::File) -> bool {
+    // SAFETY: the descriptor is open while the file is borrowed, and the call has no pointers.
+    unsafe { flock(std::os::fd::AsRawFd::as_raw_fd(file), LOCK_EX | LOCK_NB) == 0 }
+}
+
 #[repr(C)]
 pub struct Handle {
     at: *mut c_void,

@@ -65,6 +65,7 @@ refusals! {
     29 BadControl "the image's control can't be read"
     30 BadRecord "the image has a record that can't be read"
     31 IllegalLog "no threads can have left the image's log"
+    34 Busy "another process has the heap of the file, or the file was replaced or removed"
 }
 
 impl Refusal {

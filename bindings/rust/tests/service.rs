@@ -302,6 +302,21 @@ fn a_session_that_goes_to_another_thread_works_on() {
 }
 
 #[test]
+fn one_opening_has_the_heap_of_a_file() {
+    let scratch = Scratch::new("busy");
+    let heap = counters(2).open(&scratch.0).unwrap();
+    let mut session = heap.session().unwrap();
+    count(&mut session, 0);
+    let error = counters(2).open(&scratch.0).unwrap_err();
+    assert_eq!(error.kind(), ErrorKind::Busy);
+    count(&mut session, 0);
+    session.durable().unwrap();
+    drop((session, heap));
+    let heap = counters(2).open(&scratch.0).unwrap();
+    assert_eq!(heap.session().unwrap().synchronized(0, |s| s.load(0)).unwrap(), 2);
+}
+
+#[test]
 fn files_that_are_no_such_heap_are_left_as_they_are() {
     let scratch = Scratch::new("other");
     counters(2).open(&scratch.0).unwrap().close().unwrap();

@@ -6,17 +6,18 @@
 //!
 //! prints the counters that it finds, and after each round how many counts are acknowledged since then. It counts for so long (for
 //! ever without SECONDS), closes the heap, and prints the counters again. A file that is empty or has only zeros gets a heap.
+//! One process may count at a time: another is told so, and ends.
 //!
 //! After a power failure soon after the file was made there may be no file: a program that minds syncs its folder too. And after a
 //! sync that failed, a file may read as it was written and have lost it: its file system is to be mounted again first.
 use std::error::Error;
 use std::fs::{File, OpenOptions};
-use std::io::Read;
+use std::io::{self, Read, Seek};
 use std::process::ExitCode;
 use std::sync::atomic::{AtomicBool, Ordering};
 use std::thread;
 use std::time::{Duration, Instant};
-use zelamiku::{Field, Found, Heap, Refusal, Session};
+use zelamiku::{Field, FileError, Found, Heap, Refusal, Session};
 
 const WORKERS: u32 = 4;
 const TOTAL: u32 = 0;
@@ -99,13 +100,25 @@ fn help(heap: &mut Heap, file: &mut File, signs: &Signs) -> Result<(), Failure> 
     Ok(())
 }
 
-// Whether a heap may be made over these bytes: there are none, or only zeros, or the beginning of an image whose making was cut off.
-fn is_free(bytes: &[u8]) -> bool {
-    bytes.starts_with(b"MONIHEAP") || bytes.iter().all(|byte| *byte == 0)
+// Whether a heap may be made in the file: it has no bytes, or only zeros, or the beginning of an image whose making was cut off.
+fn is_free(file: &mut File) -> io::Result<bool> {
+    let mut bytes = [0; 4096];
+    file.rewind()?;
+    let mut count = file.read(&mut bytes)?;
+    if bytes[..count].starts_with(b"MONIHEAP") {
+        return Ok(true);
+    }
+    while count > 0 {
+        if bytes[..count].iter().any(|byte| *byte != 0) {
+            return Ok(false);
+        }
+        count = file.read(&mut bytes)?;
+    }
+    Ok(true)
 }
 
-// Makes a heap in the file, which has zeros then, durably.
-fn make(file: &mut File) -> Result<Heap, Failure> {
+// Makes a heap in the file.
+fn make(file: &File) -> Result<Heap, Failure> {
     let fields: Vec<Field> = (0..=WORKERS)
         .map(|i| Field {
             owner: i,
@@ -113,10 +126,7 @@ fn make(file: &mut File) -> Result<Heap, Failure> {
             first: 0,
         })
         .collect();
-    let (heap, size) = Heap::format(WORKERS + 1, &fields, WORKERS + 1, CAPACITY)?;
-    file.set_len(0)?;
-    file.set_len(size)?;
-    file.sync_all()?;
+    let (heap, _) = Heap::format_file(file, WORKERS + 1, &fields, WORKERS + 1, CAPACITY)?;
     Ok(heap)
 }
 
@@ -124,20 +134,16 @@ fn is_ours(found: &Found) -> bool {
     found.objects == WORKERS + 1 && found.fields == WORKERS + 1 && found.lanes == WORKERS + 1
 }
 
-// Opens the heap of the file, or makes one.
+// Opens the heap of the file, or makes one. Another process that has it is told.
 fn begin(file: &mut File) -> Result<Heap, Failure> {
-    // What a killed run has written is in the system's cache: it has to be durable.
-    file.sync_all()?;
-    let mut image = Vec::new();
-    file.read_to_end(&mut image)?;
-    let mut heap = match Heap::open(&image) {
+    let mut heap = match Heap::open_file(file) {
         Ok((heap, found)) if is_ours(&found) => heap,
         Ok(_) => return Err("the file has the heap of another program".into()),
-        Err(Refusal::NotFormatted) if is_free(&image) => make(file)?,
-        Err(Refusal::NotFormatted) => {
+        Err(FileError::Refused(Refusal::NotFormatted)) if is_free(file)? => make(file)?,
+        Err(FileError::Refused(Refusal::NotFormatted)) => {
             return Err("the file has no heap, and isn't empty: it is left as it is".into())
         }
-        Err(refusal) => return Err(refusal.into()),
+        Err(error) => return Err(error.into()),
     };
     heap.make_calls(file)?;
     Ok(heap)

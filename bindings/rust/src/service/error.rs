@@ -11,6 +11,8 @@ use std::sync::Arc;
 pub enum ErrorKind {
     /// The file couldn't be opened, locked, read or made. There is no heap; the file has what it had, or less where it was being made.
     File,
+    /// Another process has the heap of the file, or another opening of this one; or the file was replaced or removed while it was opened.
+    Busy,
     /// The file has other bytes than a heap's. It was left as it is.
     NotAHeap,
     /// The file has a heap, and not the one that was asked for: other numbers of objects or fields, or fewer lanes. It was left as it is.
@@ -57,6 +59,7 @@ impl ErrorKind {
     fn text(self) -> &'static str {
         match self {
             ErrorKind::File => "the file can't be used",
+            ErrorKind::Busy => "another process has its heap, or it was replaced or removed",
             ErrorKind::NotAHeap => "it has no heap, and isn't empty: it was left as it is",
             ErrorKind::OtherHeap => "it has the heap of another program",
             ErrorKind::Opening => "its heap can't be opened",

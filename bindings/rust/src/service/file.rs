@@ -1,7 +1,7 @@
 //! A heap's file: found, looked at, made.
 use super::error::{Error, ErrorKind};
 use crate as handles;
-use crate::{Device, Field, Found, Refusal};
+use crate::{Device, Field, FileError, Found, Refusal};
 use std::fs::{File, OpenOptions};
 use std::io::{self, Read, Seek, SeekFrom, Write};
 use std::path::Path;
@@ -24,14 +24,11 @@ pub struct Opened {
     pub found: Option<Found>,
 }
 
-// The header (docs/FORMAT.md): its name, then the gate, which is open once the image was made; from the 24th byte on its size.
-const HEADER_BYTES: usize = 64;
+// How an image begins (docs/FORMAT.md), also one whose making was cut off.
 const NAME: &[u8] = b"MONIHEAP";
-const OPEN_GATE: u8 = 0xa5;
-const MOST_IMAGE_BYTES: u64 = 2_160 + 24 * 16_384 + 16 * 32 * 1_048_576;
 
 /// Opens the heap of the file, or makes one where there is no file, or one that is empty, has only zeros, or is an image whose making
-/// was cut off.
+/// was cut off. The file is locked for this opening.
 pub fn open(path: &Arc<Path>, plan: &Plan) -> Result<Opened, Error> {
     let system = |error| Error::system(ErrorKind::File, path, error);
     let mut file = OpenOptions::new()
@@ -41,16 +38,13 @@ pub fn open(path: &Arc<Path>, plan: &Plan) -> Result<Opened, Error> {
         .truncate(false)
         .open(path)
         .map_err(system)?;
-    // What a process before this one has written may be in the system's cache alone.
-    file.sync_all().map_err(system)?;
-    let header = read_at_most(&mut file, HEADER_BYTES as u64).map_err(system)?;
-    let (mut heap, found) = if is_made(&header) {
-        let size = size_of(&header).min(MOST_IMAGE_BYTES);
-        recover(path, plan, &read_at_most(&mut file, size).map_err(system)?)?
-    } else if header.starts_with(NAME) || has_only_zeros(&mut file).map_err(system)? {
-        (make(path, plan, &mut file)?, None)
-    } else {
-        return Err(Error::bare(ErrorKind::NotAHeap, path));
+    let (mut heap, found) = match handles::Heap::open_file(&file) {
+        Ok((heap, found)) => (heap, Some(is_ours(path, plan, found)?)),
+        Err(FileError::Refused(Refusal::NotFormatted)) if is_free(&mut file).map_err(system)? => {
+            (make(path, plan, &mut file)?, None)
+        }
+        Err(FileError::Refused(Refusal::NotFormatted)) => return Err(Error::bare(ErrorKind::NotAHeap, path)),
+        Err(error) => return Err(refused(path, error)),
     };
     heap.make_calls(&mut file).map_err(system)?;
     if found.is_none() {
@@ -63,21 +57,24 @@ pub fn open(path: &Arc<Path>, plan: &Plan) -> Result<Opened, Error> {
     })
 }
 
-fn is_made(header: &[u8]) -> bool {
-    header.len() == HEADER_BYTES && header.starts_with(NAME) && header[NAME.len()] == OPEN_GATE
+fn refused(path: &Arc<Path>, error: FileError) -> Error {
+    match error {
+        FileError::Refused(Refusal::Busy) => Error::bare(ErrorKind::Busy, path),
+        FileError::Refused(refusal) => Error::refused(ErrorKind::Opening, path, refusal),
+        FileError::System(error) => Error::system(ErrorKind::File, path, error),
+    }
 }
 
-// The size of the image, as a whole header tells it.
-fn size_of(header: &[u8]) -> u64 {
-    let bytes = header.get(24..32).and_then(|bytes| bytes.try_into().ok());
-    bytes.map_or(0, u64::from_be_bytes)
-}
-
-fn read_at_most(file: &mut File, size: u64) -> io::Result<Vec<u8>> {
+// Whether a heap may be made in a file that isn't an image's.
+fn is_free(file: &mut File) -> io::Result<bool> {
+    let mut name = [0; NAME.len()];
     file.seek(SeekFrom::Start(0))?;
-    let mut bytes = Vec::new();
-    file.take(size).read_to_end(&mut bytes)?;
-    Ok(bytes)
+    let is_begun = match file.read_exact(&mut name) {
+        Ok(()) => name == NAME,
+        Err(error) if error.kind() == io::ErrorKind::UnexpectedEof => false,
+        Err(error) => return Err(error),
+    };
+    Ok(is_begun || has_only_zeros(file)?)
 }
 
 fn has_only_zeros(file: &mut File) -> io::Result<bool> {
@@ -94,29 +91,27 @@ fn has_only_zeros(file: &mut File) -> io::Result<bool> {
     }
 }
 
-fn recover(path: &Arc<Path>, plan: &Plan, image: &[u8]) -> Result<(handles::Heap, Option<Found>), Error> {
-    let (heap, found) = handles::Heap::open(image).map_err(opening(path))?;
+fn is_ours(path: &Arc<Path>, plan: &Plan, found: Found) -> Result<Found, Error> {
     let fields = plan.fields.len() as u64;
-    if found.objects != plan.objects || u64::from(found.fields) != fields || found.lanes < plan.lanes {
-        let text = format!(
-            "it has {} objects, {} fields and {} lanes, and asked for were {}, {} and {}",
-            found.objects, found.fields, found.lanes, plan.objects, fields, plan.lanes
-        );
-        return Err(Error::told(ErrorKind::OtherHeap, path, text));
+    if found.objects == plan.objects && u64::from(found.fields) == fields && found.lanes >= plan.lanes {
+        return Ok(found);
     }
-    Ok((heap, Some(found)))
+    let text = format!(
+        "it has {} objects, {} fields and {} lanes, and asked for were {}, {} and {}",
+        found.objects, found.fields, found.lanes, plan.objects, fields, plan.lanes
+    );
+    Err(Error::told(ErrorKind::OtherHeap, path, text))
 }
 
 // The file is written with zeros, so that its space is there before anything is kept in it.
 fn make(path: &Arc<Path>, plan: &Plan, file: &mut File) -> Result<handles::Heap, Error> {
-    let (heap, size) =
-        handles::Heap::format(plan.objects, &plan.fields, plan.lanes, plan.capacity).map_err(opening(path))?;
+    let made = handles::Heap::format_file(file, plan.objects, &plan.fields, plan.lanes, plan.capacity);
+    let (heap, size) = made.map_err(|error| refused(path, error))?;
     write_zeros(file, size).map_err(|error| Error::system(ErrorKind::File, path, error))?;
     Ok(heap)
 }
 
 fn write_zeros(file: &mut File, size: u64) -> io::Result<()> {
-    file.set_len(0)?;
     file.seek(SeekFrom::Start(0))?;
     let zeros = vec![0; 1 << 16];
     let mut left = size;
@@ -126,10 +121,6 @@ fn write_zeros(file: &mut File, size: u64) -> io::Result<()> {
         left -= count;
     }
     file.sync_all()
-}
-
-fn opening(path: &Arc<Path>) -> impl Fn(Refusal) -> Error + '_ {
-    |refusal| Error::refused(ErrorKind::Opening, path, refusal)
 }
 
 // A new file is found after a power failure once its folder was synced.

@@ -1,4 +1,4 @@
-//! A heap in a file for a program's threads: made or recovered, with a helper's thread of its own.
+//! A heap in a file for a program's threads: made or recovered, locked, with a helper's thread of its own.
 //!
 //! ```
 //! use zelamiku::service::Heap;
@@ -178,7 +178,7 @@ impl Options {
     ///
     /// That the file's heap is this one is known by its numbers of objects, fields and lanes alone.
     ///
-    /// [`ErrorKind::File`], [`ErrorKind::NotAHeap`], [`ErrorKind::OtherHeap`], [`ErrorKind::Opening`].
+    /// [`ErrorKind::File`], [`ErrorKind::Busy`], [`ErrorKind::NotAHeap`], [`ErrorKind::OtherHeap`], [`ErrorKind::Opening`].
     ///
     /// ```
     /// use zelamiku::service::{ErrorKind, Heap};
