@@ -14,3 +14,5 @@ mod file;
 mod flaky_file;
 #[cfg(test)]
 mod memory;
+#[cfg(test)]
+mod units;

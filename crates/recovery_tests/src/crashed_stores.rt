@@ -2,6 +2,7 @@
 mod altered;
 mod crashes;
 mod faults;
+mod rounds;
 mod runs;
 
 ghost use Rattle.std.specs.Prelude.{◌≤◌};

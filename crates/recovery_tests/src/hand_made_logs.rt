@@ -31,8 +31,18 @@ fn schema_or_none(alloc: Global) -> Option<Schema> {
 
 // The image of the schema on this disk, with two lanes of 4,000 records.
 pub(crate) fn formatted(alloc: Global, disk: MemDisk) -> Option<Recovered<MemDisk>> {
+    formatted_with(alloc, disk, 2, 4000)
+}
+
+// The same with so many lanes of so many records.
+pub(crate) fn formatted_with(
+    alloc: Global,
+    disk: MemDisk,
+    lanes: u8,
+    capacity: u32,
+) -> Option<Recovered<MemDisk>> {
     let schema = schema_or_none(alloc)?;
-    match Store::format(alloc, disk, &schema, 2, 4000) {
+    match Store::format(alloc, disk, &schema, lanes, capacity) {
         Ok(made) => Some(made),
         Err(_) => None,
     }
