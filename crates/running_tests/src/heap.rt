@@ -6,7 +6,7 @@ ghost use Rattle.block_disk.specs.Memory.{device_of};
 ghost use Rattle.running_heap.specs.Joined.{IsHelping, IsJoined};
 ghost use Rattle.session.specs.Sessions.{IsSessionOf};
 
-use block_disk::MemDisk;
+use block_disk::{Disk, MemDisk};
 use durable::Store;
 use guards::{Schema, SchemaBuilder};
 use monitor::Shared;
@@ -31,9 +31,9 @@ fn declare(alloc: Global, lanes: u8) -> Option<Schema> {
 }
 
 /// A heap with so many lanes, which begins to run on this disk. `None` is a refusal.
-pub fn open_on(alloc: Global, disk: MemDisk, lanes: u8) -> Option<RunningHeap<MemDisk>>
+pub fn open_on<D: Disk + Drop>(alloc: Global, disk: D, lanes: u8) -> Option<RunningHeap<D>>
     ensures joined { IfSome result (λ o. All (IsJoined o.shared o.helper.store.known.layout.capacity o.helper.rings) o.sessions.items) }
-    ensures helping { IfSome result (λ o. IsHelping device_of o.shared o.helper) }
+    ensures helping { IfSome result (λ o. IsHelping D.device o.shared o.helper) }
 {
     let schema = declare(alloc, lanes)?;
     let Ok(made) = Store::format(alloc, disk, &schema, lanes, 4_000) else {
@@ -71,9 +71,9 @@ pub fn open_one(alloc: Global) -> Option<(Shared, Session, Helper<MemDisk>)>
 }
 
 /// The same on this disk.
-pub fn open_one_on(alloc: Global, disk: MemDisk) -> Option<(Shared, Session, Helper<MemDisk>)>
+pub fn open_one_on<D: Disk + Drop>(alloc: Global, disk: D) -> Option<(Shared, Session, Helper<D>)>
     ensures joined { IfSome result (λ o. IsJoined o.0 o.2.store.known.layout.capacity o.2.rings o.1) }
-    ensures helping { IfSome result (λ o. IsHelping device_of o.0 o.2) }
+    ensures helping { IfSome result (λ o. IsHelping D.device o.0 o.2) }
 {
     let RunningHeap {
         shared,

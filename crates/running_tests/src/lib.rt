@@ -3,6 +3,8 @@
 #![tactic(auto)]
 
 #[cfg(test)]
+mod counted_disk;
+#[cfg(test)]
 mod endings;
 #[cfg(test)]
 mod faults;
@@ -10,5 +12,7 @@ mod faults;
 mod heap;
 #[cfg(test)]
 mod room;
+#[cfg(test)]
+mod syncs;
 #[cfg(test)]
 mod work;

@@ -1,13 +1,12 @@
 //! What helpers and sessions do again and again.
 
 ghost use Rattle.std.specs.Prelude.{◌≡◌, ℕ};
-ghost use Rattle.block_disk.specs.Memory.{device_of};
 ghost use Rattle.running_heap.specs.Joined.{IsHelping, IsJoined};
 ghost use Rattle.session.specs.Sessions.{IsSessionOf, SameRing};
 ghost use Rattle.trim_helper.specs.Endings.{IsEnded, Rings};
 ghost use Rattle.trim_helper.specs.Moves.{SameRings};
 
-use block_disk::MemDisk;
+use block_disk::Disk;
 use durable::StoreError;
 use heap_model::{FieldId, ObjectId};
 use monitor::Shared;
@@ -22,15 +21,15 @@ const OBJECT: ObjectId = ObjectId(0);
 const FIELD: FieldId = FieldId(0);
 
 /// One round of the helper.
-pub fn serve(shared: &Shared, helper: &mut Helper<MemDisk>) -> Result<u64, StoreError>
-    requires helping { IsHelping device_of shared.now helper.old }
-    ensures helping { IsHelping device_of shared.now helper.new }
+pub fn serve<D: Disk>(shared: &Shared, helper: &mut Helper<D>) -> Result<u64, StoreError>
+    requires helping { IsHelping D.device shared.now helper.old }
+    ensures helping { IsHelping D.device shared.now helper.new }
     ensures rings { SameRings helper.old.rings helper.new.rings }
     ensures layout { helper.new.store.known.layout ≡ helper.old.store.known.layout }
     ensures joined { (x : Session) → IsJoined shared.now helper.old.store.known.layout.capacity helper.old.rings x → IsJoined shared.now helper.new.store.known.layout.capacity helper.new.rings x }
     ensures ended { (e : Ended) → IsEnded shared.now helper.old.store.known.layout.capacity helper.old.rings e → IsEnded shared.now helper.new.store.known.layout.capacity helper.new.rings e }
 {
-    helping_law::<MemDisk>();
+    helping_law::<D>();
     joined_law();
     helper.round(shared)
 }
