@@ -2,3 +2,4 @@ pub mod Keeping
 pub mod Beginnings
 pub mod Ending
 pub mod Meetings
+pub mod Living

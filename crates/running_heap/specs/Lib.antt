@@ -2,3 +2,4 @@
 pub mod Joined
 pub mod Laws
 pub mod Closed
+pub mod Life

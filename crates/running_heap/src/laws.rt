@@ -1,4 +1,5 @@
 //! What sessions and helper stay to one another while they run. Each law is the contract of a function that does nothing.
+ghost use Rattle.running_heap.specs.Life.{BirthLaw, ClosedLifeLaw, DrainLifeLaw, LifeLaw};
 ghost use Rattle.running_heap.specs.Laws.{CallLaw, DrainLaw, EndedLaw, RingsLaw, RoundLaw, WaitLaw};
 
 use block_disk::Disk;
@@ -10,6 +11,15 @@ pub fn joined_law()
     ensures wait { WaitLaw }
     ensures rings { RingsLaw }
     ensures ended { EndedLaw }
+{}
+
+/// What store calls a helper has made since its heap was opened: none at first, then those of each round after which its store hasn't
+/// failed and of each drain, and those of a closing.
+pub fn life_law<D: Disk>()
+    ensures begins { BirthLaw D.device }
+    ensures round { LifeLaw D.device }
+    ensures drain { DrainLifeLaw D.device }
+    ensures closed { ClosedLifeLaw D.device }
 {}
 
 /// A helper goes on over its calls.

@@ -10,5 +10,5 @@ mod laws;
 mod opening;
 
 pub use closing::{close, end};
-pub use laws::{helping_law, joined_law};
+pub use laws::{helping_law, joined_law, life_law};
 pub use opening::{RunningHeap, open};

@@ -1,0 +1,53 @@
+-- A heap's life since its opening.
+use Rattle.std.proofs.Common.{ℕ, ◌≡◌, Bool, true, false, List, refl, sym, ◌∙◌, subst}
+use Rattle.block_disk.specs.Device.{Device}
+use Rattle.durable.specs.Runs.{HasRun}
+use Rattle.durable.proofs.Running.{ran_none, ran_then}
+use Rattle.monitor.specs.Seats.{Home}
+use Rattle.steps.specs.Views.{plan}
+use Rattle.store_past.specs.Past.{Past, no_past}
+use Rattle.trim_helper.specs.Helping.{count_published, place_published}
+use Rattle.trim_helper.specs.Parts.{HasServed, Parts}
+use Rattle.trim_helper.proofs.Rounds.{drains_served, moved_seat}
+use Rattle.running_heap.specs.Life.{BirthLaw, ClosedLifeLaw, DrainLifeLaw, HasLived}
+
+module _ {D : Type 0} (device : D → Device) where
+  pub begins : BirthLaw device
+  begins h x serving running = record {
+    life = record { began = x.store.known; nothing = serving.taken.has; layout = refl; ran = ran_none x.store.known.layout (plan h) no_past (device x.store.disk) false };
+    serving = serving;
+    running = running;
+  }
+
+  pub lives_on : (h : Home) (opened : Device) (x y : Parts D) (p : Past) (n : ℕ) → HasLived device h opened x p → y.store.known.layout ≡ x.store.known.layout → (served : HasServed device x y (plan h) p n) → y.store.known.has_failed ≡ false → HasLived device h opened y served.now
+  lives_on h opened x y p n was layout served running =
+      let life = was.life in
+      let ran : HasRun y.store.known.layout (plan h) p (device x.store.disk) served.now (device y.store.disk) false =
+      subst (λ (b : Bool). HasRun y.store.known.layout (plan h) p (device x.store.disk) served.now (device y.store.disk) b) running served.ran in
+      record {
+        life = record {
+          began = life.began;
+          nothing = life.nothing;
+          layout = life.layout ∙ sym layout;
+          ran = ran_then x.store.known.layout y.store.known.layout (plan h) no_past p served.now opened (device x.store.disk) (device y.store.disk) false false layout life.ran (life.ran.whole refl) ran;
+        };
+        serving = served.serves;
+        running = running;
+      }
+
+  pub lives_drained : DrainLifeLaw device
+  lives_drained h opened x y p n was seat drained quiet =
+      let served = moved_seat count_published place_published _ _ _ _ _ y.is_settled (plan h) p n x.seat y.seat seat
+      (drains_served _ _ _ _ _ _ _ _ n x.is_settled y.is_settled (count_published x.seat) (place_published x.seat) (plan h) p drained quiet was.serving) in
+      (served.now, lives_on h opened x y p n was drained.advances.layout served (drained.advances.running ∙ was.running))
+
+  pub lives_closed : ClosedLifeLaw device
+  lives_closed h opened d x p ended was from =
+      let life = was.life in
+      let l = x.store.known.layout in
+      record {
+        began = life.began;
+        nothing = life.nothing;
+        layout = life.layout;
+        ran = ran_then l l (plan h) no_past p from.closed.now opened (device x.store.disk) d false false refl life.ran (life.ran.whole refl) from.ran;
+      }

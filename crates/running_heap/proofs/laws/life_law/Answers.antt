@@ -1,0 +1,14 @@
+use Rattle.running_heap.proofs.Living.{begins, lives_closed, lives_drained, lives_on}
+use Rattle.running_heap.proofs.laws.life_law.Goals as goal
+
+pub returns-clause-begins : goal.returns-clause-begins
+returns-clause-begins g c h x serving running = begins g.D.Disk.device h x serving running
+
+pub returns-clause-round : goal.returns-clause-round
+returns-clause-round g c h opened x y p n was layout served running = lives_on g.D.Disk.device h opened x y p n was layout served running
+
+pub returns-clause-drain : goal.returns-clause-drain
+returns-clause-drain g c h opened x y p n was seat drained quiet = lives_drained g.D.Disk.device h opened x y p n was seat drained quiet
+
+pub returns-clause-closed : goal.returns-clause-closed
+returns-clause-closed g c h opened d x p ended was from = lives_closed g.D.Disk.device h opened d x p ended was from

@@ -1,0 +1,43 @@
+-- A heap's life since its opening: the store calls that its helper made (this project's own).
+use Rattle.std.specs.Prelude.{ℕ, ◌≡◌, true, false, List}
+use Rattle.block_disk.specs.Device.{Device}
+use Rattle.durable.specs.Runs.{HasRun}
+use Rattle.durable.specs.Store.{Known, HasPast}
+use Rattle.image.specs.declared.layout.Layout.{Layout}
+use Rattle.monitor.specs.Seats.{Home}
+use Rattle.steps.specs.Views.{plan}
+use Rattle.store_past.specs.Past.{Past, no_past}
+use Rattle.trim_helper.specs.declared.ended.Ended.{Ended}
+use Rattle.trim_helper.specs.Parts.{HasDrained, HasServed, IsServing, Parts}
+use Rattle.running_heap.specs.Closed.{IsClosedFrom}
+
+-- From the one device, when its store had been told nothing, to the other these calls of the store were made, and none of them failed.
+pub record HasLivedTo (h : Home) (l : Layout) (opened : Device) (now : Past) (d : Device) : Type 0 where
+  pub began : Known
+  pub nothing : HasPast began (plan h) no_past opened
+  pub layout : began.layout ≡ l
+  pub ran : HasRun l (plan h) no_past opened now d false
+
+module _ {D : Type 0} (device : D → Device) where
+  -- the helper serves this past, which store calls since the opening have made, and its store hasn't failed
+  pub record HasLived (h : Home) (opened : Device) (x : Parts D) (p : Past) : Type 0 where
+    pub life : HasLivedTo h x.store.known.layout opened p (device x.store.disk)
+    pub serving : IsServing device x (plan h) p
+    pub running : x.store.known.has_failed ≡ false
+
+  -- so it begins: on the device that it has then
+  abbrev pub BirthLaw : Type 0
+  BirthLaw = (h : Home) (x : Parts D) → IsServing device x (plan h) no_past → x.store.known.has_failed ≡ false → HasLived h (device x.store.disk) x no_past
+
+  -- and it goes on over a round after which the store hasn't failed
+  abbrev pub LifeLaw : Type 0
+  LifeLaw = (h : Home) (opened : Device) (x y : Parts D) (p : Past) (n : ℕ) → HasLived h opened x p → y.store.known.layout ≡ x.store.known.layout → (served : HasServed device x y (plan h) p n) → y.store.known.has_failed ≡ false → HasLived h opened y served.now
+
+  -- and over a drain
+  abbrev pub DrainLifeLaw : Type 0
+  DrainLifeLaw = (h : Home) (opened : Device) (x y : Parts D) (p : Past) (n : ℕ) → HasLived h opened x p → y.seat ≡ x.seat → HasDrained device x y n → (y.is_settled ≡ true → (x.is_settled ≡ true) × (n ≡ 0)) → (q : Past) × HasLived h opened y q
+
+  -- until the heap is closed
+  abbrev pub ClosedLifeLaw : Type 0
+  ClosedLifeLaw = (h : Home) (opened d : Device) (x : Parts D) (p : Past) (ended : List Ended) → HasLived h opened x p → (from : IsClosedFrom h x.store.known.layout ended p (device x.store.disk) d) →
+      HasLivedTo h x.store.known.layout opened from.closed.now d
