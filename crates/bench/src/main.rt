@@ -27,6 +27,7 @@ use memory::print_memory;
 use recovering::{print_heap, recovered_heap};
 use std::alloc::Global;
 use std::env;
+use std::os::fd::AsFd;
 use std::process::ExitCode;
 use std::rt::{Env, Files};
 use std::time::{Clock, CpuClock};
@@ -49,6 +50,9 @@ const WRONG_WORDS: u8 = 2;
 
 /// The measuring stopped.
 const FAULT: u8 = 1;
+
+// What the system says of a descriptor that isn't open (EBADF).
+const NOT_OPEN: i32 = 9;
 
 // A disk in memory, for lanes' logs of so many records.
 fn disk_in_memory(alloc: Global, capacity: u32) -> Result<VolatileDisk, Stopped> {
@@ -170,6 +174,18 @@ where
     }
 }
 
+// Whether the stream is closed. A file that is opened next would get its number, and what is written to the stream.
+fn is_closed<S: AsFd>(stream: &S) -> bool {
+    match stream.as_fd().try_clone_to_owned() {
+        Ok(_) => false,
+        Err(error) => error.raw_os_error() == Some(NOT_OPEN),
+    }
+}
+
 fn main(rt: HostRuntime) -> ExitCode {
+    if is_closed(&rt.stdin()) || is_closed(&rt.stdout()) || is_closed(&rt.stderr()) {
+        let _ = eprintln!(&rt; "bench: a standard stream is closed");
+        return ExitCode::from(FAULT);
+    }
     run(&rt)
 }

@@ -55,7 +55,7 @@ pub enum Words<'a> {
 
 // What stands at the end of the program's help.
 const EXIT_STATUSES: &str =
-    "Exit status: 0 where all is done; 2 for wrong words, or a schema file or script that is refused; 1 for every other fault, which standard error tells";
+    "Exit status: 0 where all is done; 2 for wrong words, or a schema file or script that is refused; 3 where another process has the image; 1 for every other fault, which standard error tells";
 
 // An option that takes the path of a file, and has to be there.
 fn path<'a>(alloc: Global, name: &'a str, about: &'a str) -> Arg<'a>
@@ -143,7 +143,7 @@ fn format<'a>(alloc: Global) -> Result<Command<'a>, AllocError>
 {
     Command::new(alloc, "format")
         .about(
-            "Makes an image file for the objects and fields of a schema file, and replaces one that is there",
+            "Makes an image file for the objects and fields of a schema file, and replaces an image that is there",
         )
         .arg(path(
             alloc,

@@ -1,1 +1,3 @@
+mod FileLemmas
 mod ObeyLemmas
+mod TellingLemmas

@@ -5,8 +5,8 @@ use Rattle.script_lines.specs.Endings.{OfScript}
 use Rattle.script_lines.specs.declared.error.ScriptError.{ScriptError}
 use Rattle.scripts.specs.Runs.{Ends}
 use Rattle.image_file.specs.declared.error.FormatError.{FormatError}
-use Rattle.image_file.specs.Formatting.{PrintsImage, IsBeforeFile}
-use Rattle.recover.specs.declared.error.RecoverError.{RecoverError}
+use Rattle.image_file.specs.Formatting.{PrintsImage, IsSilent}
+use Rattle.image_file.specs.declared.error.ImageFault.{ImageFault}
 use Rattle.recover.specs.declared.studied.Study.{Study}
 use Rattle.image_file.specs.Telling.{Tells, TellsLess}
 use Rattle.commands.specs.Obeying.{Formats, PlaysScript, TellsOf, told_of_format, told_of_image, told_of_script}
@@ -17,11 +17,11 @@ played (Ok done) read unread written now plays = plays
 played (Err error) read unread written now plays = plays
 
 pub made : (lanes capacity : ℕ) (r : Result (Unit {0}) FormatError) (written now : Option (List ℕ)) → OnOk r (PrintsImage lanes capacity written now)
-    → IfErr r (λ error. IsBeforeFile error → Appends written now []) → Formats lanes capacity (told_of_format r) written now
+    → IfErr r (λ error. IsSilent error → Appends written now []) → Formats lanes capacity (told_of_format r) written now
 made lanes capacity (Ok done) written now printed silent = printed
 made lanes capacity (Err error) written now printed silent = silent
 
-pub told : (text : Study → List ℕ) (r : Result (Unit {0}) RecoverError) (written now : Option (List ℕ)) → OnOk r (Tells text written now)
+pub told : (text : Study → List ℕ) (r : Result (Unit {0}) ImageFault) (written now : Option (List ℕ)) → OnOk r (Tells text written now)
     → OnErr r (TellsLess text written now) → TellsOf text (told_of_image r) written now
 told text (Ok done) written now all part = all
 told text (Err error) written now all part = part

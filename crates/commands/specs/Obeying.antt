@@ -6,13 +6,15 @@ use Rattle.scripts.specs.Runs.{Ends}
 use Rattle.inspect.specs.StudyText.{study_text}
 use Rattle.inspect.specs.WholeGraph.{graph_text}
 use Rattle.script_lines.specs.declared.error.ScriptError.{ScriptError}
-use Rattle.recover.specs.declared.error.RecoverError.{RecoverError}
+use Rattle.image_file.specs.declared.error.ImageFault.{ImageFault}
 use Rattle.recover.specs.declared.studied.Study.{Study}
 use Rattle.image_file.specs.declared.error.FormatError.{FormatError}
-use Rattle.image_file.specs.Formatting.{PrintsImage, IsBeforeFile}
+use Rattle.image_file.specs.Formatting.{PrintsImage, IsSilent}
 use Rattle.image_file.specs.Telling.{Tells, TellsLess, report_of}
 use Rattle.commands.specs.declared.fault.WorkFault.{WorkFault}
 use Rattle.commands.specs.declared.fault.WorkFault.TheVariants as fault
+use Rattle.commands.specs.Faults.{RefusedAt}
+use Rattle.commands.specs.Telling.{Drives, WorkedAt}
 use Rattle.command_words.specs.declared.words.Words.{Words}
 use Rattle.command_words.specs.declared.words.Words.TheVariants as words
 
@@ -27,7 +29,7 @@ told_of_format (Ok done) = Ok done
 told_of_format (Err error) = Err (fault.Format error)
 
 -- how work on an image file ended
-abbrev pub told_of_image : Result (Unit {0}) RecoverError → Result (Unit {0}) WorkFault
+abbrev pub told_of_image : Result (Unit {0}) ImageFault → Result (Unit {0}) WorkFault
 told_of_image (Ok done) = Ok done
 told_of_image (Err error) = Err (fault.Image error)
 
@@ -40,7 +42,7 @@ PlaysScript (Err _) read unread written now = ⊥
 -- an image with so many lanes of so many records is made, and its size is told
 abbrev pub Formats : (lanes capacity : ℕ) → Result (Unit {0}) WorkFault → (written now : Option (List ℕ)) → Type 0
 Formats lanes capacity (Ok done) written now = PrintsImage lanes capacity written now
-Formats lanes capacity (Err (fault.Format error)) written now = IsBeforeFile error → Appends written now []
+Formats lanes capacity (Err (fault.Format error)) written now = IsSilent error → Appends written now []
 Formats lanes capacity (Err _) written now = ⊥
 
 -- this text of a study of an image is written
@@ -49,11 +51,6 @@ TellsOf text (Ok done) written now = Tells text written now
 TellsOf text (Err (fault.Image error)) written now = TellsLess text written now
 TellsOf text (Err _) written now = ⊥
 
--- the words ask for workers in threads of their own
-abbrev pub NeedsThreads : Words → Type 0
-NeedsThreads (words.Drive workers rounds image) = Unit {0}
-NeedsThreads _ = ⊥
-
 -- what the words ask for is done, with this result: by what the reader had before and has now, and what was written before and is now
 abbrev pub Obeys : Words → Result (Unit {0}) WorkFault → (read unread written now : Option (List ℕ)) → Type 0
 Obeys words.Run result read unread written now = PlaysScript result read unread written now
@@ -61,4 +58,4 @@ Obeys (words.Format image schema lanes capacity) result read unread written now 
 Obeys (words.Show image) result read unread written now = TellsOf study_text result written now
 Obeys (words.Draw image) result read unread written now = TellsOf graph_text result written now
 Obeys (words.Recover image) result read unread written now = TellsOf report_of result written now
-Obeys (words.Drive workers rounds image) result read unread written now = ⊥
+Obeys (words.Drive workers rounds image) result read unread written now = Drives (WorkedAt image workers) (RefusedAt image workers) result written now

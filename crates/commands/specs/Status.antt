@@ -1,7 +1,11 @@
 -- The status with which the program ends (docs/SCRIPTS.md, "The program's fault texts").
 use Rattle.std.specs.Prelude.{ℕ}
 use Rattle.image_file.specs.declared.error.FormatError.{FormatError}
-use Rattle.image_file.specs.declared.error.FormatError.TheVariants.{Schema, BadHeader, Fault, NoMemory}
+use Rattle.image_file.specs.declared.error.FormatError.TheVariants.{Schema, InUse}
+use Rattle.image_file.specs.declared.error.FileFault.{FileFault}
+use Rattle.image_file.specs.declared.error.FileFault.TheVariants as files
+use Rattle.image_file.specs.declared.error.ImageFault.{ImageFault}
+use Rattle.image_file.specs.declared.error.ImageFault.TheVariants as images
 use Rattle.commands.specs.declared.fault.WorkFault.{WorkFault}
 use Rattle.commands.specs.declared.fault.WorkFault.TheVariants as fault
 use Rattle.script_lines.specs.declared.error.ScriptErrorKind.{ScriptErrorKind}
@@ -16,15 +20,27 @@ status_for Read = 1
 status_for Write = 1
 status_for Memory = 1
 
--- where no image was made: 2 for what the schema file has, 1 for the rest
+-- where no image was made: 2 for what the schema file has, 3 where another process has the image, 1 for the rest
 abbrev pub status_for_format : FormatError → ℕ
 status_for_format (Schema fault) = 2
-status_for_format BadHeader = 1
-status_for_format Fault = 1
-status_for_format NoMemory = 1
+status_for_format InUse = 3
+status_for_format _ = 1
 
--- where what the words ask for wasn't done; that an image is refused is no fault of the words
+-- where an image isn't shown, drawn or recovered; that it is refused is no fault of the words
+abbrev pub status_for_image : ImageFault → ℕ
+status_for_image images.InUse = 3
+status_for_image (images.Image error) = 1
+
+-- where an image file isn't had
+abbrev pub status_for_file : FileFault → ℕ
+status_for_file files.InUse = 3
+status_for_file _ = 1
+
+-- where what the words ask for wasn't done
 abbrev pub status_for_fault : WorkFault → ℕ
 status_for_fault (fault.Script error) = status_for error.kind
 status_for_fault (fault.Format error) = status_for_format error
-status_for_fault (fault.Image error) = 1
+status_for_fault (fault.Image error) = status_for_image error
+status_for_fault (fault.File error) = status_for_file error
+status_for_fault (fault.Drive error) = 1
+status_for_fault fault.Write = 1

@@ -1,6 +1,6 @@
 //! Why the program doesn't do what its words ask for.
-use image_file::FormatError;
-use recover::RecoverError;
+use drive::DriveError;
+use image_file::{FileFault, FormatError, ImageFault};
 use script_lines::ScriptError;
 use thiserror::Error;
 
@@ -15,5 +15,14 @@ pub enum WorkFault {
     Format(FormatError),
     /// An image file was not shown, drawn or recovered. That one is refused is no fault of the words.
     #[error("{0}")]
-    Image(RecoverError),
+    Image(ImageFault),
+    /// Workers haven't worked to their end. An image file may be recovered, and gone on with.
+    #[error("{0}")]
+    Drive(DriveError),
+    /// The image file for workers can't be had, or not be read.
+    #[error("{0}")]
+    File(FileFault),
+    /// Workers have worked, and the writer failed. A beginning of the text is written, and not all.
+    #[error("fault")]
+    Write,
 }

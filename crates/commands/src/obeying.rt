@@ -1,31 +1,39 @@
 //! What the program's words do.
 ghost use Rattle.std.specs.Prelude.{◌≡◌};
-ghost use Rattle.commands.specs.Obeying.{NeedsThreads, Obeys, told_of_format, told_of_image, told_of_script};
+ghost use Rattle.commands.specs.Obeying.{Obeys, told_of_format, told_of_image, told_of_script};
 
+use crate::driving::drive;
 use crate::fault::WorkFault;
+use crate::progress::Progress;
 use command_words::Words;
 use file_disk::BackingFile;
-use image_file::{FormatError, draw_file, format_file, recover_file, show_file};
-use recover::RecoverError;
+use image_file::{
+    FormatError, ImageFault, Trouble, draw_file, format_file, recover_file, show_file,
+};
 use script_lines::ScriptError;
 use scripts::run_script;
+use std::fs::OpenFile;
 use std::io::{Read, Write};
 use std::rt::Files;
+use std::sync::Wait;
+use std::thread::Threads;
 
-/// Does what the words ask for: plays the script that `reader` has, or works on an image file, and writes what that prints. They
-/// don't ask for workers, who have threads of their own.
+/// Does what the words ask for: plays the script that `reader` has, works on an image file, or lets workers work, and writes what
+/// that prints. `is_telling`: how far workers are is told on standard error. What the system says of a call on a file that fails is
+/// noted as trouble.
 pub fn obey<F, R, S, W>(
     rt: &R,
+    is_telling: bool,
+    trouble: &Trouble,
     words: Words<'_>,
     reader: &mut S,
     writer: &mut W,
 ) -> Result<(), WorkFault>
 where
-    F: BackingFile + Read + Drop,
-    R: Files<File = F> + AllocGlobal,
+    F: BackingFile + OpenFile + Read + Drop,
+    R: Files<File = F> + AllocGlobal + Eprint + Threads + Wait + Sync,
     S: Read,
     W: Write,
-    requires one_thread { NeedsThreads words → ⊥ }
     ensures { Obeys words.entry result (S.remaining reader.old) (S.remaining reader.new) (W.contents writer.old) (W.contents writer.new) }
 {
     let alloc = rt.alloc();
@@ -36,11 +44,18 @@ where
             schema,
             lanes,
             capacity,
-        } => on_format(format_file(rt, alloc, image, schema, lanes, capacity, writer)),
-        Words::Show { image } => on_image(show_file(rt, alloc, image, writer)),
-        Words::Draw { image } => on_image(draw_file(rt, alloc, image, writer)),
-        Words::Recover { image } => on_image(recover_file(rt, alloc, image, writer)),
-        Words::Drive { .. } => unreachable!(),
+        } => on_format(format_file(rt, alloc, trouble, image, schema, lanes, capacity, writer)),
+        Words::Show { image } => on_image(show_file(rt, alloc, trouble, image, writer)),
+        Words::Draw { image } => on_image(draw_file(rt, alloc, trouble, image, writer)),
+        Words::Recover { image } => on_image(recover_file(rt, alloc, trouble, image, writer)),
+        Words::Drive {
+            workers,
+            rounds,
+            image,
+        } => {
+            let progress = Progress::new(rt, is_telling, workers, rounds);
+            drive(rt, trouble, &progress, workers, rounds, image, writer)
+        }
     }
 }
 
@@ -65,7 +80,7 @@ fn on_format(answer: Result<(), FormatError>) -> Result<(), WorkFault>
 }
 
 // How work on an image file ended.
-fn on_image(answer: Result<(), RecoverError>) -> Result<(), WorkFault>
+fn on_image(answer: Result<(), ImageFault>) -> Result<(), WorkFault>
     ensures { result ≡ told_of_image answer }
 {
     match answer {

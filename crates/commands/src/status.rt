@@ -1,9 +1,9 @@
 //! The program's exit statuses.
 ghost use Rattle.std.specs.Prelude.{◌≡◌};
-ghost use Rattle.commands.specs.Status.{status_for, status_for_fault, status_for_format};
+ghost use Rattle.commands.specs.Status.{status_for, status_for_fault, status_for_file, status_for_format, status_for_image};
 
 use crate::fault::WorkFault;
-use image_file::FormatError;
+use image_file::{FileFault, FormatError, ImageFault};
 use script_lines::ScriptErrorKind;
 
 /// Wrong words, a refused schema file, or a script that can't be played to its end.
@@ -11,6 +11,9 @@ pub const WRONG_INPUT: u8 = 2;
 
 /// What is the fault of neither the caller nor a text: reading, writing, memory.
 pub const FAULT: u8 = 1;
+
+/// Another process has the image.
+pub const IN_USE: u8 = 3;
 
 /// The status for a script that ended with such an error.
 pub fn status_of(kind: ScriptErrorKind) -> u8
@@ -30,7 +33,31 @@ pub fn status_of_format(error: &FormatError) -> u8
 {
     match error {
         FormatError::Schema(_) => WRONG_INPUT,
-        FormatError::BadHeader | FormatError::Fault | FormatError::NoMemory => FAULT,
+        FormatError::InUse => IN_USE,
+        FormatError::BadHeader
+        | FormatError::Fault
+        | FormatError::NoMemory
+        | FormatError::NotImage => FAULT,
+    }
+}
+
+/// The status where an image isn't shown, drawn or recovered.
+pub fn status_of_image(fault: &ImageFault) -> u8
+    ensures { result ≡ status_for_image fault.now }
+{
+    match fault {
+        ImageFault::InUse => IN_USE,
+        ImageFault::Image(_) => FAULT,
+    }
+}
+
+/// The status where an image file isn't had.
+pub fn status_of_file(fault: FileFault) -> u8
+    ensures { result ≡ status_for_file fault }
+{
+    match fault {
+        FileFault::InUse => IN_USE,
+        FileFault::Fault | FileFault::NoMemory | FileFault::NotImage => FAULT,
     }
 }
 
@@ -41,6 +68,8 @@ pub fn status_of_fault(fault: &WorkFault) -> u8
     match fault {
         WorkFault::Script(error) => status_of(error.kind),
         WorkFault::Format(error) => status_of_format(error),
-        WorkFault::Image(_) => FAULT,
+        WorkFault::Image(error) => status_of_image(error),
+        WorkFault::File(error) => status_of_file(*error),
+        WorkFault::Drive(_) | WorkFault::Write => FAULT,
     }
 }

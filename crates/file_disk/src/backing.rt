@@ -3,9 +3,18 @@ ghost use Rattle.std.specs.Prelude.{◌≡◌, Option, None, length, OnOk, OnErr
 ghost use Rattle.file_disk.specs.Backing.{Held, emptied, put_at, settled, TornFile, ReadsAsBefore};
 ghost use Rattle.block_disk.specs.Bytes.{part};
 
-use std::fs::File;
+use std::fs::{File, TryLockError};
 use std::io;
 use std::io::{Read, Seek, SeekFrom, Write};
+
+/// How a file is claimed for one of its opens.
+#[derive(Clone, Copy, Debug, PartialEq, Eq)]
+pub enum Claim {
+    /// No other open has a claim.
+    Alone,
+    /// Other opens may share it, and none has it alone.
+    Shared,
+}
 
 /// A file that a disk keeps its bytes in. Places and lengths count bytes, from 0.
 ///
@@ -37,6 +46,12 @@ pub trait BackingFile {
     fn settle(&mut self) -> io::Result<()>
         ensures ok { OnOk result (holds self.new ≡ option_map settled (holds self.old)) }
         ensures err { OnErr result (ReadsAsBefore (holds self.old) (holds self.new)) };
+
+    /// Claims the file for this open, until it is closed, and tells whether it is claimed; another claim that it had is given back.
+    /// Nobody else opens a file that isn't the system's, which is what this body says.
+    fn claim(&self, _claim: Claim) -> io::Result<bool> {
+        Ok(true)
+    }
 }
 
 /// A file of the system. An interrupted call is made again, and a short one goes on where it ended.
@@ -59,6 +74,19 @@ impl BackingFile for File {
 
     fn settle(&mut self) -> io::Result<()> {
         self.sync_data()
+    }
+
+    // By an advisory lock (`flock`): programs that don't ask for one aren't kept out.
+    fn claim(&self, claim: Claim) -> io::Result<bool> {
+        let answer = match claim {
+            Claim::Alone => self.try_lock(),
+            Claim::Shared => self.try_lock_shared(),
+        };
+        match answer {
+            Ok(()) => Ok(true),
+            Err(TryLockError::WouldBlock) => Ok(false),
+            Err(TryLockError::Error(error)) => Err(error),
+        }
     }
 }
 

@@ -2,7 +2,8 @@
 //!
 //! Each takes its bytes and the ranges written since the last sync, and no more, however long it runs. [`BufferedDisk`]
 //! keeps its bytes in memory and brings them to a file at each sync; [`FileDisk`] brings each write there at once and
-//! reads the file; [`VolatileDisk`] has no file. A [`BackingFile`] is what the first two need of a file, and [`read_there`]
+//! reads the file; [`VolatileDisk`] has no file. A [`BackingFile`] is what the first two need of a file, with a [`Claim`] for one of
+//! its opens, and [`read_there`]
 //! and [`write_there`] serve whoever makes one of what reads, writes and seeks.
 #![tactic(auto)]
 
@@ -15,7 +16,7 @@ mod trace;
 mod volatile;
 mod whole;
 
-pub use backing::{BackingFile, read_there, write_there};
+pub use backing::{BackingFile, Claim, read_there, write_there};
 pub use buffered::BufferedDisk;
 pub use error::FileError;
 pub use file::FileDisk;

@@ -8,60 +8,61 @@
 #[cfg(test)]
 mod tests;
 
-ghost use Rattle.commands.specs.Obeying.{NeedsThreads};
-
 use clap::Error;
 use clap::error::ErrorKind;
 use command_words::{Words, read_words};
-use commands::{FAULT, WRONG_INPUT, obey, status_of_fault};
-use drive_command::{DriveFault, Progress, drive};
+use commands::{FAULT, WRONG_INPUT, explain, is_left_by_reader, obey, status_of_fault};
 use file_disk::BackingFile;
+use image_file::{Place, Trouble, Watched};
+use std::fs::OpenFile;
 use std::io::{IsTerminal, Read};
+use std::os::fd::AsFd;
 use std::process::ExitCode;
 use std::rt::{Env, Files};
 use std::sync::Wait;
 use std::thread::Threads;
 use std::{env, io};
 
-// Lets workers work, and tells how it went.
-fn work_in_threads<F, R>(
-    rt: &R,
-    is_telling: bool,
-    workers: u8,
-    rounds: u32,
-    image: Option<&str>,
-) -> ExitCode
-where
-    F: BackingFile + Drop,
-    R: Files<File = F> + Print + Eprint + AllocGlobal + Threads + Wait + Sync,
-{
-    let progress = Progress::new(rt, is_telling, workers, rounds);
-    let mut writer = io::writer(rt);
-    match drive(rt, &progress, workers, rounds, image, &mut writer) {
-        Ok(()) => ExitCode::SUCCESS,
-        Err(fault) => no_work(rt, &fault),
-    }
+// What the streams lead to.
+#[derive(Clone, Copy)]
+struct Terminals {
+    // A script is typed.
+    is_typed: bool,
+    // How far workers are is told on standard error.
+    is_told: bool,
 }
 
-// Why workers haven't worked. That is never a fault of the words.
-fn no_work<R: Eprint>(rt: &R, fault: &DriveFault) -> ExitCode {
-    let _ = eprintln!(rt; "heapctl: {fault}");
-    ExitCode::from(FAULT)
-}
+// What the system says of a descriptor that isn't open (EBADF).
+const NOT_OPEN: i32 = 9;
 
 // Does what the words ask for, with the script on standard input, and tells how it went.
-fn work<F, R>(rt: &R, words: Words<'_>) -> ExitCode
+fn work<F, R>(rt: &R, terminals: Terminals, words: Words<'_>) -> ExitCode
 where
-    F: BackingFile + Read + Drop,
-    R: Files<File = F> + Input + Print + Eprint + AllocGlobal,
-    requires { NeedsThreads words → ⊥ }
+    F: BackingFile + OpenFile + Read + Drop,
+    R: Files<File = F> + Input + Print + Eprint + AllocGlobal + Threads + Wait + Sync,
 {
+    if terminals.is_typed && words == Words::Run {
+        let _ = eprintln!(rt;
+            "heapctl: a script is read from the terminal, up to Ctrl-D, and then played; 'heapctl --help' tells of other words"
+        );
+    }
+    let trouble = Trouble::none();
     let mut reader = rt.reader();
-    let mut writer = io::writer(rt);
-    match obey(rt, words, &mut reader, &mut writer) {
+    let mut writer = Watched::new(io::writer(rt), Place::Output, &trouble);
+    match obey(
+        rt,
+        terminals.is_told,
+        &trouble,
+        words,
+        &mut reader,
+        &mut writer,
+    ) {
         Ok(()) => ExitCode::SUCCESS,
         Err(fault) => {
-            let _ = eprintln!(rt; "heapctl: {fault}");
+            if !is_left_by_reader(&trouble) {
+                let _ = eprintln!(rt; "heapctl: {fault}");
+                explain(rt, &words, &fault, &trouble);
+            }
             ExitCode::from(status_of_fault(&fault))
         }
     }
@@ -79,7 +80,13 @@ fn print_answer<R: Print + Eprint>(rt: &R, answer: &Error) -> ExitCode {
     }
     match printed {
         Ok(()) => ExitCode::SUCCESS,
-        Err(_) => ExitCode::from(FAULT),
+        Err(error) => {
+            if error.kind() != io::ErrorKind::BrokenPipe {
+                let _ = eprintln!(rt; "heapctl: fault");
+                let _ = eprintln!(rt; "heapctl: standard output: {error}");
+            }
+            ExitCode::from(FAULT)
+        }
     }
 }
 
@@ -97,27 +104,9 @@ fn no_words<R: Eprint>(rt: &R, error: &io::Error) -> ExitCode {
     ExitCode::from(WRONG_INPUT)
 }
 
-// What the words ask for, by one thread or by several.
-fn work_as_asked<F, R>(rt: &R, is_telling: bool, words: Words<'_>) -> ExitCode
+fn run<F, R>(rt: &R, terminals: Terminals) -> ExitCode
 where
-    F: BackingFile + Read + Drop,
-    R: Files<File = F> + Input + Print + Eprint + AllocGlobal + Threads + Wait + Sync,
-{
-    if let Words::Drive {
-        workers,
-        rounds,
-        image,
-    } = words
-    {
-        return work_in_threads(rt, is_telling, workers, rounds, image);
-    }
-    work(rt, words)
-}
-
-// `is_telling`: how far workers are is told on standard error.
-fn run<F, R>(rt: &R, is_telling: bool) -> ExitCode
-where
-    F: BackingFile + Read + Drop,
+    F: BackingFile + OpenFile + Read + Drop,
     R: Env + Files<File = F> + Input + Print + Eprint + AllocGlobal + Threads + Wait + Sync,
 {
     let alloc = rt.alloc();
@@ -129,12 +118,30 @@ where
         return out_of_memory(rt);
     };
     match read_words(alloc, texts.as_slice()) {
-        Ok(words) => work_as_asked(rt, is_telling, words),
+        Ok(words) => work(rt, terminals, words),
         Err(answer) => print_answer(rt, &answer),
     }
 }
 
+// Whether the stream is closed. A file that is opened next would get its number, and what is written to the stream.
+fn is_closed<S: AsFd>(stream: &S) -> bool {
+    match stream.as_fd().try_clone_to_owned() {
+        Ok(_) => false,
+        Err(error) => error.raw_os_error() == Some(NOT_OPEN),
+    }
+}
+
 fn main(rt: HostRuntime) -> ExitCode {
-    let is_telling = rt.stderr().is_terminal();
-    run(&rt, is_telling)
+    if is_closed(&rt.stdin()) || is_closed(&rt.stdout()) || is_closed(&rt.stderr()) {
+        let _ = eprintln!(&rt; "heapctl: fault");
+        let _ = eprintln!(&rt;
+            "heapctl: a standard stream is closed; open it, on /dev/null if it isn't wanted"
+        );
+        return ExitCode::from(FAULT);
+    }
+    let terminals = Terminals {
+        is_typed: rt.stdin().is_terminal(),
+        is_told: rt.stderr().is_terminal(),
+    };
+    run(&rt, terminals)
 }

@@ -1,10 +1,13 @@
--- The size of an image.
-use Rattle.std.proofs.Common.{◌≡◌, ◌+◌, ◌*◌, ap, sym, ◌∙◌}
-use Rattle.store_image.specs.Formatting.{layout_with}
+-- The size of an image, and what is said where none is made.
+use Rattle.std.proofs.Common.{ℕ, ◌≡◌, ◌+◌, ◌*◌, List, Option, ap, sym, ◌∙◌}
+use Rattle.store_image.specs.Formatting.{AreLimits, layout_with}
+use Rattle.declarations.specs.SchemaFiles.{DeclaresSchema}
 use Rattle.guards.specs.Schema.{Declarations}
 use Rattle.image.specs.Layout.{IsLayoutOf, size_of}
 use Rattle.image.specs.declared.layout.Layout.{Layout}
-use Rattle.std.proofs.Common.{ℕ}
+use Rattle.image_file.specs.Formatting.{IsBeforeFile, RefusesImage}
+use Rattle.image_file.specs.declared.error.FormatError.{FormatError}
+use Rattle.image_file.specs.declared.error.FormatError.TheVariants as errors
 
 -- a layout of the schema's image with so many lanes of so many records has the size that the image has
 pub sizes_agree : (schema : Declarations) (lanes capacity : ℕ) (l made : Layout) → IsLayoutOf schema l → l.lanes ≡ lanes → l.capacity ≡ capacity
@@ -14,3 +17,13 @@ sizes_agree schema lanes capacity l made of by_lanes by_capacity is =
     ∙ ap (λ n. 2160 + 24 * (layout_with schema lanes capacity).fields + 16 * n * l.capacity) by_lanes
     ∙ ap (λ n. 2160 + 24 * (layout_with schema lanes capacity).fields + 16 * lanes * n) by_capacity
     ∙ ap size_of (sym is)
+
+-- no image was made for a schema that was read
+pub not_made : (old new : Option (List ℕ)) (lanes capacity : ℕ) (schema : Declarations) (e : FormatError) → DeclaresSchema old new schema
+    → (IsBeforeFile e → (e ≡ errors.BadHeader) × (AreLimits lanes capacity → ⊥)) → RefusesImage old new lanes capacity e
+not_made old new lanes capacity schema (errors.Schema fault) declares before = let is : errors.Schema fault ≡ errors.BadHeader = (before tt).0 in absurd cc
+not_made old new lanes capacity schema errors.BadHeader declares before = (schema, declares, (before tt).1)
+not_made old new lanes capacity schema errors.Fault declares before = tt
+not_made old new lanes capacity schema errors.NoMemory declares before = tt
+not_made old new lanes capacity schema errors.InUse declares before = tt
+not_made old new lanes capacity schema errors.NotImage declares before = tt

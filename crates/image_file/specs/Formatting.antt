@@ -5,7 +5,7 @@ use Rattle.std.specs.Io.KnownBytes.{Appends}
 use Rattle.block_disk.specs.Device.{Device}
 use Rattle.file_disk.specs.Mirror.{new_device}
 use Rattle.file_disk.specs.declared.error.FileError.{FileError}
-use Rattle.file_disk.specs.declared.error.FileError.TheVariants as files
+use Rattle.file_disk.specs.declared.error.FileError.TheVariants as disks
 use Rattle.guards.specs.Schema.{Declarations}
 use Rattle.image.specs.Calls.{after}
 use Rattle.image.specs.Format.{format_calls}
@@ -16,6 +16,8 @@ use Rattle.declarations.specs.declared.schema_fault.SchemaFault.{SchemaFault}
 use Rattle.declarations.specs.declared.schema_fault.SchemaFaultKind.{SchemaFaultKind}
 use Rattle.declarations.specs.declared.schema_fault.SchemaFaultKind.TheVariants as kinds
 use Rattle.declarations.specs.SchemaFiles.{DeclaresSchema, RefusesSchema}
+use Rattle.image_file.specs.declared.error.FileFault.{FileFault}
+use Rattle.image_file.specs.declared.error.FileFault.TheVariants as files
 use Rattle.image_file.specs.declared.error.FormatError.{FormatError}
 use Rattle.image_file.specs.declared.error.FormatError.TheVariants as errors
 
@@ -28,20 +30,30 @@ told_by_kind _ fault = errors.Schema fault
 abbrev pub told_of_schema : SchemaFault → FormatError
 told_of_schema fault = told_by_kind fault.why fault
 
+-- that there is no disk over a file
+abbrev pub told_of_disk : FileError → FileFault
+told_of_disk disks.Fault = files.Fault
+told_of_disk disks.NoMemory = files.NoMemory
+
 -- how a refusal of the image file is told
-abbrev pub told_of_file : FileError → FormatError
+abbrev pub told_of_file : FileFault → FormatError
 told_of_file files.Fault = errors.Fault
 told_of_file files.NoMemory = errors.NoMemory
+told_of_file files.InUse = errors.InUse
+told_of_file files.NotImage = errors.NotImage
 
--- what was read of the schema file, by what the reader had left before and has left now: the file declares a schema, its
--- image may have so many lanes of so many records, and the device holds that image. It had the image's size, and all its
--- bytes were zero
-pub record MakesImage (old new : Option (List ℕ)) (lanes capacity : ℕ) (layout : Layout) (d : Device) : Type 0 where
-  pub schema : Declarations
-  pub declares : DeclaresSchema old new schema
+-- the device holds the image of this schema with so many lanes of so many records. It had the image's size, and all its bytes were zero
+pub record IsImageFor (schema : Declarations) (lanes capacity : ℕ) (layout : Layout) (d : Device) : Type 0 where
   pub limits : AreLimits lanes capacity
   pub layout_is : layout ≡ layout_with schema lanes capacity
   pub made : d ≡ after (format_calls layout schema) (new_device (replicate (size_of layout) 0))
+
+-- what was read of the schema file, by what the reader had left before and has left now: the file declares a schema, and the device
+-- holds its image
+pub record MakesImage (old new : Option (List ℕ)) (lanes capacity : ℕ) (layout : Layout) (d : Device) : Type 0 where
+  pub schema : Declarations
+  pub declares : DeclaresSchema old new schema
+  pub image : IsImageFor schema lanes capacity layout d
 
 -- the line that tells an image's size, in bytes
 abbrev pub formatted_line : ℕ → List ℕ
@@ -61,12 +73,19 @@ pub record PrintsImage (lanes capacity : ℕ) (old new : Option (List ℕ)) : Ty
 abbrev pub IsBeforeFile : FormatError → Type 0
 IsBeforeFile (errors.Schema fault) = Unit {0}
 IsBeforeFile errors.BadHeader = Unit {0}
-IsBeforeFile errors.Fault = ⊥
-IsBeforeFile errors.NoMemory = ⊥
+IsBeforeFile _ = ⊥
 
--- what each refusal says of what was read; a fault and want of memory may come at any time
+-- the refusals that come before anything is written
+abbrev pub IsSilent : FormatError → Type 0
+IsSilent (errors.Schema fault) = Unit {0}
+IsSilent errors.BadHeader = Unit {0}
+IsSilent errors.InUse = Unit {0}
+IsSilent errors.NotImage = Unit {0}
+IsSilent _ = ⊥
+
+-- what each refusal says of what was read; a fault and want of memory may come at any time, and what is said of the file's bytes and of
+-- other processes is nothing that was read here
 abbrev pub RefusesImage : (old new : Option (List ℕ)) → (lanes capacity : ℕ) → FormatError → Type 0
 RefusesImage old new lanes capacity (errors.Schema fault) = RefusesSchema old new fault × (told_of_schema fault ≡ errors.Schema fault)
 RefusesImage old new lanes capacity errors.BadHeader = (schema : Declarations) × DeclaresSchema old new schema × (AreLimits lanes capacity → ⊥)
-RefusesImage old new lanes capacity errors.Fault = Unit {0}
-RefusesImage old new lanes capacity errors.NoMemory = Unit {0}
+RefusesImage old new lanes capacity _ = Unit {0}

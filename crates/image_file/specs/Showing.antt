@@ -1,13 +1,15 @@
 -- What showing an image writes, and drawing it (docs/SCRIPTS.md, "The inspector's lines").
 use Rattle.std.specs.Prelude.{ℕ, ◌≡◌, ◌⊎◌, Option, List, []}
 use Rattle.std.specs.Io.KnownBytes.{Appends, Consumes, IsAtEnd}
-use Rattle.file_disk.specs.declared.error.FileError.{FileError}
-use Rattle.file_disk.specs.declared.error.FileError.TheVariants as files
+use Rattle.image_file.specs.declared.error.FileFault.{FileFault}
+use Rattle.image_file.specs.declared.error.FileFault.TheVariants as files
+use Rattle.image_file.specs.declared.error.ImageFault.{ImageFault}
+use Rattle.image_file.specs.declared.error.ImageFault.TheVariants as images
 use Rattle.inspect.specs.Inspection.{Inspects, Refuses}
 use Rattle.inspect.specs.declared.error.InspectError.{InspectError}
 use Rattle.inspect.specs.declared.error.InspectError.TheVariants as inspections
 use Rattle.recover.specs.declared.error.RecoverError.{RecoverError}
-use Rattle.recover.specs.declared.error.RecoverError.TheVariants.{Fault, NoMemory}
+use Rattle.recover.specs.declared.error.RecoverError.TheVariants.{Fault, NoMemory, NotFormatted}
 use Rattle.recover.specs.declared.studied.Study.{Study}
 
 -- all that the reader had left was read: this image
@@ -19,10 +21,12 @@ pub record ReadsImage (old new : Option (List ℕ)) (image : List ℕ) : Type 0 
 abbrev pub IsUnread : RecoverError → Type 0
 IsUnread why = (why ≡ Fault) ⊎ (why ≡ NoMemory)
 
--- how a refusal of the image file is told
-abbrev pub told_of_attaching : FileError → RecoverError
-told_of_attaching files.Fault = Fault
-told_of_attaching files.NoMemory = NoMemory
+-- how it is told that an image file isn't had
+abbrev pub told_of_attaching : FileFault → ImageFault
+told_of_attaching files.Fault = images.Image Fault
+told_of_attaching files.NoMemory = images.Image NoMemory
+told_of_attaching files.InUse = images.InUse
+told_of_attaching files.NotImage = images.Image NotFormatted
 
 -- how a refusal to inspect an image is told
 abbrev pub told_of_inspection : InspectError → RecoverError

@@ -2,8 +2,8 @@
 ghost use Rattle.std.specs.Prelude.{◌≡◌, Bool, true, replicate, IfOk};
 ghost use Rattle.file_disk.specs.Mirror.{new_device};
 
+use crate::error::FileFault;
 use block_disk::Disk;
-use file_disk::FileError;
 use std::alloc::Global;
 
 /// What makes the device of a new image, and knows whether it was asked to.
@@ -12,7 +12,11 @@ pub trait DiskMaker<D: Disk> {
     ghost is_used: { Self → Bool };
 
     /// Makes a device of `size` zero bytes.
-    fn make_disk(&mut self, alloc: Global, size: u64) -> Result<D, FileError>
+    fn make_disk(&mut self, alloc: Global, size: u64) -> Result<D, FileFault>
         ensures ok { IfOk result (λ disk. D.device disk ≡ new_device (replicate size 0)) }
         ensures used { is_used self.new ≡ true };
+
+    /// The image on the device that was made last is whole, and durable: where there is a place for it, it is put there.
+    fn put_in_place(&mut self) -> Result<(), FileFault>
+        ensures used { is_used self.new ≡ is_used self.old };
 }

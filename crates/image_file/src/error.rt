@@ -1,10 +1,40 @@
-//! Why there is no image.
+//! Why there is no image, or no text of one.
 ghost use Rattle.std.specs.Prelude.{◌≡◌};
-ghost use Rattle.image_file.specs.Formatting.{told_of_schema, told_of_file};
+ghost use Rattle.image_file.specs.Formatting.{told_of_disk, told_of_file, told_of_schema};
+ghost use Rattle.image_file.specs.Showing.{told_of_attaching};
 
 use declarations::{SchemaFault, SchemaFaultKind};
 use file_disk::FileError;
+use recover::RecoverError;
 use thiserror::Error;
+
+/// Why an image file isn't had. Each leaves every byte that it had.
+#[derive(Clone, Copy, Debug, PartialEq, Eq, Error)]
+pub enum FileFault {
+    /// A call of the file system has failed.
+    #[error("fault")]
+    Fault,
+    /// There was no memory.
+    #[error("no memory")]
+    NoMemory,
+    /// Another process has the image, or has just put a new one there.
+    #[error("image in use")]
+    InUse,
+    /// The file has bytes, and doesn't begin as an image: with its name and an open gate.
+    #[error("not formatted")]
+    NotImage,
+}
+
+impl From<FileError> for FileFault {
+    ghost from_gives = { λ error fault. fault ≡ told_of_disk error };
+
+    fn from(error: FileError) -> FileFault {
+        match error {
+            FileError::Fault => FileFault::Fault,
+            FileError::NoMemory => FileFault::NoMemory,
+        }
+    }
+}
 
 /// Why no image was made. The first two are found before the image file is touched.
 #[derive(Clone, Copy, Debug, PartialEq, Eq, Error)]
@@ -21,6 +51,12 @@ pub enum FormatError {
     /// There was no memory.
     #[error("no memory")]
     NoMemory,
+    /// Another process has the image that is there.
+    #[error("image in use")]
+    InUse,
+    /// The file that is there has other bytes than an image's.
+    #[error("not an image")]
+    NotImage,
 }
 
 impl From<SchemaFault> for FormatError {
@@ -35,13 +71,39 @@ impl From<SchemaFault> for FormatError {
     }
 }
 
-impl From<FileError> for FormatError {
+impl From<FileFault> for FormatError {
     ghost from_gives = { λ fault error. error ≡ told_of_file fault };
 
-    fn from(fault: FileError) -> FormatError {
+    fn from(fault: FileFault) -> FormatError {
         match fault {
-            FileError::Fault => FormatError::Fault,
-            FileError::NoMemory => FormatError::NoMemory,
+            FileFault::Fault => FormatError::Fault,
+            FileFault::NoMemory => FormatError::NoMemory,
+            FileFault::InUse => FormatError::InUse,
+            FileFault::NotImage => FormatError::NotImage,
+        }
+    }
+}
+
+/// Why an image file isn't shown, drawn or recovered.
+#[derive(Clone, Copy, Debug, PartialEq, Eq, Error)]
+pub enum ImageFault {
+    /// The image is refused; or it can't be read, be written, or its text be written, by `Fault`.
+    #[error("{0}")]
+    Image(RecoverError),
+    /// Another process has the image.
+    #[error("image in use")]
+    InUse,
+}
+
+impl From<FileFault> for ImageFault {
+    ghost from_gives = { λ fault error. error ≡ told_of_attaching fault };
+
+    fn from(fault: FileFault) -> ImageFault {
+        match fault {
+            FileFault::Fault => ImageFault::Image(RecoverError::Fault),
+            FileFault::NoMemory => ImageFault::Image(RecoverError::NoMemory),
+            FileFault::InUse => ImageFault::InUse,
+            FileFault::NotImage => ImageFault::Image(RecoverError::NotFormatted),
         }
     }
 }

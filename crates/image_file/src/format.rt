@@ -2,18 +2,24 @@
 ghost use Rattle.std.specs.Prelude.{◌≡◌, [], IfErr, IfOk, OnOk};
 ghost use Rattle.std.specs.Io.KnownBytes.{Appends};
 ghost use Rattle.image.specs.Layout.{size_of};
-ghost use Rattle.image_file.specs.Formatting.{IsBeforeFile, MakesImage, PrintsImage, PrintsSize, RefusesImage};
+ghost use Rattle.image_file.specs.declared.error.FormatError.TheVariants.{BadHeader};
+ghost use Rattle.store_image.specs.Formatting.{AreLimits, layout_with};
+ghost use Rattle.image_file.specs.Formatting.{IsBeforeFile, IsImageFor, IsSilent, MakesImage, PrintsImage, PrintsSize, RefusesImage};
 
 use crate::disk_maker::DiskMaker;
-use crate::error::FormatError;
+use crate::error::{FileFault, FormatError};
 use crate::new_file::NewFile;
+use crate::trouble::{Place, Trouble};
+use crate::watched::Watched;
 use block_disk::Disk;
 use declarations::read_schema;
 use durable::Store;
 use file_disk::BackingFile;
+use guards::Schema;
 use image::{ImageError, Layout, Recovered};
 use std::alloc::Global;
 use std::fs;
+use std::fs::OpenFile;
 use std::io::{Read, Write};
 use std::rt::Files;
 
@@ -23,7 +29,7 @@ use std::rt::Files;
 /// Refusals, in this order:
 /// - `Schema`: the schema is refused; `Fault` or `NoMemory` where it could not be read;
 /// - `BadHeader`: `lanes` isn't 1 to 32, or `capacity` isn't 2,000 to 1,048,576. No device was asked for until here;
-/// - `Fault` and `NoMemory`: there is no device, or no whole image on it;
+/// - `InUse`, `NotImage`, `Fault` and `NoMemory`: there is no device, or no whole image on it, or it isn't put in its place;
 /// - `Fault` and `NoMemory`: the line was not written whole. The image is.
 pub fn format_image<D: Disk + Drop, S: Read, M: DiskMaker<D>, W: Write>(
     alloc: Global,
@@ -37,23 +43,69 @@ pub fn format_image<D: Disk + Drop, S: Read, M: DiskMaker<D>, W: Write>(
     ensures printed { IfOk result (λ made. PrintsSize (size_of made.layout) (W.contents writer.old) (W.contents writer.new)) }
     ensures refused { IfErr result (λ error. RefusesImage (S.remaining reader.old) (S.remaining reader.new) lanes capacity error) }
     ensures no_device { IfErr result (λ error. IsBeforeFile error → M.is_used maker.new ≡ M.is_used maker.old) }
-    ensures silent { IfErr result (λ error. IsBeforeFile error → Appends (W.contents writer.old) (W.contents writer.new) []) }
+    ensures silent { IfErr result (λ error. IsSilent error → Appends (W.contents writer.old) (W.contents writer.new) []) }
 {
     let schema = read_schema(alloc, reader)?;
-    let Some(layout) = Layout::of(&schema, lanes, capacity) else {
-        return Err(FormatError::BadHeader);
-    };
-    let size = layout.size();
-    let disk = maker.make_disk(alloc, size)?;
-    let made = match Store::format(alloc, disk, &schema, lanes, capacity) {
+    let made = match make_image(alloc, &schema, maker, lanes, capacity) {
         Ok(made) => made,
-        // The device has the image's size, so that these two are all.
-        Err((_, ImageError::NoMemory)) => return Err(FormatError::NoMemory),
-        Err(_) => return Err(FormatError::Fault),
+        Err(error) => return Err(error),
     };
-    match print_size(alloc, size, writer) {
+    match print_size(alloc, made.layout().size(), writer) {
         Ok(()) => Ok(made),
         Err(error) => Err(error),
+    }
+}
+
+/// Makes an image for this schema of a device that is made for it, and puts it in its place.
+///
+/// Refusals, in this order:
+/// - `BadHeader`: `lanes` isn't 1 to 32, or `capacity` isn't 2,000 to 1,048,576. No device was asked for;
+/// - `InUse`, `NotImage`, `Fault` and `NoMemory`: there is no device, or no whole image on it, or it isn't put in its place.
+pub fn make_image<D: Disk + Drop, M: DiskMaker<D>>(
+    alloc: Global,
+    schema: &Schema,
+    maker: &mut M,
+    lanes: u8,
+    capacity: u32,
+) -> Result<Recovered<D>, FormatError>
+    ensures ok { IfOk result (λ made. IsImageFor schema.now lanes capacity made.layout (D.device made.disk)) }
+    ensures bad_header { IfErr result (λ error. IsBeforeFile error → (error ≡ BadHeader) × (AreLimits lanes capacity → ⊥)) }
+    ensures no_device { IfErr result (λ error. IsBeforeFile error → M.is_used maker.new ≡ M.is_used maker.old) }
+{
+    let Some(layout) = Layout::of(schema, lanes, capacity) else {
+        return Err(FormatError::BadHeader);
+    };
+    match make_in_place(alloc, schema, maker, lanes, capacity, layout.size()) {
+        Ok(made) => Ok(made),
+        Err(fault) => Err(FormatError::from(fault)),
+    }
+}
+
+// Makes the image, of this size, and puts it in its place.
+fn make_in_place<D: Disk + Drop, M: DiskMaker<D>>(
+    alloc: Global,
+    schema: &Schema,
+    maker: &mut M,
+    lanes: u8,
+    capacity: u32,
+    size: u64,
+) -> Result<Recovered<D>, FileFault>
+    requires { size ≡ size_of (layout_with schema.now lanes capacity) }
+    ensures { IfOk result (λ made. IsImageFor schema.now lanes capacity made.layout (D.device made.disk)) }
+{
+    let disk = match maker.make_disk(alloc, size) {
+        Ok(disk) => disk,
+        Err(fault) => return Err(fault),
+    };
+    let made = match Store::format(alloc, disk, schema, lanes, capacity) {
+        Ok(made) => made,
+        // The device has the image's size, so that these two are all.
+        Err((_, ImageError::NoMemory)) => return Err(FileFault::NoMemory),
+        Err(_) => return Err(FileFault::Fault),
+    };
+    match maker.put_in_place() {
+        Ok(()) => Ok(made),
+        Err(fault) => Err(fault),
     }
 }
 
@@ -61,6 +113,7 @@ pub fn format_image<D: Disk + Drop, S: Read, M: DiskMaker<D>, W: Write>(
 fn print_size<W: Write>(alloc: Global, size: u64, writer: &mut W) -> Result<(), FormatError>
     ensures ok { OnOk result (PrintsSize size (W.contents writer.old) (W.contents writer.new)) }
     ensures err { IfErr result (λ error. IsBeforeFile error → ⊥) }
+    ensures late { IfErr result (λ error. IsSilent error → ⊥) }
 {
     let Ok(line) = format!(in alloc; "formatted {size}\n") else {
         return Err(FormatError::NoMemory);
@@ -74,11 +127,16 @@ fn print_size<W: Write>(alloc: Global, size: u64, writer: &mut W) -> Result<(), 
 /// Makes an image file for the schema that a schema file declares, and writes `formatted` and the image's size: what the
 /// program's word `format` does.
 ///
-/// The schema file is read first, and the image file is touched only where it isn't refused. Then an image file that is
-/// there already is emptied. Refused as [`format_image`] says.
-pub fn format_file<F: BackingFile + Read + Drop, R: Files<File = F>, W: Write>(
+/// The schema file is read first, and the image file is touched only where it isn't refused. An image that is there is replaced by the
+/// whole new one or stays, whatever stops this. Refused as [`format_image`] says:
+/// - `InUse`: another process has the image that is there;
+/// - `NotImage`: what is there has bytes and is no image, the schema file for one.
+///
+/// What the system says of a call that fails is noted as trouble.
+pub fn format_file<F: BackingFile + OpenFile + Read + Drop, R: Files<File = F>, W: Write>(
     rt: &R,
     alloc: Global,
+    trouble: &Trouble,
     image_path: &str,
     schema_path: &str,
     lanes: u8,
@@ -86,14 +144,21 @@ pub fn format_file<F: BackingFile + Read + Drop, R: Files<File = F>, W: Write>(
     writer: &mut W,
 ) -> Result<(), FormatError>
     ensures printed { OnOk result (PrintsImage lanes capacity (W.contents writer.old) (W.contents writer.new)) }
-    ensures silent { IfErr result (λ error. IsBeforeFile error → Appends (W.contents writer.old) (W.contents writer.new) []) }
+    ensures silent { IfErr result (λ error. IsSilent error → Appends (W.contents writer.old) (W.contents writer.new) []) }
 {
-    let Ok(mut schema) = fs::open(rt, schema_path) else {
-        return Err(FormatError::Fault);
+    let mut schema = match fs::open(rt, schema_path) {
+        Ok(file) => Watched::new(file, Place::Schema, trouble),
+        Err(error) => {
+            trouble.note(Place::Schema, &error);
+            return Err(FormatError::Fault);
+        }
     };
-    let mut file = NewFile::at(rt, image_path);
+    let mut file = NewFile::at(rt, image_path, trouble);
     match format_image(alloc, &mut schema, &mut file, lanes, capacity, writer) {
         Ok(_) => Ok(()),
-        Err(error) => Err(error),
+        Err(error) => {
+            file.give_up();
+            Err(error)
+        }
     }
 }

@@ -1,37 +1,246 @@
 //! A device in a new file.
-ghost use Rattle.std.specs.Prelude.{◌≡◌, false};
+ghost use Rattle.std.specs.Prelude.{◌≡◌, false, replicate, IfOk};
+ghost use Rattle.file_disk.specs.Mirror.{new_device};
 
+use crate::claiming::{Content, claim, claim_at, content_of};
 use crate::disk_maker::DiskMaker;
-use file_disk::{BackingFile, BufferedDisk, FileError};
+use crate::error::FileFault;
+use crate::trouble::{Place, Trouble};
+use crate::watched::Watched;
+use file_disk::{BackingFile, BufferedDisk};
 use std::alloc::Global;
+use std::fs::{OpenFile, OpenOptions};
+use std::io;
+use std::io::ErrorKind;
+use std::path::Path;
 use std::rt::Files;
 
-/// A file that is to hold a new image. A file that is there already is emptied for it, once a device is asked for.
+/// What stands behind an image's path while a new one is made beside it.
+pub const BESIDE: &str = ".heapctl-new";
+
+/// A file that is to hold a new image, at a path where there is an image, an empty file or none.
+///
+/// The new image is made in a file beside it, which takes its place once it is whole: a stop at any time leaves what was there, or the
+/// new one. Both files are claimed until this is dropped and the new one is closed, so that no other process works on either.
 #[derive(Drop)]
-pub struct NewFile<'a, R> {
+pub struct NewFile<'a, F: Drop, R> {
     rt: &'a R,
     path: &'a str,
+    trouble: &'a Trouble,
     is_used: bool,
+    place: Option<Taken<F>>,
 }
 
-impl<'a, R> NewFile<'a, R> {
-    /// The file at this path. It isn't touched yet.
-    pub fn at(rt: &'a R, path: &'a str) -> NewFile<'a, R>
+// The place that was taken for a new image.
+#[derive(Drop)]
+struct Taken<F: Drop> {
+    // Where the image is to be, behind links, and where it is made.
+    target: String,
+    beside: String,
+    // What was there, which is claimed, and the file in which the new one is made.
+    old: Option<F>,
+    new: F,
+    is_there: bool,
+}
+
+impl<'a, F, R> NewFile<'a, F, R>
+where
+    F: BackingFile + OpenFile + Drop,
+    R: Files<File = F>,
+{
+    /// The file at this path. It isn't touched yet. What the system says of a call that fails is noted as trouble.
+    pub fn at(rt: &'a R, path: &'a str, trouble: &'a Trouble) -> NewFile<'a, F, R>
         ensures { result.is_used ≡ false }
     {
         NewFile {
             rt,
             path,
+            trouble,
             is_used: false,
+            place: None,
+        }
+    }
+
+    /// Removes what was begun beside the path, unless it has taken its place.
+    pub fn give_up(&mut self) {
+        if let Some(taken) = &self.place {
+            if !taken.is_there {
+                let _ = self.rt.remove_file(taken.beside.as_str());
+            }
+        }
+    }
+
+    /// The file that has taken its place; it is claimed. `None` where none has.
+    pub fn into_file(self) -> Option<F> {
+        match self.place {
+            Some(taken) => {
+                if taken.is_there {
+                    Some(taken.new)
+                } else {
+                    None
+                }
+            }
+            None => None,
         }
     }
 }
 
-impl<F: BackingFile + Drop, R: Files<File = F>> DiskMaker<BufferedDisk<F>> for NewFile<'_, R> {
+impl<'a, F, R> DiskMaker<BufferedDisk<Watched<'a, F>>> for NewFile<'a, F, R>
+where
+    F: BackingFile + OpenFile + Drop,
+    R: Files<File = F>,
+{
     ghost is_used = { λ f. f.is_used };
 
-    fn make_disk(&mut self, alloc: Global, size: u64) -> Result<BufferedDisk<F>, FileError> {
+    fn make_disk(
+        &mut self,
+        alloc: Global,
+        size: u64,
+    ) -> Result<BufferedDisk<Watched<'a, F>>, FileFault> {
         self.is_used = true;
-        BufferedDisk::create(self.rt, alloc, self.path, size)
+        let taken = take(self.rt, alloc, self.path, self.trouble)?;
+        let again = taken.new.try_clone();
+        self.place = Some(taken);
+        match again {
+            Ok(file) => filled(alloc, file, size, self.trouble),
+            Err(error) => Err(noted(Place::Beside, &error, self.trouble)),
+        }
+    }
+
+    fn put_in_place(&mut self) -> Result<(), FileFault> {
+        let Some(taken) = &mut self.place else {
+            return Err(FileFault::Fault);
+        };
+        match move_over(self.rt, taken) {
+            Ok(()) => Ok(()),
+            Err(error) => Err(noted(Place::Beside, &error, self.trouble)),
+        }
+    }
+}
+
+fn noted(place: Place, error: &io::Error, trouble: &Trouble) -> FileFault {
+    trouble.note(place, error);
+    FileFault::Fault
+}
+
+// A disk of zeros in this file.
+fn filled<'a, F: BackingFile + Drop>(
+    alloc: Global,
+    file: F,
+    size: u64,
+    trouble: &'a Trouble,
+) -> Result<BufferedDisk<Watched<'a, F>>, FileFault>
+    ensures { IfOk result (λ disk. disk.device ≡ new_device (replicate size 0)) }
+{
+    let watched = Watched::new(file, Place::Image, trouble);
+    match BufferedDisk::filled(alloc, watched, size) {
+        Ok(disk) => Ok(disk),
+        Err(error) => Err(FileFault::from(error)),
+    }
+}
+
+// Takes a place for a new image: what is at the path is claimed, and is an image or has no bytes; the file beside it is claimed too, and
+// what an earlier making that was cut off has left there is taken for the new one.
+fn take<F, R>(rt: &R, alloc: Global, path: &str, trouble: &Trouble) -> Result<Taken<F>, FileFault>
+where
+    F: BackingFile + OpenFile + Drop,
+    R: Files<File = F>,
+{
+    let target = target_of(rt, alloc, path, trouble)?;
+    let Ok(beside) = format!(in alloc; "{target}{BESIDE}") else {
+        return Err(FileFault::NoMemory);
+    };
+    let mut old = claim_at(rt, target.as_str(), trouble)?;
+    if let Some(file) = &mut old {
+        if content_of(file, trouble)? == Content::Other {
+            return Err(FileFault::NotImage);
+        }
+    }
+    let new = begin(rt, beside.as_str(), trouble)?;
+    if old.is_none() && rt.metadata(target.as_str()).is_ok() {
+        // Another process has made one there before this one had the file beside it.
+        let _ = rt.remove_file(beside.as_str());
+        return Err(FileFault::InUse);
+    }
+    if let Some(file) = &old {
+        keep_permissions(file, &new);
+    }
+    Ok(Taken {
+        target,
+        beside,
+        old,
+        new,
+        is_there: false,
+    })
+}
+
+// Where the path leads: a link stays, and what it leads to is replaced.
+fn target_of<R: Files>(
+    rt: &R,
+    alloc: Global,
+    path: &str,
+    trouble: &Trouble,
+) -> Result<String, FileFault> {
+    let found = match rt.canonicalize(alloc, path) {
+        Ok(target) => String::from_str(alloc, target.as_str()),
+        Err(error) => {
+            if error.kind() != ErrorKind::NotFound {
+                return Err(noted(Place::Image, &error, trouble));
+            }
+            String::from_str(alloc, path)
+        }
+    };
+    match found {
+        Ok(target) => Ok(target),
+        Err(_) => Err(FileFault::NoMemory),
+    }
+}
+
+// Opens and claims the file beside an image's path.
+fn begin<F, R>(rt: &R, beside: &str, trouble: &Trouble) -> Result<F, FileFault>
+where
+    F: BackingFile + OpenFile + Drop,
+    R: Files<File = F>,
+{
+    let mut options = OpenOptions::new();
+    options.read(true).write(true).create(true);
+    match options.open(rt, beside) {
+        Ok(file) => match claim(rt, beside, &file, Place::Beside, trouble) {
+            Ok(()) => Ok(file),
+            Err(fault) => Err(fault),
+        },
+        Err(error) => Err(noted(Place::Beside, &error, trouble)),
+    }
+}
+
+// The new file may be read and written by whom the old one may. Where that can't be had, it is as other new files are.
+fn keep_permissions<F: OpenFile>(old: &F, new: &F) {
+    if let Ok(metadata) = old.metadata() {
+        let _ = new.set_permissions(metadata.permissions());
+    }
+}
+
+// The new image, which is durable, takes its place, durably.
+fn move_over<F, R>(rt: &R, taken: &mut Taken<F>) -> io::Result<()>
+where
+    F: BackingFile + Drop,
+    R: Files<File = F>,
+{
+    rt.rename(taken.beside.as_str(), taken.target.as_str())?;
+    taken.is_there = true;
+    let mut options = OpenOptions::new();
+    options.read(true);
+    let mut folder = options.open(rt, folder_of(taken.target.as_str()))?;
+    folder.settle()
+}
+
+// The folder that a path's file is in.
+fn folder_of(path: &str) -> &str {
+    match Path::new(path).parent() {
+        Some(folder) => {
+            let text = folder.as_str();
+            if text.is_empty() { "." } else { text }
+        }
+        None => "/",
     }
 }

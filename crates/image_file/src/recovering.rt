@@ -1,5 +1,5 @@
 //! Recovering an image, and telling what is kept and what is dropped.
-ghost use Rattle.std.specs.Prelude.{◌≡◌, ◌≢◌, ◌⊎◌, [], IfErr, IfOk, OnErr, OnOk};
+ghost use Rattle.std.specs.Prelude.{◌≡◌, ◌≢◌, ◌⊎◌, [], ℕ, List, IfErr, IfOk, OnErr, OnOk};
 ghost use Rattle.std.specs.Io.KnownBytes.{Appends};
 ghost use Rattle.block_disk.specs.Device.{SameMoments, synced};
 ghost use Rattle.block_disk.specs.Images.{LeavesOnly};
@@ -7,16 +7,22 @@ ghost use Rattle.recover.specs.Recovery.{IsOnTheWay, LeavesOnTheWay};
 ghost use Rattle.recover.specs.Study.{IsStudyOf};
 ghost use Rattle.recover.specs.declared.error.RecoverError.TheVariants.{Fault};
 ghost use Rattle.recover.specs.declared.studied.Study.{Study};
+ghost use Rattle.inspect.specs.ReportText.{report_text};
+ghost use Rattle.image_file.specs.declared.error.ImageFault.TheVariants.{Image};
 ghost use Rattle.image_file.specs.Recovering.{Recovers, RefusesReport};
 ghost use Rattle.image_file.specs.Telling.{Tells, TellsLess, report_of};
 
-use crate::refusal::refusal_of_file;
+use crate::claiming::claim_image;
+use crate::error::{FileFault, ImageFault};
+use crate::trouble::{Place, Trouble};
+use crate::watched::Watched;
 use block_disk::Disk;
 use file_disk::{BackingFile, BufferedDisk};
 use image::Recovered;
 use inspect::{WriteError, write_report};
-use recover::{RecoverError, recover};
+use recover::{RecoverError, Report, recover};
 use std::alloc::Global;
+use std::fs::OpenFile;
 use std::io::Write;
 use std::rt::Files;
 
@@ -55,27 +61,77 @@ pub fn recover_image<D: Disk, W: Write>(
     }
 }
 
-/// Recovers the image in a file, and writes the lines of the report: what the program's word `recover` does.
+// What recovery tells of an image, without the device.
+#[derive(Drop)]
+struct Told {
+    report: Report,
+    heap: Vec<u64>,
+    lanes: u8,
+}
+
+// Recovers the image on the device, which is let go.
+fn recovered_of<D: Disk + Drop>(alloc: Global, disk: D) -> Result<Told, RecoverError>
+    ensures { IfOk result (λ told. (s : Study) × IsStudyOf (D.device disk).now.bytes s × (report_text told.report told.heap.items told.lanes ≡ report_of s)) }
+{
+    let (recovered, report) = match recover(alloc, disk) {
+        Ok(found) => found,
+        Err((_, refusal)) => return Err(refusal),
+    };
+    let parts = recovered.into_parts();
+    Ok(Told {
+        report,
+        heap: parts.heap,
+        lanes: parts.layout.lanes,
+    })
+}
+
+/// Recovers the image in a file, and writes the lines of the report: what the program's word `recover` does. The file is claimed while
+/// it may be written, and closed before a line is.
 ///
-/// `Fault` says that the file isn't there or can't be opened for writing, that one of its calls failed, or the writer;
-/// `NoMemory` that there was no memory. The other refusals are those of [`recover`](recover::recover): the file keeps
-/// every byte then. After a `Fault` the image may be recovered again.
-pub fn recover_file<F: BackingFile + Drop, R: Files<File = F>, W: Write>(
+/// `InUse`: another process has the image. `Fault` says that the file isn't there or can't be opened for writing, that one of its calls
+/// failed, or the writer, and what the system says of it is noted as trouble; `NoMemory` that there was no memory. The other refusals
+/// are those of [`recover`](recover::recover): the file keeps every byte then, and of one that doesn't begin as an image no more than
+/// its header is read. After a `Fault` the image may be recovered again.
+pub fn recover_file<F: BackingFile + OpenFile + Drop, R: Files<File = F>, W: Write>(
     rt: &R,
     alloc: Global,
+    trouble: &Trouble,
     image_path: &str,
     writer: &mut W,
-) -> Result<(), RecoverError>
+) -> Result<(), ImageFault>
     ensures printed { OnOk result (Tells report_of (W.contents writer.old) (W.contents writer.new)) }
-    ensures silent { IfErr result (λ error. error ≢ Fault → Appends (W.contents writer.old) (W.contents writer.new) []) }
+    ensures silent { IfErr result (λ error. error ≢ Image Fault → Appends (W.contents writer.old) (W.contents writer.new) []) }
     ensures part { OnErr result (TellsLess report_of (W.contents writer.old) (W.contents writer.new)) }
 {
-    let disk = match BufferedDisk::attach(rt, alloc, image_path) {
-        Ok(disk) => disk,
-        Err(error) => return Err(refusal_of_file(error)),
+    let told = match recovered_at(rt, alloc, trouble, image_path) {
+        Ok(told) => told,
+        Err(fault) => return Err(fault),
     };
-    match recover_image(alloc, disk, writer) {
-        Ok(_) => Ok(()),
-        Err((_, error)) => Err(error),
+    match write_report(&told.report, &told.heap, told.lanes, writer) {
+        Ok(()) => Ok(()),
+        Err(WriteError) => Err(ImageFault::Image(RecoverError::Fault)),
+    }
+}
+
+// Recovers the image in the file at this path, which is closed then.
+fn recovered_at<F: BackingFile + OpenFile + Drop, R: Files<File = F>>(
+    rt: &R,
+    alloc: Global,
+    trouble: &Trouble,
+    image_path: &str,
+) -> Result<Told, ImageFault>
+    ensures { IfOk result (λ told. (image : List ℕ) × (s : Study) × IsStudyOf image s × (report_text told.report told.heap.items told.lanes ≡ report_of s)) }
+{
+    let file = match claim_image(rt, image_path, trouble) {
+        Ok(file) => Watched::new(file, Place::Image, trouble),
+        Err(fault) => return Err(ImageFault::from(fault)),
+    };
+    let disk = match BufferedDisk::found(alloc, file) {
+        Ok(disk) => disk,
+        Err(error) => return Err(ImageFault::from(FileFault::from(error))),
+    };
+    match recovered_of(alloc, disk) {
+        Ok(told) => Ok(told),
+        Err(error) => Err(ImageFault::Image(error)),
     }
 }

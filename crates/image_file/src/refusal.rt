@@ -2,22 +2,11 @@
 ghost use Rattle.std.specs.Prelude.{◌≡◌, ◌≢◌};
 ghost use Rattle.std.specs.IoError.{error_kind};
 ghost use Rattle.recover.specs.declared.error.RecoverError.TheVariants.{Fault, NoMemory};
-ghost use Rattle.image_file.specs.Showing.{IsUnread, told_of_attaching, told_of_inspection};
+ghost use Rattle.image_file.specs.Showing.{IsUnread, told_of_inspection};
 
-use file_disk::FileError;
 use inspect::InspectError;
 use recover::RecoverError;
 use std::io::{Error, ErrorKind};
-
-/// There is no device over the image file.
-pub(crate) fn refusal_of_file(error: FileError) -> RecoverError
-    ensures { result ≡ told_of_attaching error }
-{
-    match error {
-        FileError::Fault => RecoverError::Fault,
-        FileError::NoMemory => RecoverError::NoMemory,
-    }
-}
 
 /// The image could not be read.
 pub(crate) fn refusal_of_reading(error: &Error) -> RecoverError

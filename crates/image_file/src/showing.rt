@@ -3,15 +3,18 @@ ghost use Rattle.std.specs.Prelude.{◌≡◌, ◌≢◌, [], IfErr, OnErr, OnOk
 ghost use Rattle.std.specs.Io.KnownBytes.{Appends};
 ghost use Rattle.inspect.specs.StudyText.{study_text};
 ghost use Rattle.recover.specs.declared.error.RecoverError.TheVariants.{Fault};
+ghost use Rattle.image_file.specs.declared.error.ImageFault.TheVariants.{Image};
 ghost use Rattle.image_file.specs.Showing.{RefusesToShow, Shows};
 ghost use Rattle.image_file.specs.Telling.{Tells, TellsLess};
 
-use crate::reading::read_image;
+use crate::error::ImageFault;
+use crate::reading::{open_to_read, read_image};
 use crate::refusal::refusal_of_inspection;
+use crate::trouble::Trouble;
+use file_disk::BackingFile;
 use inspect::inspect;
 use recover::RecoverError;
 use std::alloc::Global;
-use std::fs;
 use std::io::{Read, Write};
 use std::rt::Files;
 
@@ -39,20 +42,26 @@ pub fn show_image<S: Read, W: Write>(
 /// Writes what the image in a file holds, line by line: what the program's word `show` does. The file is opened for
 /// reading alone.
 ///
-/// `Fault` says that the file isn't there or can't be opened, that one of its calls failed, or the writer. Refused as
-/// [`show_image`] says.
-pub fn show_file<F: Read + Drop, R: Files<File = F>, W: Write>(
+/// `InUse`: a process that may write it has the image. `Fault` says that the file isn't there or can't be opened, that one of its calls
+/// failed, or the writer; what the system says of it is noted as trouble. Refused as [`show_image`] says, and by the header alone where
+/// the file doesn't begin as an image.
+pub fn show_file<F: BackingFile + Read + Drop, R: Files<File = F>, W: Write>(
     rt: &R,
     alloc: Global,
+    trouble: &Trouble,
     image_path: &str,
     writer: &mut W,
-) -> Result<(), RecoverError>
+) -> Result<(), ImageFault>
     ensures printed { OnOk result (Tells study_text (W.contents writer.old) (W.contents writer.new)) }
-    ensures silent { IfErr result (λ error. error ≢ Fault → Appends (W.contents writer.old) (W.contents writer.new) []) }
+    ensures silent { IfErr result (λ error. error ≢ Image Fault → Appends (W.contents writer.old) (W.contents writer.new) []) }
     ensures part { OnErr result (TellsLess study_text (W.contents writer.old) (W.contents writer.new)) }
 {
-    let Ok(mut file) = fs::open(rt, image_path) else {
-        return Err(RecoverError::Fault);
+    let mut reader = match open_to_read(rt, alloc, image_path, trouble) {
+        Ok(reader) => reader,
+        Err(fault) => return Err(ImageFault::from(fault)),
     };
-    show_image(alloc, &mut file, writer)
+    match show_image(alloc, &mut reader, writer) {
+        Ok(()) => Ok(()),
+        Err(error) => Err(ImageFault::Image(error)),
+    }
 }

@@ -2,8 +2,10 @@
 mod recovered;
 
 use declarations::{SchemaFault, SchemaFaultKind};
-use image_file::{FormatError, format_file};
+use file_disk::{BackingFile, Claim};
+use image_file::{FormatError, Trouble, format_file};
 use std::fs;
+use std::fs::OpenOptions;
 
 const SCHEMA: &str = "\
 object o0
@@ -26,7 +28,16 @@ fn format_there(
 ) -> (Result<(), FormatError>, bool) {
     let alloc = rt.alloc();
     let mut writer = Vec::new(alloc);
-    let made = format_file(rt, alloc, image, schema, 2, 4000, &mut writer);
+    let made = format_file(
+        rt,
+        alloc,
+        &Trouble::none(),
+        image,
+        schema,
+        2,
+        4000,
+        &mut writer,
+    );
     (made, writer.as_slice() == lines)
 }
 
@@ -68,4 +79,51 @@ fn a_refused_schema_makes_no_file(rt: HostRuntime) {
     let refused = (Err(FormatError::Schema(fault)), true, true);
     let missing = (Err(FormatError::Fault), true, true);
     assert!(rt; told_of_unmade(&rt) == Some([refused, missing]));
+}
+
+// What is answered to making an image over other bytes, whether nothing is written, and whether they stay; and over the schema file
+// itself, by another spelling.
+fn told_of_other_bytes(rt: &HostRuntime) -> Option<[(Result<(), FormatError>, bool, bool); 2]> {
+    fs::write(rt, "schema_too", SCHEMA).ok()?;
+    fs::write(rt, "notes", "my notes, of a year").ok()?;
+    let (notes, is_silent) = format_there(rt, "notes", "schema_too", b"");
+    let notes_stay = fs::read(rt, "notes").ok()?.as_slice() == b"my notes, of a year".as_slice();
+    let (same, is_silent_too) = format_there(rt, "./schema_too", "schema_too", b"");
+    let schema_stays = fs::read(rt, "schema_too").ok()?.as_slice() == SCHEMA.as_bytes();
+    Some([
+        (notes, is_silent, notes_stay),
+        (same, is_silent_too, schema_stays),
+    ])
+}
+
+#[test]
+fn other_bytes_are_never_replaced(rt: HostRuntime) {
+    let refused = (Err(FormatError::NotImage), true, true);
+    assert!(rt; told_of_other_bytes(&rt) == Some([refused; 2]));
+}
+
+// Whether making an image is refused while another open has claimed the one that is there, whose bytes stay; and done after that.
+fn told_of_claimed(rt: &HostRuntime) -> Option<[bool; 3]> {
+    fs::write(rt, "schema_of_claimed", SCHEMA).ok()?;
+    let lines = b"formatted 130208\n";
+    let (made, _) = format_there(rt, "claimed", "schema_of_claimed", lines);
+    let before = fs::read(rt, "claimed").ok()?;
+    let mut options = OpenOptions::new();
+    let other = options.read(true).write(true).open(rt, "claimed").ok()?;
+    let is_claimed = other.claim(Claim::Alone).ok()?;
+    let (refused, is_silent) = format_there(rt, "claimed", "schema_of_claimed", b"");
+    let is_in_use = refused == Err(FormatError::InUse) && is_silent;
+    let stays = fs::read(rt, "claimed").ok()?.as_slice() == before.as_slice();
+    drop(other);
+    let (again, _) = format_there(rt, "claimed", "schema_of_claimed", lines);
+    Some([
+        made.is_ok() && is_claimed,
+        is_in_use && stays,
+        again.is_ok() && fs::metadata(rt, "claimed.heapctl-new").is_err(),
+    ])
+}
+
+#[test]
+fn an_image_that_another_has_is_left_alone(rt: HostRuntime) {
+    assert!(rt; told_of_claimed(&rt) == Some([true; 3]));
 }

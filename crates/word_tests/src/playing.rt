@@ -2,11 +2,11 @@
 
 use command_words::{Words, read_words};
 use commands::obey;
-use drive_command::{Progress, drive};
 use file_disk::BackingFile;
+use image_file::Trouble;
 use std::alloc::{AllocError, Global};
 use std::fs;
-use std::fs::Files;
+use std::fs::{Files, OpenFile};
 use std::io::Read;
 use std::sync::Wait;
 use std::test::Fail;
@@ -34,7 +34,7 @@ fn with_name(alloc: Global, words: &[&str]) -> Result<Vec<String>, AllocError> {
 /// What the words write, with this script on standard input; `None` where they end with a fault.
 pub fn play<F, R>(rt: &R, words: &[&str], script: &str) -> Result<Option<Vec<u8>>, Fail>
 where
-    F: BackingFile + Read + Drop,
+    F: BackingFile + OpenFile + Read + Drop,
     R: Files<File = F> + AllocGlobal + Eprint + Threads + Wait + Sync,
 {
     let alloc = rt.alloc();
@@ -50,26 +50,17 @@ where
 // Whether it is done what the words ask for.
 fn is_done<F, R>(rt: &R, asked: Words<'_>, script: &str, written: &mut Vec<u8>) -> bool
 where
-    F: BackingFile + Read + Drop,
+    F: BackingFile + OpenFile + Read + Drop,
     R: Files<File = F> + AllocGlobal + Eprint + Threads + Wait + Sync,
 {
-    if let Words::Drive {
-        workers,
-        rounds,
-        image,
-    } = asked
-    {
-        let progress = Progress::new(rt, false, workers, rounds);
-        return drive(rt, &progress, workers, rounds, image, written).is_ok();
-    }
     let mut reader = script.as_bytes();
-    obey(rt, asked, &mut reader, written).is_ok()
+    obey(rt, false, &Trouble::none(), asked, &mut reader, written).is_ok()
 }
 
 /// Whether the words write this, and end well.
 pub fn writes<F, R>(rt: &R, words: &[&str], text: &[u8]) -> Result<bool, Fail>
 where
-    F: BackingFile + Read + Drop,
+    F: BackingFile + OpenFile + Read + Drop,
     R: Files<File = F> + AllocGlobal + Eprint + Threads + Wait + Sync,
 {
     let written = play(rt, words, "")?;
@@ -82,7 +73,7 @@ where
 /// Makes an image of two lanes in a file, and tells whether its size was written.
 pub fn is_made<F, R>(rt: &R, image: &str, schema: &str) -> Result<bool, Fail>
 where
-    F: BackingFile + Read + Drop,
+    F: BackingFile + OpenFile + Read + Drop,
     R: Files<File = F> + AllocGlobal + Eprint + Threads + Wait + Sync,
 {
     fs::write(rt, schema, SCHEMA)?;

@@ -5,7 +5,7 @@ use declarations::read_schema;
 use durable::{Store, StoreCall};
 use guards::Schema;
 use heap_model::{FieldId, Lane, ObjectId, Record};
-use image_file::{FormatError, draw_file, recover_file, show_file};
+use image_file::{FormatError, ImageFault, Trouble, draw_file, recover_file, show_file};
 use recover::RecoverError;
 use std::alloc::Global;
 use std::io::Write;
@@ -17,23 +17,23 @@ heap 10 20
 ";
 
 // What a word of the program answers, and whether it writes these lines.
-type Answer = (Result<(), RecoverError>, bool);
+type Answer = (Result<(), ImageFault>, bool);
 
 fn recover_there(rt: &HostRuntime, image: &str, lines: &[u8]) -> Answer {
     let mut writer = Vec::new(rt.alloc());
-    let answer = recover_file(rt, rt.alloc(), image, &mut writer);
+    let answer = recover_file(rt, rt.alloc(), &Trouble::none(), image, &mut writer);
     (answer, writer.as_slice() == lines)
 }
 
 fn show_there(rt: &HostRuntime, image: &str, lines: &[u8]) -> Answer {
     let mut writer = Vec::new(rt.alloc());
-    let answer = show_file(rt, rt.alloc(), image, &mut writer);
+    let answer = show_file(rt, rt.alloc(), &Trouble::none(), image, &mut writer);
     (answer, writer.as_slice() == lines)
 }
 
 fn draw_there(rt: &HostRuntime, image: &str, lines: &[u8]) -> Answer {
     let mut writer = Vec::new(rt.alloc());
-    let answer = draw_file(rt, rt.alloc(), image, &mut writer);
+    let answer = draw_file(rt, rt.alloc(), &Trouble::none(), image, &mut writer);
     (answer, writer.as_slice() == lines)
 }
 
@@ -45,7 +45,7 @@ fn file_round_there(
     (
         (Result<(), FormatError>, bool),
         [Answer; 3],
-        Result<(), RecoverError>,
+        Result<(), ImageFault>,
     ),
 > {
     fs::write(rt, "schema", SCHEMA).ok()?;
@@ -186,7 +186,7 @@ fn is_refused(rt: &HostRuntime, bytes: &[u8], why: RecoverError) -> bool {
         show_there(rt, "refused", b""),
         draw_there(rt, "refused", b""),
     ];
-    answers == [(Err(why), true); 3] && has(rt, "refused", bytes)
+    answers == [(Err(ImageFault::Image(why)), true); 3] && has(rt, "refused", bytes)
 }
 
 // Whether the file has these bytes.
@@ -254,7 +254,7 @@ fn told_of_missing(rt: &HostRuntime) -> ([Answer; 3], bool) {
 
 #[test]
 fn a_missing_file_is_a_fault(rt: HostRuntime) {
-    let fault = (Err(RecoverError::Fault), true);
+    let fault = (Err(ImageFault::Image(RecoverError::Fault)), true);
     assert!(rt; told_of_missing(&rt) == ([fault; 3], true));
 }
 
@@ -280,14 +280,14 @@ impl Write for OneLine {
 
 // What is answered where the writer fails behind a line, to showing and to recovering; whether that line is the first of the
 // report; and what is answered to recovering it again.
-fn told_of_half(rt: &HostRuntime) -> Option<([Result<(), RecoverError>; 2], bool, Answer)> {
+fn told_of_half(rt: &HostRuntime) -> Option<([Result<(), ImageFault>; 2], bool, Answer)> {
     fs::write(rt, "half_told", crashed(rt)?.bytes()).ok()?;
     let mut writer = OneLine {
         taken: Vec::new(rt.alloc()),
     };
-    let shown = show_file(rt, rt.alloc(), "half_told", &mut writer);
+    let shown = show_file(rt, rt.alloc(), &Trouble::none(), "half_told", &mut writer);
     writer.taken.clear();
-    let recovered = recover_file(rt, rt.alloc(), "half_told", &mut writer);
+    let recovered = recover_file(rt, rt.alloc(), &Trouble::none(), "half_told", &mut writer);
     let is_first = writer.taken.as_slice() == b"kept 0 0\n".as_slice();
     let again = recover_there(rt, "half_told", NOTHING_UNDONE);
     Some(([shown, recovered], is_first, again))
@@ -296,6 +296,6 @@ fn told_of_half(rt: &HostRuntime) -> Option<([Result<(), RecoverError>; 2], bool
 // The image is recovered all the same.
 #[test]
 fn a_writer_that_fails_is_a_fault(rt: HostRuntime) {
-    let faults = [Err(RecoverError::Fault); 2];
+    let faults = [Err(ImageFault::Image(RecoverError::Fault)); 2];
     assert!(rt; told_of_half(&rt) == Some((faults, true, (Ok(()), true))));
 }

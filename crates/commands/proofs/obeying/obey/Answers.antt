@@ -52,3 +52,10 @@ returns-in-Recover o c =
     subst (λ (w : Words). Obeys w c.on_image-in-Recover.result read read written now) (sym c.in-Recover.is)
     (subst (λ (r : Result (Unit {0}) WorkFault). TellsOf report_of r written now) (sym c.on_image-in-Recover.ensures)
     (told report_of c.recover_file.result written now c.recover_file.ensures.printed c.recover_file.ensures.part))
+
+pub returns-in-Drive : goal.returns-in-Drive
+returns-in-Drive o c =
+    let read = o.S.Read.remaining c.args.reader.now in
+    let written = o.W.Write.contents c.args.writer.now in
+    let now = o.W.Write.contents c.drive.new.writer in
+    subst (λ (w : Words). Obeys w c.drive.result read read written now) (sym c.in-Drive.is) c.drive.ensures

@@ -1,19 +1,10 @@
-use Rattle.std.proofs.Common.{ap, ◌∙◌, replicate}
-use Rattle.file_disk.specs.Mirror.{new_device}
-use Rattle.image.specs.Calls.{after}
-use Rattle.image.specs.Format.{format_calls}
-use Rattle.image_file.proofs.FormatLemmas.{sizes_agree}
+use Rattle.image_file.proofs.FormatLemmas.{not_made}
 use Rattle.image_file.proofs.format.format_image.Goals as goal
 
 pub returns-in-Ok-print_size-clause-ok : goal.returns-in-Ok-print_size-clause-ok
 returns-in-Ok-print_size-clause-ok g c =
-    let schema = c.in_ok-schema.schema in
-    let made = c.in-Ok.made in
-    let same = sizes_agree schema c.args.lanes c.args.capacity c.in-Some.layout made.layout c.in-Some.ensures.schema c.in-Some.ensures.lanes c.in-Some.ensures.capacity c.in-Ok.ensures.layout in
-    record {
-      schema = schema;
-      declares = c.in_ok-schema.ensures.ok;
-      limits = c.in-Ok.ensures.limits;
-      layout_is = c.in-Ok.ensures.layout;
-      made = c.in-Ok.ensures.calls ∙ ap (after (format_calls made.layout schema)) (c.in_ok-disk.ensures.ok ∙ ap (λ n. new_device (replicate n 0)) (c.size-size.ensures ∙ same));
-    }
+    record { schema = c.in_ok-schema.schema; declares = c.in_ok-schema.ensures.ok; image = c.in-Ok.ensures.ok }
+
+pub returns-in-Err-clause-refused : goal.returns-in-Err-clause-refused
+returns-in-Err-clause-refused g c =
+    not_made _ _ c.args.lanes c.args.capacity c.in_ok-schema.schema c.in-Err.error c.in_ok-schema.ensures.ok c.in-Err.ensures.bad_header

@@ -1,6 +1,32 @@
+use Rattle.std.proofs.Common.{ℕ, List, ◌∙◌, ap, inr, subst}
+use Rattle.std.specs.Io.KnownBytes.{Appends}
+use Rattle.inspect.specs.ReportText.{report_text}
+use Rattle.inspect.specs.Written.{AppendsPart}
 use Rattle.image_file.proofs.recovering.recover_file.Goals as goal
 
-pub returns-in-Ok-recover_image-clause-printed : goal.returns-in-Ok-recover_image-clause-printed
-returns-in-Ok-recover_image-clause-printed g c =
-    let told = c.in-Ok-recover_image.ensures.ok in
-    (c.in-Ok.disk.device.now.bytes, record { study = told.recovery.study; studied = told.recovery.of; written = told.written })
+pub returns-in-Ok-write_report-clause-printed : goal.returns-in-Ok-write_report-clause-printed
+returns-in-Ok-write_report-clause-printed g c =
+    let told = c.in-Ok.told in
+    let found = c.in-Ok.ensures in
+    let text = ap (λ h. report_text told.report h told.lanes) c.deref.ensures.value ∙ found.3 in (
+      found.0,
+      record {
+        study = found.1;
+        studied = found.2;
+        written = subst (λ (lines : List ℕ). Appends (g.W.Write.contents c.args.writer.now) (g.W.Write.contents c.write_report.new.writer) lines) text c.in-Ok-write_report.ensures.ok;
+      },
+    )
+
+pub returns-clause-part : goal.returns-clause-part
+returns-clause-part g c =
+    let told = c.in-Ok.told in
+    let found = c.in-Ok.ensures in
+    let text = ap (λ h. report_text told.report h told.lanes) c.deref.ensures.value ∙ found.3 in
+    inr (
+      found.0,
+      record {
+        study = found.1;
+        studied = found.2;
+        written = subst (λ (lines : List ℕ). AppendsPart (g.W.Write.contents c.args.writer.now) (g.W.Write.contents c.write_report.new.writer) lines) text c.in-Err-write_report.ensures.part;
+      },
+    )

@@ -1,0 +1,146 @@
+//! Image files that one open has at a time.
+
+use crate::error::FileFault;
+use crate::trouble::{Place, Trouble};
+use file_disk::{BackingFile, Claim};
+use std::fs::{OpenFile, OpenOptions};
+use std::io;
+use std::io::ErrorKind;
+use std::os::unix::fs::MetadataExt;
+use std::rt::Files;
+
+/// What a file has, by its length and its first bytes.
+#[derive(Clone, Copy, Debug, PartialEq, Eq)]
+pub enum Content {
+    /// No bytes.
+    Nothing,
+    /// What an image begins with: its name and an open gate.
+    Image,
+    /// Other bytes; or it is no regular file.
+    Other,
+}
+
+// What the system says where there is no file (ENOENT).
+const NO_FILE: i32 = 2;
+
+// How many bytes a header has, and those that it begins with.
+const HEADER_BYTES: usize = 64;
+
+const FORMATTED: [u8; 9] = *b"MONIHEAP\xa5";
+
+/// Whether these first bytes of a file are what an image begins with (docs/FORMAT.md, "Header").
+pub(crate) fn begins_as_image(head: &[u8]) -> bool {
+    head.len() >= HEADER_BYTES && head[..9] == FORMATTED[..]
+}
+
+/// What a file has. No more than its header is read.
+pub fn content_of<F: BackingFile + OpenFile>(
+    file: &mut F,
+    trouble: &Trouble,
+) -> Result<Content, FileFault> {
+    match read_content(file) {
+        Ok(content) => Ok(content),
+        Err(error) => {
+            trouble.note(Place::Image, &error);
+            Err(FileFault::Fault)
+        }
+    }
+}
+
+fn read_content<F: BackingFile + OpenFile>(file: &mut F) -> io::Result<Content> {
+    if !file.metadata()?.is_file() {
+        return Ok(Content::Other);
+    }
+    let len = file.len()?;
+    if len == 0 {
+        return Ok(Content::Nothing);
+    }
+    let mut head = [0; HEADER_BYTES];
+    if len < HEADER_BYTES as u64 {
+        return Ok(Content::Other);
+    }
+    file.read_from(0, &mut head)?;
+    if begins_as_image(&head) {
+        Ok(Content::Image)
+    } else {
+        Ok(Content::Other)
+    }
+}
+
+/// Opens the file at this path for reading and writing, and claims it for this open alone. `None` where there is no file.
+///
+/// `InUse`: another open has claimed it; or it isn't at this path any more, since another process has replaced it in between: what
+/// would be written there would be lost.
+pub fn claim_at<F, R>(rt: &R, path: &str, trouble: &Trouble) -> Result<Option<F>, FileFault>
+where
+    F: BackingFile + OpenFile + Drop,
+    R: Files<File = F>,
+{
+    let mut options = OpenOptions::new();
+    options.read(true).write(true);
+    match options.open(rt, path) {
+        Ok(file) => match claim(rt, path, &file, Place::Image, trouble) {
+            Ok(()) => Ok(Some(file)),
+            Err(fault) => Err(fault),
+        },
+        Err(error) => {
+            if error.kind() == ErrorKind::NotFound {
+                return Ok(None);
+            }
+            trouble.note(Place::Image, &error);
+            Err(FileFault::Fault)
+        }
+    }
+}
+
+/// Opens the image file at this path for reading and writing, and claims it for this open alone. It begins as an image; no more than
+/// its header was read.
+pub(crate) fn claim_image<F, R>(rt: &R, path: &str, trouble: &Trouble) -> Result<F, FileFault>
+where
+    F: BackingFile + OpenFile + Drop,
+    R: Files<File = F>,
+{
+    let Some(mut file) = claim_at(rt, path, trouble)? else {
+        trouble.note(Place::Image, &io::Error::from_raw_os_error(NO_FILE));
+        return Err(FileFault::Fault);
+    };
+    match content_of(&mut file, trouble)? {
+        Content::Image => Ok(file),
+        Content::Nothing | Content::Other => Err(FileFault::NotImage),
+    }
+}
+
+/// Claims a file that was opened at this path for this open alone.
+pub(crate) fn claim<F, R>(
+    rt: &R,
+    path: &str,
+    file: &F,
+    place: Place,
+    trouble: &Trouble,
+) -> Result<(), FileFault>
+where
+    F: BackingFile + OpenFile,
+    R: Files<File = F>,
+{
+    match file.claim(Claim::Alone) {
+        Ok(true) => {}
+        Ok(false) => return Err(FileFault::InUse),
+        Err(error) => {
+            trouble.note(place, &error);
+            return Err(FileFault::Fault);
+        }
+    }
+    if is_at(rt, path, file) {
+        Ok(())
+    } else {
+        Err(FileFault::InUse)
+    }
+}
+
+// Whether the path leads to this file.
+fn is_at<F: OpenFile, R: Files<File = F>>(rt: &R, path: &str, file: &F) -> bool {
+    match (rt.metadata(path), file.metadata()) {
+        (Ok(there), Ok(here)) => there.dev() == here.dev() && there.ino() == here.ino(),
+        _ => false,
+    }
+}
