@@ -123,6 +123,25 @@ static void *pass(void *data) {
     return NULL;
 }
 
+/* A thread that never awaits finds room again and again, and its last section is durable in time. */
+static void unawaited(void) {
+    zelamiku_thread own;
+    struct timespec nap = {0, 1000000};
+    begin_anew();
+    MUST(zelamiku_thread_begin(&own, &all) == ZELAMIKU_OK);
+    for (unsigned i = 0; i < 20000; i++) add(&own, TOTAL, 0, 1);
+    for (unsigned i = 0; zelamiku_thread_durable(&own) < 20000; i++) {
+        MUST(i < 20000);
+        nanosleep(&nap, NULL);
+    }
+    add(&own, TOTAL, 0, 1);
+    for (unsigned i = 0; zelamiku_thread_durable(&own) < 20001; i++) {
+        MUST(i < 20000);
+        nanosleep(&nap, NULL);
+    }
+    MUST(zelamiku_threads_stop(&all) == ZELAMIKU_OK);
+}
+
 static void lives(void) {
     begin_anew();
     run(count, LANES);
@@ -139,8 +158,9 @@ static void *wait_once(void *data) {
     MUST(zelamiku_thread_enter(&own, TOTAL) == ZELAMIKU_OK && zelamiku_thread_store(&own, 0, 1) == ZELAMIKU_OK);
     uint32_t status = zelamiku_thread_wait(&own, TOTAL);
     if (status != ZELAMIKU_OK) return (void *)(uintptr_t)status;
-    MUST(zelamiku_thread_exit(&own, TOTAL) == ZELAMIKU_OK && zelamiku_thread_exit(&own, TOTAL) == ZELAMIKU_OK);
-    MUST(zelamiku_thread_exit(&own, TOTAL) == ZELAMIKU_NOT_HELD);
+    /* By both locks. */
+    MUST(zelamiku_thread_exit(&own, TOTAL) == ZELAMIKU_OK && zelamiku_thread_sections(&own) == 1);
+    MUST(zelamiku_thread_exit(&own, TOTAL) == ZELAMIKU_OK && zelamiku_thread_exit(&own, TOTAL) == ZELAMIKU_NOT_HELD);
     MUST(zelamiku_thread_sections(&own) == 2 && zelamiku_thread_await(&own) == ZELAMIKU_OK);
     MUST(zelamiku_thread_end(&own) == ZELAMIKU_OK);
     (void)data;
@@ -265,6 +285,7 @@ int main(int argc, char **argv) {
     file = open("threads.image", O_RDWR | O_CREAT | O_TRUNC, 0644);
     MUST(file >= 0);
     lives();
+    unawaited();
     refusals();
     failing_writes();
     failing_syncs();

@@ -129,6 +129,20 @@ fn sessions_come_and_go() {
 }
 
 #[test]
+fn a_lanes_next_session_counts_its_own_sections() {
+    let scratch = Scratch::new("own");
+    // No round but those that are asked for.
+    let heap = counters(1).linger(Duration::from_secs(3_600)).open(&scratch.0).unwrap();
+    for _ in 0..3 {
+        let mut session = heap.session().unwrap();
+        count(&mut session, 0);
+        assert!(!session.is_durable(1));
+        session.durable().unwrap();
+        assert!(session.is_durable(1));
+    }
+}
+
+#[test]
 fn producers_and_consumers_wait_and_notify() {
     const LIST: u32 = 0;
     const COUNT: u32 = 0;
