@@ -5,4 +5,6 @@
 #[cfg(test)]
 mod races;
 #[cfg(test)]
+mod witnessing;
+#[cfg(test)]
 mod words;
