@@ -5,7 +5,7 @@ ghost use Rattle.guards.specs.Schema.{object_count, field_count, names_of, owner
 ghost use Rattle.guards.specs.Tables.{declared_by};
 
 use crate::field_row::FieldRow;
-use crate::fields::{field_number, row_at};
+use crate::fields::{field_name_at, field_number, row_at};
 use crate::names::{name_at, number_named};
 use heap_model::{FieldId, ObjectId};
 use indexmap::IndexMap;
@@ -86,6 +86,14 @@ impl Schema {
         ensures { slice_get self.now.objects object.0 ≡ Some result.now }
     {
         name_at(&self.objects, object.0 as usize)
+    }
+
+    /// The name of the field.
+    pub fn field_name(&self, field: FieldId) -> &str
+        requires { field.0 < field_count self.now }
+        ensures { slice_get (names_of self.now.fields) field.0 ≡ Some result.now }
+    {
+        field_name_at(&self.fields, field.0 as usize)
     }
 
     /// The object of this name.
