@@ -8,7 +8,6 @@ use Rattle.declarations.specs.declared.schema_fault.SchemaFaultKind.{SchemaFault
 use Rattle.declarations.specs.declared.schema_fault.SchemaFaultKind.TheVariants as kinds
 use Rattle.script_lines.specs.Grammar.{Asks}
 use Rattle.script_lines.specs.Lines.{IsText, IsSkipped, AsksOnly, HasFault}
-use Rattle.script_lines.specs.Orders as order
 use Rattle.script_lines.specs.Orders.{Order, order_of}
 use Rattle.script_lines.specs.declared.command.Command.{Command}
 use Rattle.declarations.specs.SchemaFiles.{declares, RefusesDeclaration, RefusesLine}

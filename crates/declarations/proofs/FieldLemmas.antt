@@ -1,5 +1,5 @@
 -- A field's declaration, as the lines of a script tell it.
-use Rattle.std.proofs.Common.{◌≡◌, ◌≢◌, ℕ, ◌<◌, ◌≤◌, ◌↔◌, ◌⊎◌, inl, inr, List, [], Contains, slice_get, Some, Result, Ok, Err, IfOk, OnErr, MatchResult, IsErrOf, refl, sym, ap, ◌∙◌, subst, arith}
+use Rattle.std.proofs.Common.{◌≡◌, ◌≢◌, ℕ, ◌<◌, ◌≤◌, ◌↔◌, ◌⊎◌, inl, inr, List, [], Contains, slice_get, Some, Result, Ok, Err, IfOk, OnErr, MatchResult, IsErrOf, refl, ap, ◌∙◌, subst, arith}
 use Rattle.std.proofs.lemmas.Option.{slice_get_within}
 use Rattle.std.specs.declared.alloc.AllocError.{AllocError}
 use Rattle.guards.specs.Schema.{Declarations, object_count, field_count, names_of, field_of, with_field, IsNewName}

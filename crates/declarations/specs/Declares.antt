@@ -1,5 +1,5 @@
 -- What a declaration makes of what was declared, and which are refused, and why (docs/SCRIPTS.md, "Lines" and "Refusals").
-use Rattle.std.specs.Prelude.{ℕ, ◌≡◌, ◌≢◌, List, [], Some, Contains, slice_get}
+use Rattle.std.specs.Prelude.{ℕ, ◌≡◌, List, [], Some, Contains, slice_get}
 use Rattle.guards.specs.Schema.{Declarations, object_count, field_count, names_of, with_object, with_field}
 use Rattle.heap_model.specs.declared.limits.TheConstants.{MOST_OBJECTS, MOST_FIELDS}
 use Rattle.script_lines.specs.Orders.{Order}

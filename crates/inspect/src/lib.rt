@@ -2,7 +2,7 @@
 //!
 //! [`inspect`] reads an image and writes what it holds, line by line; [`draw`] writes its sections and dependences as a graph.
 //! [`write_study`] and [`write_graph`] write the same of a [`recover::Study`], and [`write_report`] the lines of a
-//! [`recover::Report`]. [`put_list`] writes a line of numbers as these texts have it. All write in small pieces; a fault of the
+//! [`recover::Report`]. [`put_line`] and [`put_list`] write a line as these texts have it. All write in small pieces; a fault of the
 //! writer leaves a beginning of the text.
 #![tactic(auto)]
 
@@ -26,6 +26,6 @@ mod writer;
 pub use error::{InspectError, ShowError, WriteError};
 pub use graph::write_graph;
 pub use inspecting::{draw, inspect};
-pub use pieces::put_list;
+pub use pieces::{Piece, put_line, put_list};
 pub use report_lines::write_report;
 pub use study_lines::write_study;

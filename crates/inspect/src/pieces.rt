@@ -11,15 +11,15 @@ use std::io::Write;
 
 /// A piece of a line.
 #[derive(Clone, Copy, Debug, PartialEq, Eq)]
-pub(crate) enum Piece<'a> {
+pub enum Piece<'a> {
     /// These words.
     Words(&'a str),
     /// A number, in decimal.
     Number(u64),
 }
 
-/// Writes a line of these pieces.
-pub(crate) fn put_line<W: Write>(writer: &mut W, pieces: &[Piece<'_>]) -> Result<(), WriteError>
+/// Writes a line of these pieces. After an error a beginning of it is written.
+pub fn put_line<W: Write>(writer: &mut W, pieces: &[Piece<'_>]) -> Result<(), WriteError>
     ensures ok { OnOk result (Appends (W.contents writer.old) (W.contents writer.new) (line_text pieces.now)) }
     ensures part { OnErr result (AppendsPart (W.contents writer.old) (W.contents writer.new) (line_text pieces.now)) }
 {

@@ -1,6 +1,6 @@
 mod TermLemmas
-mod WordLemmas
-mod AskLemmas
+pub mod WordLemmas
+pub mod AskLemmas
 mod LineLemmas
 mod CutLemmas
 mod FaultLemmas

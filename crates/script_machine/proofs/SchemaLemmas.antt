@@ -28,6 +28,7 @@ use Rattle.recover.specs.Study.{IsStudyOf}
 use Rattle.recover.specs.declared.studied.Study.{Study}
 use Rattle.script_machine.specs.declared.answer.Report.{Report}
 use Rattle.script_machine.specs.Agreement.{BeginsWith, setting_from}
+use Rattle.script_machine.specs.Images.{DiskLaw}
 use Rattle.script_machine.specs.OfSchema.{FitsSchema, IsDiskOf, IsOfSchema}
 use Rattle.script_machine.specs.Reports.{Restores}
 use Rattle.script_machine.proofs.AgreementLemmas.{begins-with}
@@ -120,6 +121,10 @@ made_of schema l size y is enough made image left m rows front =
 
 studied_of : (schema : Declarations) (image : List ℕ) (s : Study) → FitsSchema schema s.layout s.guards.items → IsStudyOf image s → IsOfSchema schema image
 studied_of schema image s fits of = front_fits schema image s.layout s.guards.items of.holds.control.front fits
+
+-- a disk that was made of an image and only read since
+pub disk_of : DiskLaw
+disk_of schema image s disk of fits same = same_of schema (fresh image) disk same (fresh_of schema image (studied_of schema image s fits of))
 
 on_the_way : (schema : Declarations) (image : List ℕ) (s : Study) → FitsSchema schema s.layout s.guards.items → IsOnTheWay s image → IsOfSchema schema image
 on_the_way schema image s fits (inl of) = studied_of schema image s fits of

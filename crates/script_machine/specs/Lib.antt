@@ -10,5 +10,6 @@ pub mod Limits
 pub mod Homes
 pub mod Agreement
 pub mod OfSchema
+pub mod Images
 -- The scaffold: how the machine's own phases are seen.
 pub mod Phases

@@ -1,5 +1,6 @@
 //! The machine between a crash and a recovery.
 ghost use Rattle.std.specs.Prelude.{◌≡◌, IfOk};
+ghost use Rattle.block_disk.specs.Memory.{device_of};
 ghost use Rattle.script_machine.specs.Machine as machine;
 ghost use Rattle.script_machine.specs.OfSchema.{IsDiskOf};
 
@@ -47,6 +48,13 @@ impl Down {
             Ok(study) => Ok(Answer::Shown(ImageStudy::of(study))),
             Err(why) => Ok(Answer::Refused(refused_recovery(why)?)),
         }
+    }
+
+    /// The bytes on the device.
+    pub(crate) fn image(&self) -> &[u8]
+        ensures { result.now ≡ (device_of self.now.disk).now.bytes }
+    {
+        self.disk.bytes()
     }
 
     /// The schema and the device.

@@ -2,12 +2,14 @@
 //! recovery is down.
 //!
 //! [`Machine::step`] plays a [`Command`](script_lines::Command) and gives an [`Answer`]. Behind plain monitors stands a
-//! store on a device in memory, which is told what the threads do. Nothing here knows of text.
+//! store on a device in memory, which is told what the threads do. [`Machine::down`] makes a machine that an image has to be
+//! recovered on, and [`Machine::image`] gives the image that a crash has left. Nothing here knows of text.
 #![tactic(auto)]
 
 mod answer;
 mod down;
 mod image_study;
+mod laws;
 mod logged;
 mod machine;
 mod opening;
@@ -18,4 +20,5 @@ mod store_calls;
 
 pub use answer::{Answer, Refusal, Report};
 pub use image_study::ImageStudy;
+pub use laws::disk_law;
 pub use machine::Machine;

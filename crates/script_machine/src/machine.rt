@@ -1,10 +1,17 @@
 //! The machine that a script's lines are played on.
 ghost use Rattle.std.specs.Prelude.{◌≡◌, IfOk, OnErr};
+ghost use Rattle.std.specs.Option.{option_map};
 ghost use Rattle.script_lines.specs.Orders.{order_of};
+ghost use Rattle.script_machine.specs.Images.{image_in};
+ghost use Rattle.script_machine.specs.Machine as machine;
 ghost use Rattle.script_machine.specs.Machine.{IsStart, Spent, Steps};
+ghost use Rattle.script_machine.specs.OfSchema.{IsDiskOf};
 
 use crate::answer::Answer;
+use crate::down::Down;
 use crate::phase::Phase;
+use block_disk::MemDisk;
+use guards::Schema;
 use script_lines::Command;
 use std::alloc::{AllocError, Global};
 use std::marker::Model;
@@ -37,6 +44,24 @@ impl Machine {
         Machine {
             phase: Phase::new(alloc),
         }
+    }
+
+    /// A machine that is down, as after a crash that left this disk. It holds an image of this schema, if it holds one
+    /// ([`disk_law`](crate::disk_law)).
+    pub fn down(schema: Schema, disk: MemDisk) -> Machine
+        requires { IsDiskOf schema disk }
+        ensures { result ≡ machine.Down (record { schema = schema; disk = disk }) }
+    {
+        Machine {
+            phase: Phase::Down(Down::new(schema, disk)),
+        }
+    }
+
+    /// What a machine that is down has on its disk. In any other state there is nothing that a crash has left.
+    pub fn image(&self) -> Option<&[u8]>
+        ensures { option_map (λ bytes. bytes.now) result ≡ image_in self.now }
+    {
+        self.phase.image()
     }
 
     /// Plays a line, and answers it. A refused line changes nothing. After want of memory the machine is spent.

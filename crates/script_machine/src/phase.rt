@@ -1,8 +1,10 @@
 //! The states of the machine, and the lines that each takes.
 ghost use Rattle.std.specs.Prelude.{◌≡◌, ◌≤◌, ◌↔◌, IfOk, IfSome, IsSome};
+ghost use Rattle.std.specs.Option.{option_map};
 ghost use Rattle.guards.specs.Schema.{nothing};
 ghost use Rattle.script_lines.specs.Orders.{order_of, step_of};
 ghost use Rattle.script_lines.specs.Orders as order;
+ghost use Rattle.script_machine.specs.Images.{image_in};
 ghost use Rattle.script_machine.specs.Limits.{IsFormattable};
 ghost use Rattle.script_machine.specs.Machine as machine;
 ghost use Rattle.script_machine.specs.Phases.{shown};
@@ -40,6 +42,16 @@ impl Phase {
         ensures { shown result ≡ machine.Declaring nothing }
     {
         Phase::Declaring(Declaring::new(alloc))
+    }
+
+    /// What the device has, while it is down.
+    pub(crate) fn image(&self) -> Option<&[u8]>
+        ensures { option_map (λ bytes. bytes.now) result ≡ image_in (shown self.now) }
+    {
+        match self {
+            Phase::Down(down) => Some(down.image()),
+            _ => None,
+        }
     }
 
     /// Plays a line: the state after it, and the answer.

@@ -1,9 +1,7 @@
-use Rattle.std.proofs.Common.{◌≡◌, Result, Ok, Err, MatchResult, sym, subst, refl}
-use Rattle.std.specs.declared.alloc.AllocError.{AllocError}
+use Rattle.std.proofs.Common.{Result, Ok, sym, subst, refl}
 use Rattle.guards.specs.Schema.{Declarations}
 use Rattle.guards.specs.declared.error.SchemaError.{SchemaError}
 use Rattle.heap_model.specs.declared.ids.FieldId.{FieldId}
-use Rattle.declarations.specs.declared.declared.Declared.{Declared}
 use Rattle.declarations.specs.declared.declared.Declared.TheVariants.{Added}
 use Rattle.declarations.proofs.FieldLemmas.{BuildsField, Told, declared_field, if_declared_field}
 use Rattle.declarations.proofs.declaring.Declaring.field.Goals as goal

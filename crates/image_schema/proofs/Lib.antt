@@ -1,0 +1,4 @@
+mod WritingLemmas
+mod FitLemmas
+mod DumpLemmas
+mod RoundTrip

@@ -1,0 +1,26 @@
+use Rattle.std.proofs.Common.{ℕ, Option, List, Result, Ok, Err, IfErr, subst}
+use Rattle.std.proofs.lemmas.Result.{on_ok_weaker}
+use Rattle.guards.specs.Schema.{Declarations}
+use Rattle.recover.specs.Study.{IsStudyOf}
+use Rattle.recover.specs.declared.studied.Study.{Study as Studied}
+use Rattle.image_schema.specs.Dumping.{DumpsStudy, RefusesDump, RefusesStudy}
+use Rattle.image_schema.specs.declared.error.DumpError.{DumpError}
+use Rattle.image_schema.proofs.DumpLemmas.{dumps, refuses_all, not_fault}
+use Rattle.image_schema.proofs.dumping.dump.Goals as goal
+
+pub dump_study-requires : goal.dump_study-requires
+dump_study-requires g c = record { image = (g.D.Disk.device c.args.disk.now).now.bytes; of = c.in-Ok.ensures.exact }
+
+pub returns-in-Ok-clause-ok : goal.returns-in-Ok-clause-ok
+returns-in-Ok-clause-ok g c =
+    on_ok_weaker c.dump_study.result (dumps c.args.given (g.D.Disk.device c.args.disk.now).now.bytes (g.W.Write.contents c.args.writer.now) (g.W.Write.contents c.dump_study.new.writer) c.in-Ok.study c.in-Ok.ensures.exact) c.dump_study.ensures.ok
+
+pub returns-in-Ok-clause-refused : goal.returns-in-Ok-clause-refused
+returns-in-Ok-clause-refused g c =
+    refuses_all c.args.given (g.D.Disk.device c.args.disk.now).now.bytes (g.W.Write.contents c.args.writer.now) (g.W.Write.contents c.dump_study.new.writer) c.in-Ok.study c.in-Ok.ensures.exact c.dump_study.result c.dump_study.ensures.refused
+
+pub returns-in-Ok-clause-cause : goal.returns-in-Ok-clause-cause
+returns-in-Ok-clause-cause g c = record {
+  later = c.in-Ok.ensures.cause.later;
+  failed = λ e. absurd (not_fault c.args.given (g.W.Write.contents c.args.writer.now) (g.W.Write.contents c.dump_study.new.writer) c.in-Ok.study c.dump_study.result c.dump_study.ensures.refused e);
+}

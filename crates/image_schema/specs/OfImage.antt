@@ -1,0 +1,36 @@
+-- Which schema is that of an image (this project's own).
+use Rattle.std.specs.Prelude.{ℕ, ◌≡◌, ◌<◌, ◌==◌, ◌&&◌, Bool, false, IsTrue, Option, None, Some, List, slice_get}
+use Rattle.guards.specs.Schema.{Declarations, object_count, field_count, guard_of, owner_of}
+use Rattle.image.specs.declared.guard_row.GuardRow.{GuardRow}
+use Rattle.image.specs.declared.layout.Layout.{Layout}
+use Rattle.numbered_schema.specs.Rows.{numbered}
+use Rattle.recover.specs.Study.{IsStudyOf}
+use Rattle.recover.specs.declared.studied.Study.{Study}
+
+-- the row has the field's owner and guard
+abbrev pub fits_row : Declarations → (field : ℕ) → Option GuardRow → Bool
+fits_row schema field None = false
+fits_row schema field (Some row) = (row.owner.0 == owner_of schema field) && (row.guard.0 == guard_of schema field)
+
+abbrev pub is_row_of : Declarations → List GuardRow → (field : ℕ) → Bool
+is_row_of schema rows field = fits_row schema field (slice_get rows field)
+
+-- each field of the schema has its row
+abbrev pub AreRowsOf : Declarations → List GuardRow → Type 0
+AreRowsOf schema rows = (field : ℕ) → field < field_count schema → IsTrue (is_row_of schema rows field)
+
+-- the image has the schema's objects and fields, and each field the schema's owner and guard
+pub record FitsImage (schema : Declarations) (layout : Layout) (rows : List GuardRow) : Type 0 where
+  pub objects : layout.objects ≡ object_count schema
+  pub fields : layout.fields ≡ field_count schema
+  pub rows_are : AreRowsOf schema rows
+
+-- it is the study of some image
+pub record IsStudied (s : Study) : Type 0 where
+  pub image : List ℕ
+  pub of : IsStudyOf image s
+
+-- the schema that was given, or else that of numbers alone
+abbrev pub named_as : Option Declarations → Study → Declarations
+named_as (Some schema) s = schema
+named_as None s = numbered s.layout.objects s.guards.items

@@ -1,0 +1,42 @@
+//! Whether a schema is that of an image.
+ghost use Rattle.std.specs.Prelude.{◌≡◌, ◌<◌, ◌↔◌, IsTrue};
+ghost use Rattle.guards.specs.Schema.{field_count};
+ghost use Rattle.image_schema.specs.OfImage.{AreRowsOf, FitsImage, is_row_of};
+
+use guards::Schema;
+use heap_model::FieldId;
+use image::GuardRow;
+use recover::Study;
+
+/// Whether the image has the schema's objects and fields, and each field the schema's owner and guard. Names and first values
+/// may be any, since an image has no names, and its fields begin with its heap.
+pub fn fits(schema: &Schema, study: &Study) -> bool
+    ensures { IsTrue result ↔ FitsImage schema.now study.now.layout study.now.guards.items }
+{
+    if study.layout.objects != schema.objects() || study.layout.fields != schema.fields() {
+        return false;
+    }
+    are_rows_of(schema, &study.guards)
+}
+
+// Whether each field of the schema has its row.
+fn are_rows_of(schema: &Schema, rows: &[GuardRow]) -> bool
+    ensures { IsTrue result ↔ AreRowsOf schema.now rows.now }
+{
+    for field in 0..schema.fields() {
+        if !has_row(schema, FieldId(field), rows) {
+            return false;
+        }
+    }
+    true
+}
+
+fn has_row(schema: &Schema, field: FieldId, rows: &[GuardRow]) -> bool
+    requires { field.0 < field_count schema.now }
+    ensures { result ≡ is_row_of schema.now rows.now field.0 }
+{
+    match rows.get(field.0 as usize) {
+        Some(row) => row.owner == schema.owner(field) && row.guard == schema.guard(field),
+        None => false,
+    }
+}

@@ -1,0 +1,20 @@
+//! The schema of an image, which keeps no names: with those of a schema file, or numbered; and the schema file that the image's
+//! heap makes.
+//!
+//! [`schema_of`] finds the schema of a [`recover::Study`], [`write_schema`] writes the file of a schema, and [`dump`] that of
+//! the image on a device, whose first values are the heap that recovery gives: so the heap is carried over ([`dump_law`]).
+#![tactic(auto)]
+
+mod dumping;
+mod error;
+mod fitting;
+mod laws;
+mod naming;
+mod writing;
+
+pub use dumping::dump;
+pub use error::{DumpError, NamingError};
+pub use fitting::fits;
+pub use laws::dump_law;
+pub use naming::schema_of;
+pub use writing::write_schema;

@@ -1,0 +1,42 @@
+//! The schema of an image, by the names that are given.
+ghost use Rattle.std.specs.Prelude.{◌≡◌, ◌↔◌, IfOk, IsErrOf};
+ghost use Rattle.image_schema.specs.OfImage.{FitsImage, IsStudied, named_as};
+ghost use Rattle.image_schema.specs.declared.error.NamingError.TheVariants.{OtherSchema};
+ghost use Rattle.numbered_schema.specs.Rows.{numbered};
+
+use crate::error::NamingError;
+use crate::fitting::fits;
+use guards::Schema;
+use numbered_schema::declare;
+use recover::Study;
+use std::alloc::{AllocError, Global};
+
+/// The schema of the image that was studied: the one that is given, which has to be the image's, or else one in which object 0
+/// is named `o0` and field 0 `f0`, and so on.
+pub fn schema_of(alloc: Global, study: &Study, given: Option<Schema>) -> Result<Schema, NamingError>
+    requires { IsStudied study.now }
+    ensures ok { IfOk result (λ schema. schema ≡ named_as given study.now) }
+    ensures fits { IfOk result (λ schema. FitsImage schema study.now.layout study.now.guards.items) }
+    ensures other { IsErrOf result OtherSchema ↔ (FitsImage (named_as given study.now) study.now.layout study.now.guards.items → ⊥) }
+{
+    let Some(schema) = given else {
+        return match numbered_of(alloc, study) {
+            Ok(schema) => Ok(schema),
+            Err(_) => Err(NamingError::NoMemory),
+        };
+    };
+    if !fits(&schema, study) {
+        return Err(NamingError::OtherSchema);
+    }
+    Ok(schema)
+}
+
+// The schema of the image's rows. They make one, so there is no other refusal than want of memory.
+fn numbered_of(alloc: Global, study: &Study) -> Result<Schema, AllocError>
+    ensures { IfOk result (λ schema. schema ≡ numbered study.now.layout.objects study.now.guards.items) }
+{
+    match declare(alloc, study.layout.objects, &study.guards) {
+        Ok(schema) => Ok(schema),
+        Err(_) => Err(AllocError),
+    }
+}

@@ -1,0 +1,88 @@
+//! Writing the schema file of a schema (docs/SCRIPTS.md, "Lines").
+ghost use Rattle.std.specs.Prelude.{◌≡◌, ◌<◌, length, slice_index, slice_index_or, OnOk, OnErr};
+ghost use Rattle.std.specs.Io.KnownBytes.{Appends};
+ghost use Rattle.std.specs.List.{flat_map};
+ghost use Rattle.declarations.specs.SchemaText.{beginning_with, begun_with, ended, object_line, field_line, object_lines, field_lines, schema_text};
+ghost use Rattle.guards.specs.Schema.{field_count, object_count};
+ghost use Rattle.image_schema.specs.Lines.{object_at, field_at};
+ghost use Rattle.inspect.specs.Written.{AppendsPart};
+
+use guards::Schema;
+use heap_model::{FieldId, ObjectId};
+use inspect::{Piece, WriteError, put_line};
+use std::io::Write;
+
+/// Writes the schema file of a schema whose fields begin with these values: a line for each object, and then one for each
+/// field, by number. After an error a beginning of the file is written.
+pub fn write_schema<W: Write>(
+    schema: &Schema,
+    values: &[u64],
+    writer: &mut W,
+) -> Result<(), WriteError>
+    requires { length values.now ≡ field_count schema.now }
+    ensures ok { OnOk result (Appends (W.contents writer.old) (W.contents writer.new) (schema_text (beginning_with values.now schema.now))) }
+    ensures part { OnErr result (AppendsPart (W.contents writer.old) (W.contents writer.new) (schema_text (beginning_with values.now schema.now))) }
+{
+    put_objects(schema, writer)?;
+    put_fields(schema, values, writer)
+}
+
+fn put_objects<W: Write>(schema: &Schema, writer: &mut W) -> Result<(), WriteError>
+    ensures ok { OnOk result (Appends (W.contents writer.old) (W.contents writer.new) (flat_map ended (object_lines schema.now.objects))) }
+    ensures part { OnErr result (AppendsPart (W.contents writer.old) (W.contents writer.new) (flat_map ended (object_lines schema.now.objects))) }
+{
+    for object in 0..schema.objects() {
+        put_object(schema, ObjectId(object), writer)?;
+    }
+    Ok(())
+}
+
+fn put_object<W: Write>(schema: &Schema, object: ObjectId, writer: &mut W) -> Result<(), WriteError>
+    requires { object.0 < object_count schema.now }
+    ensures ok { OnOk result (Appends (W.contents writer.old) (W.contents writer.new) (object_at schema.now object.0)) }
+    ensures part { OnErr result (AppendsPart (W.contents writer.old) (W.contents writer.new) (object_at schema.now object.0)) }
+{
+    put_line(
+        writer,
+        &[
+            Piece::Words("object "),
+            Piece::Words(schema.object_name(object)),
+        ],
+    )
+}
+
+fn put_fields<W: Write>(schema: &Schema, values: &[u64], writer: &mut W) -> Result<(), WriteError>
+    requires { length values.now ≡ field_count schema.now }
+    ensures ok { OnOk result (Appends (W.contents writer.old) (W.contents writer.new) (flat_map ended (field_lines schema.now.objects (begun_with values.now 0 schema.now.fields)))) }
+    ensures part { OnErr result (AppendsPart (W.contents writer.old) (W.contents writer.new) (flat_map ended (field_lines schema.now.objects (begun_with values.now 0 schema.now.fields)))) }
+{
+    for field in 0..schema.fields() {
+        put_field(schema, FieldId(field), values[field as usize], writer)?;
+    }
+    Ok(())
+}
+
+fn put_field<W: Write>(
+    schema: &Schema,
+    field: FieldId,
+    value: u64,
+    writer: &mut W,
+) -> Result<(), WriteError>
+    requires { field.0 < field_count schema.now }
+    ensures ok { OnOk result (Appends (W.contents writer.old) (W.contents writer.new) (field_at schema.now field.0 value)) }
+    ensures part { OnErr result (AppendsPart (W.contents writer.old) (W.contents writer.new) (field_at schema.now field.0 value)) }
+{
+    put_line(
+        writer,
+        &[
+            Piece::Words("field "),
+            Piece::Words(schema.field_name(field)),
+            Piece::Words(" "),
+            Piece::Words(schema.object_name(schema.owner(field))),
+            Piece::Words(" "),
+            Piece::Words(schema.object_name(schema.guard(field))),
+            Piece::Words(" "),
+            Piece::Number(value),
+        ],
+    )
+}

@@ -1,0 +1,95 @@
+//! A schema whose objects and fields are numbered alone.
+ghost use Rattle.std.specs.Prelude.{◌≡◌, ◌++◌, ◌∷◌, [], ℕ, suc, List, IfErr, IfOk, OnOk, codes, decimal};
+ghost use Rattle.guards.specs.Schema.{field_count, object_count};
+ghost use Rattle.numbered_schema.specs.Rows.{RefusesObject, RefusesRow, RefusesRows, field_name, object_name, numbered};
+ghost use Rattle.image.specs.declared.guard_row.GuardRow.{GuardRow as Row};
+
+use guards::{Schema, SchemaBuilder, SchemaError};
+use image::GuardRow;
+use std::alloc::Global;
+
+/// The schema of so many objects and of these fields, each by its owner, its guard and its first value. Object i is named `oi`, and
+/// field i `fi`.
+///
+/// Refusals, as they are met: `TooMany` objects; then by field `UnknownObject` and `TooMany`; `Empty` for no object or no field;
+/// `NoMemory` at any time.
+pub fn declare(alloc: Global, objects: u32, rows: &[GuardRow]) -> Result<Schema, SchemaError>
+    ensures ok { IfOk result (λ schema. schema ≡ numbered objects rows.now) }
+    ensures refused { IfErr result (RefusesRows objects rows.now) }
+{
+    let mut builder = SchemaBuilder::new(alloc);
+    declare_objects(alloc, &mut builder, objects)?;
+    declare_rows(alloc, &mut builder, objects, rows)?;
+    match builder.build() {
+        Ok(schema) => Ok(schema),
+        Err((_, refusal)) => Err(refusal),
+    }
+}
+
+// So many objects.
+fn declare_objects(
+    alloc: Global,
+    builder: &mut SchemaBuilder,
+    objects: u32,
+) -> Result<(), SchemaError>
+    requires { builder.old ≡ numbered 0 [] }
+    ensures ok { OnOk result (builder.new ≡ numbered objects []) }
+    ensures refused { IfErr result (RefusesObject objects) }
+{
+    for number in 0..objects {
+        declare_object(alloc, builder, number)?;
+    }
+    Ok(())
+}
+
+// The object of this number, behind those before.
+fn declare_object(
+    alloc: Global,
+    builder: &mut SchemaBuilder,
+    number: u32,
+) -> Result<(), SchemaError>
+    requires { builder.old ≡ numbered number [] }
+    ensures ok { OnOk result (builder.new ≡ numbered (suc number) []) }
+    ensures refused { IfErr result (RefusesObject (suc number)) }
+{
+    let Ok(name) = format!(in alloc; "o{number}") else {
+        return Err(SchemaError::NoMemory);
+    };
+    match builder.object(name.as_str()) {
+        Ok(_) => Ok(()),
+        Err(refusal) => Err(refusal),
+    }
+}
+
+// These fields.
+fn declare_rows(
+    alloc: Global,
+    builder: &mut SchemaBuilder,
+    objects: u32,
+    rows: &[GuardRow],
+) -> Result<(), SchemaError>
+    requires { builder.old ≡ numbered objects [] }
+    ensures ok { OnOk result (builder.new ≡ numbered objects rows.now) }
+    ensures refused { IfErr result (RefusesRows objects rows.now) }
+{
+    let _objects = objects;
+    for row in rows.iter().copied() {
+        declare_row(alloc, builder, row)?;
+    }
+    Ok(())
+}
+
+// One field, behind those before.
+fn declare_row(alloc: Global, builder: &mut SchemaBuilder, row: GuardRow) -> Result<(), SchemaError>
+    ensures ok { (objects : ℕ) (before : List Row) → builder.old ≡ numbered objects before → OnOk result (builder.new ≡ numbered objects (before ++ row ∷ [])) }
+    ensures refused { (objects : ℕ) (before : List Row) → builder.old ≡ numbered objects before → IfErr result (RefusesRow objects before row) }
+{
+    let number = builder.fields();
+    let Ok(name) = format!(in alloc; "f{number}") else {
+        return Err(SchemaError::NoMemory);
+    };
+    match builder.field(row.owner, name.as_str(), row.guard, row.first) {
+        Ok(_) => Ok(()),
+        Err(refusal) => Err(refusal),
+    }
+}
