@@ -1,7 +1,7 @@
 mod Closings
 mod Ends
+mod Fits
 mod Later
 mod Makings
-mod Numbered
 mod Orders
 mod Rounds

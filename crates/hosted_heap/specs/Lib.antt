@@ -4,7 +4,6 @@ pub mod Opening
 pub mod Closing
 pub mod Rounds
 pub mod Sessions
-pub mod Rows
 -- How sessions come back, and what is true between calls.
 pub mod Returning
 pub mod Lanes

@@ -17,7 +17,7 @@ use Rattle.store_image.specs.Formatting.{AreLimits, layout_with}
 use Rattle.store_past.specs.Past.{no_past}
 use Rattle.trim_helper.specs.Parts.{IsServing}
 use Rattle.hosted_heap.specs.Hosting.{Hosting, hosted_device}
-use Rattle.hosted_heap.specs.Rows.{RefusesRows, numbered}
+use Rattle.numbered_schema.specs.Rows.{RefusesRows, numbered}
 use Rattle.hosted_heap.specs.declared.error.HostError.{HostError}
 use Rattle.hosted_heap.specs.declared.error.HostError.TheVariants.{NoMemory, Schema, Image, Recover}
 

@@ -15,7 +15,6 @@ mod opening;
 mod returned;
 mod returning;
 mod room;
-mod rows;
 mod seated;
 mod waiting;
 
@@ -26,6 +25,5 @@ pub use opening::{format, open};
 pub use returned::Returned;
 pub use returning::Returning;
 pub use room::{CLOSE_SYNCS, ROUND_SYNCS};
-pub use rows::declare;
 pub use seated::HostedSession;
 pub use waiting::HostedWaiting;

@@ -7,9 +7,9 @@ use Rattle.image.specs.declared.guard_row.GuardRow.{GuardRow}
 use Rattle.image.specs.declared.layout.Layout.{Layout}
 use Rattle.store_image.specs.Formatting.{layout_with}
 use Rattle.hosted_heap.specs.Opening.{HasBegun}
-use Rattle.hosted_heap.specs.Rows.{numbered}
+use Rattle.numbered_schema.specs.Rows.{numbered}
 use Rattle.hosted_heap.proofs.Makings.{making_refused}
-use Rattle.hosted_heap.proofs.Numbered.{fields_are, first_at}
+use Rattle.numbered_schema.proofs.Numbered.{fields_are, first_at}
 use Rattle.hosted_heap.proofs.opening.format.Goals as goal
 
 pub begin-requires : goal.begin-requires

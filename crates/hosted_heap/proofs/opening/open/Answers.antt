@@ -9,8 +9,9 @@ use Rattle.std.specs.List.{slice_index_or}
 use Rattle.trim_helper.specs.Opening.{FitsSchema}
 use Rattle.hosted_heap.specs.Hosting.{hosted_device}
 use Rattle.hosted_heap.specs.Opening.{HasBegun}
-use Rattle.hosted_heap.specs.Rows.{numbered}
-use Rattle.hosted_heap.proofs.Numbered.{fits_numbered, only_memory}
+use Rattle.numbered_schema.specs.Rows.{numbered}
+use Rattle.hosted_heap.proofs.Fits.{fits_numbered}
+use Rattle.numbered_schema.proofs.Numbered.{only_memory}
 use Rattle.hosted_heap.proofs.opening.open.Goals as goal
 
 pub returns-in-Err-declare-clause-refused : goal.returns-in-Err-declare-clause-refused

@@ -1,9 +1,0 @@
-use Rattle.std.proofs.Common.{refl, sym, subst}
-use Rattle.hosted_heap.specs.Rows.{RefusesRows}
-use Rattle.hosted_heap.proofs.Numbered.{empty_of}
-use Rattle.hosted_heap.proofs.rows.declare.Goals as goal
-
-pub returns-clause-refused : goal.returns-clause-refused
-returns-clause-refused c =
-    subst (RefusesRows c.args.objects c.args.rows.now) (sym c.in-Err.ensures.back.1)
-    (empty_of c.args.objects c.args.rows.now c.declare_rows.new.builder c.in_ok-declare_rows.ensures.ok (c.in-Err.ensures.empty.0 refl))
