@@ -1,5 +1,5 @@
 -- What is known of a file whose image was read.
-use Rattle.std.proofs.Common.{ℕ, ◌≡◌, ◌⊎◌, List, [], ◌∷◌, Option, None, Some, inl, length, refl, sym, subst, ◌∙◌}
+use Rattle.std.proofs.Common.{ℕ, ◌≡◌, ◌⊎◌, List, [], ◌∷◌, Option, None, Some, inl, inr, length, refl, sym, subst, ◌∙◌}
 use Rattle.std.specs.Prelude.{IfSome}
 use Rattle.drive.specs.Schemas.{HoldsWorkers}
 use Rattle.file_disk.specs.Backing.{Held, Reads}
@@ -26,3 +26,9 @@ empty_file workers size (Some h) none measured = inl (no_bytes h.reads (sym none
 pub empty_reads : (size : ℕ) (file : Option Held) → size ≡ 0 → IfSome file (λ h. size ≡ length h.reads) → Reads [] file
 empty_reads size None none measured = tt
 empty_reads size (Some h) none measured = no_bytes h.reads (sym none ∙ measured)
+
+-- it isn't empty, and holds the workers' image
+pub or_theirs : (workers : ℕ) (file : Option Held) → IfSome file (λ h. HoldsWorkers workers h.reads)
+    → IfSome file (λ h. (h.reads ≡ []) ⊎ HoldsWorkers workers h.reads)
+or_theirs workers None holds = tt
+or_theirs workers (Some h) holds = inr holds

@@ -1,7 +1,7 @@
 use Rattle.std.proofs.Common.{◌≡◌, inl, inr}
 use Rattle.std.proofs.lemmas.Result.{IfOk-weaker}
 use Rattle.drive.proofs.Refused.{anyway}
-use Rattle.commands.proofs.FileLemmas.{empty_file, empty_reads}
+use Rattle.commands.proofs.FileLemmas.{empty_file, empty_reads, or_theirs}
 use Rattle.commands.proofs.files.drive_in_file.Goals as goal
 
 pub returns-in-Ok-eq0-clause-ok : goal.returns-in-Ok-eq0-clause-ok
@@ -17,3 +17,7 @@ pub returns-in-Ok-eq0-clause-theirs : goal.returns-in-Ok-eq0-clause-theirs
 returns-in-Ok-eq0-clause-theirs g c =
     let none : c.in-Ok-eq0.field-0 ≡ 0 = c.in-Ok-eq0.field-0-test in
     anyway c.drive_new_file.result (empty_file c.args.workers c.in-Ok-eq0.field-0 (g.F.BackingFile.holds c.args.file) none c.in-Ok-eq0.ensures)
+
+pub returns-in-Ok-clause-theirs : goal.returns-in-Ok-clause-theirs
+returns-in-Ok-clause-theirs g c =
+    IfOk-weaker c.drive_left_file.result _ _ (λ driven so. or_theirs c.args.workers (g.F.BackingFile.holds c.args.file) so) c.drive_left_file.ensures.theirs
