@@ -28,19 +28,21 @@
  *         if (call.kind == ZELAMIKU_NO_CALL) return 0;
  *         bool made = call.kind == ZELAMIKU_WRITE ? pwrite(fd, buffer, call.size, (off_t)call.at) == (ssize_t)call.size
  *                                                 : fdatasync(fd) == 0;
- *         if (!made) return -1; // and never zelamiku_call_done for it
+ *         if (!made) return zelamiku_call_failed(&heap) == ZELAMIKU_OK ? 1 : -1; // and never zelamiku_call_done for it
  *         if (zelamiku_call_done(&heap) != ZELAMIKU_OK) return -1;
  *     }
  * A write that fails may be made again: the same call is told again.
  * A sync that fails may not be made again, nor any later call. What was written before it may be lost, though the file still reads
- * as it was written, and though a later sync succeeds: systems drop the pages that they couldn't write. Free the handles, and open the
- * heap again from bytes that the device itself has: read past the system's cache, or after the file system was mounted again.
+ * as it was written, and though a later sync succeeds: systems drop the pages that they couldn't write. Told of it by
+ * zelamiku_call_failed, the library lets the heap go: each later call of it answers ZELAMIKU_STOPPED, and so does each session that
+ * would enter, wait or resume. Free the handles, and open the heap again from bytes that the device itself has: read past the
+ * system's cache, or after the file system was mounted again.
  *
  * Waiting is the host's. Where a call answers ZELAMIKU_HELD, ZELAMIKU_BEHIND or ZELAMIKU_IN_SET, try again later; other answers stay:
  *     for (unsigned spins = 0; (answer = zelamiku_try_enter(&session, object)) == ZELAMIKU_HELD || answer == ZELAMIKU_BEHIND; spins++)
  *         if (spins > 100) sched_yield();
  *     if (answer != ZELAMIKU_OK) ...
- * With a condition variable of the host's own, an exit or a notification is told to those that wait:
+ * With a condition variable of the host's own, an exit or a notification is told to those that wait, and so is a call that failed:
  *     pthread_mutex_lock(&m);
  *     while ((answer = zelamiku_try_resume(&session)) == ZELAMIKU_IN_SET || answer == ZELAMIKU_HELD) pthread_cond_wait(&changed, &m);
  *     pthread_mutex_unlock(&m);
@@ -59,7 +61,7 @@ extern "C" {
 /* Of this header and the library that it came with; and of the images that they read and write. */
 #define ZELAMIKU_VERSION "0.1.0"
 #define ZELAMIKU_VERSION_NUMBER 100 /* 10,000 times the first, 100 times the second, and the third */
-#define ZELAMIKU_IMAGE_VERSION 1
+#define ZELAMIKU_IMAGE_VERSION 2
 
 /* Limits. */
 #define ZELAMIKU_MOST_LANES 32
@@ -123,8 +125,10 @@ typedef enum {
     ZELAMIKU_BAD_RECORD = 30,     /* the image has a record that can't be read */
     ZELAMIKU_ILLEGAL_LOG = 31,    /* no threads can have left the image's log */
     ZELAMIKU_DEVICE = 32,         /* of zelamiku_file.h alone: a call of the file has failed */
-    ZELAMIKU_LOST = 33,           /* of zelamiku_file.h alone: a sync of the file has failed, and the heap was let go */
-    ZELAMIKU_BUSY = 34            /* of zelamiku_file.h alone: another open of the file has its heap, or the file was replaced or removed */
+    ZELAMIKU_LOST = 33,           /* of zelamiku_file.h alone: a sync of the file has failed, and the heap has stopped */
+    ZELAMIKU_BUSY = 34,           /* of zelamiku_file.h alone: another open of the file has its heap, or the file was replaced or removed */
+    ZELAMIKU_STOPPED = 35,        /* the heap has stopped since the host told that it couldn't make a sync (zelamiku_call_failed) */
+    ZELAMIKU_OLD_VERSION = 40     /* the image has version 1, from before there were transient fields */
 } zelamiku_status;
 
 /* A field of a heap that is to be made. */
@@ -132,6 +136,7 @@ typedef struct {
     uint32_t owner; /* the object that has it */
     uint32_t guard; /* the object whose monitor guards it */
     uint64_t first; /* the value with which it begins */
+    uint32_t is_transient; /* 0: what threads store is made durable. Else no log keeps it: the field begins with `first` at each open */
 } zelamiku_field;
 
 /* What a heap has, and what recovery found. */
@@ -172,7 +177,7 @@ typedef struct {
 #define ZELAMIKU_HAS_SIZE(type, size) _Static_assert(sizeof(type) == (size), #type)
 #endif
 ZELAMIKU_HAS_SIZE(zelamiku_handle, 16);
-ZELAMIKU_HAS_SIZE(zelamiku_field, 16);
+ZELAMIKU_HAS_SIZE(zelamiku_field, 24);
 ZELAMIKU_HAS_SIZE(zelamiku_found, 40);
 ZELAMIKU_HAS_SIZE(zelamiku_call, 24);
 ZELAMIKU_HAS_SIZE(zelamiku_sight, 16);
@@ -215,26 +220,31 @@ static inline const char *zelamiku_status_text(uint32_t status) {
     case ZELAMIKU_BAD_RECORD: return "the image has a record that can't be read";
     case ZELAMIKU_ILLEGAL_LOG: return "no threads can have left the image's log";
     case ZELAMIKU_DEVICE: return "a call of the file has failed";
-    case ZELAMIKU_LOST: return "a sync of the file has failed, and the heap was let go";
+    case ZELAMIKU_LOST: return "a sync of the file has failed, and the heap has stopped";
     case ZELAMIKU_BUSY: return "another process has the heap of the file, or the file was replaced or removed";
+    case ZELAMIKU_STOPPED: return "the heap has stopped since its host couldn't make a sync";
+    case ZELAMIKU_OLD_VERSION: return "the image has a version from before there were transient fields";
     default: return "no status of zelamiku.h";
     }
 }
 
 /* ---- the heap ---- */
 
+/* Each call of a heap that isn't to be opened also answers STOPPED, once zelamiku_call_failed was told of a sync; nothing was done then. */
+
 /* Makes a heap of so many objects and of these fields, with `lanes` (1 to 32) sessions of `capacity` (2,000 to 1,048,576) records
  * each, and opens it. `size` gets the bytes of its image.
  * Needs: before the first call of zelamiku_next_call is made, the device has `size` zero bytes, durably.
  * OPEN, EMPTY, UNKNOWN_OBJECT, TOO_MANY, BAD_HEADER, NO_MEMORY, FAULT (want of memory too): the handle is as it was, and `size`
  * is 0. */
+#define zelamiku_format zelamiku_format_marked /* a program of an older header, whose fields are shorter, doesn't link */
 ZELAMIKU_MUST_USE uint32_t zelamiku_format(zelamiku_handle *heap, uint32_t objects, const zelamiku_field *fields, size_t count,
                                            uint32_t lanes, uint32_t capacity, uint64_t *size);
 
 /* Recovers the heap of these bytes, and opens it.
  * Needs: the device has these bytes, all of them, durably.
- * OPEN, NOT_FORMATTED, BAD_HEADER, TOO_SMALL, NO_CONTROL, BAD_CONTROL, WORN, BAD_RECORD, ILLEGAL_LOG, NO_MEMORY, FAULT (want of
- * memory too): the handle is as it was, and `found` is all 0. Nothing was asked of the device. */
+ * OPEN, NOT_FORMATTED, BAD_HEADER, TOO_SMALL, NO_CONTROL, BAD_CONTROL, OLD_VERSION, WORN, BAD_RECORD, ILLEGAL_LOG, NO_MEMORY, FAULT
+ * (want of memory too): the handle is as it was, and `found` is all 0. Nothing was asked of the device. */
 ZELAMIKU_MUST_USE uint32_t zelamiku_open(zelamiku_handle *heap, const uint8_t *image, size_t size, zelamiku_found *found);
 
 /* Hands out the session of the next lane, from 0 on.
@@ -252,6 +262,13 @@ ZELAMIKU_MUST_USE uint32_t zelamiku_next_call(zelamiku_handle *heap, zelamiku_ca
 /* Says that the host has made the call that zelamiku_next_call told.
  * CLOSED, WRONG_KIND. NONE_LEFT: no call was told. */
 ZELAMIKU_MUST_USE uint32_t zelamiku_call_done(zelamiku_handle *heap);
+
+/* Says that the host couldn't make the call that zelamiku_next_call told.
+ * OK: it was a write, and nothing has changed: the same call is told again, and may be made again.
+ * STOPPED: it was a sync, or one had failed before. The memory of the heap is let go, and nothing that the sessions do from now on is
+ * made durable; what was acknowledged before stays. Free the handles.
+ * CLOSED, WRONG_KIND. NONE_LEFT: no call was told. */
+ZELAMIKU_MUST_USE uint32_t zelamiku_call_failed(zelamiku_handle *heap);
 
 /* Takes what the sessions have done, writes it to the log, acknowledges each section that has ended and depends on none that hasn't,
  * and leaves the calls of that to zelamiku_next_call: make them after each round, or in a thread that orders its calls with this one.
@@ -272,13 +289,19 @@ ZELAMIKU_MUST_USE uint32_t zelamiku_acknowledged(zelamiku_handle *heap, uint32_t
  * stays. CLOSED, WRONG_KIND, NONE_LEFT (it is closed): nothing was done. */
 ZELAMIKU_MUST_USE uint32_t zelamiku_close(zelamiku_handle *heap);
 
-/* Lets go of what is behind a handle. A heap stops, as if the process had: what was acknowledged stays. A session that is freed
- * never ends, so that its heap isn't closed any more. The handle is as at the beginning. */
+/* Lets go of what is behind a handle. A heap stops, as if the process had: what was acknowledged stays. The handle is as at the
+ * beginning. A session that is freed never ends, so that its heap isn't closed any more (RUNNING). What it holds stays held: others that
+ * want those monitors are answered HELD for as long as the heap is open, and no section that has seen what its last one had freed
+ * before is ever acknowledged, so that in the end their sessions are BEHIND. zelamiku_look tells, of each object, the lane that holds
+ * it: where that is a lane whose thread is gone, free the handles and open the heap again. The section that was cut off is dropped
+ * then, with those that have seen it. A thread that may be ended by force, or end by itself in a section, costs its heap an opening. */
 void zelamiku_free(zelamiku_handle *handle);
 
 /* ---- a session: one thread's use of the heap ---- */
 
-/* Each call of a session also answers CLOSED, WRONG_KIND and WAITING; nothing was done then. */
+/* Each call of a session also answers CLOSED, WRONG_KIND and WAITING; nothing was done then. try_enter, begin_wait and try_resume answer
+ * STOPPED once the heap has stopped by zelamiku_call_failed, so that no loop that tries again spins for ever: what is held and what
+ * waits stays as it was. The others go on, so that a section may be ended, though nothing of it will be durable. */
 
 /* Takes the object's monitor, or one lock more of it. The first of a section needs room for a whole one.
  * UNKNOWN_OBJECT, BEHIND, SECTION_FULL, TOO_MANY, TOO_DEEP, NO_FAT, WORN, HELD: what is held stays as it was. */

@@ -157,8 +157,9 @@ ZELAMIKU_MUST_USE static inline uint32_t zelamiku_open_file(zelamiku_handle *hea
 
 /* Makes all calls of the device that are left on the file, in their order. `made` gets how many there were.
  * CLOSED, WRONG_KIND: nothing was done. DEVICE: a write has failed, and no call behind it was made; the next zelamiku_make_calls begins
- * with it. LOST: a sync has failed, and no call may follow (zelamiku.h): the heap was let go, and nothing is behind the handle. Free its
- * sessions, and open the heap again once the file has what its device has: after the file system was mounted again.
+ * with it. LOST: a sync has failed, and no call may follow (zelamiku_call_failed): the heap was let go, and each later call answers
+ * STOPPED. Free it and its sessions, and open the heap again once the file has what its device has: after the file system was mounted
+ * again.
  * `made` is how many were made before that. */
 ZELAMIKU_MUST_USE static inline uint32_t zelamiku_make_calls(zelamiku_handle *heap, int descriptor, uint64_t *made) {
     uint8_t bytes[ZELAMIKU_MOST_BYTES] = {0};
@@ -166,15 +167,12 @@ ZELAMIKU_MUST_USE static inline uint32_t zelamiku_make_calls(zelamiku_handle *he
     for (*made = 0;; ++*made) {
         uint32_t status = zelamiku_next_call(heap, &call, bytes, sizeof bytes);
         if (status != ZELAMIKU_OK || call.kind == ZELAMIKU_NO_CALL) return status;
-        if (call.kind == ZELAMIKU_SYNC) {
-            if (!zelamiku_file_sync(descriptor)) {
-                int cause = errno;
-                zelamiku_free(heap);
-                errno = cause;
-                return ZELAMIKU_LOST;
-            }
-        } else if (call.size > sizeof bytes || !zelamiku_file_write(descriptor, bytes, (size_t)call.size, call.at)) {
-            return ZELAMIKU_DEVICE;
+        if (call.kind == ZELAMIKU_SYNC ? !zelamiku_file_sync(descriptor)
+                                       : call.size > sizeof bytes || !zelamiku_file_write(descriptor, bytes, (size_t)call.size, call.at)) {
+            int cause = errno;
+            status = zelamiku_call_failed(heap);
+            errno = cause;
+            return status == ZELAMIKU_STOPPED ? (uint32_t)ZELAMIKU_LOST : (uint32_t)ZELAMIKU_DEVICE;
         }
         status = zelamiku_call_done(heap);
         if (status != ZELAMIKU_OK) return status;

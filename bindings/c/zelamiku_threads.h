@@ -13,7 +13,7 @@
  *     if (zelamiku_thread_enter(&own, ACCOUNT) != ZELAMIKU_OK) ...           sleeps while another thread has the monitor
  *     if (zelamiku_thread_store(&own, BALANCE, 90) != ZELAMIKU_OK) ...
  *     if (zelamiku_thread_exit(&own, ACCOUNT) != ZELAMIKU_OK) ...            the section ends
- *     if (zelamiku_thread_await(&own) != ZELAMIKU_OK) ...                    sleeps until no crash loses it
+ *     if (zelamiku_thread_await(&own) != ZELAMIKU_OK) ...                    sleeps until no crash loses it; _await_until takes a deadline
  *     zelamiku_thread_end(&own);
  *     if (zelamiku_threads_stop(&all) != ZELAMIKU_OK) ...                    closes the heap; then close the file
  *
@@ -25,7 +25,7 @@
  *
  * When the heap ends. A write that fails is answered DEVICE by those that wait for a round, with errno as the system left it. Nothing is
  * lost: it is made again by the next call that waits for a round, and by the helper each second. A sync that fails is never made again:
- * the heap is let go, and every call answers LOST from then on (zelamiku_make_calls). FAULT, FAILED and WORN of a round end it too. What
+ * the heap has stopped, and every call answers LOST from then on (zelamiku_make_calls). FAULT, FAILED and WORN of a round end it too. What
  * was acknowledged stays. Then zelamiku_threads_stop answers the same, and lets all go. */
 #ifndef ZELAMIKU_THREADS_H
 #define ZELAMIKU_THREADS_H
@@ -116,12 +116,22 @@ static inline uint32_t zelamiku_threads_over(zelamiku_threads *all) {
     return over;
 }
 
-/* Sleeps until somebody rings, or has since the last sleep. It may have been for a reason that is past: look again. */
-static inline void zelamiku_seat_sleep(zelamiku_seat *seat) {
+/* Sleeps until somebody rings, or has since the last sleep; whether that was before the deadline, where there is one. It may have been for
+ * a reason that is past: look again. */
+static inline bool zelamiku_seat_sleep_until(zelamiku_seat *seat, const struct timespec *deadline) {
+    int answer = 0;
     pthread_mutex_lock(&seat->mutex);
-    while (!seat->is_rung) pthread_cond_wait(&seat->bell, &seat->mutex);
+    while (!seat->is_rung && answer == 0)
+        answer = deadline == NULL ? pthread_cond_wait(&seat->bell, &seat->mutex)
+                                  : pthread_cond_timedwait(&seat->bell, &seat->mutex, deadline);
+    bool was_rung = seat->is_rung;
     seat->is_rung = false;
     pthread_mutex_unlock(&seat->mutex);
+    return was_rung;
+}
+
+static inline void zelamiku_seat_sleep(zelamiku_seat *seat) {
+    (void)zelamiku_seat_sleep_until(seat, NULL);
 }
 
 static inline void zelamiku_seat_ring(zelamiku_seat *seat) {
@@ -342,7 +352,6 @@ ZELAMIKU_MUST_USE static inline uint32_t zelamiku_threads_start(zelamiku_threads
     (void)pthread_condattr_init(&monotonic);
     (void)pthread_condattr_setclock(&monotonic, CLOCK_MONOTONIC);
     (void)pthread_cond_init(&all->bell, &monotonic);
-    (void)pthread_condattr_destroy(&monotonic);
     (void)pthread_cond_init(&all->told, NULL);
     (void)pthread_mutex_init(&all->mutex, NULL);
     ZELAMIKU_IS_ATOMIC(all->over);
@@ -355,13 +364,14 @@ ZELAMIKU_MUST_USE static inline uint32_t zelamiku_threads_start(zelamiku_threads
     for (uint32_t lane = 0; lane < all->lanes; lane++) {
         zelamiku_seat *seat = &all->seats[lane];
         (void)pthread_mutex_init(&seat->mutex, NULL);
-        (void)pthread_cond_init(&seat->bell, NULL);
+        (void)pthread_cond_init(&seat->bell, &monotonic);
         ZELAMIKU_IS_ATOMIC(seat->awaits);
         ZELAMIKU_IS_ATOMIC(seat->is_behind);
         ZELAMIKU_IS_ATOMIC(seat->is_busy);
         ZELAMIKU_IS_ATOMIC(seat->ended);
         ZELAMIKU_IS_ATOMIC(seat->acknowledged);
     }
+    (void)pthread_condattr_destroy(&monotonic);
     all->heap = *heap;
     memset(heap, 0, sizeof *heap);
     /* What opening or making left to be called is made with the first round. */
@@ -460,6 +470,11 @@ ZELAMIKU_MUST_USE static inline uint32_t zelamiku_thread_end(zelamiku_thread *th
     return ZELAMIKU_OK;
 }
 
+/* The library may tell a session that a sync has failed before the helper has told what the heap has ended with. */
+static inline uint32_t zelamiku_thread_told(uint32_t status) {
+    return status == ZELAMIKU_STOPPED ? (uint32_t)ZELAMIKU_LOST : status;
+}
+
 /* Sleeps until the monitor can be taken. */
 static inline uint32_t zelamiku_thread_enter_slowly(zelamiku_threads *all, zelamiku_seat *seat, uint32_t object) {
     unsigned demands = 0;
@@ -467,7 +482,7 @@ static inline uint32_t zelamiku_thread_enter_slowly(zelamiku_threads *all, zelam
     for (;;) {
         uint64_t rounds = __atomic_load_n(&all->rounds, __ATOMIC_SEQ_CST);
         status = zelamiku_threads_over(all);
-        if (status == ZELAMIKU_OK) status = zelamiku_try_enter(&seat->session, object);
+        if (status == ZELAMIKU_OK) status = zelamiku_thread_told(zelamiku_try_enter(&seat->session, object));
         if (status == ZELAMIKU_HELD) {
             if (!zelamiku_threads_want(all, seat, object)) zelamiku_seat_sleep(seat);
         } else if (status == ZELAMIKU_BEHIND) {
@@ -482,7 +497,8 @@ static inline uint32_t zelamiku_thread_enter_slowly(zelamiku_threads *all, zelam
     return status;
 }
 
-/* Takes the object's monitor, or one lock more of it, and sleeps while another thread has it or the lane has no room before a round. Take
+/* Takes the object's monitor, or one lock more of it, and sleeps while another thread has it or the lane has no room before a round.
+ * Threads that sleep for one monitor get it in the order in which they came; one that comes while it is free takes it before them. Take
  * monitors in one order everywhere: two threads that wait for each other's wait for ever.
  * UNKNOWN_OBJECT, SECTION_FULL, TOO_MANY, TOO_DEEP, NO_FAT, WORN; DEVICE, where a round that was waited for can't write: what is held
  * stays as it was. */
@@ -494,7 +510,7 @@ ZELAMIKU_MUST_USE static inline uint32_t zelamiku_thread_enter(zelamiku_thread *
     uint32_t status = zelamiku_threads_over(all);
     bool goes_on = status == ZELAMIKU_OK;
     for (unsigned tries = 0; goes_on && tries < ZELAMIKU_THREADS_TRIES; tries++) {
-        status = zelamiku_try_enter(&seat->session, object);
+        status = zelamiku_thread_told(zelamiku_try_enter(&seat->session, object));
         if (status != ZELAMIKU_HELD) break;
     }
     if (goes_on && (status == ZELAMIKU_HELD || status == ZELAMIKU_BEHIND)) status = zelamiku_thread_enter_slowly(all, seat, object);
@@ -561,7 +577,7 @@ static inline uint32_t zelamiku_thread_resume(zelamiku_threads *all, zelamiku_se
     uint32_t status;
     for (;;) {
         status = zelamiku_threads_over(all);
-        if (status == ZELAMIKU_OK) status = zelamiku_try_resume(&seat->session);
+        if (status == ZELAMIKU_OK) status = zelamiku_thread_told(zelamiku_try_resume(&seat->session));
         if (status != ZELAMIKU_HELD && status != ZELAMIKU_IN_SET) break;
         if (status == ZELAMIKU_IN_SET || !zelamiku_threads_want(all, seat, object)) zelamiku_seat_sleep(seat);
     }
@@ -575,7 +591,7 @@ static inline uint32_t zelamiku_thread_begin_wait(zelamiku_threads *all, zelamik
     for (;;) {
         uint64_t rounds = __atomic_load_n(&all->rounds, __ATOMIC_SEQ_CST);
         uint32_t status = zelamiku_threads_over(all);
-        if (status == ZELAMIKU_OK) status = zelamiku_begin_wait(&seat->session, object);
+        if (status == ZELAMIKU_OK) status = zelamiku_thread_told(zelamiku_begin_wait(&seat->session, object));
         /* What holds the monitor may be what the room waits for. */
         if (status != ZELAMIKU_BEHIND || demands == ZELAMIKU_THREADS_DEMANDS) return status;
         status = zelamiku_threads_sleep(all, seat, rounds, &demands);
@@ -611,6 +627,7 @@ static inline void zelamiku_thread_put(zelamiku_threads *all, uint64_t lanes, ui
 }
 
 /* Wakes one thread that waits for a monitor that is held; `is_woken` gets whether there was one. It goes on once the monitor is free.
+ * Which of several isn't promised: one of them may never be it. Where each is to have its turn, wake all.
  * UNKNOWN_OBJECT, NOT_HELD: `is_woken` is false. */
 ZELAMIKU_MUST_USE static inline uint32_t zelamiku_thread_notify(zelamiku_thread *thread, uint32_t object, bool *is_woken) {
     uint32_t lane = ZELAMIKU_NOBODY;
@@ -623,7 +640,7 @@ ZELAMIKU_MUST_USE static inline uint32_t zelamiku_thread_notify(zelamiku_thread 
     return ZELAMIKU_OK;
 }
 
-/* Wakes all threads that wait for a monitor that is held.
+/* Wakes all threads that wait for a monitor that is held. In which order they go on isn't promised.
  * UNKNOWN_OBJECT, NOT_HELD: nobody is woken. */
 ZELAMIKU_MUST_USE static inline uint32_t zelamiku_thread_notify_all(zelamiku_thread *thread, uint32_t object) {
     uint64_t lanes = 0;
@@ -644,29 +661,39 @@ static inline uint64_t zelamiku_thread_durable(const zelamiku_thread *thread) {
     return acknowledged > thread->before ? acknowledged - thread->before : 0;
 }
 
-/* Sleeps until all sections that the thread has ended are durable: it asks for a round, and sleeps on while a section that one of them
- * depends on is open.
- * DEVICE: a write has failed: call again. LOST, or what else the heap has ended with, CLOSED among it: they weren't durable before. */
-ZELAMIKU_MUST_USE static inline uint32_t zelamiku_thread_await(zelamiku_thread *thread) {
+/* Sleeps until all sections that the thread has ended are durable, or until the deadline of CLOCK_MONOTONIC where there is one; `is_durable`
+ * gets whether they are. It asks for a round, which is made whether or not the thread still waits for it: after the deadline the sections
+ * are as good as if nobody had waited, and may be waited for again. A deadline that has passed asks for the round and doesn't sleep.
+ * Fails as zelamiku_thread_await. `is_durable` is false then. */
+ZELAMIKU_MUST_USE static inline uint32_t zelamiku_thread_await_until(zelamiku_thread *thread, const struct timespec *deadline,
+                                                                     bool *is_durable) {
     zelamiku_threads *all = thread->all;
     zelamiku_seat *seat = zelamiku_seat_of(thread);
     uint32_t status = ZELAMIKU_OK;
-    if (zelamiku_seat_is_durable(seat)) return ZELAMIKU_OK;
+    *is_durable = zelamiku_seat_is_durable(seat);
+    if (*is_durable) return ZELAMIKU_OK;
     uint64_t troubles = __atomic_load_n(&all->troubles, __ATOMIC_SEQ_CST);
     __atomic_add_fetch(&all->awaiting, 1, __ATOMIC_SEQ_CST);
     __atomic_store_n(&seat->awaits, 1, __ATOMIC_SEQ_CST);
     zelamiku_threads_call(all, true);
-    for (;;) {
+    for (bool is_early = true;; is_early = zelamiku_seat_sleep_until(seat, deadline)) {
         /* Before the sections are looked at, since what a last round acknowledges comes before it says so. */
         status = zelamiku_threads_over(all);
-        bool is_durable = zelamiku_seat_is_durable(seat);
-        if (is_durable) status = ZELAMIKU_OK;
-        if (is_durable || status != ZELAMIKU_OK || (status = zelamiku_threads_trouble(all, troubles)) != ZELAMIKU_OK) break;
-        zelamiku_seat_sleep(seat);
+        *is_durable = zelamiku_seat_is_durable(seat);
+        if (*is_durable) status = ZELAMIKU_OK;
+        if (*is_durable || status != ZELAMIKU_OK || (status = zelamiku_threads_trouble(all, troubles)) != ZELAMIKU_OK || !is_early) break;
     }
     __atomic_store_n(&seat->awaits, 0, __ATOMIC_SEQ_CST);
     __atomic_sub_fetch(&all->awaiting, 1, __ATOMIC_SEQ_CST);
     return status;
+}
+
+/* Sleeps until all sections that the thread has ended are durable: it asks for a round, and sleeps on while a section that one of them
+ * depends on is open.
+ * DEVICE: a write has failed: call again. LOST, or what else the heap has ended with, CLOSED among it: they weren't durable before. */
+ZELAMIKU_MUST_USE static inline uint32_t zelamiku_thread_await(zelamiku_thread *thread) {
+    bool is_durable = false;
+    return zelamiku_thread_await_until(thread, NULL, &is_durable);
 }
 
 #ifdef __cplusplus

@@ -1,5 +1,6 @@
 /* A counter service: four threads count, each in a counter of its own and in the total, in one section. Killed at any time and started
  * again on the same file, the total is the sum of its parts, and no less than the total before and what was told as acknowledged since.
+ * A transient field counts since the start alone: whatever the run before had there, each start finds 0.
  *
  *     counters FILE [SECONDS]
  * prints the counters that it finds, and then how many counts are acknowledged since, again and again. It counts for so long (for ever
@@ -13,7 +14,8 @@
 #include <stdio.h>
 #include "zelamiku_threads.h"
 
-enum { WORKERS = 4, TOTAL = 0, CAPACITY = 4096, LINGER = 5000 };
+/* Object 0 has the total, and the counts since the start; object i and field i are worker i's. */
+enum { WORKERS = 4, TOTAL = 0, SINCE = WORKERS + 1, FIELDS = WORKERS + 2, CAPACITY = 4096, LINGER = 5000 };
 
 static int file;
 static zelamiku_threads heap;
@@ -55,6 +57,7 @@ static void *work(void *data) {
         count(&w->thread, w->own);
         must(zelamiku_thread_enter(&w->thread, TOTAL), "enter");
         count(&w->thread, TOTAL);
+        count(&w->thread, SINCE);
         must(zelamiku_thread_exit(&w->thread, TOTAL), "exit");
         must(zelamiku_thread_exit(&w->thread, w->own), "exit");
     }
@@ -79,15 +82,16 @@ static void begin(const char *name) {
     zelamiku_found found = {0};
     uint32_t answer = zelamiku_open_file(&handle, file, &found);
     if (answer == ZELAMIKU_NOT_FORMATTED && is_free()) {
-        zelamiku_field fields[WORKERS + 1];
-        for (uint32_t i = 0; i <= WORKERS; i++) fields[i] = (zelamiku_field){i, i, 0};
-        must(zelamiku_format_file(&handle, file, WORKERS + 1, fields, WORKERS + 1, WORKERS + 1, CAPACITY), "format");
+        zelamiku_field fields[FIELDS];
+        for (uint32_t i = 0; i <= WORKERS; i++) fields[i] = (zelamiku_field){.owner = i, .guard = i};
+        fields[SINCE] = (zelamiku_field){.owner = TOTAL, .guard = TOTAL, .is_transient = 1};
+        must(zelamiku_format_file(&handle, file, WORKERS + 1, fields, FIELDS, WORKERS + 1, CAPACITY), "format");
     } else if (answer == ZELAMIKU_NOT_FORMATTED) {
         fprintf(stderr, "%s has no heap, and isn't empty: it is left as it is\n", name);
         exit(2);
     } else {
         must(answer, name);
-        if (found.objects != WORKERS + 1 || found.fields != WORKERS + 1 || found.lanes != WORKERS + 1) {
+        if (found.objects != WORKERS + 1 || found.fields != FIELDS || found.lanes != WORKERS + 1) {
             fprintf(stderr, "%s has the heap of another program\n", name);
             exit(2);
         }
@@ -96,7 +100,7 @@ static void begin(const char *name) {
 }
 
 typedef struct {
-    uint64_t value[WORKERS + 1];
+    uint64_t value[FIELDS];
 } counters;
 
 /* Reads all counters in one section. It takes the monitors in the workers' order: the total's last. */
@@ -104,7 +108,7 @@ static counters look(zelamiku_thread *own) {
     counters found = {{0}};
     for (uint32_t i = 1; i <= WORKERS; i++) must(zelamiku_thread_enter(own, i), "enter");
     must(zelamiku_thread_enter(own, TOTAL), "enter");
-    for (uint32_t i = 0; i <= WORKERS; i++) must(zelamiku_thread_load(own, i, &found.value[i]), "load");
+    for (uint32_t i = 0; i < FIELDS; i++) must(zelamiku_thread_load(own, i, &found.value[i]), "load");
     for (uint32_t i = 0; i <= WORKERS; i++) must(zelamiku_thread_exit(own, i), "exit");
     return found;
 }
@@ -119,6 +123,13 @@ static void tell(counters found) {
     }
     printf("%s\n", sum == found.value[TOTAL] ? "" : ": WRONG");
     if (sum != found.value[TOTAL]) exit(1);
+}
+
+/* Stops where the transient field doesn't have so many counts. */
+static void must_be_since(counters found, uint64_t counts) {
+    if (found.value[SINCE] == counts) return;
+    fprintf(stderr, "%" PRIu64 " counts since the start, and not %" PRIu64 "\n", found.value[SINCE], counts);
+    exit(1);
 }
 
 /* Tells how many of the workers' sections are acknowledged, each of which counts one, until the seconds are over, or for ever. */
@@ -147,7 +158,9 @@ int main(int argc, char **argv) {
     begin(argv[1]);
     zelamiku_thread own;
     must(zelamiku_thread_begin(&own, &heap), "begin");
-    tell(look(&own));
+    counters first = look(&own);
+    must_be_since(first, 0);
+    tell(first);
     static worker workers[WORKERS];
     pthread_t threads[WORKERS];
     for (uint32_t i = 0; i < WORKERS; i++) {
@@ -159,6 +172,7 @@ int main(int argc, char **argv) {
     stopping = true;
     for (uint32_t i = 0; i < WORKERS; i++) must_do((errno = pthread_join(threads[i], NULL)) == 0, "join");
     counters last = look(&own);
+    must_be_since(last, last.value[TOTAL] - first.value[TOTAL]);
     must(zelamiku_threads_stop(&heap), "stop");
     tell(last); /* durable now */
     must_do(close(file) == 0, "close");

@@ -89,7 +89,7 @@ static double best_of(unsigned batches, zelamiku_handle *session, zelamiku_handl
 int main(int argc, char **argv) {
     unsigned batches = argc > 1 ? (unsigned)strtoul(argv[1], NULL, 10) : 340;
     zelamiku_handle heap = ZELAMIKU_NONE, session = ZELAMIKU_NONE;
-    const zelamiku_field fields[] = {{OWN, OWN, 0}, {SHARED, SHARED, 0}};
+    const zelamiku_field fields[] = {{OWN, OWN, 0, 0}, {SHARED, SHARED, 0, 0}};
     uint64_t size = 0;
     must(zelamiku_format(&heap, 2, fields, 2, 1, CAPACITY, &size), "format");
     throw_calls_away(&heap);

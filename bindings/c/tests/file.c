@@ -66,7 +66,7 @@ static void *watched_malloc(size_t size) {
         } \
     } while (0)
 
-static const zelamiku_field FIELD = {0, 0, 5};
+static const zelamiku_field FIELD = {0, 0, 5, 0};
 
 static int file;
 
@@ -234,8 +234,11 @@ static int faults(void) {
             zelamiku_free(&heap);
             MUST(found() == 8);
         } else {
-            MUST(status == ZELAMIKU_LOST && !heap.is_open);
-            MUST(zelamiku_make_calls(&heap, file, &made) == ZELAMIKU_CLOSED && made == 0);
+            MUST(status == ZELAMIKU_LOST);
+            MUST(zelamiku_make_calls(&heap, file, &made) == ZELAMIKU_STOPPED && made == 0);
+            MUST(zelamiku_call_failed(&heap) == ZELAMIKU_STOPPED && zelamiku_close(&heap) == ZELAMIKU_STOPPED);
+            MUST(zelamiku_round(&heap, &made) == ZELAMIKU_STOPPED && zelamiku_acknowledged(&heap, 0, &sections) == ZELAMIKU_STOPPED);
+            zelamiku_free(&heap);
             uint64_t value = found();
             MUST(value == 7 || value == 8);
         }

@@ -4,6 +4,7 @@
 #define _GNU_SOURCE
 #include <errno.h>
 #include <fcntl.h>
+#include <pthread.h>
 #include <stdio.h>
 #include <stdlib.h>
 #include <sched.h>
@@ -13,6 +14,7 @@
 #include <unistd.h>
 
 static int writes_fail, syncs_fail; /* by the helper's thread, and set while it rests */
+static int syncs_hang;              /* a sync returns once this is 0 */
 static unsigned syncs;
 
 static ssize_t flaky_pwrite(int file, const void *bytes, size_t size, off_t at) {
@@ -25,6 +27,7 @@ static ssize_t flaky_pwrite(int file, const void *bytes, size_t size, off_t at) 
 
 static int flaky_fdatasync(int file) {
     __atomic_add_fetch(&syncs, 1, __ATOMIC_SEQ_CST);
+    while (__atomic_load_n(&syncs_hang, __ATOMIC_SEQ_CST)) usleep(100);
     if (__atomic_load_n(&syncs_fail, __ATOMIC_SEQ_CST)) {
         errno = EIO;
         return -1;
@@ -32,8 +35,17 @@ static int flaky_fdatasync(int file) {
     return fdatasync(file);
 }
 
+static const void *helpers_bell;
+static unsigned sleeps; /* how often threads have slept, but for the helper */
+
+static int counted_cond_wait(pthread_cond_t *bell, pthread_mutex_t *mutex) {
+    if (bell != helpers_bell) __atomic_add_fetch(&sleeps, 1, __ATOMIC_SEQ_CST);
+    return pthread_cond_wait(bell, mutex);
+}
+
 #define pwrite flaky_pwrite
 #define fdatasync flaky_fdatasync
+#define pthread_cond_wait counted_cond_wait
 #include "zelamiku_threads.h"
 
 #define MUST(is_so) \
@@ -46,7 +58,7 @@ static int flaky_fdatasync(int file) {
 
 enum { LANES = 8, TOTAL = 0, LIST = 1, COUNT = 1, TAKEN = 2, ROUNDS = 500 };
 
-static const zelamiku_field FIELDS[] = {{TOTAL, TOTAL, 0}, {LIST, LIST, 0}, {LIST, LIST, 0}};
+static const zelamiku_field FIELDS[] = {{TOTAL, TOTAL, 0, 0}, {LIST, LIST, 0, 0}, {LIST, LIST, 0, 0}};
 
 static int file;
 static zelamiku_threads all;
@@ -252,6 +264,78 @@ static void failing_syncs(void) {
     MUST((value == 2 || value == 3) && zelamiku_threads_stop(&all) == ZELAMIKU_OK);
 }
 
+static struct timespec after(long milliseconds) {
+    struct timespec due;
+    MUST(clock_gettime(CLOCK_MONOTONIC, &due) == 0);
+    due.tv_nsec += milliseconds * 1000000;
+    due.tv_sec += due.tv_nsec / 1000000000;
+    due.tv_nsec %= 1000000000;
+    return due;
+}
+
+static bool is_past(const struct timespec *due) {
+    struct timespec now = after(0);
+    return now.tv_sec > due->tv_sec || (now.tv_sec == due->tv_sec && now.tv_nsec >= due->tv_nsec);
+}
+
+/* A deadline that passes leaves all as it was, and the round that was asked for goes on. */
+static void deadlines(void) {
+    begin_anew();
+    zelamiku_thread own;
+    bool is_durable = true;
+    MUST(zelamiku_thread_begin(&own, &all) == ZELAMIKU_OK);
+    add(&own, TOTAL, 0, 1);
+    struct timespec due = after(10000);
+    MUST(zelamiku_thread_await_until(&own, &due, &is_durable) == ZELAMIKU_OK && is_durable && !is_past(&due));
+    __atomic_store_n(&syncs_hang, 1, __ATOMIC_SEQ_CST);
+    add(&own, TOTAL, 0, 1);
+    for (long milliseconds = -5; milliseconds <= 20; milliseconds += 25) {
+        due = after(milliseconds);
+        MUST(zelamiku_thread_await_until(&own, &due, &is_durable) == ZELAMIKU_OK && !is_durable && is_past(&due));
+    }
+    MUST(zelamiku_thread_durable(&own) == 1);
+    add(&own, TOTAL, 0, 1);
+    __atomic_store_n(&syncs_hang, 0, __ATOMIC_SEQ_CST);
+    due = after(10000);
+    MUST(zelamiku_thread_await_until(&own, &due, &is_durable) == ZELAMIKU_OK && is_durable && zelamiku_thread_durable(&own) == 3);
+    due = after(-5);
+    MUST(zelamiku_thread_await_until(&own, &due, &is_durable) == ZELAMIKU_OK && is_durable);
+    __atomic_store_n(&syncs_fail, 1, __ATOMIC_SEQ_CST);
+    add(&own, TOTAL, 0, 1);
+    due = after(10000);
+    MUST(zelamiku_thread_await_until(&own, &due, &is_durable) == ZELAMIKU_LOST && !is_durable);
+    __atomic_store_n(&syncs_fail, 0, __ATOMIC_SEQ_CST);
+    MUST(zelamiku_threads_stop(&all) == ZELAMIKU_LOST);
+}
+
+static unsigned order[LANES], in_order; /* under TOTAL's monitor */
+
+static void *take_turn(void *data) {
+    zelamiku_thread own;
+    MUST(zelamiku_thread_begin(&own, &all) == ZELAMIKU_OK && zelamiku_thread_enter(&own, TOTAL) == ZELAMIKU_OK);
+    order[in_order++] = (unsigned)(uintptr_t)data;
+    MUST(zelamiku_thread_exit(&own, TOTAL) == ZELAMIKU_OK && zelamiku_thread_end(&own) == ZELAMIKU_OK);
+    return NULL;
+}
+
+/* Threads that sleep for one monitor get it in the order in which they came. */
+static void turns(void) {
+    begin_anew();
+    zelamiku_thread own;
+    pthread_t threads[LANES - 1];
+    MUST(zelamiku_thread_begin(&own, &all) == ZELAMIKU_OK && zelamiku_thread_enter(&own, TOTAL) == ZELAMIKU_OK);
+    in_order = 0;
+    unsigned before = __atomic_load_n(&sleeps, __ATOMIC_SEQ_CST);
+    for (unsigned i = 0; i < LANES - 1; i++) {
+        MUST(pthread_create(&threads[i], NULL, take_turn, (void *)(uintptr_t)i) == 0);
+        /* One that only stands in its place may try once more. */
+        while (__atomic_load_n(&sleeps, __ATOMIC_SEQ_CST) - before <= i) usleep(100);
+    }
+    MUST(zelamiku_thread_exit(&own, TOTAL) == ZELAMIKU_OK);
+    for (unsigned i = 0; i < LANES - 1; i++) MUST(pthread_join(threads[i], NULL) == 0 && order[i] == i);
+    MUST(zelamiku_thread_end(&own) == ZELAMIKU_OK && zelamiku_threads_stop(&all) == ZELAMIKU_OK);
+}
+
 static double processor_time(void) {
     struct rusage usage;
     MUST(getrusage(RUSAGE_SELF, &usage) == 0);
@@ -284,12 +368,15 @@ int main(int argc, char **argv) {
     MUST(argc >= 2 && chdir(argv[1]) == 0);
     file = open("threads.image", O_RDWR | O_CREAT | O_TRUNC, 0644);
     MUST(file >= 0);
+    helpers_bell = &all.bell;
     lives();
     unawaited();
     refusals();
     failing_writes();
     failing_syncs();
+    deadlines();
+    turns();
     rest(argc > 2 ? (unsigned)strtoul(argv[2], NULL, 10) : 200);
-    printf("threads: lives of %d threads, refusals, writes and syncs that fail, and rest\n", LANES);
+    printf("threads: lives of %d threads, refusals, writes and syncs that fail, deadlines, turns, and rest\n", LANES);
     return 0;
 }

@@ -53,6 +53,9 @@ pub struct Field {
     pub guard: u32,
     /// The value with which it begins.
     pub first: u64,
+    /// Whether it is transient: threads share it as any other, no log keeps what they store, and at each open it begins with that
+    /// value again.
+    pub is_transient: bool,
 }
 
 /// What a look shows of a monitor.
@@ -76,9 +79,9 @@ fn lane(number: u32) -> Option<u32> {
 /// A write that fails may be made again: the next [`make_calls`](Heap::make_calls) does. A sync that fails stops the heap for good, and is
 /// never made again: what was written before it may be lost, though the device still reads as it was written and a later sync succeeds,
 /// since systems drop the pages that they couldn't write. From then on `make_calls` is an error, and [`round`](Heap::round),
-/// [`acknowledged`](Heap::acknowledged) and [`close`](Heap::close) answer [`Refusal::Failed`]. What was acknowledged before stays:
-/// drop the heap and its sessions, and open it again from bytes that the device itself has, read past the system's cache or after the
-/// file system was mounted again.
+/// [`acknowledged`](Heap::acknowledged) and [`close`](Heap::close) answer [`Refusal::Stopped`], as each session does that would enter,
+/// wait or resume. What was acknowledged before stays: drop the heap and its sessions, and open it again from bytes that the device
+/// itself has, read past the system's cache or after the file system was mounted again.
 pub trait Device {
     /// Writes these bytes at this place, all of them.
     fn write_at(&mut self, at: u64, bytes: &[u8]) -> io::Result<()>;
@@ -98,49 +101,60 @@ impl Device for std::fs::File {
     }
 }
 
-// What is behind a handle of a heap, and whether a sync of its device has failed.
+// What is behind a handle of a heap.
 struct Hosted {
     handle: Owned,
-    has_failed: bool,
+    // The bytes of the call that is made.
+    bytes: Vec<u8>,
+}
+
+// A call that the library is told to have failed, unless it is forgotten: also one that doesn't come back.
+struct Failing<'a>(&'a mut Owned);
+
+impl Drop for Failing<'_> {
+    fn drop(&mut self) {
+        // Behind a write that is Ok, and the same call is told again; behind a sync the library has stopped.
+        let _ = self.0.call_failed();
+    }
+}
+
+// Makes a call, and tells the library where that fails.
+fn make(handle: &mut Owned, call: impl FnOnce() -> io::Result<()>) -> io::Result<()> {
+    let failing = Failing(handle);
+    call()?;
+    std::mem::forget(failing);
+    Ok(())
 }
 
 impl Hosted {
     // Makes all calls that are left, and answers how many. A write that fails is told again by the next call.
     fn make_calls(&mut self, device: &mut dyn Device) -> io::Result<u64> {
-        let mut bytes = vec![0; raw::MOST_BYTES];
         let mut made = 0;
         loop {
-            self.must_go_on().map_err(io::Error::other)?;
             let mut call = raw::Call::default();
-            answer(self.handle.next_call(&mut call, &mut bytes)).map_err(io::Error::other)?;
+            answer(self.handle.next_call(&mut call, &mut self.bytes)).map_err(io::Error::other)?;
             match call.kind {
                 raw::NO_CALL => return Ok(made),
-                raw::WRITE if call.size > bytes.len() as u64 => {
+                raw::WRITE if call.size > self.bytes.len() as u64 => {
                     // It is told again, whole.
-                    bytes.resize(call.size as usize, 0);
+                    self.bytes.resize(call.size as usize, 0);
                     continue;
                 }
-                raw::WRITE => device.write_at(call.at, &bytes[..call.size as usize])?,
-                _ => self.sync(device)?,
+                raw::WRITE => {
+                    let bytes = &self.bytes[..call.size as usize];
+                    make(&mut self.handle, || device.write_at(call.at, bytes))?
+                }
+                _ => make(&mut self.handle, || device.sync())?,
             }
             answer(self.handle.call_done()).map_err(io::Error::other)?;
             made += 1;
         }
     }
 
-    // One that doesn't come back has failed too.
-    fn sync(&mut self, device: &mut dyn Device) -> io::Result<()> {
-        self.has_failed = true;
-        device.sync()?;
-        self.has_failed = false;
-        Ok(())
-    }
-
-    fn must_go_on(&self) -> Result<(), Refusal> {
-        if self.has_failed {
-            return Err(Refusal::Failed);
-        }
-        Ok(())
+    // Whether the library has stopped since a sync of the device failed.
+    fn has_failed(&mut self) -> bool {
+        let mut call = raw::Call::default();
+        answer(self.handle.next_call(&mut call, &mut [])) == Err(Refusal::Stopped)
     }
 }
 
@@ -156,15 +170,15 @@ pub struct Closed {
 
 impl Heap {
     // Whether a sync of the device has failed.
-    fn has_failed(&self) -> bool {
-        self.hosted.has_failed
+    fn has_failed(&mut self) -> bool {
+        self.hosted.has_failed()
     }
 
     fn of(handle: Owned) -> Heap {
         Heap {
             hosted: Hosted {
                 handle,
-                has_failed: false,
+                bytes: vec![0; raw::MOST_BYTES],
             },
         }
     }
@@ -178,6 +192,7 @@ impl Heap {
                 owner: f.owner,
                 guard: f.guard,
                 first: f.first,
+                is_transient: f.is_transient.into(),
             })
             .collect();
         let mut handle = Owned::none();
@@ -204,16 +219,16 @@ impl Heap {
     /// A round of the helper: answers how many records it applied.
     ///
     /// [`Refusal::CallsLeft`]: the calls of so many rounds are left that those of one more might have no room. Nothing was done: make
-    /// them, and go on. [`Refusal::Failed`]: a sync of the device has failed, or an earlier round was refused by [`Refusal::Fault`].
+    /// them, and go on. [`Refusal::Stopped`]: a sync of the device has failed. [`Refusal::Failed`]: an earlier round was refused by
+    /// [`Refusal::Fault`].
     pub fn round(&mut self) -> Result<u64, Refusal> {
-        self.hosted.must_go_on()?;
         let mut applied = 0;
         answer(self.hosted.handle.round(&mut applied))?;
         Ok(applied)
     }
 
     /// Makes all calls of the device that are left, and answers how many. After a write that failed the same call is told again; after
-    /// a sync that failed each later `make_calls` is an error, of [`Refusal::Failed`] ([`Device`]).
+    /// a sync that failed each later `make_calls` is an error, of [`Refusal::Stopped`] ([`Device`]).
     pub fn make_calls(&mut self, device: &mut dyn Device) -> io::Result<u64> {
         self.hosted.make_calls(device)
     }
@@ -221,9 +236,8 @@ impl Heap {
     /// How many sections of the lane are acknowledged since the heap was opened, once all calls that are left were made: no crash of
     /// the device loses them.
     ///
-    /// [`Refusal::CallsLeft`] before; [`Refusal::Failed`] where a sync of the device has failed; [`Refusal::BadLane`].
+    /// [`Refusal::CallsLeft`] before; [`Refusal::Stopped`] where a sync of the device has failed; [`Refusal::BadLane`].
     pub fn acknowledged(&mut self, lane: u32) -> Result<u64, Refusal> {
-        self.hosted.must_go_on()?;
         let mut sections = 0;
         answer(self.hosted.handle.acknowledged(lane, &mut sections))?;
         Ok(sections)
@@ -233,9 +247,6 @@ impl Heap {
     /// where the last round's calls might have no room, it comes back. After another refusal it has stopped: what was acknowledged
     /// stays, and calls that were left are never told.
     pub fn close(mut self) -> Result<Closed, (Option<Heap>, Refusal)> {
-        if let Err(refusal) = self.hosted.must_go_on() {
-            return Err((None, refusal));
-        }
         match answer(self.hosted.handle.close()) {
             Ok(()) => Ok(Closed { hosted: self.hosted }),
             Err(refusal @ (Refusal::Running | Refusal::CallsLeft)) => Err((Some(self), refusal)),
@@ -246,8 +257,8 @@ impl Heap {
 
 impl Closed {
     // Whether a sync of the device has failed.
-    fn has_failed(&self) -> bool {
-        self.hosted.has_failed
+    fn has_failed(&mut self) -> bool {
+        self.hosted.has_failed()
     }
 
     /// Makes the last calls. Then the device has all that the sessions did. It fails as [`Heap::make_calls`] does.

@@ -46,6 +46,7 @@ pub struct Field {
     pub owner: u32,
     pub guard: u32,
     pub first: u64,
+    pub is_transient: u32,
 }
 
 /// What a heap has, and what recovery found.
@@ -82,6 +83,8 @@ pub struct Sight {
 }
 
 extern "C" {
+    // An older name is of a library whose fields are shorter.
+    #[link_name = "zelamiku_format_marked"]
     fn zelamiku_format(
         heap: *mut Handle,
         objects: u32,
@@ -95,6 +98,7 @@ extern "C" {
     fn zelamiku_session(heap: *mut Handle, session: *mut Handle) -> u32;
     fn zelamiku_next_call(heap: *mut Handle, call: *mut Call, bytes: *mut u8, size: usize) -> u32;
     fn zelamiku_call_done(heap: *mut Handle) -> u32;
+    fn zelamiku_call_failed(heap: *mut Handle) -> u32;
     fn zelamiku_round(heap: *mut Handle, applied: *mut u64) -> u32;
     fn zelamiku_acknowledged(heap: *mut Handle, lane: u32, sections: *mut u64) -> u32;
     fn zelamiku_close(heap: *mut Handle) -> u32;
@@ -139,6 +143,7 @@ macro_rules! calls {
 
 calls! {
     call_done() = zelamiku_call_done;
+    call_failed() = zelamiku_call_failed;
     round(applied: &mut u64) = zelamiku_round;
     acknowledged(lane: u32, sections: &mut u64) = zelamiku_acknowledged;
     close() = zelamiku_close;

@@ -66,6 +66,8 @@ refusals! {
     30 BadRecord "the image has a record that can't be read"
     31 IllegalLog "no threads can have left the image's log"
     34 Busy "another process has the heap of the file, or the file was replaced or removed"
+    35 Stopped "the heap has stopped since its host couldn't make a sync"
+    40 OldVersion "the image has a version from before there were transient fields"
 }
 
 impl Refusal {

@@ -71,6 +71,7 @@ fn make() -> (Heap, Cached) {
         owner: 0,
         guard: 0,
         first: 0,
+        is_transient: false,
     };
     let (mut heap, size) = Heap::format(1, &[field], 1, 2000).unwrap();
     let mut device = Cached::zeros(size);
@@ -122,13 +123,13 @@ fn a_sync_that_failed_stops_the_heap() {
         let syncs = device.syncs;
         for _ in 0..2 {
             let error = heap.make_calls(&mut device).unwrap_err();
-            assert_eq!(error.get_ref().and_then(|inner| inner.downcast_ref()), Some(&Refusal::Failed));
+            assert_eq!(error.get_ref().and_then(|inner| inner.downcast_ref()), Some(&Refusal::Stopped));
         }
         assert_eq!(device.syncs, syncs);
-        assert_eq!(heap.acknowledged(0), Err(Refusal::Failed));
-        assert_eq!(heap.round(), Err(Refusal::Failed));
+        assert_eq!(heap.acknowledged(0), Err(Refusal::Stopped));
+        assert_eq!(heap.round(), Err(Refusal::Stopped));
         let (heap, refusal) = heap.close().unwrap_err();
-        assert_eq!((heap.is_none(), refusal), (true, Refusal::Failed));
+        assert_eq!((heap.is_none(), refusal), (true, Refusal::Stopped));
         // Nothing was acknowledged, so either is right.
         let found = found_in(&device.durable);
         assert!(found == 0 || found == 7);
@@ -164,7 +165,9 @@ fn an_acknowledged_section_stays_though_a_later_sync_fails() {
     }
     device.syncs_left = Some(0);
     heap.make_calls(&mut device).unwrap_err();
-    assert_eq!(heap.acknowledged(0), Err(Refusal::Failed));
+    assert_eq!(heap.acknowledged(0), Err(Refusal::Stopped));
+    // The session learns of it, in place of working on for nothing.
+    assert_eq!(session.enter(0), Err(Refusal::Stopped));
     assert!(found_in(&device.durable) >= 1);
 }
 
@@ -203,6 +206,7 @@ fn a_wait_for_a_monitor_may_be_given_up() {
         owner: 0,
         guard: 0,
         first: 0,
+        is_transient: false,
     }];
     let (mut heap, _) = Heap::format(1, &fields, 2, 2000).unwrap();
     let mut first = heap.session().unwrap();

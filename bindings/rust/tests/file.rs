@@ -8,6 +8,7 @@ const FIELD: Field = Field {
     owner: 0,
     guard: 0,
     first: 5,
+    is_transient: false,
 };
 
 // A path for this test alone, where no file is.

@@ -20,6 +20,7 @@ fn make(lanes: u32) -> (Heap, Bytes) {
         owner: object,
         guard: object,
         first: 10 + u64::from(object),
+        is_transient: false,
     });
     let (mut heap, size) = Heap::format(2, &fields, lanes, 2000).unwrap();
     let mut device = Bytes(vec![0; size as usize]);
@@ -112,5 +113,5 @@ fn a_session_waits_and_is_notified() {
 fn what_is_no_heap_is_refused() {
     assert_eq!(Heap::open(&[0; 100]).err(), Some(Refusal::NotFormatted));
     assert_eq!(Heap::format(0, &[], 1, 2000).err(), Some(Refusal::Empty));
-    assert!(Heap::format(1, &[Field { owner: 0, guard: 1, first: 0 }], 1, 2000).is_err());
+    assert!(Heap::format(1, &[Field { owner: 0, guard: 1, first: 0, is_transient: false }], 1, 2000).is_err());
 }

@@ -78,10 +78,10 @@ recover_words = with_rule (new_app (codes "recover")) (path_option (codes "image
 abbrev pub drive_words : App
 drive_words = with_rule (with_rule (with_rule (new_app (codes "drive")) workers_option) rounds_option) (file_option (codes "image"))
 
--- `heapctl` alone, with a version and no word `help`
+-- `heapctl` alone, with a version, and with the word `help` that clap gives
 abbrev pub top : App
 top = record {
-  top = record (new_shape (codes "heapctl")) { has_version = true; disable_help_subcommand = true };
+  top = record (new_shape (codes "heapctl")) { has_version = true };
   subs = [];
 }
 

@@ -200,8 +200,7 @@ fn play<'a>(alloc: Global) -> Result<Command<'a>, AllocError>
     let top = Command::new(alloc, "heapctl")
         .version("0.1.0")
         .about("Plays threads on an object heap that survives crashes")
-        .after_help(EXIT_STATUSES)
-        .disable_help_subcommand(true);
+        .after_help(EXIT_STATUSES);
     top.subcommand(run)
 }
 

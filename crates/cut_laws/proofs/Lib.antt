@@ -11,3 +11,4 @@ pub mod PlainStable
 pub mod Existence
 pub mod Held
 pub mod Numbered
+pub mod Unlogged

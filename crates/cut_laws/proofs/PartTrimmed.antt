@@ -2,7 +2,7 @@
 use Rattle.std.proofs.Common.{ℕ, ◌≡◌, ◌+◌, ◌-◌, ◌<◌, ◌≤◌, List, sym, ap, ◌∙◌, subst, inl, inr, arith}
 use Rattle.std.proofs.lemmas.Bool.{cases_lt}
 use Rattle.heap_model.specs.Log.{lane}
-use Rattle.heap_model.specs.Sections.{Action, Takes, Frees, ended, Section, Did, DependsOn, Earlier, Took}
+use Rattle.heap_model.specs.Sections.{Action, Takes, Frees, ended, Did, Earlier, Took}
 use Rattle.heap_model.specs.Cuts.{Counts, IsWhole, IsClosed, IsStable}
 use Rattle.heap_model.specs.Base.{since}
 use Rattle.cut_laws.proofs.Trimmed.{since_counts, shifted, lowered, raised, did_before, did_since, did_some, same_shifted}

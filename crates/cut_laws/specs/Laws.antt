@@ -1,11 +1,12 @@
 -- The laws of cuts.
-use Rattle.std.specs.Prelude.{ℕ, ◌≡◌, ◌+◌, ◌≤◌, List, ◌++◌}
+use Rattle.std.specs.Prelude.{ℕ, ◌≡◌, ◌+◌, ◌≤◌, false, List, ◌++◌}
 use Rattle.heap_model.specs.declared.record.Record.{Record}
 use Rattle.heap_model.specs.Setting.{Setting}
-use Rattle.heap_model.specs.Log.{IsLegal}
+use Rattle.heap_model.specs.Log.{value, IsLegal}
 use Rattle.heap_model.specs.Sections.{Action, actions}
 use Rattle.heap_model.specs.Cuts.{IsWhole, IsClosed, IsStable, union}
 use Rattle.heap_model.specs.Base.{since}
+use Rattle.heap_model.specs.KeptHeap.{kept_value}
 
 -- The greater of two whole closed cuts, lane by lane, is one.
 abbrev pub UnionLaw : Type 0
@@ -29,3 +30,8 @@ StayLaw = (s : Setting) (newer log : List (ℕ × Record)) (cut : ℕ → ℕ) �
 abbrev pub PartTrimLaw : Type 0
 PartTrimLaw = (log : List (ℕ × Action)) (top base cut : ℕ → ℕ) → IsWhole log top → IsClosed log top → ((l : ℕ) → base l ≤ top l) → IsStable (since base log) cut →
     IsStable log (λ l. base l + cut l)
+
+-- A field whose stores logs don't keep has its first value after each legal log, and in each cut of it.
+abbrev pub UnloggedLaw : Type 0
+UnloggedLaw = (s : Setting) (log : List (ℕ × Record)) (f : ℕ) → IsLegal s log → s.is_logged f ≡ false →
+    (value s.first f log ≡ s.first f) × ((cut : ℕ → ℕ) → kept_value s.first cut f log ≡ s.first f)

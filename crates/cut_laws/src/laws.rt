@@ -1,6 +1,6 @@
 //! The laws of cuts. Each is the contract of a function that does nothing, so that the gate proves it.
 
-ghost use Rattle.cut_laws.specs.Laws.{UnionLaw, StableLaw, OneStableLaw, StayLaw, PartTrimLaw};
+ghost use Rattle.cut_laws.specs.Laws.{UnionLaw, StableLaw, OneStableLaw, StayLaw, PartTrimLaw, UnloggedLaw};
 
 /// The greater of two whole closed cuts, lane by lane, is one.
 pub fn union_law()
@@ -21,4 +21,9 @@ pub fn stay_law()
 /// A part of a whole closed cut may be left out: the stable cut of all is that part and the stable cut since.
 pub fn part_trim_law()
     ensures { PartTrimLaw }
+{}
+
+/// A field whose stores logs don't keep has its first value, after each legal log and in each cut of it.
+pub fn unlogged_law()
+    ensures { UnloggedLaw }
 {}

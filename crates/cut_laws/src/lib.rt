@@ -9,4 +9,4 @@ mod numbering;
 pub mod plain;
 mod step;
 
-pub use laws::{part_trim_law, stable_law, stay_law, union_law};
+pub use laws::{part_trim_law, stable_law, stay_law, union_law, unlogged_law};

@@ -1,5 +1,5 @@
 -- What a file declares has names that a file may have.
-use Rattle.std.proofs.Common.{◌≡◌, ◌≢◌, ◌⊎◌, ℕ, zero, suc, ◌<◌, true, false, List, [], ◌∷◌, ◌++◌, Some, ap, length, get_or, refl, sym, subst, ◌∙◌, inl, inr, append_assoc, append-nil, arith}
+use Rattle.std.proofs.Common.{◌≡◌, ◌≢◌, ◌⊎◌, ℕ, zero, suc, ◌<◌, Bool, true, false, List, [], ◌∷◌, ◌++◌, Some, ap, length, get_or, refl, sym, subst, ◌∙◌, inl, inr, append_assoc, append-nil, arith}
 use Rattle.std.specs.Prelude.{slice_get, Contains}
 use Rattle.std.specs.Str.{bytes_eq}
 use Rattle.std.proofs.lemmas.Bool.{cases_Bool}
@@ -51,9 +51,9 @@ object_added old new name some h =
     (free, (room.passed (λ full. clash _ (room.refused full).0)).1)
 
 -- what a field's line adds
-field_added : (old new : Declarations) (name owner guard : List ℕ) (first : ℕ) → (name ≢ []) → DeclaresField old Added new name owner guard first
+field_added : (old new : Declarations) (name owner guard : List ℕ) (first : ℕ) (is_transient : Bool) → (name ≢ []) → DeclaresField old Added new name owner guard first is_transient
     → (Contains (names_of old.fields) name → ⊥) × ((f : Field) × (f.name ≡ name) × (new ≡ with_field old f))
-field_added old new name owner guard first some h =
+field_added old new name owner guard first is_transient some h =
     let named = h.passed some in
     let free : Contains (names_of old.fields) name → ⊥ = λ c. clash _ (named.refused c).0 in
     let owned = named.passed free in (
@@ -64,7 +64,7 @@ field_added old new name owner guard first some h =
           | inr none ↦ absurd (clash _ ((owned.known o.0 o.1).unknown none).0)
           | inl g ↦
               let room = (owned.known o.0 o.1).known g.0 g.1 in
-              (record { name = name; owner = o.0; guard = g.0; first = first }, refl, (room.passed (λ full. clash _ (room.refused full).0)).1)
+              (record { name = name; owner = o.0; guard = g.0; first = first; is_transient = is_transient }, refl, (room.passed (λ full. clash _ (room.refused full).0)).1)
         ]
       ],
     )
@@ -76,8 +76,8 @@ line_keeps : (order : Order) (old new : Declarations) (line : List ℕ) → Asks
 line_keeps (order.Object name) old new line asks h is =
     let added = object_added old new name (named name asks.2.0) h in
     subst HasNames (sym added.1) (record { objects = names_more [] old.objects name is.objects asks.2.0 added.0; fields = is.fields })
-line_keeps (order.Field name owner guard first) old new line asks h is =
-    let added = field_added old new name owner guard first (named name asks.2.0) h in
+line_keeps (order.Field name owner guard first is_transient) old new line asks h is =
+    let added = field_added old new name owner guard first is_transient (named name asks.2.0) h in
     let f : Field = added.1.0 in
     let more : AreNames [] (names_of old.fields ++ f.name ∷ []) = names_more [] (names_of old.fields) f.name is.fields (subst IsName (sym added.1.1) asks.2.0) (subst (λ x. Contains (names_of old.fields) x → ⊥) (sym added.1.1) added.0) in
     subst HasNames (sym added.1.2) (record { objects = is.objects; fields = subst (AreNames []) (sym (names-push old.fields f)) more })

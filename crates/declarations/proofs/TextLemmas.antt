@@ -1,5 +1,5 @@
 -- The lines of a schema's own file declare it, and no other.
-use Rattle.std.proofs.Common.{◌≡◌, ◌≢◌, ℕ, zero, suc, ◌+◌, ◌^◌, ◌<◌, ◌≤◌, true, false, List, [], ◌∷◌, ◌++◌, ◌==◌, ◌&&◌, ltb, leb, Some, length, get_or, refl, sym, ap, subst, ◌∙◌, inl, inr, append_assoc, append-nil, length-append, arith, rules}
+use Rattle.std.proofs.Common.{◌≡◌, ◌≢◌, ℕ, zero, suc, ◌+◌, ◌^◌, ◌<◌, ◌≤◌, Bool, true, false, List, [], ◌∷◌, ◌++◌, ◌==◌, ◌&&◌, ltb, leb, Some, length, get_or, refl, sym, ap, subst, ◌∙◌, inl, inr, append_assoc, append-nil, length-append, arith, rules}
 use Rattle.std.specs.Prelude.{codes, slice_get, slice_index, Contains}
 use Rattle.std.proofs.lemmas.Bool.{and_parts, leb-true, ltb-true}
 use Rattle.std.proofs.lemmas.Bool.Decides.{nat_tests}
@@ -14,8 +14,8 @@ use Rattle.std.specs.Str.Parse.{AllDigits}
 use Rattle.guards.specs.Schema.{Declarations, Field, IsSchema, object_count, names_of, owners_of, guards_of, firsts_of, nothing, with_object, with_field}
 use Rattle.heap_model.specs.declared.limits.TheConstants.{MOST_OBJECTS, MOST_FIELDS}
 use Rattle.script_lines.specs.Cutting.{words_in}
-use Rattle.script_lines.specs.Grammar.{is_name_byte, Asks, IsName, IsNumber}
-use Rattle.script_lines.specs.Lines.{lines_of, IsText}
+use Rattle.script_lines.specs.Grammar.{is_name_byte, field_word, Asks, IsName, IsNumber}
+use Rattle.script_lines.specs.Lines.{lines_of, IsText, IsSkipped}
 use Rattle.script_lines.specs.Orders as order
 use Rattle.script_lines.specs.Orders.{Order}
 use Rattle.script_lines.specs.Reading.{order_in}
@@ -128,8 +128,24 @@ space_gap = ((λ e. absurd cc), (refl, tt))
 keyword_object : IsWord (codes "object")
 keyword_object = ((λ e. absurd cc), search rules)
 
-keyword_field : IsWord (codes "field")
-keyword_field = ((λ e. absurd cc), search rules)
+keyword_field : (is_transient : Bool) → IsWord (field_word is_transient)
+keyword_field false = ((λ e. absurd cc), search rules)
+keyword_field true = ((λ e. absurd cc), search rules)
+
+plain_keyword : (is_transient : Bool) → ArePlain (field_word is_transient)
+plain_keyword false = search rules
+plain_keyword true = search rules
+
+short_keyword : (is_transient : Bool) → length (field_word is_transient) ≤ 9
+short_keyword false = omega arith
+short_keyword true = omega arith
+
+-- such a line is read
+read_keyword : (is_transient : Bool) (rest : List ℕ) → IsSkipped (field_word is_transient ++ rest) → ⊥
+read_keyword false rest (inl e) = absurd (omega (arith, length-append (codes "field") rest, e))
+read_keyword false rest (inr e) = absurd (omega (arith, e))
+read_keyword true rest (inl e) = absurd (omega (arith, length-append (codes "transient") rest, e))
+read_keyword true rest (inr e) = absurd (omega (arith, e))
 
 last_word : (w : List ℕ) → Spells w → AreWords (w ∷ []) (w ++ [])
 last_word w s = (s.word, append-nil w)
@@ -220,7 +236,7 @@ module _ (objects : List (List ℕ)) (names : AreNames [] objects) (f : Field) (
   guard_name = name_of objects f.guard
 
   abbrev asked : Order
-  asked = order.Field f.name owner_name guard_name f.first
+  asked = order.Field f.name owner_name guard_name f.first f.is_transient
 
   owner_is : IsName owner_name
   owner_is = name_is [] objects names f.owner is.owner
@@ -247,8 +263,8 @@ module _ (objects : List (List ℕ)) (names : AreNames [] objects) (f : Field) (
 
   asks_field : Asks asked (field_line objects f)
   asks_field = (
-    codes "field" ∷ f.name ∷ owner_name ∷ guard_name ∷ decimal f.first ∷ [],
-    (keyword_field, codes " ", f.name ++ middle, space_gap, refl, words_field),
+    field_word f.is_transient ∷ f.name ∷ owner_name ∷ guard_name ∷ decimal f.first ∷ [],
+    (keyword_field f.is_transient, codes " ", f.name ++ middle, space_gap, refl, words_field),
     (is.named, owner_is, guard_is, decimal f.first, is_number f.first is.first, refl),
   )
 
@@ -258,7 +274,8 @@ module _ (objects : List (List ℕ)) (names : AreNames [] objects) (f : Field) (
       let number = plain-append (codes " ") (decimal f.first ++ []) space (plain-append (decimal f.first) [] (number_spelled f.first is.first).plain tt) in
       let guarded = plain-append (codes " ") (guard_name ++ ending) space (plain-append guard_name ending (spelled guard_name guard_is).plain number) in
       let owned = plain-append (codes " ") _ space (plain-append owner_name _ (spelled owner_name owner_is).plain guarded) in
-      plain-append (codes "field ") _ (search rules) (plain-append f.name _ (spelled f.name is.named).plain owned)
+      let named = plain-append (codes " ") _ space (plain-append f.name _ (spelled f.name is.named).plain owned) in
+      plain-append (field_word f.is_transient) _ (plain_keyword f.is_transient) named
 
   text_field : IsText (field_line objects f)
   text_field =
@@ -272,7 +289,9 @@ module _ (objects : List (List ℕ)) (names : AreNames [] objects) (f : Field) (
           b,
           c,
           d,
-          length-append (codes "field ") (f.name ++ middle),
+          short_keyword f.is_transient,
+          length-append (field_word f.is_transient) (codes " " ++ (f.name ++ middle)),
+          length-append (codes " ") (f.name ++ middle),
           length-append f.name middle,
           length-append (codes " ") (owner_name ++ (codes " " ++ (guard_name ++ ending))),
           length-append owner_name (codes " " ++ (guard_name ++ ending)),
@@ -314,7 +333,7 @@ module _ (objects : List (List ℕ)) (names : AreNames [] objects) (f : Field) (
               unknown = λ no. absurd (no (Contains-get_or objects f.guard [] is.guard));
               known = λ g there. record {
                 refused = λ full. absurd (omega (arith, room, full));
-                passed = λ _. (refl, λ i. with_field old (record { name = f.name; owner = number_is f.owner o is.owner at i; guard = number_is f.guard g is.guard there i; first = f.first }));
+                passed = λ _. (refl, λ i. with_field old (record { name = f.name; owner = number_is f.owner o is.owner at i; guard = number_is f.guard g is.guard there i; first = f.first; is_transient = f.is_transient }));
               };
             };
           };
@@ -322,7 +341,7 @@ module _ (objects : List (List ℕ)) (names : AreNames [] objects) (f : Field) (
       };
     })
 
-    field_declared : (new : Declarations) → DeclaresField old Added new f.name owner_name guard_name f.first → new ≡ with_field old f
+    field_declared : (new : Declarations) → DeclaresField old Added new f.name owner_name guard_name f.first f.is_transient → new ≡ with_field old f
     field_declared new h =
         let named = (h.passed (spelled f.name is.named).word.0).passed free in
         let owned = named.known f.owner (there_is f.owner is.owner) in
@@ -330,10 +349,7 @@ module _ (objects : List (List ℕ)) (names : AreNames [] objects) (f : Field) (
         (guarded.passed (λ full. omega (arith, room, full))).1
 
     only_field : (new : Declarations) → DeclaresLine old (field_line objects f) new → new ≡ with_field old f
-    only_field new (inl h) = elim h.1 [
-      | inl e ↦ absurd (omega (arith, length-append (codes "field ") (f.name ++ middle), e))
-      | inr e ↦ absurd (omega (arith, e))
-    ]
+    only_field new (inl h) = absurd (read_keyword f.is_transient (codes " " ++ (f.name ++ middle)) h.1)
     only_field new (inr h) =
         let same : h.order ≡ asked = asks_one _ h.order asked h.asks asks_field in
         field_declared new (subst (λ o. Declares old o Added new) same h.declares)

@@ -1,5 +1,5 @@
 -- What a declaration makes of what was declared, and which are refused, and why (docs/SCRIPTS.md, "Lines" and "Refusals").
-use Rattle.std.specs.Prelude.{ℕ, ◌≡◌, List, [], Some, Contains, slice_get}
+use Rattle.std.specs.Prelude.{ℕ, ◌≡◌, Bool, List, [], Some, Contains, slice_get}
 use Rattle.guards.specs.Schema.{Declarations, object_count, field_count, names_of, with_object, with_field}
 use Rattle.heap_model.specs.declared.limits.TheConstants.{MOST_OBJECTS, MOST_FIELDS}
 use Rattle.script_lines.specs.Orders.{Order}
@@ -32,18 +32,18 @@ module _ (old : Declarations) (said : Declared) (new : Declarations) where
       Tests (object_count old ≡ MOST_OBJECTS) (Refuses why.TooMany) (
       (said ≡ Added) × (new ≡ with_object old name))))
 
-  -- one more field
-  abbrev pub DeclaresField : (name owner guard : List ℕ) (first : ℕ) → Type 0
-  DeclaresField name owner guard first =
+  -- one more field, persistent or transient
+  abbrev pub DeclaresField : (name owner guard : List ℕ) (first : ℕ) (is_transient : Bool) → Type 0
+  DeclaresField name owner guard first is_transient =
       Tests (name ≡ []) (Refuses why.Empty) (
       Tests (Contains (names_of old.fields) name) (Refuses why.DoubleName) (
       Named old.objects owner (Refuses why.Unknown) (λ o.
       Named old.objects guard (Refuses why.Unknown) (λ g.
       Tests (field_count old ≡ MOST_FIELDS) (Refuses why.TooMany) (
-      (said ≡ Added) × (new ≡ with_field old (record { name = name; owner = o; guard = g; first = first })))))))
+      (said ≡ Added) × (new ≡ with_field old (record { name = name; owner = o; guard = g; first = first; is_transient = is_transient })))))))
 
 -- what is declared becomes the second by this, and it is told so; no other order declares anything
 abbrev pub Declares : (old : Declarations) → Order → Declared → (new : Declarations) → Type 0
 Declares old (order.Object name) said new = DeclaresObject old said new name
-Declares old (order.Field name owner guard first) said new = DeclaresField old said new name owner guard first
+Declares old (order.Field name owner guard first is_transient) said new = DeclaresField old said new name owner guard first is_transient
 Declares _ _ _ _ = ⊥

@@ -21,7 +21,7 @@ use Rattle.script_lines.specs.Endings.{IsWhole, OfScript}
 -- an object or a field is declared
 abbrev pub declares : Order → Bool
 declares (order.Object name) = true
-declares (order.Field name owner guard first) = true
+declares (order.Field name owner guard first is_transient) = true
 declares _ = false
 
 -- the line declares this

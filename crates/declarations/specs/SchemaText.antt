@@ -3,7 +3,7 @@ use Rattle.std.specs.Prelude.{ℕ, ◌≡◌, ◌+◌, ◌++◌, List, [], ◌�
 use Rattle.std.specs.Fmt.{decimal}
 use Rattle.std.specs.List.{concat, flat_map}
 use Rattle.guards.specs.Schema.{Declarations, Field, IsSchema, names_of, nothing}
-use Rattle.script_lines.specs.Grammar.{IsName}
+use Rattle.script_lines.specs.Grammar.{IsName, field_word}
 use Rattle.script_lines.specs.Lines.{lines_of}
 use Rattle.declarations.specs.SchemaFiles.{DeclaresLines}
 
@@ -17,7 +17,7 @@ name_of objects number = slice_index_or objects number []
 
 -- the line that declares a field of one of these objects
 abbrev pub field_line : (objects : List (List ℕ)) → Field → List ℕ
-field_line objects f = concat (codes "field " ∷ f.name ∷ codes " " ∷ name_of objects f.owner ∷ codes " " ∷ name_of objects f.guard
+field_line objects f = concat (field_word f.is_transient ∷ codes " " ∷ f.name ∷ codes " " ∷ name_of objects f.owner ∷ codes " " ∷ name_of objects f.guard
     ∷ codes " " ∷ decimal f.first ∷ [])
 
 -- a line, with its end

@@ -1,12 +1,13 @@
 //! Objects and fields in the making.
 ghost use Rattle.std.specs.Prelude.{◌≡◌, ◌<◌, ◌≤◌, ◌⊎◌, ◌↔◌, ℕ, [], Some, Contains, IfOk, OnErr, IsTrue, slice_get};
 ghost use Rattle.guards.specs.Schema.{Declarations, nothing, object_count, field_count};
+ghost use Rattle.guards.specs.Declaring.{Declares};
 ghost use Rattle.declarations.specs.Declares.{DeclaresObject, DeclaresField};
 ghost use Rattle.declarations.specs.declared.declared.Declared.TheVariants as declared;
 
 use crate::declared::{DeclarationRefusal, Declared, refused};
-use guards::{Schema, SchemaBuilder};
-use heap_model::ObjectId;
+use guards::{Schema, SchemaBuilder, SchemaError};
+use heap_model::{FieldId, ObjectId};
 use std::alloc::{AllocError, Global};
 use std::marker::Model;
 
@@ -62,21 +63,23 @@ impl Declaring {
         }
     }
 
-    /// Declares a field of the object named `owner`, guarded by the monitor of the one named `guard`.
+    /// Declares a field of the object named `owner`, guarded by the monitor of the one named `guard`: a transient one, or
+    /// a persistent one.
     pub fn field(
         &mut self,
         name: &str,
         owner: &str,
         guard: &str,
         first: u64,
+        is_transient: bool,
     ) -> Result<Declared, AllocError>
-        ensures ok { IfOk result (λ said. DeclaresField self.old said self.new name.now owner.now guard.now first) }
+        ensures ok { IfOk result (λ said. DeclaresField self.old said self.new name.now owner.now guard.now first is_transient) }
         ensures refused { IfOk result (λ said. (why : DeclarationRefusal) → said ≡ declared.Refused why → self.new ≡ self.old) }
         ensures err { OnErr result (self.new ≡ self.old) }
     {
         let owner = self.object_named(owner);
         let guard = self.object_named(guard);
-        match self.builder.field(owner, name, guard, first) {
+        match build_field(&mut self.builder, owner, name, guard, first, is_transient) {
             Ok(_) => {
                 self.has_field = true;
                 Ok(Declared::Added)
@@ -114,5 +117,23 @@ impl Declaring {
             Ok(schema) => schema,
             Err(_) => unreachable!(),
         }
+    }
+}
+
+// The builder has a call for each kind of field.
+fn build_field(
+    builder: &mut SchemaBuilder,
+    owner: ObjectId,
+    name: &str,
+    guard: ObjectId,
+    first: u64,
+    is_transient: bool,
+) -> Result<FieldId, SchemaError>
+    ensures { Declares owner name.now guard first is_transient builder.old result builder.new }
+{
+    if is_transient {
+        builder.transient(owner, name, guard, first)
+    } else {
+        builder.field(owner, name, guard, first)
     }
 }

@@ -15,7 +15,7 @@ pub struct SchemaFault {
 /// what the declarations refuse.
 #[derive(Clone, Copy, Debug, PartialEq, Eq, Error)]
 pub enum SchemaFaultKind {
-    /// The line is no `object` and no `field` line.
+    /// The line is no `object`, no `field` and no `transient` line.
     #[error("syntax")]
     Syntax,
     /// The line has a byte past ASCII.

@@ -17,7 +17,7 @@ use script_lines::{Command, Ending, ScriptErrorKind, cut_line, read_line, read_l
 use std::alloc::{AllocError, Global};
 use std::io::Read;
 
-/// Reads a schema file to its end: the `object` and `field` lines of a script, and no others.
+/// Reads a schema file to its end: the `object`, `field` and `transient` lines of a script, and no others.
 ///
 /// It is refused at the first line that is no such line, that could not be read, for which there was no memory, or that
 /// declares what a script would refuse; at the last line where nothing else is wrong and there is no object or no field.
@@ -85,7 +85,8 @@ fn declare(declaring: &mut Declaring, command: &Command<'_>) -> Result<(), Schem
             owner,
             guard,
             first,
-        } => declare_field(declaring, name, owner, guard, *first),
+            is_transient,
+        } => declare_field(declaring, name, owner, guard, *first, *is_transient),
         _ => Err(SchemaFaultKind::Syntax),
     }
 }
@@ -103,11 +104,12 @@ fn declare_field(
     owner: &str,
     guard: &str,
     first: u64,
+    is_transient: bool,
 ) -> Result<(), SchemaFaultKind>
-    ensures ok { OnOk result (Declares declaring.old (order.Field name.now owner.now guard.now first) Declared.Added declaring.new) }
-    ensures refused { IfErr result (λ why. RefusesDeclaration declaring.old (order.Field name.now owner.now guard.now first) why) }
+    ensures ok { OnOk result (Declares declaring.old (order.Field name.now owner.now guard.now first is_transient) Declared.Added declaring.new) }
+    ensures refused { IfErr result (λ why. RefusesDeclaration declaring.old (order.Field name.now owner.now guard.now first is_transient) why) }
 {
-    added(declaring.field(name, owner, guard, first))
+    added(declaring.field(name, owner, guard, first, is_transient))
 }
 
 // Whether it was added, and else the fault.

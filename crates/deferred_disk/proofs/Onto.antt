@@ -1,13 +1,11 @@
 -- Calls onto stops.
-use Rattle.std.proofs.Common.{◌≡◌, inr, ℕ, ◌+◌, List, [], ◌∷◌, ◌++◌, length, drop, refl, sym, ◌∙◌, ap, subst, arith, fold, Option, Some, None, option_to_list}
+use Rattle.std.proofs.Common.{◌≡◌, ℕ, ◌+◌, List, [], ◌∷◌, ◌++◌, length, drop, refl, sym, ◌∙◌, ap, subst, arith, fold, Option, Some, None, option_to_list}
 use Rattle.std.proofs.lemmas.List.{drop-drop}
 use Rattle.std.proofs.lemmas.List.Sums.{fold-append}
-use Rattle.block_disk.specs.Device.{LeftIn}
-use Rattle.block_disk.specs.Memory.{Stop, moment_after, moments_before}
+use Rattle.block_disk.specs.Memory.{Stop}
 use Rattle.deferred_disk.specs.Deferred.{stop_of, onto, calls_in, stops_in}
 use Rattle.deferred_disk.specs.Host.{made_of, IsInOrder}
 use Rattle.deferred_disk.specs.declared.call.DeviceCall.{DeviceCall}
-use Rattle.deferred_disk.specs.declared.call.DeviceCall.TheVariants.{Write, Sync}
 use Rattle.deferred_disk.specs.declared.call.Handed.{Handed}
 
 -- the older stops are what is left behind the calls
@@ -52,10 +50,3 @@ onto_all older (b ∷ bs) = onto_all (onto older (calls_in b)) bs ∙ sym (onto_
 -- what is still in the ring comes after what was taken
 pub stops_later : (taken known : List Handed) → stops_in (taken ++ known) ≡ onto (stops_in taken) (all_in known)
 stops_later taken known = fold-append (λ before batch. onto before (calls_in batch)) [] taken known ∙ onto_all (stops_in taken) known
-
--- an image of some moment stays one
-pub left_onto : (first : List ℕ) (stops : List Stop) (cs : List DeviceCall) (image : List ℕ) → LeftIn 0 (moment_after first stops ∷ moments_before first stops) image
-    → LeftIn 0 (moment_after first (onto stops cs) ∷ moments_before first (onto stops cs)) image
-left_onto first stops [] image is = is
-left_onto first stops (Write at bytes ∷ cs) image is = left_onto first (stop_of (Write at bytes) ∷ stops) cs image (inr is)
-left_onto first stops (Sync ∷ cs) image is = left_onto first (stop_of Sync ∷ stops) cs image (inr is)

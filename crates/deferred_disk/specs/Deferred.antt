@@ -3,6 +3,7 @@ use Rattle.std.specs.Prelude.{ℕ, ◌≡◌, ◌<◌, List, [], ◌∷◌, None
 use Rattle.std.specs.Global.{Global}
 use Rattle.rtrb.specs.declared.producer.Producer.{Producer}
 use Rattle.block_disk.specs.Memory.{Memory, Stop, Wrote, Synced, bytes_after}
+use Rattle.deferred_disk.specs.Joined.{AllFit, IsAtSync, joined}
 use Rattle.deferred_disk.specs.declared.call.DeviceCall.{DeviceCall}
 use Rattle.deferred_disk.specs.declared.call.DeviceCall.TheVariants.{Write, Sync}
 use Rattle.deferred_disk.specs.declared.call.Handed.{Handed}
@@ -38,11 +39,15 @@ pub record Deferred : Type 0 where
   pub memory : Memory
   pub ring : Producer Handed Global Handing
 
--- the memory that was handed over, and then these calls, which are yet to be
-abbrev pub memory_of : List Handed → List DeviceCall → ℕ → Memory
-memory_of handed unsent failures = record { first = first_in handed; stops = onto (stops_in handed) unsent; failures = failures; fails_in = None }
+-- the memory of the bytes that were handed over first, and of these stops since
+abbrev pub memory_of : List Handed → List Stop → ℕ → Memory
+memory_of handed stops failures = record { first = first_in handed; stops = stops; failures = failures; fails_in = None }
 
--- the bytes are those that it reads, and it has begun
-pub record IsDeferring (handed : List Handed) (unsent : List DeviceCall) (bytes : List ℕ) : Type 0 where
-  pub reads : bytes ≡ bytes_after (first_in handed) (onto (stops_in handed) unsent)
+-- The bytes are those that it reads; what was handed over, and then the calls that are yet to be, are what its stops are told as; what was
+-- handed over ends with a sync; each stop lies within it; and it has begun.
+pub record IsDeferring (handed : List Handed) (unsent : List DeviceCall) (bytes : List ℕ) (stops : List Stop) : Type 0 where
+  pub reads : bytes ≡ bytes_after (first_in handed) stops
+  pub told : joined stops ≡ onto (stops_in handed) unsent
+  pub synced : IsAtSync (stops_in handed)
+  pub fits : AllFit (length (first_in handed)) stops
   pub begun : 0 < length handed

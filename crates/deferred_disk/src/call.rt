@@ -1,4 +1,9 @@
 //! A call of the device, and what a disk hands over at once.
+ghost use Rattle.std.specs.Prelude.{◌≡◌, ◌+◌, ◌==◌, nat_le};
+ghost use Rattle.deferred_disk.specs.declared.call.TheConstants.{MOST_BYTES};
+
+/// Writes that are joined to one call have so many bytes at most.
+pub const MOST_BYTES: usize = 4096;
 
 /// A call that the host has to make on its device.
 #[derive(Debug, Drop)]
@@ -16,4 +21,46 @@ pub(crate) enum Handed {
     Begun(Vec<u8>),
     /// Calls, the oldest first.
     Calls(Vec<DeviceCall>),
+}
+
+impl DeviceCall {
+    ghost use Rattle.std.specs.Prelude.{◌≡◌, length, if◌then◌else◌};
+    ghost use Rattle.deferred_disk.specs.Deferred.{stop_of};
+    ghost use Rattle.deferred_disk.specs.Joined.{goes_on_with, longer};
+
+    /// Whether a write of so many bytes at `at` goes on where this one ended, and both together have [`MOST_BYTES`] at most.
+    pub(crate) fn takes(&self, at: u64, size: usize) -> bool
+        ensures { result ≡ goes_on_with (stop_of self.now) at size }
+    {
+        match self {
+            DeviceCall::Write { at: from, bytes } => {
+                is_end(*from, bytes.len(), at) && have_room(bytes.len(), size)
+            }
+            DeviceCall::Sync => false,
+        }
+    }
+
+    /// Writes these bytes too, behind its own, if there is memory for them.
+    pub(crate) fn lengthen(&mut self, more: &[u8]) -> bool
+        ensures { stop_of self.new ≡ (if result then longer (stop_of self.old) more.now else stop_of self.old) }
+    {
+        match self {
+            DeviceCall::Write { bytes, .. } => bytes.extend_from_slice(more).is_ok(),
+            DeviceCall::Sync => false,
+        }
+    }
+}
+
+// Whether so many bytes from `from` on end at `at`.
+fn is_end(from: u64, size: usize, at: u64) -> bool
+    ensures { result ≡ (from + size == at) }
+{
+    from <= at && at - from == size as u64
+}
+
+// Whether so many bytes and so many more have MOST_BYTES at most.
+fn have_room(size: usize, more: usize) -> bool
+    ensures { result ≡ nat_le (size + more) MOST_BYTES }
+{
+    size <= MOST_BYTES && more <= MOST_BYTES - size
 }

@@ -6,6 +6,7 @@ ghost use Rattle.block_disk.specs.Memory.{Stop, Synced, Wrote, bytes_after, devi
 ghost use Rattle.block_disk.specs.declared.error.DiskError.TheVariants.{Fault, OutOfRange};
 ghost use Rattle.deferred_disk.specs.Deferred.{onto, stop_of, stops_in, first_in};
 ghost use Rattle.deferred_disk.specs.Host.{IsHostOf};
+ghost use Rattle.deferred_disk.specs.Joined.{IsAtSync, join_write, joined};
 ghost use Rattle.deferred_disk.specs.declared.call.DeviceCall.TheVariants as calls;
 ghost use Rattle.deferred_disk.specs.declared.call.Handed.TheVariants as handed;
 ghost use Rattle.rtrb.specs.Ring.{SameProducer, known_free, sent};
@@ -13,6 +14,7 @@ ghost use Rattle.rtrb.specs.Ring.{SameProducer, known_free, sent};
 use crate::call::{DeviceCall, Handed};
 use crate::handing::Handing;
 use crate::host::HostCalls;
+use crate::told::Told;
 use block_disk::{Disk, DiskError, copy_out, fail, lies_within, overwrite};
 use rtrb::{Producer, RingBuffer};
 use std::alloc::{AllocError, Global};
@@ -23,11 +25,13 @@ pub const SYNCS: usize = 64;
 
 /// A disk in memory, whose calls the host makes on a device of its own.
 ///
-/// It takes its bytes and the calls that the host hasn't taken yet, and no more, however long it runs. `Fault` is want of
+/// A write that goes on where the one before it ended, with no sync between them, becomes one call with it, of
+/// [`MOST_BYTES`](crate::MOST_BYTES) at most. The disk takes its bytes and the calls that the host hasn't taken yet, and no more, however
+/// long it runs. `Fault` is want of
 /// memory for one more call, or, at a sync, [`SYNCS`] syncs that the host hasn't taken; the call has done nothing then, and the
 /// disk goes on to work.
 ///
-/// Contracts see it as the memory of a [`MemDisk`](block_disk::MemDisk) that keeps all stops.
+/// Contracts see it as the memory of a [`MemDisk`](block_disk::MemDisk) that keeps all stops, each write by itself.
 #[derive(Drop)]
 pub struct DeferredDisk {
     alloc: Global,
@@ -36,6 +40,7 @@ pub struct DeferredDisk {
     unsent: Vec<DeviceCall>,
     pub(crate) ring: Producer<Handed, Global, Handing>,
     failures: u64,
+    told: Told,
 }
 
 impl Model for DeferredDisk {
@@ -44,9 +49,9 @@ impl Model for DeferredDisk {
 
     ghost Value = { Deferred };
 
-    ghost view = { λ d. record { memory = memory_of (sent d.ring) d.unsent.items d.failures; ring = d.ring } };
+    ghost view = { λ d. record { memory = memory_of (sent d.ring) d.told.stops d.failures; ring = d.ring } };
 
-    ghost invariant = { λ d. IsDeferring (sent d.ring) d.unsent.items d.bytes.items };
+    ghost invariant = { λ d. IsDeferring (sent d.ring) d.unsent.items d.bytes.items d.told.stops };
 }
 
 impl DeferredDisk {
@@ -82,6 +87,7 @@ impl DeferredDisk {
             unsent: Vec::new(alloc),
             ring,
             failures: 0,
+            told: Told::new(),
         };
         Ok((disk, HostCalls::of(alloc, other)))
     }
@@ -135,6 +141,7 @@ impl Disk for DeferredDisk {
             return Err(fail(&mut self.failures));
         }
         put(&mut self.bytes, at, bytes);
+        self.told.write(at, bytes);
         Ok(())
     }
 
@@ -147,7 +154,7 @@ impl Disk for DeferredDisk {
         ensures cause { IsErrOf result Fault → HasFailed (device_of self.old.memory).failures (device_of self.new.memory).failures }
         ensures stopped { OnOk result (self.new.memory ≡ stopped Synced self.old.memory) }
         ensures failed { IsErrOf result Fault → self.new.memory ≡ failed self.old.memory }
-        ensures handed { OnOk result (self.new.memory.stops ≡ stops_in (sent self.new.ring)) }
+        ensures handed { OnOk result (joined self.new.memory.stops ≡ stops_in (sent self.new.ring)) }
         ensures ring { SameProducer self.old.ring self.new.ring }
     {
         if self.ring.slots() == 0 || !keep(&mut self.unsent, DeviceCall::Sync) {
@@ -155,6 +162,7 @@ impl Disk for DeferredDisk {
         }
         let batch = std::mem::replace(&mut self.unsent, Vec::new(self.alloc));
         self.ring.push_reserved(Handed::Calls(batch));
+        self.told.sync();
         Ok(())
     }
 
@@ -176,8 +184,20 @@ fn keep(calls: &mut Vec<DeviceCall>, call: DeviceCall) -> bool
     }
 }
 
-// Keeps a write of these bytes, if there is memory for it.
+// Keeps a write of these bytes, if there is memory for it: as one with the last call, where it goes on with that.
 fn keep_write(alloc: Global, calls: &mut Vec<DeviceCall>, at: u64, bytes: &[u8]) -> bool
+    ensures { (before : List Stop) → IsAtSync before
+        → onto before calls.new.items ≡ (if result then join_write at bytes.now (onto before calls.old.items) else onto before calls.old.items) }
+{
+    let count = calls.len();
+    if count > 0 && calls[count - 1].takes(at, bytes.len()) {
+        return calls[count - 1].lengthen(bytes);
+    }
+    keep_new_write(alloc, calls, at, bytes)
+}
+
+// Keeps a write of these bytes as a call of its own, if there is memory for it.
+fn keep_new_write(alloc: Global, calls: &mut Vec<DeviceCall>, at: u64, bytes: &[u8]) -> bool
     ensures { (before : List Stop) → onto before calls.new.items ≡ (if result then Wrote at bytes.now ∷ onto before calls.old.items else onto before calls.old.items) }
 {
     match bytes.to_vec(alloc) {

@@ -1,7 +1,8 @@
 //! A block device whose calls somebody else makes: the host of a library, which alone can reach its file.
 //!
 //! [`DeferredDisk`] is a disk in memory. At each sync it hands over the calls since the last one, that sync included, through
-//! a ring to its [`HostCalls`], from which the host takes them one by one and makes them, in order, on a device of its own.
+//! a ring to its [`HostCalls`], from which the host takes them one by one and makes them, in order, on a device of its own. Writes that
+//! follow one another are told as one.
 //! What the host's device is then is what the disk was at some earlier moment, so that whatever holds at each moment of the
 //! disk holds of the host's device too.
 #![tactic(auto)]
@@ -10,8 +11,9 @@ mod call;
 mod disk;
 mod handing;
 mod host;
+mod told;
 
-pub use call::DeviceCall;
+pub use call::{DeviceCall, MOST_BYTES};
 pub use disk::{DeferredDisk, SYNCS};
 pub use host::HostCalls;
 

@@ -78,3 +78,37 @@ fn filled(alloc: Global) -> Option<(usize, bool, u64)> {
 fn a_host_that_makes_no_calls_stops_the_syncs(rt: HostRuntime) {
     assert!(rt; filled(rt.alloc()) == Some((SYNCS, true, 36)));
 }
+
+// The size of the write that is told next, or 0 for a sync; 1,000,000 where none is.
+fn next_size(calls: &mut HostCalls) -> usize {
+    calls.fetch();
+    let size = match calls.next_call() {
+        Some(DeviceCall::Write { bytes, .. }) => bytes.len(),
+        Some(DeviceCall::Sync) => 0,
+        None => 1_000_000,
+    };
+    let _ = calls.done();
+    size
+}
+
+// The sizes of the writes as which 300 of 16 bytes in a row are told, one elsewhere, and one behind that after a sync.
+fn sizes(alloc: Global) -> Option<[usize; 7]> {
+    let (mut disk, mut calls) = DeferredDisk::new(alloc, 10_000).ok()?;
+    for i in 0..300u64 {
+        disk.write_at(i * 16, &[7; 16]).ok()?;
+    }
+    disk.write_at(9_000, &[8; 3]).ok()?;
+    disk.sync().ok()?;
+    disk.write_at(9_003, &[9]).ok()?;
+    disk.sync().ok()?;
+    let mut found = [0; 7];
+    for place in found.iter_mut() {
+        *place = next_size(&mut calls);
+    }
+    Some(found)
+}
+
+#[test]
+fn writes_in_a_row_are_told_as_one(rt: HostRuntime) {
+    assert!(rt; sizes(rt.alloc()) == Some([4_096, 704, 3, 0, 1, 0, 1_000_000]));
+}

@@ -1,5 +1,5 @@
 -- Why a worker's session refuses a call, by what it holds.
-use Rattle.std.proofs.Common.{ℕ, ◌≡◌, ◌≢◌, ◌+◌, ◌<◌, ◌≤◌, List, [], ◌∷◌, length, Option, None, Some, option_map, Result, Ok, Err, IfErr, IfOk, MatchResult, inl, inr, refl, sym, ap, ◌∙◌, subst, arith}
+use Rattle.std.proofs.Common.{ℕ, ◌≡◌, ◌≢◌, ◌+◌, ◌<◌, ◌≤◌, if◌then◌else◌, Bool, true, false, List, [], ◌∷◌, length, Option, None, Some, option_map, Result, Ok, Err, IfErr, IfOk, MatchResult, inl, inr, refl, sym, ap, ◌∙◌, subst, arith}
 use Rattle.std.proofs.lemmas.Bool.{cases_lt}
 use Rattle.heap_model.specs.Own.{Hold, own}
 use Rattle.heap_model.specs.Setting.{Setting}
@@ -10,7 +10,7 @@ use Rattle.heap_model.specs.declared.ids.FieldId.{FieldId}
 use Rattle.heap_model.specs.declared.ids.ObjectId.{ObjectId}
 use Rattle.heap_model.specs.declared.limits.TheConstants.{SECTION_RECORDS}
 use Rattle.monitor.specs.Seats.{Home}
-use Rattle.session.specs.Calls.{Begins, EntersFirst, EntersWaiting, GoesOn, IsQuiet, IsSettled, Stores, Tries}
+use Rattle.session.specs.Calls.{Begins, EntersFirst, EntersWaiting, GoesOn, IsQuiet, IsSettled, Stores, Tries, records_of}
 use Rattle.session.specs.Logs.{held_count}
 use Rattle.session.specs.declared.error.SessionError.{SessionError}
 use Rattle.session.specs.declared.error.SessionError.TheVariants.{UnknownObject, UnknownField, NotHeld, Behind, SectionFull, TooMany, TooDeep, NoFat, Worn, Held}
@@ -167,6 +167,13 @@ stores v w f value objects n (Err NoFat) holds so = absurd so
 stores v w f value objects n (Err Worn) holds so = absurd so
 stores v w f value objects n (Err (Held x)) holds so = absurd so
 
+-- a store makes one record at most
+one_at_most : (s : Setting) (f : FieldId) → records_of s f ≤ 1
+one_at_most s f = elim (s.is_logged f.0) as (λ (b : Bool). (if b then 1 else 0) ≤ 1) [
+  | true ↦ omega arith
+  | false ↦ omega arith
+]
+
 pub stores_all : (P : SessionError → Type 0) (v w : View) (f : FieldId) (value : ℕ) (objects : List ℕ) (n : ℕ) (r : Result (Unit {0}) SessionError) → n + length objects < SECTION_RECORDS → HoldsJust v objects n → Stores v w f value r → IfErr r P
 stores_all P v w f value objects n (Ok done) room holds so = tt
 stores_all P v w f value objects n (Err UnknownObject) room holds so = absurd so
@@ -176,8 +183,9 @@ stores_all P v w f value objects n (Err Behind) room holds so = absurd so
 stores_all P v w f value objects n (Err SectionFull) room holds so =
     let few = holds.few in
     let held : held_count v ≡ length objects = ap (λ (os : List ℕ). length os) holds.held in
-    let full = so.0 in
-    absurd (omega (arith, few, room, held, full))
+    let full = so.0.1 in
+    let one = one_at_most v.plan f in
+    absurd (omega (arith, few, room, held, full, one))
 stores_all P v w f value objects n (Err TooMany) room holds so = absurd so
 stores_all P v w f value objects n (Err TooDeep) room holds so = absurd so
 stores_all P v w f value objects n (Err NoFat) room holds so = absurd so

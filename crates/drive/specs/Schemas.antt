@@ -1,5 +1,5 @@
 -- The schema of workers, and which image is theirs.
-use Rattle.std.specs.Prelude.{ℕ, zero, suc, ◌≡◌, List, ◌++◌, codes, decimal}
+use Rattle.std.specs.Prelude.{ℕ, zero, suc, ◌≡◌, false, List, ◌++◌, codes, decimal}
 use Rattle.guards.specs.Schema.{Declarations, Field, nothing, with_field, with_object}
 use Rattle.image.specs.declared.guard_row.GuardRow.{GuardRow}
 use Rattle.image.specs.declared.layout.Layout.{Layout}
@@ -8,9 +8,9 @@ use Rattle.recover.specs.declared.studied.Study.{Study}
 use Rattle.store_image.specs.Formatting.{AreLimits}
 use Rattle.trim_helper.specs.Opening.{FitsSchema}
 
--- a field that its object guards, and that begins with 0
+-- a persistent field that its object guards, and that begins with 0
 abbrev pub count_field : (name : List ℕ) (object : ℕ) → Field
-count_field name object = record { name = name; owner = object; guard = object; first = 0 }
+count_field name object = record { name = name; owner = object; guard = object; first = 0; is_transient = false }
 
 -- the names of a worker's own object and field
 abbrev pub own_object : (worker : ℕ) → List ℕ

@@ -1,8 +1,9 @@
 -- The past that a store begins with.
-use Rattle.std.proofs.Common.{ℕ, ◌≡◌, ◌<◌, ◌≤◌, true, false, List, [], length, slice_index, slice_index_or, refl, sym, ap, ◌∙◌, subst, arith}
+use Rattle.std.proofs.Common.{ℕ, ◌≡◌, ◌<◌, ◌≤◌, Bool, true, false, not, List, [], length, slice_index, slice_index_or, refl, sym, ap, ◌∙◌, subst, arith}
 use Rattle.std.proofs.lemmas.List.{get_or_default}
 use Rattle.heap_model.specs.Setting.{Setting}
 use Rattle.block_disk.specs.Device.{Device}
+use Rattle.image.specs.Guards.{no_row}
 use Rattle.image.specs.Recovered.{IsRecovered}
 use Rattle.image.specs.declared.guard_row.GuardRow.{GuardRow}
 use Rattle.image.specs.declared.layout.Layout.{Layout}
@@ -21,31 +22,34 @@ use Rattle.durable.specs.declared.doubt.Doubt.TheVariants.{Nothing}
 use Rattle.durable.proofs.Begun.{begins, empty_committed}
 use Rattle.store_image.proofs.Stands.{shows_always}
 
--- a row that nobody reads
-abbrev pub no_row : GuardRow
-no_row = record { guard = record { 0 = 0 }; owner = record { 0 = 0 }; first = 0 }
-
 -- the setting that a layout, guard rows and values make
 abbrev pub setting_of : Layout → List GuardRow → List ℕ → (last : ℕ) → Setting
-setting_of l rows heap last = record { objects = l.objects; fields = l.fields; guard = λ f. (slice_index_or rows f no_row).guard.0; first = λ f. slice_index heap f; is_logged = λ f. true; last = last }
+setting_of l rows heap last = record { objects = l.objects; fields = l.fields; guard = λ f. (slice_index_or rows f no_row).guard.0; first = λ f. slice_index heap f; is_logged = λ f. not (slice_index_or rows f no_row).transient; last = last }
+
+not_not : (b : Bool) → b ≡ not (not b)
+not_not true = refl
+not_not false = refl
 
 pub setting_is : (l : Layout) (rows : List GuardRow) (heap : List ℕ) (last : ℕ) → HasRows l rows → IsSettingOf l rows heap last (setting_of l rows heap last)
 setting_is l rows heap last has = record {
   objects = refl;
   fields = refl;
   guards = λ f d low. ap (λ (r : GuardRow). r.guard.0) (get_or_default rows f d no_row (omega (arith, has.size)));
+  marks = λ f d low. ap (λ (r : GuardRow). r.transient) (get_or_default rows f d no_row (omega (arith, has.size))) ∙ not_not (slice_index_or rows f no_row).transient;
   values = λ f low. refl;
   last_is = refl;
 }
 
 -- the fields that the rows and values make
 module _ (l : Layout) (rows : List GuardRow) (heap : List ℕ) (fields : List FieldState) (has : HasRows l rows) (size : length fields ≡ length rows)
-    (guards : (f : ℕ) (d : GuardRow) → f < length rows → (field_in fields f).guard ≡ (slice_index_or rows f d).guard) where
+    (guards : (f : ℕ) (d : GuardRow) → f < length rows → (field_in fields f).guard ≡ (slice_index_or rows f d).guard)
+    (marks : (f : ℕ) (d : GuardRow) → f < length rows → (field_in fields f).is_logged ≡ not (slice_index_or rows f d).transient) where
   pub are_fields : (last : ℕ) (s : Setting) → ((f : ℕ) → f < length rows → (field_in fields f).value ≡ slice_index heap f) → IsSettingOf l rows heap last s → AreFieldsOf l.objects fields last s
   are_fields last s values set = record {
     objects = set.objects;
     size = set.fields ∙ sym has.size ∙ sym size;
     guards = λ f low. ap (λ o. o.0) (guards f no_row (omega (arith, size))) ∙ set.guards f no_row (omega (arith, size, has.size));
+    marks = λ f low. marks f no_row (omega (arith, size)) ∙ ap not (set.marks f no_row (omega (arith, size, has.size))) ∙ sym (not_not (s.is_logged f));
     values = λ f low. values f (omega (arith, size)) ∙ set.values f (omega (arith, size, has.size));
     last_is = set.last_is;
   }
@@ -70,7 +74,7 @@ module _ (l : Layout) (d : Device) (rows : List GuardRow) (slot : Slot) (sequenc
   pub adopts : (s : Setting) → IsSettingOf l rows heap last s → HasPast (record { layout = l; committed = c; memory = m; logged = g; has_failed = false; doubt = Nothing }) s no_past d
   adopts s set =
       let consistent : IsConsistent l s no_past c d = subst (λ (x : Committed). IsConsistent l s no_past x d) (sym empty)
-      (begins l s d rows slot sequence heap is (record { guard = λ f low. set.guards f no_row low; first = set.values })) in
+      (begins l s d rows slot sequence heap is (record { guard = λ f low. set.guards f no_row low; mark = λ f low. set.marks f no_row low; first = set.values })) in
       record {
         layout = record { limits = consistent.limits; lanes = lanes; capacity = capacity; logged_lanes = logged_lanes; logged_capacity = logged_capacity };
         setting = record { objects = set.objects; fields = set.fields; last = omega (arith, set.last_is) };

@@ -1,5 +1,5 @@
 -- A store begins with a device as recovery leaves it.
-use Rattle.std.proofs.Common.{◌≡◌, inr, ℕ, zero, suc, ◌<◌, if◌then◌else◌, true, false, List, [], ◌∷◌, get_or, map, refl, ap, subst, ◌∙◌, arith}
+use Rattle.std.proofs.Common.{◌≡◌, inr, ℕ, zero, suc, ◌<◌, if◌then◌else◌, true, false, not, List, [], ◌∷◌, get_or, map, refl, sym, ap, subst, ◌∙◌, arith}
 use Rattle.std.specs.Prelude.{replicate, slice_index}
 use Rattle.std.proofs.lemmas.Bool.{ne_eqb}
 use Rattle.heap_model.specs.declared.record.Record.{Record}
@@ -12,6 +12,7 @@ use Rattle.block_disk.specs.Device.{Device}
 use Rattle.block_disk.proofs.Images.{always_only}
 use Rattle.image.specs.Cells.{HasCell}
 use Rattle.image.specs.Control.{empty_control}
+use Rattle.image.specs.Guards.{no_row}
 use Rattle.image.specs.Recovered.{IsRecovered}
 use Rattle.image.specs.Rows.{empty_row}
 use Rattle.image.specs.declared.guard_row.GuardRow.{GuardRow}
@@ -19,7 +20,7 @@ use Rattle.image.specs.declared.lane_row.LaneRow.{LaneRow}
 use Rattle.image.specs.declared.layout.Layout.{Layout}
 use Rattle.image.specs.declared.slot.Slot.{Slot}
 use Rattle.image.proofs.Commits.{steady_now}
-use Rattle.undo_log.specs.StandsFor.{guard_in}
+use Rattle.undo_log.specs.StandsFor.{AreRowsOf, guard_in, is_transient_in}
 use Rattle.store_past.specs.Past.{Past, IsPast, applied, no_past, after_apply}
 use Rattle.store_image.specs.Consistent.{HasParts, IsConsistent}
 use Rattle.store_image.specs.declared.committed.Committed.{Committed}
@@ -28,9 +29,10 @@ use Rattle.store_image.specs.declared.committed.Committed.{Committed}
 abbrev pub empty_committed : Slot → (sequence : ℕ) → Committed
 empty_committed slot sequence = record { slot = slot; sequence = sequence; rows = replicate 32 empty_row }
 
--- the fields' guards are those of the guard rows, and their first values those of the home cells
+-- the fields' guards and marks are those of the guard rows, and their first values those that they have at home
 pub record IsSettingOf (l : Layout) (rows : List GuardRow) (heap : List ℕ) (s : Setting) : Type 0 where
   pub guard : (f : ℕ) → f < l.fields → guard_in rows f ≡ s.guard f
+  pub mark : (f : ℕ) → f < l.fields → is_transient_in rows f ≡ not (s.is_logged f)
   pub first : (f : ℕ) → f < l.fields → slice_index heap f ≡ s.first f
 
 -- a cut with nothing in it is closed
@@ -55,8 +57,15 @@ rows_empty (suc n) zero = refl
 rows_empty (suc n) (suc k) = rows_empty n k
 
 module _ (l : Layout) (s : Setting) (d : Device) (rows : List GuardRow) (slot : Slot) (sequence : ℕ) (heap : List ℕ) (is : IsRecovered d l rows slot sequence heap) (of : IsSettingOf l rows heap s) where
-  cell : (f : ℕ) → f < l.fields → HasCell l f d.now.bytes (s.first f)
-  cell f below = subst (HasCell l f d.now.bytes) (of.first f below) (is.cells.each f below)
+  cell : (f : ℕ) → f < l.fields → s.is_logged f ≡ true → HasCell l f d.now.bytes (s.first f)
+  cell f below logged = subst (HasCell l f d.now.bytes) (of.first f below) ((is.homes.each f no_row below).persistent (of.mark f below ∙ ap not logged))
+
+  rows_are : AreRowsOf l.fields rows s
+  rows_are = record {
+    guard = of.guard;
+    mark = of.mark;
+    first = λ f below unlogged. sym ((is.homes.each f no_row below).transient (of.mark f below ∙ ap not unlogged)) ∙ of.first f below;
+  }
 
   parts : HasParts l s [] (λ k. 0) (λ k. 0) d.now.bytes
   parts = record {
@@ -64,9 +73,9 @@ module _ (l : Layout) (s : Setting) (d : Device) (rows : List GuardRow) (slot : 
     header = is.image.header;
     guards = rows;
     guarded = is.image.guards;
-    guard = of.guard;
+    rows = rows_are;
     live = λ k below. tt;
-    homes = λ f below. inr (cell f below);
+    homes = λ f below logged. inr (cell f below logged);
   }
 
   pub begins : IsConsistent l s no_past (empty_committed slot sequence) d
@@ -84,7 +93,7 @@ module _ (l : Layout) (s : Setting) (d : Device) (rows : List GuardRow) (slot : 
     steady = steady_now l d slot (empty_control sequence) is.durable is.control;
     parts = always_only d (HasParts l s [] (λ k. 0) (λ k. 0)) is.durable parts;
     dirty = λ f below was. absurd (let no : false ≡ true = was in cc);
-    clean = λ f below was. cell f below;
+    clean = λ f below was logged. cell f below logged;
   }
 
 -- and stays in agreement with it while records are applied

@@ -1,5 +1,5 @@
 -- What the device of a store at rest holds, and that of a closed one.
-use Rattle.std.proofs.Common.{ℕ, ◌≡◌, ◌<◌, ◌++◌, false, List, length, sym, ap, subst, arith}
+use Rattle.std.proofs.Common.{ℕ, ◌≡◌, ◌<◌, ◌++◌, true, false, List, length, sym, ap, subst, arith}
 use Rattle.heap_model.specs.declared.record.Record.{Record}
 use Rattle.heap_model.specs.Setting.{Setting}
 use Rattle.heap_model.specs.Log.{lane, value}
@@ -27,11 +27,11 @@ module _ (x : Known) (s : Setting) (p : Past) (d : Device) (has : HasPast x s p 
     all_logged : applied p ≡ p.logged
     all_logged = ap (λ (xs : List (ℕ × Record)). xs ++ p.logged) written.logged
 
-    -- the home cells are the heap
-    pub home_cells : (f : ℕ) → f < x.layout.fields → HasCell x.layout f d.now.bytes (value s.first f (applied p))
-    home_cells f low =
+    -- the home cells of the persistent fields are the heap
+    pub home_cells : (f : ℕ) → f < x.layout.fields → s.is_logged f ≡ true → HasCell x.layout f d.now.bytes (value s.first f (applied p))
+    home_cells f low logged =
         subst (λ (xs : List (ℕ × Record)). HasCell x.layout f d.now.bytes (value s.first f xs)) (sym all_logged)
-        ((has.agrees serves).clean f low (written.home f (omega (arith, low, has.setting.fields))))
+        ((has.agrees serves).clean f low (written.home f (omega (arith, low, has.setting.fields))) logged)
 
     covers : Covers p.cut (actions p.logged)
     covers l = (

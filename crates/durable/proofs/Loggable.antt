@@ -49,8 +49,8 @@ module _ (l : Layout) (s : Setting) (limits : IsLayout l) (fits : FitsImage l s)
     named = omega (arith, of, fits.objects);
   }
   one_loggable older m (Put f before after) legal allowed of fit = record {
-    range = (omega (arith, of, fits.fields, limits.fields.1), fit);
-    named = omega (arith, of, fits.fields);
+    range = (omega (arith, of.0, fits.fields, limits.fields.1), fit);
+    named = omega (arith, of.0, fits.fields);
   }
 
   pub all_loggable : (newer older : List (ℕ × Record)) → IsLegal s (newer ++ older) → FitWords newer → (k : ℕ) → All (IsLoggable l) (undo_logs newer k)

@@ -33,6 +33,7 @@ remembers_settle s m p cut was = record {
   objects = was.objects;
   fields = was.fields;
   guards = was.guards;
+  marks = was.marks;
   guards_named = was.guards_named;
   holders = was.holders;
   numbers = was.numbers;

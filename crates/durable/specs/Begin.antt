@@ -1,5 +1,5 @@
 -- With what a store begins (this project's own).
-use Rattle.std.specs.Prelude.{ℕ, ◌≡◌, ◌<◌, List, length, slice_index, slice_index_or}
+use Rattle.std.specs.Prelude.{ℕ, ◌≡◌, ◌<◌, not, List, length, slice_index, slice_index_or}
 use Rattle.heap_model.specs.Setting.{Setting}
 use Rattle.image.specs.declared.guard_row.GuardRow.{GuardRow}
 use Rattle.image.specs.declared.layout.Layout.{Layout}
@@ -14,5 +14,7 @@ pub record IsSettingOf (l : Layout) (rows : List GuardRow) (heap : List ℕ) (la
   pub objects : s.objects ≡ l.objects
   pub fields : s.fields ≡ l.fields
   pub guards : (f : ℕ) (d : GuardRow) → f < l.fields → (slice_index_or rows f d).guard.0 ≡ s.guard f
+  -- logs keep the stores of those that aren't transient
+  pub marks : (f : ℕ) (d : GuardRow) → f < l.fields → (slice_index_or rows f d).transient ≡ not (s.is_logged f)
   pub values : (f : ℕ) → f < l.fields → slice_index heap f ≡ s.first f
   pub last_is : last ≡ s.last

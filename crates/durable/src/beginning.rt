@@ -1,6 +1,6 @@
 //! The fields before any record.
 
-ghost use Rattle.std.specs.Prelude.{◌≡◌, ◌<◌, ◌≤◌, ℕ, length, slice_index, slice_index_or, IfOk};
+ghost use Rattle.std.specs.Prelude.{◌≡◌, ◌<◌, ◌≤◌, ℕ, not, length, slice_index, slice_index_or, IfOk};
 ghost use Rattle.image.specs.declared.guard_row.GuardRow.{GuardRow as Row};
 ghost use Rattle.store_memory.specs.Memory.{field_in};
 
@@ -8,7 +8,7 @@ use image::GuardRow;
 use std::alloc::{AllocError, Global};
 use store_memory::FieldState;
 
-/// The fields, with their guards and with these values at home.
+/// The fields, with their guards and marks, and with these values at home.
 pub fn fields_of(
     alloc: Global,
     guards: &[GuardRow],
@@ -17,6 +17,7 @@ pub fn fields_of(
     requires { length heap.now ≡ length guards.now }
     ensures size { IfOk result (λ fields. length fields.items ≡ length guards.now) }
     ensures guards { IfOk result (λ fields. (f : ℕ) (d : Row) → f < length guards.now → (field_in fields.items f).guard ≡ (slice_index_or guards.now f d).guard) }
+    ensures marks { IfOk result (λ fields. (f : ℕ) (d : Row) → f < length guards.now → (field_in fields.items f).is_logged ≡ not (slice_index_or guards.now f d).transient) }
     ensures values { IfOk result (λ fields. (f : ℕ) → f < length guards.now → (field_in fields.items f).value ≡ slice_index heap.now f) }
     ensures logged { IfOk result (λ fields. (f : ℕ) → f < length guards.now → (field_in fields.items f).logged ≡ slice_index heap.now f) }
 {
@@ -24,6 +25,7 @@ pub fn fields_of(
     for (place, row) in guards.iter().enumerate() {
         fields.push_reserved(FieldState {
             guard: row.guard,
+            is_logged: !row.transient,
             value: heap[place],
             logged: heap[place],
         });

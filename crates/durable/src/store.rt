@@ -114,7 +114,7 @@ impl<D: Disk> Store<D> {
 
     /// Applies the lane's next record, in memory alone and in constant time.
     ///
-    /// Refusals, in this order: `Failed`; `BadLane`; `BadId`; `Worn` (the release number is the last or more, or a section would
+    /// Refusals, in this order: `Failed`; `BadLane`; `BadId` (also a store of a transient field, which no log keeps); `Worn` (the release number is the last or more, or a section would
     /// begin at place 2^62 or later); `NotNext`; `TooLong`; `LogFull`. A refusal changes nothing.
     pub fn apply(&mut self, lane: Lane, record: Record) -> Result<(), StoreError>
         ensures answer { (s : Setting) (p : Past) → HasPast self.old.known s p (D.device self.old.disk)
@@ -369,10 +369,11 @@ impl<D: Disk> Store<D> {
         self.committed.rows[usize::from(lane.0)].kept
     }
 
-    /// The field's value after all applied stores.
+    /// The field's value after all applied stores. A transient field has its first one, since none of its stores is applied.
     pub fn heap_value(&self, field: FieldId) -> u64
         requires { field.0 < self.now.known.layout.fields }
-        ensures { (s : Setting) (p : Past) → HasPast self.now.known s p (D.device self.now.disk) → result ≡ value_of s.first field.0 (applied p) }
+        ensures value { (s : Setting) (p : Past) → HasPast self.now.known s p (D.device self.now.disk) → result ≡ value_of s.first field.0 (applied p) }
+        ensures transient { (s : Setting) (p : Past) → HasPast self.now.known s p (D.device self.now.disk) → s.is_logged field.0 ≡ false → result ≡ s.first field.0 }
     {
         self.applied.value(field)
     }
@@ -404,15 +405,15 @@ impl<D: Disk> Store<D> {
         self.layout
     }
 
-    /// The device, if nothing is left to do: its home cells are the heap after all that was applied, all of that is
-    /// acknowledged, and whatever a crash leaves stands for it.
+    /// The device, if nothing is left to do: its home cells are the heap after all that was applied, but that of a transient
+    /// field, which has its first value there; all of that is acknowledged, and whatever a crash leaves stands for it.
     ///
     /// Refusals, in this order: `Failed`; `Unfinished`: a lane holds a monitor; `Unwritten`: a record isn't logged, a field is
     /// dirty, or a logged section that has ended isn't acknowledged. After a refusal the store is given back as it was.
     pub fn close(self) -> Result<D, (Store<D>, StoreError)>
         ensures ok { (s : Setting) (p : Past) → HasPast self.known s p (D.device self.disk) → OnOk result ((self.known.has_failed ≡ false) × (¬ HasOpen p) × IsWritten s p) }
         ensures home { (s : Setting) (p : Past) → HasPast self.known s p (D.device self.disk)
-            → IfOk result (λ disk. (f : ℕ) → f < self.known.layout.fields → HasCell self.known.layout f (D.device disk).now.bytes (value_of s.first f (applied p))) }
+            → IfOk result (λ disk. (f : ℕ) → f < self.known.layout.fields → s.is_logged f ≡ true → HasCell self.known.layout f (D.device disk).now.bytes (value_of s.first f (applied p))) }
         ensures stands { (s : Setting) (p : Past) → HasPast self.known s p (D.device self.disk)
             → IfOk result (λ disk. Always (D.device disk) (λ image. StandsFor self.known.layout image (applied_heap self.known.layout s p))) }
         ensures disk { IfOk result (λ disk. disk ≡ self.disk) }

@@ -25,16 +25,16 @@ fields_in-push (x ∷ xs) e = ap (λ fields. field_in x ∷ fields) (fields_in-p
 
 -- an entry behind the others is a field behind the others
 pub fields_in-AddsEntry : (old new : List (String Global × FieldRow)) (name : List ℕ) (row : FieldRow) → AddsEntry old new name row
-    → fields_in new ≡ fields_in old ++ field_of name row.owner row.guard row.first ∷ []
+    → fields_in new ≡ fields_in old ++ field_of name row.owner row.guard row.first row.is_transient ∷ []
 fields_in-AddsEntry old new name row added = ap fields_in added.entries ∙ fields_in-push old (added.key, row)
-    ∙ ap (λ text. fields_in old ++ field_of text row.owner row.guard row.first ∷ []) added.spelled
+    ∙ ap (λ text. fields_in old ++ field_of text row.owner row.guard row.first row.is_transient ∷ []) added.spelled
 
--- a number of the field at a place is that of the row there
-module _ (part : Field → ℕ) (own : FieldRow → ℕ) (agree : (e : String Global × FieldRow) → part (field_in e) ≡ own e.1) where
+-- a part of the field at a place is that of the row there
+module _ {A : Type 0} (part : Field → A) (own : FieldRow → A) (agree : (e : String Global × FieldRow) → part (field_in e) ≡ own e.1) where
   parts : (es : List (String Global × FieldRow)) → map part (fields_in es) ≡ map own (values_in es)
   parts [] = refl
   parts (e ∷ es) = ap (λ n. n ∷ map part (fields_in es)) (agree e) ∙ ap (λ ns. own e.1 ∷ ns) (parts es)
 
-  pub part-at : (es : List (String Global × FieldRow)) (k : ℕ) (row : FieldRow) → slice_get (values_in es) k ≡ Some row → own row ≡ get_or (map part (fields_in es)) k 0
-  part-at es k row at = sym (get_or_from_slice_get (map part (fields_in es)) k (own row) 0
+  pub part-at : (other : A) (es : List (String Global × FieldRow)) (k : ℕ) (row : FieldRow) → slice_get (values_in es) k ≡ Some row → own row ≡ get_or (map part (fields_in es)) k other
+  part-at other es k row at = sym (get_or_from_slice_get (map part (fields_in es)) k (own row) other
       (ap (λ numbers. slice_get numbers k) (parts es) ∙ slice_get-map own (values_in es) k ∙ ap (option_map own) at))

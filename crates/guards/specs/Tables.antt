@@ -7,7 +7,7 @@ use Rattle.guards.specs.Names.{names_in}
 
 -- the field that an entry declares
 abbrev pub field_in : String Global × FieldRow → Field
-field_in entry = field_of (string_bytes entry.0) entry.1.owner entry.1.guard entry.1.first
+field_in entry = field_of (string_bytes entry.0) entry.1.owner entry.1.guard entry.1.first entry.1.is_transient
 
 -- the fields that the entries declare
 abbrev pub fields_in : List (String Global × FieldRow) → List Field

@@ -1,7 +1,8 @@
 //! Takes the declarations of a schema.
 
-ghost use Rattle.std.specs.Prelude.{◌≡◌, ◌≢◌, ◌<◌, ◌≤◌, ◌↔◌, ◌⊎◌, ℕ, [], Some, Contains, IfOk, IfErr, IfSome, OnOk, OnErr, IsErr, IsErrOf, slice_get};
+ghost use Rattle.std.specs.Prelude.{◌≡◌, ◌≢◌, ◌<◌, ◌≤◌, ◌↔◌, ◌⊎◌, ℕ, true, false, [], Some, Contains, IfOk, IfErr, IfSome, OnOk, OnErr, IsErr, IsErrOf, slice_get};
 ghost use Rattle.guards.specs.Schema.{object_count, field_count, names_of, nothing, with_object, with_field, field_of, IsNewName, IsSchema};
+ghost use Rattle.guards.specs.Declaring.{Declares};
 ghost use Rattle.heap_model.specs.declared.limits.TheConstants.{MOST_OBJECTS, MOST_FIELDS};
 
 use crate::error::SchemaError;
@@ -75,8 +76,8 @@ impl SchemaBuilder {
         Ok(ObjectId(count as u32))
     }
 
-    /// Declares a field of `owner`, guarded by the monitor of `guard`, that begins with `first`.
-    /// Gives its number: the first has 0, each next one more, over all owners.
+    /// Declares a persistent field of `owner`, guarded by the monitor of `guard`, that begins with
+    /// `first`. Gives its number: the first has 0, each next one more, over all owners.
     ///
     /// Refused, in this order: `Empty`, `DoubleName`, `UnknownObject`, `TooMany`, `NoMemory`.
     pub fn field(
@@ -86,42 +87,39 @@ impl SchemaBuilder {
         guard: ObjectId,
         first: u64,
     ) -> Result<FieldId, SchemaError>
-        ensures ok { IfOk result (λ id. (id.0 ≡ field_count self.old)
-            × (self.new ≡ with_field self.old (field_of name.now owner guard first))) }
-        ensures empty { IsErrOf result SchemaError.Empty ↔ (name.now ≡ []) }
-        ensures double_name { IsErrOf result SchemaError.DoubleName
-            ↔ ((name.now ≢ []) × Contains (names_of self.old.fields) name.now) }
-        ensures unknown_object { IsErrOf result SchemaError.UnknownObject
-            ↔ (IsNewName (names_of self.old.fields) name.now
-            × ((object_count self.old ≤ owner.0) ⊎ (object_count self.old ≤ guard.0))) }
-        ensures too_many { IsErrOf result SchemaError.TooMany
-            ↔ (IsNewName (names_of self.old.fields) name.now × (owner.0 < object_count self.old)
-            × (guard.0 < object_count self.old) × (field_count self.old ≡ MOST_FIELDS)) }
-        ensures err { OnErr result (self.new ≡ self.old) }
+        ensures declares { Declares owner name.now guard first false self.old result self.new }
     {
-        if name.is_empty() {
-            return Err(SchemaError::Empty);
-        }
-        if has_field(&self.fields, name) {
-            return Err(SchemaError::DoubleName);
-        }
-        let objects = self.objects.len();
-        if owner.0 as usize >= objects || guard.0 as usize >= objects {
-            return Err(SchemaError::UnknownObject);
-        }
-        let count = self.fields.len();
-        if count >= MOST_FIELDS {
-            return Err(SchemaError::TooMany);
-        }
         let row = FieldRow {
             owner,
             guard,
             first,
+            is_transient: false,
         };
-        if add_field(&mut self.fields, name, row).is_err() {
-            return Err(SchemaError::NoMemory);
-        }
-        Ok(FieldId(count as u32))
+        self.declare(name, row)
+    }
+
+    /// Declares a transient field: threads load and store it as any other, no log keeps its stores,
+    /// and after each recovery it has its first value again. As a Java `transient` field, it is for
+    /// what can be had anew: caches, statistics, handles to the outside.
+    ///
+    /// It shares names, numbers and limit with the fields that [`SchemaBuilder::field`] declares, and
+    /// is refused as they are.
+    pub fn transient(
+        &mut self,
+        owner: ObjectId,
+        name: &str,
+        guard: ObjectId,
+        first: u64,
+    ) -> Result<FieldId, SchemaError>
+        ensures declares { Declares owner name.now guard first true self.old result self.new }
+    {
+        let row = FieldRow {
+            owner,
+            guard,
+            first,
+            is_transient: true,
+        };
+        self.declare(name, row)
     }
 
     /// The object declared under this name.
@@ -169,5 +167,40 @@ impl SchemaBuilder {
         }
         let SchemaBuilder { objects, fields } = self;
         Ok(Schema::of(objects, fields))
+    }
+
+    // Declares the field of this row, behind the others.
+    fn declare(&mut self, name: &str, row: FieldRow) -> Result<FieldId, SchemaError>
+        ensures ok { IfOk result (λ id. (id.0 ≡ field_count self.old)
+            × (self.new ≡ with_field self.old (field_of name.now row.owner row.guard row.first row.is_transient))) }
+        ensures empty { IsErrOf result SchemaError.Empty ↔ (name.now ≡ []) }
+        ensures double_name { IsErrOf result SchemaError.DoubleName
+            ↔ ((name.now ≢ []) × Contains (names_of self.old.fields) name.now) }
+        ensures unknown_object { IsErrOf result SchemaError.UnknownObject
+            ↔ (IsNewName (names_of self.old.fields) name.now
+            × ((object_count self.old ≤ row.owner.0) ⊎ (object_count self.old ≤ row.guard.0))) }
+        ensures too_many { IsErrOf result SchemaError.TooMany
+            ↔ (IsNewName (names_of self.old.fields) name.now × (row.owner.0 < object_count self.old)
+            × (row.guard.0 < object_count self.old) × (field_count self.old ≡ MOST_FIELDS)) }
+        ensures err { OnErr result (self.new ≡ self.old) }
+    {
+        if name.is_empty() {
+            return Err(SchemaError::Empty);
+        }
+        if has_field(&self.fields, name) {
+            return Err(SchemaError::DoubleName);
+        }
+        let objects = self.objects.len();
+        if row.owner.0 as usize >= objects || row.guard.0 as usize >= objects {
+            return Err(SchemaError::UnknownObject);
+        }
+        let count = self.fields.len();
+        if count >= MOST_FIELDS {
+            return Err(SchemaError::TooMany);
+        }
+        if add_field(&mut self.fields, name, row).is_err() {
+            return Err(SchemaError::NoMemory);
+        }
+        Ok(FieldId(count as u32))
     }
 }

@@ -11,4 +11,6 @@ pub(crate) struct FieldRow {
     pub(crate) guard: ObjectId,
     /// The field's value when the heap is formatted.
     pub(crate) first: u64,
+    /// Whether the field is transient: it begins with that value at each open.
+    pub(crate) is_transient: bool,
 }

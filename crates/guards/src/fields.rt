@@ -1,7 +1,8 @@
 //! The table of the fields, each under its name.
 
-ghost use Rattle.std.specs.Prelude.{◌≡◌, ◌+◌, ◌<◌, ◌↔◌, ◌++◌, ◌∷◌, [], ℕ, None, Some, length, Contains, IsTrue, IfSome, OnOk, OnErr, slice_get, slice_index};
-ghost use Rattle.guards.specs.Schema.{field_of, names_of, owners_of, guards_of, firsts_of};
+ghost use Rattle.std.specs.Prelude.{◌≡◌, ◌+◌, ◌<◌, ◌↔◌, ◌++◌, ◌∷◌, [], ℕ, None, Some, length, Contains, IsTrue, IfSome, OnOk, OnErr, slice_get, slice_index, false};
+ghost use Rattle.std.specs.List.{slice_index_or};
+ghost use Rattle.guards.specs.Schema.{field_of, names_of, owners_of, guards_of, firsts_of, marks_of};
 ghost use Rattle.guards.specs.Tables.{fields_in};
 
 use crate::field_row::FieldRow;
@@ -24,7 +25,7 @@ pub(crate) fn add_field(
 ) -> Result<(), AllocError>
     requires { Contains (names_of (fields_in fields.old.entries)) name.now → ⊥ }
     ensures ok { OnOk result (fields_in fields.new.entries
-        ≡ fields_in fields.old.entries ++ field_of name.now row.owner row.guard row.first ∷ []) }
+        ≡ fields_in fields.old.entries ++ field_of name.now row.owner row.guard row.first row.is_transient ∷ []) }
     ensures err { OnErr result (fields_in fields.new.entries ≡ fields_in fields.old.entries) }
 {
     add_name(fields, name, row)
@@ -55,6 +56,7 @@ pub(crate) fn row_at(fields: &IndexMap<String, FieldRow>, number: usize) -> Fiel
     ensures owner { result.owner.0 ≡ slice_index (owners_of (fields_in fields.now.entries)) number }
     ensures guard { result.guard.0 ≡ slice_index (guards_of (fields_in fields.now.entries)) number }
     ensures first { result.first ≡ slice_index (firsts_of (fields_in fields.now.entries)) number }
+    ensures mark { result.is_transient ≡ slice_index_or (marks_of (fields_in fields.now.entries)) number false }
 {
     value_at(fields, number)
 }

@@ -1,7 +1,7 @@
 //! A schema that was built.
 
 ghost use Rattle.std.specs.Prelude.{◌≡◌, ◌<◌, ℕ, Some, IfSome, slice_get};
-ghost use Rattle.guards.specs.Schema.{object_count, field_count, names_of, owner_of, guard_of, first_of, IsSchema};
+ghost use Rattle.guards.specs.Schema.{object_count, field_count, names_of, owner_of, guard_of, first_of, is_transient_of, IsSchema};
 ghost use Rattle.guards.specs.Tables.{declared_by};
 
 use crate::field_row::FieldRow;
@@ -72,12 +72,21 @@ impl Schema {
         row_at(&self.fields, field.0 as usize).owner
     }
 
-    /// The value with which the field begins when a heap is formatted.
+    /// The value with which the field begins when a heap is formatted, and a transient one at each open.
     pub fn first(&self, field: FieldId) -> u64
         requires { field.0 < field_count self.now }
         ensures { result ≡ first_of self.now field.0 }
     {
         row_at(&self.fields, field.0 as usize).first
+    }
+
+    /// Whether the field is transient: no log keeps its stores, and it begins with its first value at
+    /// each open.
+    pub fn transient(&self, field: FieldId) -> bool
+        requires { field.0 < field_count self.now }
+        ensures { result ≡ is_transient_of self.now field.0 }
+    {
+        row_at(&self.fields, field.0 as usize).is_transient
     }
 
     /// The name of the object.

@@ -1,5 +1,5 @@
 -- Logs of records, and which of them are legal. A list of (lane, record) has its newest record first.
-use Rattle.std.specs.Prelude.{ℕ, ◌≡◌, ◌+◌, ◌<◌, ◌==◌, if◌then◌else◌, List, [], ◌∷◌, ◌++◌, map, reverse, Option, Some, None}
+use Rattle.std.specs.Prelude.{ℕ, ◌≡◌, ◌+◌, ◌<◌, ◌==◌, if◌then◌else◌, true, List, [], ◌∷◌, ◌++◌, map, reverse, Option, Some, None}
 use Rattle.heap_model.specs.declared.record.Record.{Record}
 use Rattle.heap_model.specs.declared.record.Record.TheVariants.{Acq, Rel, WaitRel, Put}
 use Rattle.heap_model.specs.declared.record.LaneRecord.{LaneRecord}
@@ -66,12 +66,12 @@ IsAllowed s older l (Rel o n) = (holder o.0 older ≡ Some l) × (number o.0 old
 IsAllowed s older l (WaitRel o n) = (holder o.0 older ≡ Some l) × (number o.0 older ≡ n)
 IsAllowed s older l (Put f before after) = (holder (s.guard f.0) older ≡ Some l) × (value s.first f.0 older ≡ before)
 
--- the record's object or field is one of the setting's
+-- the record's object is one of the setting's, or its field is one whose stores are logged
 abbrev pub IsRecordOf : Setting → Record → Type 0
 IsRecordOf s (Acq o n) = o.0 < s.objects
 IsRecordOf s (Rel o n) = o.0 < s.objects
 IsRecordOf s (WaitRel o n) = o.0 < s.objects
-IsRecordOf s (Put f before after) = f.0 < s.fields
+IsRecordOf s (Put f before after) = (f.0 < s.fields) × (s.is_logged f.0 ≡ true)
 
 -- each record is allowed after those before it
 abbrev pub IsLegal : Setting → List (ℕ × Record) → Type 0

@@ -9,7 +9,7 @@ pub record Setting : Type 0 where
   -- by field: the object whose monitor guards it, and the value that it has at first
   pub guard : ℕ → ℕ
   pub first : ℕ → ℕ
-  -- by field: whether logs keep its stores
+  -- by field: whether logs keep its stores. A field whose stores they don't keep is transient: no crash keeps its value
   pub is_logged : ℕ → Bool
   -- a monitor with this number or a greater one is never taken
   pub last : ℕ

@@ -28,7 +28,12 @@ fn words_are_as_documented(rt: HostRuntime) -> Result<(), AllocError> {
         ([].as_slice(), None),
         (["run"].as_slice(), None),
         (["walk"].as_slice(), Some(ErrorKind::InvalidSubcommand)),
-        (["help"].as_slice(), Some(ErrorKind::InvalidSubcommand)),
+        (["help"].as_slice(), Some(ErrorKind::DisplayHelp)),
+        (["help", "show"].as_slice(), Some(ErrorKind::DisplayHelp)),
+        (
+            ["help", "walk"].as_slice(),
+            Some(ErrorKind::InvalidSubcommand),
+        ),
         (["run", "now"].as_slice(), Some(ErrorKind::UnknownArgument)),
         (["--fast"].as_slice(), Some(ErrorKind::UnknownArgument)),
         (["--help"].as_slice(), Some(ErrorKind::DisplayHelp)),

@@ -126,7 +126,7 @@ log_legal g ((t, Exit p n) ∷ h) legal =
     (log_legal g h legal.0, (holder_log g h p.0 ∙ legal.1.1, number_log g h p.0 ∙ legal.1.3), awake_follows _ _ _ (waits_log g h t legal.0) legal.1.0, legal.2)
 log_legal g ((t, Load f v) ∷ h) legal = log_legal g h legal.0
 log_legal g ((t, Store f b a) ∷ h) legal = store_or_none (g.is_logged f.0) t (Put f b a) (log_of g h) (IsLegal g)
-    (λ is. (log_legal g h legal.0, (holder_log g h (g.guard f.0) ∙ legal.1.1, value_log g h f.0 is ∙ legal.1.2), awake_follows _ _ _ (waits_log g h t legal.0) legal.1.0, legal.2))
+    (λ is. (log_legal g h legal.0, (holder_log g h (g.guard f.0) ∙ legal.1.1, value_log g h f.0 is ∙ legal.1.2), awake_follows _ _ _ (waits_log g h t legal.0) legal.1.0, (legal.2, is)))
     (λ _. log_legal g h legal.0)
 log_legal g ((t, Wait p n) ∷ h) legal =
     (log_legal g h legal.0, (holder_log g h p.0 ∙ legal.1.1, number_log g h p.0 ∙ legal.1.2), awake_follows _ _ _ (waits_log g h t legal.0) legal.1.0, legal.2)

@@ -27,7 +27,7 @@ not_closed x y z w (Ok closed) on calls same looked without kept why = tt
 not_closed x y z w (Err (Running v)) on calls same looked without kept why = absurd why
 not_closed x y z w (Err (CallsLeft v)) on calls same looked without kept why = absurd why
 not_closed x y z w (Err (InUse v)) on calls same looked without kept why = (
-  record { home = why.0.home ∙ without.home ∙ same.home ∙ on.home; helper = why.0.helper ∙ without.helper ∙ same.helper ∙ on.helper; unused = why.0.unused ∙ without.unused },
+  record { home = why.0.home ∙ without.home ∙ same.home ∙ on.home; helper = why.0.helper ∙ without.helper ∙ same.helper ∙ on.helper; unused = why.0.unused ∙ without.unused; stop = why.0.stop ∙ without.stop ∙ same.stop ∙ on.stop },
   subst (λ (c : Host). HasLooked x.calls c) (sym (why.1 ∙ kept)) (subst (λ (c : Host). HasLooked c z.calls) calls looked),
 )
 not_closed x y z w (Err (Stopped closed e)) on calls same looked without kept why = (

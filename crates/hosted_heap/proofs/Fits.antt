@@ -2,7 +2,7 @@
 use Rattle.std.proofs.Common.{ℕ, ◌≡◌, ◌+◌, ◌<◌, List, length, sym, ◌∙◌, arith}
 use Rattle.image.specs.declared.guard_row.GuardRow.{GuardRow}
 use Rattle.image.specs.declared.layout.Layout.{Layout}
-use Rattle.numbered_schema.proofs.Numbered.{objects_are, fields_are, guard_at}
+use Rattle.numbered_schema.proofs.Numbered.{objects_are, fields_are, guard_at, mark_at}
 use Rattle.numbered_schema.specs.Rows.{numbered}
 use Rattle.trim_helper.specs.Opening.{FitsSchema}
 
@@ -12,4 +12,5 @@ fits_numbered l rows size = record {
   objects = sym (objects_are l.objects);
   fields = sym size ∙ sym (fields_are 0 rows);
   guarded = λ f d low. sym (guard_at 0 rows f d (let count = fields_are 0 rows in omega (arith, low, count)));
+  marked = λ f d low. sym (mark_at 0 rows f d (let count = fields_are 0 rows in omega (arith, low, count)));
 }

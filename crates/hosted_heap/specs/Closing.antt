@@ -24,12 +24,14 @@ pub record GoesOn (x y : Hosting) : Type 0 where
   pub helper : y.helper ≡ x.helper
   pub unused : y.unused ≡ x.unused
   pub out : length y.out ≡ length x.out
+  pub stop : y.stop ≡ x.stop
 
 -- so it does, and its other sessions have ended
 pub record GoesOnWithout (x y : Hosting) : Type 0 where
   pub home : y.home ≡ x.home
   pub helper : y.helper ≡ x.helper
   pub unused : y.unused ≡ []
+  pub stop : y.stop ≡ x.stop
 
 -- the lanes of these, in order
 abbrev pub lanes_ended : List Ended → List ℕ

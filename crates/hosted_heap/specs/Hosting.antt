@@ -12,6 +12,7 @@ use Rattle.trim_helper.specs.Endings.{HoldNone, IsComplete}
 use Rattle.trim_helper.specs.Parts.{Parts}
 use Rattle.trim_helper.specs.declared.ended.Ended.{Ended}
 use Rattle.hosted_heap.specs.Sessions.{Seated}
+use Rattle.hosted_heap.specs.Stopping.{Stopping}
 use Rattle.hosted_heap.specs.declared.lane_end.LaneEnd.{LaneEnd}
 
 -- the device that a deferred disk is
@@ -19,13 +20,14 @@ abbrev pub hosted_device : Deferred → Device
 hosted_device d = device_of d.memory
 
 -- Its words, its helper, and the calls that its host has made and is yet to make; the lanes whose session wasn't handed out, the next one
--- first; and where the sessions that were come back, the last one first.
+-- first; where the sessions that were come back, the last one first; and the word by which they learn that it has stopped.
 pub record Hosting : Type 0 where
   pub home : Home
   pub helper : Parts Deferred
   pub calls : Host
   pub unused : List ℕ
   pub out : List LaneEnd
+  pub stop : Stopping
 
 -- the lanes of these sessions, the last one first
 abbrev pub lanes_of : List Seated → List ℕ
@@ -41,6 +43,7 @@ pub record SameHeap (x y : Hosting) : Type 0 where
   pub helper : y.helper ≡ x.helper
   pub unused : y.unused ≡ x.unused
   pub out : y.out ≡ x.out
+  pub stop : y.stop ≡ x.stop
 
 -- Sessions have ended, one a lane, and none of them held a monitor. One legal history has what each was told as its part, and the
 -- device stands for its heap.

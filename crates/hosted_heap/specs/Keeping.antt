@@ -1,5 +1,5 @@
 -- What is true of a hosted heap between its calls (this project's own).
-use Rattle.std.specs.Prelude.{◌≡◌, ◌≤◌, List, All, length}
+use Rattle.std.specs.Prelude.{ℕ, ◌≡◌, ◌≤◌, List, All, length}
 use Rattle.std.specs.List.{range_with_len}
 use Rattle.deferred_disk.specs.Deferred.{Deferred}
 use Rattle.image.specs.Layout.{IsLayout}
@@ -12,13 +12,13 @@ use Rattle.hosted_heap.specs.Lanes.{AreNewHere, ArePaired, IsJoinedHere, IsLaneE
 use Rattle.hosted_heap.specs.Sessions.{Seated}
 use Rattle.hosted_heap.specs.declared.lane_end.LaneEnd.{LaneEnd}
 
--- The helper is of these words, the sessions that weren't handed out too, and what comes back meets the helper. There is an end for each lane, the
+-- The helper is of these words, the sessions that weren't handed out too, which learn of a stop by this word, and what comes back meets the helper. There is an end for each lane, the
 -- last lane's first, and the sessions that weren't handed out are of the first of these.
-pub record IsHosting (h : Home) (x : Parts Deferred) (l : Layout) (unused : List Seated) (lanes : List LaneEnd) : Type 0 where
+pub record IsHosting (h : Home) (x : Parts Deferred) (l : Layout) (word : ℕ) (unused : List Seated) (lanes : List LaneEnd) : Type 0 where
   pub helping : IsHelping hosted_device h x
   pub layout_is : l ≡ x.store.known.layout
   pub within : IsLayout l
-  pub unused_are : AreNewHere h unused
+  pub unused_are : AreNewHere h word unused
   pub count : length unused ≤ length lanes
   pub lanes_are : All (IsLaneEnd h x.store.known.layout.capacity x.rings) lanes
   pub order : lanes_at lanes ≡ range_with_len 0 l.lanes

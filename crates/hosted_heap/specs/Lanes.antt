@@ -50,13 +50,14 @@ pub record IsAwaited (l : LaneEnd) : Type 0 where
   pub out : l.came ≡ None
   pub looked : known_items l.back ≡ []
 
--- a session of these words that was told nothing
-pub record IsNewHere (h : Home) (s : Seated) : Type 0 where
+-- a session of these words that was told nothing, and learns of a stop by this word
+pub record IsNewHere (h : Home) (word : ℕ) (s : Seated) : Type 0 where
   pub home : s.home ≡ h
+  pub word_is : s.stop.word ≡ word
   pub untold : (view_of s.session).events ≡ []
 
-abbrev pub AreNewHere : Home → List Seated → Type 0
-AreNewHere h sessions = All (IsNewHere h) sessions
+abbrev pub AreNewHere : Home → (word : ℕ) → List Seated → Type 0
+AreNewHere h word sessions = All (IsNewHere h word) sessions
 
 -- the session in it is joined to the helper
 abbrev pub IsJoinedHere : (h : Home) (capacity : ℕ) (rings : Rings) → Seated → Type 0

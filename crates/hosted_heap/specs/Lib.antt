@@ -4,6 +4,8 @@ pub mod Opening
 pub mod Closing
 pub mod Rounds
 pub mod Sessions
+pub mod Stopping
+pub mod Failing
 -- How sessions come back, and what is true between calls.
 pub mod Returning
 pub mod Lanes

@@ -1,5 +1,5 @@
 -- What a hosted heap begins with, and which refusal comes when (this project's own).
-use Rattle.std.specs.Prelude.{ℕ, ◌≡◌, ◌<◌, List, [], slice_index}
+use Rattle.std.specs.Prelude.{ℕ, ◌≡◌, ◌<◌, List, [], None, slice_index}
 use Rattle.std.specs.List.{range_with_len, slice_index_or}
 use Rattle.block_disk.specs.Device.{Device}
 use Rattle.block_disk.specs.Memory.{device_of, fresh}
@@ -32,6 +32,7 @@ pub record HasBegun (schema : Declarations) (r : Parts Deferred) (x : Hosting) :
   pub none_left : x.calls.left ≡ []
   pub unused : x.unused ≡ range_with_len 0 r.layout.lanes
   pub none_out : x.out ≡ []
+  pub unstopped : x.stop.seen ≡ None
 
 -- It was made of so many objects and of these fields, with so many lanes of so many records, and begins with their first values.
 pub record IsMade (objects : ℕ) (rows : List GuardRow) (lanes capacity : ℕ) (x : Hosting) : Type 0 where

@@ -5,17 +5,20 @@ use Rattle.session.specs.declared.session.Session.{Session}
 use Rattle.session.specs.declared.waiting.Waiting.{Waiting}
 use Rattle.session.specs.Sessions.{IsSessionOf, IsWaitingOf}
 use Rattle.hosted_heap.specs.Returning.{MayReturn, MayReturnWaiting}
+use Rattle.hosted_heap.specs.Stopping.{Stopping}
 
--- the words of its heap, its session, and what went through the ring by which it comes back
+-- the words of its heap, its session, what went through the ring by which it comes back, and what it has seen of a stop
 pub record Seated : Type 0 where
   pub home : Home
   pub session : Session
   pub before : List Session
+  pub stop : Stopping
 
 pub record SeatedWaiting : Type 0 where
   pub home : Home
   pub waiting : Waiting
   pub before : List Session
+  pub stop : Stopping
 
 -- the session is of these words and may come back, and its ring has room for it
 pub record IsSeated (h : Home) (s : Session) (before : List Session) (free : ℕ) : Type 0 where

@@ -13,6 +13,7 @@ ghost use Rattle.trim_helper.specs.Endings.{Rings};
 use crate::lane_end::LaneEnd;
 use crate::returning::Returning;
 use crate::seated::HostedSession;
+use crate::stop::{Stop, Stopper};
 use monitor::Shared;
 use rtrb::RingBuffer;
 use session::Session;
@@ -24,10 +25,12 @@ pub fn begin_all(
     alloc: Global,
     shared: &Arc<Shared>,
     sessions: Vec<Session>,
+    stop: &mut Stopper,
 ) -> Result<(Vec<HostedSession>, Vec<LaneEnd>), AllocError>
     requires of { All (IsSessionOf (arc_value shared.now)) sessions.items }
     requires fresh { AreNew 0 sessions.items }
-    ensures homes { IfOk result (λ r. AreNewHere (arc_value shared.now) r.0.items) }
+    ensures homes { IfOk result (λ r. AreNewHere (arc_value shared.now) stop.old.word r.0.items) }
+    ensures stop { stop.new ≡ stop.old }
     ensures in_order { IfOk result (λ r. lanes_of r.0.items ≡ range_with_len 0 (length sessions.items)) }
     ensures paired { IfOk result (λ r. lanes_at r.1.items ≡ lanes_of r.0.items) }
     ensures count { IfOk result (λ r. length r.0.items ≡ length r.1.items) }
@@ -38,7 +41,8 @@ pub fn begin_all(
     let mut unused = Vec::new(alloc);
     let mut lanes = Vec::new(alloc);
     'sessions: while let Some(session) = left.pop() {
-        let (session, end) = begin(alloc, Arc::try_clone(shared)?, session)?;
+        let word = stop.for_session()?;
+        let (session, end) = begin(alloc, Arc::try_clone(shared)?, session, word)?;
         unused.push(session)?;
         lanes.push(end)?;
     }
@@ -50,9 +54,10 @@ fn begin(
     alloc: Global,
     shared: Arc<Shared>,
     session: Session,
+    stop: Stop,
 ) -> Result<(HostedSession, LaneEnd), AllocError>
     requires of { IsSessionOf (arc_value shared) session }
-    ensures session { IfOk result (λ r. (r.0.home ≡ arc_value shared) × (r.0.session ≡ session)) }
+    ensures session { IfOk result (λ r. (r.0.home ≡ arc_value shared) × (r.0.session ≡ session) × (r.0.stop ≡ stop)) }
     ensures end { IfOk result (λ r. (received r.1.back ≡ session ∷ []) × (r.1.came ≡ None)) }
 {
     let (mut producer, mut back) = RingBuffer::with_protocol::<Global, Returning>(alloc, 2)?;
@@ -63,6 +68,7 @@ fn begin(
         shared,
         session,
         back: producer,
+        stop,
     };
     Ok((session, LaneEnd { back, came: None }))
 }

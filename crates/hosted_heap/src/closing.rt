@@ -9,12 +9,12 @@ ghost use Rattle.monitor.specs.Seats.{Home};
 ghost use Rattle.running_heap.specs.Joined.{IsHelping};
 ghost use Rattle.trim_helper.specs.Endings.{IsEnded, Rings};
 
-use crate::error::CloseRefusal;
+use crate::error::{CloseRefusal, FailedCall};
 use crate::heap::HostedHeap;
 use crate::lane_end::LaneEnd;
 use crate::room::CLOSE_SYNCS;
 use crate::seated::HostedSession;
-use deferred_disk::{DeferredDisk, HostCalls};
+use deferred_disk::{DeferredDisk, DeviceCall, HostCalls};
 use monitor::Shared;
 use running_heap::{close, end};
 use std::alloc::{AllocError, Global};
@@ -26,6 +26,23 @@ use trim_helper::{Ended, Helper};
 pub struct Closed {
     pub disk: DeferredDisk,
     pub calls: HostCalls,
+}
+
+impl Closed {
+    ghost use Rattle.std.specs.Prelude.{◌≡◌};
+    ghost use Rattle.hosted_heap.specs.Failing.{failed_call};
+
+    /// The host couldn't make the call that the calls gave. Answers which that was, as [`HostedHeap::call_failed`] does: a write may be
+    /// made again; behind a sync no call may follow.
+    pub fn call_failed(&self) -> Option<FailedCall>
+        ensures { result ≡ failed_call self.now.calls.left }
+    {
+        match self.calls.next_call() {
+            None => None,
+            Some(DeviceCall::Write { .. }) => Some(FailedCall::Write),
+            Some(DeviceCall::Sync) => Some(FailedCall::Sync),
+        }
+    }
 }
 
 /// Why a heap isn't closed.
@@ -106,6 +123,7 @@ impl HostedHeap {
             layout,
             unused,
             lanes,
+            stop,
         } = self;
         match Arc::try_unwrap(shared) {
             Ok(shared) => close_all(alloc, shared, helper, calls, lanes),
@@ -117,6 +135,7 @@ impl HostedHeap {
                 layout,
                 unused,
                 lanes,
+                stop,
             })),
         }
     }
@@ -172,6 +191,7 @@ fn bring_to(lanes: &mut Vec<LaneEnd>, place: usize, session: HostedSession)
         shared,
         session,
         back,
+        stop: _,
     } = session;
     drop(shared);
     drop(back);

@@ -34,6 +34,15 @@ pub enum RoundError {
     Store(StoreError),
 }
 
+/// A call of the device that the host couldn't make.
+#[derive(Clone, Copy, Debug, Drop, PartialEq, Eq)]
+pub enum FailedCall {
+    /// A write, which may be made again.
+    Write,
+    /// A sync. No call may follow it.
+    Sync,
+}
+
 /// Why it isn't told how many sections of a lane are acknowledged.
 #[derive(Clone, Copy, Debug, Drop, Error, PartialEq, Eq)]
 pub enum AcknowledgedError {

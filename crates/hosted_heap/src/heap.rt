@@ -1,8 +1,9 @@
 //! A hosted heap, from its opening to its end.
-use crate::error::{AcknowledgedError, RoundError};
+use crate::error::{AcknowledgedError, FailedCall, RoundError};
 use crate::lane_end::LaneEnd;
 use crate::room::ROUND_SYNCS;
 use crate::seated::HostedSession;
+use crate::stop::Stopper;
 use deferred_disk::{DeferredDisk, DeviceCall, HostCalls, SYNCS};
 use durable::StoreError;
 use heap_model::Lane;
@@ -18,8 +19,8 @@ use trim_helper::Helper;
 /// to do.
 ///
 /// A round writes and syncs a disk in memory, and hands the calls over. What a round acknowledges is on the host's device once the
-/// host has made them. Contracts see it as its words, its helper, the calls, the lanes whose session wasn't handed out, and where the
-/// sessions that were come back.
+/// host has made them. Contracts see it as its words, its helper, the calls, the lanes whose session wasn't handed out, where the
+/// sessions that were come back, and the word by which they learn that it has stopped.
 #[derive(Drop)]
 pub struct HostedHeap {
     pub(crate) alloc: Global,
@@ -29,6 +30,7 @@ pub struct HostedHeap {
     pub(crate) layout: Layout,
     pub(crate) unused: Vec<HostedSession>,
     pub(crate) lanes: Vec<LaneEnd>,
+    pub(crate) stop: Stopper,
 }
 
 impl Model for HostedHeap {
@@ -42,13 +44,13 @@ impl Model for HostedHeap {
 
     ghost coded = { Prim.hlevel (codes, ends.the_row.coded) };
 
-    ghost view = { λ x. record { home = arc_value x.shared; helper = x.helper; calls = x.calls; unused = lanes_of x.unused.items; out = handed_out x.unused.items x.lanes.items } };
+    ghost view = { λ x. record { home = arc_value x.shared; helper = x.helper; calls = x.calls; unused = lanes_of x.unused.items; out = handed_out x.unused.items x.lanes.items; stop = x.stop } };
 
-    ghost invariant = { λ x. IsHosting (arc_value x.shared) x.helper x.layout x.unused.items x.lanes.items };
+    ghost invariant = { λ x. IsHosting (arc_value x.shared) x.helper x.layout x.stop.word x.unused.items x.lanes.items };
 }
 
 impl HostedHeap {
-    ghost use Rattle.std.specs.Prelude.{◌≡◌, ◌<◌, ◌≤◌, ◌+◌, ◌↔◌, [], ◌∷◌, ℕ, List, None, Err, true, false, length, IfErr, IfOk, IfSome, IsErrOf, OnErr, OnOk, MatchOption};
+    ghost use Rattle.std.specs.Prelude.{◌≡◌, ◌≢◌, ◌<◌, ◌≤◌, ◌+◌, ◌↔◌, [], ◌∷◌, ℕ, List, None, Some, IsSome, Err, true, false, length, IfErr, IfOk, IfSome, IsErrOf, OnErr, OnOk, MatchOption};
     ghost use Rattle.block_disk.specs.Device.{HasCause, HasFailed};
     ghost use Rattle.deferred_disk.specs.Deferred.{stop_of};
     ghost use Rattle.deferred_disk.specs.Host.{Fetches, HasLooked};
@@ -62,6 +64,8 @@ impl HostedHeap {
     ghost use Rattle.hosted_heap.specs.declared.lane_end.LaneEnd.{LaneEnd};
     ghost use Rattle.trim_helper.specs.Rings.{known_of, waiting_in};
     ghost use Rattle.hosted_heap.specs.Hosting.{SameHeap, hosted_device};
+    ghost use Rattle.hosted_heap.specs.Failing.{HasTold, failed_call};
+    ghost use Rattle.hosted_heap.specs.declared.error.FailedCall.TheVariants as FailedCalls;
     ghost use Rattle.hosted_heap.specs.declared.error.AcknowledgedError.TheVariants.{BadLane, CallsLeft};
     ghost use Rattle.image.specs.Layout.{size_of};
     ghost use Rattle.steps.specs.Views.{plan};
@@ -90,8 +94,9 @@ impl HostedHeap {
         ensures out { IfSome result (λ s. (end : LaneEnd) × (self.new.out ≡ end ∷ self.old.out)) }
         ensures untold { IfSome result (λ s. (view_of s.session).events ≡ []) }
         ensures home { IfSome result (λ s. s.home ≡ self.old.home) }
+        ensures word { IfSome result (λ s. s.stop.word ≡ self.old.stop.word) }
         ensures none { result ≡ None → self.new ≡ self.old }
-        ensures same { (self.new.home ≡ self.old.home) × (self.new.helper ≡ self.old.helper) × (self.new.calls ≡ self.old.calls) }
+        ensures same { (self.new.home ≡ self.old.home) × (self.new.helper ≡ self.old.helper) × (self.new.calls ≡ self.old.calls) × (self.new.stop ≡ self.old.stop) }
     {
         self.unused.pop()
     }
@@ -121,6 +126,27 @@ impl HostedHeap {
         self.calls.done()
     }
 
+    /// The host couldn't make the call that [`next_call`](HostedHeap::next_call) gave. Answers which that was; `None` where it gave none.
+    ///
+    /// A write may be made again: nothing has changed. A sync may not, nor any later call, since what was written before it may be lost
+    /// though a later sync succeeds. Each session learns that from now on
+    /// ([`is_stopped`](HostedSession::is_stopped)). Let the heap go then, and open it again from bytes that the device itself has.
+    pub fn call_failed(&mut self) -> Option<FailedCall>
+        ensures which { result ≡ failed_call self.old.calls.left }
+        ensures other { result ≢ Some FailedCalls.Sync → self.new ≡ self.old }
+        ensures stopped { result ≡ Some FailedCalls.Sync → IsSome self.new.stop.seen }
+        ensures same { HasTold self.old self.new }
+    {
+        match self.calls.next_call() {
+            None => None,
+            Some(DeviceCall::Write { .. }) => Some(FailedCall::Write),
+            Some(DeviceCall::Sync) => {
+                self.stop.write();
+                Some(FailedCall::Sync)
+            }
+        }
+    }
+
     /// A round of the helper ([`Helper::round`]): what the sessions sent is made durable and acknowledged on the disk in memory, and
     /// the calls are handed over. It answers how many records it applied.
     ///
@@ -147,6 +173,7 @@ impl HostedHeap {
         ensures layout { self.new.helper.store.known.layout ≡ self.old.helper.store.known.layout }
         ensures home { self.new.home ≡ self.old.home }
         ensures sessions { (self.new.unused ≡ self.old.unused) × (self.new.out ≡ self.old.out) }
+        ensures stopper { self.new.stop ≡ self.old.stop }
         ensures calls { HasLooked self.old.calls self.new.calls }
     {
         if !self.has_room(ROUND_SYNCS) {
@@ -184,6 +211,7 @@ impl HostedHeap {
         ensures layout { self.new.helper.store.known.layout ≡ self.old.helper.store.known.layout }
         ensures home { self.new.home ≡ self.old.home }
         ensures sessions { (self.new.unused ≡ self.old.unused) × (self.new.out ≡ self.old.out) }
+        ensures stopper { self.new.stop ≡ self.old.stop }
         ensures calls { self.new.calls ≡ self.old.calls }
     {
         joined_law();

@@ -16,10 +16,11 @@ mod returned;
 mod returning;
 mod room;
 mod seated;
+mod stop;
 mod waiting;
 
 pub use closing::{Closed, NotClosed};
-pub use error::{AcknowledgedError, CloseRefusal, HostError, RoundError};
+pub use error::{AcknowledgedError, CloseRefusal, FailedCall, HostError, RoundError};
 pub use heap::HostedHeap;
 pub use opening::{format, open};
 pub use returned::Returned;

@@ -6,6 +6,7 @@ ghost use Rattle.trim_helper.specs.Opening.{FitsSchema};
 use crate::beginning::begin_all;
 use crate::error::HostError;
 use crate::heap::HostedHeap;
+use crate::stop::Stopper;
 use deferred_disk::{DeferredDisk, HostCalls};
 use durable::Store;
 use guards::Schema;
@@ -102,7 +103,8 @@ fn begin(
         helper,
     } = heap;
     let shared = Arc::new(alloc, shared)?;
-    let (unused, lanes) = begin_all(alloc, &shared, sessions)?;
+    let mut stop = Stopper::new(alloc)?;
+    let (unused, lanes) = begin_all(alloc, &shared, sessions, &mut stop)?;
     Ok(HostedHeap {
         alloc,
         shared,
@@ -111,5 +113,6 @@ fn begin(
         layout,
         unused,
         lanes,
+        stop,
     })
 }

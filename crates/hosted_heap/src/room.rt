@@ -1,8 +1,8 @@
 //! How many syncs a hosted heap's calls may hand over at once.
 
-/// The most syncs of one round of the helper (docs/FORMAT.md, "Committing a control" and "The other calls"): a commit takes at most 3, by which a gate is closed, a body is
-/// written and a gate is opened; the log step takes one sync and a commit, the settling too, and the trimming a commit.
-pub const ROUND_SYNCS: usize = 11;
+/// The most syncs of one round of the helper (docs/FORMAT.md, "The other calls"): two commits that take along what was written before them,
+/// one behind the records and one behind the home cells, of three syncs each.
+pub const ROUND_SYNCS: usize = 6;
 
-/// The most syncs of a closing: those of a log step and of a settling.
+/// The most syncs of a closing: those of a log step and of a settling, of a sync and a commit each, which takes three at most.
 pub const CLOSE_SYNCS: usize = 8;

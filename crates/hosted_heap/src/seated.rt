@@ -7,6 +7,7 @@ ghost use Rattle.hosted_heap.specs.Returning.{MayReturn};
 
 use crate::returned::Returned;
 use crate::returning::Returning;
+use crate::stop::Stop;
 use crate::waiting::HostedWaiting;
 use heap_model::{FieldId, Lane, ObjectId};
 use lock_word::{FatWord, LockWord, WaitMask};
@@ -20,12 +21,13 @@ use std::sync::Arc;
 /// A session, with the words of its heap: a host can't use it with another heap's. It may go to another thread.
 ///
 /// Its calls answer as those of a [`Session`]. Contracts see it as its words, its session, and what went through the ring by which
-/// it comes back.
+/// it comes back, and what it has seen of a stop.
 #[derive(Drop)]
 pub struct HostedSession {
     pub(crate) shared: Arc<Shared>,
     pub(crate) session: Session,
     pub(crate) back: Producer<Session, Global, Returning>,
+    pub(crate) stop: Stop,
 }
 
 impl Model for HostedSession {
@@ -39,20 +41,33 @@ impl Model for HostedSession {
 
     ghost coded = { Prim.hlevel (codes, sessions.the_row.coded) };
 
-    ghost view = { λ s. record { home = arc_value s.shared; session = s.session; before = sent s.back } };
+    ghost view = { λ s. record { home = arc_value s.shared; session = s.session; before = sent s.back; stop = s.stop } };
 
     ghost invariant = { λ s. IsSeated (arc_value s.shared) s.session (sent s.back) (known_free s.back) };
 }
 
 impl HostedSession {
-    ghost use Rattle.std.specs.Prelude.{◌≡◌, [], ◌∷◌, ◌++◌, MatchResult};
+    ghost use Rattle.std.specs.Prelude.{◌≡◌, [], ◌∷◌, ◌++◌, IsSome, MatchResult, true};
+    ghost use Rattle.std.specs.Option.{is_some};
     ghost use Rattle.hosted_heap.specs.Sessions.{inner_wait};
     ghost use Rattle.session.specs.Calls.{AsksToWait, Enters, Exits, IsQuiet, Loads, Looks, Notifies, NotifiesAll, StoresAs};
     ghost use Rattle.session.specs.Sessions.{view_of};
 
+    /// Looks whether the heap has stopped since its host couldn't make a sync ([`HostedHeap::call_failed`](crate::HostedHeap::call_failed)).
+    /// Nothing that the session does from then on is made durable; once it is so, it stays so.
+    pub fn is_stopped(&mut self) -> bool
+        ensures same { (self.new.home ≡ self.old.home) × (self.new.session ≡ self.old.session) × (self.new.before ≡ self.old.before) }
+        ensures word { self.new.stop.word ≡ self.old.stop.word }
+        ensures seen { result ≡ is_some self.new.stop.seen }
+        ensures again { IsSome self.old.stop.seen → result ≡ true }
+    {
+        self.stop.is_written()
+    }
+
     /// Takes the monitor, or one lock more of it ([`Session::try_enter`]).
     pub fn try_enter(&mut self, object: ObjectId) -> Result<(), SessionError>
         ensures home { self.new.home ≡ self.old.home }
+        ensures word { self.new.stop.word ≡ self.old.stop.word }
         ensures told { Enters self.old.home self.old.session self.new.session object result }
     {
         self.session.try_enter(&self.shared, object)
@@ -61,6 +76,7 @@ impl HostedSession {
     /// Gives one lock back, and with the last one the monitor ([`Session::exit`]).
     pub fn exit(&mut self, object: ObjectId) -> Result<(), SessionError>
         ensures home { self.new.home ≡ self.old.home }
+        ensures word { self.new.stop.word ≡ self.old.stop.word }
         ensures told { Exits self.old.home self.old.session self.new.session object result }
     {
         self.session.exit(&self.shared, object)
@@ -69,6 +85,7 @@ impl HostedSession {
     /// Loads a field ([`Session::load`]).
     pub fn load(&mut self, field: FieldId) -> Result<u64, SessionError>
         ensures home { self.new.home ≡ self.old.home }
+        ensures word { self.new.stop.word ≡ self.old.stop.word }
         ensures told { Loads self.old.home self.old.session self.new.session field result }
     {
         self.session.load(&self.shared, field)
@@ -77,6 +94,7 @@ impl HostedSession {
     /// Stores a field ([`Session::store`]).
     pub fn store(&mut self, field: FieldId, value: u64) -> Result<(), SessionError>
         ensures home { self.new.home ≡ self.old.home }
+        ensures word { self.new.stop.word ≡ self.old.stop.word }
         ensures told { StoresAs self.old.home self.old.session self.new.session field value result }
     {
         self.session.store(&self.shared, field, value)
@@ -85,6 +103,7 @@ impl HostedSession {
     /// Takes one lane out of the monitor's wait set ([`Session::notify`]).
     pub fn notify(&mut self, object: ObjectId) -> Result<Option<Lane>, SessionError>
         ensures home { self.new.home ≡ self.old.home }
+        ensures word { self.new.stop.word ≡ self.old.stop.word }
         ensures told { Notifies self.old.home self.old.session self.new.session object result }
     {
         self.session.notify(&self.shared, object)
@@ -93,6 +112,7 @@ impl HostedSession {
     /// Takes all lanes out of the monitor's wait set ([`Session::notify_all`]).
     pub fn notify_all(&mut self, object: ObjectId) -> Result<WaitMask, SessionError>
         ensures home { self.new.home ≡ self.old.home }
+        ensures word { self.new.stop.word ≡ self.old.stop.word }
         ensures told { NotifiesAll self.old.home self.old.session self.new.session object result }
     {
         self.session.notify_all(&self.shared, object)
@@ -101,6 +121,7 @@ impl HostedSession {
     /// What the monitor's words say ([`Session::look`]).
     pub fn look(&mut self, object: ObjectId) -> Result<(LockWord, Option<FatWord>), SessionError>
         ensures home { self.new.home ≡ self.old.home }
+        ensures word { self.new.stop.word ≡ self.old.stop.word }
         ensures told { Looks self.old.home self.old.session self.new.session object result }
     {
         self.session.look(&self.shared, object)
@@ -110,6 +131,7 @@ impl HostedSession {
     /// the host has made the calls of that round.
     pub fn stable(&mut self) -> u64
         ensures home { self.new.home ≡ self.old.home }
+        ensures word { self.new.stop.word ≡ self.old.stop.word }
         ensures quiet { IsQuiet (view_of self.old.session) (view_of self.new.session) }
         ensures read { (view_of self.new.session).stable ≡ result }
     {
@@ -122,24 +144,28 @@ impl HostedSession {
         object: ObjectId,
     ) -> Result<HostedWaiting, (HostedSession, SessionError)>
         ensures home { MatchResult result (λ w. w.home ≡ self.home) (λ e. e.0.home ≡ self.home) }
+        ensures word { MatchResult result (λ w. w.stop.word ≡ self.stop.word) (λ e. e.0.stop.word ≡ self.stop.word) }
         ensures told { AsksToWait self.home self.session object (inner_wait result) }
     {
         let HostedSession {
             shared,
             session,
             back,
+            stop,
         } = self;
         match session.begin_wait(&shared, object) {
             Ok(waiting) => Ok(HostedWaiting {
                 shared,
                 waiting,
                 back,
+                stop,
             }),
             Err((session, refusal)) => {
                 let session = HostedSession {
                     shared,
                     session,
                     back,
+                    stop,
                 };
                 Err((session, refusal))
             }
@@ -155,6 +181,7 @@ impl HostedSession {
             shared,
             session,
             back,
+            stop: _,
         } = self;
         // The words first: when the session has come back nobody else has them.
         drop(shared);

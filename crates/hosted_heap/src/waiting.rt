@@ -3,6 +3,7 @@ ghost use Rattle.std.specs.Prelude.{◌≡◌, MatchResult};
 
 use crate::returning::Returning;
 use crate::seated::HostedSession;
+use crate::stop::Stop;
 use monitor::Shared;
 use rtrb::Producer;
 use session::{Session, Still, Waiting};
@@ -16,6 +17,7 @@ pub struct HostedWaiting {
     pub(crate) shared: Arc<Shared>,
     pub(crate) waiting: Waiting,
     pub(crate) back: Producer<Session, Global, Returning>,
+    pub(crate) stop: Stop,
 }
 
 impl Model for HostedWaiting {
@@ -30,37 +32,52 @@ impl Model for HostedWaiting {
 
     ghost coded = { Prim.hlevel (codes, sessions.the_row.coded, waits.the_row.coded) };
 
-    ghost view = { λ w. record { home = arc_value w.shared; waiting = w.waiting; before = sent w.back } };
+    ghost view = { λ w. record { home = arc_value w.shared; waiting = w.waiting; before = sent w.back; stop = w.stop } };
 
     ghost invariant = { λ w. IsSeatedWaiting (arc_value w.shared) w.waiting (sent w.back) (known_free w.back) };
 }
 
 impl HostedWaiting {
-    ghost use Rattle.std.specs.Prelude.{◌≡◌, MatchResult};
+    ghost use Rattle.std.specs.Prelude.{◌≡◌, IsSome, MatchResult, true};
+    ghost use Rattle.std.specs.Option.{is_some};
     ghost use Rattle.session.specs.Calls.{AsksToResume};
     ghost use Rattle.hosted_heap.specs.Sessions.{inner_resume};
+
+    /// Looks whether the heap has stopped ([`HostedSession::is_stopped`]).
+    pub fn is_stopped(&mut self) -> bool
+        ensures same { (self.new.home ≡ self.old.home) × (self.new.waiting ≡ self.old.waiting) × (self.new.before ≡ self.old.before) }
+        ensures word { self.new.stop.word ≡ self.old.stop.word }
+        ensures seen { result ≡ is_some self.new.stop.seen }
+        ensures again { IsSome self.old.stop.seen → result ≡ true }
+    {
+        self.stop.is_written()
+    }
 
     /// Takes the monitor again, if the thread was removed from its wait set and the monitor is free ([`Waiting::try_resume`]).
     pub fn try_resume(self) -> Result<HostedSession, (HostedWaiting, Still)>
         ensures home { MatchResult result (λ s. s.home ≡ self.home) (λ e. e.0.home ≡ self.home) }
+        ensures word { MatchResult result (λ s. s.stop.word ≡ self.stop.word) (λ e. e.0.stop.word ≡ self.stop.word) }
         ensures told { AsksToResume self.waiting (inner_resume result) }
     {
         let HostedWaiting {
             shared,
             waiting,
             back,
+            stop,
         } = self;
         match waiting.try_resume(&shared) {
             Ok(session) => Ok(HostedSession {
                 shared,
                 session,
                 back,
+                stop,
             }),
             Err((waiting, still)) => {
                 let waiting = HostedWaiting {
                     shared,
                     waiting,
                     back,
+                    stop,
                 };
                 Err((waiting, still))
             }

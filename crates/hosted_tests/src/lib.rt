@@ -1,10 +1,14 @@
 //! Tests of a hosted heap, by its public calls alone: what recovery keeps of its host's device, at the end of a life and
-//! where the host stops between two calls.
+//! where the host stops between two calls; how many calls a round makes; and what sessions learn of a call that failed.
 #![tactic(auto)]
 
+#[cfg(test)]
+mod counts;
 #[cfg(test)]
 mod device;
 #[cfg(test)]
 mod host;
 #[cfg(test)]
 mod lives;
+#[cfg(test)]
+mod stops;

@@ -14,11 +14,13 @@ const ROWS: [GuardRow; 2] = [
         guard: ObjectId(0),
         owner: ObjectId(0),
         first: 0,
+        transient: false,
     },
     GuardRow {
         guard: ObjectId(1),
         owner: ObjectId(1),
         first: 9,
+        transient: false,
     },
 ];
 

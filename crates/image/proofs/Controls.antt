@@ -15,6 +15,9 @@ use Rattle.image.specs.Control.{IsControl, Spells}
 one_64 : (m n : ℕ) → m < 2 ^ 64 → n < 2 ^ 64 → to_be_bytes w64 m ≡ to_be_bytes w64 n → m ≡ n
 one_64 m n p q is = sym (from_be_bytes-to_be_bytes_8 m p) ∙ ap (from_be_bytes w64) is ∙ from_be_bytes-to_be_bytes_8 n q
 
+one_32 : (m n : ℕ) → m < 2 ^ 32 → n < 2 ^ 32 → to_be_bytes w32 m ≡ to_be_bytes w32 n → m ≡ n
+one_32 m n p q is = sym (from_be_bytes-to_be_bytes_4 m p) ∙ ap (from_be_bytes w32) is ∙ from_be_bytes-to_be_bytes_4 n q
+
 one_row : (x y : LaneRow) → FitsRow x → FitsRow y → row_bytes x ≡ row_bytes y → x ≡ y
 one_row x y p q is =
     let a = one_64 x.start y.start p.start q.start (ap (part 0 8) is) in
@@ -45,13 +48,16 @@ control_fits l c is =
     (All-weaker (IsRow l.capacity) FitsRow (row_fits l.capacity) (take l.lanes c.rows) is.rows.lanes)
     (All-weaker (λ r. r ≡ empty_row) FitsRow empty_fits (drop l.lanes c.rows) is.rows.rest))
 
+control_version : (l : Layout) (c : Control) → IsControl l c → c.version < 2 ^ 32
+control_version l c is = omega (arith, is.version)
+
 -- what is read at the places of a control is that control
 pub one_control : (l : Layout) (body : List ℕ) (c : Control) (sequence version : ℕ) (rows : List LaneRow) → Spells l body c
     → sequence ≡ from_be_bytes w64 (part 0 8 body) → version ≡ from_be_bytes w32 (part 8 4 body) → drop 16 body ≡ rows_bytes rows → All FitsRow rows → length rows ≡ 32
     → c ≡ record { sequence = sequence; version = version; rows = rows }
 one_control l body c sequence version rows s a b d fit n =
     let seq = from_be_bytes-to_be_bytes_8 c.sequence s.valid.sequence.1 in
-    let ver = from_be_bytes-to_be_bytes_4 c.version (omega (arith, s.valid.version)) in
+    let ver = from_be_bytes-to_be_bytes_4 c.version (control_version l c s.valid) in
     let a' = sym seq ∙ ap (λ (l : List ℕ). from_be_bytes w64 (part 0 8 l)) (sym s.bytes) ∙ sym a in
     let b' = sym ver ∙ ap (λ (l : List ℕ). from_be_bytes w32 (part 8 4 l)) (sym s.bytes) ∙ sym b in
     let d' = one_rows c.rows rows (control_fits l c s.valid) fit (s.valid.rows.size ∙ sym n) (ap (drop 16) (sym s.bytes) ∙ d) in
@@ -62,6 +68,6 @@ pub same_control : (l : Layout) (body : List ℕ) (c d : Control) → Spells l b
 same_control l body c d s t =
     let is = sym s.bytes ∙ t.bytes in
     let a = one_64 c.sequence d.sequence s.valid.sequence.1 t.valid.sequence.1 (ap (part 0 8) is) in
-    let b = s.valid.version ∙ sym t.valid.version in
+    let b = one_32 c.version d.version (control_version l c s.valid) (control_version l d t.valid) (ap (part 8 4) is) in
     let e = one_rows c.rows d.rows (control_fits l c s.valid) (control_fits l d t.valid) (s.valid.rows.size ∙ sym t.valid.rows.size) (ap (drop 16) is) in
     λ i. record { sequence = a i; version = b i; rows = e i }

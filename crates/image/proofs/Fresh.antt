@@ -115,7 +115,7 @@ empty_rows l = record {
 }
 
 first_valid : (l : Layout) → IsControl l (empty_control 1)
-first_valid l = record { sequence = (omega arith, omega arith); version = refl; rows = empty_rows l }
+first_valid l = record { sequence = (omega arith, omega arith); version = inr refl; rows = empty_rows l }
 
 fields_put : (l : Layout) (schema : Declarations) (n : ℕ) (d : Device) → n ≤ l.fields → size_of l ≤ length d.now.bytes
     → PutsFields l schema n d.now.bytes (after (all_field_calls l schema n) d).now.bytes

@@ -7,7 +7,7 @@ use Rattle.block_disk.specs.Device.{Range}
 use Rattle.block_disk.specs.Images.{IsApart, Survives}
 use Rattle.block_disk.proofs.Ranges.{part_same}
 use Rattle.image.specs.Guards.{HasGuard}
-use Rattle.image.specs.Laws.{AreApart, HeaderSurvives, GuardsSurvive, CellSurvives}
+use Rattle.image.specs.Laws.{AreApart, HeaderSurvives, GuardsSurvive, CellSurvives, HomeSurvives}
 use Rattle.image.specs.Layout.{IsLayout, guard_at, cell_at, area_at}
 use Rattle.image.specs.declared.guard_row.GuardRow.{GuardRow}
 use Rattle.image.specs.declared.layout.Layout.{Layout}
@@ -85,4 +85,10 @@ pub cell_survives : CellSurvives
 cell_survives l f v rs apart xs ys has same = record {
   spelled = part_same (cell_at l f) 8 rs xs ys same apart (room_of (cell_at l f) 8 xs _ refl (omega arith) has.spelled) ∙ has.spelled;
   fits = has.fits;
+}
+
+pub home_survives : HomeSurvives
+home_survives l row f v rs apart xs ys has same = record {
+  persistent = λ is. cell_survives l f v rs apart xs ys (has.persistent is) same;
+  transient = has.transient;
 }

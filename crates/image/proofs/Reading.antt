@@ -1,22 +1,22 @@
 -- What an image has is what is read of it.
 use Rattle.std.proofs.Common.{◌≡◌, inl, inr, ℕ, List, get_or, Ok, Err, refl, sym, ap, subst, ◌∙◌, arith}
 use Rattle.std.specs.Int.{w32, w64, from_be_bytes}
+use Rattle.std.proofs.lemmas.Bool.{cases_Bool}
 use Rattle.std.proofs.lemmas.List.{ext_get_or}
 use Rattle.std.proofs.lemmas.Nat.{from_be_bytes-to_be_bytes_4, from_be_bytes-to_be_bytes_8}
 use Rattle.block_disk.specs.Bytes.{part}
 use Rattle.block_disk.proofs.Bytes.{part_part}
 use Rattle.image.specs.Control.{control_bytes}
 use Rattle.image.specs.Header.{HasHeader, IsFormatted}
-use Rattle.image.specs.Laws.{HeadersDiffer, ControlsDiffer, HeaderIsRead, ControlIsChosen, GuardsAreRead, CellIsRead, FreshIsImage}
+use Rattle.image.specs.Laws.{HeadersDiffer, ControlsDiffer, HeaderIsRead, ControlIsChosen, GuardsAreRead, CellIsRead, HomeIsRead, FreshIsImage}
 use Rattle.image.specs.Layout.{size_of}
 use Rattle.image.specs.Slots.{Shows, body}
 use Rattle.image.specs.declared.control.Control.{Control}
 use Rattle.image.specs.declared.error.ImageError.TheVariants.{Fault, NotFormatted, BadHeader, NoControl, BadControl, Worn, TooSmall, NoMemory}
-use Rattle.image.specs.declared.guard_row.GuardRow.{GuardRow}
 use Rattle.image.specs.declared.layout.Layout.{Layout}
 use Rattle.image.specs.declared.slot.Slot.{Slot}
 use Rattle.image.specs.declared.slot.Slot.TheVariants.{A, B}
-use Rattle.image.specs.Guards.{HasGuard}
+use Rattle.image.specs.Guards.{HasGuard, no_row}
 use Rattle.image.proofs.Commits.{sequence_spelled}
 use Rattle.image.proofs.Controls.{same_control}
 use Rattle.image.proofs.GuardLemmas.{one_row_there}
@@ -72,12 +72,18 @@ control_is_chosen l image s c (Err NoMemory) shows chooses = absurd chooses
 
 pub guards_are_read : GuardsAreRead
 guards_are_read l image rows others p q =
-    let d : GuardRow = record { guard = record { 0 = 0 }; owner = record { 0 = 0 }; first = 0 } in
-    ext_get_or d rows others (p.size ∙ sym q.size) (λ f below. one_row_there l f image (get_or rows f d) (get_or others f d) (p.each f d (omega (arith, p.size))) (q.each f d (omega (arith, p.size))))
+    ext_get_or no_row rows others (p.size ∙ sym q.size)
+    (λ f below. one_row_there l f image (get_or rows f no_row) (get_or others f no_row) (p.each f no_row (omega (arith, p.size))) (q.each f no_row (omega (arith, p.size))))
 
 pub cell_is_read : CellIsRead
 cell_is_read l f image v w p q =
     sym (from_be_bytes-to_be_bytes_8 v p.fits) ∙ ap (from_be_bytes w64) (sym p.spelled ∙ q.spelled) ∙ from_be_bytes-to_be_bytes_8 w q.fits
+
+pub home_is_read : HomeIsRead
+home_is_read l row f image v w p q = elim (cases_Bool row.transient) [
+  | inl is ↦ p.transient is ∙ sym (q.transient is)
+  | inr not ↦ cell_is_read l f image v w (p.persistent not) (q.persistent not)
+]
 
 pub fresh_is_image : FreshIsImage
 fresh_is_image schema l image rows fresh fits long each = record {

@@ -4,11 +4,11 @@ use Rattle.std.specs.Int.{w64, from_be_bytes}
 use Rattle.std.proofs.lemmas.Bool.{cases_eq}
 use Rattle.std.proofs.lemmas.List.{drop-drop, drop-take}
 use Rattle.block_disk.specs.Bytes.{part, spliced}
-use Rattle.block_disk.specs.Device.{Range, Device, SameOutside, range_of, written, synced}
+use Rattle.block_disk.specs.Device.{Range, Device, SameOutside}
 use Rattle.block_disk.specs.Images.{Always, ImageBut, LeavesOnly}
 use Rattle.block_disk.proofs.Bytes.{part_part, part_spliced, spliced_at}
 use Rattle.block_disk.proofs.Images.{and_then, besides_none, image_now, now_too, weaker}
-use Rattle.block_disk.proofs.Ranges.{outside_refl, outside_trans, outside_wider, part_same, spliced_same}
+use Rattle.block_disk.proofs.Ranges.{outside_trans, outside_wider, part_same, spliced_same}
 use Rattle.image.specs.Commit.{IsSteady, OldOrTurned, slots_range}
 use Rattle.image.specs.Control.{Spells}
 use Rattle.image.specs.Slots.{other, slot_at, body_at, slot_range, gate, body, sequence_of, Shows}
@@ -16,7 +16,7 @@ use Rattle.image.specs.declared.layout.Layout.{Layout}
 use Rattle.image.specs.declared.control.Control.{Control}
 use Rattle.image.specs.declared.slot.Slot.{Slot}
 use Rattle.image.specs.declared.slot.Slot.TheVariants.{A, B}
-use Rattle.image.proofs.Commits.{body_apart, gate_apart, now_whole, only, room, sequence_spelled, whole}
+use Rattle.image.proofs.Commits.{body_apart, gate_apart, only, room, sequence_spelled, whole}
 use Rattle.image.proofs.Numbers.{cut}
 
 pub twice : (s : Slot) → other (other s) ≡ s

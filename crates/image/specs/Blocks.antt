@@ -1,21 +1,24 @@
 -- How the guard rows are read: a block of them at a time.
-use Rattle.std.specs.Prelude.{ℕ, ◌+◌, ◌*◌, ◌<◌, ◌≡◌, List}
+use Rattle.std.specs.Prelude.{ℕ, ◌+◌, ◌*◌, ◌<◌, List}
 use Rattle.std.specs.List.{slice_index_or}
 use Rattle.block_disk.specs.Bytes.{part}
-use Rattle.image.specs.Guards.{FitsGuard, HasGuard, HasGuards, guard_bytes}
+use Rattle.image.specs.Guards.{SpellsGuard, HasGuard, HasGuards}
 use Rattle.image.specs.declared.layout.Layout.{Layout}
 use Rattle.image.specs.declared.guard_row.GuardRow.{GuardRow}
 use Rattle.image.specs.declared.error.ImageError.{ImageError}
 use Rattle.image.specs.declared.error.ImageError.TheVariants.{Fault, BadHeader}
 
 -- row i of these bytes
-pub record HoldsRow (bytes : List ℕ) (i : ℕ) (r : GuardRow) : Type 0 where
-  pub spelled : part (16 * i) 16 bytes ≡ guard_bytes r
-  pub fits : FitsGuard r
+abbrev pub HoldsRow : List ℕ → ℕ → GuardRow → Type 0
+HoldsRow bytes i r = SpellsGuard (part (16 * i) 16 bytes) r
 
 -- the first n rows of these bytes
 abbrev pub HoldsRows : List ℕ → ℕ → List GuardRow → Type 0
 HoldsRows bytes n rows = (i : ℕ) (d : GuardRow) → i < n → HoldsRow bytes i (slice_index_or rows i d)
+
+-- one of the first n rows of these bytes is none
+abbrev pub HoldsNoRow : List ℕ → ℕ → Type 0
+HoldsNoRow bytes n = (i : ℕ) × (i < n) × ((r : GuardRow) → HoldsRow bytes i r → ⊥)
 
 -- the image has these rows for `count` fields from the first on
 abbrev pub HasBlock : Layout → ℕ → ℕ → List ℕ → List GuardRow → Type 0

@@ -1,9 +1,11 @@
 -- Home cells: where a field's value lies in the image.
-use Rattle.std.specs.Prelude.{ℕ, ◌<◌, ◌^◌, ◌≡◌, List, length, slice_index}
+use Rattle.std.specs.Prelude.{ℕ, ◌<◌, ◌^◌, ◌≡◌, true, false, List, length, slice_index}
+use Rattle.std.specs.List.{slice_index_or}
 use Rattle.std.specs.Int.{to_be_bytes, w64}
 use Rattle.block_disk.specs.Bytes.{part}
 use Rattle.block_disk.specs.Device.{Range}
 use Rattle.image.specs.Layout.{cell_at}
+use Rattle.image.specs.declared.guard_row.GuardRow.{GuardRow}
 use Rattle.image.specs.declared.layout.Layout.{Layout}
 
 -- the bytes of field f's home cell
@@ -15,7 +17,13 @@ pub record HasCell (l : Layout) (f : ℕ) (image : List ℕ) (value : ℕ) : Typ
   pub spelled : part (cell_at l f) 8 image ≡ to_be_bytes w64 value
   pub fits : value < 2 ^ 64
 
--- the home cells hold these values, by field
-pub record HasCells (l : Layout) (image values : List ℕ) : Type 0 where
+-- what the field of this row has at home: a persistent one the value in its cell, a transient one always its first value
+-- (Java Language Specification 8.3.1.3)
+pub record HasHome (l : Layout) (row : GuardRow) (f : ℕ) (image : List ℕ) (value : ℕ) : Type 0 where
+  pub persistent : row.transient ≡ false → HasCell l f image value
+  pub transient : row.transient ≡ true → value ≡ row.first
+
+-- the fields have these values at home
+pub record HasHomes (l : Layout) (rows : List GuardRow) (image values : List ℕ) : Type 0 where
   pub size : length values ≡ l.fields
-  pub each : (f : ℕ) → f < l.fields → HasCell l f image (slice_index values f)
+  pub each : (f : ℕ) (d : GuardRow) → f < l.fields → HasHome l (slice_index_or rows f d) f image (slice_index values f)

@@ -1,5 +1,5 @@
 -- The control of an image: what counts of each lane's log (this project's own format).
-use Rattle.std.specs.Prelude.{ℕ, ◌≤◌, ◌<◌, ◌^◌, ◌≡◌, List, [], ◌∷◌, ◌++◌, length, take, drop, replicate, All}
+use Rattle.std.specs.Prelude.{ℕ, ◌≤◌, ◌<◌, ◌^◌, ◌≡◌, ◌⊎◌, List, [], ◌∷◌, ◌++◌, length, take, drop, replicate, All}
 use Rattle.std.specs.Int.{to_be_bytes, w32, w64}
 use Rattle.image.specs.declared.layout.Layout.{Layout}
 use Rattle.image.specs.declared.lane_row.LaneRow.{LaneRow}
@@ -16,10 +16,10 @@ pub record AreRows (l : Layout) (rows : List LaneRow) : Type 0 where
   pub lanes : All (IsRow l.capacity) (take l.lanes rows)
   pub rest : All (λ r. r ≡ empty_row) (drop l.lanes rows)
 
--- what a control of an image of this layout may be
+-- what a control of an image of this layout may be. Version 1 is that of images from before there were transient fields
 pub record IsControl (l : Layout) (c : Control) : Type 0 where
   pub sequence : (1 ≤ c.sequence) × (c.sequence < 2 ^ 64)
-  pub version : c.version ≡ 1
+  pub version : (c.version ≡ 1) ⊎ (c.version ≡ 2)
   pub rows : AreRows l c.rows
 
 -- the bytes are those of this control
@@ -29,7 +29,7 @@ pub record Spells (l : Layout) (body : List ℕ) (c : Control) : Type 0 where
 
 -- the control with this sequence and these rows
 abbrev pub control_of : ℕ → List LaneRow → Control
-control_of sequence rows = record { sequence = sequence; version = 1; rows = rows }
+control_of sequence rows = record { sequence = sequence; version = 2; rows = rows }
 
 -- the control with this sequence and nothing in any log
 abbrev pub empty_control : ℕ → Control

@@ -4,7 +4,7 @@ use Rattle.std.specs.List.{slice_index_or}
 use Rattle.block_disk.specs.Device.{Device, Range}
 use Rattle.block_disk.specs.Images.{Always, ImageBut, IsApart, Survives}
 use Rattle.guards.specs.Schema.{Declarations}
-use Rattle.image.specs.Cells.{HasCell}
+use Rattle.image.specs.Cells.{HasCell, HasHome}
 use Rattle.image.specs.Commit.{IsSteady}
 use Rattle.image.specs.Control.{AreRows, IsControl, control_bytes}
 use Rattle.image.specs.Format.{IsFresh}
@@ -49,6 +49,10 @@ GuardsAreRead = (l : Layout) (image : List ℕ) (rows others : List GuardRow) �
 abbrev pub CellIsRead : Type 0
 CellIsRead = (l : Layout) (f : ℕ) (image : List ℕ) (value other : ℕ) → HasCell l f image value → HasCell l f image other → value ≡ other
 
+-- a field has one value at home
+abbrev pub HomeIsRead : Type 0
+HomeIsRead = (l : Layout) (row : GuardRow) (f : ℕ) (image : List ℕ) (value other : ℕ) → HasHome l row f image value → HasHome l row f image other → value ≡ other
+
 -- Making: an image just made has the schema's guard rows.
 abbrev pub FreshIsImage : Type 0
 FreshIsImage = (schema : Declarations) (l : Layout) (image : List ℕ) (rows : List GuardRow) → IsFresh schema l image → size_of l ≤ length image → length rows ≡ l.fields
@@ -80,6 +84,10 @@ ControlSurvives = (l : Layout) (s : Slot) (c : Control) (ranges : List Range) �
 
 abbrev pub CellSurvives : Type 0
 CellSurvives = (l : Layout) (f value : ℕ) (ranges : List Range) → IsApart (cell_at l f) 8 ranges → Survives ranges (λ image. HasCell l f image value)
+
+-- so does what a field has at home, whose cell stays
+abbrev pub HomeSurvives : Type 0
+HomeSurvives = (l : Layout) (row : GuardRow) (f value : ℕ) (ranges : List Range) → IsApart (cell_at l f) 8 ranges → Survives ranges (λ image. HasHome l row f image value)
 
 -- Rows: those of empty logs may be committed to any image.
 abbrev pub EmptyRowsFit : Type 0

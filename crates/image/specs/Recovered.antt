@@ -1,7 +1,7 @@
 -- A device that a store can be adopted from: an image with nothing in its logs (this project's own).
 use Rattle.std.specs.Prelude.{ℕ, ◌≡◌, List, []}
 use Rattle.block_disk.specs.Device.{Device}
-use Rattle.image.specs.Cells.{HasCells}
+use Rattle.image.specs.Cells.{HasHomes}
 use Rattle.image.specs.Control.{empty_control}
 use Rattle.image.specs.Image.{IsImageOf}
 use Rattle.image.specs.Slots.{Shows}
@@ -18,10 +18,10 @@ pub record Parts (D : Type 0) : Type 0 where
   pub sequence : ℕ
   pub heap : List ℕ
 
--- the device holds an image of this layout with these guard rows and home cells; the control in this slot counts, which
+-- the device holds an image of this layout with these guard rows, whose fields have these values at home; the control in this slot counts, which
 -- has this sequence and nothing in any log; and nothing is pending
 pub record IsRecovered (d : Device) (l : Layout) (rows : List GuardRow) (slot : Slot) (sequence : ℕ) (heap : List ℕ) : Type 0 where
   pub image : IsImageOf l rows d.now.bytes
   pub control : Shows l d.now.bytes slot (empty_control sequence)
-  pub cells : HasCells l d.now.bytes heap
+  pub homes : HasHomes l rows d.now.bytes heap
   pub durable : d.now.pending ≡ []

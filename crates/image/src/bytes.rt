@@ -1,7 +1,17 @@
 //! Numbers in bytes, the highest byte first.
 ghost use Rattle.std.specs.Prelude.{◌≡◌, ◌+◌, ◌≤◌, length};
-ghost use Rattle.std.specs.Int.{from_be_bytes, to_be_bytes, w32, w64};
+ghost use Rattle.std.specs.Int.{from_be_bytes, to_be_bytes, w16, w32, w64};
 ghost use Rattle.block_disk.specs.Bytes.{part};
+
+/// The number in the two bytes from `at` on.
+pub fn u16_at(bytes: &[u8], at: usize) -> u16
+    requires { at + 2 ≤ length bytes.now }
+    ensures number { result ≡ from_be_bytes w16 (part at 2 bytes.now) }
+    ensures spelled { to_be_bytes w16 result ≡ part at 2 bytes.now }
+{
+    let two = &bytes[at..at + 2];
+    u16::from_be_bytes([two[0], two[1]])
+}
 
 /// The number in the four bytes from `at` on.
 pub fn u32_at(bytes: &[u8], at: usize) -> u32

@@ -15,14 +15,17 @@ pub const ROWS: usize = 32;
 pub const BODY_BYTES: usize = 1040;
 
 /// The version of the format.
-pub const VERSION: u32 = 1;
+pub const VERSION: u32 = 2;
+
+/// The version of images from before there were transient fields.
+pub const OLD_VERSION: u32 = 1;
 
 /// What counts of the logs of an image.
 #[derive(Clone, Copy, Debug, PartialEq, Eq)]
 pub struct Control {
     /// How often a control was committed, from 1. The control with the greater one counts.
     pub sequence: u64,
-    /// The version of the format, 1.
+    /// The version of the format: [`VERSION`], or [`OLD_VERSION`] in an image from before there were transient fields.
     pub version: u32,
     /// By lane. The rows of lanes that the image doesn't have are empty.
     pub rows: [LaneRow; 32],
@@ -67,7 +70,7 @@ fn is_control(layout: &Layout, control: &Control) -> bool
 {
     let (rows, rest) = control.rows.split_at(usize::from(layout.lanes));
     control.sequence >= 1
-        && control.version == VERSION
+        && (control.version == VERSION || control.version == OLD_VERSION)
         && rows.iter().all(|row| row.is_within(layout.capacity))
         && rest.iter().all(|row| *row == LaneRow::EMPTY)
 }

@@ -1,7 +1,7 @@
 //! The guard rows of an image, read and tested (`docs/FORMAT.md`, "Guard rows").
-ghost use Rattle.std.specs.Prelude.{◌≡◌, ◌↔◌, All, IsTrue, ◌+◌, ◌++◌, ◌*◌, ◌<◌, ◌≤◌, IfErr, IfOk, MatchResult, OnOk, length, vec_capacity, vec_len};
+ghost use Rattle.std.specs.Prelude.{◌≡◌, ◌↔◌, All, IsFalse, IsTrue, ◌+◌, ◌++◌, ◌*◌, ◌<◌, ◌≤◌, IfErr, IfOk, MatchResult, OnOk, length, vec_capacity, vec_len};
 ghost use Rattle.block_disk.specs.Device.{HasCause, SameMoments};
-ghost use Rattle.image.specs.Blocks.{HasBlock, HoldsRows, RefusesBlock, HasEach};
+ghost use Rattle.image.specs.Blocks.{HasBlock, HoldsNoRow, HoldsRows, RefusesBlock, HasEach};
 ghost use Rattle.image.specs.Guards.{HasGuards, NamesObjects, RefusesGuards};
 ghost use Rattle.image.specs.Layout.{IsLayout, size_of};
 ghost use Rattle.image.specs.declared.error.ImageError.TheVariants.{Fault};
@@ -21,7 +21,8 @@ const BLOCK_BYTES: usize = 4096;
 /// All guard rows, by field: 256 in one read.
 ///
 /// Refusals, in this order; the device is left as it was:
-/// - `BadHeader`: the guard or the owner of some row isn't an object of the image;
+/// - `BadHeader`: the guard or the owner of some row isn't an object of the image, a mark is neither 0 nor 1, or the byte
+///   behind it isn't zero;
 /// - `NoMemory`: there was no room for the rows.
 ///
 /// `Fault` comes where a read fails.
@@ -54,6 +55,7 @@ const NOTHING: GuardRow = GuardRow {
     guard: ObjectId(0),
     owner: ObjectId(0),
     first: 0,
+    transient: false,
 };
 
 // Puts these rows behind the others, for which there is room.
@@ -105,7 +107,9 @@ fn read_block<D: Disk>(
     let mut bytes = [0; BLOCK_BYTES];
     let bytes = &mut bytes[..GUARD_ROW_BYTES * rows.len()];
     read_within(disk, layout.guard_row(FieldId(first)), bytes)?;
-    decode_guards(bytes, rows);
+    if !decode_guards(bytes, rows) {
+        return Err(ImageError::BadHeader);
+    }
     if !name_objects(layout.objects, rows) {
         return Err(ImageError::BadHeader);
     }
@@ -119,13 +123,19 @@ fn name_objects(objects: u32, rows: &[GuardRow]) -> bool
     rows.iter().all(|row| row.names_objects(objects))
 }
 
-// The rows of these bytes.
-fn decode_guards(bytes: &[u8], rows: &mut [GuardRow])
+// The rows of these bytes, if there is one in each 16 of them.
+fn decode_guards(bytes: &[u8], rows: &mut [GuardRow]) -> bool
     requires { length bytes.now ≡ 16 * length rows.old }
-    ensures rows { HoldsRows bytes.now (length rows.new) rows.new }
+    ensures rows { IsTrue result → HoldsRows bytes.now (length rows.new) rows.new }
+    ensures none { IsFalse result → HoldsNoRow bytes.now (length rows.new) }
     ensures size { length bytes.now ≡ 16 * length rows.new }
 {
     for (i, row) in rows.iter_mut().enumerate() {
-        *row = decode_guard(&bytes[GUARD_ROW_BYTES * i..GUARD_ROW_BYTES * i + GUARD_ROW_BYTES]);
+        let at = GUARD_ROW_BYTES * i;
+        let Some(found) = decode_guard(&bytes[at..at + GUARD_ROW_BYTES]) else {
+            return false;
+        };
+        *row = found;
     }
+    true
 }

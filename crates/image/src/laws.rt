@@ -1,6 +1,6 @@
 //! Laws of the format, each the contract of a function that does nothing.
 ghost use Rattle.image.specs.Layout.{IsLayout};
-ghost use Rattle.image.specs.Laws.{AreApart, CellIsRead, CellSurvives, ControlIsChosen, ControlSurvives, ControlsDiffer, EmptyRowsFit, FreshIsImage, GuardRowsDiffer, GuardsAreRead, GuardsSurvive, HeaderIsRead, HeaderSurvives, HeadersDiffer, SteadyNow, SteadyStays};
+ghost use Rattle.image.specs.Laws.{AreApart, CellIsRead, CellSurvives, ControlIsChosen, ControlSurvives, ControlsDiffer, EmptyRowsFit, FreshIsImage, GuardRowsDiffer, GuardsAreRead, GuardsSurvive, HeaderIsRead, HeaderSurvives, HeadersDiffer, HomeIsRead, HomeSurvives, SteadyNow, SteadyStays};
 ghost use Rattle.image.specs.declared.layout.Layout.{Layout as Shape};
 
 /// Values in range that have the same bytes are equal. So decoding gives back what was encoded.
@@ -16,6 +16,7 @@ pub fn reading_law()
     ensures guards { GuardsAreRead }
     ensures control { ControlIsChosen }
     ensures cell { CellIsRead }
+    ensures home { HomeIsRead }
 {}
 
 /// An image just made is one of its layout with the schema's guard rows.
@@ -34,6 +35,7 @@ pub fn survival_law()
     ensures guards { GuardsSurvive }
     ensures control { ControlSurvives }
     ensures cell { CellSurvives }
+    ensures home { HomeSurvives }
 {}
 
 /// The rows of empty logs may be committed to an image of any layout.

@@ -28,7 +28,7 @@ mod slot;
 pub use cells::{get_cell, put_cell};
 pub use choice::choose_control;
 pub use commit::commit_control;
-pub use control::Control;
+pub use control::{Control, OLD_VERSION, VERSION};
 pub use error::ImageError;
 pub use format::write_header;
 pub use guard_row::GuardRow;

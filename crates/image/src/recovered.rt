@@ -43,7 +43,7 @@ pub struct RecoveredParts<D> {
     pub slot: Slot,
     /// That control's sequence.
     pub sequence: u64,
-    /// The values in the home cells, by field.
+    /// The values that the fields have at home, by field: a transient one's is its first.
     pub heap: Vec<u64>,
 }
 
@@ -86,7 +86,7 @@ impl<D: Disk> Recovered<D> {
         &self.guards
     }
 
-    /// The values in the home cells, by field.
+    /// The values that the fields have at home, by field: a persistent one's is in its cell, a transient one's is its first.
     pub fn heap(&self) -> &[u64]
         ensures heap { result.now ≡ self.now.heap }
         ensures recovered { IsRecovered (D.device self.now.disk) self.now.layout self.now.guards self.now.slot self.now.sequence self.now.heap }

@@ -9,7 +9,7 @@ use Rattle.std.proofs.lemmas.Fmt.{decimal_is_IsNumeral, length-decimal-le}
 use Rattle.std.proofs.lemmas.Str.Parse.{digit_from_value}
 use Rattle.guards.specs.Schema.{Declarations, Field, IsSchema, IsWithinLimits, field_count, firsts_of, guards_of, names_of, nothing, object_count, owners_of}
 use Rattle.heap_model.specs.declared.limits.TheConstants.{MOST_FIELDS, MOST_OBJECTS}
-use Rattle.image.specs.Guards.{HasGuards, NamesObjects}
+use Rattle.image.specs.Guards.{HasGuards, NamesObjects, no_row}
 use Rattle.image.specs.Layout.{IsLayout}
 use Rattle.image.specs.declared.guard_row.GuardRow.{GuardRow}
 use Rattle.image.specs.declared.layout.Layout.{Layout}
@@ -113,15 +113,12 @@ fields_named earlier (row ∷ later) small h =
     let low : n < 2 ^ 64 = omega (arith, small) in
     let more : AreNames [] (names_of (fields_from 0 earlier) ++ field_name n ∷ []) = names_more [] (names_of (fields_from 0 earlier)) (field_name n) h (numbered_name 102 n refl low) (field_is_new earlier low).1 in
     let same : names_of (fields_from 0 (earlier ++ row ∷ [])) ≡ names_of (fields_from 0 earlier) ++ field_name n ∷ [] =
-    ap names_of (fields_more 0 earlier row) ∙ names-push (fields_from 0 earlier) (record { name = field_name (0 + n); owner = row.owner.0; guard = row.guard.0; first = row.first })
+    ap names_of (fields_more 0 earlier row) ∙ names-push (fields_from 0 earlier) (record { name = field_name (0 + n); owner = row.owner.0; guard = row.guard.0; first = row.first; is_transient = row.transient })
     ∙ ap (λ (k : ℕ). names_of (fields_from 0 earlier) ++ field_name k ∷ []) (let e : 0 + n ≡ n = omega arith in e) in
     subst (λ (rows : List GuardRow). AreNames [] (names_of (fields_from 0 rows))) (append_assoc earlier (row ∷ []) later)
     (fields_named (earlier ++ row ∷ []) later (omega (arith, small, long)) (subst (AreNames []) (sym same) more))
 
 -- the schema of an image
-
-none : GuardRow
-none = record { guard = record { 0 = 0 }; owner = record { 0 = 0 }; first = 0 }
 
 numbered_shape : (l : Layout) (image : List ℕ) (rows : List GuardRow) → IsLayout l → HasGuards l image rows → HasShape (numbered l.objects rows)
 numbered_shape l image rows limits is =
@@ -135,12 +132,12 @@ numbered_shape l image rows limits is =
       fields = omega (arith, fields, size, limits.fields.1);
       owners = λ f lt.
           let low : f < length rows = omega (arith, fields, lt) in
-          let named : NamesObjects l.objects (get_or rows f none) = (is.each f none (omega (arith, low, size))).objects in
-          omega (arith, named.owner, owner_at 0 rows f none low, objects);
+          let named : NamesObjects l.objects (get_or rows f no_row) = (is.each f no_row (omega (arith, low, size))).objects in
+          omega (arith, named.owner, owner_at 0 rows f no_row low, objects);
       guards = λ f lt.
           let low : f < length rows = omega (arith, fields, lt) in
-          let named : NamesObjects l.objects (get_or rows f none) = (is.each f none (omega (arith, low, size))).objects in
-          omega (arith, named.guard, guard_at 0 rows f none low, objects);
+          let named : NamesObjects l.objects (get_or rows f no_row) = (is.each f no_row (omega (arith, low, size))).objects in
+          omega (arith, named.guard, guard_at 0 rows f no_row low, objects);
     }
 
 shape_of : (given : Option Declarations) (image : List ℕ) (s : Study) → IsStudyOf image s → IsOfFile given → HasShape (named_as given s)

@@ -1,8 +1,8 @@
 -- A schema's file, item by item.
-use Rattle.std.proofs.Common.{ℕ, zero, suc, ◌≡◌, ◌+◌, ◌<◌, List, [], ◌∷◌, ◌++◌, length, map, get_or, refl, sym, ap, ◌∙◌, arith}
+use Rattle.std.proofs.Common.{ℕ, zero, suc, ◌≡◌, ◌+◌, ◌<◌, false, List, [], ◌∷◌, ◌++◌, length, map, get_or, refl, sym, ap, ◌∙◌, arith}
 use Rattle.std.specs.Prelude.{slice_index}
 use Rattle.std.specs.List.{flat_map}
-use Rattle.guards.specs.Schema.{Declarations, Field, guard_of, guards_of, names_of, owner_of, owners_of}
+use Rattle.guards.specs.Schema.{Declarations, Field, guard_of, guards_of, marks_of, names_of, owner_of, owners_of}
 use Rattle.declarations.specs.SchemaText.{begun_with, ended, field_line, field_lines, object_line, object_lines}
 use Rattle.image_schema.specs.Lines.{field_at}
 
@@ -21,7 +21,7 @@ fields_text objects [] = refl
 fields_text objects (f ∷ fields) = ap (λ text. field_item objects f ++ text) (fields_text objects fields)
 
 abbrev pub no_field : Field
-no_field = record { name = []; owner = 0; guard = 0; first = 0 }
+no_field = record { name = []; owner = 0; guard = 0; first = 0; is_transient = false }
 
 pub begun_length : (values : List ℕ) (k : ℕ) (fields : List Field) → length (begun_with values k fields) ≡ length fields
 begun_length values k [] = refl
@@ -30,11 +30,11 @@ begun_length values k (f ∷ fields) = ap suc (begun_length values (k + 1) field
 -- the field of this number, with its value
 pub begun_at : (objects : List (List ℕ)) (values : List ℕ) (k : ℕ) (fields : List Field) (i : ℕ) → i < length fields
     → field_item objects (get_or (begun_with values k fields) i no_field)
-    ≡ ended (field_line objects (record { name = get_or (names_of fields) i []; owner = get_or (owners_of fields) i 0; guard = get_or (guards_of fields) i 0; first = slice_index values (k + i) }))
+    ≡ ended (field_line objects (record { name = get_or (names_of fields) i []; owner = get_or (owners_of fields) i 0; guard = get_or (guards_of fields) i 0; first = slice_index values (k + i); is_transient = get_or (marks_of fields) i false }))
 begun_at objects values k [] i lt = absurd (omega arith)
 begun_at objects values k (f ∷ fields) zero lt = ap (λ (n : ℕ). field_item objects (record f { first = slice_index values n })) (let e : k ≡ k + zero = omega arith in e)
 begun_at objects values k (f ∷ fields) (suc i) lt = begun_at objects values (k + 1) fields i (omega arith)
-    ∙ ap (λ (n : ℕ). field_item objects (record { name = get_or (names_of fields) i []; owner = get_or (owners_of fields) i 0; guard = get_or (guards_of fields) i 0; first = slice_index values n })) (let e : k + 1 + i ≡ k + suc i = omega arith in e)
+    ∙ ap (λ (n : ℕ). field_item objects (record { name = get_or (names_of fields) i []; owner = get_or (owners_of fields) i 0; guard = get_or (guards_of fields) i 0; first = slice_index values n; is_transient = get_or (marks_of fields) i false })) (let e : k + 1 + i ≡ k + suc i = omega arith in e)
 
 pub field_is : (schema : Declarations) (values : List ℕ) (i : ℕ) → i < length schema.fields
     → field_at schema i (slice_index values i) ≡ field_item schema.objects (get_or (begun_with values 0 schema.fields) i no_field)

@@ -1,6 +1,6 @@
 -- The lines of a schema file, by number.
 use Rattle.std.specs.Prelude.{ℕ, List, [], slice_index_or}
-use Rattle.guards.specs.Schema.{Declarations, Field, guard_of, names_of, owner_of}
+use Rattle.guards.specs.Schema.{Declarations, Field, guard_of, is_transient_of, names_of, owner_of}
 use Rattle.declarations.specs.SchemaText.{ended, field_line, name_of, object_line}
 
 -- the line of the object of this number
@@ -14,4 +14,5 @@ field_at schema field value = ended (field_line schema.objects (record {
   owner = owner_of schema field;
   guard = guard_of schema field;
   first = value;
+  is_transient = is_transient_of schema field;
 }))

@@ -1,16 +1,22 @@
 -- Which schema is that of an image (this project's own).
-use Rattle.std.specs.Prelude.{ℕ, ◌≡◌, ◌<◌, ◌==◌, ◌&&◌, Bool, false, IsTrue, Option, None, Some, List, slice_get}
-use Rattle.guards.specs.Schema.{Declarations, object_count, field_count, guard_of, owner_of}
+use Rattle.std.specs.Prelude.{ℕ, ◌≡◌, ◌<◌, ◌==◌, ◌&&◌, Bool, true, false, not, IsTrue, Option, None, Some, List, slice_get}
+use Rattle.guards.specs.Schema.{Declarations, object_count, field_count, guard_of, owner_of, is_transient_of}
 use Rattle.image.specs.declared.guard_row.GuardRow.{GuardRow}
 use Rattle.image.specs.declared.layout.Layout.{Layout}
 use Rattle.numbered_schema.specs.Rows.{numbered}
 use Rattle.recover.specs.Study.{IsStudyOf}
 use Rattle.recover.specs.declared.studied.Study.{Study}
 
--- the row has the field's owner and guard
+-- both are marks of transient fields, or of persistent ones
+abbrev pub is_same_mark : Bool → Bool → Bool
+is_same_mark true mark = mark
+is_same_mark false mark = not mark
+
+-- the row has the field's owner, guard and mark
 abbrev pub fits_row : Declarations → (field : ℕ) → Option GuardRow → Bool
 fits_row schema field None = false
 fits_row schema field (Some row) = (row.owner.0 == owner_of schema field) && (row.guard.0 == guard_of schema field)
+    && is_same_mark row.transient (is_transient_of schema field)
 
 abbrev pub is_row_of : Declarations → List GuardRow → (field : ℕ) → Bool
 is_row_of schema rows field = fits_row schema field (slice_get rows field)
@@ -19,7 +25,7 @@ is_row_of schema rows field = fits_row schema field (slice_get rows field)
 abbrev pub AreRowsOf : Declarations → List GuardRow → Type 0
 AreRowsOf schema rows = (field : ℕ) → field < field_count schema → IsTrue (is_row_of schema rows field)
 
--- the image has the schema's objects and fields, and each field the schema's owner and guard
+-- the image has the schema's objects and fields, and each field the schema's owner, guard and mark
 pub record FitsImage (schema : Declarations) (layout : Layout) (rows : List GuardRow) : Type 0 where
   pub objects : layout.objects ≡ object_count schema
   pub fields : layout.fields ≡ field_count schema

@@ -5,7 +5,8 @@ use thiserror::Error;
 /// Why there is no schema of these names for an image.
 #[derive(Clone, Copy, Debug, PartialEq, Eq, Error)]
 pub enum NamingError {
-    /// The image has other objects or fields, or a field with another owner or guard.
+    /// The image has other objects or fields, or a field with another owner or guard, or a transient one that is to be
+    /// persistent, or the other way round.
     #[error("other schema")]
     OtherSchema,
     /// There was no memory.

@@ -1,15 +1,15 @@
 //! Whether a schema is that of an image.
 ghost use Rattle.std.specs.Prelude.{◌≡◌, ◌<◌, ◌↔◌, IsTrue};
 ghost use Rattle.guards.specs.Schema.{field_count};
-ghost use Rattle.image_schema.specs.OfImage.{AreRowsOf, FitsImage, is_row_of};
+ghost use Rattle.image_schema.specs.OfImage.{AreRowsOf, FitsImage, is_row_of, is_same_mark};
 
 use guards::Schema;
 use heap_model::FieldId;
 use image::GuardRow;
 use recover::Study;
 
-/// Whether the image has the schema's objects and fields, and each field the schema's owner and guard. Names and first values
-/// may be any, since an image has no names, and its fields begin with its heap.
+/// Whether the image has the schema's objects and fields, and each field the schema's owner and guard, and is transient where
+/// the schema says so. Names and first values may be any, since an image has no names, and its fields begin with its heap.
 pub fn fits(schema: &Schema, study: &Study) -> bool
     ensures { IsTrue result ↔ FitsImage schema.now study.now.layout study.now.guards.items }
 {
@@ -36,7 +36,17 @@ fn has_row(schema: &Schema, field: FieldId, rows: &[GuardRow]) -> bool
     ensures { result ≡ is_row_of schema.now rows.now field.0 }
 {
     match rows.get(field.0 as usize) {
-        Some(row) => row.owner == schema.owner(field) && row.guard == schema.guard(field),
+        Some(row) => {
+            row.owner == schema.owner(field)
+                && row.guard == schema.guard(field)
+                && is_same_mark(row.transient, schema.transient(field))
+        }
         None => false,
     }
+}
+
+fn is_same_mark(transient: bool, mark: bool) -> bool
+    ensures { result ≡ is_same_mark transient mark }
+{
+    transient == mark
 }

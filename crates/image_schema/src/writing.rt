@@ -6,6 +6,7 @@ ghost use Rattle.declarations.specs.SchemaText.{beginning_with, begun_with, ende
 ghost use Rattle.guards.specs.Schema.{field_count, object_count};
 ghost use Rattle.image_schema.specs.Lines.{object_at, field_at};
 ghost use Rattle.inspect.specs.Written.{AppendsPart};
+ghost use Rattle.script_lines.specs.Grammar as grammar;
 
 use guards::Schema;
 use heap_model::{FieldId, ObjectId};
@@ -75,7 +76,8 @@ fn put_field<W: Write>(
     put_line(
         writer,
         &[
-            Piece::Words("field "),
+            Piece::Words(field_word(schema.transient(field))),
+            Piece::Words(" "),
             Piece::Words(schema.field_name(field)),
             Piece::Words(" "),
             Piece::Words(schema.object_name(schema.owner(field))),
@@ -85,4 +87,11 @@ fn put_field<W: Write>(
             Piece::Number(value),
         ],
     )
+}
+
+// The word with which a field's line begins.
+fn field_word(is_transient: bool) -> &'static str
+    ensures { result.now ≡ grammar.field_word is_transient }
+{
+    if is_transient { "transient" } else { "field" }
 }

@@ -8,13 +8,14 @@ ghost use Rattle.image.specs.Layout.{IsLayout, IsLayoutOf, size_of};
 ghost use Rattle.image.specs.Slots.{other};
 ghost use Rattle.image.specs.declared.slot.Slot.TheVariants.{A};
 
-use crate::schemas::{field, object};
+use crate::schemas::{field, object, transient};
 use block_disk::{Disk, Fill, MemDisk};
 use guards::{Schema, SchemaBuilder};
 use heap_model::{FieldId, ObjectId};
 use image::{
-    Control, ImageError, LaneRow, Layout, Recovered, Slot, choose_control, commit_control,
-    empty_rows_law, get_cell, put_cell, read_guards, read_header, steady_law, write_header,
+    Control, GuardRow, ImageError, LaneRow, Layout, Recovered, Slot, choose_control,
+    commit_control, empty_rows_law, get_cell, put_cell, read_guards, read_header, steady_law,
+    write_header,
 };
 use std::alloc::Global;
 
@@ -124,6 +125,86 @@ fn a_fresh_image_is_as_documented(rt: HostRuntime) {
     assert!(rt; fresh_found(rt.alloc()) == Some((130_208, 13, [true; 3])));
 }
 
+// The same objects and fields, and a transient field of the last object, which the third one guards.
+fn marked_schema(alloc: Global) -> Option<Schema> {
+    let mut builder = SchemaBuilder::new(alloc);
+    declare(&mut builder)?;
+    transient(&mut builder, ObjectId(3), "f2", ObjectId(2), 30).ok()?;
+    builder.build().ok()
+}
+
+fn marked_disk(alloc: Global) -> Option<MemDisk> {
+    let schema = marked_schema(alloc)?;
+    let (disk, _) = fresh(alloc, &schema)?;
+    Some(disk)
+}
+
+// The transient field's guard row, and its home cell.
+const MARKED: [u8; 16] = [0, 0, 0, 2, 1, 0, 0, 3, 0, 0, 0, 0, 0, 0, 0, 30];
+
+// The image's size, and whether the second row and the third one, and the third cell, are as documented.
+fn marked_found(alloc: Global) -> Option<(u64, [bool; 3])> {
+    let disk = marked_disk(alloc)?;
+    let as_documented = [
+        has(&disk, 2176, &ROW),
+        has(&disk, 2192, &MARKED),
+        has(&disk, 2224, &[0, 0, 0, 0, 0, 0, 0, 30]),
+    ];
+    Some((disk.size(), as_documented))
+}
+
+#[test]
+fn a_transient_field_has_a_marked_row(rt: HostRuntime) {
+    assert!(rt; marked_found(rt.alloc()) == Some((130_232, [true; 3])));
+}
+
+fn read_third(alloc: Global, disk: &mut MemDisk) -> Result<Option<GuardRow>, ImageError> {
+    let layout = read_header(disk)?;
+    let rows = read_guards(alloc, disk, &layout)?;
+    Ok(rows.get(2).copied())
+}
+
+// The transient field's row as it is read, where this byte of the image is altered.
+fn third_row(alloc: Global, at: u64, byte: u8) -> Option<Result<Option<GuardRow>, ImageError>> {
+    let mut disk = marked_disk(alloc)?;
+    put(&mut disk, at, &[byte])?;
+    Some(read_third(alloc, &mut disk))
+}
+
+// The row of field 2, with or without the mark.
+fn third(transient: bool) -> GuardRow {
+    GuardRow {
+        guard: ObjectId(2),
+        owner: ObjectId(3),
+        first: 30,
+        transient,
+    }
+}
+
+// The bytes are the row's mark, and the first field's.
+#[test]
+fn a_mark_is_read(rt: HostRuntime) {
+    let cases = [(2196, 1, true), (2196, 0, false), (2164, 1, true)];
+    for (at, byte, transient) in cases {
+        assert!(rt;
+            third_row(rt.alloc(), at, byte) == Some(Ok(Some(third(transient)))),
+            "{at} {byte}"
+        );
+    }
+}
+
+// Another mark, a byte that has to be zero, and the high byte of the owner.
+#[test]
+fn rows_with_other_bytes_are_refused(rt: HostRuntime) {
+    let cases = [(2196, 2), (2196, 0xff), (2197, 1), (2165, 1), (2198, 1)];
+    for (at, byte) in cases {
+        assert!(rt;
+            third_row(rt.alloc(), at, byte) == Some(Err(ImageError::BadHeader)),
+            "{at} {byte}"
+        );
+    }
+}
+
 // What the readers say of the image, one after the other.
 fn study(alloc: Global, disk: &mut MemDisk) -> Result<(Slot, u64), ImageError> {
     let layout = read_header(disk)?;
@@ -179,11 +260,18 @@ fn a_closed_gate_shows_no_control(rt: HostRuntime) {
     assert!(rt; are_refused(rt.alloc(), &[(64, 0), (64, 0xa4)], ImageError::NoControl));
 }
 
+// A control of version 1 is one too: that recovery doesn't take it is no matter of the reader.
+#[test]
+fn a_control_of_version_1_is_read(rt: HostRuntime) {
+    assert!(rt; study_altered(rt.alloc(), 83, 1) == Some(Ok((Slot::A, 1))));
+}
+
 #[test]
 fn altered_controls_are_refused(rt: HostRuntime) {
     let alterations = [
         (79, 0),
-        (83, 2),
+        (83, 0),
+        (83, 3),
         (84, 1),
         (95, 1),
         (119, 1),
@@ -216,7 +304,7 @@ fn two_rows() -> [LaneRow; 32] {
 fn documented_body(sequence: u8) -> [u8; 1040] {
     let mut body = [0; 1040];
     body[7] = sequence;
-    body[11] = 1;
+    body[11] = 2;
     body[23] = 1;
     body[31] = 2;
     body[39] = 5;
@@ -245,7 +333,8 @@ fn study_body(alloc: Global, at: usize, byte: u8) -> Option<Result<(Slot, u64), 
 fn altered_bodies_are_refused(rt: HostRuntime) {
     let alterations = [
         (7, 0),
-        (11, 2),
+        (11, 0),
+        (11, 3),
         (12, 1),
         (15, 1),
         (23, 3),
@@ -294,7 +383,7 @@ fn read_and_committed(alloc: Global) -> Option<(Control, Slot, bool)> {
 fn a_control_has_the_documented_bytes(rt: HostRuntime) {
     let control = Control {
         sequence: 3,
-        version: 1,
+        version: 2,
         rows: two_rows(),
     };
     assert!(rt; read_and_committed(rt.alloc()) == Some((control, Slot::B, true)));
@@ -324,6 +413,51 @@ fn the_greater_sequence_counts(rt: HostRuntime) {
                 Some(Ok((Slot::B, 2)))
             ]
     );
+}
+
+// The control that is read of a fresh image whose control has version 1, and the slot into which one with its rows is
+// committed.
+fn commit_over_old(disk: &mut MemDisk, layout: &Layout) -> Option<(Control, Slot)>
+    requires { IsLayout layout.now }
+{
+    let Ok(()) = disk.write_at(83, &[1]) else {
+        return None;
+    };
+    let Ok(()) = disk.sync() else {
+        return None;
+    };
+    if disk.size() < 2160 {
+        return None;
+    }
+    let Ok((chosen, control)) = choose_control(disk, layout) else {
+        return None;
+    };
+    steady_law();
+    let Ok(slot) = commit_control(disk, layout, chosen, control.sequence, &control.rows) else {
+        return None;
+    };
+    Some((control, slot))
+}
+
+// The same, and whether the new control's first bytes are its sequence and version 2.
+fn committed_over_old(alloc: Global) -> Option<(Control, Slot, bool)> {
+    let (mut disk, layout) = steady(alloc)?;
+    let (control, slot) = commit_over_old(&mut disk, &layout)?;
+    Some((
+        control,
+        slot,
+        has(&disk, 1120, &[0, 0, 0, 0, 0, 0, 0, 2, 0, 0, 0, 2]),
+    ))
+}
+
+#[test]
+fn a_commit_over_version_1_has_version_2(rt: HostRuntime) {
+    let old = Control {
+        sequence: 1,
+        version: 1,
+        rows: [LaneRow::EMPTY; 32],
+    };
+    assert!(rt; committed_over_old(rt.alloc()) == Some((old, Slot::B, true)));
 }
 
 // What is said of devices that are too small: one without the image's last byte, which has a bad guard row too, and one

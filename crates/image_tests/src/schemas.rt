@@ -24,6 +24,16 @@ pub(crate) fn field(
     builder.field(owner, name, guard, first)
 }
 
+pub(crate) fn transient(
+    builder: &mut SchemaBuilder,
+    owner: ObjectId,
+    name: &str,
+    guard: ObjectId,
+    first: u64,
+) -> Result<FieldId, SchemaError> {
+    builder.transient(owner, name, guard, first)
+}
+
 fn objects_answered(builder: &mut SchemaBuilder) -> [Result<ObjectId, SchemaError>; 3] {
     [
         object(builder, "a"),

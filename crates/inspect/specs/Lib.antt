@@ -5,6 +5,7 @@ pub mod ReportText
 pub mod Sections
 pub mod Links
 pub mod SectionText
+pub mod TransientText
 pub mod GraphText
 pub mod StudyText
 pub mod WholeGraph

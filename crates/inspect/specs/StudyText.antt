@@ -17,6 +17,7 @@ use Rattle.inspect.specs.Pieces.{line, list_line}
 use Rattle.inspect.specs.Sections.{by_lane, live_sections, numbering_of}
 use Rattle.inspect.specs.Links.{links_in}
 use Rattle.inspect.specs.SectionText.{section_text, link_text}
+use Rattle.inspect.specs.TransientText.{transient_line}
 
 -- the numbers of the image, and its size in bytes
 abbrev pub image_line : Layout → List ℕ
@@ -39,8 +40,9 @@ lane_line l row = line (codes "lane t" ∷ decimal (l + 1) ∷ codes " start " �
 abbrev pub lane_lines : (lanes : ℕ) → List LaneRow → List ℕ
 lane_lines lanes rows = by_lane (λ l. lane_line l (row_of rows l)) lanes
 
+-- the image, its control, its transient fields and its lanes
 abbrev pub head_text : Study → List ℕ
-head_text s = concat (image_line s.layout ∷ control_line s.slot s.control ∷ lane_lines s.layout.lanes s.control.rows ∷ [])
+head_text s = concat (image_line s.layout ∷ control_line s.slot s.control ∷ transient_line s.guards.items ∷ lane_lines s.layout.lanes s.control.rows ∷ [])
 
 -- the live sections of a lane, by number
 abbrev pub lane_sections : Form → Study → (lane : ℕ) → List ℕ

@@ -21,6 +21,7 @@ mod section;
 mod section_lines;
 mod sections;
 mod study_lines;
+mod transient_line;
 mod writer;
 
 pub use error::{InspectError, ShowError, WriteError};

@@ -18,13 +18,14 @@ use crate::pieces::{Piece, put_line, put_list};
 use crate::releases::{Releases, releases_in};
 use crate::report_lines::{first_counts, thread_number};
 use crate::sections::put_sections;
+use crate::transient_line::put_transients;
 use heap_model::Lane;
 use image::{Control, LaneRow, Layout, Slot};
 use recover::Study;
 use std::alloc::Global;
 use std::io::Write;
 
-/// Writes what an image holds: the image, its control, each lane, each live section, each dependence of a live section on
+/// Writes what an image holds: the image, its control, its transient fields, each lane, each live section, each dependence of a live section on
 /// one of another lane, the acknowledged cut, and the heap that the image stands for.
 ///
 /// `NoMemory` comes first, where there are live releases and no room for their table: nothing is written then. After
@@ -59,7 +60,7 @@ fn put_study<W: Write>(writer: &mut W, study: &Study, releases: &Releases) -> Re
     put_end(writer, study)
 }
 
-// Writes the lines of the image, the control and the lanes.
+// Writes the lines of the image, the control, the transient fields and the lanes.
 fn put_head<W: Write>(writer: &mut W, study: &Study) -> Result<(), WriteError>
     requires limits { IsLayout study.now.layout }
     ensures ok { OnOk result (Appends (W.contents writer.old) (W.contents writer.new) (head_text study.now)) }
@@ -67,6 +68,7 @@ fn put_head<W: Write>(writer: &mut W, study: &Study) -> Result<(), WriteError>
 {
     put_image(writer, &study.layout)?;
     put_control(writer, study.slot, &study.control)?;
+    put_transients(writer, &study.guards)?;
     put_lanes(writer, &study.layout, &study.control)
 }
 

@@ -10,7 +10,7 @@ use block_disk::MemDisk;
 use durable::Store;
 use guards::{Schema, SchemaBuilder};
 use heap_model::{Cut, FieldId, Lane, ObjectId, UndoRecord};
-use image::{Control, LaneRow, Layout, Recovered, Slot};
+use image::{Control, GuardRow, LaneRow, Layout, Recovered, Slot};
 use inspect::{WriteError, write_graph, write_report, write_study};
 use recover::{Dropped, Report, Study, Why};
 use std::alloc::{AllocError, Global};
@@ -96,7 +96,17 @@ fn both(
     Ok(logs)
 }
 
-// The study of an image of two lanes.
+// The row of a field of this object, which guards it.
+fn guard_row(object: u32, first: u64, transient: bool) -> GuardRow {
+    GuardRow {
+        guard: ObjectId(object),
+        owner: ObjectId(object),
+        first,
+        transient,
+    }
+}
+
+// The study of an image of two lanes, whose second field is transient.
 fn study_of(
     alloc: Global,
     rows: (LaneRow, LaneRow),
@@ -113,7 +123,7 @@ fn study_of(
 {
     let mut control = Control {
         sequence: 3,
-        version: 1,
+        version: 2,
         rows: [LaneRow::EMPTY; 32],
     };
     control.rows[0] = rows.0;
@@ -127,7 +137,7 @@ fn study_of(
         },
         slot: Slot::A,
         control,
-        guards: Vec::new(alloc),
+        guards: Vec::from_slice(alloc, &[guard_row(0, 10, false), guard_row(1, 20, true)])?,
         records: both(alloc, first, second)?,
         heap: Vec::from_slice(alloc, &[10, 20])?,
         report,
@@ -217,7 +227,8 @@ fn is_written(alloc: Global, lines: &[u8]) -> Option<bool> {
 #[test]
 fn numbers_go_on_from_what_is_kept(rt: HostRuntime) {
     let lines = b"image lanes 2 capacity 4000 objects 4 fields 2 size 130208
-control a sequence 3 version 1
+control a sequence 3 version 2
+transient 1
 lane t1 start 0 settled 3 logged 5 kept 3
 lane t2 start 0 settled 0 logged 2 kept 1
 section t1 3 whole records 3

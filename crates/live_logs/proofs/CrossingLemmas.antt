@@ -1,5 +1,5 @@
 -- Settled records that take what records that aren't settled freed: in the lanes' records, and in their replay.
-use Rattle.std.proofs.Common.{ℕ, ◌≡◌, ◌+◌, ◌<◌, ◌≤◌, ◌==◌, if◌then◌else◌, ◌⊎◌, Bool, true, false, List, [], ◌∷◌, length, refl, sym, ap, ◌∙◌, subst, inl, inr, arith}
+use Rattle.std.proofs.Common.{ℕ, ◌≡◌, ◌+◌, ◌<◌, ◌≤◌, ◌==◌, if◌then◌else◌, ◌⊎◌, Bool, true, false, List, [], ◌∷◌, length, refl, sym, ap, ◌∙◌, subst, inl, inr, arith, Option}
 use Rattle.std.specs.Prelude.{nat_le}
 use Rattle.std.proofs.lemmas.Bool.{eq-eqb, ne_eqb, le-leb, leb-true}
 use Rattle.std.proofs.lemmas.Bool.Decides.{eqb_tells}
@@ -45,14 +45,14 @@ freed_rises first o p n older at = elim (eqb_tells p o) [
   | inr e ↦ subst (λ (t : Bool). number first o older ≤ (if t then n + 1 else number first o older)) (sym e.0) (omega arith)
 ]
 
-rises : (guard first : ℕ → ℕ) (o l : ℕ) (x : UndoRecord) (older : List (ℕ × UndoRecord)) → IsAllowed guard first older l x → number first o older ≤ number first o ((l, x) ∷ older)
+rises : (guard : ℕ → Option ObjectId) (first : ℕ → ℕ) (o l : ℕ) (x : UndoRecord) (older : List (ℕ × UndoRecord)) → IsAllowed guard first older l x → number first o older ≤ number first o ((l, x) ∷ older)
 rises guard first o l (Acq p n) older allowed = omega arith
 rises guard first o l (Rel p n) older allowed = freed_rises first o p.0 n older allowed.1
 rises guard first o l (WaitRel p n) older allowed = freed_rises first o p.0 n older allowed.1
 rises guard first o l (Put f v) older allowed = omega arith
 
 -- what was freed at a number has a greater one since
-freed_below : (guard first : ℕ → ℕ) (lanes : ℕ → List UndoRecord) (done : List (ℕ × UndoRecord)) (m j o n : ℕ) (r : UndoRecord) → IsGreedy guard first lanes done → HasAt (lane m done) j r → undo_action r ≡ Frees o n → n + 1 ≤ number first o done
+freed_below : (guard : ℕ → Option ObjectId) (first : ℕ → ℕ) (lanes : ℕ → List UndoRecord) (done : List (ℕ × UndoRecord)) (m j o n : ℕ) (r : UndoRecord) → IsGreedy guard first lanes done → HasAt (lane m done) j r → undo_action r ≡ Frees o n → n + 1 ≤ number first o done
 freed_below guard first lanes [] m j o n r greedy h is = absurd h
 freed_below guard first lanes ((l, x) ∷ older) m j o n r greedy h is = elim (head_or_older m l j x r older h) [
   | inl top ↦ omega (arith, number_freed first o n l x older (ap undo_action top.1 ∙ is))
@@ -60,7 +60,7 @@ freed_below guard first lanes ((l, x) ∷ older) m j o n r greedy h is = elim (h
 ]
 
 -- what was taken at a number has it or a greater one since
-taken_below : (guard first : ℕ → ℕ) (lanes : ℕ → List UndoRecord) (done : List (ℕ × UndoRecord)) (m j n : ℕ) (o : ObjectId) → IsGreedy guard first lanes done → HasAt (lane m done) j (Acq o n) → n ≤ number first o.0 done
+taken_below : (guard : ℕ → Option ObjectId) (first : ℕ → ℕ) (lanes : ℕ → List UndoRecord) (done : List (ℕ × UndoRecord)) (m j n : ℕ) (o : ObjectId) → IsGreedy guard first lanes done → HasAt (lane m done) j (Acq o n) → n ≤ number first o.0 done
 taken_below guard first lanes [] m j n o greedy h = absurd h
 taken_below guard first lanes ((l, x) ∷ older) m j n o greedy h = elim (head_or_older m l j x (Acq o n) older h) [
   | inl top ↦
@@ -79,7 +79,7 @@ late_between settled first o p k n l b older at some now rest = elim (eqb_tells 
       (rest (subst (λ (t : Bool). (if t then k + 1 else number first o older) ≡ n + 1) e.0 now))
 ]
 
-late_still : (settled guard first : ℕ → ℕ) (o n l : ℕ) (b : Bool) (x : UndoRecord) (older : List (ℕ × UndoRecord)) → IsAllowed guard first older l x → n + 1 ≤ number first o older → number first o ((l, x) ∷ older) ≡ n + 1 →
+late_still : (settled : ℕ → ℕ) (guard : ℕ → Option ObjectId) (first : ℕ → ℕ) (o n l : ℕ) (b : Bool) (x : UndoRecord) (older : List (ℕ × UndoRecord)) → IsAllowed guard first older l x → n + 1 ≤ number first o older → number first o ((l, x) ∷ older) ≡ n + 1 →
     (number first o older ≡ n + 1 → freed_late settled o older ≡ b) → freed_late settled o ((l, x) ∷ older) ≡ b
 late_still settled guard first o n l b (Acq p k) older allowed some now rest = rest now
 late_still settled guard first o n l b (Rel p k) older allowed some now rest = late_between settled first o p.0 k n l b older allowed.1 some now rest
@@ -87,7 +87,7 @@ late_still settled guard first o n l b (WaitRel p k) older allowed some now rest
 late_still settled guard first o n l b (Put f v) older allowed some now rest = rest now
 
 -- an object's last release is the one that gave it its number
-last_release : (settled guard first : ℕ → ℕ) (lanes : ℕ → List UndoRecord) (done : List (ℕ × UndoRecord)) (m j o n : ℕ) (r : UndoRecord) → IsGreedy guard first lanes done → HasAt (lane m done) j r → undo_action r ≡ Frees o n →
+last_release : (settled : ℕ → ℕ) (guard : ℕ → Option ObjectId) (first : ℕ → ℕ) (lanes : ℕ → List UndoRecord) (done : List (ℕ × UndoRecord)) (m j o n : ℕ) (r : UndoRecord) → IsGreedy guard first lanes done → HasAt (lane m done) j r → undo_action r ≡ Frees o n →
     number first o done ≡ n + 1 → freed_late settled o done ≡ nat_le (settled m) j
 last_release settled guard first lanes [] m j o n r greedy h is now = absurd h
 last_release settled guard first lanes ((l, x) ∷ older) m j o n r greedy h is now = elim (head_or_older m l j x r older h) [
@@ -159,7 +159,7 @@ takes_older settled l i m x older h = record {
   outside = h.outside;
 }
 
-takes_here : (settled guard first : ℕ → ℕ) (l : ℕ) (x : UndoRecord) (older : List (ℕ × UndoRecord)) → IsAllowed guard first older l x → IsCrossing settled older l x → TakesUnsettled settled (λ k. lane k ((l, x) ∷ older)) l (length (lane l older))
+takes_here : (settled : ℕ → ℕ) (guard : ℕ → Option ObjectId) (first : ℕ → ℕ) (l : ℕ) (x : UndoRecord) (older : List (ℕ × UndoRecord)) → IsAllowed guard first older l x → IsCrossing settled older l x → TakesUnsettled settled (λ k. lane k ((l, x) ∷ older)) l (length (lane l older))
 takes_here settled guard first l (Acq p n) older allowed h =
     let late = late_release settled first p.0 older h.1 in
     let at : n ≡ late.number_of + 1 = sym allowed.1 ∙ late.now in
@@ -180,7 +180,7 @@ takes_here settled guard first l (WaitRel p n) older allowed h = absurd h
 takes_here settled guard first l (Put f v) older allowed h = absurd h
 
 -- what the walk finds takes what isn't settled
-pub crosses_takes : (settled guard first : ℕ → ℕ) (lanes : ℕ → List UndoRecord) (done : List (ℕ × UndoRecord)) (l i : ℕ) → IsGreedy guard first lanes done → Crosses settled done l i → TakesUnsettled settled (λ k. lane k done) l i
+pub crosses_takes : (settled : ℕ → ℕ) (guard : ℕ → Option ObjectId) (first : ℕ → ℕ) (lanes : ℕ → List UndoRecord) (done : List (ℕ × UndoRecord)) (l i : ℕ) → IsGreedy guard first lanes done → Crosses settled done l i → TakesUnsettled settled (λ k. lane k done) l i
 crosses_takes settled guard first lanes [] l i greedy h = absurd h
 crosses_takes settled guard first lanes ((m, x) ∷ older) l i greedy h = elim h [
   | inl top ↦
@@ -191,7 +191,7 @@ crosses_takes settled guard first lanes ((m, x) ∷ older) l i greedy h = elim h
 ]
 
 -- the walk finds what takes what isn't settled
-pub takes_crosses : (settled guard first : ℕ → ℕ) (lanes : ℕ → List UndoRecord) (done : List (ℕ × UndoRecord)) (l i m j n : ℕ) (o : ObjectId) (r : UndoRecord) → IsGreedy guard first lanes done →
+pub takes_crosses : (settled : ℕ → ℕ) (guard : ℕ → Option ObjectId) (first : ℕ → ℕ) (lanes : ℕ → List UndoRecord) (done : List (ℕ × UndoRecord)) (l i m j n : ℕ) (o : ObjectId) (r : UndoRecord) → IsGreedy guard first lanes done →
     HasAt (lane l done) i (Acq o (n + 1)) → i < settled l → HasAt (lane m done) j r → undo_action r ≡ Frees o.0 n → settled m ≤ j → Crosses settled done l i
 takes_crosses settled guard first lanes [] l i m j n o r greedy took inside had is outside = absurd took
 takes_crosses settled guard first lanes ((k, x) ∷ older) l i m j n o r greedy took inside had is outside = elim (head_or_older l k i x (Acq o (n + 1)) older took) [
@@ -211,7 +211,7 @@ takes_crosses settled guard first lanes ((k, x) ∷ older) l i m j n o r greedy 
   ]
 ]
   where
-    not_past : (guard first : ℕ → ℕ) (o n k : ℕ) (x : UndoRecord) (older : List (ℕ × UndoRecord)) → undo_action x ≡ Frees o n → IsAllowed guard first older k x → number first o older ≡ n
+    not_past : (guard : ℕ → Option ObjectId) (first : ℕ → ℕ) (o n k : ℕ) (x : UndoRecord) (older : List (ℕ × UndoRecord)) → undo_action x ≡ Frees o n → IsAllowed guard first older k x → number first o older ≡ n
     not_past guard first o n k (Acq p q) older is allowed = absurd cc
     not_past guard first o n k (Rel p q) older is allowed = let same : p.0 ≡ o = cc in let at : q ≡ n = cc in ap (λ (i : ℕ). number first i older) (sym same) ∙ allowed.1 ∙ at
     not_past guard first o n k (WaitRel p q) older is allowed = let same : p.0 ≡ o = cc in let at : q ≡ n = cc in ap (λ (i : ℕ). number first i older) (sym same) ∙ allowed.1 ∙ at

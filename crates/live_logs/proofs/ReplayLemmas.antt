@@ -7,6 +7,7 @@ use Rattle.std.proofs.lemmas.List.{take-append-drop, reverse-append}
 use Rattle.std.proofs.lemmas.List.Elements.{All-contains}
 use Rattle.std.proofs.lemmas.Option.{slice_get_within, get_or_from_slice_get, slice_get-get_or}
 use Rattle.heap_model.specs.Log.{lane}
+use Rattle.heap_model.specs.declared.ids.ObjectId.{ObjectId}
 use Rattle.log_state.specs.Limits.{IsOfObjects}
 use Rattle.log_state.specs.Monitors.{AreMonitors}
 use Rattle.log_state.specs.declared.monitors.Monitors.{Monitors}
@@ -49,7 +50,7 @@ contains_behind : {A : Type 0} (later : List A) (r : A) (rest : List A) → Cont
 contains_behind later r rest = is_there (later ++ r ∷ rest) (length later) r (get_behind later r rest)
 
 -- a lane that can go on by the tables can go on, and the other way round
-pub goes_on : (guard first : ℕ → ℕ) (lanes : ℕ → List UndoRecord) (done : List (ℕ × UndoRecord)) (t : Monitors) (left : ℕ → ℕ) (l : ℕ) (r : UndoRecord) → IsMidway guard first lanes done t left →
+pub goes_on : (guard : ℕ → Option ObjectId) (first : ℕ → ℕ) (lanes : ℕ → List UndoRecord) (done : List (ℕ × UndoRecord)) (t : Monitors) (left : ℕ → ℕ) (l : ℕ) (r : UndoRecord) → IsMidway guard first lanes done t left →
     All (IsOfObjects guard 4096) (lanes l) → GoesOnBy guard t (lanes l) (left l) l r → GoesOn guard first lanes done l r
 goes_on guard first lanes done t left l r midway named h =
     let xs : List UndoRecord = lanes l in
@@ -60,7 +61,7 @@ goes_on guard first lanes done t left l r midway named h =
       allowed = allowed_by guard first done t l r (All-contains (IsOfObjects guard 4096) xs r named (is_there xs (left l - 1) r h.next)) midway.monitors h.allowed;
     }
 
-pub by_goes_on : (guard first : ℕ → ℕ) (lanes : ℕ → List UndoRecord) (done : List (ℕ × UndoRecord)) (t : Monitors) (left : ℕ → ℕ) (l : ℕ) (r : UndoRecord) → IsMidway guard first lanes done t left →
+pub by_goes_on : (guard : ℕ → Option ObjectId) (first : ℕ → ℕ) (lanes : ℕ → List UndoRecord) (done : List (ℕ × UndoRecord)) (t : Monitors) (left : ℕ → ℕ) (l : ℕ) (r : UndoRecord) → IsMidway guard first lanes done t left →
     All (IsOfObjects guard 4096) (lanes l) → GoesOn guard first lanes done l r → GoesOnBy guard t (lanes l) (left l) l r
 by_goes_on guard first lanes done t left l r midway named h =
     let xs : List UndoRecord = lanes l in
@@ -91,7 +92,7 @@ left_after lanes done left now l r are some next here others = record {
 }
 
 -- the replay goes on by one step
-pub midway_after : (guard first : ℕ → ℕ) (lanes : ℕ → List UndoRecord) (done : List (ℕ × UndoRecord)) (t u : Monitors) (left now : ℕ → ℕ) (limit l : ℕ) (r : UndoRecord) →
+pub midway_after : (guard : ℕ → Option ObjectId) (first : ℕ → ℕ) (lanes : ℕ → List UndoRecord) (done : List (ℕ × UndoRecord)) (t u : Monitors) (left now : ℕ → ℕ) (limit l : ℕ) (r : UndoRecord) →
     ((m : ℕ) → All (IsOfObjects guard 4096) (lanes m)) → IsMidway guard first lanes done t left → IsLeastBy guard t lanes left limit l r →
     AreMonitors first ((l, r) ∷ done) u → now l ≡ left l - 1 → ((m : ℕ) → m ≢ l → now m ≡ left m) → IsMidway guard first lanes ((l, r) ∷ done) u now
 midway_after guard first lanes done t u left now limit l r named midway least noted here others = record {
@@ -101,7 +102,7 @@ midway_after guard first lanes done t u left now limit l r named midway least no
 }
 
 -- the replay at its end
-pub replay_ends : (guard first : ℕ → ℕ) (lanes : ℕ → List UndoRecord) (done : List (ℕ × UndoRecord)) (t : Monitors) (left : ℕ → ℕ) (limit : ℕ) → BeginsAt lanes first → ((m : ℕ) → All (IsOfObjects guard 4096) (lanes m)) →
+pub replay_ends : (guard : ℕ → Option ObjectId) (first : ℕ → ℕ) (lanes : ℕ → List UndoRecord) (done : List (ℕ × UndoRecord)) (t : Monitors) (left : ℕ → ℕ) (limit : ℕ) → BeginsAt lanes first → ((m : ℕ) → All (IsOfObjects guard 4096) (lanes m)) →
     ((m : ℕ) → limit ≤ m → lanes m ≡ []) → IsMidway guard first lanes done t left → ((l : ℕ) (r : UndoRecord) → l < limit → GoesOnBy guard t (lanes l) (left l) l r → ⊥) → IsReplay guard lanes done
 replay_ends guard first lanes done t left limit begins named past midway none = record {
   first = first;
@@ -116,11 +117,11 @@ replay_ends guard first lanes done t left limit begins named past midway none = 
 }
 
 -- a lane with nothing left is done
-pub is_done : (guard first : ℕ → ℕ) (lanes : ℕ → List UndoRecord) (done : List (ℕ × UndoRecord)) (t : Monitors) (left : ℕ → ℕ) (l : ℕ) → IsMidway guard first lanes done t left → left l ≡ 0 → IsDone lanes done l
+pub is_done : (guard : ℕ → Option ObjectId) (first : ℕ → ℕ) (lanes : ℕ → List UndoRecord) (done : List (ℕ × UndoRecord)) (t : Monitors) (left : ℕ → ℕ) (l : ℕ) → IsMidway guard first lanes done t left → left l ≡ 0 → IsDone lanes done l
 is_done guard first lanes done t left l midway none = sym (midway.rest.rest l ∙ ap (λ (k : ℕ). drop k (lanes l)) none)
 
 -- a lane with something left has a next record
-pub has_next : (guard first : ℕ → ℕ) (lanes : ℕ → List UndoRecord) (done : List (ℕ × UndoRecord)) (t : Monitors) (left : ℕ → ℕ) (l : ℕ) → IsMidway guard first lanes done t left → 0 < left l →
+pub has_next : (guard : ℕ → Option ObjectId) (first : ℕ → ℕ) (lanes : ℕ → List UndoRecord) (done : List (ℕ × UndoRecord)) (t : Monitors) (left : ℕ → ℕ) (l : ℕ) → IsMidway guard first lanes done t left → 0 < left l →
     ((r : UndoRecord) × IsNext lanes done l r) × (length (lane l done) ≡ length (lanes l) - left l)
 has_next guard first lanes done t left l midway some =
     let xs : List UndoRecord = lanes l in

@@ -1,9 +1,10 @@
 -- Lanes at rest where they are settled, and what the three tests of the logs say of them.
-use Rattle.std.proofs.Common.{ℕ, zero, suc, ◌≡◌, ◌+◌, ◌<◌, ◌≤◌, List, [], ◌∷◌, length, map, take, refl, sym, ap, ◌∙◌, subst, inl, inr, arith, Vec, Global}
+use Rattle.std.proofs.Common.{ℕ, zero, suc, ◌≡◌, ◌+◌, ◌<◌, ◌≤◌, List, [], ◌∷◌, length, map, take, refl, sym, ap, ◌∙◌, subst, inl, inr, arith, Vec, Global, Option}
 use Rattle.std.proofs.lemmas.Bool.{cases_lt}
 use Rattle.std.proofs.lemmas.List.{reverse-reverse, length-reverse}
 use Rattle.heap_model.specs.Log.{lane}
 use Rattle.heap_model.specs.Sections.{undo_action, holding, ended}
+use Rattle.heap_model.specs.declared.ids.ObjectId.{ObjectId}
 use Rattle.heap_model.specs.declared.record.UndoRecord.{UndoRecord}
 use Rattle.heap_model.specs.declared.record.UndoRecord.TheVariants.{Acq}
 use Rattle.live_logs.specs.declared.error.LogsError.{LogsError}
@@ -52,7 +53,7 @@ pub all_rest : (settled kept : ℕ → ℕ) (logs : List (Vec UndoRecord Global)
 all_rest settled kept logs h l = elim (cases_lt l (length logs)) [ inl lt ↦ h l lt | inr le ↦ past_rest settled kept logs l le ]
 
 -- in a replay of all records each lane frees what it holds
-pub lanes_free : (guard : ℕ → ℕ) (logs : List (Vec UndoRecord Global)) (done : List (ℕ × UndoRecord)) → Replays guard (lanes_of logs) done → (l : ℕ) → FreesHeld (acts_of (records_of logs l))
+pub lanes_free : (guard : ℕ → Option ObjectId) (logs : List (Vec UndoRecord Global)) (done : List (ℕ × UndoRecord)) → Replays guard (lanes_of logs) done → (l : ℕ) → FreesHeld (acts_of (records_of logs l))
 lanes_free guard logs done h l = subst (λ (xs : List UndoRecord). FreesHeld (map undo_action xs)) (sym (h.all l)) (frees_held guard h.replay.first (lanes_of logs) done h.replay.greedy l)
 
 -- what a replay of all records says of the lanes
@@ -70,18 +71,18 @@ of_lanes settled lanes done all l i h = record {
   outside = h.outside;
 }
 
-crossed : (settled guard : ℕ → ℕ) (lanes : ℕ → List UndoRecord) (done : List (ℕ × UndoRecord)) → Replays guard lanes done → (l i : ℕ) → TakesUnsettled settled lanes l i → Crosses settled done l i
+crossed : (settled : ℕ → ℕ) (guard : ℕ → Option ObjectId) (lanes : ℕ → List UndoRecord) (done : List (ℕ × UndoRecord)) → Replays guard lanes done → (l i : ℕ) → TakesUnsettled settled lanes l i → Crosses settled done l i
 crossed settled guard lanes done h l i t = takes_crosses settled guard h.replay.first lanes done l i t.lane t.place t.number t.object t.release h.replay.greedy
     (subst (λ (xs : List UndoRecord). HasAt xs i (Acq t.object (t.number + 1))) (h.all l) t.took) t.inside
     (subst (λ (xs : List UndoRecord). HasAt xs t.place t.release) (h.all t.lane) t.had) t.freed t.outside
 
-pub least_unsettled : (settled guard : ℕ → ℕ) (lanes : ℕ → List UndoRecord) (done : List (ℕ × UndoRecord)) → Replays guard lanes done → (l i : ℕ) → IsLeastCrossing settled done l i → IsLeastUnsettled settled lanes l i
+pub least_unsettled : (settled : ℕ → ℕ) (guard : ℕ → Option ObjectId) (lanes : ℕ → List UndoRecord) (done : List (ℕ × UndoRecord)) → Replays guard lanes done → (l i : ℕ) → IsLeastCrossing settled done l i → IsLeastUnsettled settled lanes l i
 least_unsettled settled guard lanes done h l i least = record {
   takes = of_lanes settled lanes done h.all l i (crosses_takes settled guard h.replay.first lanes done l i h.replay.greedy least.crosses);
   least = λ m j t. least.least m j (crossed settled guard lanes done h m j t);
 }
 
-pub none_unsettled : (settled guard : ℕ → ℕ) (lanes : ℕ → List UndoRecord) (done : List (ℕ × UndoRecord)) → Replays guard lanes done → ((l i : ℕ) → Crosses settled done l i → ⊥) → (l i : ℕ) → TakesUnsettled settled lanes l i → ⊥
+pub none_unsettled : (settled : ℕ → ℕ) (guard : ℕ → Option ObjectId) (lanes : ℕ → List UndoRecord) (done : List (ℕ × UndoRecord)) → Replays guard lanes done → ((l i : ℕ) → Crosses settled done l i → ⊥) → (l i : ℕ) → TakesUnsettled settled lanes l i → ⊥
 none_unsettled settled guard lanes done h none l i t = none l i (crossed settled guard lanes done h l i t)
 
 -- a place that a lane has is one of a lane that is there
@@ -103,6 +104,6 @@ pub place_there : (settled : ℕ → ℕ) (logs : List (Vec UndoRecord Global)) 
 place_there settled logs l i h = omega (arith, at_within (lanes_of logs l) i (Acq h.object (h.number + 1)) h.took, length-reverse (records_of logs l))
 
 -- a replay that ends with records left is the first refusal
-pub refused_replay : (guard settled kept : ℕ → ℕ) (lanes : ℕ → List UndoRecord) (e : LogsError) → RefusesReplay guard lanes e → RefusesLegal guard settled kept lanes e
+pub refused_replay : (guard : ℕ → Option ObjectId) (settled kept : ℕ → ℕ) (lanes : ℕ → List UndoRecord) (e : LogsError) → RefusesReplay guard lanes e → RefusesLegal guard settled kept lanes e
 refused_replay guard settled kept lanes (IllegalLog l p) h = Stuck h
 refused_replay guard settled kept lanes NoMemory h = h

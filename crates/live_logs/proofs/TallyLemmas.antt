@@ -1,8 +1,9 @@
 -- In a replay each lane frees what it holds.
-use Rattle.std.proofs.Common.{ℕ, if◌then◌else◌, Bool, List, [], ◌∷◌, map, sym, subst, inl, inr}
+use Rattle.std.proofs.Common.{ℕ, if◌then◌else◌, Bool, List, [], ◌∷◌, map, sym, subst, inl, inr, Option}
 use Rattle.std.proofs.lemmas.Bool.Decides.{eqb_tells}
 use Rattle.heap_model.specs.Log.{lane}
 use Rattle.heap_model.specs.Sections.{undo_action}
+use Rattle.heap_model.specs.declared.ids.ObjectId.{ObjectId}
 use Rattle.heap_model.specs.declared.record.UndoRecord.{UndoRecord}
 use Rattle.log_state.specs.Lanes.{FreesHeld}
 use Rattle.log_state.proofs.HeldLemmas.{frees_one}
@@ -10,7 +11,7 @@ pub use Rattle.log_state.proofs.HeldLemmas.{held_by}
 pub use Rattle.log_state.proofs.LaneLemmas.{frees_first}
 use Rattle.live_logs.specs.Replay.{IsGreedy}
 
-pub frees_held : (guard first : ℕ → ℕ) (lanes : ℕ → List UndoRecord) (done : List (ℕ × UndoRecord)) → IsGreedy guard first lanes done → (l : ℕ) → FreesHeld (map undo_action (lane l done))
+pub frees_held : (guard : ℕ → Option ObjectId) (first : ℕ → ℕ) (lanes : ℕ → List UndoRecord) (done : List (ℕ × UndoRecord)) → IsGreedy guard first lanes done → (l : ℕ) → FreesHeld (map undo_action (lane l done))
 frees_held guard first lanes [] h l = tt
 frees_held guard first lanes ((m, r) ∷ older) h l = elim (eqb_tells m l) [
   | inl e ↦ subst (λ (t : Bool). FreesHeld (map undo_action (if t then r ∷ lane l older else lane l older))) (sym e.0)

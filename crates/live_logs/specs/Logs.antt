@@ -1,5 +1,5 @@
 -- What is tested: the lanes' live records, the fields' guards, and up to where each lane is settled.
-use Rattle.std.specs.Prelude.{ℕ, List, [], map, reverse, slice_index_or, Vec}
+use Rattle.std.specs.Prelude.{ℕ, List, [], map, reverse, slice_index_or, Vec, Option, None}
 use Rattle.std.specs.declared.alloc.Global.{Global}
 use Rattle.heap_model.specs.declared.ids.ObjectId.{ObjectId}
 use Rattle.heap_model.specs.declared.record.UndoRecord.{UndoRecord}
@@ -13,9 +13,9 @@ records_of logs l = slice_index_or (map (λ v. v.items) logs) l []
 abbrev pub lanes_of : List (Vec UndoRecord Global) → (lane : ℕ) → List UndoRecord
 lanes_of logs l = reverse (records_of logs l)
 
--- the field's guard, of these
-abbrev pub guard_in : List ObjectId → (field : ℕ) → ℕ
-guard_in guards f = (slice_index_or guards f (record { 0 = 0 })).0
+-- the object whose monitor the field's stores need, of these; none where logs keep no store of the field
+abbrev pub guard_in : List (Option ObjectId) → (field : ℕ) → Option ObjectId
+guard_in guards f = slice_index_or guards f None
 
 -- the lane's count of these
 abbrev pub count_of : List SettledCount → (lane : ℕ) → SettledCount

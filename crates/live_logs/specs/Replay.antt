@@ -30,22 +30,22 @@ abbrev pub IsNext : (lanes : ℕ → List UndoRecord) → List (ℕ × UndoRecor
 IsNext lanes done l r = (later : List UndoRecord) × (lanes l ≡ later ++ r ∷ lane l done)
 
 -- the lane can go on with this record
-pub record GoesOn (guard first : ℕ → ℕ) (lanes : ℕ → List UndoRecord) (done : List (ℕ × UndoRecord)) (l : ℕ) (r : UndoRecord) : Type 0 where
+pub record GoesOn (guard : ℕ → Option ObjectId) (first : ℕ → ℕ) (lanes : ℕ → List UndoRecord) (done : List (ℕ × UndoRecord)) (l : ℕ) (r : UndoRecord) : Type 0 where
   pub next : IsNext lanes done l r
   pub follows : MayFollow (slice_get (lane l done) 0) r
   pub allowed : IsAllowed guard first done l r
 
 -- no lane below this one can go on
-abbrev pub NoneBelow : (guard first : ℕ → ℕ) → (lanes : ℕ → List UndoRecord) → List (ℕ × UndoRecord) → (lane : ℕ) → Type 0
+abbrev pub NoneBelow : (guard : ℕ → Option ObjectId) → (first : ℕ → ℕ) → (lanes : ℕ → List UndoRecord) → List (ℕ × UndoRecord) → (lane : ℕ) → Type 0
 NoneBelow guard first lanes done l = (m : ℕ) (r : UndoRecord) → m < l → GoesOn guard first lanes done m r → ⊥
 
 -- each record was done by the least lane that could go on
-abbrev pub IsGreedy : (guard first : ℕ → ℕ) → (lanes : ℕ → List UndoRecord) → List (ℕ × UndoRecord) → Type 0
+abbrev pub IsGreedy : (guard : ℕ → Option ObjectId) → (first : ℕ → ℕ) → (lanes : ℕ → List UndoRecord) → List (ℕ × UndoRecord) → Type 0
 IsGreedy guard first lanes [] = Unit {0}
 IsGreedy guard first lanes (x ∷ older) = IsGreedy guard first lanes older × GoesOn guard first lanes older x.0 x.1 × NoneBelow guard first lanes older x.0
 
 -- the greedy replay, at its end: no lane can go on
-pub record IsReplay (guard : ℕ → ℕ) (lanes : ℕ → List UndoRecord) (done : List (ℕ × UndoRecord)) : Type 0 where
+pub record IsReplay (guard : ℕ → Option ObjectId) (lanes : ℕ → List UndoRecord) (done : List (ℕ × UndoRecord)) : Type 0 where
   pub first : ℕ → ℕ
   pub begins : BeginsAt lanes first
   pub greedy : IsGreedy guard first lanes done
@@ -56,12 +56,12 @@ abbrev pub IsDone : (lanes : ℕ → List UndoRecord) → List (ℕ × UndoRecor
 IsDone lanes done l = lanes l ≡ lane l done
 
 -- the replay does all records
-pub record Replays (guard : ℕ → ℕ) (lanes : ℕ → List UndoRecord) (done : List (ℕ × UndoRecord)) : Type 0 where
+pub record Replays (guard : ℕ → Option ObjectId) (lanes : ℕ → List UndoRecord) (done : List (ℕ × UndoRecord)) : Type 0 where
   pub replay : IsReplay guard lanes done
   pub all : (l : ℕ) → IsDone lanes done l
 
 -- the replay ends with records left: this lane is the least that has some, and so many of its records were done
-pub record IsStuckAt (guard : ℕ → ℕ) (lanes : ℕ → List UndoRecord) (l count : ℕ) : Type 0 where
+pub record IsStuckAt (guard : ℕ → Option ObjectId) (lanes : ℕ → List UndoRecord) (l count : ℕ) : Type 0 where
   pub done : List (ℕ × UndoRecord)
   pub replay : IsReplay guard lanes done
   pub left : (r : UndoRecord) × IsNext lanes done l r
@@ -69,6 +69,6 @@ pub record IsStuckAt (guard : ℕ → ℕ) (lanes : ℕ → List UndoRecord) (l 
   pub least : (m : ℕ) → m < l → IsDone lanes done m
 
 -- what each refusal to replay says of the lanes: the least one with records left, and the place of its first such record
-abbrev pub RefusesReplay : (guard : ℕ → ℕ) → (lanes : ℕ → List UndoRecord) → LogsError → Type 0
+abbrev pub RefusesReplay : (guard : ℕ → Option ObjectId) → (lanes : ℕ → List UndoRecord) → LogsError → Type 0
 RefusesReplay guard lanes (IllegalLog lane place) = IsStuckAt guard lanes lane.0 place
 RefusesReplay guard lanes NoMemory = Unit {0}

@@ -1,6 +1,6 @@
 -- The acknowledged sections of the lanes' live records: those before the place up to which a lane is settled (this
 -- project's own). Lists have their newest element first; places count from a lane's first live record.
-use Rattle.std.specs.Prelude.{ℕ, ◌≡◌, ◌+◌, ◌<◌, ◌≤◌, ◌⊎◌, List, [], ◌∷◌, length, map, take, reverse, Vec}
+use Rattle.std.specs.Prelude.{ℕ, ◌≡◌, ◌+◌, ◌<◌, ◌≤◌, ◌⊎◌, List, [], ◌∷◌, length, map, take, reverse, Vec, Option}
 use Rattle.std.specs.declared.alloc.Global.{Global}
 use Rattle.heap_model.specs.Sections.{Frees, undo_action, holding, ended}
 use Rattle.heap_model.specs.declared.ids.ObjectId.{ObjectId}
@@ -54,25 +54,25 @@ pub record IsLeastRestless (settled kept : ℕ → ℕ) (lanes : ℕ → List Un
   pub least : (m : ℕ) → m < l → IsAtRest settled kept lanes m
 
 -- the logs are those of a legal list, and each lane is at rest where it is settled
-pub record AreAtRest (guard : ℕ → ℕ) (settled kept : ℕ → ℕ) (lanes : ℕ → List UndoRecord) : Type 0 where
+pub record AreAtRest (guard : ℕ → Option ObjectId) (settled kept : ℕ → ℕ) (lanes : ℕ → List UndoRecord) : Type 0 where
   pub done : List (ℕ × UndoRecord)
   pub replays : Replays guard lanes done
   pub rest : (l : ℕ) → IsAtRest settled kept lanes l
 
 -- what no test of the logs refuses: they are those of a legal list, with whole acknowledged sections that depend on none but such
-pub record AreLegal (guard : ℕ → ℕ) (settled kept : ℕ → ℕ) (lanes : ℕ → List UndoRecord) : Type 0 where
+pub record AreLegal (guard : ℕ → Option ObjectId) (settled kept : ℕ → ℕ) (lanes : ℕ → List UndoRecord) : Type 0 where
   pub logs : AreAtRest guard settled kept lanes
   pub inside : (l i : ℕ) → TakesUnsettled settled lanes l i → ⊥
 
 -- which place each of the three tests names, in their order: where the replay is stuck; the place up to which the least
 -- restless lane is settled; the first acquire from outside
-pub data IsIllegalAt (guard : ℕ → ℕ) (settled kept : ℕ → ℕ) (lanes : ℕ → List UndoRecord) (l place : ℕ) : Type 0 where
+pub data IsIllegalAt (guard : ℕ → Option ObjectId) (settled kept : ℕ → ℕ) (lanes : ℕ → List UndoRecord) (l place : ℕ) : Type 0 where
   Stuck : IsStuckAt guard lanes l place → IsIllegalAt guard settled kept lanes l place
   Restless : (done : List (ℕ × UndoRecord)) → Replays guard lanes done → IsLeastRestless settled kept lanes l → place ≡ settled l → IsIllegalAt guard settled kept lanes l place
   Crossing : AreAtRest guard settled kept lanes → IsLeastUnsettled settled lanes l place → IsIllegalAt guard settled kept lanes l place
 
 -- what each refusal of the logs says
-abbrev pub RefusesLegal : (guard settled kept : ℕ → ℕ) → (lanes : ℕ → List UndoRecord) → LogsError → Type 0
+abbrev pub RefusesLegal : (guard : ℕ → Option ObjectId) → (settled kept : ℕ → ℕ) → (lanes : ℕ → List UndoRecord) → LogsError → Type 0
 RefusesLegal guard settled kept lanes (IllegalLog lane place) = IsIllegalAt guard settled kept lanes lane.0 place
 RefusesLegal guard settled kept lanes NoMemory = Unit {0}
 

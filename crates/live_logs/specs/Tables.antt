@@ -1,6 +1,7 @@
 -- The tables of a replay: what is known of the monitors, and how many records of each lane are left.
-use Rattle.std.specs.Prelude.{ℕ, ◌≡◌, ◌-◌, ◌<◌, ◌≤◌, List, length, map, reverse, drop, slice_get, Some}
+use Rattle.std.specs.Prelude.{ℕ, ◌≡◌, ◌-◌, ◌<◌, ◌≤◌, List, length, map, reverse, drop, slice_get, Some, Option}
 use Rattle.heap_model.specs.Log.{lane}
+use Rattle.heap_model.specs.declared.ids.ObjectId.{ObjectId}
 use Rattle.heap_model.specs.declared.record.UndoRecord.{UndoRecord}
 use Rattle.log_state.specs.Limits.{IsInRange}
 use Rattle.log_state.specs.Monitors.{AreMonitors, IsAllowedBy}
@@ -9,14 +10,14 @@ use Rattle.live_logs.specs.Replay.{MayFollow, IsGreedy}
 use Rattle.live_logs.specs.declared.step.Step.{Step}
 
 -- by the tables, the lane can go on with this record, where so many of its records are left; it has the newest first
-pub record GoesOnBy (guard : ℕ → ℕ) (t : Monitors) (records : List UndoRecord) (left l : ℕ) (r : UndoRecord) : Type 0 where
+pub record GoesOnBy (guard : ℕ → Option ObjectId) (t : Monitors) (records : List UndoRecord) (left l : ℕ) (r : UndoRecord) : Type 0 where
   pub some : 0 < left
   pub next : slice_get records (left - 1) ≡ Some r
   pub follows : MayFollow (slice_get records left) r
   pub allowed : IsAllowedBy guard t l r
 
 -- the least lane below a limit that can go on by the tables, and its next record
-pub record IsLeastBy (guard : ℕ → ℕ) (t : Monitors) (lanes : ℕ → List UndoRecord) (left : ℕ → ℕ) (limit l : ℕ) (r : UndoRecord) : Type 0 where
+pub record IsLeastBy (guard : ℕ → Option ObjectId) (t : Monitors) (lanes : ℕ → List UndoRecord) (left : ℕ → ℕ) (limit l : ℕ) (r : UndoRecord) : Type 0 where
   pub low : l < limit
   pub goes : GoesOnBy guard t (lanes l) (left l) l r
   pub least : (m : ℕ) (next : UndoRecord) → m < l → GoesOnBy guard t (lanes m) (left m) m next → ⊥
@@ -36,7 +37,7 @@ pub record AreLeft (lanes : ℕ → List UndoRecord) (done : List (ℕ × UndoRe
   pub rest : (l : ℕ) → lane l done ≡ drop (left l) (lanes l)
 
 -- the greedy replay has come so far
-pub record IsMidway (guard first : ℕ → ℕ) (lanes : ℕ → List UndoRecord) (done : List (ℕ × UndoRecord)) (t : Monitors) (left : ℕ → ℕ) : Type 0 where
+pub record IsMidway (guard : ℕ → Option ObjectId) (first : ℕ → ℕ) (lanes : ℕ → List UndoRecord) (done : List (ℕ × UndoRecord)) (t : Monitors) (left : ℕ → ℕ) : Type 0 where
   pub greedy : IsGreedy guard first lanes done
   pub monitors : AreMonitors first done t
   pub rest : AreLeft lanes done left

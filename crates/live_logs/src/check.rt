@@ -16,14 +16,15 @@ use heap_model::{ObjectId, UndoRecord};
 use std::alloc::Global;
 
 /// Tests the lanes' live records, and answers them in the order in which they were replayed, the oldest first. By field,
-/// `guards` has the object that guards it, and by lane `counts` up to where it is settled.
+/// `guards` has the object that guards it, or `None` where logs keep no store of the field, and by lane `counts` up to where
+/// it is settled.
 ///
 /// `IllegalLog` comes from three tests, in this order:
 /// - The records are replayed from all monitors free, each object's number being the least at which a live record takes
 ///   it. A lane takes a free object at its number, frees one that it holds from that number, which raises it by one, and
-///   stores to a field whose guard it holds; after a wait's release it takes the same object again. Again and again the
-///   least lane that can go on does its next record. Where none can and records are left, the refusal names the least
-///   lane with one left, and its first one's place.
+///   stores to a field whose guard it holds and whose stores logs keep; after a wait's release it takes the same object
+///   again. Again and again the least lane that can go on does its next record. Where none can and records are left, the
+///   refusal names the least lane with one left, and its first one's place.
 /// - A lane is settled up to a place where it holds something, or keeps fewer sections than ended before that place: the
 ///   least such lane, and that place.
 /// - A settled record takes what one that isn't settled freed: the least lane with such a record, and its first one's
@@ -33,7 +34,7 @@ use std::alloc::Global;
 /// are looked at once.
 pub fn check_logs(
     alloc: Global,
-    guards: &[ObjectId],
+    guards: &[Option<ObjectId>],
     counts: &[SettledCount; 32],
     logs: &[Vec<UndoRecord>],
 ) -> Result<Vec<Step>, LogsError>

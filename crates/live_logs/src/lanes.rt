@@ -13,7 +13,7 @@ use log_state::Monitors;
 
 /// The least lane that can go on, with its next record.
 pub fn least_to_go_on(
-    guards: &[ObjectId],
+    guards: &[Option<ObjectId>],
     logs: &[Vec<UndoRecord>],
     monitors: &Monitors,
     left: &[usize; 32],
@@ -45,7 +45,7 @@ pub fn records_in(logs: &[Vec<UndoRecord>], lane: Lane) -> &[UndoRecord]
 
 // The lane's next record, if the lane can go on with it. So many of its records are left.
 fn to_go_on(
-    guards: &[ObjectId],
+    guards: &[Option<ObjectId>],
     monitors: &Monitors,
     lane: Lane,
     records: &[UndoRecord],

@@ -21,7 +21,7 @@ use std::alloc::Global;
 /// one; `NoMemory` comes where there is no room for the steps. After each step the lanes are looked at again, at most 32.
 pub fn replay(
     alloc: Global,
-    guards: &[ObjectId],
+    guards: &[Option<ObjectId>],
     logs: &[Vec<UndoRecord>],
 ) -> Result<Vec<Step>, LogsError>
     requires lanes { length logs.now ≤ 32 }

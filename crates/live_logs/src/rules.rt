@@ -9,8 +9,8 @@ use heap_model::{ObjectId, UndoRecord};
 use log_state::Monitors;
 
 /// Whether the lane may do the record: it takes a free object at its number, frees one that it holds from that number,
-/// or stores to a field whose guard it holds.
-pub fn is_allowed(monitors: &Monitors, guards: &[ObjectId], next: Step) -> bool
+/// or stores to a field whose guard it holds, and whose stores logs keep.
+pub fn is_allowed(monitors: &Monitors, guards: &[Option<ObjectId>], next: Step) -> bool
     requires objects { IsOfObjects (guard_in guards.now) 4096 next.entry }
     ensures { IsTrue result ↔ IsAllowedBy (guard_in guards.now) monitors.now next.lane.0 next.entry }
 {
@@ -19,17 +19,17 @@ pub fn is_allowed(monitors: &Monitors, guards: &[ObjectId], next: Step) -> bool
             monitors.allows(next.lane, next.entry, guard_of(guards, field.0))
         }
         UndoRecord::Acq { .. } | UndoRecord::Rel { .. } | UndoRecord::WaitRel { .. } => {
-            monitors.allows(next.lane, next.entry, ObjectId(0))
+            monitors.allows(next.lane, next.entry, None)
         }
     }
 }
 
-// The field's guard.
-fn guard_of(guards: &[ObjectId], field: u32) -> ObjectId
-    ensures { result.0 ≡ guard_in guards.now field }
+// The field's guard, if logs keep its stores.
+fn guard_of(guards: &[Option<ObjectId>], field: u32) -> Option<ObjectId>
+    ensures { result ≡ guard_in guards.now field }
 {
     match guards.get(field as usize) {
         Some(guard) => *guard,
-        None => ObjectId(0),
+        None => None,
     }
 }

@@ -5,6 +5,7 @@ use Rattle.std.proofs.lemmas.Bool.Decides.{eqb_tells}
 use Rattle.heap_model.specs.Log.{lane}
 use Rattle.heap_model.specs.Sections.{Action, Takes, Frees, Stores, undo_action, without, holding}
 use Rattle.heap_model.specs.declared.ids.Lane.{Lane}
+use Rattle.heap_model.specs.declared.ids.ObjectId.{ObjectId}
 use Rattle.heap_model.specs.declared.record.UndoRecord.{UndoRecord}
 use Rattle.heap_model.specs.declared.record.UndoRecord.TheVariants.{Acq, Rel, WaitRel, Put}
 use Rattle.log_state.specs.Lanes.{FreesHeld}
@@ -73,7 +74,7 @@ held_by l o ((m, Put f v) ∷ older) held =
     (elim (m == l) as (λ t. Contains (holding (if t then Stores ∷ map undo_action (lane l older) else map undo_action (lane l older))) o) [ true ↦ before | false ↦ before ])
 
 -- a record that is allowed frees what its lane holds
-pub frees_one : (guard first : ℕ → ℕ) (older : List (ℕ × UndoRecord)) (l : ℕ) (r : UndoRecord) → IsAllowed guard first older l r → FreesHeld (map undo_action (lane l older)) → FreesHeld (undo_action r ∷ map undo_action (lane l older))
+pub frees_one : (guard : ℕ → Option ObjectId) (first : ℕ → ℕ) (older : List (ℕ × UndoRecord)) (l : ℕ) (r : UndoRecord) → IsAllowed guard first older l r → FreesHeld (map undo_action (lane l older)) → FreesHeld (undo_action r ∷ map undo_action (lane l older))
 frees_one guard first older l (Acq o n) allowed h = h
 frees_one guard first older l (Rel o n) allowed h = (h, held_by l o.0 older allowed.0)
 frees_one guard first older l (WaitRel o n) allowed h = (h, held_by l o.0 older allowed.0)

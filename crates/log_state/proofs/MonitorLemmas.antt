@@ -5,24 +5,33 @@ use Rattle.std.proofs.lemmas.Bool.{cases_lt}
 use Rattle.std.proofs.lemmas.Bool.Decides.{eqb_tells}
 use Rattle.std.proofs.lemmas.List.{get_or-replicate, get_or_past, length-replicate}
 use Rattle.heap_model.specs.declared.ids.Lane.{Lane}
+use Rattle.heap_model.specs.declared.ids.ObjectId.{ObjectId}
 use Rattle.heap_model.specs.declared.record.UndoRecord.{UndoRecord}
 use Rattle.heap_model.specs.declared.record.UndoRecord.TheVariants.{Acq, Rel, WaitRel, Put}
-use Rattle.log_state.specs.Limits.{IsInRange, IsOfObjects}
-use Rattle.log_state.specs.Monitors.{holder, number, IsAllowed, IsAllowedBy, AreMonitors, holders_after, numbers_after}
+use Rattle.log_state.specs.Limits.{IsBelow, IsInRange, IsOfObjects}
+use Rattle.log_state.specs.Monitors.{holder, number, MayStore, MayStoreBy, IsAllowed, IsAllowedBy, AreMonitors, holders_after, numbers_after}
 use Rattle.log_state.specs.declared.monitors.Monitors.{Monitors}
 
 -- what is known by the tables is known of the records
-pub allowed_by : (guard first : ℕ → ℕ) (done : List (ℕ × UndoRecord)) (t : Monitors) (l : ℕ) (r : UndoRecord) → IsOfObjects guard 4096 r → AreMonitors first done t → IsAllowedBy guard t l r → IsAllowed guard first done l r
+may_store : (guard : Option ObjectId) (first : ℕ → ℕ) (done : List (ℕ × UndoRecord)) (t : Monitors) (l : ℕ) → IsBelow guard 4096 → AreMonitors first done t → MayStoreBy guard t l → MayStore guard done l
+may_store None first done t l low are h = h
+may_store (Some o) first done t l low are h = sym (are.holders o.0 low) ∙ h
+
+by_may_store : (guard : Option ObjectId) (first : ℕ → ℕ) (done : List (ℕ × UndoRecord)) (t : Monitors) (l : ℕ) → IsBelow guard 4096 → AreMonitors first done t → MayStore guard done l → MayStoreBy guard t l
+by_may_store None first done t l low are h = h
+by_may_store (Some o) first done t l low are h = are.holders o.0 low ∙ h
+
+pub allowed_by : (guard : ℕ → Option ObjectId) (first : ℕ → ℕ) (done : List (ℕ × UndoRecord)) (t : Monitors) (l : ℕ) (r : UndoRecord) → IsOfObjects guard 4096 r → AreMonitors first done t → IsAllowedBy guard t l r → IsAllowed guard first done l r
 allowed_by guard first done t l (Acq o n) low are h = (sym (are.holders o.0 low) ∙ h.0, sym (are.numbers o.0 low) ∙ h.1)
 allowed_by guard first done t l (Rel o n) low are h = (sym (are.holders o.0 low) ∙ h.0, sym (are.numbers o.0 low) ∙ h.1)
 allowed_by guard first done t l (WaitRel o n) low are h = (sym (are.holders o.0 low) ∙ h.0, sym (are.numbers o.0 low) ∙ h.1)
-allowed_by guard first done t l (Put f before) low are h = sym (are.holders (guard f.0) low) ∙ h
+allowed_by guard first done t l (Put f before) low are h = may_store (guard f.0) first done t l low are h
 
-pub by_allowed : (guard first : ℕ → ℕ) (done : List (ℕ × UndoRecord)) (t : Monitors) (l : ℕ) (r : UndoRecord) → IsOfObjects guard 4096 r → AreMonitors first done t → IsAllowed guard first done l r → IsAllowedBy guard t l r
+pub by_allowed : (guard : ℕ → Option ObjectId) (first : ℕ → ℕ) (done : List (ℕ × UndoRecord)) (t : Monitors) (l : ℕ) (r : UndoRecord) → IsOfObjects guard 4096 r → AreMonitors first done t → IsAllowed guard first done l r → IsAllowedBy guard t l r
 by_allowed guard first done t l (Acq o n) low are h = (are.holders o.0 low ∙ h.0, are.numbers o.0 low ∙ h.1)
 by_allowed guard first done t l (Rel o n) low are h = (are.holders o.0 low ∙ h.0, are.numbers o.0 low ∙ h.1)
 by_allowed guard first done t l (WaitRel o n) low are h = (are.holders o.0 low ∙ h.0, are.numbers o.0 low ∙ h.1)
-by_allowed guard first done t l (Put f before) low are h = are.holders (guard f.0) low ∙ h
+by_allowed guard first done t l (Put f before) low are h = by_may_store (guard f.0) first done t l low are h
 
 -- the tables after one more record
 holders_set : (holders : List (Option Lane)) (p o : ℕ) (now : Option Lane) (was : Option Lane) → length holders ≡ 4096 → p < 4096 → slice_index_or holders o None ≡ was → slice_index_or (slice_set holders p now) o None ≡ (if p == o then now else was)

@@ -3,6 +3,7 @@
 -- (lane, record) have their newest element first.
 use Rattle.std.specs.Prelude.{ℕ, ◌≡◌, ◌+◌, ◌<◌, ◌==◌, if◌then◌else◌, List, [], ◌∷◌, slice_index, slice_index_or, slice_set, Option, Some, None}
 use Rattle.heap_model.specs.declared.ids.Lane.{Lane}
+use Rattle.heap_model.specs.declared.ids.ObjectId.{ObjectId}
 use Rattle.heap_model.specs.declared.record.UndoRecord.{UndoRecord}
 use Rattle.heap_model.specs.declared.record.UndoRecord.TheVariants.{Acq, Rel, WaitRel, Put}
 use Rattle.log_state.specs.declared.monitors.Monitors.{Monitors}
@@ -23,12 +24,17 @@ number first o ((l, Rel p n) ∷ older) = if p.0 == o then n + 1 else number fir
 number first o ((l, WaitRel p n) ∷ older) = if p.0 == o then n + 1 else number first o older
 number first o ((l, Put f before) ∷ older) = number first o older
 
+-- the lane may store to a field with this guard: it holds that. Where there is none, no log keeps a store of the field
+abbrev pub MayStore : (guard : Option ObjectId) → List (ℕ × UndoRecord) → (lane : ℕ) → Type 0
+MayStore None older l = ⊥
+MayStore (Some o) older l = holder o.0 older ≡ Some (record { 0 = l })
+
 -- the lane takes a free object at its number, frees one that it holds from that number, or stores to a field whose guard it holds
-abbrev pub IsAllowed : (guard first : ℕ → ℕ) → List (ℕ × UndoRecord) → (lane : ℕ) → UndoRecord → Type 0
+abbrev pub IsAllowed : (guard : ℕ → Option ObjectId) → (first : ℕ → ℕ) → List (ℕ × UndoRecord) → (lane : ℕ) → UndoRecord → Type 0
 IsAllowed guard first older l (Acq o n) = (holder o.0 older ≡ None) × (number first o.0 older ≡ n)
 IsAllowed guard first older l (Rel o n) = (holder o.0 older ≡ Some (record { 0 = l })) × (number first o.0 older ≡ n)
 IsAllowed guard first older l (WaitRel o n) = (holder o.0 older ≡ Some (record { 0 = l })) × (number first o.0 older ≡ n)
-IsAllowed guard first older l (Put f before) = holder (guard f.0) older ≡ Some (record { 0 = l })
+IsAllowed guard first older l (Put f before) = MayStore (guard f.0) older l
 
 -- the lane that holds the object, and the object's number, by the tables
 abbrev pub holder_at : Monitors → (object : ℕ) → Option Lane
@@ -42,12 +48,17 @@ pub record AreMonitors (first : ℕ → ℕ) (done : List (ℕ × UndoRecord)) (
   pub holders : (o : ℕ) → o < 4096 → holder_at t o ≡ holder o done
   pub numbers : (o : ℕ) → o < 4096 → number_at t o ≡ number first o done
 
+-- the lane may store to a field with this guard, by the tables
+abbrev pub MayStoreBy : (guard : Option ObjectId) → Monitors → (lane : ℕ) → Type 0
+MayStoreBy None t l = ⊥
+MayStoreBy (Some o) t l = holder_at t o.0 ≡ Some (record { 0 = l })
+
 -- the record is allowed, by the tables
-abbrev pub IsAllowedBy : (guard : ℕ → ℕ) → Monitors → (lane : ℕ) → UndoRecord → Type 0
+abbrev pub IsAllowedBy : (guard : ℕ → Option ObjectId) → Monitors → (lane : ℕ) → UndoRecord → Type 0
 IsAllowedBy guard t l (Acq o n) = (holder_at t o.0 ≡ None) × (number_at t o.0 ≡ n)
 IsAllowedBy guard t l (Rel o n) = (holder_at t o.0 ≡ Some (record { 0 = l })) × (number_at t o.0 ≡ n)
 IsAllowedBy guard t l (WaitRel o n) = (holder_at t o.0 ≡ Some (record { 0 = l })) × (number_at t o.0 ≡ n)
-IsAllowedBy guard t l (Put f before) = holder_at t (guard f.0) ≡ Some (record { 0 = l })
+IsAllowedBy guard t l (Put f before) = MayStoreBy (guard f.0) t l
 
 -- who holds which object after the lane's record
 abbrev pub holders_after : List (Option Lane) → (lane : ℕ) → UndoRecord → List (Option Lane)

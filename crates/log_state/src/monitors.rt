@@ -30,11 +30,12 @@ impl Monitors {
     }
 
     /// Whether the lane may do the record next, as far as the monitors go: it takes a free object at its number, frees one
-    /// that it holds from that number, or stores to a field whose guard it holds. For a store, `guard` is the field's.
-    pub fn allows(&self, lane: Lane, next: UndoRecord, guard: ObjectId) -> bool
-        requires objects { IsOfObjects (λ f. guard.0) 4096 next }
-        ensures allowed { (first : ℕ → ℕ) (log : List (ℕ × AnyRecord)) → AreMonitors first log self.now → IsTrue result ↔ IsAllowed (λ f. guard.0) first log lane.0 next }
-        ensures tables { IsTrue result ↔ IsAllowedBy (λ f. guard.0) self.now lane.0 next }
+    /// that it holds from that number, or stores to a field whose guard it holds. For a store, `guard` is the field's,
+    /// or `None` where logs keep no store of the field: then no lane may do it.
+    pub fn allows(&self, lane: Lane, next: UndoRecord, guard: Option<ObjectId>) -> bool
+        requires objects { IsOfObjects (λ f. guard) 4096 next }
+        ensures allowed { (first : ℕ → ℕ) (log : List (ℕ × AnyRecord)) → AreMonitors first log self.now → IsTrue result ↔ IsAllowed (λ f. guard) first log lane.0 next }
+        ensures tables { IsTrue result ↔ IsAllowedBy (λ f. guard) self.now lane.0 next }
     {
         match next {
             UndoRecord::Acq { object, number } => self.is_free(object)
@@ -42,7 +43,10 @@ impl Monitors {
             UndoRecord::Rel { object, number } | UndoRecord::WaitRel { object, number } => {
                 self.is_held(object, lane) && self.is_at(object, number)
             }
-            UndoRecord::Put { .. } => self.is_held(guard, lane),
+            UndoRecord::Put { .. } => match guard {
+                Some(object) => self.is_held(object, lane),
+                None => false,
+            },
         }
     }
 

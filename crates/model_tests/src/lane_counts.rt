@@ -73,21 +73,23 @@ fn a_lane_is_counted(rt: HostRuntime) {
     assert!(rt; told_of_lane() == (counted, [true, false, true]));
 }
 
-// Whether the lane may take the monitor at 5 and at 6, store under it, and free it at 5.
-fn allowed(monitors: &Monitors, lane: Lane, object: ObjectId) -> [bool; 4]
+// Whether the lane may take the monitor at 5 and at 6, store to a field under it, to one of which logs keep no store, and
+// free it at 5.
+fn allowed(monitors: &Monitors, lane: Lane, object: ObjectId) -> [bool; 5]
     requires { object.0 < 4096 }
 {
     [
-        monitors.allows(lane, UndoRecord::Acq { object, number: 5 }, object),
-        monitors.allows(lane, UndoRecord::Acq { object, number: 6 }, object),
-        monitors.allows(lane, STORE, object),
-        monitors.allows(lane, UndoRecord::Rel { object, number: 5 }, object),
+        monitors.allows(lane, UndoRecord::Acq { object, number: 5 }, None),
+        monitors.allows(lane, UndoRecord::Acq { object, number: 6 }, None),
+        monitors.allows(lane, STORE, Some(object)),
+        monitors.allows(lane, STORE, None),
+        monitors.allows(lane, UndoRecord::Rel { object, number: 5 }, None),
     ]
 }
 
 // What the first lane may do at first, what it and the second may do once it has taken the monitor, and the second once it is
 // free again.
-fn told_of_monitor(first: Lane, second: Lane, object: ObjectId) -> [[bool; 4]; 4]
+fn told_of_monitor(first: Lane, second: Lane, object: ObjectId) -> [[bool; 5]; 4]
     requires { object.0 < 4096 }
 {
     let mut monitors = Monitors::free_at([5; 4096]);
@@ -103,10 +105,10 @@ fn told_of_monitor(first: Lane, second: Lane, object: ObjectId) -> [[bool; 4]; 4
 #[test]
 fn a_monitor_goes_from_lane_to_lane(rt: HostRuntime) {
     let wanted = [
-        [true, false, false, false],
-        [false, false, true, true],
-        [false; 4],
-        [false, true, false, false],
+        [true, false, false, false, false],
+        [false, false, true, false, true],
+        [false; 5],
+        [false, true, false, false, false],
     ];
     assert!(rt; told_of_monitor(Lane(0), Lane(31), ObjectId(4095)) == wanted);
 }

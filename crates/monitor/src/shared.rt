@@ -75,6 +75,15 @@ impl Shared {
         self.schema.guard(field)
     }
 
+    /// Whether logs keep the field's stores. Those of a transient field they don't.
+    pub fn is_logged(&self, field: FieldId) -> bool
+        requires { field.0 < fields self.now.plan }
+        ensures { result ≡ (setting_of self.now.plan).is_logged field.0 }
+    {
+        let _total = self.field_total;
+        !self.schema.transient(field)
+    }
+
     /// The bound on release numbers, below 2^40: a monitor that has become free so often is never taken again.
     pub fn last(&self) -> u64
         ensures last { result ≡ self.now.plan.last }

@@ -1,12 +1,12 @@
 -- The names of numbered objects and fields are all different.
-use Rattle.std.proofs.Common.{ℕ, zero, suc, ◌≡◌, ◌+◌, ◌<◌, ◌≤◌, ◌^◌, ◌⊎◌, List, [], ◌∷◌, ◌++◌, Result, Err, length, get_or, Contains, codes, decimal, inl, inr, refl, sym, ap, ◌∙◌, subst, arith}
+use Rattle.std.proofs.Common.{ℕ, zero, suc, ◌≡◌, ◌+◌, ◌<◌, ◌≤◌, ◌^◌, ◌⊎◌, List, [], ◌∷◌, ◌++◌, Result, Err, false, length, get_or, Contains, codes, decimal, inl, inr, refl, sym, ap, ◌∙◌, subst, arith}
 use Rattle.std.proofs.lemmas.List.{append_cancel_left, length-append}
 use Rattle.std.proofs.lemmas.List.Elements.{Contains-append_cases, Contains-push_cases}
 use Rattle.std.proofs.lemmas.Fmt.{decimal_injective}
 use Rattle.guards.specs.declared.error.SchemaError.{SchemaError}
 use Rattle.guards.specs.declared.error.SchemaError.TheVariants.{Empty, DoubleName, UnknownObject, TooMany, NoMemory}
 use Rattle.heap_model.specs.declared.limits.TheConstants.{MOST_FIELDS, MOST_OBJECTS}
-use Rattle.guards.specs.Schema.{Declarations, Field, IsNewName, field_count, field_of, firsts_of, guards_of, names_of, object_count, owners_of, with_field}
+use Rattle.guards.specs.Schema.{Declarations, Field, IsNewName, field_count, field_of, firsts_of, guards_of, marks_of, names_of, object_count, owners_of, with_field}
 use Rattle.image.specs.Guards.{NamesObjects}
 use Rattle.image.specs.declared.guard_row.GuardRow.{GuardRow}
 use Rattle.numbered_schema.specs.Rows.{RefusesObject, RefusesRow, RefusesRows, field_name, fields_from, names_below, numbered, object_name}
@@ -23,12 +23,12 @@ fields_are k [] = refl
 fields_are k (r ∷ rows) = ap suc (fields_are (suc k) rows)
 
 -- one field more
-pub fields_more : (k : ℕ) (rows : List GuardRow) (r : GuardRow) → fields_from k (rows ++ r ∷ []) ≡ fields_from k rows ++ field_of (field_name (k + length rows)) r.owner r.guard r.first ∷ []
-fields_more k [] r = ap (λ (n : ℕ). field_of (field_name n) r.owner r.guard r.first ∷ []) (omega arith)
+pub fields_more : (k : ℕ) (rows : List GuardRow) (r : GuardRow) → fields_from k (rows ++ r ∷ []) ≡ fields_from k rows ++ field_of (field_name (k + length rows)) r.owner r.guard r.first r.transient ∷ []
+fields_more k [] r = ap (λ (n : ℕ). field_of (field_name n) r.owner r.guard r.first r.transient ∷ []) (omega arith)
 fields_more k (x ∷ rows) r =
     let same : suc k + length rows ≡ k + suc (length rows) = omega arith in
-    ap (λ (fs : List Field). field_of (field_name k) x.owner x.guard x.first ∷ fs)
-    (fields_more (suc k) rows r ∙ ap (λ (n : ℕ). fields_from (suc k) rows ++ field_of (field_name n) r.owner r.guard r.first ∷ []) same)
+    ap (λ (fs : List Field). field_of (field_name k) x.owner x.guard x.first x.transient ∷ fs)
+    (fields_more (suc k) rows r ∙ ap (λ (n : ℕ). fields_from (suc k) rows ++ field_of (field_name n) r.owner r.guard r.first r.transient ∷ []) same)
 
 object_named : (n : ℕ) (x : List ℕ) → Contains (names_below n) x → (j : ℕ) × (j < n) × (object_name j ≡ x)
 object_named zero x has = absurd (none_yet x has)
@@ -80,6 +80,11 @@ first_at k [] f d low = absurd (omega arith)
 first_at k (r ∷ rows) zero d low = refl
 first_at k (r ∷ rows) (suc f) d low = first_at (suc k) rows f d (omega arith)
 
+pub mark_at : (k : ℕ) (rows : List GuardRow) (f : ℕ) (d : GuardRow) → f < length rows → get_or (marks_of (fields_from k rows)) f false ≡ (get_or rows f d).transient
+mark_at k [] f d low = absurd (omega arith)
+mark_at k (r ∷ rows) zero d low = refl
+mark_at k (r ∷ rows) (suc f) d low = mark_at (suc k) rows f d (omega arith)
+
 pub owner_at : (k : ℕ) (rows : List GuardRow) (f : ℕ) (d : GuardRow) → f < length rows → get_or (owners_of (fields_from k rows)) f 0 ≡ (get_or rows f d).owner.0
 owner_at k [] f d low = absurd (omega arith)
 owner_at k (r ∷ rows) zero d low = refl
@@ -114,11 +119,11 @@ row_refused objects before r b name NoMemory is named small empty double unknown
 
 -- one field more, behind what was declared
 pub row_declared : (objects : ℕ) (before : List GuardRow) (r : GuardRow) (b after : Declarations) (name : List ℕ) → b ≡ numbered objects before → name ≡ field_name (length before)
-    → after ≡ with_field b (field_of name r.owner r.guard r.first) → after ≡ numbered objects (before ++ r ∷ [])
+    → after ≡ with_field b (field_of name r.owner r.guard r.first r.transient) → after ≡ numbered objects (before ++ r ∷ [])
 row_declared objects before r b after name is named made = made
-    ∙ ap (λ (d : Declarations). with_field d (field_of name r.owner r.guard r.first)) is
-    ∙ ap (λ (x : List ℕ). with_field (numbered objects before) (field_of x r.owner r.guard r.first)) named
-    ∙ ap (λ (n : ℕ). with_field (numbered objects before) (field_of (field_name n) r.owner r.guard r.first)) (omega arith)
+    ∙ ap (λ (d : Declarations). with_field d (field_of name r.owner r.guard r.first r.transient)) is
+    ∙ ap (λ (x : List ℕ). with_field (numbered objects before) (field_of x r.owner r.guard r.first r.transient)) named
+    ∙ ap (λ (n : ℕ). with_field (numbered objects before) (field_of (field_name n) r.owner r.guard r.first r.transient)) (omega arith)
     ∙ ap (λ (fs : List Field). record { objects = names_below objects; fields = fs }) (sym (fields_more 0 before r))
 
 -- nothing is declared only where nothing was to be

@@ -21,7 +21,7 @@ names_below (suc k) = names_below k ++ object_name k ∷ []
 -- the fields of these rows, numbered from here on
 abbrev pub fields_from : ℕ → List GuardRow → List Field
 fields_from k [] = []
-fields_from k (r ∷ rows) = field_of (field_name k) r.owner r.guard r.first ∷ fields_from (suc k) rows
+fields_from k (r ∷ rows) = field_of (field_name k) r.owner r.guard r.first r.transient ∷ fields_from (suc k) rows
 
 -- so many objects, and a field for each row
 abbrev pub numbered : ℕ → List GuardRow → Declarations

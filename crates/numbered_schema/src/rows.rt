@@ -1,15 +1,17 @@
 //! A schema whose objects and fields are numbered alone.
 ghost use Rattle.std.specs.Prelude.{◌≡◌, ◌++◌, ◌∷◌, [], ℕ, suc, List, IfErr, IfOk, OnOk, codes, decimal};
+ghost use Rattle.guards.specs.Declaring.{Declares};
 ghost use Rattle.guards.specs.Schema.{field_count, object_count};
 ghost use Rattle.numbered_schema.specs.Rows.{RefusesObject, RefusesRow, RefusesRows, field_name, object_name, numbered};
 ghost use Rattle.image.specs.declared.guard_row.GuardRow.{GuardRow as Row};
 
 use guards::{Schema, SchemaBuilder, SchemaError};
+use heap_model::FieldId;
 use image::GuardRow;
 use std::alloc::Global;
 
-/// The schema of so many objects and of these fields, each by its owner, its guard and its first value. Object i is named `oi`, and
-/// field i `fi`.
+/// The schema of so many objects and of these fields, each by its owner, its guard, its first value and its mark. Object i is named
+/// `oi`, and field i `fi`.
 ///
 /// Refusals, as they are met: `TooMany` objects; then by field `UnknownObject` and `TooMany`; `Empty` for no object or no field;
 /// `NoMemory` at any time.
@@ -88,8 +90,23 @@ fn declare_row(alloc: Global, builder: &mut SchemaBuilder, row: GuardRow) -> Res
     let Ok(name) = format!(in alloc; "f{number}") else {
         return Err(SchemaError::NoMemory);
     };
-    match builder.field(row.owner, name.as_str(), row.guard, row.first) {
+    match declare_named(builder, name.as_str(), row) {
         Ok(_) => Ok(()),
         Err(refusal) => Err(refusal),
+    }
+}
+
+// The field of this row under this name, transient where it is marked so.
+fn declare_named(
+    builder: &mut SchemaBuilder,
+    name: &str,
+    row: GuardRow,
+) -> Result<FieldId, SchemaError>
+    ensures { Declares row.owner name.now row.guard row.first row.transient builder.old result builder.new }
+{
+    if row.transient {
+        builder.transient(row.owner, name, row.guard, row.first)
+    } else {
+        builder.field(row.owner, name, row.guard, row.first)
     }
 }

@@ -1,5 +1,4 @@
 -- The promise: the monitors, threads and values of a schema, as a plain state. Public clauses state it.
 pub mod Table
-pub mod Logged
 pub mod WaitSets
 pub mod Monitor

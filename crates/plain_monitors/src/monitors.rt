@@ -3,7 +3,7 @@ ghost use Rattle.std.specs.Prelude.{◌≡◌, ◌≢◌, ◌<◌, ◌≤◌, �
 ghost use Rattle.guards.specs.Schema.{Declarations, object_count, field_count, guard_of, first_of};
 ghost use Rattle.heap_model.specs.State.{initial_state, Awake};
 ghost use Rattle.heap_model.specs.Events.{MayDo};
-ghost use Rattle.plain_monitors.specs.Logged.{logged};
+ghost use Rattle.heap_model.specs.History.{logged};
 ghost use Rattle.plain_monitors.specs.Monitor.{MayRise};
 ghost use Rattle.plain_monitors.specs.Table.{monitor_at, pause_at, lanes_of, setting_of, state_of, IsWhole, IsStepOf, IsAfter};
 ghost use Rattle.plain_monitors.specs.WaitSets.{IsPauseOf};
@@ -252,7 +252,7 @@ impl Monitors {
         requires allowed { MayDo (setting_of self.old) (state_of self.old) thread.0 event.now }
         ensures ok { OnOk result (IsAfter self.old thread.0 event.now self.new) }
         ensures err { OnErr result (self.new ≡ self.old) }
-        ensures nested { OnErr result (logged event.now ≡ None) }
+        ensures nested { OnErr result (logged (setting_of self.old) event.now ≡ None) }
     {
         // The table is whole: there is a place for each object and each field.
         let _ = &self.monitors;

@@ -1,5 +1,5 @@
 -- A pool as a schema declares it (this project's own): an object, the field of its head, and a field of each slot.
-use Rattle.std.specs.Prelude.{ℕ, zero, suc, ◌≡◌, ◌≢◌, ◌+◌, ◌==◌, ◌<◌, ◌≤◌, ◌⊎◌, if◌then◌else◌, List, [], ◌++◌, Contains, Result, Ok, Err, codes, decimal, slice_get}
+use Rattle.std.specs.Prelude.{ℕ, zero, suc, ◌≡◌, ◌≢◌, ◌+◌, ◌==◌, ◌<◌, ◌≤◌, ◌⊎◌, if◌then◌else◌, false, List, [], ◌++◌, Contains, Result, Ok, Err, codes, decimal, slice_get}
 use Rattle.std.specs.List.{range_with_len}
 use Rattle.heap_model.specs.declared.limits.TheConstants.{MOST_OBJECTS, MOST_FIELDS}
 use Rattle.guards.specs.declared.error.SchemaError.{SchemaError}
@@ -24,9 +24,9 @@ slot_name name s = cell_name name (decimal s)
 abbrev pub first_link : (slots slot : ℕ) → ℕ
 first_link n s = if s + 1 == n then 0 else s + 2
 
--- a field that the pool's object owns and guards
+-- a persistent field that the pool's object owns and guards
 abbrev pub cell_field : (name : List ℕ) → (object first : ℕ) → Field
-cell_field name o first = record { name = name; owner = o; guard = o; first = first }
+cell_field name o first = record { name = name; owner = o; guard = o; first = first; is_transient = false }
 
 -- the first `k` of the slots' fields are declared, in order
 abbrev pub with_slots : Declarations → List ℕ → (object slots : ℕ) → (k : ℕ) → Declarations

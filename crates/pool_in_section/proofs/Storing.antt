@@ -1,5 +1,5 @@
 -- A session's store to two fields, as that to two cells.
-use Rattle.std.proofs.Common.{ℕ, ◌≡◌, ◌+◌, ◌<◌, ◌≤◌, ◌⊎◌, inl, inr, Option, Some, None, Result, Ok, Err, MatchResult, OnOk, IfErr, refl, sym, ap, ◌∙◌, subst}
+use Rattle.std.proofs.Common.{ℕ, ◌≡◌, ◌+◌, ◌<◌, ◌≤◌, ◌⊎◌, nat_lt, if◌then◌else◌, inl, inr, Option, Some, None, Result, Ok, Err, MatchResult, OnOk, IfErr, refl, sym, ap, ◌∙◌, subst}
 use Rattle.std.proofs.lemmas.Bool.{cases_lt, lt-ltb, le-ltb}
 use Rattle.heap_model.specs.declared.limits.TheConstants.{SECTION_RECORDS}
 use Rattle.heap_model.specs.declared.ids.FieldId.{FieldId}
@@ -9,10 +9,10 @@ use Rattle.steps.specs.Views.{View, hold, IsHeld}
 use Rattle.session.specs.declared.error.SessionError.{SessionError}
 use Rattle.session.specs.declared.error.SessionError.TheVariants.{UnknownField, NotHeld, SectionFull}
 use Rattle.session.specs.Logs.{section_records, held_count}
-use Rattle.session.specs.Calls.{IsQuiet, IsFull}
+use Rattle.session.specs.Calls.{IsQuiet, LacksRoom}
 use Rattle.session.specs.TwoStores.{StoresTwo}
 use Rattle.pool.specs.Knowledge.{Stores, FailsToStore}
-use Rattle.pool_in_section.specs.Knowing.{where_held, full_fault_in, store_fault_in, knowledge_in}
+use Rattle.pool_in_section.specs.Knowing.{where_held, full_fault_in, records_of_two, store_fault_in, knowledge_in}
 use Rattle.pool_in_section.proofs.Loading.{where_true, where_false}
 
 -- what a store to two answers
@@ -21,26 +21,31 @@ Answers g v w f x h y r = MatchResult r (λ _. Stores (knowledge_in g v.events) 
 
 -- of fields that there are, the fault is that of the monitors
 due_by_holds : (v : View) (f h : FieldId) → f.0 < v.plan.fields → h.0 < v.plan.fields → (a b : Option Hold) → hold v (v.plan.guard f.0) ≡ a → hold v (v.plan.guard h.0) ≡ b →
-    store_fault_in v.plan v.events f.0 h.0 ≡ where_held a (where_held b (full_fault_in v.plan v.events))
+    store_fault_in v.plan v.events f.0 h.0 ≡ where_held a (where_held b (full_fault_in v.plan v.events (records_of_two v.plan f.0 h.0)))
 due_by_holds v f h low low_too a b is_a is_b =
     where_true _ _ (Some UnknownField) (lt-ltb f.0 v.plan.fields low) ∙ where_true _ _ (Some UnknownField) (lt-ltb h.0 v.plan.fields low_too)
-    ∙ ap (λ (x : Option Hold). where_held x (where_held (hold v (v.plan.guard h.0)) (full_fault_in v.plan v.events))) is_a
-    ∙ ap (λ (x : Option Hold). where_held a (where_held x (full_fault_in v.plan v.events))) is_b
+    ∙ ap (λ (x : Option Hold). where_held x (where_held (hold v (v.plan.guard h.0)) (full_fault_in v.plan v.events (records_of_two v.plan f.0 h.0)))) is_a
+    ∙ ap (λ (x : Option Hold). where_held a (where_held x (full_fault_in v.plan v.events (records_of_two v.plan f.0 h.0)))) is_b
 
-full : (v : View) → IsFull v 2 → full_fault_in v.plan v.events ≡ Some SectionFull
-full v is = where_true _ (Some SectionFull) None (lt-ltb SECTION_RECORDS (section_records v + held_count v + 2) is)
+full : (v : View) (n : ℕ) → LacksRoom v n → full_fault_in v.plan v.events n ≡ Some SectionFull
+full v n is = where_true _ (if nat_lt SECTION_RECORDS (section_records v + held_count v + n) then Some SectionFull else None) None (lt-ltb 0 n is.0)
+    ∙ where_true _ (Some SectionFull) None (lt-ltb SECTION_RECORDS (section_records v + held_count v + n) is.1)
 
-not_full : (v : View) → (IsFull v 2 → ⊥) → full_fault_in v.plan v.events ≡ None
-not_full v no_room = elim (cases_lt SECTION_RECORDS (section_records v + held_count v + 2)) [
-  | inl is ↦ absurd (no_room is)
-  | inr few ↦ where_false _ (Some SectionFull) None (le-ltb SECTION_RECORDS (section_records v + held_count v + 2) few)
+not_full : (v : View) (n : ℕ) → (LacksRoom v n → ⊥) → full_fault_in v.plan v.events n ≡ None
+not_full v n room = elim (cases_lt 0 n) [
+  | inl some ↦ elim (cases_lt SECTION_RECORDS (section_records v + held_count v + n)) [
+    | inl is ↦ absurd (room (some, is))
+    | inr few ↦ where_true _ (if nat_lt SECTION_RECORDS (section_records v + held_count v + n) then Some SectionFull else None) None (lt-ltb 0 n some)
+        ∙ where_false _ (Some SectionFull) None (le-ltb SECTION_RECORDS (section_records v + held_count v + n) few)
+  ]
+  | inr none ↦ where_false _ (if nat_lt SECTION_RECORDS (section_records v + held_count v + n) then Some SectionFull else None) None (le-ltb 0 n none)
 ]
 
 -- both monitors are held
-of_held : (v w : View) (f : FieldId) (x : ℕ) (h : FieldId) (y : ℕ) (r : Result (Unit {0}) SessionError) → store_fault_in v.plan v.events f.0 h.0 ≡ full_fault_in v.plan v.events →
+of_held : (v w : View) (f : FieldId) (x : ℕ) (h : FieldId) (y : ℕ) (r : Result (Unit {0}) SessionError) → store_fault_in v.plan v.events f.0 h.0 ≡ full_fault_in v.plan v.events (records_of_two v.plan f.0 h.0) →
     StoresTwo v w f x h y r → Answers v.plan v w f x h y r
-of_held v w f x h y (Ok done) due s = record { due = due ∙ not_full v s.0; learned = ap (λ es. (knowledge_in v.plan es).value) s.3.events }
-of_held v w f x h y (Err SectionFull) due s = record { due = due ∙ full v s.0; same = ap (knowledge_in v.plan) s.1.events }
+of_held v w f x h y (Ok done) due s = record { due = due ∙ not_full v (records_of_two v.plan f.0 h.0) s.0; learned = ap (λ es. (knowledge_in v.plan es).value) s.3.events }
+of_held v w f x h y (Err SectionFull) due s = record { due = due ∙ full v (records_of_two v.plan f.0 h.0) s.0; same = ap (knowledge_in v.plan) s.1.events }
 of_held v w f x h y (Err _) due s = absurd s
 
 of_known_fields : (v w : View) (f : FieldId) (x : ℕ) (h : FieldId) (y : ℕ) (r : Result (Unit {0}) SessionError) → f.0 < v.plan.fields → h.0 < v.plan.fields →

@@ -12,6 +12,7 @@ use Rattle.steps.specs.Views.{View, plan, Lengthens}
 use Rattle.session.specs.declared.session.Session.{Session}
 use Rattle.session.specs.declared.error.SessionError.{SessionError}
 use Rattle.session.specs.declared.error.SessionError.TheVariants.{UnknownField, NotHeld, SectionFull}
+use Rattle.session.specs.Calls.{records_of}
 use Rattle.session.specs.Sessions.{SameRing, view_of}
 use Rattle.pool.specs.Knowledge.{Knowledge}
 use Rattle.pool_in_section.specs.declared.in_section.InSection.{InSection}
@@ -32,15 +33,20 @@ where_held (Some h) held = held
 abbrev pub load_fault_in : Setting → List Event → (field : ℕ) → Option SessionError
 load_fault_in g events f = if nat_lt f g.fields then where_held ((own events).hold (g.guard f)) None else Some UnknownField
 
--- why two stores more are refused to a section
-abbrev pub full_fault_in : Setting → List Event → Option SessionError
-full_fault_in g events = if nat_lt SECTION_RECORDS (open_records g events + held_in g events + 2) then Some SectionFull else None
+-- why stores that make so many records are refused to a section
+abbrev pub full_fault_in : Setting → List Event → (records : ℕ) → Option SessionError
+full_fault_in g events n =
+    if nat_lt 0 n then (if nat_lt SECTION_RECORDS (open_records g events + held_in g events + n) then Some SectionFull else None) else None
+
+-- how many records the stores to these two fields make
+abbrev pub records_of_two : Setting → (first second : ℕ) → ℕ
+records_of_two g f h = records_of g (record { 0 = f }) + records_of g (record { 0 = h })
 
 -- why a store to two fields is refused
 abbrev pub store_fault_in : Setting → List Event → (first second : ℕ) → Option SessionError
 store_fault_in g events f h =
     if nat_lt f g.fields
-    then (if nat_lt h g.fields then where_held ((own events).hold (g.guard f)) (where_held ((own events).hold (g.guard h)) (full_fault_in g events)) else Some UnknownField)
+    then (if nat_lt h g.fields then where_held ((own events).hold (g.guard f)) (where_held ((own events).hold (g.guard h)) (full_fault_in g events (records_of_two g f h))) else Some UnknownField)
     else Some UnknownField
 
 -- what a thread knows by its own events: the values that it loaded or stored since it took the field's guard

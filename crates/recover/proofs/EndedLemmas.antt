@@ -1,10 +1,12 @@
 -- The study of a recovered image.
-use Rattle.std.proofs.Common.{ℕ, zero, suc, ◌≡◌, ◌∙◌, ◌+◌, ◌-◌, ◌≤◌, List, [], ◌∷◌, ◌++◌, length, length-append, get_or, replicate, map, reverse, take, refl, sym, ap, subst, arith, Vec, Global}
+use Rattle.std.proofs.Common.{ℕ, zero, suc, ◌≡◌, ◌∙◌, ◌+◌, ◌-◌, ◌≤◌, List, [], ◌∷◌, ◌++◌, length, length-append, get_or, replicate, map, reverse, take, refl, sym, ap, subst, arith, Vec, Global, Option}
 use Rattle.std.proofs.lemmas.List.{length-replicate}
 use Rattle.heap_model.specs.Cuts.{counts_of, IsStable}
 use Rattle.heap_model.specs.Sections.{Section, DependsOn, Earlier, Took, undo_action, holding, ended}
+use Rattle.heap_model.specs.declared.ids.ObjectId.{ObjectId}
 use Rattle.heap_model.specs.declared.record.UndoRecord.{UndoRecord}
-use Rattle.image.specs.Cells.{HasCells}
+use Rattle.image.specs.Cells.{HasHomes}
+use Rattle.image.specs.Guards.{no_row}
 use Rattle.image.specs.Control.{empty_control}
 use Rattle.image.specs.Rows.{empty_row}
 use Rattle.image.specs.Slots.{Shows, other}
@@ -19,7 +21,7 @@ use Rattle.recover.specs.declared.report.Dropped.{Dropped}
 use Rattle.recover.specs.declared.report.Report.{Report}
 use Rattle.recover.specs.declared.studied.Study.{Study}
 use Rattle.recover.specs.Dropping.{AreDropped, AreEntriesOf, sections_after, settled_sections, trimmed_sections, unsettled_sections}
-use Rattle.recover.specs.Logs.{lanes_of, records_of}
+use Rattle.recover.specs.Logs.{lanes_of, records_of, logged_guard_in}
 use Rattle.recover.specs.Reading.{HasFront, Holds}
 use Rattle.recover.specs.Recovery.{IsEnded}
 use Rattle.live_logs.specs.Replay.{Replays}
@@ -37,7 +39,7 @@ rows_empty (suc n) (suc k) = rows_empty n k
 row_empty : (k : ℕ) → row_of (replicate 32 empty_row) k ≡ empty_row
 row_empty k = rows_empty 32 k
 
-replays_none : (guard : ℕ → ℕ) → Replays guard (λ l. []) []
+replays_none : (guard : ℕ → Option ObjectId) → Replays guard (λ l. []) []
 replays_none guard = record {
   replay = record {
     first = λ o. 0;
@@ -67,7 +69,7 @@ at_rest rows l = record {
 none_taken : (settled : ℕ → ℕ) (l i : ℕ) → TakesUnsettled settled (λ m. []) l i → ⊥
 none_taken settled l i takes = takes.took
 
-legal_none : (guard : ℕ → ℕ) (rows : List LaneRow) → AreLegal guard rows (λ m. [])
+legal_none : (guard : ℕ → Option ObjectId) (rows : List LaneRow) → AreLegal guard rows (λ m. [])
 legal_none guard rows = record {
   logs = record { done = []; replays = replays_none guard; rest = at_rest rows };
   inside = none_taken (settled_of rows);
@@ -110,7 +112,7 @@ report_none : (l : Layout) (guards : List GuardRow) (r : Report) → ((lane : �
 report_none l guards r kept dropped undone = record {
   kept_are = λ lane. kept lane ∙ sym (ap (λ (row : LaneRow). row.kept) (row_empty lane));
   done = [];
-  replays = replays_none (guard_in guards);
+  replays = replays_none (logged_guard_in guards);
   dropped_are = subst (λ (xs : List Dropped). AreDropped (replicate 32 empty_row) (λ m. []) [] l.lanes xs) (sym dropped) (dropped_none (replicate 32 empty_row) l.lanes);
   fields = [];
   undone_are = undone_none l guards (replicate 32 empty_row);
@@ -128,9 +130,10 @@ live_none l image = record {
 
 -- an image with nothing logged has the study that says so
 pub study_ended : (image : List ℕ) (s e : Study) → IsEnded s e → HasFront image s.layout s.guards.items → Shows s.layout image (other s.slot) (empty_control (s.control.sequence + 1)) →
-    HasCells s.layout image s.heap.items → length e.records.items ≡ s.layout.lanes → IsStudyOf image e
-study_ended image s e ended front shows cells count =
+    HasHomes s.layout s.guards.items image s.heap.items → length e.records.items ≡ s.layout.lanes → IsStudyOf image e
+study_ended image s e ended front shows homes count =
     let lanes : lanes_of e.records.items ≡ (λ (m : ℕ). let none : List UndoRecord = [] in none) = λ i lane. ap (λ (xs : List UndoRecord). reverse xs) (ended.logs_are lane) i in
+    let version : e.control.version ≡ 2 = ap (λ (c : Control). c.version) ended.control_is in
     let rows : e.control.rows ≡ replicate 32 empty_row = ap (λ (c : Control). c.rows) ended.control_is in
     let front_there : HasFront image e.layout e.guards.items =
     subst (λ (l : Layout). HasFront image l e.guards.items) (sym ended.layout_is) (subst (λ (gs : List GuardRow). HasFront image s.layout gs) (sym ended.guards_are) front) in
@@ -140,19 +143,21 @@ study_ended image s e ended front shows cells count =
     let live : HasLive e.layout image e.control.rows (lanes_of e.records.items) =
     subst (λ (rs : List LaneRow). HasLive e.layout image rs (lanes_of e.records.items)) (sym rows)
     (subst (λ (ls : ℕ → List UndoRecord). HasLive e.layout image (replicate 32 empty_row) ls) (sym lanes) (live_none e.layout image)) in
-    let legal : AreLegal (guard_in e.guards.items) e.control.rows (lanes_of e.records.items) =
-    subst (λ (ls : ℕ → List UndoRecord). AreLegal (guard_in e.guards.items) e.control.rows ls) (sym lanes) (legal_none (guard_in e.guards.items) e.control.rows) in
+    let legal : AreLegal (logged_guard_in e.guards.items) e.control.rows (lanes_of e.records.items) =
+    subst (λ (ls : ℕ → List UndoRecord). AreLegal (logged_guard_in e.guards.items) e.control.rows ls) (sym lanes) (legal_none (logged_guard_in e.guards.items) e.control.rows) in
     let holds : Holds image (held_by e) = record {
-      control = record { front = front_there; shows = shows_there };
+      control = record { front = front_there; shows = shows_there; marks = λ is. absurd (omega (arith, is, version)) };
+      version = version;
       logs = record { count = count ∙ ap (λ (l : Layout). l.lanes) (sym ended.layout_is); live = live };
       legal = legal;
     } in
-    let cells_there : HasCells e.layout image e.heap.items =
-    subst (λ (l : Layout). HasCells l image e.heap.items) (sym ended.layout_is) (subst (λ (xs : List ℕ). HasCells s.layout image xs) (sym ended.heap_is) cells) in
+    let homes_there : HasHomes e.layout e.guards.items image e.heap.items =
+    subst (λ (l : Layout). HasHomes l e.guards.items image e.heap.items) (sym ended.layout_is)
+    (subst (λ (gs : List GuardRow). HasHomes s.layout gs image e.heap.items) (sym ended.guards_are) (subst (λ (xs : List ℕ). HasHomes s.layout s.guards.items image xs) (sym ended.heap_is) homes)) in
     let none : (l : ℕ) (k : OldValue) (o f : ℕ) → HasOld o f (lanes_of e.records.items l) k → ⊥ = λ l k o f had. subst (λ (ls : ℕ → List UndoRecord). HasOld o f (ls l) k) lanes had in
     record {
       holds = holds;
-      stands = stands_for image (held_by e) e.heap.items holds cells_there.size (λ f below. NothingBack (λ l k had out. none l k (guard_in e.guards.items f) f had) (cells_there.each f below));
+      stands = stands_for image (held_by e) e.heap.items holds homes_there.size (λ f below. NothingBack (λ l k had out. none l k (guard_in e.guards.items f) f had) (homes_there.each f no_row below));
       reports = subst (λ (rs : List LaneRow). IsReportOf e.layout e.guards.items rs (lanes_of e.records.items) e.report) (sym rows)
           (subst (λ (ls : ℕ → List UndoRecord). IsReportOf e.layout e.guards.items (replicate 32 empty_row) ls e.report) (sym lanes)
           (report_none e.layout e.guards.items e.report ended.kept_none ended.dropped_none ended.undone_none));

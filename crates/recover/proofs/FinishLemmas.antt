@@ -1,11 +1,11 @@
 -- What putting back and the end of a recovery leave.
 use Rattle.std.proofs.Common.{ℕ, ◌≡◌, ◌+◌, ◌*◌, ◌≤◌, All, List, [], ◌∷◌, refl, ap, inl, inr, arith}
-use Rattle.std.specs.Prelude.{slice_index}
+use Rattle.std.specs.Prelude.{slice_index, slice_index_or}
 use Rattle.heap_model.specs.declared.ids.FieldId.{FieldId}
 use Rattle.block_disk.specs.Device.{Range, Device, SameOutside, synced}
 use Rattle.block_disk.specs.Images.{Always, ImageBut, IsApart, LeavesOnly}
 use Rattle.block_disk.proofs.Images.{always_only, and_then, besides_none, besides_only, besides_survives, image_now, now_too, survives, survives_none, weaker}
-use Rattle.image.specs.Cells.{HasCell, HasCells}
+use Rattle.image.specs.Cells.{HasCell, HasHomes}
 use Rattle.image.specs.Commit.{OldOrNew}
 use Rattle.image.specs.Control.{empty_control}
 use Rattle.image.specs.Layout.{IsLayout, cell_at, record_at}
@@ -15,8 +15,10 @@ use Rattle.image.specs.declared.control.Control.{Control}
 use Rattle.image.specs.declared.layout.Layout.{Layout}
 use Rattle.image.specs.declared.slot.Slot.{Slot}
 use Rattle.image.specs.declared.slot.Slot.TheVariants.{A, B}
-use Rattle.image.proofs.Places.{cell_survives}
+use Rattle.image.specs.declared.guard_row.GuardRow.{GuardRow}
+use Rattle.image.proofs.Places.{home_survives}
 use Rattle.undo_log.specs.OldValues.{NothingBack, FirstBack}
+use Rattle.undo_log.specs.StandsFor.{row_in}
 use Rattle.recover.specs.declared.studied.Study.{Study}
 use Rattle.recover.specs.Ending.{IsEnding}
 use Rattle.recover.specs.Logs.{lanes_of}
@@ -50,7 +52,8 @@ study_kept s t old new has same shows =
     let l : Layout = s.layout in
     let rs : List Range = slot_range t ∷ [] in
     let holds : Holds new (held_by s) = record {
-      control = record { front = front_survives l s.guards.items rs (slot_spared l t) old new has.holds.control.front same; shows = shows };
+      control = record { front = front_survives l s.guards.items rs (slot_spared l t) old new has.holds.control.front same; shows = shows; marks = has.holds.control.marks };
+      version = has.holds.version;
       logs = logs_survive l s.control.rows s.records.items rs (slot_spared l t) old new has.holds.logs same;
       legal = has.holds.legal;
     } in
@@ -58,16 +61,16 @@ study_kept s t old new has same shows =
       holds = holds;
       stands = stands_for new (held_by s) s.heap.items holds has.stands.size (λ f below.
           elim (takes_of old (held_by s) s.heap.items has.holds has.stands f below) [
-            | NothingBack none home ↦ NothingBack none (cell_survives l f (slice_index s.heap.items f) rs (slot_before t (cell_at l f) 8 (omega arith)) old new home same)
+            | NothingBack none home ↦ NothingBack none (home_survives l (row_in s.guards.items f) f (slice_index s.heap.items f) rs (slot_before t (cell_at l f) 8 (omega arith)) old new home same)
             | FirstBack m k had out is first ↦ FirstBack m k had out is first
           ]);
       reports = has.reports;
     }
 
-cells_kept : (l : Layout) (heap : List ℕ) (t : Slot) (old new : List ℕ) → HasCells l old heap → SameOutside (slot_range t ∷ []) old new → HasCells l new heap
-cells_kept l heap t old new has same = record {
+homes_kept : (l : Layout) (guards : List GuardRow) (heap : List ℕ) (t : Slot) (old new : List ℕ) → HasHomes l guards old heap → SameOutside (slot_range t ∷ []) old new → HasHomes l guards new heap
+homes_kept l guards heap t old new has same = record {
   size = has.size;
-  each = λ f below. cell_survives l f (slice_index heap f) (slot_range t ∷ []) (slot_before t (cell_at l f) 8 (omega arith)) old new (has.each f below) same;
+  each = λ f d below. home_survives l (slice_index_or guards f d) f (slice_index heap f) (slot_range t ∷ []) (slot_before t (cell_at l f) 8 (omega arith)) old new (has.each f d below) same;
 }
 
 -- the two slots differ
@@ -92,8 +95,8 @@ module _ (s : Study) (fields : List FieldId) (undone : AreUndone s.layout s.guar
       (now_too old mid (ImageBut old (cell_ranges s.layout fields)) (besides_none old (cell_ranges s.layout fields)) puts mid.now.bytes (image_now mid))
 
   module _ (new : Device) (put : All (λ f. HasCell s.layout f.0 mid.now.bytes (slice_index s.heap.items f.0)) fields) (ends : LeavesOnly mid new (IsEnding s.layout mid s.slot s.control)) where
-    cells : HasCells s.layout mid.now.bytes s.heap.items
-    cells = heap_there s fields undone old.now.bytes mid.now.bytes of put_same put
+    homes : HasHomes s.layout s.guards.items mid.now.bytes s.heap.items
+    homes = heap_there s fields undone old.now.bytes mid.now.bytes of put_same put
 
     here : IsStudyOf mid.now.bytes s
     here = moved.1 mid.now.bytes (image_now mid)
@@ -113,7 +116,7 @@ module _ (s : Study) (fields : List FieldId) (undone : AreUndone s.layout s.guar
           let limits : IsLayout s.layout = of.holds.control.front.layout.header.limits in
           let e = ended_of s (omega (arith, limits.lanes)) in
           let front : HasFront image s.layout s.guards.items = front_there image (changed image c) in
-          let there : HasCells s.layout image s.heap.items = cells_kept s.layout s.heap.items (other s.slot) mid.now.bytes image cells (changed image c) in
+          let there : HasHomes s.layout s.guards.items image s.heap.items = homes_kept s.layout s.guards.items s.heap.items (other s.slot) mid.now.bytes image homes (changed image c) in
           inr (e.0, e.1, study_ended image s e.0 e.1 front shows there e.2)
     ]
 
@@ -136,7 +139,7 @@ module _ (s : Study) (fields : List FieldId) (undone : AreUndone s.layout s.guar
               record {
                 image = record { room = front.layout.room; header = front.layout.header; guards = front.guards_are };
                 control = shows;
-                cells = cells_kept s.layout s.heap.items (other s.slot) mid.now.bytes new.now.bytes cells same;
+                homes = homes_kept s.layout s.guards.items s.heap.items (other s.slot) mid.now.bytes new.now.bytes homes same;
                 durable = rest;
               }
         ]

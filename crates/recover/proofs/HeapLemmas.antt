@@ -11,9 +11,11 @@ use Rattle.heap_model.specs.Log.{lane}
 use Rattle.heap_model.specs.Sections.{ended, undo_action}
 use Rattle.heap_model.specs.declared.ids.FieldId.{FieldId}
 use Rattle.heap_model.specs.declared.ids.Lane.{Lane}
+use Rattle.heap_model.specs.declared.ids.ObjectId.{ObjectId}
 use Rattle.heap_model.specs.declared.record.UndoRecord.{UndoRecord}
 use Rattle.heap_model.specs.declared.record.UndoRecord.TheVariants.{Acq, Rel, WaitRel, Put}
 use Rattle.undo_log.specs.OldValues.{held_since, OldValue, IsOld, HasOld, IsNoLater, TakesBack, NothingBack, FirstBack, IsUnsettled}
+use Rattle.log_state.specs.Monitors.{MayStore}
 use Rattle.live_logs.specs.Replay.{holder, number, IsAllowed, IsGreedy, Replays}
 use Rattle.recover.specs.Heap.{stored, earlier, first_old, AreFields, IsOldOrHome, IsUndone}
 
@@ -49,7 +51,23 @@ one_lane : (l m : ℕ) → (let a : Option Lane = Some (record { 0 = l }) in let
 one_lane l m e = ap number_of e
 
 -- the lane knows since which number it holds what it holds
-module _ (guard first : ℕ → ℕ) (lanes : ℕ → List UndoRecord) where
+module _ (need : ℕ → Option ObjectId) (guard : ℕ → ℕ) (agree : (f : ℕ) (o : ObjectId) → need f ≡ Some o → guard f ≡ o.0) (first : ℕ → ℕ) (lanes : ℕ → List UndoRecord) where
+  -- a lane that may store to a field holds its guard
+  may_hold : (f m : ℕ) (older : List (ℕ × UndoRecord)) → MayStore (need f) older m → holder (guard f) older ≡ Some (record { 0 = m })
+  may_hold f m older may = by (need f) refl may
+    where
+      by : (w : Option ObjectId) → need f ≡ w → MayStore w older m → holder (guard f) older ≡ Some (record { 0 = m })
+      by None is may = absurd may
+      by (Some o) is may = ap (λ (i : ℕ). holder i older) (agree f o is) ∙ may
+
+  -- and logs keep the field's stores
+  may_need : (f m : ℕ) (older : List (ℕ × UndoRecord)) → MayStore (need f) older m → (o : ObjectId) × (need f ≡ Some o)
+  may_need f m older may = by (need f) refl may
+    where
+      by : (w : Option ObjectId) → need f ≡ w → MayStore w older m → (o : ObjectId) × (need f ≡ Some o)
+      by None is may = absurd may
+      by (Some o) is may = (o, is)
+
   -- a record that says nothing of the object
   passes : (o l m : ℕ) (r : UndoRecord) (older : List (ℕ × UndoRecord)) (v : Option ℕ) → held_since o (r ∷ lane l older) ≡ held_since o (lane l older) → held_since o (lane l older) ≡ v → held_since o (lane l ((m, r) ∷ older)) ≡ v
   passes o l m r older v same is = elim (m == l) as (λ t. held_since o (if t then r ∷ lane l older else lane l older) ≡ v) [ true ↦ same ∙ is | false ↦ is ]
@@ -64,7 +82,7 @@ module _ (guard first : ℕ → ℕ) (lanes : ℕ → List UndoRecord) where
         (passes o l m r older (Some (number first o older)) (other e.0) (knows (subst (λ (t : Bool). (if t then None else holder o older) ≡ Some (record { 0 = l })) e.0 h)))
   ]
 
-  holder_knows : (done : List (ℕ × UndoRecord)) (o l : ℕ) → IsGreedy guard first lanes done → holder o done ≡ Some (record { 0 = l }) → held_since o (lane l done) ≡ Some (number first o done)
+  holder_knows : (done : List (ℕ × UndoRecord)) (o l : ℕ) → IsGreedy need first lanes done → holder o done ≡ Some (record { 0 = l }) → held_since o (lane l done) ≡ Some (number first o done)
   holder_knows [] o l greedy h = absurd cc
   holder_knows ((m, Acq p n) ∷ older) o l greedy h = elim (eqb_tells p.0 o) [
     | inl e ↦
@@ -94,19 +112,19 @@ module _ (guard first : ℕ → ℕ) (lanes : ℕ → List UndoRecord) where
   ]
 
   -- what the newest record tells of a store
-  newest : (f m : ℕ) (r : UndoRecord) (older : List (ℕ × UndoRecord)) (k : OldValue) → IsGreedy guard first lanes older → IsAllowed guard first older m r → IsOld (guard f) f (lane m older) r k →
+  newest : (f m : ℕ) (r : UndoRecord) (older : List (ℕ × UndoRecord)) (k : OldValue) → IsGreedy need first lanes older → IsAllowed need first older m r → IsOld (guard f) f (lane m older) r k →
       (k.number ≡ number first (guard f) older) × (holder (guard f) older ≡ Some (record { 0 = m }))
   newest f m (Acq p n) older k greedy allowed h = absurd h
   newest f m (Rel p n) older k greedy allowed h = absurd h
   newest f m (WaitRel p n) older k greedy allowed h = absurd h
   newest f m (Put g before) older k greedy allowed h =
-      let holds : holder (guard f) older ≡ Some (record { 0 = m }) = ap (λ (i : ℕ). holder (guard i) older) (sym h.0) ∙ allowed in
+      let holds : holder (guard f) older ≡ Some (record { 0 = m }) = ap (λ (i : ℕ). holder (guard i) older) (sym h.0) ∙ may_hold g.0 m older allowed in
       let knows = holder_knows older (guard f) m greedy holds in
       let told : held_since (guard f) (lane m older) ≡ Some k.number = h.1 in
       let both : (let a : Option ℕ = Some k.number in let b : Option ℕ = Some (number first (guard f) older) in a ≡ b) = sym told ∙ knows in
       (cc, holds)
 
-  stores_past : (done : List (ℕ × UndoRecord)) (f l : ℕ) (k : OldValue) → IsGreedy guard first lanes done → HasOld (guard f) f (lane l done) k → IsPast (guard f) l k done
+  stores_past : (done : List (ℕ × UndoRecord)) (f l : ℕ) (k : OldValue) → IsGreedy need first lanes done → HasOld (guard f) f (lane l done) k → IsPast (guard f) l k done
   stores_past [] f l k greedy h = absurd h
   stores_past ((m, Acq p n) ∷ older) f l k greedy h = elim (old_cons (guard f) f l m (Acq p n) older k h) [
     | inl i ↦ absurd i.1
@@ -133,8 +151,19 @@ module _ (guard first : ℕ → ℕ) (lanes : ℕ → List UndoRecord) where
     | inr i ↦ stores_past older f l k greedy.0 i
   ]
 
+  -- a lane stored to a field only where logs keep its stores
+  stores_need : (done : List (ℕ × UndoRecord)) (f l : ℕ) (k : OldValue) → IsGreedy need first lanes done → HasOld (guard f) f (lane l done) k → (o : ObjectId) × (need f ≡ Some o)
+  stores_need [] f l k greedy h = absurd h
+  stores_need ((m, Acq p n) ∷ older) f l k greedy h = elim (old_cons (guard f) f l m (Acq p n) older k h) [ inl i ↦ absurd i.1 | inr i ↦ stores_need older f l k greedy.0 i ]
+  stores_need ((m, Rel p n) ∷ older) f l k greedy h = elim (old_cons (guard f) f l m (Rel p n) older k h) [ inl i ↦ absurd i.1 | inr i ↦ stores_need older f l k greedy.0 i ]
+  stores_need ((m, WaitRel p n) ∷ older) f l k greedy h = elim (old_cons (guard f) f l m (WaitRel p n) older k h) [ inl i ↦ absurd i.1 | inr i ↦ stores_need older f l k greedy.0 i ]
+  stores_need ((m, Put g before) ∷ older) f l k greedy h = elim (old_cons (guard f) f l m (Put g before) older k h) [
+    | inl i ↦ let found = may_need g.0 m older greedy.1.allowed in (found.0, ap need (sym i.1.0) ∙ found.1)
+    | inr i ↦ stores_need older f l k greedy.0 i
+  ]
+
   -- an older store is no later than the newest record's
-  before_newest : (f l m : ℕ) (r : UndoRecord) (older : List (ℕ × UndoRecord)) (k j : OldValue) → IsGreedy guard first lanes older → IsAllowed guard first older m r →
+  before_newest : (f l m : ℕ) (r : UndoRecord) (older : List (ℕ × UndoRecord)) (k j : OldValue) → IsGreedy need first lanes older → IsAllowed need first older m r →
       HasOld (guard f) f (lane l older) k → IsOld (guard f) f (lane m older) r j → IsNoLater l k m j
   before_newest f l m r older k j greedy allowed had new =
       let here = newest f m r older j greedy allowed new in
@@ -163,11 +192,11 @@ module _ (guard first : ℕ → ℕ) (lanes : ℕ → List UndoRecord) where
   ]
 
   -- with one more that is the first
-  some_more : (settled : ℕ → ℕ) (f m before : ℕ) (g : FieldId) (older : List (ℕ × UndoRecord)) → IsGreedy guard first lanes older → IsAllowed guard first older m (Put g before) → g.0 ≡ f → settled m ≤ length (lane m older) →
+  some_more : (settled : ℕ → ℕ) (f m before : ℕ) (g : FieldId) (older : List (ℕ × UndoRecord)) → IsGreedy need first lanes older → IsAllowed need first older m (Put g before) → g.0 ≡ f → settled m ≤ length (lane m older) →
       IsFirst settled f older None → IsFirst settled f ((m, Put g before) ∷ older) (Some before)
   some_more settled f m before g older greedy allowed is_field late none =
       let new : OldValue = record { number = number first (guard f) older; place = length (lane m older); section = ended (map undo_action (lane m older)) + 1; before = before } in
-      let holds : holder (guard f) older ≡ Some (record { 0 = m }) = ap (λ (i : ℕ). holder (guard i) older) (sym is_field) ∙ allowed in
+      let holds : holder (guard f) older ≡ Some (record { 0 = m }) = ap (λ (i : ℕ). holder (guard i) older) (sym is_field) ∙ may_hold g.0 m older allowed in
       FirstBack m new (old_now (guard f) f m (Put g before) older new (is_field, holder_knows older (guard f) m greedy holds, refl, refl, refl)) late refl
       (λ n j h out. elim (old_cons (guard f) f n m (Put g before) older j h) [
         | inl a ↦
@@ -178,7 +207,7 @@ module _ (guard first : ℕ → ℕ) (lanes : ℕ → List UndoRecord) where
       ])
 
   -- with one more past the place up to which its lane is settled
-  late_more : (settled : ℕ → ℕ) (f m : ℕ) (r : UndoRecord) (older : List (ℕ × UndoRecord)) → IsGreedy guard first lanes older → IsAllowed guard first older m r → settled m ≤ length (lane m older) →
+  late_more : (settled : ℕ → ℕ) (f m : ℕ) (r : UndoRecord) (older : List (ℕ × UndoRecord)) → IsGreedy need first lanes older → IsAllowed need first older m r → settled m ≤ length (lane m older) →
       IsFirst settled f older None → IsFirst settled f ((m, r) ∷ older) (stored f r)
   late_more settled f m (Acq p n) older greedy allowed late none = none_more settled f m (Acq p n) older none (λ k h le. h)
   late_more settled f m (Rel p n) older greedy allowed late none = none_more settled f m (Rel p n) older none (λ k h le. h)
@@ -188,7 +217,7 @@ module _ (guard first : ℕ → ℕ) (lanes : ℕ → List UndoRecord) where
     | inr e ↦ subst (λ (t : Bool). IsFirst settled f ((m, Put g before) ∷ older) (if t then Some before else None)) (sym e.0) (none_more settled f m (Put g before) older none (λ k h le. e.1 h.0))
   ]
 
-  first_more : (settled : ℕ → ℕ) (f m : ℕ) (r : UndoRecord) (older : List (ℕ × UndoRecord)) (w : Option ℕ) → IsGreedy guard first lanes older → IsAllowed guard first older m r → IsFirst settled f older w →
+  first_more : (settled : ℕ → ℕ) (f m : ℕ) (r : UndoRecord) (older : List (ℕ × UndoRecord)) (w : Option ℕ) → IsGreedy need first lanes older → IsAllowed need first older m r → IsFirst settled f older w →
       IsFirst settled f ((m, r) ∷ older) (earlier w (if nat_le (settled m) (length (lane m older)) then stored f r else None))
   first_more settled f m r older None greedy allowed none = elim (leb_tells (settled m) (length (lane m older))) [
     | inl e ↦ subst (λ (t : Bool). IsFirst settled f ((m, r) ∷ older) (if t then stored f r else None)) (sym e.0) (late_more settled f m r older greedy allowed e.1 none)
@@ -202,37 +231,42 @@ module _ (guard first : ℕ → ℕ) (lanes : ℕ → List UndoRecord) where
       ])
 
   -- a replay meets the first such store first
-  first_is : (settled : ℕ → ℕ) (f : ℕ) (done : List (ℕ × UndoRecord)) → IsGreedy guard first lanes done → IsFirst settled f done (first_old settled f done)
+  first_is : (settled : ℕ → ℕ) (f : ℕ) (done : List (ℕ × UndoRecord)) → IsGreedy need first lanes done → IsFirst settled f done (first_old settled f done)
   first_is settled f [] greedy = λ l k h out. h
   first_is settled f ((m, r) ∷ older) greedy = first_more settled f m r older (first_old settled f older) greedy.0 greedy.1.allowed (first_is settled f older greedy.0)
 
 -- what the walk finds is what the field takes back
-pub takes_back : (guard settled : ℕ → ℕ) (lanes : ℕ → List UndoRecord) (done : List (ℕ × UndoRecord)) (f v : ℕ) (IsHome : ℕ → Type 0) → Replays guard lanes done → IsOldOrHome (first_old settled f done) IsHome v →
+pub takes_back : (need : ℕ → Option ObjectId) (guard : ℕ → ℕ) (agree : (f : ℕ) (o : ObjectId) → need f ≡ Some o → guard f ≡ o.0) (settled : ℕ → ℕ) (lanes : ℕ → List UndoRecord) (done : List (ℕ × UndoRecord)) (f v : ℕ) (IsHome : ℕ → Type 0) → Replays need lanes done → IsOldOrHome (first_old settled f done) IsHome v →
     TakesBack (guard f) f lanes (IsUnsettled settled) IsHome v
-takes_back guard settled lanes done f v IsHome replays is = by_first (first_old settled f done) (first_is guard replays.replay.first lanes settled f done replays.replay.greedy) is
+takes_back need guard agree settled lanes done f v IsHome replays is = by_first (first_old settled f done) (first_is need guard agree replays.replay.first lanes settled f done replays.replay.greedy) is
   where
-    by_first : (w : Option ℕ) → IsFirst guard replays.replay.first lanes settled f done w → IsOldOrHome w IsHome v → TakesBack (guard f) f lanes (IsUnsettled settled) IsHome v
+    by_first : (w : Option ℕ) → IsFirst need guard agree replays.replay.first lanes settled f done w → IsOldOrHome w IsHome v → TakesBack (guard f) f lanes (IsUnsettled settled) IsHome v
     by_first None none home = NothingBack (λ l k h out. none l k (subst (λ (xs : List UndoRecord). HasOld (guard f) f xs k) (replays.all l) h) out) home
     by_first (Some b) (NothingBack none home) same = absurd home
     by_first (Some b) (FirstBack l k h out e least) same = FirstBack l k (subst (λ (xs : List UndoRecord). HasOld (guard f) f xs k) (sym (replays.all l)) h) out (same ∙ e)
         (λ m j had outj. least m j (subst (λ (xs : List UndoRecord). HasOld (guard f) f xs j) (replays.all m) had) outj)
 
 -- the fields for which it finds something are those with such a store
-pub undone_is : (guard settled : ℕ → ℕ) (lanes : ℕ → List UndoRecord) (done : List (ℕ × UndoRecord)) (f : ℕ) → Replays guard lanes done → (first_old settled f done ≢ None) ↔ IsUndone (guard f) f lanes settled
-undone_is guard settled lanes done f replays =
-    let is = first_is guard replays.replay.first lanes settled f done replays.replay.greedy in (
+pub undone_is : (need : ℕ → Option ObjectId) (guard : ℕ → ℕ) (agree : (f : ℕ) (o : ObjectId) → need f ≡ Some o → guard f ≡ o.0) (settled : ℕ → ℕ) (lanes : ℕ → List UndoRecord) (done : List (ℕ × UndoRecord)) (f : ℕ) → Replays need lanes done → (first_old settled f done ≢ None) ↔ IsUndone (guard f) f lanes settled
+undone_is need guard agree settled lanes done f replays =
+    let is = first_is need guard agree replays.replay.first lanes settled f done replays.replay.greedy in (
       (λ some. by_some (first_old settled f done) is some),
       (λ undone none. by_none (first_old settled f done) is none undone),
     )
   where
-    by_some : (w : Option ℕ) → IsFirst guard replays.replay.first lanes settled f done w → w ≢ None → IsUndone (guard f) f lanes settled
+    by_some : (w : Option ℕ) → IsFirst need guard agree replays.replay.first lanes settled f done w → w ≢ None → IsUndone (guard f) f lanes settled
     by_some None none some = absurd (some refl)
     by_some (Some b) (NothingBack none home) some = absurd home
     by_some (Some b) (FirstBack l k h out e least) some = record { lane = l; store = k; had = subst (λ (xs : List UndoRecord). HasOld (guard f) f xs k) (sym (replays.all l)) h; out = out }
 
-    by_none : (w : Option ℕ) → IsFirst guard replays.replay.first lanes settled f done w → w ≡ None → IsUndone (guard f) f lanes settled → ⊥
+    by_none : (w : Option ℕ) → IsFirst need guard agree replays.replay.first lanes settled f done w → w ≡ None → IsUndone (guard f) f lanes settled → ⊥
     by_none None none e undone = none undone.lane undone.store (subst (λ (xs : List UndoRecord). HasOld (guard f) f xs undone.store) (replays.all undone.lane) undone.had) undone.out
     by_none (Some b) is e undone = absurd cc
+
+-- only fields whose stores logs keep have stores in the lanes of a replay
+pub stored_needs : (need : ℕ → Option ObjectId) (guard : ℕ → ℕ) (agree : (f : ℕ) (o : ObjectId) → need f ≡ Some o → guard f ≡ o.0) (lanes : ℕ → List UndoRecord) (done : List (ℕ × UndoRecord)) (f l : ℕ) (k : OldValue) → Replays need lanes done →
+    HasOld (guard f) f (lanes l) k → (o : ObjectId) × (need f ≡ Some o)
+stored_needs need guard agree lanes done f l k replays h = stores_need need guard agree replays.replay.first lanes done f l k replays.replay.greedy (subst (λ (xs : List UndoRecord). HasOld (guard f) f xs k) (replays.all l) h)
 
 -- a list of fields with one more behind
 rises_more : (ns : List ℕ) (i : ℕ) → IsStrictlyIncreasing ns → ((k : ℕ) → k < length ns → slice_index ns k < i) → IsStrictlyIncreasing (ns ++ i ∷ [])

@@ -1,4 +1,5 @@
 pub mod LogLemmas
+pub mod HomeLemmas
 pub mod LegalLemmas
 pub mod ReadingLemmas
 pub mod PuttingLemmas

@@ -11,7 +11,7 @@ use Rattle.undo_log.specs.Area.{HasSpan}
 use Rattle.undo_log.specs.Runs.{IsFull}
 use Rattle.undo_log.specs.StandsFor.{row_of}
 use Rattle.recover.specs.declared.error.RecoverError.{RecoverError}
-use Rattle.recover.specs.declared.error.RecoverError.TheVariants.{Fault, NotFormatted, BadHeader, TooSmall, NoControl, BadControl, Worn, BadRecord, IllegalLog, NoMemory}
+use Rattle.recover.specs.declared.error.RecoverError.TheVariants.{Fault, NotFormatted, BadHeader, TooSmall, NoControl, BadControl, OldVersion, Worn, BadRecord, IllegalLog, NoMemory}
 use Rattle.live_logs.proofs.LaneLemmas.{records_past}
 use Rattle.recover.specs.Logs.{records_of, AreLogs, IsReadTo, IsBadAt, RefusesLane, RefusesLogs}
 
@@ -40,6 +40,7 @@ refused_lane l image rows lane row BadHeader is lt before h = absurd h
 refused_lane l image rows lane row TooSmall is lt before h = absurd h
 refused_lane l image rows lane row NoControl is lt before h = absurd h
 refused_lane l image rows lane row BadControl is lt before h = absurd h
+refused_lane l image rows lane row OldVersion is lt before h = absurd h
 refused_lane l image rows lane row Worn is lt before h = absurd h
 refused_lane l image rows lane row (BadRecord other place) is lt before h =
     let at : (lane.0 < l.lanes) × IsBadAt l image rows lane.0 place × ((m : ℕ) → m < lane.0 → IsReadTo l image rows m (row_of rows m).logged) =

@@ -37,7 +37,7 @@ record Taken (lanes : ℕ → List UndoRecord) (o : ℕ) : Type 0 where
   is : object.0 ≡ o
   took : Contains (lanes lane) (Acq object number)
 
-module _ (guard : ℕ → ℕ) (lanes : ℕ → List UndoRecord) where
+module _ (guard : ℕ → Option ObjectId) (lanes : ℕ → List UndoRecord) where
   held_taken : (first : ℕ → ℕ) (o : ℕ) (k : Lane) (done : List (ℕ × UndoRecord)) → IsGreedy guard first lanes done → holder o done ≡ Some k → Taken lanes o
   held_taken first o k [] greedy held = absurd cc
   held_taken first o k ((l, Acq p n) ∷ older) greedy held = elim (eqb_tells p.0 o) [

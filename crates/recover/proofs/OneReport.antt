@@ -17,7 +17,6 @@ use Rattle.recover.specs.Dropping.{acts_in, trimmed_sections, unsettled_sections
 use Rattle.recover.specs.Heap.{AreFields}
 use Rattle.image.specs.declared.guard_row.GuardRow.{GuardRow}
 use Rattle.image.specs.declared.layout.Layout.{Layout}
-use Rattle.undo_log.specs.StandsFor.{guard_in}
 use Rattle.recover.specs.Live.{ArePushable}
 use Rattle.recover.specs.Recovery.{SameReports}
 use Rattle.recover.specs.Study.{IsReportOf}
@@ -26,6 +25,7 @@ use Rattle.recover.specs.declared.report.Report.{Report}
 use Rattle.recover.specs.declared.report.Why.{Why}
 use Rattle.recover.specs.declared.report.Why.TheVariants.{Unfinished, After, Unsettled}
 use Rattle.recover.proofs.OneReplay.{ends_with, one_replay, same_end}
+use Rattle.recover.specs.Logs.{logged_guard_in}
 use Rattle.recover.proofs.PushingLemmas.{pushable}
 
 -- The section that freed an object at a number is one.
@@ -209,8 +209,8 @@ one_fields P fs gs p q = one_rising fs gs
 -- what an image's parts make of a report
 pub one_report : (l : Layout) (guards : List GuardRow) (rows : List LaneRow) (lanes : ℕ → List UndoRecord) (r t : Report) → IsReportOf l guards rows lanes r → IsReportOf l guards rows lanes t → SameReports r t
 one_report l guards rows lanes r t p q =
-    let done : p.done ≡ q.done = one_replay (guard_in guards) lanes p.done q.done p.replays.replay q.replays.replay in
-    let pushed : ArePushable (acts_in q.done) = pushable (guard_in guards) q.replays.replay.first lanes q.done q.replays.replay.greedy in
+    let done : p.done ≡ q.done = one_replay (logged_guard_in guards) lanes p.done q.done p.replays.replay q.replays.replay in
+    let pushed : ArePushable (acts_in q.done) = pushable (logged_guard_in guards) q.replays.replay.first lanes q.done q.replays.replay.greedy in
     let dropped : AreDropped rows lanes q.done l.lanes r.dropped.items = subst (λ (d : List (ℕ × UndoRecord)). AreDropped rows lanes d l.lanes r.dropped.items) done p.dropped_are in
     let fields : p.fields ≡ q.fields = one_fields _ p.fields q.fields p.undone_are q.undone_are in
     record {

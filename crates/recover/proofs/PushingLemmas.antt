@@ -5,6 +5,7 @@ use Rattle.std.proofs.lemmas.List.{map-append, take-append-drop, take_more, reve
 use Rattle.heap_model.specs.Log.{lane}
 use Rattle.heap_model.specs.Sections.{Action, Takes, Frees, Stores, undo_action, without, holding, ended}
 use Rattle.heap_model.specs.declared.ids.Lane.{Lane}
+use Rattle.heap_model.specs.declared.ids.ObjectId.{ObjectId}
 use Rattle.heap_model.specs.declared.record.UndoRecord.{UndoRecord}
 use Rattle.heap_model.specs.declared.record.UndoRecord.TheVariants.{Acq, Rel, WaitRel, Put}
 use Rattle.dependence.specs.Next.{IsBelow, IsNext}
@@ -41,7 +42,7 @@ below_freed o p k N older h at = elim (eqb_tells p o) [
 ]
 
 -- an object was taken up to its number, and freed below it
-below_number : (guard first : ℕ → ℕ) (lanes : ℕ → List UndoRecord) (o : ℕ) (done : List (ℕ × UndoRecord)) → IsGreedy guard first lanes done → IsBelow o (number first o done + 1) (number first o done) (acts_in done)
+below_number : (guard : ℕ → Option ObjectId) (first : ℕ → ℕ) (lanes : ℕ → List UndoRecord) (o : ℕ) (done : List (ℕ × UndoRecord)) → IsGreedy guard first lanes done → IsBelow o (number first o done + 1) (number first o done) (acts_in done)
 below_number guard first lanes o [] h = tt
 below_number guard first lanes o ((l, Acq p k) ∷ older) h = ((λ e. (let at : number first o older ≡ k = ap (λ (x : ℕ). number first x older) (sym e) ∙ h.1.allowed.1 in omega arith)), below_number guard first lanes o older h.0)
 below_number guard first lanes o ((l, Rel p k) ∷ older) h = below_freed o p.0 k (number first o older) (acts_in older) (below_number guard first lanes o older h.0) (λ e. ap (λ (x : ℕ). number first x older) (sym e) ∙ h.1.allowed.1)
@@ -58,7 +59,7 @@ free_freed o p k N was older h at rest free = elim (eqb_tells p o) [
       ((λ same. absurd (e.1 same)), rest (subst (λ (b : Bool). (if b then None else was) ≡ None) e.0 free))
 ]
 
-below_free : (guard first : ℕ → ℕ) (lanes : ℕ → List UndoRecord) (o : ℕ) (done : List (ℕ × UndoRecord)) → IsGreedy guard first lanes done → holder o done ≡ None → IsBelow o (number first o done) (number first o done) (acts_in done)
+below_free : (guard : ℕ → Option ObjectId) (first : ℕ → ℕ) (lanes : ℕ → List UndoRecord) (o : ℕ) (done : List (ℕ × UndoRecord)) → IsGreedy guard first lanes done → holder o done ≡ None → IsBelow o (number first o done) (number first o done) (acts_in done)
 below_free guard first lanes o [] h free = tt
 below_free guard first lanes o ((l, Acq p k) ∷ older) h free = elim (eqb_tells p.0 o) [
   | inl e ↦ absurd (let it : Option Lane = Some (record { 0 = l }) in let some : it ≡ None = subst (λ (b : Bool). (if b then it else holder o older) ≡ None) e.0 free in cc)
@@ -71,20 +72,20 @@ below_free guard first lanes o ((l, WaitRel p k) ∷ older) h free = free_freed 
     (λ e. ap (λ (x : ℕ). number first x older) (sym e) ∙ h.1.allowed.1) (below_free guard first lanes o older h.0) free
 below_free guard first lanes o ((l, Put f v) ∷ older) h free = below_free guard first lanes o older h.0 free
 
-frees_next : (guard first : ℕ → ℕ) (lanes : ℕ → List UndoRecord) (l o n : ℕ) (older : List (ℕ × UndoRecord)) → IsGreedy guard first lanes older → holder o older ≡ Some (record { 0 = l }) → number first o older ≡ n → IsNext (acts_in older) l (Frees o n)
+frees_next : (guard : ℕ → Option ObjectId) (first : ℕ → ℕ) (lanes : ℕ → List UndoRecord) (l o n : ℕ) (older : List (ℕ × UndoRecord)) → IsGreedy guard first lanes older → holder o older ≡ Some (record { 0 = l }) → number first o older ≡ n → IsNext (acts_in older) l (Frees o n)
 frees_next guard first lanes l o n older h held at = (
   subst (λ (xs : List Action). Contains (holding xs) o) (sym (lane_acts l older)) (held_by l o older held),
   subst (λ (x : ℕ). IsBelow o (x + 1) x (acts_in older)) at (below_number guard first lanes o older h),
 )
 
-allowed_next : (guard first : ℕ → ℕ) (lanes : ℕ → List UndoRecord) (l : ℕ) (r : UndoRecord) (older : List (ℕ × UndoRecord)) → IsGreedy guard first lanes older → IsAllowed guard first older l r → IsNext (acts_in older) l (undo_action r)
+allowed_next : (guard : ℕ → Option ObjectId) (first : ℕ → ℕ) (lanes : ℕ → List UndoRecord) (l : ℕ) (r : UndoRecord) (older : List (ℕ × UndoRecord)) → IsGreedy guard first lanes older → IsAllowed guard first older l r → IsNext (acts_in older) l (undo_action r)
 allowed_next guard first lanes l (Acq o n) older h allowed = subst (λ (x : ℕ). IsBelow o.0 x x (acts_in older)) allowed.1 (below_free guard first lanes o.0 older h allowed.0)
 allowed_next guard first lanes l (Rel o n) older h allowed = frees_next guard first lanes l o.0 n older h allowed.0 allowed.1
 allowed_next guard first lanes l (WaitRel o n) older h allowed = frees_next guard first lanes l o.0 n older h allowed.0 allowed.1
 allowed_next guard first lanes l (Put f v) older h allowed = tt
 
 -- what a greedy replay did may be pushed in its order
-pub pushable : (guard first : ℕ → ℕ) (lanes : ℕ → List UndoRecord) (done : List (ℕ × UndoRecord)) → IsGreedy guard first lanes done → ArePushable (acts_in done)
+pub pushable : (guard : ℕ → Option ObjectId) (first : ℕ → ℕ) (lanes : ℕ → List UndoRecord) (done : List (ℕ × UndoRecord)) → IsGreedy guard first lanes done → ArePushable (acts_in done)
 pushable guard first lanes [] h = tt
 pushable guard first lanes ((l, r) ∷ older) h = (allowed_next guard first lanes l r older h.0 h.1.allowed, pushable guard first lanes older h.0)
 

@@ -1,6 +1,6 @@
 -- What each refusal on the way says of the image.
 use Rattle.std.proofs.Common.{ℕ, zero, suc, ◌≡◌, ◌+◌, ◌<◌, List, [], ◌∷◌, sym, ap, ◌∙◌, subst, inl, inr, arith, Vec, Global}
-use Rattle.std.specs.Prelude.{All}
+use Rattle.std.specs.Prelude.{All, true}
 use Rattle.std.proofs.lemmas.Bool.{cases_lt}
 use Rattle.std.proofs.lemmas.List.{reverse-reverse}
 use Rattle.heap_model.specs.declared.record.UndoRecord.{UndoRecord}
@@ -13,12 +13,12 @@ use Rattle.image.specs.declared.control.Control.{Control}
 use Rattle.image.specs.declared.lane_row.LaneRow.{LaneRow}
 use Rattle.image.specs.declared.guard_row.GuardRow.{GuardRow}
 use Rattle.undo_log.specs.Area.{IsLoggable, HasRecords, HasSpan}
-use Rattle.undo_log.specs.StandsFor.{row_of, guard_in}
+use Rattle.undo_log.specs.StandsFor.{is_transient_in, row_of}
 use Rattle.recover.specs.declared.error.RecoverError.{RecoverError}
-use Rattle.recover.specs.declared.error.RecoverError.TheVariants.{Fault, NotFormatted, BadHeader, TooSmall, NoControl, BadControl, Worn, BadRecord, IllegalLog, NoMemory}
-use Rattle.recover.specs.Logs.{records_of, lanes_of, AreLogs, AreLoggable, AreGuards, RefusesLogs}
+use Rattle.recover.specs.declared.error.RecoverError.TheVariants.{Fault, NotFormatted, BadHeader, TooSmall, NoControl, BadControl, OldVersion, Worn, BadRecord, IllegalLog, NoMemory}
+use Rattle.recover.specs.Logs.{records_of, lanes_of, AreLogs, AreLoggable, RefusesLogs, logged_guard_in}
 use Rattle.recover.specs.Settled.{RefusesLegal}
-use Rattle.recover.specs.Reading.{HasLayout, HasControl, RefusesLive, RefusesImage}
+use Rattle.recover.specs.Reading.{HasLayout, HasCurrent, RefusesFront, RefusesLive, RefusesImage}
 use Rattle.live_logs.proofs.LaneLemmas.{records_past}
 
 pub refused_logs : (image : List ℕ) (l : Layout) (guards : List GuardRow) (c : Control) (e : RecoverError) → RefusesLogs l image c.rows e → RefusesLive image l guards c e
@@ -28,32 +28,35 @@ refused_logs image l guards c BadHeader h = h
 refused_logs image l guards c TooSmall h = h
 refused_logs image l guards c NoControl h = h
 refused_logs image l guards c BadControl h = h
+refused_logs image l guards c OldVersion h = h
 refused_logs image l guards c Worn h = h
 refused_logs image l guards c (BadRecord lane place) h = h
 refused_logs image l guards c (IllegalLog lane place) h = absurd h
 refused_logs image l guards c NoMemory h = tt
 
 pub refused_legal : (image : List ℕ) (l : Layout) (guards : List GuardRow) (c : Control) (logs : List (Vec UndoRecord Global)) (e : RecoverError) → AreLogs l image c.rows logs →
-    RefusesLegal (guard_in guards) c.rows (lanes_of logs) e → RefusesLive image l guards c e
+    RefusesLegal (logged_guard_in guards) c.rows (lanes_of logs) e → RefusesLive image l guards c e
 refused_legal image l guards c logs Fault are h = tt
 refused_legal image l guards c logs NotFormatted are h = h
 refused_legal image l guards c logs BadHeader are h = h
 refused_legal image l guards c logs TooSmall are h = h
 refused_legal image l guards c logs NoControl are h = h
 refused_legal image l guards c logs BadControl are h = h
+refused_legal image l guards c logs OldVersion are h = h
 refused_legal image l guards c logs Worn are h = h
 refused_legal image l guards c logs (BadRecord lane place) are h = absurd h
 refused_legal image l guards c logs (IllegalLog lane place) are h = (logs, are, h)
 refused_legal image l guards c logs NoMemory are h = tt
 
 -- what refuses the live records refuses the image
-pub refused_live : (image : List ℕ) (l : Layout) (guards : List GuardRow) (s : Slot) (c : Control) (e : RecoverError) → HasControl image l guards s c → RefusesLive image l guards c e → RefusesImage image e
+pub refused_live : (image : List ℕ) (l : Layout) (guards : List GuardRow) (s : Slot) (c : Control) (e : RecoverError) → HasCurrent image l guards s c → RefusesLive image l guards c e → RefusesImage image e
 refused_live image l guards s c Fault has h = tt
 refused_live image l guards s c NotFormatted has h = absurd h
 refused_live image l guards s c BadHeader has h = absurd h
 refused_live image l guards s c TooSmall has h = absurd h
 refused_live image l guards s c NoControl has h = absurd h
 refused_live image l guards s c BadControl has h = absurd h
+refused_live image l guards s c OldVersion has h = absurd h
 refused_live image l guards s c Worn has h = h
 refused_live image l guards s c (BadRecord lane place) has h = (l, guards, s, c, has, h)
 refused_live image l guards s c (IllegalLog lane place) has h = (l, guards, s, c, has, h)
@@ -79,17 +82,12 @@ logs_loggable l image rows logs are = record {
     span : (lane : ℕ) → lane < l.lanes → HasSpan l lane (row_of rows lane).start (row_of rows lane).logged image (records_of logs lane)
     span lane lt = subst (λ (xs : List UndoRecord). HasSpan l lane (row_of rows lane).start (row_of rows lane).logged image xs) (reverse-reverse (records_of logs lane)) (are.live.live lane lt)
 
--- the guard rows of an image name its objects
-pub guards_named : (l : Layout) (image : List ℕ) (guards : List GuardRow) → HasGuards l image guards → AreGuards l guards
-guards_named l image guards has = record { count = has.size; each = λ f lt. (has.each f (record { guard = record { 0 = 0 }; owner = record { 0 = 0 }; first = 0 }) lt).objects.guard }
-
--- what was read one after the other is there at once
-pub has_control : (d0 d1 d2 : Device) (l : Layout) (guards : List GuardRow) (s : Slot) (c : Control) → SameMoments d0 d1 → SameMoments d1 d2 → HasLayout d0.now.bytes l → HasGuards l d1.now.bytes guards → Shows l d2.now.bytes s c →
-    HasControl d0.now.bytes l guards s c
-has_control d0 d1 d2 l guards s c a b layout has shows = record {
-  front = record { layout = layout; guards_are = subst (λ (m : Moment). HasGuards l m.bytes guards) a.now has };
-  shows = subst (λ (m : Moment). Shows l m.bytes s c) (b.now ∙ a.now) shows;
-}
-
-pub bytes_seen : (d0 d1 d2 d3 : Device) → SameMoments d0 d1 → SameMoments d1 d2 → SameMoments d2 d3 → d3.now.bytes ≡ d0.now.bytes
-bytes_seen d0 d1 d2 d3 a b e = ap (λ (m : Moment). m.bytes) (e.now ∙ b.now ∙ a.now)
+-- a marked row beside a control of version 1 refuses the image
+pub stray_mark : (d0 d1 d2 : Device) (l : Layout) (guards seen : List GuardRow) (s : Slot) (c : Control) (e : RecoverError) → SameMoments d0 d1 → SameMoments d1 d2 → HasLayout d0.now.bytes l → HasGuards l d1.now.bytes guards →
+    Shows l d2.now.bytes s c → seen ≡ guards → (c.version ≡ 1) × ((f : ℕ) × (is_transient_in seen f ≡ true)) → e ≡ BadControl → RefusesFront d0.now.bytes e
+stray_mark d0 d1 d2 l guards seen s c e a b layout has shows same old why =
+    let there : HasGuards l d0.now.bytes guards = subst (λ (m : Moment). HasGuards l m.bytes guards) a.now has in
+    let shown : Shows l d0.now.bytes s c = subst (λ (m : Moment). Shows l m.bytes s c) (b.now ∙ a.now) shows in
+    let marked : is_transient_in guards old.1.0 ≡ true = subst (λ (gs : List GuardRow). is_transient_in gs old.1.0 ≡ true) same old.1.1 in
+    subst (RefusesFront d0.now.bytes) (sym why)
+    (l, guards, record { layout = layout; guards_are = there }, inr (record { slot = s; control = c; shows = shown; version = old.0; field = old.1.0; marked = marked }))

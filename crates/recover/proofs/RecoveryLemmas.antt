@@ -21,13 +21,13 @@ use Rattle.image.proofs.Reading.{guards_are_read, one_layout}
 use Rattle.undo_log.specs.StandsFor.{HasLive, StandsFor}
 use Rattle.undo_log.proofs.OneHeap.{one_heap}
 use Rattle.recover.specs.declared.error.RecoverError.{RecoverError}
-use Rattle.recover.specs.declared.error.RecoverError.TheVariants.{Fault, NotFormatted, BadHeader, TooSmall, NoControl, BadControl, Worn, BadRecord, IllegalLog, NoMemory}
+use Rattle.recover.specs.declared.error.RecoverError.TheVariants.{Fault, NotFormatted, BadHeader, TooSmall, NoControl, BadControl, OldVersion, Worn, BadRecord, IllegalLog, NoMemory}
 use Rattle.recover.specs.declared.findings.Findings.{Findings}
 use Rattle.recover.specs.declared.studied.Study.{Study}
 use Rattle.recover.specs.Ending.{end_calls}
 use Rattle.recover.specs.Logs.{lanes_of, records_of}
 use Rattle.recover.specs.Putting.{put_calls}
-use Rattle.recover.specs.Reading.{HasControl, HasFront, RefusesLive}
+use Rattle.recover.specs.Reading.{HasControl, HasCurrent, HasFront, RefusesLive}
 use Rattle.recover.specs.Recovery.{AreAlike, IsEnded, IsMadeBy, IsOnTheWay, IsWorn, OneStudyLaw, RefusesRecovery, SameHeapLaw, SameStudyLaw, put_back_on}
 use Rattle.recover.specs.Study.{AreUndone, IsReportOf, IsStudyOf}
 use Rattle.recover.proofs.OneReport.{one_report}
@@ -101,7 +101,7 @@ study_moves bytes image a b p q is =
     (subst (λ (c : Control). HasLive a.layout image c.rows (lanes_of b.records.items)) same.controls
     (subst (λ (ls : ℕ → List UndoRecord). HasLive a.layout image a.control.rows ls) lanes is.holds.logs.live)) in
     record {
-      holds = record { control = record { front = front; shows = shows }; logs = record { count = q.holds.logs.count; live = live }; legal = q.holds.legal };
+      holds = record { control = record { front = front; shows = shows; marks = q.holds.control.marks }; version = q.holds.version; logs = record { count = q.holds.logs.count; live = live }; legal = q.holds.legal };
       stands = subst (λ (l : Layout). StandsFor l image b.heap.items) same.layouts (subst (λ (heap : List ℕ). StandsFor a.layout image heap) same.heaps is.stands);
       reports = q.reports;
     }
@@ -129,27 +129,28 @@ way_moves bytes a b p q image (inr (e, ended, is)) = inr (e, ended_moves a b e (
 -- an image whose control has a sequence below the last isn't worn
 pub not_worn : (image : List ℕ) (l : Layout) (guards : List GuardRow) (s : Slot) (c : Control) → HasControl image l guards s c → (c.sequence ≡ 2 ^ 64 - 1 → ⊥) → IsWorn image → ⊥
 not_worn image l guards s c has low worn =
-    let layouts : worn.layout ≡ l = same_layout image worn.layout l worn.shown.front.layout.header has.front.layout.header in
-    let shown : Shows l image worn.slot worn.control = subst (λ (k : Layout). Shows k image worn.slot worn.control) layouts worn.shown.shows in
+    let layouts : worn.layout ≡ l = same_layout image worn.layout l worn.shown.has.front.layout.header has.front.layout.header in
+    let shown : Shows l image worn.slot worn.control = subst (λ (k : Layout). Shows k image worn.slot worn.control) layouts worn.shown.has.shows in
     let both : (let x : Slot × Control = (worn.slot, worn.control) in x ≡ (s, c)) = one_shown l image worn.slot s worn.control c shown has.shows in
     low (sym (ap (λ (x : Slot × Control). x.1.sequence) both) ∙ worn.last)
 
-refused_late : (image : List ℕ) (l : Layout) (guards : List GuardRow) (s : Slot) (c : Control) (e : RecoverError) → HasControl image l guards s c → (IsWorn image → ⊥) → RefusesLive image l guards c e → RefusesRecovery image e
+refused_late : (image : List ℕ) (l : Layout) (guards : List GuardRow) (s : Slot) (c : Control) (e : RecoverError) → HasCurrent image l guards s c → (IsWorn image → ⊥) → RefusesLive image l guards c e → RefusesRecovery image e
 refused_late image l guards s c Fault has low h = tt
 refused_late image l guards s c NotFormatted has low h = absurd h
 refused_late image l guards s c BadHeader has low h = absurd h
 refused_late image l guards s c TooSmall has low h = absurd h
 refused_late image l guards s c NoControl has low h = absurd h
 refused_late image l guards s c BadControl has low h = absurd h
+refused_late image l guards s c OldVersion has low h = absurd h
 refused_late image l guards s c Worn has low h = absurd h
 refused_late image l guards s c (BadRecord lane place) has low h = (low, (l, guards, s, c, has, h))
 refused_late image l guards s c (IllegalLog lane place) has low h = (low, (l, guards, s, c, has, h))
 refused_late image l guards s c NoMemory has low h = tt
 
-pub recoverable_if : (image : List ℕ) (l : Layout) (guards : List GuardRow) (s : Slot) (c : Control) (r : Result Findings RecoverError) → HasControl image l guards s c → (c.sequence ≡ 2 ^ 64 - 1 → ⊥) →
+pub recoverable_if : (image : List ℕ) (l : Layout) (guards : List GuardRow) (s : Slot) (c : Control) (r : Result Findings RecoverError) → HasCurrent image l guards s c → (c.sequence ≡ 2 ^ 64 - 1 → ⊥) →
     MatchResult r (λ found. IsStudyOf image found.study) (RefusesLive image l guards c) → MatchResult r (λ found. IsStudyOf image found.study) (RefusesRecovery image)
 recoverable_if image l guards s c (Ok found) has low h = h
-recoverable_if image l guards s c (Err e) has low h = refused_late image l guards s c e has (not_worn image l guards s c has low) h
+recoverable_if image l guards s c (Err e) has low h = refused_late image l guards s c e has (not_worn image l guards s c has.has low) h
 
 -- Calls.
 

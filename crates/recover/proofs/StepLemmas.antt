@@ -1,11 +1,12 @@
 -- What the steps of a replay say of the lanes' records, and of the graph of them.
-use Rattle.std.proofs.Common.{ℕ, ◌≡◌, ◌+◌, ◌^◌, ◌<◌, ◌≤◌, ◌==◌, if◌then◌else◌, ◌++◌, Bool, true, false, List, [], ◌∷◌, length, map, get_or, take, drop, refl, sym, ap, ◌∙◌, subst, inl, inr, arith, Some, Contains, Vec, Global}
+use Rattle.std.proofs.Common.{ℕ, ◌≡◌, ◌+◌, ◌^◌, ◌<◌, ◌≤◌, ◌==◌, if◌then◌else◌, ◌++◌, Bool, true, false, List, [], ◌∷◌, length, map, get_or, take, drop, refl, sym, ap, ◌∙◌, subst, inl, inr, arith, Some, Contains, Vec, Global, Option}
 use Rattle.std.specs.Prelude.{slice_get}
 use Rattle.std.proofs.lemmas.Bool.{cases_lt, eq-eqb}
 use Rattle.std.proofs.lemmas.List.{length-reverse}
 use Rattle.std.proofs.lemmas.List.Elements.{All-contains}
 use Rattle.heap_model.specs.Log.{lane}
 use Rattle.heap_model.specs.Sections.{Action, undo_action, ended, Section, Did}
+use Rattle.heap_model.specs.declared.ids.ObjectId.{ObjectId}
 use Rattle.heap_model.specs.declared.record.UndoRecord.{UndoRecord}
 use Rattle.heap_model.specs.declared.record.UndoRecord.TheVariants.{Acq, Rel, WaitRel, Put}
 use Rattle.cut_laws.proofs.Lanes.{lane_append}
@@ -73,14 +74,14 @@ lane_there logs l some = elim (cases_lt l (length logs)) [
   | inr le ↦ absurd (omega (arith, length-reverse (records_of logs l), ap (λ (xs : List UndoRecord). length xs) (records_past logs l le)))
 ]
 
-pub done_there : (guard : ℕ → ℕ) (logs : List (Vec UndoRecord Global)) (done : List (ℕ × UndoRecord)) → Replays guard (lanes_of logs) done → (l : ℕ) → 0 < length (lane l done) → l < length logs
+pub done_there : (guard : ℕ → Option ObjectId) (logs : List (Vec UndoRecord Global)) (done : List (ℕ × UndoRecord)) → Replays guard (lanes_of logs) done → (l : ℕ) → 0 < length (lane l done) → l < length logs
 done_there guard logs done replays l some = lane_there logs l (omega (arith, ap (λ (xs : List UndoRecord). length xs) (replays.all l)))
 
 contains_some : (xs : List UndoRecord) (r : UndoRecord) → Contains xs r → 0 < length xs
 contains_some xs r h = omega (arith, h.1)
 
 -- each step is of a lane of the image
-pub steps_low : (guard : ℕ → ℕ) (logs : List (Vec UndoRecord Global)) (steps : List Step) → Replays guard (lanes_of logs) (log_of steps) → (i : ℕ) (d : Step) → i < length steps → (get_or steps i d).lane.0 < length logs
+pub steps_low : (guard : ℕ → Option ObjectId) (logs : List (Vec UndoRecord Global)) (steps : List Step) → Replays guard (lanes_of logs) (log_of steps) → (i : ℕ) (d : Step) → i < length steps → (get_or steps i d).lane.0 < length logs
 steps_low guard logs steps replays i d lt =
     let s : Step = get_or steps i d in
     done_there guard logs (log_of steps) replays s.lane.0 (contains_some (lane s.lane.0 (log_of steps)) s.entry (step_in steps i d lt))
@@ -92,7 +93,7 @@ object_low l (WaitRel o n) h = h.range.0
 object_low l (Put f v) h = tt
 
 -- each step names an object that an image may have
-pub steps_named : (layout : Layout) (guard : ℕ → ℕ) (rows : List LaneRow) (logs : List (Vec UndoRecord Global)) (steps : List Step) → AreLoggable layout rows logs → Replays guard (lanes_of logs) (log_of steps) →
+pub steps_named : (layout : Layout) (guard : ℕ → Option ObjectId) (rows : List LaneRow) (logs : List (Vec UndoRecord Global)) (steps : List Step) → AreLoggable layout rows logs → Replays guard (lanes_of logs) (log_of steps) →
     (i : ℕ) (d : Step) → i < length steps → IsObjectBelow 4096 (get_or steps i d).entry
 steps_named layout guard rows logs steps are replays i d lt =
     let s : Step = get_or steps i d in
@@ -115,7 +116,7 @@ numbers_fit layout rows logs l s limits are loggable live =
     ]
 
 -- the graph of the steps and the lanes' counts answer for each section
-pub ready : (layout : Layout) (guard : ℕ → ℕ) (rows : List LaneRow) (logs : List (Vec UndoRecord Global)) (done : List (ℕ × UndoRecord)) (counts : List LiveSections) (g : Trace) →
+pub ready : (layout : Layout) (guard : ℕ → Option ObjectId) (rows : List LaneRow) (logs : List (Vec UndoRecord Global)) (done : List (ℕ × UndoRecord)) (counts : List LiveSections) (g : Trace) →
     IsLayout layout → AreRows layout rows → AreLoggable layout rows logs → Replays guard (lanes_of logs) done → IsGraphOf done g → ((l : ℕ) → IsLiveIn rows (lanes_of logs) l (live_at counts l)) → IsReady counts g
 ready layout guard rows logs done counts g limits are loggable replays graph live = record {
   base = graph.base_is;

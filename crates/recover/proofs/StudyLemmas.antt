@@ -8,15 +8,15 @@ use Rattle.heap_model.specs.declared.ids.FieldId.{FieldId}
 use Rattle.heap_model.specs.declared.record.UndoRecord.{UndoRecord}
 use Rattle.block_disk.specs.Device.{HasCause}
 use Rattle.block_disk.proofs.Failures.{failed_since}
-use Rattle.image.specs.Cells.{HasCell}
+use Rattle.image.specs.Cells.{HasHome}
 use Rattle.image.specs.declared.control.Control.{Control}
 use Rattle.image.specs.declared.layout.Layout.{Layout}
 use Rattle.image.specs.declared.guard_row.GuardRow.{GuardRow}
 use Rattle.undo_log.specs.OldValues.{TakesBack, IsUnsettled}
-use Rattle.undo_log.specs.StandsFor.{StandsFor, settled_of, guard_in}
+use Rattle.undo_log.specs.StandsFor.{StandsFor, settled_of, guard_in, row_in}
 use Rattle.recover.specs.declared.logged_image.LoggedImage.{LoggedImage}
 use Rattle.recover.specs.declared.error.RecoverError.{RecoverError}
-use Rattle.recover.specs.declared.error.RecoverError.TheVariants.{Fault, NotFormatted, BadHeader, TooSmall, NoControl, BadControl, Worn, BadRecord, IllegalLog, NoMemory}
+use Rattle.recover.specs.declared.error.RecoverError.TheVariants.{Fault, NotFormatted, BadHeader, TooSmall, NoControl, BadControl, OldVersion, Worn, BadRecord, IllegalLog, NoMemory}
 use Rattle.recover.specs.declared.heap.OldHeap.{OldHeap}
 use Rattle.recover.specs.Heap.{AreFields, RefusesHeap}
 use Rattle.recover.specs.Study.{AreUndone}
@@ -25,7 +25,7 @@ use Rattle.recover.specs.Reading.{Holds, RefusesLive}
 
 -- an image whose parts are known stands for what its fields take back
 pub stands_for : (image : List ℕ) (found : LoggedImage) (heap : List ℕ) → Holds image found → length heap ≡ found.layout.fields →
-    ((f : ℕ) → f < found.layout.fields → TakesBack (guard_in found.guards.items f) f (lanes_of found.records.items) (IsUnsettled (settled_of found.control.rows)) (HasCell found.layout f image) (slice_index heap f)) →
+    ((f : ℕ) → f < found.layout.fields → TakesBack (guard_in found.guards.items f) f (lanes_of found.records.items) (IsUnsettled (settled_of found.control.rows)) (HasHome found.layout (row_in found.guards.items f) f image) (slice_index heap f)) →
     StandsFor found.layout image heap
 stands_for image found heap holds size takes = record {
   slot = found.slot;
@@ -42,7 +42,7 @@ stands_for image found heap holds size takes = record {
 -- by what is read of guard rows and records that are the image's
 module _ (image : List ℕ) (found : LoggedImage) (guards : List GuardRow) (logs : List (Vec UndoRecord Global)) (same_guards : guards ≡ found.guards.items) (same_logs : logs ≡ found.records.items) where
   abbrev Takes : List GuardRow → List (Vec UndoRecord Global) → OldHeap → Type 0
-  Takes gs ls old = (f : ℕ) → f < found.layout.fields → TakesBack (guard_in gs f) f (lanes_of ls) (IsUnsettled (settled_of found.control.rows)) (HasCell found.layout f image) (slice_index old.heap.items f)
+  Takes gs ls old = (f : ℕ) → f < found.layout.fields → TakesBack (guard_in gs f) f (lanes_of ls) (IsUnsettled (settled_of found.control.rows)) (HasHome found.layout (row_in gs f) f image) (slice_index old.heap.items f)
 
   abbrev Undone : List GuardRow → List (Vec UndoRecord Global) → OldHeap → Type 0
   Undone gs ls old = AreUndone found.layout gs found.control.rows (lanes_of ls) old.undone.items
@@ -92,6 +92,7 @@ refused_heap image l guards c BadHeader h = h
 refused_heap image l guards c TooSmall h = h
 refused_heap image l guards c NoControl h = h
 refused_heap image l guards c BadControl h = h
+refused_heap image l guards c OldVersion h = h
 refused_heap image l guards c Worn h = h
 refused_heap image l guards c (BadRecord lane place) h = absurd h
 refused_heap image l guards c (IllegalLog lane place) h = absurd h

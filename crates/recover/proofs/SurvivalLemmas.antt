@@ -1,6 +1,6 @@
 -- What a change of home cells leaves of an image, and what one image determines.
-use Rattle.std.proofs.Common.{ℕ, suc, ◌≡◌, ◌+◌, ◌-◌, ◌*◌, ◌<◌, ◌≤◌, ◌∙◌, All, List, [], ◌∷◌, reverse, get_or, refl, sym, ap, subst, inl, inr, arith, Vec, Global, Result, Ok, Err}
-use Rattle.std.specs.Prelude.{Contains, slice_index}
+use Rattle.std.proofs.Common.{ℕ, zero, suc, Bool, true, false, length, ◌≡◌, ◌+◌, ◌-◌, ◌*◌, ◌<◌, ◌≤◌, ◌∙◌, All, List, [], ◌∷◌, reverse, get_or, refl, sym, ap, subst, inl, inr, arith, Vec, Global, Result, Ok, Err}
+use Rattle.std.specs.Prelude.{Contains, slice_index, slice_index_or}
 use Rattle.std.proofs.lemmas.Bool.{cases_lt}
 use Rattle.std.proofs.lemmas.List.{reverse-reverse}
 use Rattle.std.proofs.lemmas.List.Elements.{All-contains, Contains-get_or}
@@ -8,7 +8,7 @@ use Rattle.heap_model.specs.declared.ids.FieldId.{FieldId}
 use Rattle.heap_model.specs.declared.record.UndoRecord.{UndoRecord}
 use Rattle.block_disk.specs.Device.{Range, SameOutside}
 use Rattle.block_disk.specs.Images.{IsApart, Survives}
-use Rattle.image.specs.Cells.{HasCell, HasCells}
+use Rattle.image.specs.Cells.{HasCell, HasHome, HasHomes}
 use Rattle.image.specs.Laws.{AreApart}
 use Rattle.image.specs.Layout.{IsLayout, area_at, cell_at, record_at}
 use Rattle.image.specs.Slots.{Shows}
@@ -20,19 +20,21 @@ use Rattle.image.specs.declared.lane_row.LaneRow.{LaneRow}
 use Rattle.image.specs.declared.layout.Layout.{Layout}
 use Rattle.image.specs.declared.slot.Slot.{Slot}
 use Rattle.image.proofs.Commits.{shows_survives}
-use Rattle.image.proofs.Places.{places, header_survives, guards_survive, cell_survives}
+use Rattle.image.proofs.Places.{places, header_survives, guards_survive, home_survives}
 use Rattle.image.proofs.Reading.{control_is_chosen, guards_are_read}
 use Rattle.undo_log.specs.OldValues.{OldValue, HasOld, TakesBack, NothingBack, FirstBack, IsUnsettled}
-use Rattle.undo_log.specs.StandsFor.{HasLive, StandsFor, row_of, settled_of, guard_in}
+use Rattle.undo_log.specs.StandsFor.{HasLive, StandsFor, row_of, settled_of, guard_in, is_transient_in, row_in}
 use Rattle.undo_log.proofs.Frames.{records_survive}
 use Rattle.undo_log.proofs.OneHeap.{one_span}
 use Rattle.recover.specs.declared.logged_image.LoggedImage.{LoggedImage}
 use Rattle.recover.specs.declared.studied.Study.{Study}
 use Rattle.recover.specs.Heap.{IsUndone}
-use Rattle.recover.specs.Logs.{AreLogs, lanes_of}
+use Rattle.recover.specs.Logs.{AreLogs, lanes_of, logged_guard_in}
 use Rattle.recover.specs.Putting.{cell_ranges}
 use Rattle.recover.specs.Reading.{HasFront, Holds}
-use Rattle.recover.specs.Study.{AreUndone, IsStudyOf, held_by}
+use Rattle.recover.specs.Study.{AreUndone, IsStudyOf, TransientFirstLaw, held_by}
+use Rattle.recover.proofs.HeapLemmas.{stored_needs}
+use Rattle.recover.proofs.HomeLemmas.{logged_agrees, logged_persistent}
 use Rattle.recover.proofs.PuttingLemmas.{cells_apart}
 use Rattle.recover.proofs.StudyLemmas.{stands_for}
 
@@ -126,20 +128,41 @@ one_logs l image rows xs ys p q = λ i lane. one_lane l image rows xs ys p q lan
 
 -- what each field of an image takes back, by its own parts
 pub takes_of : (image : List ℕ) (found : LoggedImage) (heap : List ℕ) → Holds image found → StandsFor found.layout image heap → (f : ℕ) → f < found.layout.fields →
-    TakesBack (guard_in found.guards.items f) f (lanes_of found.records.items) (IsUnsettled (settled_of found.control.rows)) (HasCell found.layout f image) (slice_index heap f)
+    TakesBack (guard_in found.guards.items f) f (lanes_of found.records.items) (IsUnsettled (settled_of found.control.rows)) (HasHome found.layout (row_in found.guards.items f) f image) (slice_index heap f)
 takes_of image found heap holds stands f below =
     let l : Layout = found.layout in
     let rows : stands.control.rows ≡ found.control.rows = ap (λ (x : Slot × Control). x.1.rows) (one_shown l image stands.slot found.slot stands.control found.control stands.shows holds.control.shows) in
     let guards : stands.guards ≡ found.guards.items = guards_are_read l image stands.guards found.guards.items stands.guarded holds.control.front.guards_are in
     let live : HasLive l image found.control.rows stands.lanes = subst (λ (rs : List LaneRow). HasLive l image rs stands.lanes) rows stands.live in
     let lanes : stands.lanes ≡ lanes_of found.records.items = one_logs l image found.control.rows stands.lanes (lanes_of found.records.items) live holds.logs.live in
-    let first : TakesBack (guard_in found.guards.items f) f stands.lanes (IsUnsettled (settled_of stands.control.rows)) (HasCell l f image) (slice_index heap f) =
-    subst (λ (gs : List GuardRow). TakesBack (guard_in gs f) f stands.lanes (IsUnsettled (settled_of stands.control.rows)) (HasCell l f image) (slice_index heap f)) guards (stands.takes f below) in
-    let second : TakesBack (guard_in found.guards.items f) f (lanes_of found.records.items) (IsUnsettled (settled_of stands.control.rows)) (HasCell l f image) (slice_index heap f) =
-    subst (λ (ls : ℕ → List UndoRecord). TakesBack (guard_in found.guards.items f) f ls (IsUnsettled (settled_of stands.control.rows)) (HasCell l f image) (slice_index heap f)) lanes first in
-    subst (λ (rs : List LaneRow). TakesBack (guard_in found.guards.items f) f (lanes_of found.records.items) (IsUnsettled (settled_of rs)) (HasCell l f image) (slice_index heap f)) rows second
+    let first : TakesBack (guard_in found.guards.items f) f stands.lanes (IsUnsettled (settled_of stands.control.rows)) (HasHome l (row_in found.guards.items f) f image) (slice_index heap f) =
+    subst (λ (gs : List GuardRow). TakesBack (guard_in gs f) f stands.lanes (IsUnsettled (settled_of stands.control.rows)) (HasHome l (row_in gs f) f image) (slice_index heap f)) guards (stands.takes f below) in
+    let second : TakesBack (guard_in found.guards.items f) f (lanes_of found.records.items) (IsUnsettled (settled_of stands.control.rows)) (HasHome l (row_in found.guards.items f) f image) (slice_index heap f) =
+    subst (λ (ls : ℕ → List UndoRecord). TakesBack (guard_in found.guards.items f) f ls (IsUnsettled (settled_of stands.control.rows)) (HasHome l (row_in found.guards.items f) f image) (slice_index heap f)) lanes first in
+    subst (λ (rs : List LaneRow). TakesBack (guard_in found.guards.items f) f (lanes_of found.records.items) (IsUnsettled (settled_of rs)) (HasHome l (row_in found.guards.items f) f image) (slice_index heap f)) rows second
 
 -- Put back.
+
+not_both : (b : Bool) → b ≡ true → b ≡ false → ⊥
+not_both b is isnt = absurd (let both : true ≡ false = sym is ∙ isnt in cc)
+
+row_is : (guards : List GuardRow) (f : ℕ) (d : GuardRow) → f < length guards → row_in guards f ≡ slice_index_or guards f d
+row_is [] f d below = absurd (omega (arith, below))
+row_is (row ∷ guards) zero d below = refl
+row_is (row ∷ guards) (suc f) d below = row_is guards f d (omega (arith, below))
+
+-- a field with a live store is persistent
+stored_persistent : (image : List ℕ) (s : Study) → IsStudyOf image s → (f m : ℕ) (k : OldValue) → HasOld (guard_in s.guards.items f) f (lanes_of s.records.items m) k → is_transient_in s.guards.items f ≡ false
+stored_persistent image s has f m k had =
+    let logged = stored_needs (logged_guard_in s.guards.items) (guard_in s.guards.items) (logged_agrees s.guards.items) (lanes_of s.records.items) has.holds.legal.logs.done f m k has.holds.legal.logs.replays had in
+    logged_persistent s.guards.items f logged.0 logged.1
+
+-- a transient field has its first value
+pub transient_first : TransientFirstLaw
+transient_first image s f has below marked = elim (takes_of image (held_by s) s.heap.items has.holds has.stands f below) [
+  | NothingBack none home ↦ home.transient marked
+  | FirstBack m k had out is first ↦ absurd (not_both (is_transient_in s.guards.items f) marked (stored_persistent image s has f m k had))
+]
 
 module _ (s : Study) (fields : List FieldId) (undone : AreUndone s.layout s.guards.items s.control.rows (lanes_of s.records.items) fields) where
   -- the fields are the image's
@@ -165,7 +188,9 @@ module _ (s : Study) (fields : List FieldId) (undone : AreUndone s.layout s.guar
         control = record {
           front = front_survives l s.guards.items rs spared old new has.holds.control.front same;
           shows = shows_survives l s.slot s.control rs (apart_before l fields 64 2096 (omega arith)) old new has.holds.control.shows same;
+          marks = has.holds.control.marks;
         };
+        version = has.holds.version;
         logs = logs_survive l s.control.rows s.records.items rs spared old new has.holds.logs same;
         legal = has.holds.legal;
       } in
@@ -173,22 +198,30 @@ module _ (s : Study) (fields : List FieldId) (undone : AreUndone s.layout s.guar
         holds = holds;
         stands = stands_for new (held_by s) s.heap.items holds has.stands.size (λ f below.
             elim (takes_of old (held_by s) s.heap.items has.holds has.stands f below) [
-              | NothingBack none home ↦ NothingBack none (cell_survives l f (slice_index s.heap.items f) rs (other_cell l fields f (not_undone f none)) old new home same)
+              | NothingBack none home ↦ NothingBack none (home_survives l (row_in s.guards.items f) f (slice_index s.heap.items f) rs (other_cell l fields f (not_undone f none)) old new home same)
               | FirstBack m k had out is first ↦ FirstBack m k had out is first
             ]);
         reports = has.reports;
       }
 
-  -- once they are put back the cells hold the heap
+  home_there : (old new : List ℕ) → IsStudyOf old s → SameOutside (cell_ranges s.layout fields) old new → All (λ f. HasCell s.layout f.0 new (slice_index s.heap.items f.0)) fields →
+      (f : ℕ) → f < s.layout.fields → HasHome s.layout (row_in s.guards.items f) f new (slice_index s.heap.items f)
+  home_there old new has same put f below = elim (takes_of old (held_by s) s.heap.items has.holds has.stands f below) [
+    | NothingBack none home ↦ home_survives s.layout (row_in s.guards.items f) f (slice_index s.heap.items f) (cell_ranges s.layout fields) (other_cell s.layout fields f (not_undone f none)) old new home same
+    | FirstBack m k had out is first ↦
+        let field : FieldId = record { 0 = f } in
+        record {
+          persistent = λ _. All-contains (λ (g : FieldId). HasCell s.layout g.0 new (slice_index s.heap.items g.0)) fields field put
+              ((undone.each field).1 (below, record { lane = m; store = k; had = had; out = out }));
+          transient = λ marked. absurd (not_both (is_transient_in s.guards.items f) marked (stored_persistent old s has f m k had));
+        }
+  ]
+
+  -- once they are put back the fields have the heap at home
   pub heap_there : (old new : List ℕ) → IsStudyOf old s → SameOutside (cell_ranges s.layout fields) old new →
-      All (λ f. HasCell s.layout f.0 new (slice_index s.heap.items f.0)) fields → HasCells s.layout new s.heap.items
+      All (λ f. HasCell s.layout f.0 new (slice_index s.heap.items f.0)) fields → HasHomes s.layout s.guards.items new s.heap.items
   heap_there old new has same put = record {
     size = has.stands.size;
-    each = λ f below. elim (takes_of old (held_by s) s.heap.items has.holds has.stands f below) [
-      | NothingBack none home ↦ cell_survives s.layout f (slice_index s.heap.items f) (cell_ranges s.layout fields) (other_cell s.layout fields f (not_undone f none)) old new home same
-      | FirstBack m k had out is first ↦
-          let field : FieldId = record { 0 = f } in
-          All-contains (λ (g : FieldId). HasCell s.layout g.0 new (slice_index s.heap.items g.0)) fields field put
-          ((undone.each field).1 (below, record { lane = m; store = k; had = had; out = out }))
-    ];
+    each = λ f d below. subst (λ (row : GuardRow). HasHome s.layout row f new (slice_index s.heap.items f)) (row_is s.guards.items f d (omega (arith, below, has.holds.control.front.guards_are.size)))
+        (home_there old new has same put f below);
   }

@@ -1,6 +1,7 @@
 -- An image that has a study isn't refused.
-use Rattle.std.proofs.Common.{ℕ, zero, suc, ◌≡◌, ◌+◌, ◌<◌, ◌⊎◌, List, [], ◌∷◌, length, get_or, reverse, refl, sym, ap, ◌∙◌, subst, inl, inr, arith, Result, Ok, Err, Vec, Global, length-append}
+use Rattle.std.proofs.Common.{ℕ, zero, suc, ◌≡◌, ◌+◌, ◌<◌, ◌⊎◌, List, [], ◌∷◌, length, get_or, reverse, refl, sym, ap, ◌∙◌, subst, inl, inr, arith, Result, Ok, Err, Vec, Global, length-append, Option}
 use Rattle.heap_model.specs.Log.{lane}
+use Rattle.heap_model.specs.declared.ids.ObjectId.{ObjectId}
 use Rattle.heap_model.specs.declared.record.UndoRecord.{UndoRecord}
 use Rattle.heap_model.specs.declared.record.UndoRecord.TheVariants as undo
 use Rattle.image.specs.Guards.{HasGuards}
@@ -16,22 +17,22 @@ use Rattle.image.specs.declared.layout.Layout.{Layout}
 use Rattle.image.specs.declared.slot.Slot.{Slot}
 use Rattle.image.proofs.Reading.{header_is_read, guards_are_read}
 use Rattle.undo_log.specs.Area.{HasRecord, HasRecords}
-use Rattle.undo_log.specs.StandsFor.{row_of, guard_in, HasLive}
-use Rattle.recover.specs.Logs.{AreLogs, IsBadAt, lanes_of}
+use Rattle.undo_log.specs.StandsFor.{row_of, HasLive}
+use Rattle.recover.specs.Logs.{AreLogs, IsBadAt, lanes_of, logged_guard_in}
 use Rattle.recover.specs.Reading.{HasLayout, HasControl, RefusesRows, RefusesImage}
 use Rattle.recover.specs.Recovery.{StudiedLaw}
 use Rattle.live_logs.specs.Replay.{IsStuckAt, Replays}
 use Rattle.recover.specs.Settled.{AreLegal, IsIllegalAt, Stuck, Restless, Crossing}
 use Rattle.recover.specs.Study.{IsStudyOf}
 use Rattle.recover.specs.declared.error.RecoverError.{RecoverError}
-use Rattle.recover.specs.declared.error.RecoverError.TheVariants.{Fault, NotFormatted, BadHeader, TooSmall, NoControl, BadControl, Worn, BadRecord, IllegalLog, NoMemory}
+use Rattle.recover.specs.declared.error.RecoverError.TheVariants.{Fault, NotFormatted, BadHeader, TooSmall, NoControl, BadControl, OldVersion, Worn, BadRecord, IllegalLog, NoMemory}
 use Rattle.recover.specs.declared.studied.Study.{Study}
 use Rattle.recover.proofs.OneReplay.{one_replay}
 use Rattle.recover.proofs.RecoveryLemmas.{same_layout}
 use Rattle.recover.proofs.SurvivalLemmas.{one_shown, one_logs}
 
 -- a replay of all records isn't stuck
-not_stuck : (guard : ℕ → ℕ) (lanes : ℕ → List UndoRecord) (done : List (ℕ × UndoRecord)) (l count : ℕ) → Replays guard lanes done → IsStuckAt guard lanes l count → ⊥
+not_stuck : (guard : ℕ → Option ObjectId) (lanes : ℕ → List UndoRecord) (done : List (ℕ × UndoRecord)) (l count : ℕ) → Replays guard lanes done → IsStuckAt guard lanes l count → ⊥
 not_stuck guard lanes done l count replays stuck =
     let same : stuck.done ≡ done = one_replay guard lanes stuck.done done stuck.replay replays.replay in
     let all : lanes l ≡ lane l stuck.done = replays.all l ∙ ap (λ (d : List (ℕ × UndoRecord)). lane l d) (sym same) in
@@ -40,7 +41,7 @@ not_stuck guard lanes done l count replays stuck =
     omega (arith, long, ap (λ (xs : List UndoRecord). length xs) all)
 
 -- what no test of the logs refuses none refuses
-not_illegal : (guard : ℕ → ℕ) (rows : List LaneRow) (lanes : ℕ → List UndoRecord) (l place : ℕ) → AreLegal guard rows lanes → IsIllegalAt guard rows lanes l place → ⊥
+not_illegal : (guard : ℕ → Option ObjectId) (rows : List LaneRow) (lanes : ℕ → List UndoRecord) (l place : ℕ) → AreLegal guard rows lanes → IsIllegalAt guard rows lanes l place → ⊥
 not_illegal guard rows lanes l place legal (Stuck count stuck at) = not_stuck guard lanes legal.logs.done l count legal.logs.replays stuck
 not_illegal guard rows lanes l place legal (Restless done replays least at) = least.restless (legal.logs.rest l)
 not_illegal guard rows lanes l place legal (Crossing i at_rest least at) = legal.inside l i least.takes
@@ -59,6 +60,9 @@ module _ (image : List ℕ) (s : Study) (of : IsStudyOf image s) where
 
   one_header : (other : Layout) → HasHeader image other → other ≡ s.layout
   one_header other has = same_layout image other s.layout has header
+
+  one_version : (m : Layout) (t : Slot) (c : Control) → m ≡ s.layout → Shows m image t c → c.version ≡ s.control.version
+  one_version m t c is shows = ap (λ (x : Slot × Control). x.1.version) (one_shown s.layout image t s.slot c s.control (subst (λ (k : Layout). Shows k image t c) is shows) of.holds.control.shows)
 
   module _ (m : Layout) (guards : List GuardRow) (t : Slot) (c : Control) (has : HasControl image m guards t c) where
     layout_is : m ≡ s.layout
@@ -88,15 +92,15 @@ module _ (image : List ℕ) (s : Study) (of : IsStudyOf image s) where
         (has_at l lane (row_of rows lane).start image records i none span.each (omega (arith, at, bad.live, span.size))))
 
     -- nor do the logs show anything that no threads leave
-    legal_logs : (logged : List (Vec UndoRecord Global)) → AreLogs m image c.rows logged → (lane place : ℕ) → IsIllegalAt (guard_in guards) c.rows (lanes_of logged) lane place → ⊥
+    legal_logs : (logged : List (Vec UndoRecord Global)) → AreLogs m image c.rows logged → (lane place : ℕ) → IsIllegalAt (logged_guard_in guards) c.rows (lanes_of logged) lane place → ⊥
     legal_logs logged are lane place h =
         let mine : HasLive s.layout image s.control.rows (lanes_of logged) =
         subst (λ (rs : List LaneRow). HasLive s.layout image rs (lanes_of logged)) rows_is (subst (λ (k : Layout). HasLive k image c.rows (lanes_of logged)) layout_is are.live) in
         let lanes : lanes_of logged ≡ lanes_of s.records.items = one_logs s.layout image s.control.rows (lanes_of logged) (lanes_of s.records.items) mine of.holds.logs.live in
-        not_illegal (guard_in s.guards.items) s.control.rows (lanes_of s.records.items) lane place of.holds.legal
-        (subst (λ (rs : List LaneRow). IsIllegalAt (guard_in s.guards.items) rs (lanes_of s.records.items) lane place) rows_is
-        (subst (λ (ls : ℕ → List UndoRecord). IsIllegalAt (guard_in s.guards.items) c.rows ls lane place) lanes
-        (subst (λ (gs : List GuardRow). IsIllegalAt (guard_in gs) c.rows (lanes_of logged) lane place) guards_is h)))
+        not_illegal (logged_guard_in s.guards.items) s.control.rows (lanes_of s.records.items) lane place of.holds.legal
+        (subst (λ (rs : List LaneRow). IsIllegalAt (logged_guard_in s.guards.items) rs (lanes_of s.records.items) lane place) rows_is
+        (subst (λ (ls : ℕ → List UndoRecord). IsIllegalAt (logged_guard_in s.guards.items) c.rows ls lane place) lanes
+        (subst (λ (gs : List GuardRow). IsIllegalAt (logged_guard_in gs) c.rows (lanes_of logged) lane place) guards_is h)))
 
   layout_read : (answer : Result Layout ImageError) → ReadsHeader image answer → (answer ≡ Ok s.layout) ⊎ (answer ≡ Err image_error.Fault)
   layout_read answer reads = header_is_read s.layout image answer header of.holds.control.front.layout.room reads
@@ -111,10 +115,14 @@ module _ (image : List ℕ) (s : Study) (of : IsStudyOf image s) where
   not_refused BadHeader (inr h) = absurd (no_guards h.0 h.1 h.2)
   not_refused TooSmall h = absurd (omega (arith, h.2, of.holds.control.front.layout.room, ap size_of (one_header h.0 h.1)))
   not_refused NoControl h = absurd (h.3 s.slot of.holds.control.shows.is_open)
-  not_refused BadControl h = absurd (h.3.1 s.slot s.control (subst (λ (k : Layout). Shows k image s.slot s.control) (sym (one_header h.0 h.2.layout.header)) of.holds.control.shows))
+  not_refused BadControl h = elim h.3 [
+    | inl none ↦ absurd (none.1 s.slot s.control (subst (λ (k : Layout). Shows k image s.slot s.control) (sym (one_header h.0 h.2.layout.header)) of.holds.control.shows))
+    | inr stray ↦ absurd (omega (arith, stray.version, of.holds.version, one_version h.0 stray.slot stray.control (one_header h.0 h.2.layout.header) stray.shows))
+  ]
+  not_refused OldVersion h = absurd (omega (arith, h.version, of.holds.version, one_version h.layout h.slot h.control (one_header h.layout h.shown.front.layout.header) h.shown.shows))
   not_refused Worn h = absurd h
-  not_refused (BadRecord lane place) h = absurd (not_bad h.0 h.1 h.2 h.3 h.4 lane.0 place h.5.0 h.5.1)
-  not_refused (IllegalLog lane place) h = absurd (legal_logs h.0 h.1 h.2 h.3 h.4 h.5.0 h.5.1 lane.0 place h.5.2)
+  not_refused (BadRecord lane place) h = absurd (not_bad h.0 h.1 h.2 h.3 h.4.has lane.0 place h.5.0 h.5.1)
+  not_refused (IllegalLog lane place) h = absurd (legal_logs h.0 h.1 h.2 h.3 h.4.has h.5.0 h.5.1 lane.0 place h.5.2)
   not_refused NoMemory h = inr refl
 
 pub studied : StudiedLaw

@@ -1,7 +1,8 @@
 -- The lanes' live records, as they were read.
-use Rattle.std.specs.Prelude.{ℕ, ◌≡◌, ◌<◌, ◌+◌, All, List, length, Vec}
+use Rattle.std.specs.Prelude.{ℕ, ◌≡◌, ◌<◌, ◌+◌, if◌then◌else◌, All, List, length, map, slice_index_or, Vec, Option, Some, None}
 use Rattle.std.specs.declared.alloc.Global.{Global}
 use Rattle.heap_model.specs.declared.ids.Lane.{Lane}
+use Rattle.heap_model.specs.declared.ids.ObjectId.{ObjectId}
 use Rattle.heap_model.specs.declared.record.UndoRecord.{UndoRecord}
 use Rattle.image.specs.declared.layout.Layout.{Layout}
 use Rattle.image.specs.declared.lane_row.LaneRow.{LaneRow}
@@ -12,6 +13,14 @@ use Rattle.undo_log.specs.StandsFor.{row_of, guard_in, HasLive}
 pub use Rattle.live_logs.specs.Logs.{records_of, lanes_of}
 use Rattle.recover.specs.declared.error.RecoverError.{RecoverError}
 use Rattle.recover.specs.declared.error.RecoverError.TheVariants.{Fault, BadRecord, NoMemory}
+
+-- the object whose monitor the stores of the row's field need that logs keep; none where it is transient, as logs keep none of them
+abbrev pub logged_guard : GuardRow → Option ObjectId
+logged_guard row = if row.transient then None else Some row.guard
+
+-- the field's, of these rows
+abbrev pub logged_guard_in : List GuardRow → (field : ℕ) → Option ObjectId
+logged_guard_in guards f = slice_index_or (map logged_guard guards) f None
 
 -- these are the lanes' live records of the image
 pub record AreLogs (l : Layout) (image : List ℕ) (rows : List LaneRow) (logs : List (Vec UndoRecord Global)) : Type 0 where

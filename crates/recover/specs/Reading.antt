@@ -1,5 +1,5 @@
 -- Which image is refused, and by what: the first thing that is wrong (docs/FORMAT.md, "Which image is refused").
-use Rattle.std.specs.Prelude.{ℕ, ◌<◌, ◌≤◌, ◌⊎◌, List, length, Err, Vec}
+use Rattle.std.specs.Prelude.{ℕ, ◌≡◌, ◌<◌, ◌≤◌, ◌⊎◌, true, false, List, length, Err, Vec}
 use Rattle.std.specs.declared.alloc.Global.{Global}
 use Rattle.heap_model.specs.declared.record.UndoRecord.{UndoRecord}
 use Rattle.image.specs.Layout.{size_of}
@@ -11,11 +11,11 @@ use Rattle.image.specs.declared.slot.Slot.{Slot}
 use Rattle.image.specs.declared.control.Control.{Control}
 use Rattle.image.specs.declared.guard_row.GuardRow.{GuardRow}
 use Rattle.image.specs.declared.error.ImageError.TheVariants as image_error
-use Rattle.undo_log.specs.StandsFor.{guard_in}
+use Rattle.undo_log.specs.StandsFor.{is_transient_in}
 use Rattle.recover.specs.declared.logged_image.LoggedImage.{LoggedImage}
 use Rattle.recover.specs.declared.error.RecoverError.{RecoverError}
-use Rattle.recover.specs.declared.error.RecoverError.TheVariants.{Fault, NotFormatted, BadHeader, TooSmall, NoControl, BadControl, Worn, BadRecord, IllegalLog, NoMemory}
-use Rattle.recover.specs.Logs.{AreLogs, RefusesLogs, lanes_of}
+use Rattle.recover.specs.declared.error.RecoverError.TheVariants.{Fault, NotFormatted, BadHeader, TooSmall, NoControl, BadControl, OldVersion, Worn, BadRecord, IllegalLog, NoMemory}
+use Rattle.recover.specs.Logs.{AreLogs, RefusesLogs, lanes_of, logged_guard_in}
 use Rattle.recover.specs.Settled.{AreLegal, IsIllegalAt}
 
 -- the image has the header of this layout, and room for it
@@ -50,16 +50,42 @@ pub record HasFront (image : List ℕ) (l : Layout) (guards : List GuardRow) : T
   pub layout : HasLayout image l
   pub guards_are : HasGuards l image guards
 
--- the image has this layout and these guard rows, and shows this control in this slot
+-- the image has this layout and these guard rows, and shows this control in this slot; version 1 is from before there were
+-- transient fields, so that no row is marked
 pub record HasControl (image : List ℕ) (l : Layout) (guards : List GuardRow) (s : Slot) (c : Control) : Type 0 where
   pub front : HasFront image l guards
   pub shows : Shows l image s c
+  pub marks : c.version ≡ 1 → (f : ℕ) → is_transient_in guards f ≡ false
+
+-- a control of version 1 is shown, though the row of this field is marked
+pub record HasStrayMark (image : List ℕ) (l : Layout) (guards : List GuardRow) : Type 0 where
+  pub slot : Slot
+  pub control : Control
+  pub shows : Shows l image slot control
+  pub version : control.version ≡ 1
+  pub field : ℕ
+  pub marked : is_transient_in guards field ≡ true
+
+-- the image has these, and its control is of the version that is read
+pub record HasCurrent (image : List ℕ) (l : Layout) (guards : List GuardRow) (s : Slot) (c : Control) : Type 0 where
+  pub has : HasControl image l guards s c
+  pub version : c.version ≡ 2
+
+-- nothing is wrong with the image's front, but that its control is of version 1
+pub record IsOfOldVersion (image : List ℕ) : Type 0 where
+  pub layout : Layout
+  pub guards : List GuardRow
+  pub slot : Slot
+  pub control : Control
+  pub shown : HasControl image layout guards slot control
+  pub version : control.version ≡ 1
 
 -- what the image holds, where nothing is wrong with it
 pub record Holds (image : List ℕ) (found : LoggedImage) : Type 0 where
   pub control : HasControl image found.layout found.guards.items found.slot found.control
+  pub version : found.control.version ≡ 2
   pub logs : AreLogs found.layout image found.control.rows found.records.items
-  pub legal : AreLegal (guard_in found.guards.items) found.control.rows (lanes_of found.records.items)
+  pub legal : AreLegal (logged_guard_in found.guards.items) found.control.rows (lanes_of found.records.items)
 
 -- A header is bad by itself, or by a guard row; the latter is told of where the device has room for the image.
 abbrev pub HasBadHeader : List ℕ → Type 0
@@ -72,16 +98,28 @@ RefusesFront image NotFormatted = RefusesLayout image NotFormatted
 RefusesFront image BadHeader = HasBadHeader image
 RefusesFront image TooSmall = RefusesLayout image TooSmall
 RefusesFront image NoControl = (l : Layout) × (guards : List GuardRow) × HasFront image l guards × RefusesControl l image NoControl
-RefusesFront image BadControl = (l : Layout) × (guards : List GuardRow) × HasFront image l guards × RefusesControl l image BadControl
+RefusesFront image BadControl = (l : Layout) × (guards : List GuardRow) × HasFront image l guards × (RefusesControl l image BadControl ⊎ HasStrayMark image l guards)
 RefusesFront image NoMemory = Unit {0}
 RefusesFront image _ = ⊥
+
+-- what each refusal to read the front of an image of the version that is read says of it
+abbrev pub RefusesCurrent : List ℕ → RecoverError → Type 0
+RefusesCurrent image Fault = Unit {0}
+RefusesCurrent image NotFormatted = RefusesFront image NotFormatted
+RefusesCurrent image BadHeader = RefusesFront image BadHeader
+RefusesCurrent image TooSmall = RefusesFront image TooSmall
+RefusesCurrent image NoControl = RefusesFront image NoControl
+RefusesCurrent image BadControl = RefusesFront image BadControl
+RefusesCurrent image OldVersion = IsOfOldVersion image
+RefusesCurrent image NoMemory = Unit {0}
+RefusesCurrent image _ = ⊥
 
 -- to read and to replay the live records of an image with this layout, these guard rows and this control
 abbrev pub RefusesLive : List ℕ → Layout → List GuardRow → Control → RecoverError → Type 0
 RefusesLive image l guards c Fault = Unit {0}
 RefusesLive image l guards c (BadRecord lane place) = RefusesLogs l image c.rows (BadRecord lane place)
 RefusesLive image l guards c (IllegalLog lane place) =
-    (logs : List (Vec UndoRecord Global)) × AreLogs l image c.rows logs × IsIllegalAt (guard_in guards) c.rows (lanes_of logs) lane.0 place
+    (logs : List (Vec UndoRecord Global)) × AreLogs l image c.rows logs × IsIllegalAt (logged_guard_in guards) c.rows (lanes_of logs) lane.0 place
 RefusesLive image l guards c NoMemory = Unit {0}
 RefusesLive image l guards c _ = ⊥
 
@@ -93,9 +131,10 @@ RefusesImage image BadHeader = RefusesFront image BadHeader
 RefusesImage image TooSmall = RefusesFront image TooSmall
 RefusesImage image NoControl = RefusesFront image NoControl
 RefusesImage image BadControl = RefusesFront image BadControl
+RefusesImage image OldVersion = IsOfOldVersion image
 RefusesImage image Worn = ⊥
 RefusesImage image (BadRecord lane place) =
-    (l : Layout) × (guards : List GuardRow) × (s : Slot) × (c : Control) × HasControl image l guards s c × RefusesLive image l guards c (BadRecord lane place)
+    (l : Layout) × (guards : List GuardRow) × (s : Slot) × (c : Control) × HasCurrent image l guards s c × RefusesLive image l guards c (BadRecord lane place)
 RefusesImage image (IllegalLog lane place) =
-    (l : Layout) × (guards : List GuardRow) × (s : Slot) × (c : Control) × HasControl image l guards s c × RefusesLive image l guards c (IllegalLog lane place)
+    (l : Layout) × (guards : List GuardRow) × (s : Slot) × (c : Control) × HasCurrent image l guards s c × RefusesLive image l guards c (IllegalLog lane place)
 RefusesImage image NoMemory = Unit {0}

@@ -13,13 +13,13 @@ use Rattle.image.specs.declared.guard_row.GuardRow.{GuardRow}
 use Rattle.image.specs.declared.layout.Layout.{Layout}
 use Rattle.image.specs.declared.slot.Slot.{Slot}
 use Rattle.recover.specs.declared.error.RecoverError.{RecoverError}
-use Rattle.recover.specs.declared.error.RecoverError.TheVariants.{Fault, NotFormatted, BadHeader, TooSmall, NoControl, BadControl, Worn, BadRecord, IllegalLog, NoMemory}
+use Rattle.recover.specs.declared.error.RecoverError.TheVariants.{Fault, NotFormatted, BadHeader, TooSmall, NoControl, BadControl, OldVersion, Worn, BadRecord, IllegalLog, NoMemory}
 use Rattle.recover.specs.declared.report.Report.{Report}
 use Rattle.recover.specs.declared.studied.Study.{Study}
 use Rattle.recover.specs.Ending.{end_calls}
 use Rattle.recover.specs.Logs.{lanes_of, records_of}
 use Rattle.recover.specs.Putting.{put_calls}
-use Rattle.recover.specs.Reading.{HasControl, RefusesImage}
+use Rattle.recover.specs.Reading.{HasCurrent, RefusesImage}
 use Rattle.recover.specs.Study.{AreUndone, IsStudyOf}
 
 -- the study of an image once it was recovered: nothing is logged, and the heap is the same
@@ -76,7 +76,7 @@ pub record IsWorn (image : List ℕ) : Type 0 where
   pub guards : List GuardRow
   pub slot : Slot
   pub control : Control
-  pub shown : HasControl image layout guards slot control
+  pub shown : HasCurrent image layout guards slot control
   pub last : control.sequence ≡ 2 ^ 64 - 1
 
 -- what each refusal to recover an image says of it: the first test that it doesn't pass; the control is tested before the records
@@ -87,6 +87,7 @@ RefusesRecovery image BadHeader = RefusesImage image BadHeader
 RefusesRecovery image TooSmall = RefusesImage image TooSmall
 RefusesRecovery image NoControl = RefusesImage image NoControl
 RefusesRecovery image BadControl = RefusesImage image BadControl
+RefusesRecovery image OldVersion = RefusesImage image OldVersion
 RefusesRecovery image Worn = IsWorn image
 RefusesRecovery image (BadRecord lane place) = (IsWorn image → ⊥) × RefusesImage image (BadRecord lane place)
 RefusesRecovery image (IllegalLog lane place) = (IsWorn image → ⊥) × RefusesImage image (IllegalLog lane place)

@@ -1,6 +1,7 @@
 -- The acknowledged sections of an image's live records, by the rows of its control (this project's own). Lists have their
 -- newest element first; a place is one of the image, and counts the lane's records since the heap was opened.
-use Rattle.std.specs.Prelude.{ℕ, ◌≡◌, ◌+◌, List}
+use Rattle.std.specs.Prelude.{ℕ, ◌≡◌, ◌+◌, List, Option}
+use Rattle.heap_model.specs.declared.ids.ObjectId.{ObjectId}
 use Rattle.heap_model.specs.declared.record.UndoRecord.{UndoRecord}
 use Rattle.image.specs.declared.lane_row.LaneRow.{LaneRow}
 use Rattle.undo_log.specs.StandsFor.{row_of, settled_of}
@@ -27,22 +28,22 @@ abbrev pub IsLeastRestless : List LaneRow → (lanes : ℕ → List UndoRecord) 
 IsLeastRestless rows lanes l = logs.IsLeastRestless (settled_of rows) (kept_of rows) lanes l
 
 -- the logs are those of a legal list, and each lane is at rest where it is settled
-abbrev pub AreAtRest : (guard : ℕ → ℕ) → List LaneRow → (lanes : ℕ → List UndoRecord) → Type 0
+abbrev pub AreAtRest : (guard : ℕ → Option ObjectId) → List LaneRow → (lanes : ℕ → List UndoRecord) → Type 0
 AreAtRest guard rows lanes = logs.AreAtRest guard (settled_of rows) (kept_of rows) lanes
 
 -- what no test of the logs refuses: they are those of a legal list, with whole acknowledged sections that depend on none but such
-abbrev pub AreLegal : (guard : ℕ → ℕ) → List LaneRow → (lanes : ℕ → List UndoRecord) → Type 0
+abbrev pub AreLegal : (guard : ℕ → Option ObjectId) → List LaneRow → (lanes : ℕ → List UndoRecord) → Type 0
 AreLegal guard rows lanes = logs.AreLegal guard (settled_of rows) (kept_of rows) lanes
 
 -- which place each of the three tests names, in their order: where the replay is stuck; the place up to which the least
 -- restless lane is settled; the first acquire from outside
-pub data IsIllegalAt (guard : ℕ → ℕ) (rows : List LaneRow) (lanes : ℕ → List UndoRecord) (l place : ℕ) : Type 0 where
+pub data IsIllegalAt (guard : ℕ → Option ObjectId) (rows : List LaneRow) (lanes : ℕ → List UndoRecord) (l place : ℕ) : Type 0 where
   Stuck : (count : ℕ) → IsStuckAt guard lanes l count → place ≡ (row_of rows l).start + count → IsIllegalAt guard rows lanes l place
   Restless : (done : List (ℕ × UndoRecord)) → Replays guard lanes done → IsLeastRestless rows lanes l → place ≡ (row_of rows l).settled → IsIllegalAt guard rows lanes l place
   Crossing : (i : ℕ) → AreAtRest guard rows lanes → IsLeastUnsettled (settled_of rows) lanes l i → place ≡ (row_of rows l).start + i → IsIllegalAt guard rows lanes l place
 
 -- what each refusal of the logs says
-abbrev pub RefusesLegal : (guard : ℕ → ℕ) → List LaneRow → (lanes : ℕ → List UndoRecord) → RecoverError → Type 0
+abbrev pub RefusesLegal : (guard : ℕ → Option ObjectId) → List LaneRow → (lanes : ℕ → List UndoRecord) → RecoverError → Type 0
 RefusesLegal guard rows lanes (IllegalLog lane place) = IsIllegalAt guard rows lanes lane.0 place
 RefusesLegal guard rows lanes NoMemory = Unit {0}
 RefusesLegal guard rows lanes _ = ⊥

@@ -1,18 +1,18 @@
 -- What a study of an image answers (this project's own).
-use Rattle.std.specs.Prelude.{ℕ, ◌≡◌, ◌<◌, List, length}
+use Rattle.std.specs.Prelude.{ℕ, ◌≡◌, ◌<◌, true, List, length, slice_index}
 use Rattle.heap_model.specs.Cuts.{counts_of}
 use Rattle.heap_model.specs.declared.ids.FieldId.{FieldId}
 use Rattle.heap_model.specs.declared.record.UndoRecord.{UndoRecord}
 use Rattle.image.specs.declared.layout.Layout.{Layout}
 use Rattle.image.specs.declared.lane_row.LaneRow.{LaneRow}
 use Rattle.image.specs.declared.guard_row.GuardRow.{GuardRow}
-use Rattle.undo_log.specs.StandsFor.{StandsFor, row_of, settled_of, guard_in}
+use Rattle.undo_log.specs.StandsFor.{StandsFor, row_of, settled_of, guard_in, first_in, is_transient_in}
 use Rattle.recover.specs.declared.logged_image.LoggedImage.{LoggedImage}
 use Rattle.recover.specs.declared.report.Report.{Report}
 use Rattle.recover.specs.declared.studied.Study.{Study}
 use Rattle.recover.specs.Dropping.{AreDropped}
 use Rattle.recover.specs.Heap.{AreFields, IsUndone}
-use Rattle.recover.specs.Logs.{lanes_of}
+use Rattle.recover.specs.Logs.{lanes_of, logged_guard_in}
 use Rattle.recover.specs.Reading.{Holds}
 use Rattle.live_logs.specs.Replay.{Replays}
 
@@ -29,7 +29,7 @@ AreUndone l guards rows lanes fields = AreFields (λ f. (f < l.fields) × IsUndo
 pub record IsReportOf (l : Layout) (guards : List GuardRow) (rows : List LaneRow) (lanes : ℕ → List UndoRecord) (r : Report) : Type 0 where
   pub kept_are : (lane : ℕ) → counts_of r.kept lane ≡ (row_of rows lane).kept
   pub done : List (ℕ × UndoRecord)
-  pub replays : Replays (guard_in guards) lanes done
+  pub replays : Replays (logged_guard_in guards) lanes done
   pub dropped_are : AreDropped rows lanes done l.lanes r.dropped.items
   pub fields : List FieldId
   pub undone_are : AreUndone l guards rows lanes fields
@@ -40,3 +40,7 @@ pub record IsStudyOf (image : List ℕ) (s : Study) : Type 0 where
   pub holds : Holds image (held_by s)
   pub stands : StandsFor s.layout image s.heap.items
   pub reports : IsReportOf s.layout s.guards.items s.control.rows (lanes_of s.records.items) s.report
+
+-- In each study a transient field has its first value, whatever lies in its home cell.
+abbrev pub TransientFirstLaw : Type 0
+TransientFirstLaw = (image : List ℕ) (s : Study) (f : ℕ) → IsStudyOf image s → f < s.layout.fields → is_transient_in s.guards.items f ≡ true → slice_index s.heap.items f ≡ first_in s.guards.items f

@@ -2,11 +2,11 @@
 ghost use Rattle.std.specs.Prelude.{◌≡◌, ◌-◌, ◌<◌, ◌≤◌, ℕ, All, IfErr, IfOk, MatchResult, length};
 ghost use Rattle.image.specs.Control.{AreRows};
 ghost use Rattle.image.specs.Layout.{IsLayout};
-ghost use Rattle.undo_log.specs.StandsFor.{guard_in, settled_of};
+ghost use Rattle.undo_log.specs.StandsFor.{settled_of};
 ghost use Rattle.live_logs.specs.Logs.{guard_in as guard_among, count_of};
 ghost use Rattle.live_logs.specs.Replay.{Replays};
 ghost use Rattle.live_logs.specs.Tables.{IsLow, log_of};
-ghost use Rattle.recover.specs.Logs.{AreGuards, AreLoggable, lanes_of};
+ghost use Rattle.recover.specs.Logs.{AreGuards, AreLoggable, lanes_of, logged_guard as logged, logged_guard_in};
 ghost use Rattle.recover.specs.Settled.{AreLegal, RefusesLegal, kept_of};
 ghost use Rattle.recover.specs.declared.error.RecoverError.TheVariants.{NoMemory};
 
@@ -32,8 +32,8 @@ pub fn check_logs(
     requires guards { AreGuards layout.now guards.now }
     requires rows { AreRows layout.now rows.now }
     requires logs { AreLoggable layout.now rows.now logs.now }
-    ensures exact { MatchResult result (λ _. AreLegal (guard_in guards.now) rows.now (lanes_of logs.now)) (RefusesLegal (guard_in guards.now) rows.now (lanes_of logs.now)) }
-    ensures replays { IfOk result (λ steps. Replays (guard_in guards.now) (lanes_of logs.now) (log_of steps.items)) }
+    ensures exact { MatchResult result (λ _. AreLegal (logged_guard_in guards.now) rows.now (lanes_of logs.now)) (RefusesLegal (logged_guard_in guards.now) rows.now (lanes_of logs.now)) }
+    ensures replays { IfOk result (λ steps. Replays (logged_guard_in guards.now) (lanes_of logs.now) (log_of steps.items)) }
     ensures low { IfOk result (λ steps. All IsLow steps.items) }
 {
     let objects = guarding_objects(alloc, guards)?;
@@ -47,18 +47,28 @@ pub fn check_logs(
     }
 }
 
-// By field: the object that guards it.
-fn guarding_objects(alloc: Global, guards: &[GuardRow]) -> Result<Vec<ObjectId>, RecoverError>
-    ensures ok { IfOk result (λ objects. (f : ℕ) → guard_among objects.items f ≡ guard_in guards.now f) }
+// By field: the object that guards it, if logs keep its stores.
+fn guarding_objects(
+    alloc: Global,
+    guards: &[GuardRow],
+) -> Result<Vec<Option<ObjectId>>, RecoverError>
+    ensures ok { IfOk result (λ objects. (f : ℕ) → guard_among objects.items f ≡ logged_guard_in guards.now f) }
     ensures no_other { IfErr result (λ e. e ≡ NoMemory) }
 {
     let Ok(mut objects) = Vec::with_capacity(alloc, guards.len()) else {
         return Err(RecoverError::NoMemory);
     };
     for row in guards {
-        objects.push_reserved(row.guard);
+        objects.push_reserved(logged_guard(row));
     }
     Ok(objects)
+}
+
+// The object whose monitor the logged stores of the row's field need. Logs keep no store of a transient one.
+fn logged_guard(row: &GuardRow) -> Option<ObjectId>
+    ensures { result ≡ logged row.now }
+{
+    if row.transient { None } else { Some(row.guard) }
 }
 
 // By lane: how many of its live records are settled, and how many sections the control keeps.

@@ -4,8 +4,7 @@ ghost use Rattle.heap_model.specs.Sections.{Section};
 ghost use Rattle.heap_model.specs.Cuts.{IsStable};
 ghost use Rattle.image.specs.Control.{AreRows};
 ghost use Rattle.image.specs.Layout.{IsLayout};
-ghost use Rattle.undo_log.specs.StandsFor.{guard_in};
-ghost use Rattle.recover.specs.Logs.{AreGuards, AreLoggable, lanes_of};
+ghost use Rattle.recover.specs.Logs.{AreGuards, AreLoggable, lanes_of, logged_guard_in};
 ghost use Rattle.live_logs.specs.Replay.{Replays};
 ghost use Rattle.recover.specs.Settled.{AreLegal};
 ghost use Rattle.live_logs.specs.Tables.{log_of};
@@ -45,8 +44,8 @@ pub fn dropped_sections(
     requires guards { AreGuards layout.now guards.now }
     requires rows { AreRows layout.now rows.now }
     requires logs { AreLoggable layout.now rows.now logs.now }
-    requires replays { Replays (guard_in guards.now) (lanes_of logs.now) (log_of steps.now) }
-    requires legal { AreLegal (guard_in guards.now) rows.now (lanes_of logs.now) }
+    requires replays { Replays (logged_guard_in guards.now) (lanes_of logs.now) (log_of steps.now) }
+    requires legal { AreLegal (logged_guard_in guards.now) rows.now (lanes_of logs.now) }
     ensures exact { MatchResult result (λ dropped. AreDropped rows.now (lanes_of logs.now) (log_of steps.now) layout.now.lanes dropped.items) (λ e. e ≡ NoMemory) }
 {
     let mut graph = graph_of(alloc, layout.lanes, steps)?;

@@ -22,9 +22,13 @@ pub enum RecoverError {
     /// The gates of both slots are closed.
     #[error("no control")]
     NoControl,
-    /// Neither slot is chosen though a gate is open, or the chosen one has no control of this layout.
+    /// Neither slot is chosen though a gate is open, the chosen one has no control of this layout, or its control is of a
+    /// version from before there were transient fields though some guard row tells of one.
     #[error("bad control")]
     BadControl,
+    /// The control is of version 1: the image is from before there were transient fields.
+    #[error("old version")]
+    OldVersion,
     /// The control's sequence is at its last value, 2^64 - 1, so that no other can be committed.
     #[error("worn")]
     Worn,

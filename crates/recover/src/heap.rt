@@ -1,12 +1,12 @@
 //! The heap that an image stands for, from the replay of its live records.
 ghost use Rattle.std.specs.Prelude.{◌≡◌, ◌≢◌, ◌+◌, ◌-◌, ◌<◌, ◌≤◌, ◌^◌, ℕ, All, Bool, if◌then◌else◌, nat_lt, IfErr, IfOk, None, Some, length, slice_index, slice_index_or, slice_set};
 ghost use Rattle.block_disk.specs.Device.{HasCause, SameMoments};
-ghost use Rattle.image.specs.Cells.{HasCell};
+ghost use Rattle.image.specs.Cells.{HasHome};
 ghost use Rattle.image.specs.Layout.{size_of};
 ghost use Rattle.undo_log.specs.OldValues.{TakesBack, IsUnsettled};
-ghost use Rattle.undo_log.specs.StandsFor.{guard_in, settled_of};
+ghost use Rattle.undo_log.specs.StandsFor.{guard_in, row_in, settled_of};
 ghost use Rattle.recover.specs.Heap.{AreFields, IsOldOrHome, IsUndone, RefusesHeap, earlier, first_old, stored};
-ghost use Rattle.recover.specs.Logs.{lanes_of};
+ghost use Rattle.recover.specs.Logs.{lanes_of, logged_guard_in};
 ghost use Rattle.live_logs.specs.Replay.{Replays};
 ghost use Rattle.live_logs.specs.Tables.{IsLow, log_of};
 ghost use Rattle.recover.specs.declared.error.RecoverError.TheVariants.{Fault, NoMemory};
@@ -28,11 +28,12 @@ pub struct OldHeap {
 }
 
 /// The heap that the image stands for: each field takes the value before its first live store that isn't settled, or has
-/// the one in its home cell. The steps are the replay of the lanes' live records, which are those of an image with these
-/// guard rows and these rows of its control.
+/// the one in its home cell, or if it is transient its first one. The steps are the replay of the lanes' live records,
+/// which are those of an image with these guard rows and these rows of its control.
 ///
 /// `NoMemory` comes where there is no room for the values or the fields, and `Fault` where a read fails; the device is
-/// left as it was. The time is linear in the steps and the fields; each field without an old value costs one read.
+/// left as it was. The time is linear in the steps and the fields; each persistent field without an old value costs one
+/// read.
 pub fn old_heap<D: Disk>(
     alloc: Global,
     disk: &mut D,
@@ -43,10 +44,11 @@ pub fn old_heap<D: Disk>(
     steps: &[Step],
 ) -> Result<OldHeap, RecoverError>
     requires fits { size_of layout.now ≤ length (D.device disk.old).now.bytes }
-    requires replayed { Replays (guard_in guards.now) (lanes_of logs.now) (log_of steps.now) }
+    requires guards { length guards.now ≡ layout.now.fields }
+    requires replayed { Replays (logged_guard_in guards.now) (lanes_of logs.now) (log_of steps.now) }
     requires low { All IsLow steps.now }
     ensures size { IfOk result (λ old. length old.heap.items ≡ layout.now.fields) }
-    ensures takes { IfOk result (λ old. (f : ℕ) → f < layout.now.fields → TakesBack (guard_in guards.now f) f (lanes_of logs.now) (IsUnsettled (settled_of rows.now)) (HasCell layout.now f (D.device disk.old).now.bytes) (slice_index old.heap.items f)) }
+    ensures takes { IfOk result (λ old. (f : ℕ) → f < layout.now.fields → TakesBack (guard_in guards.now f) f (lanes_of logs.now) (IsUnsettled (settled_of rows.now)) (HasHome layout.now (row_in guards.now f) f (D.device disk.old).now.bytes) (slice_index old.heap.items f)) }
     ensures undone { IfOk result (λ old. AreFields (λ f. (f < layout.now.fields) × IsUndone (guard_in guards.now f) f (lanes_of logs.now) (settled_of rows.now)) old.undone.items) }
     ensures no_other { IfErr result RefusesHeap }
     ensures same { SameMoments (D.device disk.old) (D.device disk.new) }
@@ -54,7 +56,7 @@ pub fn old_heap<D: Disk>(
 {
     let before = old_values(alloc, layout.fields, rows, steps)?;
     let undone = fields_with(alloc, &before)?;
-    let heap = values(alloc, disk, layout, &before)?;
+    let heap = values(alloc, disk, layout, guards, &before)?;
     Ok(OldHeap { heap, undone })
 }
 
@@ -134,17 +136,19 @@ fn fields_with(alloc: Global, before: &[Option<u64>]) -> Result<Vec<FieldId>, Re
     Ok(fields)
 }
 
-// The fields' values: the old ones, and where there is none those of the home cells.
+// The fields' values: the old ones, and where there is none those that they have at home.
 fn values<D: Disk>(
     alloc: Global,
     disk: &mut D,
     layout: &Layout,
+    guards: &[GuardRow],
     before: &[Option<u64>],
 ) -> Result<Vec<u64>, RecoverError>
     requires fits { size_of layout.now ≤ length (D.device disk.old).now.bytes }
+    requires guards { length guards.now ≡ layout.now.fields }
     requires fields { length before.now ≡ layout.now.fields }
     ensures size { IfOk result (λ heap. length heap.items ≡ layout.now.fields) }
-    ensures each { IfOk result (λ heap. (f : ℕ) → f < layout.now.fields → IsOldOrHome (slice_index_or before.now f None) (HasCell layout.now f (D.device disk.old).now.bytes) (slice_index heap.items f)) }
+    ensures each { IfOk result (λ heap. (f : ℕ) → f < layout.now.fields → IsOldOrHome (slice_index_or before.now f None) (HasHome layout.now (row_in guards.now f) f (D.device disk.old).now.bytes) (slice_index heap.items f)) }
     ensures no_other { IfErr result RefusesHeap }
     ensures same { SameMoments (D.device disk.old) (D.device disk.new) }
     ensures cause { HasCause (D.device disk.old).failures (D.device disk.new).failures Fault result }
@@ -153,28 +157,50 @@ fn values<D: Disk>(
         return Err(RecoverError::NoMemory);
     };
     for field in 0..layout.fields {
-        let value = value_of(disk, layout, FieldId(field), before[field as usize])?;
+        let row = guards[field as usize];
+        let value = value_of(disk, layout, row, FieldId(field), before[field as usize])?;
         heap.push_reserved(value);
     }
     Ok(heap)
 }
 
-// The field's value: the old one, or where there is none that of its home cell.
+// The field's value: the old one, or where there is none that which it has at home.
 fn value_of<D: Disk>(
     disk: &mut D,
     layout: &Layout,
+    row: GuardRow,
     field: FieldId,
     old: Option<u64>,
 ) -> Result<u64, RecoverError>
     requires fits { size_of layout.now ≤ length (D.device disk.old).now.bytes }
     requires field { field.0 < layout.now.fields }
-    ensures ok { IfOk result (IsOldOrHome old (HasCell layout.now field.0 (D.device disk.old).now.bytes)) }
+    ensures ok { IfOk result (IsOldOrHome old (HasHome layout.now row field.0 (D.device disk.old).now.bytes)) }
     ensures only_fault { IfErr result (λ e. e ≡ Fault) }
     ensures same { SameMoments (D.device disk.old) (D.device disk.new) }
     ensures cause { HasCause (D.device disk.old).failures (D.device disk.new).failures Fault result }
 {
     if let Some(old) = old {
         return Ok(old);
+    }
+    home_of(disk, layout, row, field)
+}
+
+// What the field of this row has at home: the value in its cell, or if it is transient always its first one.
+fn home_of<D: Disk>(
+    disk: &mut D,
+    layout: &Layout,
+    row: GuardRow,
+    field: FieldId,
+) -> Result<u64, RecoverError>
+    requires fits { size_of layout.now ≤ length (D.device disk.old).now.bytes }
+    requires field { field.0 < layout.now.fields }
+    ensures ok { IfOk result (HasHome layout.now row field.0 (D.device disk.old).now.bytes) }
+    ensures only_fault { IfErr result (λ e. e ≡ Fault) }
+    ensures same { SameMoments (D.device disk.old) (D.device disk.new) }
+    ensures cause { HasCause (D.device disk.old).failures (D.device disk.new).failures Fault result }
+{
+    if row.transient {
+        return Ok(row.first);
     }
     match get_cell(disk, layout, field) {
         Ok(value) => Ok(value),

@@ -1,11 +1,18 @@
 //! Laws of recovery and of studies, each the contract of a function that does nothing.
 ghost use Rattle.recover.specs.Fits.{StudyLimitsLaw, StudyNumbersLaw};
+ghost use Rattle.recover.specs.Study.{TransientFirstLaw};
 ghost use Rattle.recover.specs.Recovery.{OneStudyLaw, SameHeapLaw, SameStudyLaw, StudiedLaw};
 
 /// The numbers of an image's study are within the image's limits, so that a text of it can be written.
 pub fn study_law()
     ensures limits { StudyLimitsLaw }
     ensures numbers { StudyNumbersLaw }
+{}
+
+/// A transient field begins anew after each recovery: in the heap of a study it has its first value, whatever lies in its
+/// home cell.
+pub fn transient_law()
+    ensures { TransientFirstLaw }
 {}
 
 /// An image that has a study isn't refused. Only the device can fail, and memory be wanting.

@@ -27,9 +27,10 @@ mod replayed;
 mod report;
 mod studied;
 mod studying;
+mod version;
 
 pub use error::RecoverError;
-pub use laws::{one_study_law, same_heap_law, studied_law, study_law};
+pub use laws::{one_study_law, same_heap_law, studied_law, study_law, transient_law};
 pub use recovering::recover;
 pub use report::{Dropped, Report, Why};
 pub use studied::Study;

@@ -4,9 +4,8 @@ ghost use Rattle.block_disk.specs.Device.{HasCause, SameMoments};
 ghost use Rattle.image.specs.Guards.{HasGuards};
 ghost use Rattle.image.specs.Layout.{IsLayout, size_of};
 ghost use Rattle.image.specs.Slots.{Shows};
-ghost use Rattle.undo_log.specs.StandsFor.{guard_in};
-ghost use Rattle.recover.specs.Logs.{lanes_of};
-ghost use Rattle.recover.specs.Reading.{HasControl, HasLayout, Holds, RefusesControl, RefusesFront, RefusesLayout, RefusesLive, RefusesRows};
+ghost use Rattle.recover.specs.Logs.{lanes_of, logged_guard_in};
+ghost use Rattle.recover.specs.Reading.{HasControl, HasCurrent, HasLayout, Holds, RefusesControl, RefusesCurrent, RefusesFront, RefusesLayout, RefusesLive, RefusesRows};
 ghost use Rattle.live_logs.specs.Replay.{Replays};
 ghost use Rattle.live_logs.specs.Tables.{IsLow, log_of};
 ghost use Rattle.recover.specs.declared.error.RecoverError.TheVariants.{Fault};
@@ -17,6 +16,7 @@ use crate::front::Front;
 use crate::logged_image::LoggedImage;
 use crate::logs::read_logs;
 use crate::replayed::Replayed;
+use crate::version::{test_marks, test_version};
 use block_disk::Disk;
 use image::{
     Control, GuardRow, ImageError, Layout, Slot, choose_control, read_guards, read_header,
@@ -30,10 +30,11 @@ use std::alloc::Global;
 /// - `BadHeader`: a number of the header is out of its limits, a byte that has to be zero isn't, or the size isn't the
 ///   layout's;
 /// - `TooSmall`: the device is smaller than that size;
-/// - `BadHeader`: the guard or the owner of some guard row isn't an object of the image;
+/// - `BadHeader`: the guard or the owner of some guard row isn't an object of the image, or its mark or a byte that has to
+///   be zero is another;
 /// - `NoControl`: the gates of both slots are closed;
 /// - `BadControl`: both are open with the same sequence, or the slot that counts doesn't hold the control of an image of
-///   this layout.
+///   this layout, or one of version 1 though some field is transient.
 ///
 /// `NoMemory` comes where the guard rows find no room, and `Fault` where a read fails.
 pub fn read_front<D: Disk>(alloc: Global, disk: &mut D) -> Result<Front, RecoverError>
@@ -44,12 +45,26 @@ pub fn read_front<D: Disk>(alloc: Global, disk: &mut D) -> Result<Front, Recover
     let layout = find_layout(disk)?;
     let guards = find_guards(alloc, disk, &layout)?;
     let (slot, control) = find_control(disk, &layout)?;
+    test_marks(&control, &guards)?;
     Ok(Front {
         layout,
         guards,
         slot,
         control,
     })
+}
+
+/// Reads the same of an image of the version that is read.
+///
+/// Refusals: those of [`read_front`], in their order, and then `OldVersion`: the control is of version 1.
+pub fn read_current<D: Disk>(alloc: Global, disk: &mut D) -> Result<Front, RecoverError>
+    ensures exact { MatchResult result (λ f. HasCurrent (D.device disk.old).now.bytes f.layout f.guards.items f.slot f.control) (RefusesCurrent (D.device disk.old).now.bytes) }
+    ensures same { SameMoments (D.device disk.old) (D.device disk.new) }
+    ensures cause { HasCause (D.device disk.old).failures (D.device disk.new).failures Fault result }
+{
+    let front = read_front(alloc, disk)?;
+    test_version(&front.control)?;
+    Ok(front)
 }
 
 /// Reads the live records of the image with this front, and replays them.
@@ -64,10 +79,10 @@ pub fn read_live<D: Disk>(
     disk: &mut D,
     front: Front,
 ) -> Result<Replayed, RecoverError>
-    requires { HasControl (D.device disk.old).now.bytes front.layout front.guards.items front.slot front.control }
+    requires { HasCurrent (D.device disk.old).now.bytes front.layout front.guards.items front.slot front.control }
     ensures exact { MatchResult result (λ r. Holds (D.device disk.old).now.bytes r.image) (RefusesLive (D.device disk.old).now.bytes front.layout front.guards.items front.control) }
     ensures control { IfOk result (λ r. r.image.control ≡ front.control) }
-    ensures replays { IfOk result (λ r. Replays (guard_in r.image.guards.items) (lanes_of r.image.records.items) (log_of r.steps.items)) }
+    ensures replays { IfOk result (λ r. Replays (logged_guard_in r.image.guards.items) (lanes_of r.image.records.items) (log_of r.steps.items)) }
     ensures low { IfOk result (λ r. All IsLow r.steps.items) }
     ensures same { SameMoments (D.device disk.old) (D.device disk.new) }
     ensures cause { HasCause (D.device disk.old).failures (D.device disk.new).failures Fault result }

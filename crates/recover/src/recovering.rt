@@ -17,7 +17,7 @@ use crate::ending::end_recovery;
 use crate::error::RecoverError;
 use crate::findings::Findings;
 use crate::putting::put_back;
-use crate::reading::read_front;
+use crate::reading::read_current;
 use crate::report::Report;
 use crate::studied::Study;
 use crate::studying::find_out;
@@ -34,7 +34,7 @@ use std::alloc::Global;
 ///
 /// Refusals, in this order, each with the device (docs/FORMAT.md, "Which image is refused"); but for the last nothing
 /// was done but the first sync:
-/// - `NotFormatted`, `BadHeader`, `TooSmall`, `NoControl`, `BadControl`: as of [`study`](crate::study);
+/// - `NotFormatted`, `BadHeader`, `TooSmall`, `NoControl`, `BadControl`, `OldVersion`: as of [`study`](crate::study);
 /// - `Worn`: the control's sequence is at its last value, 2^64 - 1, so that no other can be committed;
 /// - `BadRecord`, `IllegalLog`: as of [`study`](crate::study);
 /// - `NoMemory`: there was no room for what is read or found;
@@ -95,7 +95,7 @@ fn find_recoverable<D: Disk>(alloc: Global, disk: &mut D) -> Result<Findings, Re
     ensures same { SameMoments (D.device disk.old) (D.device disk.new) }
     ensures cause { HasCause (D.device disk.old).failures (D.device disk.new).failures Fault result }
 {
-    let front = read_front(alloc, disk)?;
+    let front = read_current(alloc, disk)?;
     // The end has to commit a control, so this comes before anything is written.
     if front.control.sequence == u64::MAX {
         return Err(RecoverError::Worn);

@@ -2,10 +2,10 @@
 ghost use Rattle.std.specs.Prelude.{◌≡◌, ◌<◌, ◌≤◌, ℕ, All, IfErr, IfOk, List, MatchResult, length};
 ghost use Rattle.heap_model.specs.Cuts.{counts_of};
 ghost use Rattle.block_disk.specs.Device.{HasCause, SameMoments};
-ghost use Rattle.undo_log.specs.StandsFor.{StandsFor, guard_in, row_of};
+ghost use Rattle.undo_log.specs.StandsFor.{StandsFor, row_of};
 ghost use Rattle.recover.specs.Heap.{RefusesHeap};
-ghost use Rattle.recover.specs.Logs.{lanes_of};
-ghost use Rattle.recover.specs.Reading.{HasControl, Holds, RefusesImage, RefusesLive};
+ghost use Rattle.recover.specs.Logs.{lanes_of, logged_guard_in};
+ghost use Rattle.recover.specs.Reading.{HasCurrent, Holds, RefusesImage, RefusesLive};
 ghost use Rattle.live_logs.specs.Replay.{Replays};
 ghost use Rattle.recover.specs.Study.{AreUndone, IsReportOf, IsStudyOf};
 ghost use Rattle.live_logs.specs.Tables.{IsLow, log_of};
@@ -17,7 +17,7 @@ use crate::findings::Findings;
 use crate::front::Front;
 use crate::heap::{OldHeap, old_heap};
 use crate::logged_image::LoggedImage;
-use crate::reading::{read_front, read_live};
+use crate::reading::{read_current, read_live};
 use crate::replayed::Replayed;
 use crate::report::Report;
 use crate::studied::Study;
@@ -35,10 +35,12 @@ use std::alloc::Global;
 /// - `BadHeader`: a number of the header is out of its limits, a byte that has to be zero isn't, or the size isn't the
 ///   layout's;
 /// - `TooSmall`: the device is smaller than that size;
-/// - `BadHeader`: the guard or the owner of some guard row isn't an object of the image;
+/// - `BadHeader`: the guard or the owner of some guard row isn't an object of the image, or its mark or a byte that has to
+///   be zero is another;
 /// - `NoControl`: the gates of both slots are closed;
 /// - `BadControl`: both are open with the same sequence, or the slot that counts doesn't hold the control of an image of
-///   this layout;
+///   this layout, or one of version 1 though some field is transient;
+/// - `OldVersion`: that control is of version 1;
 /// - `BadRecord`: a live place whose bytes are no record of the image; the least lane, then the least place;
 /// - `IllegalLog`: no threads can have left the live records; the lane and the place of the first that shows it.
 ///
@@ -49,7 +51,7 @@ pub fn study<D: Disk>(alloc: Global, disk: &mut D) -> Result<Study, RecoverError
     ensures same { SameMoments (D.device disk.old) (D.device disk.new) }
     ensures cause { HasCause (D.device disk.old).failures (D.device disk.new).failures Fault result }
 {
-    let front = read_front(alloc, disk)?;
+    let front = read_current(alloc, disk)?;
     let findings = find_out(alloc, disk, front)?;
     Ok(findings.study)
 }
@@ -60,7 +62,7 @@ pub fn find_out<D: Disk>(
     disk: &mut D,
     front: Front,
 ) -> Result<Findings, RecoverError>
-    requires { HasControl (D.device disk.old).now.bytes front.layout front.guards.items front.slot front.control }
+    requires { HasCurrent (D.device disk.old).now.bytes front.layout front.guards.items front.slot front.control }
     ensures exact { MatchResult result (λ found. IsStudyOf (D.device disk.old).now.bytes found.study) (RefusesLive (D.device disk.old).now.bytes front.layout front.guards.items front.control) }
     ensures undone { IfOk result (λ found. AreUndone found.study.layout found.study.guards.items found.study.control.rows (lanes_of found.study.records.items) found.undone.items) }
     ensures control { IfOk result (λ found. found.study.control ≡ front.control) }
@@ -93,7 +95,7 @@ fn find_heap<D: Disk>(
     steps: &[Step],
 ) -> Result<OldHeap, RecoverError>
     requires holds { Holds (D.device disk.old).now.bytes image.now }
-    requires replays { Replays (guard_in image.now.guards.items) (lanes_of image.now.records.items) (log_of steps.now) }
+    requires replays { Replays (logged_guard_in image.now.guards.items) (lanes_of image.now.records.items) (log_of steps.now) }
     requires low { All IsLow steps.now }
     ensures stands { IfOk result (λ old. StandsFor image.now.layout (D.device disk.old).now.bytes old.heap.items) }
     ensures undone { IfOk result (λ old. AreUndone image.now.layout image.now.guards.items image.now.control.rows (lanes_of image.now.records.items) old.undone.items) }
@@ -120,7 +122,7 @@ fn report_on(
     undone: &[FieldId],
 ) -> Result<Report, RecoverError>
     requires holds { (bytes : List ℕ) × Holds bytes image.now }
-    requires replays { Replays (guard_in image.now.guards.items) (lanes_of image.now.records.items) (log_of steps.now) }
+    requires replays { Replays (logged_guard_in image.now.guards.items) (lanes_of image.now.records.items) (log_of steps.now) }
     requires undone { AreUndone image.now.layout image.now.guards.items image.now.control.rows (lanes_of image.now.records.items) undone.now }
     ensures exact { MatchResult result (IsReportOf image.now.layout image.now.guards.items image.now.control.rows (lanes_of image.now.records.items)) (λ e. e ≡ NoMemory) }
 {

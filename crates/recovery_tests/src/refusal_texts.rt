@@ -34,6 +34,7 @@ fn errors_print_as_documented(rt: HostRuntime) {
         (RecoverError::TooSmall, "too small"),
         (RecoverError::NoControl, "no control"),
         (RecoverError::BadControl, "bad control"),
+        (RecoverError::OldVersion, "old version"),
         (RecoverError::Worn, "worn"),
         (bad, "bad record t2 7"),
         (illegal, "illegal log t1 0"),

@@ -14,12 +14,13 @@ use Rattle.store_past.specs.Past.{Past, applied}
 use Rattle.durable.specs.Runs.{HasRun, IsLeftBy}
 use Rattle.monitor.specs.Seats.{Home}
 use Rattle.steps.specs.Views.{plan, view}
+use Rattle.trim_helper.specs.Settled.{closed_value}
 use Rattle.trim_helper.specs.Taken.{trimmed_of}
 use Rattle.trim_helper.specs.declared.ended.Ended.{Ended}
 
 -- One legal history has what each of these sessions was told as its lane's part, and no other lane has any. The store calls of the run
 -- have applied its logs, lane by lane. Whatever a crash leaves, a store of that past leaves: recovery takes it. It stands for the heap
--- of that history with all its sections, which is the heap after it.
+-- of that history with all its sections: after it the persistent fields have these values, and the transient ones begin anew.
 pub record IsClosed (h : Home) (l : Layout) (ended : List Ended) (d : Device) : Type 0 where
   pub history : List (ℕ × Event)
   pub legal : IsLegalHistory (plan h) history
@@ -29,7 +30,7 @@ pub record IsClosed (h : Home) (l : Layout) (ended : List Ended) (d : Device) : 
   pub logs : (k : ℕ) → lane k (applied now) ≡ lane k (log_of (plan h) history)
   pub left : Always d (IsLeftBy l (plan h) now)
   pub stands : Always d (StandsForCut l (plan h) (log_of (plan h) history) (all_ended (actions (log_of (plan h) history))))
-  pub values : Always d (λ image. StandsFor l image (values_below (state_after (plan h) history).value l.fields))
+  pub values : Always d (λ image. StandsFor l image (values_below (closed_value (plan h) (state_after (plan h) history).value) l.fields))
 
 -- the session was told of no more sections of its lane than are acknowledged, and of no place past what is trimmed
 pub record WasTold (acknowledged trimmed : ℕ → ℕ) (e : Ended) : Type 0 where

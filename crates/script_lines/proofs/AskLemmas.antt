@@ -17,8 +17,8 @@ use Rattle.script_lines.proofs.WordLemmas.{words_in-found, words_in-every}
 use Rattle.script_lines.specs.Cutting.{words_in}
 use Rattle.script_lines.specs.Orders as order
 use Rattle.script_lines.specs.Orders.{Action, Order}
-use Rattle.script_lines.specs.Grammar.{is_name, IsName, IsNumber, IsThread, IsFill, AreActing, AreAsking, Asks}
-use Rattle.script_lines.specs.Reading.{name_in, number_in, lane_in, thread_in, hex_in, byte_in, fill_in, action_in, one_word, two_words, three_words, four_words, five_words, order_in}
+use Rattle.script_lines.specs.Grammar.{is_name, IsName, IsNumber, IsThread, IsFill, AreActing, AreAsking, Asks, field_word}
+use Rattle.script_lines.specs.Reading.{name_in, number_in, lane_in, thread_in, hex_in, byte_in, fill_in, action_in, one_word, two_words, three_words, four_words, five_words, field_in, order_in}
 
 -- what was found has P
 if_found : {A : Type 0} (P : A → Type 0) (b : Bool) (x y : Option A) → (b ≡ true → IfSome x P) → (b ≡ false → IfSome y P) → IfSome (if b then x else y) P
@@ -246,16 +246,22 @@ four_words-found a b c d =
     (λ value k. (a, b ∷ name ∷ d ∷ [], h, (g.0, d, k, ap (λ w. w ∷ name ∷ d ∷ []) (word b (codes "store") e)), ap (λ w. a ∷ b ∷ w ∷ d ∷ []) g.1)))))
     (λ _. tt))
 
+field_in-found : (a b c d e : List ℕ) (is_transient : Bool) → a ≡ field_word is_transient
+    → IfSome (field_in b c d e is_transient) (λ order. AreAsking (a ∷ b ∷ c ∷ d ∷ e ∷ []) order)
+field_in-found a b c d e is_transient f =
+    let P = λ (order : Order). AreAsking (a ∷ b ∷ c ∷ d ∷ e ∷ []) order in
+    then_found (λ name. IsName name × (b ≡ name)) P _ (name_in b) (name_in-found b)
+    (λ name h. then_found (λ name. IsName name × (c ≡ name)) P _ (name_in c) (name_in-found c)
+    (λ owner g. then_found (λ name. IsName name × (d ≡ name)) P _ (name_in d) (name_in-found d)
+    (λ guard k. map_found (λ n. IsNumber e n) P (λ first. order.Field name owner guard first is_transient) (number_in e) (number_in-found e)
+    (λ first m. (h.0, g.0, k.0, e, m, five_are a b c d e _ name owner guard f h.1 g.1 k.1)))))
+
 five_words-found : (a b c d e : List ℕ) → IfSome (five_words a b c d e) (λ order. AreAsking (a ∷ b ∷ c ∷ d ∷ e ∷ []) order)
 five_words-found a b c d e =
     let P = λ (order : Order). AreAsking (a ∷ b ∷ c ∷ d ∷ e ∷ []) order in
-    if_found P _ _ _
-    (λ f. then_found (λ name. IsName name × (b ≡ name)) P _ (name_in b) (name_in-found b)
-    (λ name h. then_found (λ name. IsName name × (c ≡ name)) P _ (name_in c) (name_in-found c)
-    (λ owner g. then_found (λ name. IsName name × (d ≡ name)) P _ (name_in d) (name_in-found d)
-    (λ guard k. map_found (λ n. IsNumber e n) P (λ first. order.Field name owner guard first) (number_in e) (number_in-found e)
-    (λ first m. (h.0, g.0, k.0, e, m, five_are a b c d e _ name owner guard (word a (codes "field") f) h.1 g.1 k.1))))))
-    (λ _. tt)
+    if_found P _ _ _ (λ f. field_in-found a b c d e false (word a (codes "field") f))
+    (λ _. if_found P _ _ _ (λ f. field_in-found a b c d e true (word a (codes "transient") f))
+    (λ _. tt))
 
 pub order_in-found : (words : List (List ℕ)) → IfSome (order_in words) (λ order. AreAsking words order)
 order_in-found [] = tt
@@ -302,10 +308,15 @@ act-every : (action : Action) (thread : List ℕ) (lane : Lane) (others : List (
 act-every action thread lane others t a =
     ap (λ w. order_in (w ∷ others)) t.1 ∙ acting-every action t.0 lane others (thread_in-every (116 ∷ t.0) lane (t.0, refl, t.2, t.3)) a
 
+field-every : (name owner guard number : List ℕ) (is_transient : Bool)
+    → order_in (field_word is_transient ∷ name ∷ owner ∷ guard ∷ number ∷ []) ≡ field_in name owner guard number is_transient
+field-every name owner guard number false = refl
+field-every name owner guard number true = refl
+
 pub order_in-every : (words : List (List ℕ)) (order : Order) → AreAsking words order → order_in words ≡ Some order
 order_in-every words (order.Object name) h = ap order_in h.1 ∙ ap (option_map order.Object) (name_in-every name h.0)
-order_in-every words (order.Field name owner guard first) h =
-    ap order_in h.5 ∙ rw (name_in-every name h.0, name_in-every owner h.1, name_in-every guard h.2, number_in-every h.3 first h.4)
+order_in-every words (order.Field name owner guard first is_transient) h =
+    ap order_in h.5 ∙ field-every name owner guard h.3 is_transient ∙ rw (name_in-every name h.0, name_in-every owner h.1, name_in-every guard h.2, number_in-every h.3 first h.4)
 order_in-every words (order.Format lanes capacity) h =
     ap order_in h.4 ∙ rw (number_in-every h.0 lanes h.2, number_in-every h.1 capacity h.3)
 order_in-every words (order.Act lane action) h = ap order_in h.4 ∙ act-every action h.0 lane h.1 h.2 h.3
@@ -324,7 +335,7 @@ order_in-every words order.Recover h = ap order_in h
 -- no form has more than five words
 pub asking-few : (words : List (List ℕ)) (order : Order) → AreAsking words order → length words ≤ 5
 asking-few words (order.Object name) h = few words h.1 (omega arith)
-asking-few words (order.Field name owner guard first) h = few words h.5 (omega arith)
+asking-few words (order.Field name owner guard first is_transient) h = few words h.5 (omega arith)
 asking-few words (order.Format lanes capacity) h = few words h.4 (omega arith)
 asking-few words (order.Act lane action) h = let short = acting-few action h.1 h.3 in few words h.4 (omega arith)
 asking-few words order.Log h = few words h (omega arith)

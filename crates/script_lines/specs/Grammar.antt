@@ -1,5 +1,5 @@
 -- The lines of a script (docs/SCRIPTS.md, "Text" and "Lines").
-use Rattle.std.specs.Prelude.{◌≡◌, ◌⊎◌, ℕ, ◌+◌, ◌/◌, ◌%◌, ◌^◌, ◌<◌, nat_lt, nat_le, Bool, ◌&&◌, ◌||◌, ◌==◌, IsTrue, List, [], ◌∷◌, length, codes}
+use Rattle.std.specs.Prelude.{◌≡◌, ◌⊎◌, ℕ, ◌+◌, ◌/◌, ◌%◌, ◌^◌, ◌<◌, nat_lt, nat_le, Bool, true, false, ◌&&◌, ◌||◌, ◌==◌, IsTrue, List, [], ◌∷◌, length, codes}
 use Rattle.std.specs.Char.{is_ascii_alphanumeric, digit_char}
 use Rattle.std.specs.List.{list_all}
 use Rattle.std.specs.Str.Parse.{IsNumeral, digits_value}
@@ -49,11 +49,16 @@ AreActing words order.Resume = words ≡ codes "resume" ∷ []
 AreActing words (order.Notify name) = IsName name × (words ≡ codes "notify" ∷ name ∷ [])
 AreActing words (order.NotifyAll name) = IsName name × (words ≡ codes "notifyall" ∷ name ∷ [])
 
+-- the word with which a field's line begins
+abbrev pub field_word : (is_transient : Bool) → List ℕ
+field_word false = codes "field"
+field_word true = codes "transient"
+
 -- the words of a line that asks for this
 abbrev pub AreAsking : List (List ℕ) → Order → Type 0
 AreAsking words (order.Object name) = IsName name × (words ≡ codes "object" ∷ name ∷ [])
-AreAsking words (order.Field name owner guard first) = IsName name × IsName owner × IsName guard
-    × (number : List ℕ) × IsNumber number first × (words ≡ codes "field" ∷ name ∷ owner ∷ guard ∷ number ∷ [])
+AreAsking words (order.Field name owner guard first is_transient) = IsName name × IsName owner × IsName guard
+    × (number : List ℕ) × IsNumber number first × (words ≡ field_word is_transient ∷ name ∷ owner ∷ guard ∷ number ∷ [])
 AreAsking words (order.Format lanes capacity) = (first : List ℕ) × (second : List ℕ)
     × IsNumber first lanes × IsNumber second capacity × (words ≡ codes "format" ∷ first ∷ second ∷ [])
 AreAsking words (order.Act lane action) = (thread : List ℕ) × (others : List (List ℕ))

@@ -1,5 +1,5 @@
 -- What a line asks for, apart from where its names lie in memory (docs/SCRIPTS.md, "Lines").
-use Rattle.std.specs.Prelude.{ℕ, List}
+use Rattle.std.specs.Prelude.{ℕ, Bool, List}
 use Rattle.block_disk.specs.declared.crash.Fill.{Fill}
 use Rattle.heap_model.specs.declared.ids.Lane.{Lane}
 use Rattle.script_lines.specs.declared.command.Command.{Command}
@@ -18,11 +18,11 @@ pub data Action : Type 0 where
   Notify : List ℕ → Action
   NotifyAll : List ℕ → Action
 
--- what the machine is to do: a field's name, owner, guard and first value; lanes and capacity; a thread's lane and
+-- what the machine is to do: a field's name, owner, guard and first value, and whether it is transient; lanes and capacity; a thread's lane and
 -- what it does; what the crash leaves, and how many writes and syncs before now
 pub data Order : Type 0 where
   Object : List ℕ → Order
-  Field : List ℕ → List ℕ → List ℕ → ℕ → Order
+  Field : List ℕ → List ℕ → List ℕ → ℕ → Bool → Order
   Format : ℕ → ℕ → Order
   Act : Lane → Action → Order
   Log : Order
@@ -48,7 +48,7 @@ step_of (step.NotifyAll name) = NotifyAll name.now
 -- what a command asks for
 abbrev pub order_of : Command → Order
 order_of (command.Object name) = Object name.now
-order_of (command.Field name owner guard first) = Field name.now owner.now guard.now first
+order_of (command.Field name owner guard first is_transient) = Field name.now owner.now guard.now first is_transient
 order_of (command.Format lanes capacity) = Format lanes capacity
 order_of (command.Step thread action) = Act thread (step_of action)
 order_of command.Log = Log

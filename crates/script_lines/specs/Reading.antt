@@ -1,5 +1,5 @@
 -- What words ask for, as functions: what the proofs compare with "Grammar".
-use Rattle.std.specs.Prelude.{ℕ, ◌+◌, ◌-◌, ◌*◌, ◌^◌, nat_lt, nat_le, ◌&&◌, ◌==◌, Option, None, Some, List, [], ◌∷◌, length, codes, if◌then◌else◌}
+use Rattle.std.specs.Prelude.{ℕ, ◌+◌, ◌-◌, ◌*◌, ◌^◌, nat_lt, nat_le, Bool, true, false, ◌&&◌, ◌==◌, Option, None, Some, List, [], ◌∷◌, length, codes, if◌then◌else◌}
 use Rattle.std.specs.Char.{is_ascii_digit}
 use Rattle.std.specs.Option.{option_map, option_and_then}
 use Rattle.std.specs.List.{list_all}
@@ -87,11 +87,15 @@ four_words first second third fourth =
     then option_and_then (λ lane. option_and_then (λ name. option_map (λ value. order.Act lane (order.Store name value)) (number_in fourth)) (name_in third)) (thread_in first)
     else None)
 
+abbrev pub field_in : List ℕ → List ℕ → List ℕ → List ℕ → (is_transient : Bool) → Option Order
+field_in second third fourth fifth is_transient =
+    option_and_then (λ name. option_and_then (λ owner. option_and_then (λ guard. option_map (λ value. order.Field name owner guard value is_transient) (number_in fifth)) (name_in fourth)) (name_in third)) (name_in second)
+
 abbrev pub five_words : List ℕ → List ℕ → List ℕ → List ℕ → List ℕ → Option Order
 five_words first second third fourth fifth =
-    if bytes_eq first (codes "field")
-    then option_and_then (λ name. option_and_then (λ owner. option_and_then (λ guard. option_map (λ value. order.Field name owner guard value) (number_in fifth)) (name_in fourth)) (name_in third)) (name_in second)
-    else None
+    if bytes_eq first (codes "field") then field_in second third fourth fifth false
+    else (if bytes_eq first (codes "transient") then field_in second third fourth fifth true
+    else None)
 
 abbrev pub order_in : List (List ℕ) → Option Order
 order_in (a ∷ []) = one_word a

@@ -9,12 +9,14 @@ pub enum Command<'a> {
     Object {
         name: &'a str,
     },
-    /// Declares a field of `owner`, guarded by the monitor of `guard`, that begins with `first`.
+    /// Declares a field of `owner`, guarded by the monitor of `guard`, that begins with `first`. A transient field's line
+    /// begins with a word of its own.
     Field {
         name: &'a str,
         owner: &'a str,
         guard: &'a str,
         first: u64,
+        is_transient: bool,
     },
     /// Makes and formats the device, for so many lanes with room for `capacity` records each.
     Format {

@@ -4,7 +4,7 @@ ghost use Rattle.std.specs.Option.{option_map};
 ghost use Rattle.script_lines.specs.Orders.{Order, order_of, step_of};
 ghost use Rattle.script_lines.specs.Grammar.{Asks};
 ghost use Rattle.script_lines.specs.Cutting.{list_of};
-ghost use Rattle.script_lines.specs.Reading.{order_in, one_word, two_words, three_words, four_words, five_words, action_in};
+ghost use Rattle.script_lines.specs.Reading.{order_in, one_word, two_words, three_words, four_words, five_words, field_in, action_in};
 
 use crate::command::{Command, Step};
 use crate::terms::{fill, name, number, spells, thread};
@@ -156,13 +156,30 @@ fn of_five<'a>(
 ) -> Option<Command<'a>>
     ensures { option_map order_of result ≡ five_words first.now second.now third.now fourth.now fifth.now }
 {
-    if !spells(first, "field") {
-        return None;
+    if spells(first, "field") {
+        return field(second, third, fourth, fifth, false);
     }
+    if spells(first, "transient") {
+        return field(second, third, fourth, fifth, true);
+    }
+    None
+}
+
+// The declaration of a field, of the words behind the first one.
+fn field<'a>(
+    second: &'a [u8],
+    third: &'a [u8],
+    fourth: &'a [u8],
+    fifth: &'a [u8],
+    is_transient: bool,
+) -> Option<Command<'a>>
+    ensures { option_map order_of result ≡ field_in second.now third.now fourth.now fifth.now is_transient }
+{
     Some(Command::Field {
         name: name(second)?,
         owner: name(third)?,
         guard: name(fourth)?,
         first: number(fifth)?,
+        is_transient,
     })
 }

@@ -1,6 +1,6 @@
 -- The monitors and the store agree, from the start and after each step.
-use Rattle.std.proofs.Common.{◌≡◌, ◌<◌, ℕ, zero, suc, false, true, List, [], ◌∷◌, Option, Some, None, slice_index, refl, sym, ap, ◌∙◌, subst, arith}
-use Rattle.guards.specs.Schema.{Declarations, field_count, first_of}
+use Rattle.std.proofs.Common.{◌≡◌, ◌<◌, ℕ, zero, suc, Bool, false, true, not, List, [], ◌∷◌, Option, Some, None, slice_index, refl, sym, ap, ◌∙◌, subst, arith}
+use Rattle.guards.specs.Schema.{Declarations, field_count, first_of, is_transient_of}
 use Rattle.heap_model.specs.declared.limits.TheConstants.{LAST_NUMBER}
 use Rattle.image.specs.declared.guard_row.GuardRow.{GuardRow}
 use Rattle.image.specs.declared.layout.Layout.{Layout}
@@ -11,9 +11,7 @@ use Rattle.heap_model.specs.declared.event.Event.TheVariants.{Enter, NestedEnter
 use Rattle.heap_model.specs.Setting.{Setting}
 use Rattle.heap_model.specs.State.{State, initial_state}
 use Rattle.heap_model.specs.Events.{MayDo, IsEventOf, after_event}
-use Rattle.heap_model.specs.History as history
-use Rattle.heap_model.specs.History.{state_after, IsLegalHistory, with_record, log_of}
-use Rattle.plain_monitors.specs.Logged.{logged}
+use Rattle.heap_model.specs.History.{state_after, IsLegalHistory, logged, with_record, log_of}
 use Rattle.history_laws.specs.Laws.{LogLaw}
 use Rattle.heap_model.specs.Log.{IsLegal}
 use Rattle.block_disk.specs.Memory.{Memory}
@@ -75,8 +73,8 @@ step-event a (Look o sight) is = elim is [ ]
 pub same-from : (a b : Table) (first : ℕ → ℕ) → SameSetting a b → setting_from b first ≡ setting_from a first
 same-from a b first same = λ i. record (setting_in (same.schema i) (same.last i)) { first = first }
 
--- what the store keeps of an event is what logs do, whatever the values at first
-pub logged-from : (a : Table) (first : ℕ → ℕ) (e : Event) → history.logged (setting_from a first) e ≡ logged e
+-- what logs keep of an event doesn't depend on the values at first
+pub logged-from : (a : Table) (first : ℕ → ℕ) (e : Event) → logged (setting_from a first) e ≡ logged (setting_of a) e
 logged-from a first (Enter o n) = refl
 logged-from a first (NestedEnter o) = refl
 logged-from a first (NestedExit o) = refl
@@ -108,9 +106,9 @@ kept s p t (Some next) x y tells took = record { then = after_apply p t next; te
 
 -- they agree after the thread's event, once the store has kept its record
 pub goes-on : (a b : Table) (x y : Parts Memory) (t : ℕ) (e : Event) (g : Agrees a x) → MayDo (setting_of a) (state_of a) t e → IsEventOf (setting_of a) e
-    → Keeps x t (logged e) y → y.known.has_failed ≡ false → IsAfter a t e b → Agrees b y
+    → Keeps x t (logged (setting_of a) e) y → y.known.has_failed ≡ false → IsAfter a t e b → Agrees b y
 goes-on a b x y t e g may is keeps running after =
-    let k = kept (setting_from a g.first) g.past t (logged e) x y g.tells keeps in
+    let k = kept (setting_from a g.first) g.past t (logged (setting_of a) e) x y g.tells keeps in
     let same : setting_from a g.first ≡ setting_from b g.first = sym (same-from a b g.first after.setting) in
     record {
       first = g.first;
@@ -118,7 +116,7 @@ goes-on a b x y t e g may is keeps running after =
       past = k.then;
       legal = subst (λ s. IsLegalHistory s ((t, e) ∷ g.history)) same (legal-on a x t e g may is);
       state = after.state ∙ ap (λ s. after_event s t e) g.state ∙ ap (λ s. state_after s ((t, e) ∷ g.history)) same;
-      told = k.told ∙ ap (with_record t (logged e)) g.told
+      told = k.told ∙ ap (with_record t (logged (setting_of a) e)) g.told
           ∙ ap (λ (r : Option Record). with_record t r (log_of (setting_from a g.first) g.history)) (sym (logged-from a g.first e))
           ∙ ap (λ (s : Setting). log_of s ((t, e) ∷ g.history)) same;
       tells = subst (λ s. Tells y s k.then) same k.tells;
@@ -183,13 +181,13 @@ refused-next x s p t (Some r) Unfinished tells running lane legal refused = elim
 -- why the store may refuse the record of an event that the monitors allow
 pub refused-event : LogLaw → (a : Table) (x : Parts Memory) (t : ℕ) (e : Event) (why : StoreError) (g : Agrees a x) → t < lanes_of a
     → MayDo (setting_of a) (state_of a) t e → IsEventOf (setting_of a) e
-    → ((s : Setting) (p : Past) → Tells x s p → RefusesRecord x s p t (logged e) why) → IsForRecord why
+    → ((s : Setting) (p : Past) → Tells x s p → RefusesRecord x s p t (logged (setting_of a) e) why) → IsForRecord why
 refused-event law a x t e why g lane may is refused =
     let s : Setting = setting_from a g.first in
-    let legal : IsLegal s (with_record t (logged e) (applied g.past)) =
-    subst (λ log. IsLegal s (with_record t (logged e) log)) (sym g.told)
+    let legal : IsLegal s (with_record t (logged (setting_of a) e) (applied g.past)) =
+    subst (λ log. IsLegal s (with_record t (logged (setting_of a) e) log)) (sym g.told)
     (subst (λ (r : Option Record). IsLegal s (with_record t r (log_of s g.history))) (logged-from a g.first e) (law s ((t, e) ∷ g.history) (legal-on a x t e g may is))) in
-    refused-next x s g.past t (logged e) why g.tells g.running (subst (λ n. t < n) (sym g.lanes) lane) legal (refused s g.past g.tells)
+    refused-next x s g.past t (logged (setting_of a) e) why g.tells g.running (subst (λ n. t < n) (sym g.lanes) lane) legal (refused s g.past g.tells)
 
 -- why a store that hasn't failed may refuse to log
 pub refused-log : (x : Known) (p : Past) (why : StoreError) → x.has_failed ≡ false → RefusesLog x p why → IsForCall why
@@ -250,17 +248,19 @@ agree-restored d heap a x schema last state values begins lanes =
     (subst (λ s. Tells x s no_past) (table-from d LAST_NUMBER a (slice_index a.values) schema last) (begins.tells (slice_index a.values) values)) lanes begins.running
     (subst (λ k. IsDiskOf k x.disk) (sym schema) begins.of_schema)
 
+pub not_not : (b : Bool) → not (not b) ≡ b
+not_not true = refl
+not_not false = refl
+
 -- a store that was adopted from an image of the schema begins with its heap
 pub begins-with : (d : Declarations) (l : Layout) (guards : List GuardRow) (heap told : List ℕ) (x : Parts Memory) → FitsSchema d l guards → told ≡ heap
-    → ((s : Setting) → IsSettingOf l guards heap LAST_NUMBER s → Tells x s no_past) → x.known.has_failed ≡ false → IsDiskOf d x.disk → BeginsWith d told x
-begins-with d l guards heap told x fits same adopted running of = record {
-  tells = λ first values. adopted (record (setting_in d LAST_NUMBER) { first = first }) (record {
-    objects = sym fits.objects;
-    fields = sym fits.fields;
-    guards = λ f e below. fits.guarded f e (subst (λ n. f < n) fits.fields below);
-    values = λ f below. sym (values f (subst (λ n. f < n) fits.fields below) ∙ ap (λ xs. slice_index xs f) same);
-    last_is = refl;
-  });
-  running = running;
-  of_schema = of;
-}
+    → ((s : Setting) → IsSettingOf l guards heap LAST_NUMBER s → Tells x s no_past)
+    → (first : ℕ → ℕ) → ((f : ℕ) → f < field_count d → first f ≡ slice_index told f) → Tells x (record (setting_in d LAST_NUMBER) { first = first }) no_past
+begins-with d l guards heap told x fits same adopted first values = adopted (record (setting_in d LAST_NUMBER) { first = first }) (record {
+  objects = sym fits.objects;
+  fields = sym fits.fields;
+  guards = λ f e below. fits.guarded f e (subst (λ n. f < n) fits.fields below);
+  marks = λ f e below. fits.marked f e (subst (λ n. f < n) fits.fields below) ∙ sym (not_not (is_transient_of d f));
+  values = λ f below. sym (values f (subst (λ n. f < n) fits.fields below) ∙ ap (λ xs. slice_index xs f) same);
+  last_is = refl;
+})

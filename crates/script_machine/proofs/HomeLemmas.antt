@@ -24,4 +24,4 @@ clean-on s p f k least clean g below = elim (eqb_tells f g) [
 
 -- what shows the past after a home write shows it of the past before: where the cells are dirty is written nowhere
 pub shows_before : (l : Layout) (s : Setting) (p : Past) (f : ℕ) (image : List ℕ) → ShowsPast l s (after_home p f) image → ShowsPast l s p image
-shows_before l s p f image shown = record { slot = shown.slot; control = shown.control; shows = shown.shows; tells = shown.tells; parts = shown.parts }
+shows_before l s p f image shown = record { slot = shown.slot; control = shown.control; shows = shown.shows; current = shown.current; tells = shown.tells; parts = shown.parts }

@@ -1,6 +1,6 @@
 -- The monitors and the store of a machine that runs agree (this project's own).
-use Rattle.std.specs.Prelude.{ℕ, ◌≡◌, ◌<◌, false, List, slice_index}
-use Rattle.guards.specs.Schema.{Declarations, field_count}
+use Rattle.std.specs.Prelude.{ℕ, ◌≡◌, ◌<◌, true, false, List, slice_index}
+use Rattle.guards.specs.Schema.{Declarations, field_count, first_of, is_transient_of}
 use Rattle.heap_model.specs.declared.limits.TheConstants.{LAST_NUMBER}
 use Rattle.heap_model.specs.declared.event.Event.{Event}
 use Rattle.heap_model.specs.Setting.{Setting}
@@ -33,10 +33,12 @@ pub record Agrees (table : Table) (store : Parts Memory) : Type 0 where
   pub running : store.known.has_failed ≡ false
   pub of_schema : IsDiskOf table.schema store.disk
 
--- the store was told nothing, in a heap of this schema whose fields begin with the values of this heap
+-- the store was told nothing, in a heap of this schema whose fields begin with the values of this heap: the transient ones
+-- with the schema's
 pub record BeginsWith (schema : Declarations) (heap : List ℕ) (store : Parts Memory) : Type 0 where
   pub tells : (first : ℕ → ℕ) → ((f : ℕ) → f < field_count schema → first f ≡ slice_index heap f)
       → Tells store (record (setting_in schema LAST_NUMBER) { first = first }) no_past
+  pub begun : (f : ℕ) → f < field_count schema → is_transient_of schema f ≡ true → slice_index heap f ≡ first_of schema f
   pub running : store.known.has_failed ≡ false
   pub of_schema : IsDiskOf schema store.disk
 

@@ -13,7 +13,7 @@ use Rattle.heap_model.specs.declared.event.Event.TheVariants.{Enter, NestedEnter
 use Rattle.heap_model.specs.Setting.{Setting}
 use Rattle.heap_model.specs.State.{initial_state, Awake, InSet, Woken}
 use Rattle.heap_model.specs.Events.{MayDo, IsEventOf}
-use Rattle.plain_monitors.specs.Logged.{logged}
+use Rattle.heap_model.specs.History.{logged}
 use Rattle.heap_model.specs.Log.{value}
 use Rattle.heap_model.specs.Sections.{actions}
 use Rattle.heap_model.specs.Cuts.{IsStable}
@@ -141,19 +141,19 @@ module _ (old : MachineState) (answer : Answer) (new : MachineState) where
     pub refuses : Refuses refusal
     pub because : (s : Setting) (p : Past) → Tells m.store s p → P s p reason
 
-  -- the event is done, and the store keeps its record
+  -- the event is done, and the store keeps its record, if logs keep one
   pub record Completes (m : Live) (thread : ℕ) (event : Event) (said : Answer) : Type 0 where
     pub live : Live
     pub answers : answer ≡ said
     pub runs : new ≡ Running live
     pub after : IsAfter m.monitors thread event live.monitors
-    pub kept : Keeps m.store thread (logged event) live.store
+    pub kept : Keeps m.store thread (logged (setting_of m.monitors) event) live.store
 
   -- the event is allowed (JLS 17.1, 17.2). It is done, unless the store refuses its record
   pub record Does (m : Live) (thread : ℕ) (said : Answer) (event : Event) : Type 0 where
     pub allowed : MayDo (setting_of m.monitors) (state_of m.monitors) thread event
     pub named : IsEventOf (setting_of m.monitors) event
-    pub outcome : Completes m thread event said ⊎ IsRefusedByStore m (λ s p reason. RefusesRecord m.store s p thread (logged event) reason)
+    pub outcome : Completes m thread event said ⊎ IsRefusedByStore m (λ s p reason. RefusesRecord m.store s p thread (logged (setting_of m.monitors) event) reason)
 
   -- a lock of the object's monitor
   pub record Enters (m : Live) (thread : ℕ) (o : ObjectId) : Type 0 where
@@ -354,7 +354,7 @@ module _ (old : MachineState) (answer : Answer) (new : MachineState) where
   ShowsImage w = Shows w ⊎ ShowsNone w
 
   -- the device is recovered: the store is over what recovery made of it and was told nothing, and each field has the value
-  -- that is told of it
+  -- that is told of it, a transient one its first value
   pub record Recovers (w : Wreck) : Type 0 where
     pub live : Live
     pub report : Report
@@ -400,7 +400,7 @@ WhileDown Spent down other = other
 -- what the line makes of the machine, and what is answered. A line that doesn't belong to the state is refused as `state`
 abbrev pub Steps : (old : MachineState) → Order → Answer → (new : MachineState) → Type 0
 Steps old (order.Object name) answer new = WhileDeclaring old (λ d. AnswersDeclaration old answer new d (order.Object name)) (Refuses old answer new why.State)
-Steps old (order.Field name owner guard first) answer new = WhileDeclaring old (λ d. AnswersDeclaration old answer new d (order.Field name owner guard first)) (Refuses old answer new why.State)
+Steps old (order.Field name owner guard first is_transient) answer new = WhileDeclaring old (λ d. AnswersDeclaration old answer new d (order.Field name owner guard first is_transient)) (Refuses old answer new why.State)
 Steps old (order.Format lanes capacity) answer new = WhileDeclaring old (λ d. FormatsImage old answer new d lanes capacity) (Refuses old answer new why.State)
 Steps old (order.Act l asked) answer new = WhileRunning old (λ m. StepsAs old answer new m l.0 asked) (Refuses old answer new why.State)
 Steps old order.Log answer new = WhileRunning old (LogsRecords old answer new) (Refuses old answer new why.State)

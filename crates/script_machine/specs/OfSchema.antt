@@ -1,17 +1,20 @@
 -- Images of a schema (this project's own).
-use Rattle.std.specs.Prelude.{ℕ, ◌≡◌, ◌<◌, List, slice_index_or}
-use Rattle.guards.specs.Schema.{Declarations, object_count, field_count, guard_of}
+use Rattle.std.specs.Prelude.{ℕ, ◌≡◌, ◌<◌, true, List, slice_index_or}
+use Rattle.guards.specs.Schema.{Declarations, object_count, field_count, first_of, guard_of, is_transient_of}
 use Rattle.block_disk.specs.Device.{LeftSince}
 use Rattle.block_disk.specs.Memory.{Memory, device_of}
 use Rattle.image.specs.declared.guard_row.GuardRow.{GuardRow}
 use Rattle.image.specs.declared.layout.Layout.{Layout}
 use Rattle.recover.specs.Reading.{HasFront}
 
--- the image has the schema's objects and fields, and each field the schema's guard
+-- the image has the schema's objects and fields, each field the schema's guard, and a transient one its mark and its first
+-- value
 pub record FitsSchema (schema : Declarations) (layout : Layout) (guards : List GuardRow) : Type 0 where
   pub objects : layout.objects ≡ object_count schema
   pub fields : layout.fields ≡ field_count schema
   pub guarded : (f : ℕ) (d : GuardRow) → f < field_count schema → (slice_index_or guards f d).guard.0 ≡ guard_of schema f
+  pub marked : (f : ℕ) (d : GuardRow) → f < field_count schema → (slice_index_or guards f d).transient ≡ is_transient_of schema f
+  pub begun : (f : ℕ) (d : GuardRow) → f < field_count schema → is_transient_of schema f ≡ true → (slice_index_or guards f d).first ≡ first_of schema f
 
 -- if a header and guard rows can be read of these bytes, they are those of the schema
 abbrev pub IsOfSchema : Declarations → List ℕ → Type 0

@@ -39,6 +39,7 @@ told_of_recovery image.BadHeader = Ok why.BadHeader
 told_of_recovery image.TooSmall = Ok why.TooSmall
 told_of_recovery image.NoControl = Ok why.NoControl
 told_of_recovery image.BadControl = Ok why.BadControl
+told_of_recovery image.OldVersion = Ok why.OldVersion
 told_of_recovery image.Worn = Ok why.Worn
 told_of_recovery (image.BadRecord lane place) = Ok (why.BadRecord lane place)
 told_of_recovery (image.IllegalLog lane place) = Ok (why.IllegalLog lane place)

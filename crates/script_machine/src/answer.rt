@@ -91,6 +91,8 @@ pub enum Refusal {
     NoControl,
     /// The control that counts is none of this image.
     BadControl,
+    /// The image is of version 1, from before there were transient fields.
+    OldVersion,
     /// The record at this place of the lane's log is none.
     BadRecord { lane: Lane, place: u64 },
     /// The log isn't that of a legal history: the record at this place.

@@ -69,7 +69,8 @@ impl Phase {
                 owner,
                 guard,
                 first,
-            } => self.field(name, owner, guard, *first),
+                is_transient,
+            } => self.field(name, owner, guard, *first, *is_transient),
             Command::Format { lanes, capacity } => self.format(alloc, *lanes, *capacity),
             Command::Step { thread, step } => self.thread_step(alloc, *thread, step),
             Command::Log => self.log(),
@@ -108,12 +109,13 @@ impl Phase {
         owner: &str,
         guard: &str,
         first: u64,
+        is_transient: bool,
     ) -> Result<(Phase, Answer), AllocError>
-        ensures { IfOk result (λ r. machine.Steps (shown self) (order.Field name.now owner.now guard.now first) r.1 (shown r.0)) }
+        ensures { IfOk result (λ r. machine.Steps (shown self) (order.Field name.now owner.now guard.now first is_transient) r.1 (shown r.0)) }
     {
         match self {
             Phase::Declaring(mut declaring) => {
-                let said = declaring.field(name, owner, guard, first)?;
+                let said = declaring.field(name, owner, guard, first, is_transient)?;
                 Ok((Phase::Declaring(declaring), answered(said)))
             }
             other => Ok(other.refuse()),

@@ -72,6 +72,7 @@ pub(crate) fn refused_recovery(why: RecoverError) -> Result<Refusal, AllocError>
         RecoverError::TooSmall => Ok(Refusal::TooSmall),
         RecoverError::NoControl => Ok(Refusal::NoControl),
         RecoverError::BadControl => Ok(Refusal::BadControl),
+        RecoverError::OldVersion => Ok(Refusal::OldVersion),
         RecoverError::Worn => Ok(Refusal::Worn),
         RecoverError::BadRecord { lane, place } => Ok(Refusal::BadRecord { lane, place }),
         RecoverError::IllegalLog { lane, place } => Ok(Refusal::IllegalLog { lane, place }),

@@ -231,7 +231,7 @@ impl Running {
     {
         // What the monitors allow is the next of the store's records.
         log_law();
-        if let Err(why) = keep_record(&mut self.store, thread, event) {
+        if let Err(why) = keep_record(&mut self.store, &self.monitors, thread, event) {
             return Ok(Answer::Refused(refused_record(why)));
         }
         self.monitors.perform(thread, event)?;

@@ -3,7 +3,8 @@ ghost use Rattle.std.specs.Prelude.{◌≡◌, ◌⊎◌, ◌<◌, ℕ, true, fa
 ghost use Rattle.block_disk.specs.Device.{HasCause};
 ghost use Rattle.heap_model.specs.Setting.{Setting};
 ghost use Rattle.heap_model.specs.Log.{value};
-ghost use Rattle.plain_monitors.specs.Logged.{logged};
+ghost use Rattle.heap_model.specs.History.{logged};
+ghost use Rattle.plain_monitors.specs.Table.{IsStepOf, setting_of};
 ghost use Rattle.store_past.specs.Past.{Past, applied};
 ghost use Rattle.block_disk.specs.Images.{LeavesOnly};
 ghost use Rattle.block_disk.specs.Memory.{device_of};
@@ -19,20 +20,24 @@ use crate::logged::record_of;
 use block_disk::MemDisk;
 use durable::{Home, Store, StoreError};
 use heap_model::{Event, FieldId, Lane};
+use plain_monitors::Monitors;
 use std::alloc::{AllocError, Global};
 
 /// Keeps the record of the thread's event, if it has one. A refusal changes nothing.
 pub(crate) fn keep_record(
     store: &mut Store<MemDisk>,
+    monitors: &Monitors,
     thread: Lane,
     event: &Event,
 ) -> Result<(), StoreError>
-    ensures kept { OnOk result (Keeps store.old thread.0 (logged event.now) store.new) }
-    ensures refused { IfErr result (λ e. (s : Setting) (p : Past) → Tells store.old s p → RefusesRecord store.old s p thread.0 (logged event.now) e) }
+    requires { IsStepOf (setting_of monitors.now) event.now }
+    ensures kept { OnOk result (Keeps store.old thread.0 (logged (setting_of monitors.now) event.now) store.new) }
+    ensures refused { IfErr result (λ e. (s : Setting) (p : Past) → Tells store.old s p
+        → RefusesRecord store.old s p thread.0 (logged (setting_of monitors.now) event.now) e) }
     ensures err { OnErr result (store.new ≡ store.old) }
     ensures running { store.old.known.has_failed ≡ false → store.new.known.has_failed ≡ false }
 {
-    match record_of(event) {
+    match record_of(monitors, event) {
         None => Ok(()),
         Some(next) => store.apply(thread, next),
     }

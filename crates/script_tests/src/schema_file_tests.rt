@@ -81,6 +81,17 @@ fn schema_files_are_refused_as_documented(rt: HostRuntime) {
         (b"object a b\n", 1, SchemaFaultKind::Syntax),
         (b"object a\r\n\nobject a\n", 3, SchemaFaultKind::DoubleName),
         (b"object a\nfield f a b 1\n", 2, SchemaFaultKind::Unknown),
+        (
+            b"object a\ntransient f a b 1\n",
+            2,
+            SchemaFaultKind::Unknown,
+        ),
+        (
+            b"object a\nfield f a a 1\ntransient f a a 1\n",
+            3,
+            SchemaFaultKind::DoubleName,
+        ),
+        (b"object a\ntransient f a a\n", 2, SchemaFaultKind::Syntax),
         (b"object a\n# \xC3\xA9\nheap\n", 2, SchemaFaultKind::NotText),
         (&long, 1, SchemaFaultKind::TooLong),
     ];
@@ -98,6 +109,25 @@ fn a_fault_of_the_reader_is_of_the_line(rt: HostRuntime) {
     let text = b"object a\nfield f a a 1\nfield";
     let why = SchemaFaultKind::Read;
     assert!(rt; broken_off(rt.alloc(), text) == Some(SchemaFault { line: 3, why }));
+}
+
+// Which of the three fields are transient; the last is declared so.
+fn marks(alloc: Global) -> Option<[bool; 3]> {
+    let text = b"object a\nfield f a a 1\nfield g a a 2\ntransient h a a 3\n";
+    let schema = read_text(alloc, text).ok()?;
+    if schema.fields() != 3 {
+        return None;
+    }
+    Some([
+        schema.transient(FieldId(0)),
+        schema.transient(FieldId(1)),
+        schema.transient(FieldId(2)),
+    ])
+}
+
+#[test]
+fn a_schema_file_declares_transient_fields(rt: HostRuntime) {
+    assert!(rt; marks(rt.alloc()) == Some([false, false, true]));
 }
 
 // Whether the schema is read, or there is no memory for it; and how many fields are read the next time.

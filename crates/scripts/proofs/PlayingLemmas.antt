@@ -9,8 +9,7 @@ use Rattle.heap_model.specs.declared.limits.TheConstants.{LAST_NUMBER}
 use Rattle.heap_model.specs.Setting.{Setting}
 use Rattle.heap_model.specs.State.{State}
 use Rattle.heap_model.specs.Events.{MayDo, IsEventOf, after_event}
-use Rattle.heap_model.specs.History as history
-use Rattle.heap_model.specs.History.{state_after, with_record, log_of}
+use Rattle.heap_model.specs.History.{state_after, logged, with_record, log_of}
 use Rattle.heap_model.specs.Sections.{actions}
 use Rattle.heap_model.specs.Cuts.{IsStable}
 use Rattle.cut_laws.proofs.Existence.{stable_exists}
@@ -26,8 +25,7 @@ use Rattle.store_past.specs.Past.{Past, applied, no_past, after_home, after_log,
 use Rattle.durable.specs.Store.{Parts, ShowsStep}
 use Rattle.durable.specs.declared.doubt.Doubt.{Doubt}
 use Rattle.durable.specs.declared.doubt.Doubt.TheVariants.{Nothing, Logging, Trimming}
-use Rattle.plain_monitors.specs.Logged.{logged}
-use Rattle.plain_monitors.specs.Table.{Table, setting_in, state_of}
+use Rattle.plain_monitors.specs.Table.{Table, setting_in, setting_of, state_of}
 use Rattle.script_lines.specs.Grammar.{Asks}
 use Rattle.script_lines.specs.Orders.{Action, Order}
 use Rattle.script_lines.specs.Orders as order
@@ -138,25 +136,26 @@ module _ (first : ℕ → ℕ) (s : Setting) (events : Events) (p : Past) (line 
       let may : MayDo s (state_after s events) t e =
       subst (λ (x : State). MayDo s x t e) was.leads.state (subst (λ (g : Setting). MayDo g (state_of a) t e) was.setting (may-from a first (state_of a) t e move.allowed)) in
       let is : IsEventOf s e = subst (λ (g : Setting). IsEventOf g e) was.setting (event-from a first e move.named) in
-      let same : history.logged s e ≡ logged e = subst (λ (g : Setting). history.logged g e ≡ logged e) was.setting (logged-from a first e) in
+      let same : logged s e ≡ logged (setting_of a) e = subst (λ (g : Setting). logged g e ≡ logged (setting_of a) e) was.setting (logged-from a first e) in
+      let keeps : Keeps m.store t (logged s e) now.store = subst (λ (r : Option Record). Keeps m.store t r now.store) (sym same) move.kept in
       record {
         after = (t, e) ∷ events;
-        then = told_record p t (logged e);
+        then = told_record p t (logged s e);
         makes = AddsEvent lane asked e asks refl refl;
         stands = record {
           setting = same-from a now.monitors first move.after.setting ∙ was.setting;
           leads = record {
             legal = (was.leads.legal, may, is);
             state = move.after.state ∙ ap (λ (x : State). after_event x t e) was.leads.state;
-            told = kept_told t (logged e) ∙ ap (with_record t (logged e)) was.leads.told ∙ ap (λ (r : Option Record). with_record t r (log_of s events)) (sym same);
-            tells = kept_tells now.store t (logged e) move.kept;
+            told = kept_told t (logged s e) ∙ ap (with_record t (logged s e)) was.leads.told;
+            tells = kept_tells now.store t (logged s e) keeps;
           };
-          running = kept_running now.store t (logged e) move.kept;
+          running = kept_running now.store t (logged s e) keeps;
         };
         schema = move.after.setting.schema;
-        layout = kept_layout now.store t (logged e) move.kept;
-        grows = kept_cut t (logged e);
-        leaves = subst (λ (d : Memory). LeavesOnly (device_of m.store.disk) (device_of d) (LeftInLine m.store.known.layout s p line)) (sym (kept_disk now.store t (logged e) move.kept))
+        layout = kept_layout now.store t (logged s e) keeps;
+        grows = kept_cut t (logged s e);
+        leaves = subst (λ (d : Memory). LeavesOnly (device_of m.store.disk) (device_of d) (LeftInLine m.store.known.layout s p line)) (sym (kept_disk now.store t (logged s e) keeps))
             (begin (device_of m.store.disk) (LeftInLine m.store.known.layout s p line));
       }
 
@@ -219,7 +218,7 @@ module _ (first : ℕ → ℕ) (s : Setting) (events : Events) (p : Past) (line 
 
   stepped : (now : Live) (said : Answer) (asked : Order) → Asks asked line → Steps (Running m) asked said (Running now) → Goes now
   stepped now said (order.Object name) asks steps = stayed now steps.1
-  stepped now said (order.Field name owner guard f) asks steps = stayed now steps.1
+  stepped now said (order.Field name owner guard f is_transient) asks steps = stayed now steps.1
   stepped now said (order.Format lanes capacity) asks steps = stayed now steps.1
   stepped now said (order.Act lane asked) asks steps = elim (moves m now said lane.0 asked steps) [
     | inl same ↦ stayed now same

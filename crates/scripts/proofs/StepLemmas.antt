@@ -15,10 +15,10 @@ use Rattle.heap_model.specs.declared.ids.Lane.{Lane}
 use Rattle.heap_model.specs.declared.ids.ObjectId.{ObjectId}
 use Rattle.heap_model.specs.declared.record.Record.{Record}
 use Rattle.heap_model.specs.Events.{MayDo, IsEventOf}
+use Rattle.heap_model.specs.History.{logged}
 use Rattle.heap_model.specs.State.{Waiting, Awake, InSet, Woken}
 use Rattle.plain_monitors.specs.declared.monitor.Monitor.{Monitor}
 use Rattle.plain_monitors.specs.declared.monitor.Monitor.TheVariants.{Free, Held}
-use Rattle.plain_monitors.specs.Logged.{logged}
 use Rattle.plain_monitors.specs.Monitor.{owner_in, count_in}
 use Rattle.plain_monitors.specs.Table.{IsAfter, lanes_of, monitor_at, setting_of, state_of}
 use Rattle.plain_monitors.specs.WaitSets.{least_of}
@@ -54,7 +54,7 @@ pub record Moved (m : Live) (t : ℕ) (e : Event) (now : Live) : Type 0 where
   pub allowed : MayDo (setting_of m.monitors) (state_of m.monitors) t e
   pub named : IsEventOf (setting_of m.monitors) e
   pub after : IsAfter m.monitors t e now.monitors
-  pub kept : Keeps m.store t (logged e) now.store
+  pub kept : Keeps m.store t (logged (setting_of m.monitors) e) now.store
 
 module _ (m now : Live) (answer : Answer) (t : ℕ) where
   abbrev old : MachineState
@@ -76,13 +76,13 @@ module _ (m now : Live) (answer : Answer) (t : ℕ) where
             allowed = does.allowed;
             named = does.named;
             after = subst (λ (x : Live). IsAfter m.monitors t e x.monitors) (sym is) done.after;
-            kept = subst (λ (x : Live). Keeps m.store t (logged e) x.store) (sym is) done.kept;
+            kept = subst (λ (x : Live). Keeps m.store t (logged (setting_of m.monitors) e) x.store) (sym is) done.kept;
           },
         )
     | inr refused ↦ inl refused.refuses.1
   ]
 
-  of_wakes : (e : Event) (woken : List Lane) → logged e ≡ None → Wakes old answer new m t e woken → Moves
+  of_wakes : (e : Event) (woken : List Lane) → logged (setting_of m.monitors) e ≡ None → Wakes old answer new m t e woken → Moves
   of_wakes e woken none wakes =
       let is : now ≡ record m { monitors = wakes.monitors } = one_live now (record m { monitors = wakes.monitors }) wakes.runs in
       inr (

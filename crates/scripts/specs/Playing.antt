@@ -7,10 +7,9 @@ use Rattle.heap_model.specs.declared.record.Record.{Record}
 use Rattle.heap_model.specs.Setting.{Setting}
 use Rattle.heap_model.specs.Sections.{actions}
 use Rattle.heap_model.specs.Cuts.{IsStable}
-use Rattle.heap_model.specs.History.{state_after, IsLegalHistory, log_of}
+use Rattle.heap_model.specs.History.{state_after, IsLegalHistory, logged, log_of}
 use Rattle.block_disk.specs.declared.crash.Fill.{Fill}
 use Rattle.durable.specs.Calls.{IsClean}
-use Rattle.plain_monitors.specs.Logged.{logged}
 use Rattle.plain_monitors.specs.Table.{state_of}
 use Rattle.store_past.specs.Past.{Past, applied, no_past, after_apply, after_log, after_settle, after_trim}
 use Rattle.script_lines.specs.Grammar.{Asks}
@@ -40,7 +39,7 @@ told_record p t (Some r) = after_apply p t r
 -- `home`, `settle` and `trim` add no event; and any other line, or one that is refused, leaves both as they were.
 pub data LineMakes (s : Setting) (line : List ℕ) (events : Events) (p : Past) (after : Events) (then : Past) : Type 0 where
   AddsEvent : (lane : Lane) (asked : Action) (event : Event) → Asks (order.Act lane asked) line → after ≡ (lane.0, event) ∷ events
-      → then ≡ told_record p lane.0 (logged event) → LineMakes s line events p after then
+      → then ≡ told_record p lane.0 (logged s event) → LineMakes s line events p after then
   LogsAll : Asks order.Log line → after ≡ events → then ≡ after_log p → LineMakes s line events p after then
   WritesHome : (cells : ℕ) → Asks order.Home line → after ≡ events → WriteHomes s p cells then → LineMakes s line events p after then
   Settles : (cut : ℕ → ℕ) → Asks order.Settle line → after ≡ events → IsClean s p → IsStable (actions p.logged) cut → then ≡ after_settle p cut

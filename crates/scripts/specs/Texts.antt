@@ -41,6 +41,7 @@ why_refused refusals.NotFormatted = codes "not formatted"
 why_refused refusals.TooSmall = codes "too small"
 why_refused refusals.NoControl = codes "no control"
 why_refused refusals.BadControl = codes "bad control"
+why_refused refusals.OldVersion = codes "old version"
 why_refused (refusals.BadRecord lane place) = codes "bad record"
 why_refused (refusals.IllegalLog lane place) = codes "illegal log"
 

@@ -155,6 +155,7 @@ fn words_of(refusal: &Refusal) -> &'static str
         Refusal::TooSmall => "too small",
         Refusal::NoControl => "no control",
         Refusal::BadControl => "bad control",
+        Refusal::OldVersion => "old version",
         Refusal::BadRecord { .. } => "bad record",
         Refusal::IllegalLog { .. } => "illegal log",
     }

@@ -9,6 +9,7 @@ use Rattle.heap_model.specs.declared.event.Event.TheVariants.{Enter, Store}
 use Rattle.heap_model.specs.History.{logged}
 use Rattle.heap_model.specs.Own.{Hold, Own, own, own_after, own_log, with_own}
 use Rattle.heap_model.specs.Limits.{IsWithinLimits}
+use Rattle.heap_model.specs.Setting.{Setting}
 use Rattle.heap_model.specs.declared.limits.TheConstants.{SECTION_RECORDS, RING_RECORDS, LAST_PLACE}
 use Rattle.session.specs.declared.limits.TheConstants.{MOST_HELD}
 use Rattle.heap_model.specs.Sections as sections
@@ -18,7 +19,7 @@ use Rattle.steps.specs.declared.grip.Grip.{Grip}
 use Rattle.steps.specs.Views.{hold, Keeps, KeepsEach, KeepsOthers, Lengthens, Takes, IsAwake, IsClear}
 use Rattle.session.specs.Grips.{grip_in, with_grip, without_grip}
 use Rattle.session.specs.Sits.{Holds, IsTold, IsWithin, HasRoom, Sits, Stays}
-use Rattle.session.specs.Calls.{IsFull, IsBehind, IsWaitWorn}
+use Rattle.session.specs.Calls.{IsFull, IsBehind, IsWaitWorn, LacksRoom, records_of}
 use Rattle.session.specs.Logs.{log_in, actions_in, held_objects, held_count, place}
 use Rattle.session.proofs.GripLists.{by_test, with_length, without_length}
 use Rattle.session.proofs.Holding.{still_holds, changed_holds, more_holds, fewer_holds, held_length}
@@ -77,6 +78,12 @@ sits_stored v w f before after gs s pushed free more r p k c t is_logged sent to
       idle = (ap (λ (u : Own). u.pause) owns ∙ x.idle.0, clear);
     }
 
+-- a transient field was stored to
+pub sits_alone : (v w : View) (f : FieldId) (before after : ℕ) (gs : List Grip) (s : List Record) (free r p k c t : ℕ) →
+    v.plan.is_logged f.0 ≡ false → Lengthens v w (Store f before after ∷ []) → KeepsEach v w → IsClear w → Sits v gs s free r p k c t → Sits w gs s free r p k c t
+sits_alone v w f before after gs s free r p k c t transient told each clear x =
+    sits_silent v w (Store f before after ∷ []) gs s free r p k c t told each clear (ap (λ b. with_own (if b then Some (Put f before after) else None) (log_in v)) transient) refl x
+
 -- a monitor was taken, by an enter or a resume
 pub sits_taken : (v w : View) (e : Event) (o : ObjectId) (n count : ℕ) (g : Grip) (gs held : List Grip) (s pushed : List Record) (free more r p k c t : ℕ) →
     held ≡ g ∷ gs → pushed ≡ s ++ Acq o n ∷ [] → Takes v w e o count n g → KeepsOthers v w o.0 → IsClear w → IsAwake w → logged v.plan e ≡ Some (Acq o n) → ((q : ℕ) → o.0 ≢ q → (own (e ∷ v.events)).hold q ≡ hold v q) →
@@ -108,6 +115,30 @@ full_by v gs s free r p k c t more x lt = (let a = x.stays.told.records in let b
 
 pub not_full_by : (v : View) (gs : List Grip) (s : List Record) (free r p k c t more : ℕ) → Sits v gs s free r p k c t → r + length gs + more ≤ SECTION_RECORDS → IsFull v more → ⊥
 not_full_by v gs s free r p k c t more x le full = (let a = x.stays.told.records in let b = held_length v gs x.stays.holds in omega arith)
+
+-- a store that logs keep makes one record, and one that they don't none
+pub one_record : (s : Setting) (f : FieldId) → s.is_logged f.0 ≡ true → records_of s f ≡ 1
+one_record s f e = ap (λ (b : Bool). if b then 1 else 0) e
+
+pub no_record : (s : Setting) (f : FieldId) → s.is_logged f.0 ≡ false → records_of s f ≡ 0
+no_record s f e = ap (λ (b : Bool). if b then 1 else 0) e
+
+-- the room for so many records is lacking just where the section's records and its grips say so; for none it never is
+pub lacks_by : (v : View) (gs : List Grip) (s : List Record) (free r p k c t more : ℕ) → Sits v gs s free r p k c t → SECTION_RECORDS < r + length gs + more → LacksRoom v more
+lacks_by v gs s free r p k c t more x lt = (let a = x.stays.within.short in omega arith, full_by v gs s free r p k c t more x lt)
+
+pub not_lacks_by : (v : View) (gs : List Grip) (s : List Record) (free r p k c t more : ℕ) → Sits v gs s free r p k c t → r + length gs + more ≤ SECTION_RECORDS → LacksRoom v more → ⊥
+not_lacks_by v gs s free r p k c t more x le lacks = not_full_by v gs s free r p k c t more x le lacks.1
+
+-- the same for one store, by whether logs keep it
+pub lacks_one : (v : View) (f : FieldId) → v.plan.is_logged f.0 ≡ true → LacksRoom v 1 → LacksRoom v (records_of v.plan f)
+lacks_one v f is lacks = subst (λ n. LacksRoom v n) (sym (one_record v.plan f is)) lacks
+
+pub not_lacks_one : (v : View) (f : FieldId) → v.plan.is_logged f.0 ≡ true → (LacksRoom v 1 → ⊥) → LacksRoom v (records_of v.plan f) → ⊥
+not_lacks_one v f is not lacks = not (subst (λ n. LacksRoom v n) (one_record v.plan f is) lacks)
+
+pub not_lacks_none : (v : View) (f : FieldId) → v.plan.is_logged f.0 ≡ false → LacksRoom v (records_of v.plan f) → ⊥
+not_lacks_none v f transient lacks = let none = no_record v.plan f transient in let some = lacks.0 in absurd (omega arith)
 
 -- a grip is one of those that are held
 pub some_held : (o : ℕ) (gs : List Grip) (g : Grip) → grip_in o gs ≡ Some g → 0 < length gs

@@ -1,6 +1,6 @@
 -- What the calls of a session answer. First by views: `v` is the view before a call, and `w` the view after it. Then, each call as one
 -- relation that all floors above cite: `h` is the heap, `x` the session before the call, `y` the session after it, and `r` the answer.
-use Rattle.std.specs.Prelude.{ℕ, ◌≡◌, ◌≢◌, ◌+◌, ◌<◌, ◌≤◌, ◌⊎◌, ◌↔◌, List, [], ◌∷◌, ◌++◌, Option, Some, None, true, Result, Ok, Err, Contains, IfErr, IfOk, IsErrAnd, MatchResult}
+use Rattle.std.specs.Prelude.{ℕ, ◌≡◌, ◌≢◌, ◌+◌, ◌<◌, ◌≤◌, ◌⊎◌, ◌↔◌, if◌then◌else◌, List, [], ◌∷◌, ◌++◌, Option, Some, None, true, Result, Ok, Err, Contains, IfErr, IfOk, IsErrAnd, MatchResult}
 use Rattle.std.specs.FinSet as set
 use Rattle.std.specs.Ordering.{nat_cmp}
 use Rattle.heap_model.specs.declared.limits.TheConstants.{SECTION_RECORDS, RING_RECORDS, LAST_PLACE}
@@ -12,6 +12,7 @@ use Rattle.heap_model.specs.declared.event.Event.TheVariants.{Enter, NestedEnter
 use Rattle.heap_model.specs.declared.event.Event.TheVariants as event
 use Rattle.heap_model.specs.declared.event.Sight.{Sight}
 use Rattle.heap_model.specs.declared.event.Sight.TheVariants.{Found, StillInSet}
+use Rattle.heap_model.specs.Setting.{Setting}
 use Rattle.heap_model.specs.Known.{known_value}
 use Rattle.heap_model.specs.Own.{Hold}
 use Rattle.lock_word.specs.declared.fat_word.FatShape.{FatShape}
@@ -125,10 +126,18 @@ EntersAgain v w o h (Err TooDeep) = (h.count ≡ FAT_LOCKS) × IsQuiet v w
 EntersAgain v w o h (Err NoFat) = (h.count ≡ THIN_LOCKS) × IsThin v o × (FAT_SLOTS ≤ w.slots) × IsQuiet v w
 EntersAgain v w o h (Err _) = ⊥
 
+-- how many records a store to the field makes: none where logs don't keep its stores
+abbrev pub records_of : Setting → FieldId → ℕ
+records_of s f = if s.is_logged f.0 then 1 else 0
+
+-- the section has no room for the records of stores, so many of them and at least one
+abbrev pub LacksRoom : View → (records : ℕ) → Type 0
+LacksRoom v k = (0 < k) × IsFull v k
+
 -- a store to a field whose guard is held
 abbrev pub Stores : View → View → FieldId → ℕ → Result (Unit {0}) SessionError → Type 0
-Stores v w f value (Ok done) = (¬ IsFull v 1) × (before : ℕ) × Lengthens v w (Store f before value ∷ [])
-Stores v w f value (Err SectionFull) = IsFull v 1 × IsQuiet v w
+Stores v w f value (Ok done) = (¬ LacksRoom v (records_of v.plan f)) × (before : ℕ) × Lengthens v w (Store f before value ∷ [])
+Stores v w f value (Err SectionFull) = LacksRoom v (records_of v.plan f) × IsQuiet v w
 Stores v w f value (Err _) = ⊥
 
 -- a wait whose numbers have come to their end
@@ -266,7 +275,7 @@ pub record Loads (h : Home) (x y : Session) (f : FieldId) (r : Result ℕ Sessio
   pub held : f.0 < (plan h).fields → HoldsGuard h x f → Tells x y (λ value. event.Load f value ∷ []) r
   pub known : (value : ℕ) → f.0 < (plan h).fields → HoldsGuard h x f → KnowsValue h x f value → r ≡ Ok value
 
--- A store of a value: under the guard, and where the section has room for its record.
+-- A store of a value: under the guard, and where the section has room for its record, if it makes one.
 pub record StoresAs (h : Home) (x y : Session) (f : FieldId) (value : ℕ) (r : Result (Unit {0}) SessionError) : Type 0 where
   pub unknown : (plan h).fields ≤ f.0 → Refuses x y error.UnknownField r
   pub not_held : f.0 < (plan h).fields → LacksGuard h x f → Refuses x y error.NotHeld r

@@ -1,5 +1,5 @@
 -- What a store to two fields answers: `v` is the view before it, and `w` the view after it.
-use Rattle.std.specs.Prelude.{ℕ, ◌<◌, ◌≤◌, ◌⊎◌, [], ◌∷◌, Result, Ok, Err}
+use Rattle.std.specs.Prelude.{ℕ, ◌+◌, ◌<◌, ◌≤◌, ◌⊎◌, [], ◌∷◌, Result, Ok, Err}
 use Rattle.heap_model.specs.declared.ids.FieldId.{FieldId}
 use Rattle.heap_model.specs.declared.event.Event.TheVariants.{Store}
 use Rattle.monitor.specs.Seats.{Home}
@@ -7,13 +7,14 @@ use Rattle.steps.specs.Views.{View, Lengthens, plan}
 use Rattle.session.specs.declared.error.SessionError.{SessionError}
 use Rattle.session.specs.declared.error.SessionError.TheVariants.{NotHeld, SectionFull, UnknownField}
 use Rattle.session.specs.declared.session.Session.{Session}
-use Rattle.session.specs.Calls.{HoldsGuard, IsFull, IsQuiet, LacksGuard, Refuses}
+use Rattle.session.specs.Calls.{HoldsGuard, IsQuiet, LacksGuard, LacksRoom, Refuses, records_of}
 use Rattle.session.specs.Sessions.{view_of}
 
--- both fields' guards are held: both stores, the first and then the second; or neither, where both records don't fit
+-- both fields' guards are held: both stores, the first and then the second; or neither, where the records that they make don't fit
 abbrev pub StoresTwo : View → View → (f : FieldId) → (x : ℕ) → (g : FieldId) → (y : ℕ) → Result (Unit {0}) SessionError → Type 0
-StoresTwo v w f x g y (Ok done) = (¬ IsFull v 2) × (before : ℕ) × (then_before : ℕ) × Lengthens v w (Store g then_before y ∷ Store f before x ∷ [])
-StoresTwo v w f x g y (Err SectionFull) = IsFull v 2 × IsQuiet v w
+StoresTwo v w f x g y (Ok done) = (¬ LacksRoom v (records_of v.plan f + records_of v.plan g))
+    × (before : ℕ) × (then_before : ℕ) × Lengthens v w (Store g then_before y ∷ Store f before x ∷ [])
+StoresTwo v w f x g y (Err SectionFull) = LacksRoom v (records_of v.plan f + records_of v.plan g) × IsQuiet v w
 StoresTwo v w f x g y (Err _) = ⊥
 
 -- A store of `a` in the first field and of `b` in the second: `x` is the session before it, and `y` after it.

@@ -1,16 +1,20 @@
 //! Loads and stores of a session.
 
+ghost use Rattle.std.specs.Prelude.{◌≡◌, ◌<◌};
+ghost use Rattle.steps.specs.Views.{plan};
+ghost use Rattle.session.specs.Calls as stores;
+
 use crate::error::{SessionError, seldom};
 use crate::session::Session;
 use heap_model::{FieldId, Record, SECTION_RECORDS};
 use monitor::Shared;
 
 impl Session {
-    ghost use Rattle.std.specs.Prelude.{◌≡◌, ◌+◌, ◌<◌, ◌≤◌, length, [], ◌∷◌};
+    ghost use Rattle.std.specs.Prelude.{◌≡◌, ◌+◌, ◌<◌, ◌≤◌, length, [], ◌∷◌, true, false};
     ghost use Rattle.heap_model.specs.declared.event.Event.TheVariants as event;
     ghost use Rattle.heap_model.specs.declared.limits.TheConstants.{SECTION_RECORDS};
     ghost use Rattle.steps.specs.Views.{plan, IsHeld, Lengthens};
-    ghost use Rattle.session.specs.Calls.{Loads, StoresAs};
+    ghost use Rattle.session.specs.Calls.{Loads, StoresAs, records_of};
     ghost use Rattle.session.specs.Sessions.{SameRing, IsSessionOf, view_of};
 
     /// Loads a field. One load.
@@ -40,10 +44,11 @@ impl Session {
         Ok(value)
     }
 
-    /// Stores a field, and sends the record. One swap.
+    /// Stores a field, and sends the record; of a transient field there is none. One swap.
     ///
     /// Refused, in this order: [`UnknownField`](SessionError::UnknownField); [`NotHeld`](SessionError::NotHeld) where the
-    /// session doesn't hold the monitor of the field's guard; [`SectionFull`](SessionError::SectionFull).
+    /// session doesn't hold the monitor of the field's guard; [`SectionFull`](SessionError::SectionFull), but for a transient
+    /// field.
     #[inline(always)]
     pub fn store(&mut self, shared: &Shared, field: FieldId, value: u64) -> Result<(), SessionError>
         requires seat { IsSessionOf shared.now self.old }
@@ -56,11 +61,14 @@ impl Session {
             seldom();
             return Err(SessionError::UnknownField);
         }
-        let guard = steps::guard(shared, field);
-        let Some(_grip) = self.grip_on(guard) else {
+        let Some(_grip) = self.grip_on(steps::guard(shared, field)) else {
             seldom();
             return Err(SessionError::NotHeld);
         };
+        if !steps::is_logged(shared, field) {
+            self.write_alone(shared, field, value);
+            return Ok(());
+        }
         if self.records + self.held.len() as u64 + 1 > SECTION_RECORDS {
             seldom();
             return Err(SessionError::SectionFull);
@@ -69,11 +77,32 @@ impl Session {
         Ok(())
     }
 
-    // Writes a field whose guard is held, and pushes its record. Answers the value before.
-    #[inline(always)]
-    pub(crate) fn write(&mut self, shared: &Shared, field: FieldId, value: u64) -> u64
+    // Writes a field whose guard is held, and pushes its record where logs keep its stores.
+    pub(crate) fn write_either(&mut self, shared: &Shared, field: FieldId, value: u64) -> u64
         requires seat { IsSessionOf shared.now self.old }
         requires field { field.0 < (plan shared.now).fields }
+        requires held { IsHeld (view_of self.old) ((plan shared.now).guard field.0) }
+        requires some { 0 < length self.old.held.items }
+        requires short { self.old.records + length self.old.held.items + records_of (plan shared.now) field ≤ SECTION_RECORDS }
+        ensures seat { IsSessionOf shared.now self.new }
+        ensures ring { SameRing self.old self.new }
+        ensures told { Lengthens (view_of self.old) (view_of self.new) (event.Store field result value ∷ []) }
+        ensures held { self.new.held ≡ self.old.held }
+        ensures records { self.new.records ≡ self.old.records + records_of (plan shared.now) field }
+    {
+        if steps::is_logged(shared, field) {
+            self.write(shared, field, value)
+        } else {
+            self.write_alone(shared, field, value)
+        }
+    }
+
+    // Writes a field whose guard is held, and pushes its record. Answers the value before.
+    #[inline(always)]
+    fn write(&mut self, shared: &Shared, field: FieldId, value: u64) -> u64
+        requires seat { IsSessionOf shared.now self.old }
+        requires field { field.0 < (plan shared.now).fields }
+        requires logged { (plan shared.now).is_logged field.0 ≡ true }
         requires held { IsHeld (view_of self.old) ((plan shared.now).guard field.0) }
         requires some { 0 < length self.old.held.items }
         requires short { self.old.records + length self.old.held.items + 1 ≤ SECTION_RECORDS }
@@ -93,4 +122,28 @@ impl Session {
         });
         before
     }
+
+    // Writes a transient field whose guard is held: it makes no record. Answers the value before.
+    #[inline(always)]
+    fn write_alone(&mut self, shared: &Shared, field: FieldId, value: u64) -> u64
+        requires seat { IsSessionOf shared.now self.old }
+        requires field { field.0 < (plan shared.now).fields }
+        requires transient { (plan shared.now).is_logged field.0 ≡ false }
+        requires held { IsHeld (view_of self.old) ((plan shared.now).guard field.0) }
+        ensures seat { IsSessionOf shared.now self.new }
+        ensures ring { SameRing self.old self.new }
+        ensures told { Lengthens (view_of self.old) (view_of self.new) (event.Store field result value ∷ []) }
+        ensures held { self.new.held ≡ self.old.held }
+        ensures records { self.new.records ≡ self.old.records }
+    {
+        steps::write_field(shared, &mut self.seat, field, value)
+    }
+}
+
+// How many records a store to the field makes.
+pub(crate) fn records_of(shared: &Shared, field: FieldId) -> u64
+    requires { field.0 < (plan shared.now).fields }
+    ensures { result ≡ stores.records_of (plan shared.now) field }
+{
+    u64::from(steps::is_logged(shared, field))
 }

@@ -1,6 +1,7 @@
 //! A store to two fields.
 
 use crate::error::SessionError;
+use crate::fields::records_of;
 use crate::session::Session;
 use heap_model::{FieldId, SECTION_RECORDS};
 use monitor::Shared;
@@ -9,12 +10,12 @@ impl Session {
     ghost use Rattle.session.specs.TwoStores.{StoresBoth};
     ghost use Rattle.session.specs.Sessions.{SameRing, IsSessionOf};
 
-    /// Stores `one` in the first field and then `two` in the second, and sends both records; or, refused, does neither. One
-    /// field named twice takes `two`. Two swaps.
+    /// Stores `one` in the first field and then `two` in the second, and sends the records of those that aren't transient; or,
+    /// refused, does neither. One field named twice takes `two`. Two swaps.
     ///
     /// Refused, in this order: [`UnknownField`](SessionError::UnknownField), for either; [`NotHeld`](SessionError::NotHeld)
     /// where the session doesn't hold the monitor of either field's guard; [`SectionFull`](SessionError::SectionFull), where
-    /// both records don't fit.
+    /// the records don't fit, of which there are as many as persistent fields.
     pub fn store_two(
         &mut self,
         shared: &Shared,
@@ -39,11 +40,12 @@ impl Session {
         let Some(_other) = self.grip_on(steps::guard(shared, second)) else {
             return Err(SessionError::NotHeld);
         };
-        if self.records + self.held.len() as u64 + 2 > SECTION_RECORDS {
+        let records = records_of(shared, first) + records_of(shared, second);
+        if self.records + self.held.len() as u64 + records > SECTION_RECORDS {
             return Err(SessionError::SectionFull);
         }
-        self.write(shared, first, one);
-        self.write(shared, second, two);
+        self.write_either(shared, first, one);
+        self.write_either(shared, second, two);
         Ok(())
     }
 }

@@ -4,13 +4,13 @@ use std::io;
 use std::rt::Clock;
 use std::time::Instant;
 
-/// How many sections a run has. Their records fit the ring.
+/// How many sections a run has, or stores. Their records fit the ring.
 pub const SECTIONS: u64 = 500;
 
 /// How many runs there are. Their records fit the lane.
 pub const RUNS: u64 = 340;
 
-/// The least time, in picoseconds a section.
+/// The least time, in picoseconds a section or a store.
 #[derive(Clone, Copy)]
 pub struct Best {
     pub least: u128,

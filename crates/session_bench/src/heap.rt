@@ -1,4 +1,4 @@
-//! A heap for one thread: two objects, each of which guards a field.
+//! A heap for one thread: two objects, each of which guards a field, and the first one a transient field too.
 
 ghost use Rattle.std.specs.Prelude.{IfSome};
 ghost use Rattle.guards.specs.Schema.{field_count};
@@ -23,6 +23,7 @@ fn declare(alloc: Global) -> Option<Schema> {
     let shared = builder.object("shared").ok()?;
     builder.field(own, "first", own, 0).ok()?;
     builder.field(shared, "second", shared, 0).ok()?;
+    builder.transient(own, "cached", own, 0).ok()?;
     builder.build().ok()
 }
 
@@ -31,10 +32,10 @@ pub fn open_heap(alloc: Global) -> Option<(Shared, Session, Consumer<Record>)>
     ensures { IfSome result (λ r. IsSessionOf r.0 r.1) }
 {
     let schema = declare(alloc)?;
-    if schema.fields() != 2 {
+    if schema.fields() != 3 {
         return None;
     }
-    let Ok((shared, seats, _helper)) = Shared::new(alloc, schema, &[0, 0], 1, LAST) else {
+    let Ok((shared, seats, _helper)) = Shared::new(alloc, schema, &[0, 0, 0], 1, LAST) else {
         return None;
     };
     let Ok((mut sessions, mut consumers)) = open_sessions(alloc, &shared, seats, CAPACITY) else {

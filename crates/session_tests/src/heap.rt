@@ -40,10 +40,23 @@ pub fn open_heap(
     ensures { IfSome result (λ r. All (IsSessionOf r.0) r.1.items) }
 {
     let schema = declare(alloc, objects)?;
-    let heap = vec![in alloc; 10u64; objects as usize].ok()?;
-    if schema.fields() as usize != heap.len() {
-        return None;
-    }
+    open_schema(alloc, schema, lanes, last, capacity)
+}
+
+// The same of this schema, each of whose fields has 10.
+fn open_schema(
+    alloc: Global,
+    schema: Schema,
+    lanes: u8,
+    last: u64,
+    capacity: u32,
+) -> Option<(Shared, Vec<Session>, Vec<Consumer<Record>>)>
+    requires lanes { lanes ≤ 32 }
+    requires last { last < 2 ^ 40 }
+    requires capacity { (2000 ≤ capacity) × (capacity ≤ 1048576) }
+    ensures { IfSome result (λ r. All (IsSessionOf r.0) r.1.items) }
+{
+    let heap = vec![in alloc; 10u64; schema.fields() as usize].ok()?;
     let Ok((shared, seats, _helper)) = Shared::new(alloc, schema, heap.as_slice(), lanes, last)
     else {
         return None;
@@ -73,4 +86,22 @@ pub fn open_two(alloc: Global, objects: u32, last: u64) -> Option<(Shared, Sessi
     let b = take_last(&shared, &mut sessions)?;
     let a = take_last(&shared, &mut sessions)?;
     Some((shared, a, b))
+}
+
+/// A heap of this schema, each of whose fields has 10, sessions of its two lanes, each of which holds 4,000 records, and the
+/// other end of the first one's ring.
+pub fn open_of(
+    alloc: Global,
+    schema: Schema,
+    last: u64,
+) -> Option<(Shared, Session, Session, Consumer<Record>)>
+    requires last { last < 2 ^ 40 }
+    ensures { IfSome result (λ r. IsSessionOf r.0 r.1 × IsSessionOf r.0 r.2) }
+{
+    let (shared, mut sessions, mut consumers) = open_schema(alloc, schema, 2, last, 4_000)?;
+    let _other = consumers.pop()?;
+    let ring = consumers.pop()?;
+    let b = take_last(&shared, &mut sessions)?;
+    let a = take_last(&shared, &mut sessions)?;
+    Some((shared, a, b, ring))
 }

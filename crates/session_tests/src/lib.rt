@@ -13,6 +13,8 @@ mod often;
 #[cfg(test)]
 mod races;
 #[cfg(test)]
+mod transients;
+#[cfg(test)]
 mod turns;
 #[cfg(test)]
 mod words;

@@ -46,6 +46,14 @@ pub fn guard(shared: &Shared, field: FieldId) -> ObjectId
     shared.guard(field)
 }
 
+/// Whether logs keep the field's stores. Those of a transient field they don't.
+pub fn is_logged(shared: &Shared, field: FieldId) -> bool
+    requires { field.0 < (plan shared.now).fields }
+    ensures { result ≡ (plan shared.now).is_logged field.0 }
+{
+    shared.is_logged(field)
+}
+
 /// How many objects there are.
 pub fn objects(shared: &Shared) -> u64
     ensures { result ≡ (plan shared.now).objects }

@@ -1,5 +1,5 @@
 -- The home cells made durable, and then the control that acknowledges the stable cut.
-use Rattle.std.proofs.Common.{◌≡◌, ◌⊎◌, inl, inr, ⊎_elim, ℕ, ◌+◌, ◌<◌, ◌≤◌, false, List, [], length, sym, ◌∙◌, ap, subst, arith}
+use Rattle.std.proofs.Common.{◌≡◌, ◌⊎◌, inl, inr, ⊎_elim, ℕ, ◌+◌, ◌<◌, ◌≤◌, true, false, List, [], length, refl, sym, ◌∙◌, ap, subst, arith}
 use Rattle.std.specs.Prelude.{slice_index}
 use Rattle.heap_model.specs.declared.cut.Cut.{Cut}
 use Rattle.heap_model.specs.Setting.{Setting}
@@ -108,9 +108,9 @@ module _ (l : Layout) (s : Setting) (p : Past) (c : Committed) (d : Device) (cut
       parts_old = always_now d (HasParts l s p.logged p.base p.cut) may.consistent.parts
 
       -- every cell reads as its logged value, so it is home for the new cut
-      home_now : (f : ℕ) → f < l.fields → IsDropped (s.guard f) f p.logged (counts_of cut) ⊎ HasCell l f d.now.bytes (kept_value s.first (counts_of cut) f p.logged)
-      home_now f below = ⊎_elim (λ dropped. inl dropped)
-          (λ same. inr (subst (HasCell l f d.now.bytes) same (may.consistent.clean f below (may.clean f below))))
+      home_now : (f : ℕ) → f < l.fields → s.is_logged f ≡ true → IsDropped (s.guard f) f p.logged (counts_of cut) ⊎ HasCell l f d.now.bytes (kept_value s.first (counts_of cut) f p.logged)
+      home_now f below is = ⊎_elim (λ dropped. inl dropped)
+          (λ same. inr (subst (HasCell l f d.now.bytes) same (may.consistent.clean f below (may.clean f below) is)))
           (dropped_or_same s p.logged (counts_of cut) f (legal_before s p.fresh p.logged may.consistent.past.legal) may.stable.closed)
 
       parts_next : HasParts l s p.logged p.base (counts_of cut) d.now.bytes
@@ -119,7 +119,7 @@ module _ (l : Layout) (s : Setting) (p : Past) (c : Committed) (d : Device) (cut
         header = parts_old.header;
         guards = parts_old.guards;
         guarded = parts_old.guarded;
-        guard = parts_old.guard;
+        rows = parts_old.rows;
         live = parts_old.live;
         homes = home_now;
       }
@@ -135,7 +135,7 @@ module _ (l : Layout) (s : Setting) (p : Past) (c : Committed) (d : Device) (cut
         parts_two = subst (HasParts l s p.logged p.base (counts_of cut)) same_bytes parts_next
 
         shown : LeavesOnly d1 d2 (λ image. ShowsPast l s p image ⊎ ShowsPast l s q image)
-        shown = commit_leaves l s c.slot old new d1 steady_one rest_one p may.consistent.tells parts_one q tells_new parts_two d2 committing
+        shown = commit_leaves l s c.slot old new (refl, refl) d1 steady_one rest_one p may.consistent.tells parts_one q tells_new parts_two d2 committing
 
         -- whatever the commit answers
         pub settle_shows : LeavesOnly d d2 (ShowsEither l s p q)
@@ -152,14 +152,14 @@ module _ (l : Layout) (s : Setting) (p : Past) (c : Committed) (d : Device) (cut
             arith,
             may.consistent.room,
             ap (λ (xs : List ℕ). length xs) same_bytes,
-            commit_size l s c.slot old new d1 steady_one rest_one p may.consistent.tells parts_one q tells_new parts_two d2 committing,
+            commit_size l s c.slot old new (refl, refl) d1 steady_one rest_one p may.consistent.tells parts_one q tells_new parts_two d2 committing,
           );
           past = past_after;
           lanes = may.consistent.lanes;
           tells = tells_new;
           steady = steady;
-          parts = commit_parts l s c.slot old new d1 steady_one rest_one p may.consistent.tells parts_one q tells_new parts_two d2 committing;
+          parts = commit_parts l s c.slot old new (refl, refl) d1 steady_one rest_one p may.consistent.tells parts_one q tells_new parts_two d2 committing;
           dirty = λ f below was. absurd (let no : p.is_dirty f ≡ false = may.clean f below in cc);
-          clean = λ f below was. commit_cells l s c.slot old new d1 steady_one rest_one p may.consistent.tells parts_one q tells_new parts_two d2 committing f (value s.first f p.logged)
-              (subst (λ (xs : List ℕ). HasCell l f xs (value s.first f p.logged)) same_bytes (may.consistent.clean f below was));
+          clean = λ f below was kept. commit_cells l s c.slot old new (refl, refl) d1 steady_one rest_one p may.consistent.tells parts_one q tells_new parts_two d2 committing f (value s.first f p.logged)
+              (subst (λ (xs : List ℕ). HasCell l f xs (value s.first f p.logged)) same_bytes (may.consistent.clean f below was kept));
         }

@@ -36,7 +36,7 @@ slot_spared l s log base cut t = record {
   cells = λ f below. inr (slot_before t (cell_at l f) 8 (omega arith));
 }
 
-module _ (l : Layout) (s : Setting) (slot : Slot) (old new : Control) (d : Device) (steady : IsSteady l d slot old)
+module _ (l : Layout) (s : Setting) (slot : Slot) (old new : Control) (currents : (old.version ≡ 2) × (new.version ≡ 2)) (d : Device) (steady : IsSteady l d slot old)
     (p : Past) (tells : TellsCut l p.logged p.base p.cut old.rows) (parts : Always d (HasParts l s p.logged p.base p.cut))
     (q : Past) (tells_new : TellsCut l q.logged q.base q.cut new.rows) (parts_new : Always d (HasParts l s q.logged q.base q.cut))
     (e : Device) (committing : LeavesOnly d e (OldOrNew l d slot old new)) where
@@ -52,8 +52,8 @@ module _ (l : Layout) (s : Setting) (slot : Slot) (old new : Control) (d : Devic
 
   in_commit : (image : List ℕ) → OldOrNew l d slot old new image → Either image
   in_commit image c = ⊎_elim
-      (λ shows. inl (record { slot = slot; control = old; shows = shows; tells = tells; parts = still p.logged p.base p.cut parts image c.from }))
-      (λ shows. inr (record { slot = other slot; control = new; shows = shows; tells = tells_new; parts = still q.logged q.base q.cut parts_new image c.from }))
+      (λ shows. inl (record { slot = slot; control = old; shows = shows; current = currents.0; tells = tells; parts = still p.logged p.base p.cut parts image c.from }))
+      (λ shows. inr (record { slot = other slot; control = new; shows = shows; current = currents.1; tells = tells_new; parts = still q.logged q.base q.cut parts_new image c.from }))
       c.shows
 
   -- at every moment, whatever it answers
@@ -68,7 +68,7 @@ module _ (l : Layout) (s : Setting) (slot : Slot) (old new : Control) (d : Devic
   commit_has image left = still q.logged q.base q.cut parts_new image (each image left).from
 
 -- over a device on which nothing is pending
-module _ (l : Layout) (s : Setting) (slot : Slot) (old new : Control) (d : Device) (steady : IsSteady l d slot old) (rest : d.now.pending ≡ [])
+module _ (l : Layout) (s : Setting) (slot : Slot) (old new : Control) (currents : (old.version ≡ 2) × (new.version ≡ 2)) (d : Device) (steady : IsSteady l d slot old) (rest : d.now.pending ≡ [])
     (p : Past) (tells : TellsCut l p.logged p.base p.cut old.rows) (parts : HasParts l s p.logged p.base p.cut d.now.bytes)
     (q : Past) (tells_new : TellsCut l q.logged q.base q.cut new.rows) (parts_new : HasParts l s q.logged q.base q.cut d.now.bytes)
     (e : Device) (committing : LeavesOnly d e (OldOrNew l d slot old new)) where
@@ -79,11 +79,11 @@ module _ (l : Layout) (s : Setting) (slot : Slot) (old new : Control) (d : Devic
   every log base cut has = always_only d (HasParts l s log base cut) rest has
 
   pub commit_leaves : LeavesOnly d e (λ image. ShowsPast l s p image ⊎ ShowsPast l s q image)
-  commit_leaves = commit_shows l s slot old new d steady p tells (every p.logged p.base p.cut parts) q tells_new (every q.logged q.base q.cut parts_new) e committing
+  commit_leaves = commit_shows l s slot old new currents d steady p tells (every p.logged p.base p.cut parts) q tells_new (every q.logged q.base q.cut parts_new) e committing
 
   -- each image that may be left then has the new parts, and the cells read as before
   pub commit_parts : Always e (HasParts l s q.logged q.base q.cut)
-  commit_parts = commit_has l s slot old new d steady p tells (every p.logged p.base p.cut parts) q tells_new (every q.logged q.base q.cut parts_new) e committing
+  commit_parts = commit_has l s slot old new currents d steady p tells (every p.logged p.base p.cut parts) q tells_new (every q.logged q.base q.cut parts_new) e committing
 
   left_now : ImageBut d the_slot e.now.bytes
   left_now = (now_too d e (OldOrNew l d slot old new) (steady_before l d slot old new steady) committing e.now.bytes (image_now e)).from

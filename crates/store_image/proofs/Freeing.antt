@@ -170,7 +170,7 @@ module _ (l : Layout) (s : Setting) (p : Past) (c : Committed) (d : Device) (is 
         header = has.header;
         guards = has.guards;
         guarded = has.guarded;
-        guard = has.guard;
+        rows = has.rows;
         live = λ k below. live_later p.base p.cut k p.logged (is.past.within k) l image (has.live k below);
         homes = has.homes;
       }
@@ -208,7 +208,7 @@ module _ (l : Layout) (s : Setting) (p : Past) (c : Committed) (d : Device) (is 
     module _ (e : Device) (committing : LeavesOnly d e (OldOrNew l d c.slot was will)) where
       -- whatever the commit answers
       pub trim_shows : LeavesOnly d e (ShowsEither l s p q)
-      trim_shows = commit_shows l s c.slot was will d is.steady p is.tells is.parts q tells_new parts_later e committing
+      trim_shows = commit_shows l s c.slot was will (refl, refl) d is.steady p is.tells is.parts q tells_new parts_later e committing
 
       pub trim_leaves : LeavesOnly d e P
       trim_leaves = weaker d e (ShowsEither l s p q) P to_heap trim_shows
@@ -225,8 +225,8 @@ module _ (l : Layout) (s : Setting) (p : Past) (c : Committed) (d : Device) (is 
         lanes = is.lanes;
         tells = tells_new;
         steady = steady;
-        parts = commit_has l s c.slot was will d is.steady p is.tells is.parts q tells_new parts_later e committing;
+        parts = commit_has l s c.slot was will (refl, refl) d is.steady p is.tells is.parts q tells_new parts_later e committing;
         dirty = is.dirty;
-        clean = λ f below no. cell_survives l f (value s.first f p.logged) (slot_range (other c.slot) ∷ []) (slot_before (other c.slot) (cell_at l f) 8 (omega arith)) d.now.bytes e.now.bytes
-            (is.clean f below no) same;
+        clean = λ f below no kept. cell_survives l f (value s.first f p.logged) (slot_range (other c.slot) ∷ []) (slot_before (other c.slot) (cell_at l f) 8 (omega arith)) d.now.bytes e.now.bytes
+            (is.clean f below no kept) same;
       }

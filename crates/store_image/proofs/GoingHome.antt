@@ -1,5 +1,5 @@
 -- The write of one home cell.
-use Rattle.std.proofs.Common.{◌≡◌, inl, inr, ℕ, ◌<◌, if◌then◌else◌, true, false, List, [], ◌∷◌, sym, subst, arith}
+use Rattle.std.proofs.Common.{◌≡◌, refl, inl, inr, ℕ, ◌<◌, if◌then◌else◌, true, false, List, [], ◌∷◌, sym, subst, arith}
 use Rattle.std.specs.Int.{to_be_bytes, w64}
 use Rattle.std.proofs.lemmas.Bool.{cases_lt}
 use Rattle.std.proofs.lemmas.Bool.Decides.{eqb_tells}
@@ -64,6 +64,7 @@ module _ (l : Layout) (s : Setting) (p : Past) (c : Committed) (old : Device) (f
       slot = c.slot;
       control = control_of c.sequence c.rows;
       shows = shows_survives l c.slot (control_of c.sequence c.rows) rs (inl (omega arith), tt) before image (may.consistent.steady.shows before left) same;
+      current = refl;
       tells = may.consistent.tells;
       parts = in_home image (before, left, same);
     }
@@ -102,9 +103,9 @@ module _ (l : Layout) (s : Setting) (p : Past) (c : Committed) (old : Device) (f
             | inl e ↦ absurd (let no : false ≡ true = subst (λ b. (if b then false else p.is_dirty g) ≡ true) e.0 was in cc)
             | inr e ↦ may.consistent.dirty g below (subst (λ b. (if b then false else p.is_dirty g) ≡ true) e.0 was)
           ];
-          clean = λ g below was. elim (eqb_tells f g) [
+          clean = λ g below was kept. elim (eqb_tells f g) [
             | inl e ↦ subst (λ (h : ℕ). HasCell l h new.now.bytes (value s.first h p.logged)) e.1 (subst (HasCell l f new.now.bytes) may.logged holds)
             | inr e ↦ cell_survives l g (value s.first g p.logged) rs (cells_apart l f g e.1) old.now.bytes new.now.bytes
-                (may.consistent.clean g below (subst (λ b. (if b then false else p.is_dirty g) ≡ false) e.0 was)) same
+                (may.consistent.clean g below (subst (λ b. (if b then false else p.is_dirty g) ≡ false) e.0 was) kept) same
           ];
         }

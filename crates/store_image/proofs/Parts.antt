@@ -28,12 +28,12 @@ parts_survive l s log base cut rs spared old new has same = record {
   header = header_survives l rs spared.header old new has.header same;
   guards = has.guards;
   guarded = guards_survive l has.guards rs spared.guards old new has.guarded same;
-  guard = has.guard;
+  rows = has.rows;
   live = λ lane below. records_survive l lane (records_in (base lane) (undo_logs log lane)) (reverse (undo_logs (records_since base log) lane)) rs
       (λ i lt. spared.live lane (records_in (base lane) (undo_logs log lane) + i) below (omega arith)
       (omega (arith, length-reverse (undo_logs (records_since base log) lane), live_size base lane log)))
       old new (has.live lane below) same;
-  homes = λ f below. ⊎_elim (λ dropped. inl dropped)
+  homes = λ f below is. ⊎_elim (λ dropped. inl dropped)
       (λ holds. ⊎_elim (λ dropped. inl dropped) (λ apart. inr (cell_survives l f (kept_value s.first cut f log) rs apart old new holds same)) (spared.cells f below))
-      (has.homes f below);
+      (has.homes f below is);
 }

@@ -31,7 +31,7 @@ pending_same l slot d e old new steady newer leaves is =
     (λ now. now.1)
     now.shows
 
-module _ (l : Layout) (s : Setting) (slot : Slot) (old new : Control) (d : Device)
+module _ (l : Layout) (s : Setting) (slot : Slot) (old new : Control) (currents : (old.version ≡ 2) × (new.version ≡ 2)) (d : Device)
     (p : Past) (tells : TellsCut l p.logged p.base p.cut old.rows) (parts : Always d (HasParts l s p.logged p.base p.cut))
     (q : Past) (tells_new : TellsCut l q.logged q.base q.cut new.rows) (parts_new : HasParts l s q.logged q.base q.cut d.now.bytes)
     (e : Device) (committing : LeavesOnly d e (OldOrDurable l d slot old new)) where
@@ -48,6 +48,7 @@ module _ (l : Layout) (s : Setting) (slot : Slot) (old new : Control) (d : Devic
         slot = slot;
         control = old;
         shows = shows;
+        current = currents.0;
         tells = tells;
         parts = besides_survives d rs (HasParts l s p.logged p.base p.cut) parts (parts_survive l s p.logged p.base p.cut rs (slot_spared l s p.logged p.base p.cut (other slot))) image c.from;
       }))
@@ -55,6 +56,7 @@ module _ (l : Layout) (s : Setting) (slot : Slot) (old new : Control) (d : Devic
         slot = other slot;
         control = new;
         shows = shows.0;
+        current = currents.1;
         tells = tells_new;
         parts = parts_survive l s q.logged q.base q.cut rs (slot_spared l s q.logged q.base q.cut (other slot)) d.now.bytes image parts_new shows.1;
       }))

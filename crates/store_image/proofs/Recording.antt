@@ -81,6 +81,7 @@ module _ (l : Layout) (s : Setting) (p : Past) (c : Committed) (d : Device) (fre
     slot = c.slot;
     control = old;
     shows = shows_survives l c.slot old rs (front 64 2096 (omega arith)) before image (may.consistent.steady.shows before left) same;
+    current = refl;
     tells = may.consistent.tells;
     parts = in_append image (before, left, same);
   }
@@ -221,11 +222,11 @@ module _ (l : Layout) (s : Setting) (p : Past) (c : Committed) (d : Device) (fre
           header = parts_one.header;
           guards = parts_one.guards;
           guarded = parts_one.guarded;
-          guard = parts_one.guard;
+          rows = parts_one.rows;
           live = live_now;
-          homes = λ f below. ⊎_elim (λ dropped. inl (dropped_more (s.guard f) f p.fresh p.logged p.cut dropped))
+          homes = λ f below is. ⊎_elim (λ dropped. inl (dropped_more (s.guard f) f p.fresh p.logged p.cut dropped))
               (λ holds. inr (subst (HasCell l f d1.now.bytes) (kept_grown s p.fresh p.logged p.cut f may.consistent.past.legal may.consistent.past.whole) holds))
-              (parts_one.homes f below);
+              (parts_one.homes f below is);
         }
 
         module _ (d3 : Device) (committing : LeavesOnly d2 d3 (OldOrNew l d2 c.slot old new)) where
@@ -236,7 +237,7 @@ module _ (l : Layout) (s : Setting) (p : Past) (c : Committed) (d : Device) (fre
           parts_new = subst (HasParts l s q.logged q.base q.cut) same_bytes parts_next
 
           shown : LeavesOnly d2 d3 (λ image. ShowsPast l s p image ⊎ ShowsPast l s q image)
-          shown = commit_leaves l s c.slot old new d2 steady_two rest_two p may.consistent.tells parts_two q tells_new parts_new d3 committing
+          shown = commit_leaves l s c.slot old new (refl, refl) d2 steady_two rest_two p may.consistent.tells parts_two q tells_new parts_new d3 committing
 
           -- whatever the commit answers
           pub log_shows : LeavesOnly d d3 (ShowsEither l s p q)
@@ -248,7 +249,7 @@ module _ (l : Layout) (s : Setting) (p : Past) (c : Committed) (d : Device) (fre
 
           cells : (f : ℕ) → f < l.fields → (v : ℕ) → HasCell l f d.now.bytes v → HasCell l f d3.now.bytes v
           cells f below v holds =
-              commit_cells l s c.slot old new d2 steady_two rest_two p may.consistent.tells parts_two q tells_new parts_new d3 committing f v
+              commit_cells l s c.slot old new (refl, refl) d2 steady_two rest_two p may.consistent.tells parts_two q tells_new parts_new d3 committing f v
               (subst (λ (xs : List ℕ). HasCell l f xs v) same_bytes
               (cell_survives l f v rs (front (cell_at l f) 8 (omega arith)) d.now.bytes d1.now.bytes holds has.same))
 
@@ -260,21 +261,21 @@ module _ (l : Layout) (s : Setting) (p : Past) (c : Committed) (d : Device) (fre
               may.consistent.room,
               has.same.size,
               ap (λ (xs : List ℕ). length xs) same_bytes,
-              commit_size l s c.slot old new d2 steady_two rest_two p may.consistent.tells parts_two q tells_new parts_new d3 committing,
+              commit_size l s c.slot old new (refl, refl) d2 steady_two rest_two p may.consistent.tells parts_two q tells_new parts_new d3 committing,
             );
             past = past_after;
             lanes = may.consistent.lanes;
             tells = tells_new;
             steady = steady;
-            parts = commit_parts l s c.slot old new d2 steady_two rest_two p may.consistent.tells parts_two q tells_new parts_new d3 committing;
+            parts = commit_parts l s c.slot old new (refl, refl) d2 steady_two rest_two p may.consistent.tells parts_two q tells_new parts_new d3 committing;
             dirty = λ f below. elim (p.is_dirty f) as (λ b. p.is_dirty f ≡ b → (if b then true else has_store f p.fresh) ≡ true → IsDropped (s.guard f) f q.logged p.cut) [
               | true ↦ λ was now. dropped_more (s.guard f) f p.fresh p.logged p.cut (may.consistent.dirty f below was)
               | false ↦ λ was now. newer_dropped s p.fresh p.logged p.cut f may.consistent.past.legal may.consistent.past.whole now
             ] refl;
-            clean = λ f below. elim (p.is_dirty f) as (λ b. p.is_dirty f ≡ b → (if b then true else has_store f p.fresh) ≡ false → HasCell l f d3.now.bytes (value s.first f q.logged)) [
-              | true ↦ λ was now. absurd (let no : true ≡ false = now in cc)
-              | false ↦ λ was now. cells f below (value s.first f q.logged)
-                  (subst (HasCell l f d.now.bytes) (sym (value_grown s.first p.fresh p.logged f now)) (may.consistent.clean f below was))
+            clean = λ f below. elim (p.is_dirty f) as (λ b. p.is_dirty f ≡ b → (if b then true else has_store f p.fresh) ≡ false → s.is_logged f ≡ true → HasCell l f d3.now.bytes (value s.first f q.logged)) [
+              | true ↦ λ was now kept. absurd (let no : true ≡ false = now in cc)
+              | false ↦ λ was now kept. cells f below (value s.first f q.logged)
+                  (subst (HasCell l f d.now.bytes) (sym (value_grown s.first p.fresh p.logged f now)) (may.consistent.clean f below was kept))
             ] refl;
           }
 
@@ -290,7 +291,7 @@ module _ (l : Layout) (s : Setting) (p : Past) (c : Committed) (d : Device) (fre
         parts_then = parts_next has (synced d1) refl
 
         shown_at_once : LeavesOnly d1 d3 (λ image. ShowsPast l s p image ⊎ ShowsPast l s q image)
-        shown_at_once = pending_shows l s c.slot old new d1 p may.consistent.tells parts_each q tells_new parts_then d3 committing
+        shown_at_once = pending_shows l s c.slot old new (refl, refl) d1 p may.consistent.tells parts_each q tells_new parts_then d3 committing
 
         -- whatever the commit answers
         pub at_once_shows : LeavesOnly d d3 (ShowsEither l s p q)
@@ -303,7 +304,7 @@ module _ (l : Layout) (s : Setting) (p : Past) (c : Committed) (d : Device) (fre
         module _ (rest : d3.now.pending ≡ []) (same : SameOutside (slot_range (other c.slot) ∷ []) d1.now.bytes d3.now.bytes) where
           cells_then : (f : ℕ) → f < l.fields → (v : ℕ) → HasCell l f d.now.bytes v → HasCell l f d3.now.bytes v
           cells_then f below v holds =
-              pending_cells l s c.slot old new d1 p may.consistent.tells parts_each q tells_new parts_then d3 committing rest same f v
+              pending_cells l s c.slot old new (refl, refl) d1 p may.consistent.tells parts_each q tells_new parts_then d3 committing rest same f v
               (cell_survives l f v rs (front (cell_at l f) 8 (omega arith)) d.now.bytes d1.now.bytes holds has.same)
 
           pub at_once_done : IsSteady l d3 (other c.slot) new → IsConsistent l s q (record { slot = other c.slot; sequence = c.sequence + 1; rows = rows }) d3
@@ -314,15 +315,15 @@ module _ (l : Layout) (s : Setting) (p : Past) (c : Committed) (d : Device) (fre
             lanes = may.consistent.lanes;
             tells = tells_new;
             steady = steady;
-            parts = pending_parts l s c.slot old new d1 p may.consistent.tells parts_each q tells_new parts_then d3 committing rest same;
+            parts = pending_parts l s c.slot old new (refl, refl) d1 p may.consistent.tells parts_each q tells_new parts_then d3 committing rest same;
             dirty = λ f below. elim (p.is_dirty f) as (λ b. p.is_dirty f ≡ b → (if b then true else has_store f p.fresh) ≡ true → IsDropped (s.guard f) f q.logged p.cut) [
               | true ↦ λ was now. dropped_more (s.guard f) f p.fresh p.logged p.cut (may.consistent.dirty f below was)
               | false ↦ λ was now. newer_dropped s p.fresh p.logged p.cut f may.consistent.past.legal may.consistent.past.whole now
             ] refl;
-            clean = λ f below. elim (p.is_dirty f) as (λ b. p.is_dirty f ≡ b → (if b then true else has_store f p.fresh) ≡ false → HasCell l f d3.now.bytes (value s.first f q.logged)) [
-              | true ↦ λ was now. absurd (let no : true ≡ false = now in cc)
-              | false ↦ λ was now. cells_then f below (value s.first f q.logged)
-                  (subst (HasCell l f d.now.bytes) (sym (value_grown s.first p.fresh p.logged f now)) (may.consistent.clean f below was))
+            clean = λ f below. elim (p.is_dirty f) as (λ b. p.is_dirty f ≡ b → (if b then true else has_store f p.fresh) ≡ false → s.is_logged f ≡ true → HasCell l f d3.now.bytes (value s.first f q.logged)) [
+              | true ↦ λ was now kept. absurd (let no : true ≡ false = now in cc)
+              | false ↦ λ was now kept. cells_then f below (value s.first f q.logged)
+                  (subst (HasCell l f d.now.bytes) (sym (value_grown s.first p.fresh p.logged f now)) (may.consistent.clean f below was kept))
             ] refl;
           }
 
@@ -359,8 +360,8 @@ module _ (l : Layout) (s : Setting) (p : Past) (c : Committed) (d : Device) (fre
           | true ↦ λ was now. subst (λ (log : List (ℕ × Record)). IsDropped (s.guard f) f log p.cut) same (may.consistent.dirty f below was)
           | false ↦ λ was now. absurd (let no : false ≡ true = ap (has_store f) (sym is) ∙ now in cc)
         ] refl;
-        clean = λ f below. elim (p.is_dirty f) as (λ b. p.is_dirty f ≡ b → (if b then true else has_store f p.fresh) ≡ false → HasCell l f d.now.bytes (value s.first f q.logged)) [
-          | true ↦ λ was now. absurd (let no : true ≡ false = now in cc)
-          | false ↦ λ was now. subst (λ (log : List (ℕ × Record)). HasCell l f d.now.bytes (value s.first f log)) same (may.consistent.clean f below was)
+        clean = λ f below. elim (p.is_dirty f) as (λ b. p.is_dirty f ≡ b → (if b then true else has_store f p.fresh) ≡ false → s.is_logged f ≡ true → HasCell l f d.now.bytes (value s.first f q.logged)) [
+          | true ↦ λ was now kept. absurd (let no : true ≡ false = now in cc)
+          | false ↦ λ was now kept. subst (λ (log : List (ℕ × Record)). HasCell l f d.now.bytes (value s.first f log)) same (may.consistent.clean f below was kept)
         ] refl;
       }

@@ -1,5 +1,5 @@
 -- One commit that acknowledges the stable cut, makes the home cells durable before it, and frees the places of that cut.
-use Rattle.std.proofs.Common.{◌≡◌, ◌⊎◌, inl, inr, ⊎_elim, ℕ, ◌+◌, ◌-◌, ◌<◌, ◌≤◌, false, List, [], ◌∷◌, length, sym, ◌∙◌, ap, subst, arith}
+use Rattle.std.proofs.Common.{◌≡◌, ◌⊎◌, inl, inr, ⊎_elim, ℕ, ◌+◌, ◌-◌, ◌<◌, ◌≤◌, true, false, List, [], ◌∷◌, length, refl, sym, ◌∙◌, ap, subst, arith}
 use Rattle.std.specs.Prelude.{slice_index}
 use Rattle.heap_model.specs.declared.cut.Cut.{Cut}
 use Rattle.heap_model.specs.Setting.{Setting}
@@ -88,9 +88,9 @@ module _ (l : Layout) (s : Setting) (p : Past) (c : Committed) (d : Device) (cut
   parts_old = always_now d (HasParts l s p.logged p.base p.cut) may.consistent.parts
 
   -- every cell reads as its logged value, so it is home for the new cut
-  home_now : (f : ℕ) → f < l.fields → IsDropped (s.guard f) f p.logged (counts_of cut) ⊎ HasCell l f d.now.bytes (kept_value s.first (counts_of cut) f p.logged)
-  home_now f below = ⊎_elim (λ dropped. inl dropped)
-      (λ same. inr (subst (HasCell l f d.now.bytes) same (may.consistent.clean f below (may.clean f below))))
+  home_now : (f : ℕ) → f < l.fields → s.is_logged f ≡ true → IsDropped (s.guard f) f p.logged (counts_of cut) ⊎ HasCell l f d.now.bytes (kept_value s.first (counts_of cut) f p.logged)
+  home_now f below is = ⊎_elim (λ dropped. inl dropped)
+      (λ same. inr (subst (HasCell l f d.now.bytes) same (may.consistent.clean f below (may.clean f below) is)))
       (dropped_or_same s p.logged (counts_of cut) f (legal_before s p.fresh p.logged may.consistent.past.legal) may.stable.closed)
 
   parts_next : HasParts l s q.logged q.base q.cut d.now.bytes
@@ -99,7 +99,7 @@ module _ (l : Layout) (s : Setting) (p : Past) (c : Committed) (d : Device) (cut
     header = parts_old.header;
     guards = parts_old.guards;
     guarded = parts_old.guarded;
-    guard = parts_old.guard;
+    rows = parts_old.rows;
     live = λ k below. live_later p.base (counts_of cut) k p.logged (up k) l d.now.bytes (parts_old.live k below);
     homes = home_now;
   }
@@ -132,7 +132,7 @@ module _ (l : Layout) (s : Setting) (p : Past) (c : Committed) (d : Device) (cut
     module _ (e : Device) (committing : LeavesOnly d e (OldOrDurable l d c.slot old new)) where
       -- whatever the commit answers
       pub round_shows : LeavesOnly d e (ShowsEither l s p q)
-      round_shows = pending_shows l s c.slot old new d p may.consistent.tells may.consistent.parts q tells_new parts_next e committing
+      round_shows = pending_shows l s c.slot old new (refl, refl) d p may.consistent.tells may.consistent.parts q tells_new parts_next e committing
 
       pub round_leaves : LeavesOnly d e P
       round_leaves = weaker d e (ShowsEither l s p q) P to_heaps round_shows
@@ -146,8 +146,8 @@ module _ (l : Layout) (s : Setting) (p : Past) (c : Committed) (d : Device) (cut
         lanes = may.consistent.lanes;
         tells = tells_new;
         steady = steady;
-        parts = pending_parts l s c.slot old new d p may.consistent.tells may.consistent.parts q tells_new parts_next e committing rest same;
+        parts = pending_parts l s c.slot old new (refl, refl) d p may.consistent.tells may.consistent.parts q tells_new parts_next e committing rest same;
         dirty = λ f below was. absurd (let no : p.is_dirty f ≡ false = may.clean f below in cc);
-        clean = λ f below was. pending_cells l s c.slot old new d p may.consistent.tells may.consistent.parts q tells_new parts_next e committing rest same f (value s.first f p.logged)
-            (may.consistent.clean f below was);
+        clean = λ f below was kept. pending_cells l s c.slot old new (refl, refl) d p may.consistent.tells may.consistent.parts q tells_new parts_next e committing rest same f (value s.first f p.logged)
+            (may.consistent.clean f below was kept);
       }

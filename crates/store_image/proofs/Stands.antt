@@ -81,7 +81,7 @@ module _ (l : Layout) (s : Setting) (p : Past) (within : (lane : ℕ) → p.base
     shows = shown.shows;
     guards = shown.parts.guards;
     guarded = shown.parts.guarded;
-    guard = shown.parts.guard;
+    rows = shown.parts.rows;
     live = live;
     settled = λ lane below. omega (arith, shown.tells.start lane below, shown.tells.settled lane below, cut_place p.base lane p.cut p.logged (within lane));
     homes = shown.parts.homes;
@@ -112,6 +112,7 @@ shows_always l s p c d consistent image left = record {
   slot = c.slot;
   control = control_of c.sequence c.rows;
   shows = consistent.steady.shows image left;
+  current = refl;
   tells = consistent.tells;
   parts = consistent.parts image left;
 }

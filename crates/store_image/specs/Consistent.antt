@@ -21,7 +21,7 @@ use Rattle.image.specs.declared.layout.Layout.{Layout}
 use Rattle.image.specs.declared.slot.Slot.{Slot}
 use Rattle.undo_log.specs.Area.{HasRecords}
 use Rattle.undo_log.specs.Dropped.{undo_logs, records_in, IsDropped}
-use Rattle.undo_log.specs.StandsFor.{guard_in, row_of}
+use Rattle.undo_log.specs.StandsFor.{AreRowsOf, row_of}
 use Rattle.store_past.specs.Past.{Past, IsPast, applied}
 use Rattle.store_image.specs.declared.committed.Committed.{Committed}
 
@@ -34,21 +34,23 @@ pub record TellsCut (l : Layout) (log : List (ℕ × Record)) (base cut : ℕ �
   pub kept : (lane : ℕ) → lane < l.lanes → (row_of rows lane).kept ≡ cut lane
 
 -- The image has all that they want of it but for the control: header and guard rows as they were made, the lanes'
--- live records, and in each home cell the kept value, or anything where a store to its field was dropped.
+-- live records, and in the home cell of each logged field the kept value, or anything where a store to it was dropped.
 pub record HasParts (l : Layout) (s : Setting) (log : List (ℕ × Record)) (base cut : ℕ → ℕ) (image : List ℕ) : Type 0 where
   pub room : size_of l ≤ length image
   pub header : HasHeader image l
   pub guards : List GuardRow
   pub guarded : HasGuards l image guards
-  pub guard : (f : ℕ) → f < l.fields → guard_in guards f ≡ s.guard f
+  pub rows : AreRowsOf l.fields guards s
   pub live : (lane : ℕ) → lane < l.lanes → HasRecords l lane (records_in (base lane) (undo_logs log lane)) image (reverse (undo_logs (records_since base log) lane))
-  pub homes : (f : ℕ) → f < l.fields → IsDropped (s.guard f) f log cut ⊎ HasCell l f image (kept_value s.first cut f log)
+  pub homes : (f : ℕ) → f < l.fields → s.is_logged f ≡ true → IsDropped (s.guard f) f log cut ⊎ HasCell l f image (kept_value s.first cut f log)
 
 -- the image shows this past, by the control that counts and all else
 pub record ShowsPast (l : Layout) (s : Setting) (p : Past) (image : List ℕ) : Type 0 where
   pub slot : Slot
   pub control : Control
   pub shows : Shows l image slot control
+  -- of version 2, since recovery doesn't take the older one
+  pub current : control.version ≡ 2
   pub tells : TellsCut l p.logged p.base p.cut control.rows
   pub parts : HasParts l s p.logged p.base p.cut image
 
@@ -66,6 +68,6 @@ pub record IsConsistent (l : Layout) (s : Setting) (p : Past) (c : Committed) (d
   pub tells : TellsCut l p.logged p.base p.cut c.rows
   pub steady : IsSteady l d c.slot (control_of c.sequence c.rows)
   pub parts : Always d (HasParts l s p.logged p.base p.cut)
-  -- a dirty field has a logged store beyond the acknowledged cut, and the cell of each other one reads as its logged value
+  -- a dirty field has a logged store beyond the acknowledged cut, and the cell of each other logged one reads as its logged value
   pub dirty : (f : ℕ) → f < l.fields → p.is_dirty f ≡ true → IsDropped (s.guard f) f p.logged p.cut
-  pub clean : (f : ℕ) → f < l.fields → p.is_dirty f ≡ false → HasCell l f d.now.bytes (value s.first f p.logged)
+  pub clean : (f : ℕ) → f < l.fields → p.is_dirty f ≡ false → s.is_logged f ≡ true → HasCell l f d.now.bytes (value s.first f p.logged)

@@ -1,5 +1,5 @@
 -- What is remembered before any record, and where nothing was done.
-use Rattle.std.proofs.Common.{ℕ, ◌≡◌, ◌<◌, ◌≤◌, if◌then◌else◌, true, false, List, [], ◌∷◌, length, replicate, refl, sym, ap, ◌∙◌, subst, inl, inr, arith}
+use Rattle.std.proofs.Common.{ℕ, ◌≡◌, ◌<◌, ◌≤◌, if◌then◌else◌, false, List, [], ◌∷◌, length, replicate, refl, sym, ap, ◌∙◌, subst, inl, inr, arith}
 use Rattle.std.proofs.lemmas.Bool.{cases_lt, ne_eqb}
 use Rattle.std.proofs.lemmas.List.{get_or-replicate, get_or_past}
 use Rattle.heap_model.specs.declared.record.Record.{Record}
@@ -14,7 +14,7 @@ use Rattle.store_memory.specs.declared.states.LaneState.{LaneState}
 use Rattle.store_past.specs.Past.{Past, applied, no_past}
 use Rattle.store_memory.specs.Dirty.{is_dirty_in}
 use Rattle.store_memory.specs.Fresh.{IsOfLanes}
-use Rattle.store_memory.specs.Memory.{Memory, new_monitor, new_lane, monitor_in, field_in, lane_in, guard_in, value_in}
+use Rattle.store_memory.specs.Memory.{Memory, new_monitor, new_lane, monitor_in, field_in, lane_in, guard_in, value_in, is_logged_in}
 use Rattle.store_memory.specs.Remembers.{held_of, RemembersLane, Remembers}
 use Rattle.store_memory.specs.Limits.{IsWithin}
 use Rattle.store_memory.specs.Begin.{AreFieldsOf}
@@ -32,10 +32,10 @@ none_held s m p was none l = elim (cases_lt l (length m.lanes)) [
 
 -- the setting that fields and a number of objects make
 abbrev pub setting_of : (objects : ℕ) → List FieldState → (last : ℕ) → Setting
-setting_of objects fields last = record { objects = objects; fields = length fields; guard = λ f. guard_in fields f; first = λ f. value_in fields f; is_logged = λ f. true; last = last }
+setting_of objects fields last = record { objects = objects; fields = length fields; guard = λ f. guard_in fields f; first = λ f. value_in fields f; is_logged = λ f. is_logged_in fields f; last = last }
 
 pub setting_is : (objects : ℕ) (fields : List FieldState) (last : ℕ) → AreFieldsOf objects fields last (setting_of objects fields last)
-setting_is objects fields last = record { objects = refl; size = refl; guards = λ f low. refl; values = λ f low. refl; last_is = refl }
+setting_is objects fields last = record { objects = refl; size = refl; guards = λ f low. refl; marks = λ f low. refl; values = λ f low. refl; last_is = refl }
 
 pub begins : (objects lanes last : ℕ) (s : Setting) (m : Memory) → AreFieldsOf objects m.fields last s → ((f : ℕ) → f < length m.fields → guard_in m.fields f < objects) →
     ((f : ℕ) → f < length m.fields → (field_in m.fields f).logged ≡ value_in m.fields f) → m.last ≡ last → m.monitors ≡ replicate objects new_monitor → m.lanes ≡ replicate lanes new_lane →
@@ -47,6 +47,7 @@ begins objects lanes last s m are named home last_is monitors lanes_are fresh di
   objects = count ∙ sym are.objects;
   fields = sym are.size;
   guards = λ f low. are.guards f (omega (arith, are.size));
+  marks = λ f low. are.marks f (omega (arith, are.size));
   guards_named = λ f low. omega (arith, are.objects, are.guards f (omega (arith, are.size)), named f (omega (arith, are.size)));
   holders = λ o low. ap (λ (ms : List MonitorState). lane_number (monitor_in ms o).holder) monitors ∙ ap (λ (x : MonitorState). lane_number x.holder) (get_or-replicate objects o new_monitor new_monitor (omega (arith, are.objects)));
   numbers = λ o low. ap (λ (ms : List MonitorState). (monitor_in ms o).number) monitors ∙ ap (λ (x : MonitorState). x.number) (get_or-replicate objects o new_monitor new_monitor (omega (arith, are.objects)));

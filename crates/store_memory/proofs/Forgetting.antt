@@ -143,6 +143,7 @@ module _ (s : Setting) (m : Memory) (p : Past) (places : List ℕ) (may : MaySta
     objects = may.remembers.objects;
     fields = may.remembers.fields;
     guards = may.remembers.guards;
+    marks = may.remembers.marks;
     guards_named = may.remembers.guards_named;
     holders = may.remembers.holders;
     numbers = may.remembers.numbers;

@@ -10,7 +10,7 @@ use Rattle.heap_model.specs.Log.{value, log_from}
 use Rattle.store_memory.specs.declared.states.FieldState.{FieldState}
 use Rattle.store_past.specs.Past.{Past, has_store, after_log, after_home}
 use Rattle.store_memory.specs.Dirty.{DirtySet, is_dirty_in}
-use Rattle.store_memory.specs.Memory.{Memory, new_field, field_in, value_in, guard_in}
+use Rattle.store_memory.specs.Memory.{Memory, new_field, field_in, value_in, guard_in, is_logged_in}
 use Rattle.store_memory.specs.Remembers.{Remembers}
 use Rattle.store_memory.proofs.FreshLaws.{log_snoc}
 use Rattle.store_memory.proofs.Remembering.{at_set}
@@ -78,16 +78,17 @@ module _ {Y : Type 0} (part : FieldState → Y) (keeps : (c : FieldState) (w : �
 -- the memory after what was fresh is logged
 pub remembers_log : (s : Setting) (m : Memory) (p : Past) (fs : List FieldState) (d : DirtySet) → Remembers s m p → length fs ≡ length m.fields →
     ((f : ℕ) → f < length m.fields → (field_in fs f).logged ≡ value (λ g. (field_in m.fields g).logged) f (log_from m.fresh)) →
-    ((f : ℕ) → value_in fs f ≡ value_in m.fields f) → ((f : ℕ) → guard_in fs f ≡ guard_in m.fields f) →
+    ((f : ℕ) → value_in fs f ≡ value_in m.fields f) → ((f : ℕ) → guard_in fs f ≡ guard_in m.fields f) → ((f : ℕ) → is_logged_in fs f ≡ is_logged_in m.fields f) →
     ((f : ℕ) → f < m.dirty.fields → is_dirty_in d f ≡ (if is_dirty_in m.dirty f then true else has_store f (log_from m.fresh))) → d.fields ≡ m.dirty.fields →
     Remembers s (record m { fields = fs; fresh = []; dirty = d }) (after_log p)
-remembers_log s m p fs d was long logged values guards dirty dirty_fields = record {
+remembers_log s m p fs d was long logged values guards marks dirty dirty_fields = record {
   legal = was.legal;
   of_lanes = was.of_lanes;
   last = was.last;
   objects = was.objects;
   fields = long ∙ was.fields;
   guards = λ f low. guards f ∙ was.guards f low;
+  marks = λ f low. marks f ∙ was.marks f low;
   guards_named = was.guards_named;
   holders = was.holders;
   numbers = was.numbers;
@@ -119,6 +120,7 @@ remembers_home s m p home d was dirty dirty_fields = record {
   objects = was.objects;
   fields = was.fields;
   guards = was.guards;
+  marks = was.marks;
   guards_named = was.guards_named;
   holders = was.holders;
   numbers = was.numbers;

@@ -77,7 +77,7 @@ lane_other p l m r st other was =
     }
 
 -- who holds an object, and its number, after the record
-pub holder_next : (l : Lane) (r : Record) (ms : List MonitorState) (o : ℕ) (log : List (ℕ × Record)) (fields : ℕ) → IsNamed (length ms) fields r → holder_in ms o ≡ holder o log → holder_in (monitors_after l r ms) o ≡ holder o ((l.0, r) ∷ log)
+pub holder_next : (l : Lane) (r : Record) (ms : List MonitorState) (o : ℕ) (log : List (ℕ × Record)) (fields : List FieldState) → IsNamed (length ms) fields r → holder_in ms o ≡ holder o log → holder_in (monitors_after l r ms) o ≡ holder o ((l.0, r) ∷ log)
 holder_next l (Acq q n) ms o log fields named was =
     ap (λ (m : MonitorState). lane_number m.holder) (at_set ms q.0 o (record { holder = Some l; number = number_in ms q.0 }) new_monitor named)
     ∙ seen (λ (m : MonitorState). lane_number m.holder) (q.0 == o) (record { holder = Some l; number = number_in ms q.0 }) (monitor_in ms o) ∙ ap (λ x. if q.0 == o then Some l.0 else x) was
@@ -97,7 +97,7 @@ number_kept l q ms o named =
       | inr e ↦ ap (λ (b : Bool). (if b then record { holder = Some l; number = number_in ms q } else monitor_in ms o).number) e.0
     ]
 
-pub number_next : (l : Lane) (r : Record) (ms : List MonitorState) (o : ℕ) (log : List (ℕ × Record)) (fields : ℕ) → IsNamed (length ms) fields r → number_in ms o ≡ number o log → number_in (monitors_after l r ms) o ≡ number o ((l.0, r) ∷ log)
+pub number_next : (l : Lane) (r : Record) (ms : List MonitorState) (o : ℕ) (log : List (ℕ × Record)) (fields : List FieldState) → IsNamed (length ms) fields r → number_in ms o ≡ number o log → number_in (monitors_after l r ms) o ≡ number o ((l.0, r) ∷ log)
 number_next l (Acq q n) ms o log fields named was = number_kept l q.0 ms o named ∙ was
 number_next l (Rel q n) ms o log fields named was =
     ap (λ (m : MonitorState). m.number) (at_set ms q.0 o (record { holder = None; number = n + 1 }) new_monitor named)
@@ -108,22 +108,22 @@ number_next l (WaitRel q n) ms o log fields named was =
 number_next l (Put f v w) ms o log fields named was = was
 
 -- a field's value, guard and logged value after the record
-pub value_next : (first : ℕ → ℕ) (l : ℕ) (r : Record) (fs : List FieldState) (f : ℕ) (log : List (ℕ × Record)) (objects : ℕ) → IsNamed objects (length fs) r → value_in fs f ≡ value first f log → value_in (fields_after r fs) f ≡ value first f ((l, r) ∷ log)
+pub value_next : (first : ℕ → ℕ) (l : ℕ) (r : Record) (fs : List FieldState) (f : ℕ) (log : List (ℕ × Record)) (objects : ℕ) → IsNamed objects fs r → value_in fs f ≡ value first f log → value_in (fields_after r fs) f ≡ value first f ((l, r) ∷ log)
 value_next first l (Acq o n) fs f log objects named was = was
 value_next first l (Rel o n) fs f log objects named was = was
 value_next first l (WaitRel o n) fs f log objects named was = was
 value_next first l (Put g v w) fs f log objects named was =
-    ap (λ (c : FieldState). c.value) (at_set fs g.0 f (record (field_in fs g.0) { value = w }) new_field named)
+    ap (λ (c : FieldState). c.value) (at_set fs g.0 f (record (field_in fs g.0) { value = w }) new_field named.0)
     ∙ seen (λ (c : FieldState). c.value) (g.0 == f) (record (field_in fs g.0) { value = w }) (field_in fs f) ∙ ap (λ x. if g.0 == f then w else x) was
 
 -- what a store leaves of a field
 module _ {Y : Type 0} (part : FieldState → Y) (keeps : (c : FieldState) (w : ℕ) → part (record c { value = w }) ≡ part c) where
-  pub part_next : (r : Record) (fs : List FieldState) (f objects : ℕ) → IsNamed objects (length fs) r → part (field_in (fields_after r fs) f) ≡ part (field_in fs f)
+  pub part_next : (r : Record) (fs : List FieldState) (f objects : ℕ) → IsNamed objects fs r → part (field_in (fields_after r fs) f) ≡ part (field_in fs f)
   part_next (Acq o n) fs f objects named = refl
   part_next (Rel o n) fs f objects named = refl
   part_next (WaitRel o n) fs f objects named = refl
   part_next (Put g v w) fs f objects named =
-      ap part (at_set fs g.0 f (record (field_in fs g.0) { value = w }) new_field named)
+      ap part (at_set fs g.0 f (record (field_in fs g.0) { value = w }) new_field named.0)
       ∙ elim (eqb_tells g.0 f) [
         | inl e ↦ ap (λ (b : Bool). part (if b then record (field_in fs g.0) { value = w } else field_in fs f)) e.0 ∙ keeps (field_in fs g.0) w ∙ ap (λ k. part (field_in fs k)) e.1
         | inr e ↦ ap (λ (b : Bool). part (if b then record (field_in fs g.0) { value = w } else field_in fs f)) e.0

@@ -28,17 +28,17 @@ use mathlib.Core.Logic.{dite}
 use native.Mathlib.Decide.{ℕ_discrete}
 
 module _ (s : Setting) (m : Memory) (p : Past) (was : Remembers s m p) where
-  pub named_to : (r : Record) → IsNamed (length m.monitors) (length m.fields) r → IsRecordOf s r
+  pub named_to : (r : Record) → IsNamed (length m.monitors) m.fields r → IsRecordOf s r
   named_to (Acq o n) h = omega (arith, was.objects)
   named_to (Rel o n) h = omega (arith, was.objects)
   named_to (WaitRel o n) h = omega (arith, was.objects)
-  named_to (Put f v w) h = omega (arith, was.fields)
+  named_to (Put f v w) h = let low : f.0 < s.fields = omega (arith, was.fields, h.0) in (low, sym (was.marks f.0 low) ∙ h.1)
 
-  named_from : (r : Record) → IsRecordOf s r → IsNamed (length m.monitors) (length m.fields) r
+  named_from : (r : Record) → IsRecordOf s r → IsNamed (length m.monitors) m.fields r
   named_from (Acq o n) h = omega (arith, was.objects)
   named_from (Rel o n) h = omega (arith, was.objects)
   named_from (WaitRel o n) h = omega (arith, was.objects)
-  named_from (Put f v w) h = omega (arith, was.fields)
+  named_from (Put f v w) h = (omega (arith, was.fields, h.0), was.marks f.0 h.0 ∙ h.1)
 
   last_to : (r : Record) → HasLastNumber m.last r → HasLastNumber s.last r
   last_to r h = subst (λ n. HasLastNumber n r) was.last h
@@ -51,19 +51,19 @@ module _ (s : Setting) (m : Memory) (p : Past) (was : Remembers s m p) where
       let low : f < s.fields = omega (arith, was.fields) in
       ap (holder_in m.monitors) (was.guards f low) ∙ was.holders (s.guard f) (was.guards_named f low)
 
-  pub allows_to : (l : ℕ) (r : Record) → IsNamed (length m.monitors) (length m.fields) r → Allows m.last m.monitors m.fields l r → IsAllowed s (applied p) l r
+  pub allows_to : (l : ℕ) (r : Record) → IsNamed (length m.monitors) m.fields r → Allows m.last m.monitors m.fields l r → IsAllowed s (applied p) l r
   allows_to l (Acq o n) h a = let low : o.0 < s.objects = omega (arith, was.objects) in (sym (was.holders o.0 low) ∙ a.0, sym (was.numbers o.0 low) ∙ a.1, omega (arith, was.last, a.2))
   allows_to l (Rel o n) h a = let low : o.0 < s.objects = omega (arith, was.objects) in (sym (was.holders o.0 low) ∙ a.0, sym (was.numbers o.0 low) ∙ a.1)
   allows_to l (WaitRel o n) h a = let low : o.0 < s.objects = omega (arith, was.objects) in (sym (was.holders o.0 low) ∙ a.0, sym (was.numbers o.0 low) ∙ a.1)
-  allows_to l (Put f v w) h a = let low : f.0 < s.fields = omega (arith, was.fields) in (sym (guard_holder f.0 h) ∙ a.0, sym (was.values f.0 low) ∙ a.1)
+  allows_to l (Put f v w) h a = let low : f.0 < s.fields = omega (arith, was.fields, h.0) in (sym (guard_holder f.0 h.0) ∙ a.0, sym (was.values f.0 low) ∙ a.1)
 
-  allows_from : (l : ℕ) (r : Record) → IsNamed (length m.monitors) (length m.fields) r → IsAllowed s (applied p) l r → Allows m.last m.monitors m.fields l r
+  allows_from : (l : ℕ) (r : Record) → IsNamed (length m.monitors) m.fields r → IsAllowed s (applied p) l r → Allows m.last m.monitors m.fields l r
   allows_from l (Acq o n) h a = let low : o.0 < s.objects = omega (arith, was.objects) in (was.holders o.0 low ∙ a.0, was.numbers o.0 low ∙ a.1, omega (arith, was.last, a.2))
   allows_from l (Rel o n) h a = let low : o.0 < s.objects = omega (arith, was.objects) in (was.holders o.0 low ∙ a.0, was.numbers o.0 low ∙ a.1)
   allows_from l (WaitRel o n) h a = let low : o.0 < s.objects = omega (arith, was.objects) in (was.holders o.0 low ∙ a.0, was.numbers o.0 low ∙ a.1)
-  allows_from l (Put f v w) h a = let low : f.0 < s.fields = omega (arith, was.fields) in (guard_holder f.0 h ∙ a.0, was.values f.0 low ∙ a.1)
+  allows_from l (Put f v w) h a = let low : f.0 < s.fields = omega (arith, was.fields, h.0) in (guard_holder f.0 h.0 ∙ a.0, was.values f.0 low ∙ a.1)
 
-  module _ (l : ℕ) (lt : l < length m.lanes) (r : Record) (named : IsNamed (length m.monitors) (length m.fields) r) where
+  module _ (l : ℕ) (lt : l < length m.lanes) (r : Record) (named : IsNamed (length m.monitors) m.fields r) where
     next_to : IsNextIn m.last m.monitors m.fields l (lane_in m.lanes l) r → IsNext s p l r
     next_to h = (allows_to l r named h.0, subst (λ o. MayFollow o r) (was.lanes l lt).awaited_is h.1)
 
@@ -105,7 +105,7 @@ module _ (s : Setting) (m : Memory) (p : Past) (was : Remembers s m p) where
   answers_from l r (Ok done) h = (h.0, named_to r h.1, (λ worn. h.2.0 (worn_from l h.0 r h.1 worn)), next_to l h.0 r h.1 h.2.1, (λ long. h.2.2 (long_from l h.0 r h.1 (next_to l h.0 r h.1 h.2.1) long)), (λ full. h.2.3 (full_from l h.0 r h.1 full)))
 
   -- after a record that is taken
-  pub remembers_next : (l : Lane) (r : Record) → l.0 < length m.lanes → IsNamed (length m.monitors) (length m.fields) r → IsNextIn m.last m.monitors m.fields l.0 (lane_in m.lanes l.0) r →
+  pub remembers_next : (l : Lane) (r : Record) → l.0 < length m.lanes → IsNamed (length m.monitors) m.fields r → IsNextIn m.last m.monitors m.fields l.0 (lane_in m.lanes l.0) r →
       Remembers s (memory_after l r m) (after_apply p l.0 r)
   remembers_next l r lt named next =
       let allowed : IsAllowed s (applied p) l.0 r = allows_to l.0 r named next.0 in
@@ -117,9 +117,10 @@ module _ (s : Setting) (m : Memory) (p : Past) (was : Remembers s m p) where
         objects = monitors_long l r m.monitors ∙ was.objects;
         fields = fields_long r m.fields ∙ was.fields;
         guards = λ f low. part_next (λ (c : FieldState). c.guard.0) (λ c w. refl) r m.fields f (length m.monitors) named ∙ was.guards f low;
+        marks = λ f low. part_next (λ (c : FieldState). c.is_logged) (λ c w. refl) r m.fields f (length m.monitors) named ∙ was.marks f low;
         guards_named = was.guards_named;
-        holders = λ o low. holder_next l r m.monitors o (applied p) (length m.fields) named (was.holders o low);
-        numbers = λ o low. number_next l r m.monitors o (applied p) (length m.fields) named (was.numbers o low);
+        holders = λ o low. holder_next l r m.monitors o (applied p) m.fields named (was.holders o low);
+        numbers = λ o low. number_next l r m.monitors o (applied p) m.fields named (was.numbers o low);
         values = λ f low. value_next s.first l.0 r m.fields f (applied p) (length m.monitors) named (was.values f low);
         lanes = λ k low. (let short : k < length m.lanes = omega (arith, length-set m.lanes l.0 (lane_after r (lane_in m.lanes l.0))) in dite (ℕ_discrete k l.0)
             (λ same. subst (λ j. RemembersLane (after_apply p l.0 r) j (lane_in (slice_set m.lanes l.0 (lane_after r (lane_in m.lanes l.0))) j)) (sym same)

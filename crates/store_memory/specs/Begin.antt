@@ -3,13 +3,14 @@ use Rattle.std.specs.Prelude.{ℕ, ◌≡◌, ◌<◌, true, false, List, length
 use Rattle.heap_model.specs.Setting.{Setting}
 use Rattle.store_past.specs.Past.{Past}
 use Rattle.store_memory.specs.declared.states.FieldState.{FieldState}
-use Rattle.store_memory.specs.Memory.{value_in, guard_in}
+use Rattle.store_memory.specs.Memory.{value_in, guard_in, is_logged_in}
 
--- these are the fields of a setting with so many objects, before any record: each has its guard and its first value
+-- these are the fields of a setting with so many objects, before any record: each has its guard, its mark and its first value
 pub record AreFieldsOf (count : ℕ) (fields : List FieldState) (last : ℕ) (s : Setting) : Type 0 where
   pub objects : s.objects ≡ count
   pub size : s.fields ≡ length fields
   pub guards : (f : ℕ) → f < length fields → guard_in fields f ≡ s.guard f
+  pub marks : (f : ℕ) → f < length fields → is_logged_in fields f ≡ s.is_logged f
   pub values : (f : ℕ) → f < length fields → value_in fields f ≡ s.first f
   pub last_is : last ≡ s.last
 

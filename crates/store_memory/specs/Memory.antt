@@ -1,5 +1,5 @@
 -- What a store remembers, as plain data (this project's own).
-use Rattle.std.specs.Prelude.{ℕ, ◌≡◌, ◌+◌, ◌-◌, ◌==◌, if◌then◌else◌, List, Option, Some, None, length, slice_index_or, slice_set}
+use Rattle.std.specs.Prelude.{ℕ, ◌≡◌, ◌+◌, ◌-◌, ◌==◌, if◌then◌else◌, Bool, false, List, Option, Some, None, length, slice_index_or, slice_set}
 use Rattle.heap_model.specs.declared.ids.Lane.{Lane}
 use Rattle.heap_model.specs.declared.ids.ObjectId.{ObjectId}
 use Rattle.heap_model.specs.declared.record.Record.{Record}
@@ -27,7 +27,7 @@ abbrev pub new_monitor : MonitorState
 new_monitor = record { holder = None; number = 0 }
 
 abbrev pub new_field : FieldState
-new_field = record { guard = record { 0 = 0 }; value = 0; logged = 0 }
+new_field = record { guard = record { 0 = 0 }; is_logged = false; value = 0; logged = 0 }
 
 abbrev pub new_lane : LaneState
 new_lane = record { start = 0; place = 0; section = 0; held = 0; awaited = None }
@@ -54,6 +54,10 @@ value_in fields f = (field_in fields f).value
 
 abbrev pub guard_in : List FieldState → ℕ → ℕ
 guard_in fields f = (field_in fields f).guard.0
+
+-- whether logs keep the field's stores
+abbrev pub is_logged_in : List FieldState → ℕ → Bool
+is_logged_in fields f = (field_in fields f).is_logged
 
 -- what no record changes: the bounds, how many lanes, objects and fields there are, and what was trimmed
 pub record KeepsLayout (old new : Memory) : Type 0 where

@@ -7,7 +7,7 @@ use Rattle.store_memory.specs.declared.states.LaneState.{LaneState}
 use Rattle.store_past.specs.Past.{Past, applied}
 use Rattle.store_memory.specs.Dirty.{is_dirty_in}
 use Rattle.store_memory.specs.Fresh.{IsOfLanes}
-use Rattle.store_memory.specs.Memory.{Memory, field_in, lane_in, holder_in, number_in, value_in, guard_in, object_number}
+use Rattle.store_memory.specs.Memory.{Memory, field_in, lane_in, holder_in, number_in, value_in, guard_in, is_logged_in, object_number}
 
 -- what a lane did in the section that it is in, the newest first: nothing where it holds nothing (Atlas)
 abbrev pub open_section : List Action → List Action
@@ -43,6 +43,7 @@ pub record Remembers (s : Setting) (m : Memory) (p : Past) : Type 0 where
   pub objects : length m.monitors ≡ s.objects
   pub fields : length m.fields ≡ s.fields
   pub guards : (f : ℕ) → f < s.fields → guard_in m.fields f ≡ s.guard f
+  pub marks : (f : ℕ) → f < s.fields → is_logged_in m.fields f ≡ s.is_logged f
   pub guards_named : (f : ℕ) → f < s.fields → s.guard f < s.objects
   -- monitors, fields and lanes are as the records leave them
   pub holders : (o : ℕ) → o < s.objects → holder_in m.monitors o ≡ holder o (applied p)

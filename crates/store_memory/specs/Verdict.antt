@@ -1,5 +1,5 @@
 -- The same reasons, in terms of what is remembered.
-use Rattle.std.specs.Prelude.{ℕ, ◌≡◌, ◌+◌, ◌<◌, ◌≤◌, ◌^◌, ◌⊎◌, None, Some, Result, Ok, Err, List, length}
+use Rattle.std.specs.Prelude.{ℕ, ◌≡◌, ◌+◌, ◌<◌, ◌≤◌, ◌^◌, ◌⊎◌, true, None, Some, Result, Ok, Err, List, length}
 use Rattle.heap_model.specs.declared.record.Record.{Record}
 use Rattle.heap_model.specs.declared.record.Record.TheVariants.{Acq, Rel, WaitRel, Put}
 use Rattle.heap_model.specs.Log.{MayFollow}
@@ -8,15 +8,15 @@ use Rattle.store_past.specs.declared.error.StoreError.TheVariants.{BadLane, BadI
 use Rattle.store_memory.specs.declared.states.MonitorState.{MonitorState}
 use Rattle.store_memory.specs.declared.states.FieldState.{FieldState}
 use Rattle.store_memory.specs.declared.states.LaneState.{LaneState}
-use Rattle.store_memory.specs.Memory.{holder_in, number_in, value_in, guard_in, lane_in, held_after, object_number}
+use Rattle.store_memory.specs.Memory.{holder_in, number_in, value_in, guard_in, is_logged_in, lane_in, held_after, object_number}
 use Rattle.store_memory.specs.Apply.{HasLastNumber}
 
--- the record's object or field is one of so many
-abbrev pub IsNamed : (objects fields : ℕ) → Record → Type 0
+-- the record's object is one of so many, or its field is one of these whose stores are logged
+abbrev pub IsNamed : (objects : ℕ) → List FieldState → Record → Type 0
 IsNamed objects fields (Acq o n) = o.0 < objects
 IsNamed objects fields (Rel o n) = o.0 < objects
 IsNamed objects fields (WaitRel o n) = o.0 < objects
-IsNamed objects fields (Put f before after) = f.0 < fields
+IsNamed objects fields (Put f before after) = (f.0 < length fields) × (is_logged_in fields f.0 ≡ true)
 
 -- the lane takes a free object at its number, frees one that it holds, or stores to a field whose guard it holds
 abbrev pub Allows : (last : ℕ) → List MonitorState → List FieldState → (lane : ℕ) → Record → Type 0
@@ -49,12 +49,12 @@ JudgesNamed last capacity s monitors fields l r (Err _) = ⊥
 -- the answer to any record
 abbrev pub Judges : (last capacity : ℕ) → List LaneState → List MonitorState → List FieldState → (lane : ℕ) → Record → Result (Unit {0}) StoreError → Type 0
 Judges last capacity lanes monitors fields l r (Err BadLane) = length lanes ≤ l
-Judges last capacity lanes monitors fields l r (Err BadId) = (l < length lanes) × (¬ IsNamed (length monitors) (length fields) r)
-Judges last capacity lanes monitors fields l r (Err Worn) = (l < length lanes) × IsNamed (length monitors) (length fields) r × JudgesNamed last capacity (lane_in lanes l) monitors fields l r (Err Worn)
-Judges last capacity lanes monitors fields l r (Err NotNext) = (l < length lanes) × IsNamed (length monitors) (length fields) r × JudgesNamed last capacity (lane_in lanes l) monitors fields l r (Err NotNext)
-Judges last capacity lanes monitors fields l r (Err TooLong) = (l < length lanes) × IsNamed (length monitors) (length fields) r × JudgesNamed last capacity (lane_in lanes l) monitors fields l r (Err TooLong)
-Judges last capacity lanes monitors fields l r (Err LogFull) = (l < length lanes) × IsNamed (length monitors) (length fields) r × JudgesNamed last capacity (lane_in lanes l) monitors fields l r (Err LogFull)
-Judges last capacity lanes monitors fields l r (Ok done) = (l < length lanes) × IsNamed (length monitors) (length fields) r × JudgesNamed last capacity (lane_in lanes l) monitors fields l r (Ok done)
+Judges last capacity lanes monitors fields l r (Err BadId) = (l < length lanes) × (¬ IsNamed (length monitors) fields r)
+Judges last capacity lanes monitors fields l r (Err Worn) = (l < length lanes) × IsNamed (length monitors) fields r × JudgesNamed last capacity (lane_in lanes l) monitors fields l r (Err Worn)
+Judges last capacity lanes monitors fields l r (Err NotNext) = (l < length lanes) × IsNamed (length monitors) fields r × JudgesNamed last capacity (lane_in lanes l) monitors fields l r (Err NotNext)
+Judges last capacity lanes monitors fields l r (Err TooLong) = (l < length lanes) × IsNamed (length monitors) fields r × JudgesNamed last capacity (lane_in lanes l) monitors fields l r (Err TooLong)
+Judges last capacity lanes monitors fields l r (Err LogFull) = (l < length lanes) × IsNamed (length monitors) fields r × JudgesNamed last capacity (lane_in lanes l) monitors fields l r (Err LogFull)
+Judges last capacity lanes monitors fields l r (Ok done) = (l < length lanes) × IsNamed (length monitors) fields r × JudgesNamed last capacity (lane_in lanes l) monitors fields l r (Ok done)
 Judges last capacity lanes monitors fields l r (Err _) = ⊥
 
 -- one more than the record's release number, if it has one, fits a word

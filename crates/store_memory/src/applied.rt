@@ -138,7 +138,7 @@ impl Applied {
         }
         word_law(record);
         note_lane(&mut self.lanes, lane, record);
-        note_monitor(&mut self.monitors, self.fields.len(), lane, record);
+        note_monitor(&mut self.monitors, &self.fields, lane, record);
         note_store(&mut self.fields, self.monitors.len(), record);
         self.fresh.push(lane, record);
         Ok(())

@@ -39,15 +39,17 @@ pub fn lane_at(lanes: &[LaneState], lane: Lane) -> LaneState
     lanes[lane.0 as usize]
 }
 
-/// Whether the record's object or field is one of so many.
+/// Whether the record's object is one of so many, or its field is one of these whose stores are logged.
 #[inline(always)]
-pub fn is_named(objects: usize, fields: usize, record: Record) -> bool
-    ensures { IsTrue result ↔ IsNamed objects fields «record» }
+pub fn is_named(objects: usize, fields: &[FieldState], record: Record) -> bool
+    ensures { IsTrue result ↔ IsNamed objects fields.now «record» }
 {
     match record {
         Record::Acq { object, .. } | Record::Rel { object, .. } | Record::WaitRel { object, .. } =>
             { (object.0 as usize) < objects }
-        Record::Put { field, .. } => (field.0 as usize) < fields,
+        Record::Put { field, .. } => {
+            (field.0 as usize) < fields.len() && field_at(fields, field).is_logged
+        }
     }
 }
 
@@ -108,7 +110,7 @@ fn is_allowed(
     lane: Lane,
     record: Record,
 ) -> bool
-    requires named { IsNamed (length monitors.now) (length fields.now) «record» }
+    requires named { IsNamed (length monitors.now) fields.now «record» }
     requires guards { (f : ℕ) → f < length fields.now → guard_in fields.now f < length monitors.now }
     ensures { IsTrue result ↔ Allows last monitors.now fields.now lane.0 «record» }
 {
@@ -138,7 +140,7 @@ fn is_next(
     state: LaneState,
     record: Record,
 ) -> bool
-    requires named { IsNamed (length monitors.now) (length fields.now) «record» }
+    requires named { IsNamed (length monitors.now) fields.now «record» }
     requires guards { (f : ℕ) → f < length fields.now → guard_in fields.now f < length monitors.now }
     ensures { IsTrue result ↔ IsNextIn last monitors.now fields.now lane.0 state «record» }
 {
@@ -197,7 +199,7 @@ pub fn check(
     if lanes.len() <= lane.0 as usize {
         return Err(StoreError::BadLane);
     }
-    if !is_named(monitors.len(), fields.len(), record) {
+    if !is_named(monitors.len(), fields, record) {
         return Err(StoreError::BadId);
     }
     judge(
@@ -222,7 +224,7 @@ fn judge(
     lane: Lane,
     record: Record,
 ) -> Result<(), StoreError>
-    requires named { IsNamed (length monitors.now) (length fields.now) «record» }
+    requires named { IsNamed (length monitors.now) fields.now «record» }
     requires guards { (f : ℕ) → f < length fields.now → guard_in fields.now f < length monitors.now }
     requires place { state.place + 1000 < 2 ^ 64 }
     requires start { state.start ≤ state.place }

@@ -3,7 +3,7 @@
 ghost use Rattle.std.specs.Prelude.{◌≡◌, ◌<◌, ◌∷◌, [], ℕ, true, if◌then◌else◌, length};
 ghost use Rattle.heap_model.specs.Log.{value as value_of, log_from};
 ghost use Rattle.store_past.specs.Past.{has_store};
-ghost use Rattle.store_memory.specs.Memory.{field_in, value_in, guard_in};
+ghost use Rattle.store_memory.specs.Memory.{field_in, value_in, guard_in, is_logged_in};
 ghost use Rattle.store_memory.specs.Dirty.{is_dirty_in};
 
 use crate::dirty::DirtyFields;
@@ -15,6 +15,7 @@ pub fn log_all(fields: &mut [FieldState], dirty: &mut DirtyFields, records: &[La
     ensures logged { (f : ℕ) → f < length fields.old → (field_in fields.new f).logged ≡ value_of (λ g. (field_in fields.old g).logged) f (log_from records.now) }
     ensures values { (f : ℕ) → value_in fields.new f ≡ value_in fields.old f }
     ensures guards { (f : ℕ) → guard_in fields.new f ≡ guard_in fields.old f }
+    ensures marks { (f : ℕ) → is_logged_in fields.new f ≡ is_logged_in fields.old f }
     ensures dirty { (f : ℕ) → f < dirty.old.fields → is_dirty_in dirty.new f ≡ (if is_dirty_in dirty.old f then true else has_store f (log_from records.now)) }
     ensures dirty_fields { dirty.new.fields ≡ dirty.old.fields }
 {
@@ -28,6 +29,7 @@ fn log_record(fields: &mut [FieldState], dirty: &mut DirtyFields, entry: LaneRec
     ensures logged { (f : ℕ) → f < length fields.old → (field_in fields.new f).logged ≡ value_of (λ g. (field_in fields.old g).logged) f ((entry.lane.0, entry.«record») ∷ []) }
     ensures values { (f : ℕ) → value_in fields.new f ≡ value_in fields.old f }
     ensures guards { (f : ℕ) → guard_in fields.new f ≡ guard_in fields.old f }
+    ensures marks { (f : ℕ) → is_logged_in fields.new f ≡ is_logged_in fields.old f }
     ensures dirty { (f : ℕ) → f < dirty.old.fields → is_dirty_in dirty.new f ≡ (if is_dirty_in dirty.old f then true else has_store f ((entry.lane.0, entry.«record») ∷ [])) }
     ensures dirty_fields { dirty.new.fields ≡ dirty.old.fields }
 {

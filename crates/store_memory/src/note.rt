@@ -51,8 +51,13 @@ pub fn note_lane(lanes: &mut [LaneState], lane: Lane, record: Record)
 
 /// Notes who holds the record's monitor.
 #[inline(always)]
-pub fn note_monitor(monitors: &mut [MonitorState], fields: usize, lane: Lane, record: Record)
-    requires named { IsNamed (length monitors.old) fields «record» }
+pub fn note_monitor(
+    monitors: &mut [MonitorState],
+    fields: &[FieldState],
+    lane: Lane,
+    record: Record,
+)
+    requires named { IsNamed (length monitors.old) fields.now «record» }
     requires fits { NumberFits «record» }
     ensures { monitors.new ≡ monitors_after lane «record» monitors.old }
 {
@@ -71,7 +76,7 @@ pub fn note_monitor(monitors: &mut [MonitorState], fields: usize, lane: Lane, re
 /// Notes the value that the record stores.
 #[inline(always)]
 pub fn note_store(fields: &mut [FieldState], objects: usize, record: Record)
-    requires named { IsNamed objects (length fields.old) «record» }
+    requires named { IsNamed objects fields.old «record» }
     ensures { fields.new ≡ fields_after «record» fields.old }
 {
     if let Record::Put { field, after, .. } = record {

@@ -16,6 +16,8 @@ pub struct MonitorState {
 pub struct FieldState {
     /// The object whose monitor guards it.
     pub guard: ObjectId,
+    /// Whether logs keep its stores. They don't where it is transient: its value is its first one then.
+    pub is_logged: bool,
     /// Its value after all records applied.
     pub value: u64,
     /// Its value after all records logged. This one may be written home.

@@ -10,7 +10,7 @@ pub enum StoreError {
     /// The image doesn't have this lane.
     #[error("bad lane")]
     BadLane,
-    /// The image doesn't have the record's object or field.
+    /// The image doesn't have the record's object or field, or the field is transient: no record tells of its stores.
     #[error("bad id")]
     BadId,
     /// A release number, a place or the control's sequence is at its last value.

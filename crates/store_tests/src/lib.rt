@@ -8,3 +8,5 @@ mod format_tests;
 mod memory_tests;
 #[cfg(test)]
 mod step_tests;
+#[cfg(test)]
+mod transient_tests;

@@ -1,6 +1,6 @@
 //! Records whose answers are known.
 
-ghost use Rattle.std.specs.Prelude.{◌≡◌};
+ghost use Rattle.std.specs.Prelude.{◌≡◌, true, false};
 
 use heap_model::{FieldId, Lane, LaneRecord, ObjectId, Record};
 use std::alloc::Global;
@@ -38,10 +38,23 @@ fn put(field: u32, before: u64, after: u64) -> Record {
 
 // A field of this guard, with this value at home.
 fn field(guard: u32, value: u64) -> FieldState
-    ensures { result ≡ record { guard = record { 0 = guard }; value = value; logged = value } }
+    ensures { result ≡ record { guard = record { 0 = guard }; is_logged = true; value = value; logged = value } }
 {
     FieldState {
         guard: ObjectId(guard),
+        is_logged: true,
+        value,
+        logged: value,
+    }
+}
+
+// A transient field of this guard, with this first value.
+fn transient(guard: u32, value: u64) -> FieldState
+    ensures { result ≡ record { guard = record { 0 = guard }; is_logged = false; value = value; logged = value } }
+{
+    FieldState {
+        guard: ObjectId(guard),
+        is_logged: false,
         value,
         logged: value,
     }
@@ -96,6 +109,28 @@ fn refusals_come_in_order(rt: HostRuntime) {
         (0, acq(0, 2), Err(StoreError::Worn)),
     ];
     assert!(rt; answers_so(rt.alloc(), 2, &steps) == Some(true));
+}
+
+// Whether a memory of one object with a field and a transient one, with values 10 and 30, answers all so.
+fn answers_with_transient(alloc: Global, steps: &[Told]) -> Option<bool> {
+    let fields = vec![in alloc; field(0, 10), transient(0, 30)].ok()?;
+    let mut applied = Applied::new(alloc, 2, 2000, 1, fields, 9).ok()?;
+    Some(first_other(&mut applied, steps).is_none())
+}
+
+// No record tells of a store of a transient field, whoever holds its guard.
+#[test]
+fn a_store_of_a_transient_field_is_no_record(rt: HostRuntime) {
+    let steps = [
+        (0, put(1, 30, 31), Err(StoreError::BadId)),
+        (0, acq(0, 0), Ok(())),
+        (0, put(1, 30, 31), Err(StoreError::BadId)),
+        (1, put(1, 30, 31), Err(StoreError::BadId)),
+        (0, put(0, 10, 5), Ok(())),
+        (0, put(2, 30, 31), Err(StoreError::BadId)),
+        (0, rel(0, 0), Ok(())),
+    ];
+    assert!(rt; answers_with_transient(rt.alloc(), &steps) == Some(true));
 }
 
 // A wait inside a section, and one that ends it: in each case the lane takes the same object next, and does nothing else.

@@ -20,14 +20,14 @@ struct Contents {
     records: Vec<UndoRecord>,
 }
 
-fn acq(object: u32, number: u64) -> Record {
+pub(crate) fn acq(object: u32, number: u64) -> Record {
     Record::Acq {
         object: ObjectId(object),
         number,
     }
 }
 
-fn rel(object: u32, number: u64) -> Record {
+pub(crate) fn rel(object: u32, number: u64) -> Record {
     Record::Rel {
         object: ObjectId(object),
         number,
@@ -41,7 +41,7 @@ fn wait(object: u32, number: u64) -> Record {
     }
 }
 
-fn put(field: u32, before: u64, after: u64) -> Record {
+pub(crate) fn put(field: u32, before: u64, after: u64) -> Record {
     Record::Put {
         field: FieldId(field),
         before,
@@ -50,7 +50,7 @@ fn put(field: u32, before: u64, after: u64) -> Record {
 }
 
 // The first thread's call, and the second one's.
-fn one(record: Record) -> StoreCall {
+pub(crate) fn one(record: Record) -> StoreCall {
     StoreCall::Apply(Lane(0), record)
 }
 
@@ -75,7 +75,7 @@ fn store_on(
 }
 
 // The same of this schema.
-fn adopted(
+pub(crate) fn adopted(
     alloc: Global,
     disk: MemDisk,
     schema: &Schema,
@@ -113,7 +113,7 @@ fn kept(store: &Store<MemDisk>, lane: u8) -> Option<u64> {
 }
 
 // A call, and what it is to answer.
-type Told = (StoreCall, Result<(), StoreError>);
+pub(crate) type Told = (StoreCall, Result<(), StoreError>);
 
 // What the call answers.
 fn answer_to(store: &mut Store<MemDisk>, call: StoreCall) -> Result<(), StoreError> {
@@ -124,7 +124,7 @@ fn answer_to(store: &mut Store<MemDisk>, call: StoreCall) -> Result<(), StoreErr
 }
 
 // Makes these calls in turn, up to the first that answers otherwise, and gives that call's number and answer.
-fn first_other(
+pub(crate) fn first_other(
     store: &mut Store<MemDisk>,
     steps: &[Told],
 ) -> Option<(usize, Result<(), StoreError>)> {

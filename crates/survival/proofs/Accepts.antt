@@ -1,13 +1,17 @@
 -- Images that a store leaves aren't refused, and what is found in them is what the store's past says.
-use Rattle.std.proofs.Common.{ℕ, zero, suc, ◌≡◌, ◌+◌, ◌-◌, ◌<◌, ◌⊎◌, List, [], ◌∷◌, ◌++◌, length, map, get_or, reverse, Option, Some, None, Result, Ok, Err, refl, sym, ap, ◌∙◌, subst, inl, inr, arith, Contains, Vec, Global}
+use Rattle.std.proofs.Common.{ℕ, zero, suc, ◌≡◌, ◌+◌, ◌-◌, ◌<◌, ◌⊎◌, ◌==◌, if◌then◌else◌, Bool, true, false, List, [], ◌∷◌, ◌++◌, length, map, get_or, reverse, Option, Some, None, Result, Ok, Err, refl, sym, ap, ◌∙◌, subst, inl, inr, arith, Contains, Vec, Global}
+use Rattle.std.specs.Prelude.{not}
 use Rattle.std.proofs.lemmas.Bool.{cases_lt}
 use Rattle.std.proofs.lemmas.List.{map-append, length-reverse, reverse-reverse}
+use Rattle.heap_model.specs.declared.ids.ObjectId.{ObjectId}
+use Rattle.heap_model.specs.declared.ids.FieldId.{FieldId}
 use Rattle.heap_model.specs.declared.record.Record.{Record}
+use Rattle.heap_model.specs.declared.record.Record.TheVariants as record_is
 use Rattle.heap_model.specs.declared.record.UndoRecord.{UndoRecord}
 use Rattle.heap_model.specs.declared.record.UndoRecord.TheVariants as undo
 use Rattle.heap_model.specs.Record.{undo_of}
 use Rattle.heap_model.specs.Setting.{Setting}
-use Rattle.heap_model.specs.Log.{lane, holder, IsLegal}
+use Rattle.heap_model.specs.Log.{lane, holder, IsLegal, IsRecordOf}
 use Rattle.heap_model.specs.Sections.{actions, holding, ended, undo_action}
 use Rattle.heap_model.specs.Cuts.{IsWhole, IsClosed}
 use Rattle.heap_model.specs.Base.{records_since, records_until}
@@ -29,7 +33,7 @@ use Rattle.image.specs.declared.slot.Slot.{Slot}
 use Rattle.image.proofs.Reading.{one_layout, header_is_read, control_is_chosen, guards_are_read}
 use Rattle.undo_log.specs.Area.{IsOfImage, HasRecord, HasRecords}
 use Rattle.undo_log.specs.Dropped.{undo_logs, records_in}
-use Rattle.undo_log.specs.StandsFor.{row_of, settled_of, guard_in, HasLive, StandsFor}
+use Rattle.undo_log.specs.StandsFor.{row_of, row_in, is_transient_in, settled_of, AreRowsOf, HasLive, StandsFor}
 use Rattle.undo_log.proofs.OneHeap.{one_span, one_heap}
 use Rattle.store_past.specs.Past.{Past}
 use Rattle.store_image.specs.Consistent.{TellsCut}
@@ -37,18 +41,46 @@ use Rattle.store_image.specs.KeptHeap.{kept_heap}
 use Rattle.store_image.proofs.Places.{live_size, cut_place}
 use Rattle.store_image.proofs.Stands.{empty, stands}
 use Rattle.survival.specs.Accepted.{IsLeftBy, FindsPast}
-use Rattle.recover.specs.Logs.{AreLogs, IsBadAt, lanes_of}
+use Rattle.recover.specs.Logs.{AreLogs, IsBadAt, lanes_of, logged_guard_in}
 use Rattle.recover.specs.Reading.{HasLayout, HasControl, RefusesRows, RefusesImage, Holds}
 use Rattle.live_logs.specs.Replay.{IsStuckAt, Replays}
 use Rattle.recover.specs.Settled.{first_of, settled_records, AreLegal, IsAtRest, TakesUnsettled, IsIllegalAt, Stuck, Restless, Crossing}
 use Rattle.recover.specs.declared.error.RecoverError.{RecoverError}
-use Rattle.recover.specs.declared.error.RecoverError.TheVariants.{Fault, NotFormatted, BadHeader, TooSmall, NoControl, BadControl, Worn, BadRecord, IllegalLog, NoMemory}
+use Rattle.recover.specs.declared.error.RecoverError.TheVariants.{Fault, NotFormatted, BadHeader, TooSmall, NoControl, BadControl, OldVersion, Worn, BadRecord, IllegalLog, NoMemory}
 use Rattle.recover.specs.declared.logged_image.LoggedImage.{LoggedImage}
+use Rattle.recover.proofs.HomeLemmas.{persistent_logged}
 use Rattle.survival.proofs.LaneParts.{contains_reverse, lane_map}
 use Rattle.survival.proofs.Blank.{blanks, undone, valueless, blank_legal, holder_blank}
 use Rattle.survival.proofs.Unstuck.{IsGuarded, unstuck}
 use Rattle.survival.proofs.Replays.{replay_there}
 use Rattle.survival.proofs.Rests.{first_none, at_some, rests, inside}
+
+-- the record's field, if it is a store, is one whose stores logs keep
+abbrev IsLogged : Setting → UndoRecord → Type 0
+IsLogged s (undo.Acq o n) = Unit {0}
+IsLogged s (undo.Rel o n) = Unit {0}
+IsLogged s (undo.WaitRel o n) = Unit {0}
+IsLogged s (undo.Put f v) = s.is_logged f.0 ≡ true
+
+one_logged : (s : Setting) (r : Record) → IsRecordOf s r → IsLogged s (undo_of r)
+one_logged s (record_is.Acq o n) h = tt
+one_logged s (record_is.Rel o n) h = tt
+one_logged s (record_is.WaitRel o n) h = tt
+one_logged s (record_is.Put f before after) h = h.1
+
+-- so it is of each of a legal list
+each_logged : (s : Setting) (log older : List (ℕ × Record)) → IsLegal s (log ++ older) → (l : ℕ) (r : UndoRecord) → Contains (lane l (undone log)) r → IsLogged s r
+each_logged s [] older legal l r h = absurd (omega (arith, h.1))
+each_logged s ((m, x) ∷ log) older legal l r h =
+    let rest : Contains (lane l (undone log)) r → IsLogged s r = (λ among. each_logged s log older legal.0 l r among) in
+    (elim (m == l) as (λ b. Contains (if b then undo_of x ∷ lane l (undone log) else lane l (undone log)) r → IsLogged s r) [
+      | true ↦ λ among. first rest among.0 among.1 among.2
+      | false ↦ rest
+    ]) h
+  where
+    first : (Contains (lane l (undone log)) r → IsLogged s r) → (k : ℕ) → k < length (undo_of x ∷ lane l (undone log)) → get_or (undo_of x ∷ lane l (undone log)) k r ≡ r → IsLogged s r
+    first rest zero lt is = subst (IsLogged s) is (one_logged s x legal.3)
+    first rest (suc k) lt is = rest (k, omega (arith, lt), is)
 
 -- what a legal log's lanes have since a whole closed base
 module _ (s : Setting) (log : List (ℕ × Record)) (base : ℕ → ℕ) (legal : IsLegal s log) (whole : IsWhole (actions log) base) (closed : IsClosed (actions log) base) where
@@ -75,7 +107,11 @@ module _ (s : Setting) (log : List (ℕ × Record)) (base : ℕ → ℕ) (legal 
   logs_are : (λ (l : ℕ). lane l (undone since)) ≡ undo_logs since
   logs_are = λ i l. lane_map undo_of l since i
 
-  pub never_stuck : (guard : ℕ → ℕ) (l count : ℕ) → ((l : ℕ) (r : UndoRecord) → Contains (undo_logs since l) r → IsGuarded s guard r) → IsStuckAt guard (undo_logs since) l count → ⊥
+  -- a store since the base is of a field whose stores logs keep
+  pub stored_logged : (l : ℕ) (f : FieldId) (v : ℕ) → Contains (undo_logs since l) (undo.Put f v) → s.is_logged f.0 ≡ true
+  stored_logged l f v h = each_logged s since gone both l (undo.Put f v) (subst (λ (xs : List UndoRecord). Contains xs (undo.Put f v)) (sym (lane_map undo_of l since)) h)
+
+  pub never_stuck : (guard : ℕ → Option ObjectId) (l count : ℕ) → ((l : ℕ) (r : UndoRecord) → Contains (undo_logs since l) r → IsGuarded s guard r) → IsStuckAt guard (undo_logs since) l count → ⊥
   never_stuck guard l count guarded stuck =
       unstuck s (undone gone) (undone since) (subst (λ (xs : List (ℕ × UndoRecord)). IsLegal (valueless s) (blanks xs)) split_undone (blank_legal s (since ++ gone) both))
       (λ o. holder_blank o gone ∙ nobody o (holder o gone) refl) guard l count
@@ -83,7 +119,7 @@ module _ (s : Setting) (log : List (ℕ × Record)) (base : ℕ → ℕ) (legal 
       (subst (λ (lanes : ℕ → List UndoRecord). IsStuckAt guard lanes l count) (sym logs_are) stuck)
 
   -- and they have a replay, which does all of them
-  pub replays_since : (guard : ℕ → ℕ) (count : ℕ) → ((l : ℕ) (r : UndoRecord) → Contains (undo_logs since l) r → IsGuarded s guard r) → ((l : ℕ) (r : UndoRecord) → Contains (undo_logs since l) r → l < count) →
+  pub replays_since : (guard : ℕ → Option ObjectId) (count : ℕ) → ((l : ℕ) (r : UndoRecord) → Contains (undo_logs since l) r → IsGuarded s guard r) → ((l : ℕ) (r : UndoRecord) → Contains (undo_logs since l) r → l < count) →
       (done : List (ℕ × UndoRecord)) × Replays guard (undo_logs since) done
   replays_since guard count guarded few =
       let found = replay_there s (undone gone) (undone since) (subst (λ (xs : List (ℕ × UndoRecord)). IsLegal (valueless s) (blanks xs)) split_undone (blank_legal s (since ++ gone) both))
@@ -157,11 +193,16 @@ module _ (l : Layout) (s : Setting) (p : Past) (image : List ℕ) (left : IsLeft
         subst (IsOfImage l) c.2 has.named
   ]
 
-  guarded_one : (r : UndoRecord) → IsOfImage l r → IsGuarded s (guard_in guards) r
-  guarded_one (undo.Acq o n) h = tt
-  guarded_one (undo.Rel o n) h = tt
-  guarded_one (undo.WaitRel o n) h = tt
-  guarded_one (undo.Put f v) h = left.shows.parts.guard f.0 h
+  -- logs keep the stores of a live record's field, under the setting's guard
+  guarded_one : (lane : ℕ) (r : UndoRecord) → Contains (logs lane) r → IsOfImage l r → IsGuarded s (logged_guard_in guards) r
+  guarded_one lane (undo.Acq o n) has h = tt
+  guarded_one lane (undo.Rel o n) has h = tt
+  guarded_one lane (undo.WaitRel o n) has h = tt
+  guarded_one lane (undo.Put f v) has h =
+      let kept : s.is_logged f.0 ≡ true = stored_logged s p.logged p.base legal left.past.base_whole left.past.base_closed lane f v has in
+      let persistent : is_transient_in guards f.0 ≡ false = left.shows.parts.rows.mark f.0 h ∙ ap (λ (b : Bool). not b) kept in
+      let guard : (row_in guards f.0).guard.0 ≡ s.guard f.0 = left.shows.parts.rows.guard f.0 h in
+      persistent_logged guards f.0 (omega (arith, h, left.shows.parts.guarded.size)) persistent ∙ (λ i. Some (record { 0 = guard i }))
 
   -- each lane is at rest where it is settled
   rest : (lane : ℕ) → IsAtRest rows logs lane
@@ -190,20 +231,20 @@ module _ (l : Layout) (s : Setting) (p : Past) (image : List ℕ) (left : IsLeft
       ]) lane i h
 
   -- they have a replay
-  pub replayed : (done : List (ℕ × UndoRecord)) × Replays (guard_in guards) logs done
-  replayed = replays_since s p.logged p.base legal left.past.base_whole left.past.base_closed (guard_in guards) l.lanes (λ m r h. guarded_one r (named m r h))
+  pub replayed : (done : List (ℕ × UndoRecord)) × Replays (logged_guard_in guards) logs done
+  replayed = replays_since s p.logged p.base legal left.past.base_whole left.past.base_closed (logged_guard_in guards) l.lanes (λ m r h. guarded_one m r h (named m r h))
       (λ m r h. elim (cases_lt m l.lanes) [
         | inl below ↦ below
         | inr from ↦ absurd (none_there (logs m) r (live.others m from) h)
       ])
 
   -- and are such as no test refuses
-  pub legal_there : AreLegal (guard_in guards) rows logs
+  pub legal_there : AreLegal (logged_guard_in guards) rows logs
   legal_there = record { logs = record { done = replayed.0; replays = replayed.1; rest = rest }; inside = not_crossed }
 
   -- no test of the logs refuses them
-  legal_logs : (lane place : ℕ) → IsIllegalAt (guard_in guards) rows logs lane place → ⊥
-  legal_logs lane place (Stuck count stuck at) = never_stuck s p.logged p.base legal left.past.base_whole left.past.base_closed (guard_in guards) lane count (λ m r h. guarded_one r (named m r h)) stuck
+  legal_logs : (lane place : ℕ) → IsIllegalAt (logged_guard_in guards) rows logs lane place → ⊥
+  legal_logs lane place (Stuck count stuck at) = never_stuck s p.logged p.base legal left.past.base_whole left.past.base_closed (logged_guard_in guards) lane count (λ m r h. guarded_one m r h (named m r h)) stuck
   legal_logs lane place (Restless done replays least at) = least.restless (rest lane)
   legal_logs lane place (Crossing i at_rest least at) = not_crossed lane i least.takes
 
@@ -252,13 +293,13 @@ module _ (l : Layout) (s : Setting) (p : Past) (image : List ℕ) (left : IsLeft
         (has_at l lane (row_of rows lane).start image (reverse (logs lane)) i none span.each (omega (arith, at, bad.live, span.size))))
 
     -- nor do the logs show anything that no threads leave
-    not_illegal : (logged : List (Vec UndoRecord Global)) → AreLogs m image c.rows logged → (lane place : ℕ) → IsIllegalAt (guard_in others) c.rows (lanes_of logged) lane place → ⊥
+    not_illegal : (logged : List (Vec UndoRecord Global)) → AreLogs m image c.rows logged → (lane place : ℕ) → IsIllegalAt (logged_guard_in others) c.rows (lanes_of logged) lane place → ⊥
     not_illegal logged are lane place h =
         let lanes : lanes_of logged ≡ logs = λ i k. lanes_is logged are k i in
         legal_logs lane place
-        (subst (λ (rs : List LaneRow). IsIllegalAt (guard_in guards) rs logs lane place) rows_is
-        (subst (λ (ls : ℕ → List UndoRecord). IsIllegalAt (guard_in guards) c.rows ls lane place) lanes
-        (subst (λ (gs : List GuardRow). IsIllegalAt (guard_in gs) c.rows (lanes_of logged) lane place) guards_is h)))
+        (subst (λ (rs : List LaneRow). IsIllegalAt (logged_guard_in guards) rs logs lane place) rows_is
+        (subst (λ (ls : ℕ → List UndoRecord). IsIllegalAt (logged_guard_in guards) c.rows ls lane place) lanes
+        (subst (λ (gs : List GuardRow). IsIllegalAt (logged_guard_in gs) c.rows (lanes_of logged) lane place) guards_is h)))
 
   -- the header's answers
   layout_read : (answer : Result Layout ImageError) → ReadsHeader image answer → (answer ≡ Ok l) ⊎ (answer ≡ Err image_error.Fault)
@@ -268,6 +309,12 @@ module _ (l : Layout) (s : Setting) (p : Past) (image : List ℕ) (left : IsLeft
   no_guards : (m : Layout) → HasLayout image m → RefusesRows m image BadHeader → ⊥
   no_guards m has bad = bad guards (subst (λ (k : Layout). HasGuards k image guards) (sym (one_header m has.header)) left.shows.parts.guarded)
 
+  -- the control that it shows isn't old
+  not_old : (m : Layout) (t : Slot) (c : Control) → m ≡ l → Shows m image t c → c.version ≡ 1 → ⊥
+  not_old m t c is shows old =
+      let same : c ≡ left.shows.control = one_shown l image left.shows.slot t left.shows.control c left.shows.shows (subst (λ (k : Layout). Shows k image t c) is shows) in
+      omega (arith, old, ap (λ (d : Control). d.version) same, left.shows.current)
+
   -- no refusal but that of the device and want of memory
   pub accepted : (e : RecoverError) → RefusesImage image e → (e ≡ Fault) ⊎ (e ≡ NoMemory)
   accepted Fault h = inl refl
@@ -276,10 +323,14 @@ module _ (l : Layout) (s : Setting) (p : Past) (image : List ℕ) (left : IsLeft
   accepted BadHeader (inr h) = absurd (no_guards h.0 h.1 h.2)
   accepted TooSmall h = absurd (omega (arith, h.2, left.shows.parts.room, ap size_of (one_header h.0 h.1)))
   accepted NoControl h = absurd (h.3 left.shows.slot left.shows.shows.is_open)
-  accepted BadControl h = absurd (h.3.1 left.shows.slot left.shows.control (subst (λ (k : Layout). Shows k image left.shows.slot left.shows.control) (sym (one_header h.0 h.2.layout.header)) left.shows.shows))
+  accepted BadControl h = elim h.3 [
+    | inl none ↦ absurd (none.1 left.shows.slot left.shows.control (subst (λ (k : Layout). Shows k image left.shows.slot left.shows.control) (sym (one_header h.0 h.2.layout.header)) left.shows.shows))
+    | inr stray ↦ absurd (not_old h.0 stray.slot stray.control (one_header h.0 h.2.layout.header) stray.shows stray.version)
+  ]
+  accepted OldVersion h = absurd (not_old h.layout h.slot h.control (one_header h.layout h.shown.front.layout.header) h.shown.shows h.version)
   accepted Worn h = absurd h
-  accepted (BadRecord lane place) h = absurd (not_bad h.0 h.1 h.2 h.3 h.4 lane.0 place h.5.0 h.5.1)
-  accepted (IllegalLog lane place) h = absurd (not_illegal h.0 h.1 h.2 h.3 h.4 h.5.0 h.5.1 lane.0 place h.5.2)
+  accepted (BadRecord lane place) h = absurd (not_bad h.0 h.1 h.2 h.3 h.4.has lane.0 place h.5.0 h.5.1)
+  accepted (IllegalLog lane place) h = absurd (not_illegal h.0 h.1 h.2 h.3 h.4.has h.5.0 h.5.1 lane.0 place h.5.2)
   accepted NoMemory h = inr refl
 
   -- what is found is what the past says
@@ -288,7 +339,8 @@ module _ (l : Layout) (s : Setting) (p : Past) (image : List ℕ) (left : IsLeft
       let has = holds.control in
       record {
         layout = layout_is found.layout found.guards.items found.slot found.control has;
-        guards = λ f below. ap (λ (gs : List GuardRow). guard_in gs f) (guards_is found.layout found.guards.items found.slot found.control has) ∙ left.shows.parts.guard f below;
+        version = holds.version;
+        rows = subst (λ (gs : List GuardRow). AreRowsOf l.fields gs s) (sym (guards_is found.layout found.guards.items found.slot found.control has)) left.shows.parts.rows;
         tells = subst (λ (c : Control). TellsCut l p.logged p.base p.cut c.rows) (sym (control_is found.layout found.guards.items found.slot found.control has)) left.shows.tells;
         live = lanes_is found.layout found.guards.items found.slot found.control has found.records.items holds.logs;
       }

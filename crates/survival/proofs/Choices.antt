@@ -5,6 +5,7 @@ use Rattle.heap_model.specs.declared.ids.Lane.{Lane}
 use Rattle.heap_model.specs.declared.ids.ObjectId.{ObjectId}
 use Rattle.heap_model.specs.declared.record.UndoRecord.{UndoRecord}
 use Rattle.heap_model.specs.declared.record.UndoRecord.TheVariants.{Acq, Rel, WaitRel, Put}
+use Rattle.log_state.specs.Monitors.{MayStore}
 use Rattle.live_logs.specs.Replay.{holder, number, MayFollow, IsAllowed}
 
 -- it is so, or it isn't
@@ -27,11 +28,15 @@ is_lane (Some k) l = elim (cases_eq k.0 l) [
   | inr ne ↦ inr (λ e. ne (let same : k ≡ record { 0 = l } = cc in ap (λ (x : Lane). x.0) same))
 ]
 
-pub is_allowed : (guard first : ℕ → ℕ) (done : List (ℕ × UndoRecord)) (l : ℕ) (r : UndoRecord) → Decided (IsAllowed guard first done l r)
+may_store : (guard : Option ObjectId) (done : List (ℕ × UndoRecord)) (l : ℕ) → Decided (MayStore guard done l)
+may_store None done l = inr (λ h. h)
+may_store (Some o) done l = is_lane (holder o.0 done) l
+
+pub is_allowed : (guard : ℕ → Option ObjectId) (first : ℕ → ℕ) (done : List (ℕ × UndoRecord)) (l : ℕ) (r : UndoRecord) → Decided (IsAllowed guard first done l r)
 is_allowed guard first done l (Acq o n) = both (is_none (holder o.0 done)) (cases_eq (number first o.0 done) n)
 is_allowed guard first done l (Rel o n) = both (is_lane (holder o.0 done) l) (cases_eq (number first o.0 done) n)
 is_allowed guard first done l (WaitRel o n) = both (is_lane (holder o.0 done) l) (cases_eq (number first o.0 done) n)
-is_allowed guard first done l (Put f before) = is_lane (holder (guard f.0) done) l
+is_allowed guard first done l (Put f before) = may_store (guard f.0) done l
 
 pub may_follow : (newest : Option UndoRecord) (r : UndoRecord) → Decided (MayFollow newest r)
 may_follow None r = inl tt

@@ -1,8 +1,9 @@
 -- Each image of bytes has a study, or is refused by a reason of its own.
-use Rattle.std.proofs.Common.{ℕ, zero, suc, ◌≡◌, ◌≢◌, ◌+◌, ◌-◌, ◌<◌, ◌≤◌, ◌⊎◌, ◌^◌, ◌++◌, List, [], ◌∷◌, length, reverse, refl, sym, ap, ◌∙◌, subst, inl, inr, arith, Vec, Global, slice_index}
+use Rattle.std.proofs.Common.{ℕ, zero, suc, ◌≡◌, ◌≢◌, ◌+◌, ◌-◌, ◌<◌, ◌≤◌, ◌⊎◌, ◌^◌, ◌++◌, true, false, List, Option, [], ◌∷◌, length, reverse, refl, sym, ap, ◌∙◌, subst, inl, inr, arith, Vec, Global, slice_index}
 use Rattle.std.specs.Prelude.{All}
-use Rattle.std.proofs.lemmas.Bool.{cases_eq, cases_lt}
+use Rattle.std.proofs.lemmas.Bool.{cases_eq, cases_lt, cases_Bool}
 use Rattle.std.proofs.lemmas.List.{length-reverse, reverse-reverse}
+use Rattle.heap_model.specs.declared.ids.ObjectId.{ObjectId}
 use Rattle.heap_model.specs.declared.record.UndoRecord.{UndoRecord}
 use Rattle.heap_model.specs.declared.record.UndoRecord.TheVariants.{Acq, Rel, WaitRel, Put}
 use Rattle.heap_model.specs.Log.{lane}
@@ -10,12 +11,12 @@ use Rattle.log_state.specs.Limits.{IsInRange}
 use Rattle.undo_log.specs.RecordBytes as bytes
 use Rattle.undo_log.specs.Area.{HasRecords, HasSpan}
 use Rattle.undo_log.specs.Runs.{IsFull}
-use Rattle.undo_log.specs.StandsFor.{HasLive, row_of, guard_in, settled_of}
+use Rattle.undo_log.specs.StandsFor.{HasLive, row_of, is_transient_in, settled_of}
 use Rattle.undo_log.proofs.Runs.{span_append}
 use Rattle.image.specs.Header.{HasHeader}
 use Rattle.image.specs.Layout.{IsLayout, size_of}
 use Rattle.image.specs.Rows.{IsRow, empty_row}
-use Rattle.image.specs.Slots.{gate}
+use Rattle.image.specs.Slots.{Shows, gate}
 use Rattle.image.specs.declared.control.Control.{Control}
 use Rattle.image.specs.declared.guard_row.GuardRow.{GuardRow}
 use Rattle.image.specs.declared.lane_row.LaneRow.{LaneRow}
@@ -28,11 +29,11 @@ use Rattle.live_logs.specs.Settled.{TakesUnsettled}
 use Rattle.live_logs.proofs.FirstLemmas.{begins_at, lowered_more, lowered_none, lowered_one, lowest_more, lowest_none}
 use Rattle.live_logs.proofs.LaneLemmas.{records_past}
 use Rattle.live_logs.proofs.SettledLemmas.{all_rest}
-use Rattle.recover.specs.Logs.{AreLogs, IsReadTo, lanes_of, records_of}
-use Rattle.recover.specs.Reading.{HasControl, HasFront, HasLayout, Holds, RefusesImage}
+use Rattle.recover.specs.Logs.{AreLogs, IsReadTo, lanes_of, logged_guard_in, records_of}
+use Rattle.recover.specs.Reading.{HasCurrent, HasFront, HasLayout, Holds, RefusesImage}
 use Rattle.recover.specs.Settled.{AreAtRest, AreLegal, IsAtRest, Stuck, Restless, Crossing, kept_of}
 use Rattle.recover.specs.declared.error.RecoverError.{RecoverError}
-use Rattle.recover.specs.declared.error.RecoverError.TheVariants.{Fault, NotFormatted, BadHeader, TooSmall, NoControl, BadControl, BadRecord, IllegalLog, NoMemory}
+use Rattle.recover.specs.declared.error.RecoverError.TheVariants.{Fault, NotFormatted, BadHeader, TooSmall, NoControl, BadControl, OldVersion, BadRecord, IllegalLog, NoMemory}
 use Rattle.recover.specs.declared.logged_image.LoggedImage.{LoggedImage}
 use Rattle.recover.proofs.LogLemmas.{row_is}
 use Rattle.survival.proofs.Greedy.{Ended, ends_there, left_or_done, none_there}
@@ -43,15 +44,15 @@ abbrev pub NoReason : List ℕ → Type 0
 NoReason image = (reason : RecoverError) → reason ≢ Fault → reason ≢ NoMemory → RefusesImage image reason → ⊥
 
 -- The lanes' live records, one place after the other.
-module _ (image : List ℕ) (no : NoReason image) (l : Layout) (guards : List GuardRow) (slot : Slot) (c : Control) (control : HasControl image l guards slot c) where
+module _ (image : List ℕ) (no : NoReason image) (l : Layout) (guards : List GuardRow) (slot : Slot) (c : Control) (control : HasCurrent image l guards slot c) where
   abbrev rows : List LaneRow
   rows = c.rows
 
   limits : IsLayout l
-  limits = control.front.layout.header.limits
+  limits = control.has.front.layout.header.limits
 
   row_there : (m : ℕ) → m < l.lanes → IsRow l.capacity (row_of rows m)
-  row_there m lt = row_is l rows m empty_row control.shows.spells.valid.rows limits.lanes.1 lt
+  row_there m lt = row_is l rows m empty_row control.has.shows.spells.valid.rows limits.lanes.1 lt
 
   -- the lane's live places have records
   abbrev IsRead : ℕ → Type 0
@@ -160,10 +161,10 @@ lowest logs range (suc n) =
     (more.0, subst (λ (k : ℕ). IsLowestOf logs k more.0) next (lowest_more logs n before.0 more.0 before.1 more.1))
 
 -- Logs that no test refuses are legal.
-module _ (image : List ℕ) (no : NoReason image) (l : Layout) (guards : List GuardRow) (slot : Slot) (c : Control) (control : HasControl image l guards slot c)
+module _ (image : List ℕ) (no : NoReason image) (l : Layout) (guards : List GuardRow) (slot : Slot) (c : Control) (control : HasCurrent image l guards slot c)
     (logs : List (Vec UndoRecord Global)) (are : AreLogs l image c.rows logs) where
-  abbrev guard : ℕ → ℕ
-  guard = guard_in guards
+  abbrev guard : ℕ → Option ObjectId
+  guard = logged_guard_in guards
 
   abbrev lanes : ℕ → List UndoRecord
   lanes = lanes_of logs
@@ -275,7 +276,7 @@ module _ (image : List ℕ) (no : NoReason image) (l : Layout) (guards : List Gu
     pub none_crosses : (m i : ℕ) → TakesUnsettled (settled_of c.rows) lanes m i → ⊥
     none_crosses m i takes = none_below (suc m) m i (omega arith) takes
 
-  pub logs_legal : (AreLegal (guard_in guards) c.rows (lanes_of logs) → ⊥) → ⊥
+  pub logs_legal : (AreLegal (logged_guard_in guards) c.rows (lanes_of logs) → ⊥) → ⊥
   logs_legal none = lanes_done l.lanes (λ each.
       let replays = all_done each in
       lanes_rest replays l.lanes (λ at_rest.
@@ -286,21 +287,47 @@ module _ (image : List ℕ) (no : NoReason image) (l : Layout) (guards : List Gu
       } in
       none (record { logs = rest; inside = none_crosses rest })))
 
+-- some row is marked, or none is
+marked_or_not : (guards : List GuardRow) → ((f : ℕ) × (is_transient_in guards f ≡ true)) ⊎ ((f : ℕ) → is_transient_in guards f ≡ false)
+marked_or_not [] = inr (λ f. refl)
+marked_or_not (row ∷ rest) = elim (cases_Bool row.transient) [
+  | inl marked ↦ inl (0, marked)
+  | inr unmarked ↦ elim (marked_or_not rest) [
+    | inl later ↦ inl (suc later.0, later.1)
+    | inr none ↦ inr (λ f. by unmarked none f)
+  ]
+]
+  where
+    by : row.transient ≡ false → ((f : ℕ) → is_transient_in rest f ≡ false) → (f : ℕ) → is_transient_in (row ∷ rest) f ≡ false
+    by first later zero = first
+    by first later (suc f) = later f
+
 -- Nothing is wrong with an image that no reason of its own refuses.
 module _ (image : List ℕ) (no : NoReason image) (none : (found : LoggedImage) → Holds image found → ⊥) where
-  with_control : (l : Layout) (guards : List GuardRow) (slot : Slot) (c : Control) → HasControl image l guards slot c → ⊥
+  with_control : (l : Layout) (guards : List GuardRow) (slot : Slot) (c : Control) → HasCurrent image l guards slot c → ⊥
   with_control l guards slot c control = lanes_read image no l guards slot c control l.lanes (omega arith) (λ reads.
       let logs = logs_there image no l guards slot c control reads in
       logs_legal image no l guards slot c control logs.0 logs.1 (λ legal. none (record {
         layout = l;
         slot = slot;
         control = c;
-        guards = vec_of guards (omega (arith, control.front.guards_are.size, control.front.layout.header.limits.fields.1));
-        records = vec_of logs.0 (omega (arith, logs.1.count, control.front.layout.header.limits.lanes.1));
-      }) (record { control = control; logs = logs.1; legal = legal })))
+        guards = vec_of guards (omega (arith, control.has.front.guards_are.size, control.has.front.layout.header.limits.fields.1));
+        records = vec_of logs.0 (omega (arith, logs.1.count, control.has.front.layout.header.limits.lanes.1));
+      }) (record { control = control.has; version = control.version; logs = logs.1; legal = legal })))
+
+  -- a control of version 1 is refused, by a marked row or by itself
+  with_shown : (l : Layout) (guards : List GuardRow) → HasFront image l guards → (t : Slot) (c : Control) → Shows l image t c → ⊥
+  with_shown l guards front t c shows = elim shows.spells.valid.version [
+    | inl old ↦ elim (marked_or_not guards) [
+      | inl marked ↦ no BadControl (λ e. cc) (λ e. cc) (l, guards, front, inr (record { slot = t; control = c; shows = shows; version = old; field = marked.0; marked = marked.1 }))
+      | inr none ↦ no OldVersion (λ e. cc) (λ e. cc)
+          (record { layout = l; guards = guards; slot = t; control = c; shown = record { front = front; shows = shows; marks = λ _. none }; version = old })
+    ]
+    | inr current ↦ with_control l guards t c (record { has = record { front = front; shows = shows; marks = λ old. absurd (omega (arith, old, current)) }; version = current })
+  ]
 
   with_gate : (l : Layout) (guards : List GuardRow) → HasFront image l guards → (s : Slot) → gate s image ≡ 165 → ⊥
-  with_gate l guards front s is = no BadControl (λ e. cc) (λ e. cc) (l, guards, front, ((s, is), λ t c shows. with_control l guards t c (record { front = front; shows = shows })))
+  with_gate l guards front s is = no BadControl (λ e. cc) (λ e. cc) (l, guards, front, inl ((s, is), λ t c shows. with_shown l guards front t c shows))
 
   both_shut : gate A image ≢ 165 → gate B image ≢ 165 → (s : Slot) → gate s image ≢ 165
   both_shut a b A = a

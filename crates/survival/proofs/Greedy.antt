@@ -1,7 +1,8 @@
 -- Any lanes have a greedy replay, to where no lane can go on.
-use Rattle.std.proofs.Common.{ℕ, zero, suc, ◌≡◌, ◌+◌, ◌<◌, ◌≤◌, ◌⊎◌, List, [], ◌∷◌, ◌++◌, length, refl, sym, ap, ◌∙◌, subst, inl, inr, arith, length-append, append_assoc}
+use Rattle.std.proofs.Common.{ℕ, zero, suc, ◌≡◌, ◌+◌, ◌<◌, ◌≤◌, ◌⊎◌, List, [], ◌∷◌, ◌++◌, length, refl, sym, ap, ◌∙◌, subst, inl, inr, arith, length-append, append_assoc, Option}
 use Rattle.std.specs.Prelude.{slice_get}
 use Rattle.std.proofs.lemmas.Bool.{cases_eq, cases_lt, ne_eqb}
+use Rattle.heap_model.specs.declared.ids.ObjectId.{ObjectId}
 use Rattle.heap_model.specs.declared.record.UndoRecord.{UndoRecord}
 use Rattle.heap_model.specs.Log.{lane}
 use Rattle.live_logs.specs.Replay as replay
@@ -10,7 +11,7 @@ use Rattle.survival.proofs.Choices.{Decided, Least, both, is_allowed, last_of, m
 use Rattle.survival.proofs.LaneParts.{lane_own, lane_other, same_end}
 use Rattle.survival.proofs.Replays.{total, total_more}
 
-module _ (guard first : ℕ → ℕ) (lanes : ℕ → List UndoRecord) (count : ℕ) (others : (l : ℕ) → count ≤ l → lanes l ≡ []) where
+module _ (guard : ℕ → Option ObjectId) (first : ℕ → ℕ) (lanes : ℕ → List UndoRecord) (count : ℕ) (others : (l : ℕ) → count ≤ l → lanes l ≡ []) where
   abbrev Greedy : List (ℕ × UndoRecord) → Type 0
   Greedy done = IsGreedy guard first lanes done
 

@@ -1,5 +1,5 @@
 -- An image that nothing is wrong with has a study.
-use Rattle.std.proofs.Common.{ℕ, zero, suc, ◌≡◌, ◌<◌, ◌≤◌, ◌^◌, ◌++◌, List, [], ◌∷◌, Option, None, Some, length, get_or, map, refl, sym, ap, ◌∙◌, subst, inl, inr, arith, length-append, slice_index}
+use Rattle.std.proofs.Common.{ℕ, zero, suc, ◌≡◌, ◌<◌, ◌≤◌, ◌^◌, ◌++◌, if◌then◌else◌, Bool, true, false, List, [], ◌∷◌, Option, None, Some, length, get_or, map, refl, sym, ap, ◌∙◌, subst, inl, inr, arith, length-append, slice_index}
 use Rattle.std.specs.Int.{w64, from_be_bytes}
 use Rattle.std.proofs.lemmas.Bool.{cases_lt}
 use Rattle.std.proofs.lemmas.List.{get_or_append_left, length-reverse}
@@ -7,21 +7,22 @@ use Rattle.std.proofs.Math.Seq.{get_or-append_seam}
 use Rattle.heap_model.specs.declared.ids.FieldId.{FieldId}
 use Rattle.heap_model.specs.declared.record.UndoRecord.{UndoRecord}
 use Rattle.block_disk.specs.Bytes.{part}
-use Rattle.image.specs.Cells.{HasCell}
+use Rattle.image.specs.Cells.{HasCell, HasHome}
 use Rattle.image.specs.Layout.{IsLayout, cell_at, size_of}
 use Rattle.image.specs.Rows.{IsRow, empty_row}
 use Rattle.image.specs.declared.lane_row.LaneRow.{LaneRow}
 use Rattle.image.proofs.Numbers.{AreBytes, bytes-part, is_64}
-use Rattle.undo_log.specs.StandsFor.{StandsFor, row_of, guard_in, settled_of}
+use Rattle.undo_log.specs.StandsFor.{StandsFor, first_in, is_transient_in, row_in, row_of, guard_in, settled_of}
 use Rattle.store_image.specs.KeptHeap.{values_below}
 use Rattle.recover.specs.Heap.{first_old, IsOldOrHome}
-use Rattle.recover.specs.Logs.{lanes_of}
+use Rattle.recover.specs.Logs.{lanes_of, logged_guard_in}
 use Rattle.recover.specs.Reading.{Holds}
 use Rattle.recover.specs.Study.{AreUndone, IsReportOf, IsStudyOf}
 use Rattle.recover.specs.declared.logged_image.LoggedImage.{LoggedImage}
 use Rattle.recover.specs.declared.report.Report.{Report}
 use Rattle.recover.specs.declared.studied.Study.{Study}
 use Rattle.recover.proofs.HeapLemmas.{takes_back}
+use Rattle.recover.proofs.HomeLemmas.{logged_agrees}
 use Rattle.recover.proofs.LogLemmas.{row_is}
 use Rattle.survival.proofs.Reports.{Drops, drops_few, drops_there, fields_there}
 use Rattle.survival.proofs.Studies.{kept_at}
@@ -74,23 +75,34 @@ module _ (image : List ℕ) (small : AreBytes image) (found : LoggedImage) (hold
   limits = holds.control.front.layout.header.limits
 
   -- the value of a field's home cell
-  abbrev home : ℕ → ℕ
-  home f = from_be_bytes w64 (part (cell_at found.layout f) 8 image)
+  abbrev cell : ℕ → ℕ
+  cell f = from_be_bytes w64 (part (cell_at found.layout f) 8 image)
 
-  home_cell : (f : ℕ) → f < found.layout.fields → HasCell found.layout f image (home f)
+  home_cell : (f : ℕ) → f < found.layout.fields → HasCell found.layout f image (cell f)
   home_cell f lt =
       let room : size_of found.layout ≤ length image = holds.control.front.layout.room in
       record {
-        spelled = sym (is_64 image small (cell_at found.layout f) (home f) (omega (arith, lt, room)) refl);
+        spelled = sym (is_64 image small (cell_at found.layout f) (cell f) (omega (arith, lt, room)) refl);
         fits = word_fits (part (cell_at found.layout f) 8 image) (bytes-part (cell_at found.layout f) 8 image small);
       }
+
+  -- what the field has at home: that value, or if it is transient its first one
+  abbrev home : ℕ → ℕ
+  home f = if is_transient_in found.guards.items f then first_in found.guards.items f else cell f
+
+  home_as : (b : Bool) (f : ℕ) → is_transient_in found.guards.items f ≡ b → f < found.layout.fields → HasHome found.layout (row_in found.guards.items f) f image (if b then first_in found.guards.items f else cell f)
+  home_as true f is lt = record { persistent = λ no. absurd (let both : true ≡ false = sym is ∙ no in cc); transient = λ _. refl }
+  home_as false f is lt = record { persistent = λ _. home_cell f lt; transient = λ yes. absurd (let both : true ≡ false = sym yes ∙ is in cc) }
+
+  home_there : (f : ℕ) → f < found.layout.fields → HasHome found.layout (row_in found.guards.items f) f image (home f)
+  home_there f lt = home_as (is_transient_in found.guards.items f) f refl lt
 
   -- the field's value
   abbrev value_of : ℕ → ℕ
   value_of f = value_in (first_old (settled_of rows) f done) (home f)
 
-  old_or_home : (o : Option ℕ) (f : ℕ) → f < found.layout.fields → IsOldOrHome o (HasCell found.layout f image) (value_in o (home f))
-  old_or_home None f lt = home_cell f lt
+  old_or_home : (o : Option ℕ) (f : ℕ) → f < found.layout.fields → IsOldOrHome o (HasHome found.layout (row_in found.guards.items f) f image) (value_in o (home f))
+  old_or_home None f lt = home_there f lt
   old_or_home (Some old) f lt = refl
 
   abbrev values : List ℕ
@@ -106,8 +118,8 @@ module _ (image : List ℕ) (small : AreBytes image) (found : LoggedImage) (hold
     lanes = lanes;
     live = holds.logs.live;
     size = values_long value_of found.layout.fields;
-    takes = λ f lt. takes_back (guard_in found.guards.items) (settled_of rows) lanes done f (slice_index values f) (HasCell found.layout f image) holds.legal.logs.replays
-        (subst (λ (v : ℕ). IsOldOrHome (first_old (settled_of rows) f done) (HasCell found.layout f image) v) (sym (value_there value_of found.layout.fields f lt))
+    takes = λ f lt. takes_back (logged_guard_in found.guards.items) (guard_in found.guards.items) (logged_agrees found.guards.items) (settled_of rows) lanes done f (slice_index values f) (HasHome found.layout (row_in found.guards.items f) f image) holds.legal.logs.replays
+        (subst (λ (v : ℕ). IsOldOrHome (first_old (settled_of rows) f done) (HasHome found.layout (row_in found.guards.items f) f image) v) (sym (value_there value_of found.layout.fields f lt))
         (old_or_home (first_old (settled_of rows) f done) f lt));
   }
 
@@ -127,7 +139,7 @@ module _ (image : List ℕ) (small : AreBytes image) (found : LoggedImage) (hold
   drops_small = omega (arith, drops.long, drops_few rows lanes lane_fits found.layout.lanes, limits.lanes.1)
 
   undone_fields : (fields : List FieldId) × AreUndone found.layout found.guards.items rows lanes fields
-  undone_fields = fields_there (guard_in found.guards.items) (settled_of rows) lanes done holds.legal.logs.replays found.layout.fields
+  undone_fields = fields_there found.guards.items (settled_of rows) lanes done holds.legal.logs.replays found.layout.fields
 
   abbrev report : Report
   report = record {

@@ -1,7 +1,8 @@
 -- What a legal list's lanes have past a point where no object was held has a greedy replay, which does all of it.
-use Rattle.std.proofs.Common.{ℕ, zero, suc, ◌≡◌, ◌+◌, ◌<◌, ◌≤◌, List, [], ◌∷◌, ◌++◌, length, None, refl, sym, ap, ◌∙◌, subst, inl, inr, arith, Contains, length-append, append_assoc}
+use Rattle.std.proofs.Common.{ℕ, zero, suc, ◌≡◌, ◌+◌, ◌<◌, ◌≤◌, List, [], ◌∷◌, ◌++◌, length, None, refl, sym, ap, ◌∙◌, subst, inl, inr, arith, Contains, length-append, append_assoc, Option}
 use Rattle.std.specs.Prelude.{slice_get}
 use Rattle.std.proofs.lemmas.Bool.{cases_eq, ne_eqb}
+use Rattle.heap_model.specs.declared.ids.ObjectId.{ObjectId}
 use Rattle.heap_model.specs.declared.record.UndoRecord.{UndoRecord}
 use Rattle.heap_model.specs.Setting.{Setting}
 use Rattle.heap_model.specs.Log.{lane, holder, number, IsLegal}
@@ -39,7 +40,7 @@ total_most xs ys few zero = omega arith
 total_most xs ys few (suc n) = omega (arith, total_most xs ys few n, few n)
 
 module _ (s : Setting) (gone all : List (ℕ × UndoRecord)) (legal : IsLegal (valueless s) (blanks (all ++ gone))) (free : (o : ℕ) → holder o (blanks gone) ≡ None)
-    (guard : ℕ → ℕ) (guarded : (l : ℕ) (r : UndoRecord) → Contains (lane l all) r → IsGuarded s guard r)
+    (guard : ℕ → Option ObjectId) (guarded : (l : ℕ) (r : UndoRecord) → Contains (lane l all) r → IsGuarded s guard r)
     (count : ℕ) (few : (l : ℕ) (r : UndoRecord) → Contains (lane l all) r → l < count) where
   abbrev lanes : ℕ → List UndoRecord
   lanes l = lane l all

@@ -8,13 +8,17 @@ use Rattle.heap_model.specs.Cuts.{IsStable}
 use Rattle.heap_model.specs.declared.ids.FieldId.{FieldId}
 use Rattle.heap_model.specs.declared.record.UndoRecord.{UndoRecord}
 use Rattle.cut_laws.proofs.Existence.{stable_exists}
+use Rattle.image.specs.declared.guard_row.GuardRow.{GuardRow}
 use Rattle.image.specs.declared.lane_row.LaneRow.{LaneRow}
+use Rattle.undo_log.specs.StandsFor.{guard_in}
 use Rattle.live_logs.specs.Replay.{Replays}
 use Rattle.recover.specs.Dropping.{acts_in, live_sections, sections_after, settled_sections, trimmed_sections, unsettled_sections, AreDropped, AreEntriesOf, IsEntryOf}
 use Rattle.recover.specs.Heap.{AreFields, IsUndone, first_old}
+use Rattle.recover.specs.Logs.{logged_guard_in}
 use Rattle.recover.specs.declared.report.Dropped.{Dropped}
 use Rattle.recover.specs.declared.report.Why.TheVariants.{Unfinished, After, Unsettled}
 use Rattle.recover.proofs.HeapLemmas.{fields_as, fields_next, undone_is}
+use Rattle.recover.proofs.HomeLemmas.{logged_agrees}
 use Rattle.recover.proofs.LiveLemmas.{live_few}
 use Rattle.recover.proofs.PushingLemmas.{ended_short}
 use Rattle.survival.proofs.Reasons.{reason_there}
@@ -87,7 +91,7 @@ drops_few rows lanes few (suc n) = omega (
 )
 
 -- The fields that take an old value back.
-module _ (guard settled : ℕ → ℕ) (lanes : ℕ → List UndoRecord) (done : List (ℕ × UndoRecord)) where
+module _ (guards : List GuardRow) (settled : ℕ → ℕ) (lanes : ℕ → List UndoRecord) (done : List (ℕ × UndoRecord)) where
   -- the field has an old value
   abbrev HasOld : ℕ → Type 0
   HasOld f = first_old settled f done ≢ None
@@ -110,10 +114,10 @@ module _ (guard settled : ℕ → ℕ) (lanes : ℕ → List UndoRecord) (done :
             (fields_next HasOld n xs (xs ++ record { 0 = n } ∷ []) are (inl ((λ none. (let clash : Some v ≡ None = sym is ∙ none in cc)), refl))),
       )
 
-  pub fields_there : Replays guard lanes done → (n : ℕ) → (fields : List FieldId) × AreFields (λ (f : ℕ). (f < n) × IsUndone (guard f) f lanes settled) fields
+  pub fields_there : Replays (logged_guard_in guards) lanes done → (n : ℕ) → (fields : List FieldId) × AreFields (λ (f : ℕ). (f < n) × IsUndone (guard_in guards f) f lanes settled) fields
   fields_there replays n =
       let found = fields_to n in (
         found.0,
-        fields_as (λ (f : ℕ). (f < n) × HasOld f) (λ (f : ℕ). (f < n) × IsUndone (guard f) f lanes settled) found.0
-            (λ f. (let same = undone_is guard settled lanes done f replays in ((λ h. (h.0, same.0 h.1)), (λ h. (h.0, same.1 h.1))))) found.1,
+        fields_as (λ (f : ℕ). (f < n) × HasOld f) (λ (f : ℕ). (f < n) × IsUndone (guard_in guards f) f lanes settled) found.0
+            (λ f. (let same = undone_is (logged_guard_in guards) (guard_in guards) (logged_agrees guards) settled lanes done f replays in ((λ h. (h.0, same.0 h.1)), (λ h. (h.0, same.1 h.1))))) found.1,
       )

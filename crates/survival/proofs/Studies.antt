@@ -10,11 +10,11 @@ use Rattle.image.specs.Layout.{IsLayout}
 use Rattle.image.specs.Rows.{IsRow, empty_row}
 use Rattle.image.specs.declared.lane_row.LaneRow.{LaneRow}
 use Rattle.image.specs.declared.layout.Layout.{Layout}
-use Rattle.undo_log.specs.StandsFor.{row_of, guard_in, settled_of, HasLive}
+use Rattle.undo_log.specs.StandsFor.{row_of, settled_of, HasLive}
 use Rattle.store_past.specs.Past.{Past}
 use Rattle.store_image.specs.KeptHeap.{kept_heap}
 use Rattle.store_image.proofs.Stands.{kept_size, stands}
-use Rattle.recover.specs.Logs.{lanes_of}
+use Rattle.recover.specs.Logs.{lanes_of, logged_guard_in}
 use Rattle.recover.specs.Reading.{Holds}
 use Rattle.recover.specs.Settled.{AreLegal}
 use Rattle.recover.specs.Study.{AreUndone, IsReportOf, IsStudyOf, held_by}
@@ -65,7 +65,7 @@ module _ (l : Layout) (s : Setting) (p : Past) (image : List ℕ) (left : IsLeft
   records_long = logs_long (logs l s p image left) lane_small l.lanes
 
   undone_fields : (fields : List FieldId) × AreUndone l (guards l s p image left) (rows l s p image left) (logs l s p image left) fields
-  undone_fields = fields_there (guard_in (guards l s p image left)) (settled_of (rows l s p image left)) (logs l s p image left) (replayed l s p image left).0 (replayed l s p image left).1 l.fields
+  undone_fields = fields_there (guards l s p image left) (settled_of (rows l s p image left)) (logs l s p image left) (replayed l s p image left).0 (replayed l s p image left).1 l.fields
 
   abbrev report : Report
   report = record {
@@ -90,12 +90,14 @@ module _ (l : Layout) (s : Setting) (p : Past) (image : List ℕ) (left : IsLeft
     control = record {
       front = record { layout = record { header = left.shows.parts.header; room = left.shows.parts.room }; guards_are = left.shows.parts.guarded };
       shows = left.shows.shows;
+      marks = λ is. absurd (omega (arith, is, left.shows.current));
     };
+    version = left.shows.current;
     logs = record {
       count = records_long;
       live = subst (λ (ls : ℕ → List UndoRecord). HasLive l image (rows l s p image left) ls) (sym records_are) (live l s p image left);
     };
-    legal = subst (λ (ls : ℕ → List UndoRecord). AreLegal (guard_in (guards l s p image left)) (rows l s p image left) ls) (sym records_are) (legal_there l s p image left);
+    legal = subst (λ (ls : ℕ → List UndoRecord). AreLegal (logged_guard_in (guards l s p image left)) (rows l s p image left) ls) (sym records_are) (legal_there l s p image left);
   }
 
   reports : IsReportOf l (guards l s p image left) (rows l s p image left) (logs l s p image left) report

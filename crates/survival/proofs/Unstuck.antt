@@ -15,17 +15,18 @@ use Rattle.heap_model.specs.Log.{lane, holder, number, awaited, MayFollow, IsAll
 use Rattle.cut_laws.proofs.Lanes.{lane_append}
 use Rattle.cut_laws.proofs.Next.{legal_before, number_rises}
 use Rattle.history_laws.proofs.NextStore.{awaited_in, awaited_is, next_legal}
+use Rattle.log_state.specs.Monitors.{MayStore}
 use Rattle.live_logs.specs.Replay as replay
 use Rattle.live_logs.specs.Replay.{BeginsAt, IsNext, GoesOn, IsGreedy, IsReplay, IsStuckAt}
 use Rattle.survival.proofs.LaneParts.{lane_own, lane_other, lane_map, Found, found, Within, within, there, contains_more, contains_older, ends_with, same_end}
 use Rattle.survival.proofs.Blank.{blank, blanks, valueless, value_blank}
 
--- the guard of the record's field, if it is a store, is the setting's
-abbrev pub IsGuarded : Setting → (guard : ℕ → ℕ) → UndoRecord → Type 0
+-- the record's field, if it is a store, is one whose stores logs keep, under the setting's guard
+abbrev pub IsGuarded : Setting → (guard : ℕ → Option ObjectId) → UndoRecord → Type 0
 IsGuarded s guard (undo.Acq o n) = Unit {0}
 IsGuarded s guard (undo.Rel o n) = Unit {0}
 IsGuarded s guard (undo.WaitRel o n) = Unit {0}
-IsGuarded s guard (undo.Put f before) = guard f.0 ≡ s.guard f.0
+IsGuarded s guard (undo.Put f before) = guard f.0 ≡ Some (record { 0 = s.guard f.0 })
 
 none_of : (v : Option Lane) → lane_number v ≡ None → v ≡ None
 none_of None e = refl
@@ -237,7 +238,7 @@ module _ (s : Setting) (gone all : List (ℕ × UndoRecord)) (legal : IsLegal (v
   pub of_lane : (done : List (ℕ × UndoRecord)) (m : ℕ) (r : UndoRecord) → IsNext lanes done m r → Contains (lanes m) r
   of_lane done m r next = subst (λ (xs : List UndoRecord). Contains xs r) (sym next.1) (there next.0 (lane m done) r)
 
-  module _ (guard first : ℕ → ℕ) (begins : BeginsAt lanes first) (guarded : (l : ℕ) (r : UndoRecord) → Contains (lanes l) r → IsGuarded s guard r) where
+  module _ (guard : ℕ → Option ObjectId) (first : ℕ → ℕ) (begins : BeginsAt lanes first) (guarded : (l : ℕ) (r : UndoRecord) → Contains (lanes l) r → IsGuarded s guard r) where
     -- what a lane holds it took
     begun_held : (o : ℕ) (k : Lane) (done : List (ℕ × UndoRecord)) → IsGreedy guard first lanes done → replay.holder o done ≡ Some k → number o (blanks gone) ≡ first o
     begun_held o k [] greedy h = absurd cc
@@ -276,7 +277,7 @@ module _ (s : Setting) (gone all : List (ℕ × UndoRecord)) (legal : IsLegal (v
     allowed older others m (undo.WaitRel o n) greedy goes low =
         (holder_done o.0 older ∙ ap lane_number goes.allowed.0, number_done first o.0 (begun_held o.0 (record { 0 = m }) older greedy goes.allowed.0) older ∙ goes.allowed.1)
     allowed older others m (undo.Put f v) greedy goes low = (
-      holder_done (s.guard f.0) older ∙ ap (λ (k : ℕ). lane_number (replay.holder k older)) (sym (guarded m (undo.Put f v) (of_lane older m (undo.Put f v) goes.next))) ∙ ap lane_number goes.allowed,
+      holder_done (s.guard f.0) older ∙ ap lane_number (subst (λ (w : Option ObjectId). MayStore w older m) (guarded m (undo.Put f v) (of_lane older m (undo.Put f v) goes.next)) goes.allowed),
       value_blank f.0 (older ++ gone),
     )
 
@@ -304,7 +305,8 @@ module _ (s : Setting) (gone all : List (ℕ × UndoRecord)) (legal : IsLegal (v
         let held : replay.holder o.0 done ≡ Some (record { 0 = m }) = some_of (replay.holder o.0 done) m (sym (holder_done o.0 done) ∙ h.0) in
         (held, sym (number_done first o.0 (begun_held o.0 (record { 0 = m }) done greedy held) done) ∙ h.1)
     allows done m (undo.Put f v) greedy next h =
-        some_of (replay.holder (guard f.0) done) m (ap (λ (k : ℕ). lane_number (replay.holder k done)) (guarded m (undo.Put f v) (of_lane done m (undo.Put f v) next)) ∙ sym (holder_done (s.guard f.0) done) ∙ h.0)
+        subst (λ (w : Option ObjectId). MayStore w done m) (sym (guarded m (undo.Put f v) (of_lane done m (undo.Put f v) next)))
+        (some_of (replay.holder (s.guard f.0) done) m (sym (holder_done (s.guard f.0) done) ∙ h.0))
 
     -- the earliest record that is left can go on
     pub goes_on : (done : List (ℕ × UndoRecord)) (m : ℕ) (r : UndoRecord) → IsGreedy guard first lanes done → IsEarliest all done m r → GoesOn guard first lanes done m r
@@ -330,13 +332,13 @@ module _ (s : Setting) (gone all : List (ℕ × UndoRecord)) (legal : IsLegal (v
         }
 
   -- a replay at its end has nothing left
-  all_done : (guard : ℕ → ℕ) (done : List (ℕ × UndoRecord)) → ((l : ℕ) (r : UndoRecord) → Contains (lanes l) r → IsGuarded s guard r) → IsReplay guard lanes done → (l : ℕ) → length (lane l all) ≤ length (lane l done)
+  all_done : (guard : ℕ → Option ObjectId) (done : List (ℕ × UndoRecord)) → ((l : ℕ) (r : UndoRecord) → Contains (lanes l) r → IsGuarded s guard r) → IsReplay guard lanes done → (l : ℕ) → length (lane l all) ≤ length (lane l done)
   all_done guard done guarded is = elim (earliest all done) [
     | inl h ↦ h
     | inr e ↦ absurd (is.ended e.lane_of e.next (goes_on guard is.first is.begins guarded done e.lane_of e.next is.greedy e.earliest))
   ]
 
-  pub unstuck : (guard : ℕ → ℕ) (l count : ℕ) → ((l : ℕ) (r : UndoRecord) → Contains (lanes l) r → IsGuarded s guard r) → IsStuckAt guard lanes l count → ⊥
+  pub unstuck : (guard : ℕ → Option ObjectId) (l count : ℕ) → ((l : ℕ) (r : UndoRecord) → Contains (lanes l) r → IsGuarded s guard r) → IsStuckAt guard lanes l count → ⊥
   unstuck guard l count guarded stuck =
       let next : IsNext lanes stuck.done l stuck.left.0 = stuck.left.1 in
       omega (

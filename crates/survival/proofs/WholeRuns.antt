@@ -33,7 +33,7 @@ use Rattle.recover.specs.Reading.{RefusesImage}
 use Rattle.recover.specs.Study.{IsStudyOf, held_by}
 use Rattle.survival.specs.WholeRun.{IsSettling, MayAcknowledge, Next, Before, Survives, CannotRecover, MayBeLeft}
 use Rattle.recover.specs.declared.error.RecoverError.{RecoverError}
-use Rattle.recover.specs.declared.error.RecoverError.TheVariants.{Fault, NotFormatted, BadHeader, TooSmall, NoControl, BadControl, Worn, BadRecord, IllegalLog, NoMemory}
+use Rattle.recover.specs.declared.error.RecoverError.TheVariants.{Fault, NotFormatted, BadHeader, TooSmall, NoControl, BadControl, OldVersion, Worn, BadRecord, IllegalLog, NoMemory}
 use Rattle.recover.specs.declared.report.Report.{Report}
 use Rattle.recover.specs.declared.studied.Study.{Study}
 use Rattle.survival.proofs.Accepts.{accepted, finds, finds_heap}
@@ -167,6 +167,7 @@ cannot image takes BadHeader refuses = ⊎_elim (λ is. inl is) (λ is. inr (inl
 cannot image takes TooSmall refuses = ⊎_elim (λ is. inl is) (λ is. inr (inl is)) (takes TooSmall refuses)
 cannot image takes NoControl refuses = ⊎_elim (λ is. inl is) (λ is. inr (inl is)) (takes NoControl refuses)
 cannot image takes BadControl refuses = ⊎_elim (λ is. inl is) (λ is. inr (inl is)) (takes BadControl refuses)
+cannot image takes OldVersion refuses = ⊎_elim (λ is. inl is) (λ is. inr (inl is)) (takes OldVersion refuses)
 cannot image takes Worn refuses = inr (inr (refl, refuses))
 cannot image takes (BadRecord lane place) refuses = ⊎_elim (λ is. inl is) (λ is. inr (inl is)) (takes (BadRecord lane place) refuses.1)
 cannot image takes (IllegalLog lane place) refuses = ⊎_elim (λ is. inl is) (λ is. inr (inl is)) (takes (IllegalLog lane place) refuses.1)

@@ -1,13 +1,13 @@
 -- No image that a store leaves is refused; what it holds is what the store's past says, and its heap the kept one (this
 -- project's own).
-use Rattle.std.specs.Prelude.{ℕ, ◌≡◌, ◌<◌, ◌⊎◌, List}
+use Rattle.std.specs.Prelude.{ℕ, ◌≡◌, ◌⊎◌, List}
 use Rattle.heap_model.specs.Setting.{Setting}
 use Rattle.heap_model.specs.Base.{records_since}
 use Rattle.block_disk.specs.Device.{Device}
 use Rattle.block_disk.specs.Images.{Always}
 use Rattle.image.specs.declared.layout.Layout.{Layout}
 use Rattle.undo_log.specs.Dropped.{undo_logs}
-use Rattle.undo_log.specs.StandsFor.{guard_in, StandsFor}
+use Rattle.undo_log.specs.StandsFor.{AreRowsOf, StandsFor}
 use Rattle.store_past.specs.Past.{Past}
 use Rattle.store_image.specs.Consistent.{TellsCut, IsConsistent}
 use Rattle.store_image.specs.KeptHeap.{kept_heap}
@@ -27,10 +27,12 @@ LeftLaw = (l : Layout) (s : Setting) (p : Past) (c : Committed) (d : Device) →
 abbrev pub AcceptedLaw : Type 0
 AcceptedLaw = (l : Layout) (s : Setting) (p : Past) (image : List ℕ) (e : RecoverError) → IsLeftBy l s p image → RefusesImage image e → (e ≡ Fault) ⊎ (e ≡ NoMemory)
 
--- what was found in an image is what the past says: the guards, the acknowledged sections, and the records since what was trimmed
+-- what was found in an image is what the past says: the guard rows, the acknowledged sections, and the records since what was
+-- trimmed; and its control is of the version that recovery takes
 pub record FindsPast (l : Layout) (s : Setting) (p : Past) (found : LoggedImage) : Type 0 where
   pub layout : found.layout ≡ l
-  pub guards : (f : ℕ) → f < l.fields → guard_in found.guards.items f ≡ s.guard f
+  pub version : found.control.version ≡ 2
+  pub rows : AreRowsOf l.fields found.guards.items s
   pub tells : TellsCut l p.logged p.base p.cut found.control.rows
   pub live : (lane : ℕ) → lanes_of found.records.items lane ≡ undo_logs (records_since p.base p.logged) lane
 

@@ -1,5 +1,5 @@
 -- Both ends have met, and all that was sent is applied, logged, at home and acknowledged.
-use Rattle.std.proofs.Common.{ℕ, zero, suc, ◌≡◌, ◌<◌, ◌≤◌, true, false, List, [], ◌∷◌, ◌++◌, map, length, reverse, Option, refl, sym, ap, ◌∙◌, subst, inl, inr, arith}
+use Rattle.std.proofs.Common.{ℕ, zero, suc, ◌≡◌, ◌<◌, ◌≤◌, if◌then◌else◌, true, false, List, [], ◌∷◌, ◌++◌, map, length, reverse, Option, refl, sym, ap, ◌∙◌, subst, inl, inr, arith}
 use Rattle.std.proofs.lemmas.Bool.{cases_lt}
 use Rattle.rtrb.specs.declared.consumer.Consumer.{Consumer}
 use Rattle.heap_model.specs.declared.record.Record.{Record}
@@ -8,7 +8,7 @@ use Rattle.heap_model.specs.Setting.{Setting}
 use Rattle.heap_model.specs.History.{state_after, log_of}
 use Rattle.heap_model.specs.Own.{own_log}
 use Rattle.heap_model.specs.Log.{lane, IsLegal}
-use Rattle.cut_laws.specs.Laws.{OneStableLaw}
+use Rattle.cut_laws.specs.Laws.{OneStableLaw, UnloggedLaw}
 use Rattle.history_laws.specs.Laws.{LogLaw, OwnLogLaw, NextLaw, OrderLaw}
 use Rattle.history_laws.specs.SectionLaws.{AllKeptLaw}
 use Rattle.heap_model.specs.Sections.{Action, action, actions, holding, ended}
@@ -29,7 +29,7 @@ use Rattle.store_image.proofs.Stands.{same_heap, stands_always}
 use Rattle.trim_helper.specs.Rings.{received_of, known_of, stream}
 use Rattle.trim_helper.specs.Limits.{KeepsLimits}
 use Rattle.trim_helper.specs.Taken.{HasTaken, Advances, IsLaneStuck, applied_more, trimmed_of}
-use Rattle.trim_helper.specs.Settled.{IsSettled}
+use Rattle.trim_helper.specs.Settled.{IsSettled, closed_value}
 use Rattle.trim_helper.specs.Serving.{Part, Among, IsOneHistory}
 use Rattle.trim_helper.specs.Meeting.{HasPart, HaveMet}
 use Rattle.trim_helper.specs.Closed.{HasSpelled, IsClosedDown}
@@ -95,7 +95,7 @@ module _ {A P : Type 0} (s : Setting) (lanes capacity : ℕ) (place : ℕ → �
         drained x' d' r2 w2 s (applied_more made.0 p) made.2 log (log_law s h one.legal) next (λ l. streams l ∙ sym (on.whole l)) (λ l le. none_past l (omega arith)) limits (λ l lt. stuck l s (applied_more made.0 p) (omega arith) made.2.has),
       )
 
-module _ (s : Setting) (lanes : ℕ) (parts : List Part) (h : List (ℕ × Event)) (one : IsOneHistory s lanes parts h) (log_law : LogLaw) (order_law : OrderLaw) (all_kept : AllKeptLaw) (one_stable : OneStableLaw) (keeps : (f : ℕ) → s.is_logged f ≡ true)
+module _ (s : Setting) (lanes : ℕ) (parts : List Part) (h : List (ℕ × Event)) (one : IsOneHistory s lanes parts h) (log_law : LogLaw) (order_law : OrderLaw) (all_kept : AllKeptLaw) (one_stable : OneStableLaw) (unlogged : UnloggedLaw)
     (words : Final) (spelled : Spells words (state_after s h)) (p : Past) (told : (x : Part) → Among parts x → x.lane < lanes → x.count ≤ p.cut x.lane) (places : (x : Part) → Among parts x → x.lane < lanes → x.place ≤ trimmed_of p x.lane)
     (x : Known) (since d : Device) (now : Past) (ran : HasRun x.layout s p since now d false) (has : HasPast x s now d) (running : x.has_failed ≡ false) (settled : IsSettled s now)
     (same : (l : ℕ) → lane l (applied now) ≡ lane l (log_of s h)) (free : (l : ℕ) → length (holding (map action (lane l (log_of s h)))) ≡ 0) where
@@ -134,8 +134,12 @@ module _ (s : Setting) (lanes : ℕ) (parts : List Part) (h : List (ℕ × Event
       record { heap = subst (λ heap. StandsFor x.layout image heap) (same_heap x.layout s now.logged (log_of s h) cut same_kept) moved.heap; sections = moved.sections })
       (stands_always x.layout s now x.committed d (has.agrees running))
 
-  values : (f : ℕ) → kept_value s.first cut f (log_of s h) ≡ (state_after s h).value f
-  values f = (all_kept s (log_of s h) (log_law s h one.legal) free_log).1 f ∙ value_log s h f (keeps f)
+  -- a field whose stores are logged keeps its last value, and another one its first
+  values : (f : ℕ) → kept_value s.first cut f (log_of s h) ≡ closed_value s (state_after s h).value f
+  values f = elim (s.is_logged f) as (λ b. s.is_logged f ≡ b → kept_value s.first cut f (log_of s h) ≡ (if b then (state_after s h).value f else s.first f)) [
+    | true ↦ λ is. (all_kept s (log_of s h) (log_law s h one.legal) free_log).1 f ∙ value_log s h f is
+    | false ↦ λ not. (unlogged s (log_of s h) f (log_law s h one.legal) not).1 cut
+  ] refl
 
   closed_down : IsClosedDown s lanes x.layout parts p since d
   closed_down = record {
@@ -146,7 +150,7 @@ module _ (s : Setting) (lanes : ℕ) (parts : List Part) (h : List (ℕ × Event
     logs = same;
     left = left_always x.layout s now x.committed d (has.agrees running);
     stands = stands;
-    values = always_weaker d (StandsForCut x.layout s (log_of s h) cut) (λ image. StandsFor x.layout image (values_below (state_after s h).value x.layout.fields))
+    values = always_weaker d (StandsForCut x.layout s (log_of s h) cut) (λ image. StandsFor x.layout image (values_below (closed_value s (state_after s h).value) x.layout.fields))
         (λ image st. subst (λ (v : ℕ → ℕ). StandsFor x.layout image (values_below v x.layout.fields)) (λ i f. values f i) st.heap) stands;
     told = told;
     places = places;

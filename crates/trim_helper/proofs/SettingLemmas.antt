@@ -1,5 +1,5 @@
 -- The words and the store are judged by one setting.
-use Rattle.std.proofs.Common.{ℕ, ◌≡◌, ◌<◌, List, refl, sym, subst}
+use Rattle.std.proofs.Common.{ℕ, ◌≡◌, ◌<◌, ◌∙◌, Bool, true, false, not, List, refl, sym, subst}
 use Rattle.guards.specs.Schema as schemas
 use Rattle.guards.specs.Schema.{Declarations}
 use Rattle.image.specs.declared.guard_row.GuardRow.{GuardRow}
@@ -9,11 +9,16 @@ use Rattle.monitor.specs.declared.view.Plan.{Plan}
 use Rattle.monitor.specs.Words.{setting_of}
 use Rattle.trim_helper.specs.Opening.{FitsSchema}
 
+twice : (b : Bool) → b ≡ not (not b)
+twice true = refl
+twice false = refl
+
 begins : (schema : Declarations) (l : Layout) (rows : List GuardRow) (heap : List ℕ) (last : ℕ) → FitsSchema schema l rows → IsSettingOf l rows heap last (schemas.setting_of schema heap last)
 begins schema l rows heap last fits = record {
   objects = sym fits.objects;
   fields = sym fits.fields;
   guards = λ f d lt. fits.guarded f d (subst (λ n. f < n) fits.fields lt);
+  marks = λ f d lt. fits.marked f d (subst (λ n. f < n) fits.fields lt) ∙ twice (schemas.is_transient_of schema f);
   values = λ f lt. refl;
   last_is = refl;
 }

@@ -12,7 +12,7 @@ use Rattle.heap_model.specs.declared.record.Record.{Record}
 use Rattle.heap_model.specs.Log.{IsLegal, lane}
 use Rattle.durable.specs.Runs.{HasRun, IsLeftBy}
 use Rattle.store_past.specs.Past.{Past, applied}
-use Rattle.trim_helper.specs.Settled.{StandsForRound}
+use Rattle.trim_helper.specs.Settled.{StandsForRound, closed_value}
 use Rattle.image.specs.declared.layout.Layout.{Layout}
 use Rattle.undo_log.specs.StandsFor.{StandsFor}
 use Rattle.store_image.specs.KeptHeap.{StandsForCut, values_below}
@@ -26,7 +26,7 @@ use Rattle.trim_helper.specs.Taken.{trimmed_of}
 
 -- One legal history has these threads' views as its parts, and the store calls that were made since have applied its logs, lane by
 -- lane. Whatever a crash leaves now, a store of that past leaves, so that recovery takes it, and it stands for the history's heap with
--- all its sections, which is the heap after it. None of the threads was told of more sections than were acknowledged before, nor of a
+-- all its sections: after it the persistent fields have these values, and the transient ones begin anew. None of the threads was told of more sections than were acknowledged before, nor of a
 -- place past what was trimmed.
 pub record IsClosedDown (s : Setting) (lanes : ℕ) (l : Layout) (parts : List Part) (p : Past) (since d : Device) : Type 0 where
   pub history : List (ℕ × Event)
@@ -36,7 +36,7 @@ pub record IsClosedDown (s : Setting) (lanes : ℕ) (l : Layout) (parts : List P
   pub logs : (k : ℕ) → lane k (applied now) ≡ lane k (log_of s history)
   pub left : Always d (IsLeftBy l s now)
   pub stands : Always d (StandsForCut l s (log_of s history) (all_ended (actions (log_of s history))))
-  pub values : Always d (λ image. StandsFor l image (values_below (state_after s history).value l.fields))
+  pub values : Always d (λ image. StandsFor l image (values_below (closed_value s (state_after s history).value) l.fields))
   pub told : (x : Part) → Among parts x → x.lane < lanes → x.count ≤ p.cut x.lane
   pub places : (x : Part) → Among parts x → x.lane < lanes → x.place ≤ trimmed_of p x.lane
 

@@ -1,11 +1,12 @@
 -- Which schema a recovered heap is of (this project's own).
 use Rattle.std.specs.Prelude.{ℕ, ◌≡◌, ◌<◌, List, slice_index_or}
-use Rattle.guards.specs.Schema.{Declarations, object_count, field_count, guard_of}
+use Rattle.guards.specs.Schema.{Declarations, object_count, field_count, guard_of, is_transient_of}
 use Rattle.image.specs.declared.guard_row.GuardRow.{GuardRow}
 use Rattle.image.specs.declared.layout.Layout.{Layout}
 
--- the image has the schema's objects and fields, each field with its guard
+-- the image has the schema's objects and fields, each field with its guard, and the same of them transient
 pub record FitsSchema (schema : Declarations) (layout : Layout) (rows : List GuardRow) : Type 0 where
   pub objects : layout.objects ≡ object_count schema
   pub fields : layout.fields ≡ field_count schema
   pub guarded : (f : ℕ) (d : GuardRow) → f < field_count schema → (slice_index_or rows f d).guard.0 ≡ guard_of schema f
+  pub marked : (f : ℕ) (d : GuardRow) → f < field_count schema → (slice_index_or rows f d).transient ≡ is_transient_of schema f

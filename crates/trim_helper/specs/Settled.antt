@@ -1,5 +1,5 @@
 -- What making records durable makes of a past.
-use Rattle.std.specs.Prelude.{ℕ, ◌≡◌, ◌<◌, ◌≤◌, ◌⊎◌, ◌-◌, ◌^◌, Bool, true, false, List, []}
+use Rattle.std.specs.Prelude.{ℕ, ◌≡◌, ◌<◌, ◌≤◌, ◌⊎◌, ◌-◌, ◌^◌, if◌then◌else◌, Bool, true, false, List, []}
 use Rattle.heap_model.specs.declared.record.Record.{Record}
 use Rattle.heap_model.specs.Setting.{Setting}
 use Rattle.heap_model.specs.Sections.{actions}
@@ -49,3 +49,7 @@ pub data StandsForRound (l : Layout) (s : Setting) (log : List (ℕ × Record)) 
 pub record IsWhy (old new : Known) (e : StoreError) : Type 0 where
   pub failed : e ≡ Failed → old.has_failed ≡ true
   pub worn : e ≡ Worn → new.committed.sequence ≡ 2 ^ 64 - 1
+
+-- the field's value once all is at home: a persistent one's last, and a transient one's first
+abbrev pub closed_value : Setting → (value : ℕ → ℕ) → (field : ℕ) → ℕ
+closed_value s value f = if s.is_logged f then value f else s.first f

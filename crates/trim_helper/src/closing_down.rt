@@ -21,7 +21,7 @@ use crate::published::close;
 use crate::serving::Serving;
 use crate::settling::settle_applied;
 use block_disk::Disk;
-use cut_laws::stable_law;
+use cut_laws::{stable_law, unlogged_law};
 use durable::Store;
 use heap_model::{Lane, RING_RECORDS, Record};
 use history_laws::{all_kept_law, log_law, next_law, order_law, own_log_law};
@@ -119,6 +119,7 @@ fn finish<D: Disk>(
     order_law();
     all_kept_law();
     stable_law();
+    unlogged_law();
     let layout = store.layout();
     meet(&shared, ended, rings, &mut seat, layout.capacity);
     if let Err(reason) = drain_known(store, rings, waiting) {

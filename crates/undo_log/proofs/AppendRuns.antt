@@ -1,10 +1,10 @@
 -- Records that are written in runs: each is a write of its own.
-use Rattle.std.proofs.Common.{◌≡◌, ℕ, zero, suc, ◌+◌, ◌*◌, ◌%◌, ◌<◌, ◌≤◌, List, [], ◌∷◌, ◌++◌, All, length, get_or, take, drop, refl, sym, ◌∙◌, ap, subst, arith, append_assoc, length-append, length-take, length-drop}
+use Rattle.std.proofs.Common.{◌≡◌, ℕ, zero, suc, ◌+◌, ◌*◌, ◌%◌, ◌<◌, ◌≤◌, List, [], ◌∷◌, ◌++◌, All, length, get_or, take, drop, refl, sym, ◌∙◌, ap, subst, arith, append_assoc, length-append, length-take}
 use Rattle.std.proofs.lemmas.List.{append-nil, take_more}
 use Rattle.heap_model.specs.declared.record.UndoRecord.{UndoRecord}
 use Rattle.heap_model.specs.declared.record.UndoRecord.TheVariants.{Acq}
 use Rattle.block_disk.specs.Bytes.{spliced}
-use Rattle.block_disk.specs.Device.{Range, Device, IsClear, SameOutside, written, written_units, unit_ranges}
+use Rattle.block_disk.specs.Device.{Range, Device, IsClear, written, written_units, unit_ranges}
 use Rattle.block_disk.specs.Images.{Always, ImageBut, LeavesOnly}
 use Rattle.block_disk.proofs.Ranges.{outside_more}
 use Rattle.block_disk.proofs.Images.{follows, weaker, now_too, besides_then, besides_wider}

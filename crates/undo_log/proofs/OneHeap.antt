@@ -9,7 +9,7 @@ use Rattle.heap_model.specs.declared.record.UndoRecord.{UndoRecord}
 use Rattle.heap_model.specs.declared.record.UndoRecord.TheVariants.{Acq, Rel, WaitRel, Put}
 use Rattle.block_disk.specs.Bytes.{part}
 use Rattle.image.specs.Slots.{Shows}
-use Rattle.image.specs.Cells.{HasCell}
+use Rattle.image.specs.Cells.{HasHome}
 use Rattle.image.specs.declared.layout.Layout.{Layout}
 use Rattle.image.specs.declared.slot.Slot.{Slot}
 use Rattle.image.specs.declared.lane_row.LaneRow.{LaneRow}
@@ -17,11 +17,11 @@ use Rattle.image.specs.declared.control.Control.{Control}
 use Rattle.image.specs.declared.guard_row.GuardRow.{GuardRow}
 use Rattle.image.specs.declared.error.ImageError.{ImageError}
 use Rattle.image.specs.declared.error.ImageError.TheVariants.{Fault}
-use Rattle.image.proofs.Reading.{control_is_chosen, guards_are_read, cell_is_read}
+use Rattle.image.proofs.Reading.{control_is_chosen, guards_are_read, home_is_read}
 use Rattle.undo_log.specs.RecordBytes.{record_bytes, id_of, word_of, kind_of, IsInRange, Spells as SpellsRecord}
 use Rattle.undo_log.specs.OldValues.{TakesBack, IsUnsettled}
 use Rattle.undo_log.specs.Area.{HasRecords, HasSpan}
-use Rattle.undo_log.specs.StandsFor.{row_of, settled_of, guard_in, HasLive, StandsFor}
+use Rattle.undo_log.specs.StandsFor.{row_of, settled_of, row_in, guard_in, HasLive, StandsFor}
 use Rattle.undo_log.proofs.Once.{takes_once}
 
 same_answer : (x y : Slot × Control) → (let a : Result (Slot × Control) ImageError = Ok x in a ≡ Ok y) → x ≡ y
@@ -111,11 +111,11 @@ one_heap l image a b p q =
     let lanes : p.lanes ≡ q.lanes = λ i lane. each lane i in
     ext_get_or 0 a b (p.size ∙ sym q.size) (λ f lt.
     let below : f < l.fields = omega (arith, p.size) in
-    let first : TakesBack (guard_in q.guards f) f p.lanes (IsUnsettled (settled_of p.control.rows)) (HasCell l f image) (slice_index a f) =
-    subst (λ (gs : List GuardRow). TakesBack (guard_in gs f) f p.lanes (IsUnsettled (settled_of p.control.rows)) (HasCell l f image) (slice_index a f)) guards (p.takes f below) in
-    let second : TakesBack (guard_in q.guards f) f q.lanes (IsUnsettled (settled_of p.control.rows)) (HasCell l f image) (slice_index a f) =
-    subst (λ (ls : ℕ → List UndoRecord). TakesBack (guard_in q.guards f) f ls (IsUnsettled (settled_of p.control.rows)) (HasCell l f image) (slice_index a f)) lanes first in
-    let third : TakesBack (guard_in q.guards f) f q.lanes (IsUnsettled (settled_of q.control.rows)) (HasCell l f image) (slice_index a f) =
-    subst (λ (rs : List LaneRow). TakesBack (guard_in q.guards f) f q.lanes (IsUnsettled (settled_of rs)) (HasCell l f image) (slice_index a f)) rows second in
-    takes_once (guard_in q.guards f) f q.lanes (IsUnsettled (settled_of q.control.rows)) (HasCell l f image) (slice_index a f) (slice_index b f)
-    (λ v w. cell_is_read l f image (slice_index a f) (slice_index b f) v w) third (q.takes f below))
+    let first : TakesBack (guard_in q.guards f) f p.lanes (IsUnsettled (settled_of p.control.rows)) (HasHome l (row_in q.guards f) f image) (slice_index a f) =
+    subst (λ (gs : List GuardRow). TakesBack (guard_in gs f) f p.lanes (IsUnsettled (settled_of p.control.rows)) (HasHome l (row_in gs f) f image) (slice_index a f)) guards (p.takes f below) in
+    let second : TakesBack (guard_in q.guards f) f q.lanes (IsUnsettled (settled_of p.control.rows)) (HasHome l (row_in q.guards f) f image) (slice_index a f) =
+    subst (λ (ls : ℕ → List UndoRecord). TakesBack (guard_in q.guards f) f ls (IsUnsettled (settled_of p.control.rows)) (HasHome l (row_in q.guards f) f image) (slice_index a f)) lanes first in
+    let third : TakesBack (guard_in q.guards f) f q.lanes (IsUnsettled (settled_of q.control.rows)) (HasHome l (row_in q.guards f) f image) (slice_index a f) =
+    subst (λ (rs : List LaneRow). TakesBack (guard_in q.guards f) f q.lanes (IsUnsettled (settled_of rs)) (HasHome l (row_in q.guards f) f image) (slice_index a f)) rows second in
+    takes_once (guard_in q.guards f) f q.lanes (IsUnsettled (settled_of q.control.rows)) (HasHome l (row_in q.guards f) f image) (slice_index a f) (slice_index b f)
+    (λ v w. home_is_read l (row_in q.guards f) f image (slice_index a f) (slice_index b f) v w) third (q.takes f below))

@@ -8,7 +8,7 @@ use std::test::Fail;
 const REPORT: &[u8] = b"kept 0 0\nundone 0\nheap 10 20\n";
 
 const LINES: &[u8] = b"image lanes 2 capacity 4000 objects 4 fields 2 size 130208
-control a sequence 1 version 1
+control a sequence 1 version 2
 lane t1 start 0 settled 0 logged 0 kept 0
 lane t2 start 0 settled 0 logged 0 kept 0
 cut 0 0

@@ -24,6 +24,10 @@ heap_behind x = behind (kind.Heap x)
 abbrev pub closed_behind : Closed → Held
 closed_behind x = behind (kind.Closed x)
 
+-- a heap that has stopped
+abbrev pub stopped_behind : Held
+stopped_behind = behind kind.Stopped
+
 -- a session
 abbrev pub session_behind : Seated → Held
 session_behind s = behind (kind.Session s)

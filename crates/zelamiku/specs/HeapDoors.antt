@@ -1,5 +1,5 @@
 -- What C's calls of a heap do to what is behind its handle, and what they answer, by cases on what is there (this project's own).
-use Rattle.std.specs.Prelude.{ℕ, ◌≡◌, ◌<◌, ◌≤◌, ◌↔◌, List, [], ◌∷◌, ◌++◌, ◌+◌, true, false, Option, Some, None, Result, Ok, Err, IfOk, IsErrOf, OnOk, drop, length, map, take}
+use Rattle.std.specs.Prelude.{ℕ, ◌≡◌, ◌<◌, ◌≤◌, ◌↔◌, List, [], ◌∷◌, ◌++◌, ◌+◌, ◌==◌, not, true, false, Option, Some, None, Result, Ok, Err, IfOk, IsErrOf, OnOk, drop, length, map, take}
 use Rattle.block_disk.specs.Device.{HasFailed}
 use Rattle.deferred_disk.specs.Deferred.{stop_of}
 use Rattle.deferred_disk.specs.Host.{Fetches, HasLooked, Host}
@@ -34,11 +34,11 @@ use Rattle.trim_helper.specs.Parts.{HasServed, IsServing}
 use Rattle.trim_helper.specs.Rings.{known_of, waiting_in}
 use Rattle.trim_helper.specs.Settled.{IsStop, IsWhy}
 use Rattle.zelamiku.specs.Own.{Held}
-use Rattle.zelamiku.specs.Behind.{Answers, behind, nothing_behind, heap_behind, closed_behind, session_behind}
+use Rattle.zelamiku.specs.Behind.{Answers, behind, nothing_behind, heap_behind, closed_behind, session_behind, stopped_behind}
 use Rattle.zelamiku.specs.HeapStatuses.{acknowledged_status, host_status, not_closed_status, round_status}
 use Rattle.zelamiku.specs.declared.state.Open.{Open}
 use Rattle.zelamiku.specs.declared.state.Open.TheVariants as kind
-use Rattle.zelamiku.specs.declared.status.TheConstants.{OK, OPEN, WRONG_KIND, NO_MEMORY, NONE_LEFT, BAD_HEADER}
+use Rattle.zelamiku.specs.declared.status.TheConstants.{OK, OPEN, WRONG_KIND, NO_MEMORY, NONE_LEFT, BAD_HEADER, STOPPED}
 use Rattle.zelamiku.specs.declared.words.Call.{Call}
 use Rattle.zelamiku.specs.declared.words.Field.{Field}
 use Rattle.zelamiku.specs.declared.words.Found.{Found}
@@ -53,9 +53,9 @@ abbrev pub IsSeen : {E : Type 0} (status_of : E → ℕ) → Result ℕ E → (n
 IsSeen status_of (Ok n) number status = (number ≡ n) × (status ≡ OK)
 IsSeen status_of (Err e) number status = status ≡ status_of e
 
--- the fields that C declares
+-- the fields that C declares: a transient one by a mark other than 0
 abbrev pub row_of : Field → GuardRow
-row_of f = record { guard = record { 0 = f.guard }; owner = record { 0 = f.owner }; first = f.first }
+row_of f = record { guard = record { 0 = f.guard }; owner = record { 0 = f.owner }; first = f.first; transient = not (f.transient == 0) }
 
 abbrev pub rows_of : List Field → List GuardRow
 rows_of fields = map row_of fields
@@ -66,7 +66,7 @@ pub data RefusesFormat (objects : ℕ) (fields : List Field) (lanes capacity sta
   NoRoom : lanes ≤ 255 → status ≡ NO_MEMORY → RefusesFormat objects fields lanes capacity status
   NotMade : (e : HostError) → lanes ≤ 255 → RefusesMaking objects (rows_of fields) lanes capacity e → status ≡ host_status e → RefusesFormat objects fields lanes capacity status
 
--- `zelamiku_format`, where nothing was behind the handle: a heap of these objects and fields, with the size of its image; or none
+-- `zelamiku_format_marked`, where nothing was behind the handle: a heap of these objects and fields, with the size of its image; or none
 pub data FormatsAt (objects : ℕ) (fields : List Field) (lanes capacity size : ℕ) (after : Held) (status : ℕ) : Type 0 where
   IsFormatted : (x : Hosting) → IsMade objects (rows_of fields) lanes capacity x → size ≡ size_of x.helper.store.known.layout → after ≡ heap_behind x → status ≡ OK
       → FormatsAt objects fields lanes capacity size after status
@@ -101,11 +101,13 @@ pub record IsNext (x y : Hosting) (s : Seated) : Type 0 where
   pub lane : x.unused ≡ (view_of s.session).lane.0 ∷ y.unused
   pub untold : (view_of s.session).events ≡ []
   pub home_is : s.home ≡ x.home
+  pub word_is : s.stop.word ≡ x.stop.word
   pub end : LaneEnd
   pub out : y.out ≡ end ∷ x.out
   pub home : y.home ≡ x.home
   pub helper : y.helper ≡ x.helper
   pub calls : y.calls ≡ x.calls
+  pub stop : y.stop ≡ x.stop
 
 -- a heap hands out that session, or none is left, or there is no memory
 pub data HandsOne (x : Hosting) (handed after : Held) (status : ℕ) : Type 0 where
@@ -117,6 +119,7 @@ pub data HandsOne (x : Hosting) (handed after : Held) (status : ℕ) : Type 0 wh
 abbrev pub HandsOutAt : (handed : Held) → Open → (after : Held) → (status : ℕ) → Type 0
 HandsOutAt handed (kind.Heap x) after status = HandsOne x handed after status
 HandsOutAt handed (kind.Closed x) after status = (status ≡ NONE_LEFT) × (after ≡ closed_behind x)
+HandsOutAt handed kind.Stopped after status = (status ≡ STOPPED) × (after ≡ stopped_behind)
 HandsOutAt handed other after status = (status ≡ WRONG_KIND) × (after ≡ behind other)
 
 -- and where something was behind the session's handle
@@ -151,6 +154,7 @@ pub record TellsFirst (left : List DeviceCall) (call : Call) (buffer filled : Li
 abbrev pub TellsNextAt : (call : Call) (buffer filled : List ℕ) → Open → (after : Held) → (status : ℕ) → Type 0
 TellsNextAt call buffer filled (kind.Heap x) after status = (y : Hosting) × SameHeap x y × Fetches x.calls y.calls × TellsFirst y.calls.left call buffer filled status × (after ≡ heap_behind y)
 TellsNextAt call buffer filled (kind.Closed x) after status = (y : Closed) × (y.disk ≡ x.disk) × Fetches x.calls y.calls × TellsFirst y.calls.left call buffer filled status × (after ≡ closed_behind y)
+TellsNextAt call buffer filled kind.Stopped after status = (status ≡ STOPPED) × (after ≡ stopped_behind)
 TellsNextAt call buffer filled other after status = (status ≡ WRONG_KIND) × (after ≡ behind other)
 
 -- of the calls that are left, these, the first is made, if there is one
@@ -162,6 +166,7 @@ MakesFirst (call ∷ later) x y status = (status ≡ OK) × (y.left ≡ later) �
 abbrev pub MakesCallAt : Open → (after : Held) → (status : ℕ) → Type 0
 MakesCallAt (kind.Heap x) after status = (y : Hosting) × SameHeap x y × MakesFirst x.calls.left x.calls y.calls status × (after ≡ heap_behind y)
 MakesCallAt (kind.Closed x) after status = (y : Closed) × (y.disk ≡ x.disk) × MakesFirst x.calls.left x.calls y.calls status × (after ≡ closed_behind y)
+MakesCallAt kind.Stopped after status = (status ≡ STOPPED) × (after ≡ stopped_behind)
 MakesCallAt other after status = (status ≡ WRONG_KIND) × (after ≡ behind other)
 
 -- a round of the heap, which answers this
@@ -180,6 +185,7 @@ pub record HasRound (x y : Hosting) (answer : Result ℕ RoundError) : Type 0 wh
   pub later : (hosted_device x.helper.store.disk).failures ≤ (hosted_device y.helper.store.disk).failures
   pub layout : y.helper.store.known.layout ≡ x.helper.store.known.layout
   pub home : y.home ≡ x.home
+  pub stopper : y.stop ≡ x.stop
   pub unused : y.unused ≡ x.unused
   pub out : y.out ≡ x.out
   pub calls : HasLooked x.calls y.calls
@@ -188,6 +194,7 @@ pub record HasRound (x y : Hosting) (answer : Result ℕ RoundError) : Type 0 wh
 abbrev pub RoundsAt : (applied : ℕ) → Open → (after : Held) → (status : ℕ) → Type 0
 RoundsAt applied (kind.Heap x) after status = (y : Hosting) × (answer : Result ℕ RoundError) × HasRound x y answer × IsSeen round_status answer applied status × (after ≡ heap_behind y)
 RoundsAt applied (kind.Closed x) after status = (status ≡ NONE_LEFT) × (after ≡ closed_behind x)
+RoundsAt applied kind.Stopped after status = (status ≡ STOPPED) × (after ≡ stopped_behind)
 RoundsAt applied other after status = (status ≡ WRONG_KIND) × (after ≡ behind other)
 
 -- how many sections of the lane are acknowledged, where each call was made, or why that isn't told
@@ -205,6 +212,7 @@ abbrev pub AcknowledgesAt : (lane sections : ℕ) → Open → (after : Held) �
 AcknowledgesAt lane sections (kind.Heap x) after status =
     (y : Hosting) × (answer : Result ℕ AcknowledgedError) × HasAcknowledged x y lane answer × IsSeen acknowledged_status answer sections status × (after ≡ heap_behind y)
 AcknowledgesAt lane sections (kind.Closed x) after status = (status ≡ NONE_LEFT) × (after ≡ closed_behind x)
+AcknowledgesAt lane sections kind.Stopped after status = (status ≡ STOPPED) × (after ≡ stopped_behind)
 AcknowledgesAt lane sections other after status = (status ≡ WRONG_KIND) × (after ≡ behind other)
 
 -- what is behind the handle of a heap that wasn't closed: the heap, which goes on, or what is left of it
@@ -223,4 +231,5 @@ pub data ClosesOne (x : Hosting) (after : Held) (status : ℕ) : Type 0 where
 abbrev pub ClosesAt : Open → (after : Held) → (status : ℕ) → Type 0
 ClosesAt (kind.Heap x) after status = ClosesOne x after status
 ClosesAt (kind.Closed x) after status = (status ≡ NONE_LEFT) × (after ≡ closed_behind x)
+ClosesAt kind.Stopped after status = (status ≡ STOPPED) × (after ≡ stopped_behind)
 ClosesAt other after status = (status ≡ WRONG_KIND) × (after ≡ behind other)

@@ -19,7 +19,7 @@ use Rattle.recover.specs.declared.error.RecoverError.TheVariants as recover
 use Rattle.store_past.specs.declared.error.StoreError.{StoreError}
 use Rattle.store_past.specs.declared.error.StoreError.TheVariants as store
 use Rattle.trim_helper.specs.declared.close_error.CloseError.TheVariants as close
-use Rattle.zelamiku.specs.declared.status.TheConstants.{NO_MEMORY, CALLS_LEFT, BAD_LANE, RUNNING, UNKNOWN_OBJECT, TOO_MANY, WORN, FAULT, FAILED, UNFINISHED, EMPTY, NOT_FORMATTED, BAD_HEADER, TOO_SMALL, NO_CONTROL, BAD_CONTROL, BAD_RECORD, ILLEGAL_LOG}
+use Rattle.zelamiku.specs.declared.status.TheConstants.{NO_MEMORY, CALLS_LEFT, BAD_LANE, RUNNING, UNKNOWN_OBJECT, TOO_MANY, WORN, FAULT, FAILED, UNFINISHED, EMPTY, NOT_FORMATTED, BAD_HEADER, TOO_SMALL, NO_CONTROL, BAD_CONTROL, BAD_RECORD, ILLEGAL_LOG, OLD_VERSION}
 
 -- why objects and fields make no heap
 abbrev pub schema_status : SchemaError → ℕ
@@ -49,6 +49,7 @@ recover_status recover.BadHeader = BAD_HEADER
 recover_status recover.TooSmall = TOO_SMALL
 recover_status recover.NoControl = NO_CONTROL
 recover_status recover.BadControl = BAD_CONTROL
+recover_status recover.OldVersion = OLD_VERSION
 recover_status recover.Worn = WORN
 recover_status (recover.BadRecord lane place) = BAD_RECORD
 recover_status (recover.IllegalLog lane place) = ILLEGAL_LOG

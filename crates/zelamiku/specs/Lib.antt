@@ -3,6 +3,7 @@ pub mod Own
 pub mod Behind
 -- What the calls of a session answer.
 pub mod SessionDoors
+pub mod StopDoors
 pub mod SessionStatuses
 -- What C's calls of a heap answer.
 pub mod HeapStatuses

@@ -22,6 +22,7 @@ use Rattle.session.specs.declared.session.Session.{Session}
 use Rattle.zelamiku.specs.Behind.{Answers, behind, nothing_behind, session_behind, waiting_behind}
 use Rattle.zelamiku.specs.Own.{Held}
 use Rattle.zelamiku.specs.SessionStatuses.{refusal_status, status_of, still_status}
+use Rattle.zelamiku.specs.StopDoors.{UnlessStopped, UnlessStoppedWaiting}
 use Rattle.zelamiku.specs.declared.session_calls.TheConstants.{NOBODY}
 use Rattle.zelamiku.specs.declared.state.Open.{Open}
 use Rattle.zelamiku.specs.declared.state.Open.TheVariants as kind
@@ -38,13 +39,17 @@ abbrev pub OfSession : (Seated → Held → ℕ → Type 0) → Open → Held �
 OfSession p (kind.Session s) after status = p s after status
 OfSession p other after status = HasNoSession other after status
 
--- the session is there again, with the words of its heap
+-- the session is there again, with the words of its heap, and learns of a stop as before
 abbrev pub Stays : (Seated → Seated → ℕ → Type 0) → Seated → Held → ℕ → Type 0
-Stays p s after status = (t : Seated) × (after ≡ session_behind t) × (t.home ≡ s.home) × p s t status
+Stays p s after status = (t : Seated) × (after ≡ session_behind t) × (t.home ≡ s.home) × (t.stop.word ≡ s.stop.word) × p s t status
 
 -- A call of a session through its handle: `p` is the call itself, of the session before it and after it.
 abbrev pub AnswersAs : (p : Seated → Seated → (status : ℕ) → Type 0) → (before after : Held) (status : ℕ) → Type 0
 AnswersAs p = Answers (OfSession (Stays p))
+
+-- the same, by a call that a session doesn't make once it has seen that its heap has stopped
+abbrev pub AnswersUnlessStopped : (p : Seated → Seated → (status : ℕ) → Type 0) → (before after : Held) (status : ℕ) → Type 0
+AnswersUnlessStopped p = Answers (OfSession (UnlessStopped (Stays p)))
 
 -- an enter of the object of this number
 abbrev pub EntersAt : (object : ℕ) → Seated → Seated → ℕ → Type 0
@@ -106,24 +111,32 @@ abbrev pub ReadsStable : (sections : ℕ) → Seated → Seated → ℕ → Type
 ReadsStable sections s t status = (status ≡ OK) × IsQuiet (view_of s.session) (view_of t.session) × ((view_of t.session).stable ≡ sections)
 
 -- What a wait gave is there, with the words of its heap: a session that waits, or the session that was refused.
-abbrev pub IsThereAfterWait : Home → Result SeatedWaiting (Seated × SessionError) → Held → ℕ → Type 0
-IsThereAfterWait h (Ok w) after status = (w.home ≡ h) × (after ≡ waiting_behind w) × (status ≡ OK)
-IsThereAfterWait h (Err e) after status = (e.0.home ≡ h) × (after ≡ session_behind e.0) × (status ≡ refusal_status e.1)
+abbrev pub IsThereAfterWait : Home → (word : ℕ) → Result SeatedWaiting (Seated × SessionError) → Held → ℕ → Type 0
+IsThereAfterWait h word (Ok w) after status = (w.home ≡ h) × (w.stop.word ≡ word) × (after ≡ waiting_behind w) × (status ≡ OK)
+IsThereAfterWait h word (Err e) after status = (e.0.home ≡ h) × (e.0.stop.word ≡ word) × (after ≡ session_behind e.0) × (status ≡ refusal_status e.1)
 
--- a wait that is asked for
+-- a wait that a session asks for
+abbrev pub WaitsFrom : (object : ℕ) → Seated → Held → ℕ → Type 0
+WaitsFrom object s after status = (answer : Result SeatedWaiting (Seated × SessionError))
+    × AsksToWait s.home s.session (record { 0 = object }) (inner_wait answer) × IsThereAfterWait s.home s.stop.word answer after status
+
+-- and through its handle
 abbrev pub WaitsAt : (object : ℕ) → Open → Held → ℕ → Type 0
-WaitsAt object = OfSession (λ s after status. (answer : Result SeatedWaiting (Seated × SessionError))
-    × AsksToWait s.home s.session (record { 0 = object }) (inner_wait answer) × IsThereAfterWait s.home answer after status)
+WaitsAt object = OfSession (UnlessStopped (WaitsFrom object))
 
 -- What a resume gave is there, with the words of its heap: the session, or one that waits on.
-abbrev pub IsThereAfterResume : Home → Result Seated (SeatedWaiting × Still) → Held → ℕ → Type 0
-IsThereAfterResume h (Ok s) after status = (s.home ≡ h) × (after ≡ session_behind s) × (status ≡ OK)
-IsThereAfterResume h (Err e) after status = (e.0.home ≡ h) × (after ≡ waiting_behind e.0) × (status ≡ still_status e.1)
+abbrev pub IsThereAfterResume : Home → (word : ℕ) → Result Seated (SeatedWaiting × Still) → Held → ℕ → Type 0
+IsThereAfterResume h word (Ok s) after status = (s.home ≡ h) × (s.stop.word ≡ word) × (after ≡ session_behind s) × (status ≡ OK)
+IsThereAfterResume h word (Err e) after status = (e.0.home ≡ h) × (e.0.stop.word ≡ word) × (after ≡ waiting_behind e.0) × (status ≡ still_status e.1)
 
 -- a resume of what waits
+abbrev pub ResumesFrom : SeatedWaiting → Held → ℕ → Type 0
+ResumesFrom w after status = (answer : Result Seated (SeatedWaiting × Still))
+    × AsksToResume w.waiting (inner_resume answer) × IsThereAfterResume w.home w.stop.word answer after status
+
+-- and through its handle
 abbrev pub Resumes : Open → Held → ℕ → Type 0
-Resumes (kind.Waiting w) after status = (answer : Result Seated (SeatedWaiting × Still))
-    × AsksToResume w.waiting (inner_resume answer) × IsThereAfterResume w.home answer after status
+Resumes (kind.Waiting w) after status = UnlessStoppedWaiting ResumesFrom w after status
 Resumes other after status = (status ≡ WRONG_KIND) × (after ≡ behind other)
 
 -- a session that is ended: nothing is behind its handle then

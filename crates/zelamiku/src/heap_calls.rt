@@ -4,6 +4,7 @@ ghost use Rattle.std.specs.Option.{option_copied};
 ghost use Rattle.hosted_heap.specs.Opening.{IsMade};
 ghost use Rattle.zelamiku.specs.Behind.{Answers, behind, heap_behind};
 ghost use Rattle.zelamiku.specs.HeapDoors.{AcknowledgesAt, ClosesAt, HandsOne, HandsOutAt, HasAcknowledged, IsOpened, MakesCallAt, RefusesFormat, RefusesOpen, RoundsAt, TellsNextAt, filled_of, found_of, nothing_found, rows_of, told_of};
+ghost use Rattle.zelamiku.specs.HeapDoors as doors;
 ghost use Rattle.zelamiku.specs.declared.status.TheConstants.{NONE_LEFT, OK};
 
 use crate::slot::{Slot, put};
@@ -45,13 +46,20 @@ fn rows_of(alloc: Global, fields: &[Field]) -> Result<Vec<GuardRow>, AllocError>
 {
     let mut rows = Vec::new(alloc);
     for field in fields.iter().copied() {
-        rows.push(GuardRow {
-            guard: ObjectId(field.guard),
-            owner: ObjectId(field.owner),
-            first: field.first,
-        })?;
+        rows.push(row_of(field))?;
     }
     Ok(rows)
+}
+
+fn row_of(field: Field) -> GuardRow
+    ensures { result ≡ doors.row_of field }
+{
+    GuardRow {
+        guard: ObjectId(field.guard),
+        owner: ObjectId(field.owner),
+        first: field.first,
+        transient: field.transient != 0,
+    }
 }
 
 /// The heap of these bytes, and what recovery found in them.
@@ -91,6 +99,7 @@ pub fn session(alloc: Global, state: &mut Inner, place: &mut Slot) -> u32
     match &mut state.open {
         Open::Heap(heap) => hand_out(alloc, heap, place),
         Open::Closed(_) => status::NONE_LEFT,
+        Open::Stopped => status::STOPPED,
         _ => status::WRONG_KIND,
     }
 }
@@ -131,6 +140,7 @@ pub fn next_call(state: &mut Inner, bytes: &mut [u8]) -> (Call, u32)
             closed.calls.fetch();
             (tell(closed.calls.next_call(), bytes), status::OK)
         }
+        Open::Stopped => (no_call(), status::STOPPED),
         _ => (no_call(), status::WRONG_KIND),
     }
 }
@@ -176,6 +186,7 @@ pub fn call_done(state: &mut Inner) -> u32
     match &mut state.open {
         Open::Heap(heap) => of_done(heap.done()),
         Open::Closed(closed) => of_done(closed.calls.done()),
+        Open::Stopped => status::STOPPED,
         _ => status::WRONG_KIND,
     }
 }
@@ -201,6 +212,7 @@ pub fn round(state: &mut Inner) -> (u64, u32)
             Err(refusal) => (0, status::of_round(refusal)),
         },
         Open::Closed(_) => (0, status::NONE_LEFT),
+        Open::Stopped => (0, status::STOPPED),
         _ => (0, status::WRONG_KIND),
     }
 }
@@ -216,6 +228,7 @@ pub fn acknowledged(state: &mut Inner, lane: u32) -> (u64, u32)
             Err(refusal) => (0, status::of_acknowledged(refusal)),
         },
         Open::Closed(_) => (0, status::NONE_LEFT),
+        Open::Stopped => (0, status::STOPPED),
         _ => (0, status::WRONG_KIND),
     }
 }
@@ -253,6 +266,7 @@ fn closed_of(content: Open) -> (Open, u32)
             }
         },
         Open::Closed(closed) => (Open::Closed(closed), status::NONE_LEFT),
+        Open::Stopped => (Open::Stopped, status::STOPPED),
         other => (other, status::WRONG_KIND),
     }
 }

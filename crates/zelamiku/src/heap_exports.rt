@@ -10,9 +10,9 @@ use crate::words::{Call, Field, Found};
 use crate::{heap_calls, status};
 use std::alloc::Global;
 
-/// Makes a heap and opens it.
+/// Makes a heap and opens it. A program whose fields have no mark, from before there were transient ones, calls another name.
 #[unsafe(no_mangle)]
-pub extern "C" fn zelamiku_format(
+pub extern "C" fn zelamiku_format_marked(
     alloc: Global,
     place: &mut Slot,
     objects: u32,

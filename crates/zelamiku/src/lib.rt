@@ -13,14 +13,17 @@ mod session_exports;
 mod slot;
 mod state;
 mod status;
+mod stop_calls;
+mod stop_exports;
 mod words;
 
 pub use heap_exports::{
-    zelamiku_acknowledged, zelamiku_call_done, zelamiku_close, zelamiku_format, zelamiku_free,
-    zelamiku_next_call, zelamiku_open, zelamiku_round, zelamiku_session,
+    zelamiku_acknowledged, zelamiku_call_done, zelamiku_close, zelamiku_format_marked,
+    zelamiku_free, zelamiku_next_call, zelamiku_open, zelamiku_round, zelamiku_session,
 };
 pub use session_exports::{
     zelamiku_begin_wait, zelamiku_end, zelamiku_exit, zelamiku_load, zelamiku_look,
     zelamiku_notify, zelamiku_notify_all, zelamiku_stable, zelamiku_store, zelamiku_try_enter,
     zelamiku_try_resume,
 };
+pub use stop_exports::zelamiku_call_failed;

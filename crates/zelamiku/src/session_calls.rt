@@ -6,13 +6,13 @@ ghost use Rattle.std.specs.Result.{result_unwrap_or};
 ghost use Rattle.lock_word.specs.Spelling.{fat_sight, sight_of};
 ghost use Rattle.lock_word.specs.WaitMask.{bit_of};
 ghost use Rattle.zelamiku.specs.Behind.{Answers, behind};
-ghost use Rattle.zelamiku.specs.SessionDoors.{AnswersAs, EndsTo, EntersAt, ExitsAt, HasNoSession, LoadsAt, LooksAt, NotifiesAllAt, NotifiesAt, ReadsStable, Resumes, StoresAt, WaitsAt, free_sight, lane_told, sight_told};
+ghost use Rattle.zelamiku.specs.SessionDoors.{AnswersAs, AnswersUnlessStopped, EndsTo, EntersAt, ExitsAt, HasNoSession, LoadsAt, LooksAt, NotifiesAllAt, NotifiesAt, ReadsStable, Resumes, StoresAt, WaitsAt, free_sight, lane_told, sight_told};
 ghost use Rattle.zelamiku.specs.SessionStatuses.{status_of};
 ghost use Rattle.zelamiku.specs.declared.status.TheConstants.{OK};
 
 use crate::state::{Inner, Open};
-use crate::status;
 use crate::words::Sight;
+use crate::{status, stop_calls};
 use heap_model::{FieldId, Lane, ObjectId};
 use hosted_heap::Returned;
 use lock_word::{FatShape, FatWord, LockWord, Shape, WaitMask};
@@ -30,10 +30,10 @@ fn no_session(found: &Open) -> u32
 
 /// Takes the monitor, or one lock more of it.
 pub fn try_enter(state: &mut Inner, object: u32) -> u32
-    ensures told { AnswersAs (EntersAt object) (Some state.old) (Some state.new) result }
+    ensures told { AnswersUnlessStopped (EntersAt object) (Some state.old) (Some state.new) result }
 {
     match &mut state.open {
-        Open::Session(session) => status::of_answer(session.try_enter(ObjectId(object))),
+        Open::Session(session) => stop_calls::enter(session, object),
         other => no_session(other),
     }
 }
@@ -236,10 +236,7 @@ fn waiting_of(found: Open, object: u32) -> (Open, u32)
     ensures { WaitsAt object found (behind result.0) result.1 }
 {
     match found {
-        Open::Session(session) => match session.begin_wait(ObjectId(object)) {
-            Ok(waiting) => (Open::Waiting(waiting), status::OK),
-            Err((session, refusal)) => (Open::Session(session), status::of_session(refusal)),
-        },
+        Open::Session(session) => stop_calls::wait(session, object),
         other => {
             let answer = no_session(&other);
             (other, answer)
@@ -261,10 +258,7 @@ fn resumed_of(found: Open) -> (Open, u32)
     ensures { Resumes found (behind result.0) result.1 }
 {
     match found {
-        Open::Waiting(waiting) => match waiting.try_resume() {
-            Ok(session) => (Open::Session(session), status::OK),
-            Err((waiting, still)) => (Open::Waiting(waiting), status::of_still(still)),
-        },
+        Open::Waiting(waiting) => stop_calls::resume(waiting),
         other => (other, status::WRONG_KIND),
     }
 }

@@ -1,7 +1,7 @@
 //! What C calls of a session. Each export is one call of `session_calls` on what is behind the handle.
 ghost use Rattle.std.specs.Prelude.{◌≡◌, ◌≢◌};
 ghost use Rattle.zelamiku.specs.Behind.{Answers};
-ghost use Rattle.zelamiku.specs.SessionDoors.{AnswersAs, Ends, EntersAt, ExitsAt, LoadsAt, LooksAt, NotifiesAllAt, NotifiesAt, ReadsStable, Resumes, StoresAt, WaitsAt, free_sight};
+ghost use Rattle.zelamiku.specs.SessionDoors.{AnswersAs, AnswersUnlessStopped, Ends, EntersAt, ExitsAt, LoadsAt, LooksAt, NotifiesAllAt, NotifiesAt, ReadsStable, Resumes, StoresAt, WaitsAt, free_sight};
 ghost use Rattle.zelamiku.specs.declared.session_calls.TheConstants.{NOBODY};
 ghost use Rattle.zelamiku.specs.declared.status.TheConstants.{OK};
 
@@ -13,7 +13,7 @@ use std::alloc::Global;
 /// Takes the monitor, or one lock more of it.
 #[unsafe(no_mangle)]
 pub extern "C" fn zelamiku_try_enter(alloc: Global, place: &mut Slot, object: u32) -> u32
-    ensures told { AnswersAs (EntersAt object) place.old.handle.state place.new.handle.state result }
+    ensures told { AnswersUnlessStopped (EntersAt object) place.old.handle.state place.new.handle.state result }
 {
     let Some(mut state) = take(alloc, place) else {
         return status::CLOSED;

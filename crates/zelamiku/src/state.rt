@@ -10,6 +10,8 @@ pub enum Open {
     Heap(HostedHeap),
     /// A heap that was closed, whose last calls the host is yet to make.
     Closed(Closed),
+    /// A heap that has stopped since its host couldn't make a sync: nothing is left of it.
+    Stopped,
     /// A session.
     Session(HostedSession),
     /// A session that waits for a monitor.

@@ -76,6 +76,12 @@ pub const BAD_RECORD: u32 = 30;
 
 pub const ILLEGAL_LOG: u32 = 31;
 
+// 32 to 34 are of zelamiku_file.h.
+pub const STOPPED: u32 = 35;
+
+// 36 to 39 are others'.
+pub const OLD_VERSION: u32 = 40;
+
 /// The status of a session's refusal.
 pub fn of_session(refusal: SessionError) -> u32
     ensures { result ≡ refusal_status refusal }
@@ -185,6 +191,7 @@ fn of_recover(refusal: RecoverError) -> u32
         RecoverError::TooSmall => TOO_SMALL,
         RecoverError::NoControl => NO_CONTROL,
         RecoverError::BadControl => BAD_CONTROL,
+        RecoverError::OldVersion => OLD_VERSION,
         RecoverError::Worn => WORN,
         RecoverError::BadRecord { .. } => BAD_RECORD,
         RecoverError::IllegalLog { .. } => ILLEGAL_LOG,

@@ -1,12 +1,14 @@
 //! What crosses to C besides handles and numbers.
 
-/// A field as C declares it: the object that has it, the object whose monitor guards it, and the value with which it begins.
+/// A field as C declares it: the object that has it, the object whose monitor guards it, the value with which it begins, and
+/// whether it is transient, which 0 says that it isn't.
 #[repr(C)]
 #[derive(Clone, Copy)]
 pub struct Field {
     pub owner: u32,
     pub guard: u32,
     pub first: u64,
+    pub transient: u32,
 }
 
 /// What a heap has, and what recovery found.

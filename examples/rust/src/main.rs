@@ -1,6 +1,7 @@
 //! A counter service: four threads count, each in a counter of its own and in the total, in one section. A helper thread makes rounds
 //! and makes the calls of the device on a file. Killed at any time and started again on the same file, the total is the sum of its
-//! parts, and no less than the total before and what was told as acknowledged since.
+//! parts, and no less than the total before and what was told as acknowledged since. A transient field counts since the start alone:
+//! whatever the run before had there, each start finds 0.
 //!
 //!     counters FILE [SECONDS]
 //!
@@ -19,8 +20,10 @@ use std::thread;
 use std::time::{Duration, Instant};
 use zelamiku::{Field, FileError, Found, Heap, Refusal, Session};
 
+// Object 0 has the total, and the counts since the start; object i and field i are worker i's.
 const WORKERS: u32 = 4;
 const TOTAL: u32 = 0;
+const SINCE: u32 = WORKERS + 1;
 const CAPACITY: u32 = 20_000;
 
 type Failure = Box<dyn Error + Send + Sync>;
@@ -62,6 +65,7 @@ fn count_once(session: &mut Session, own: u32, signs: &Signs) -> Result<(), Refu
     count(session, own)?;
     session.enter_while(TOTAL, goes_on)?;
     count(session, TOTAL)?;
+    count(session, SINCE)?;
     session.exit(TOTAL)?;
     session.exit(own)
 }
@@ -119,19 +123,20 @@ fn is_free(file: &mut File) -> io::Result<bool> {
 
 // Makes a heap in the file.
 fn make(file: &File) -> Result<Heap, Failure> {
-    let fields: Vec<Field> = (0..=WORKERS)
-        .map(|i| Field {
-            owner: i,
-            guard: i,
-            first: 0,
-        })
-        .collect();
+    let field = |object, is_transient| Field {
+        owner: object,
+        guard: object,
+        first: 0,
+        is_transient,
+    };
+    let counters = (0..=WORKERS).map(|object| field(object, false));
+    let fields: Vec<Field> = counters.chain([field(TOTAL, true)]).collect();
     let (heap, _) = Heap::format_file(file, WORKERS + 1, &fields, WORKERS + 1, CAPACITY)?;
     Ok(heap)
 }
 
 fn is_ours(found: &Found) -> bool {
-    found.objects == WORKERS + 1 && found.fields == WORKERS + 1 && found.lanes == WORKERS + 1
+    found.objects == WORKERS + 1 && found.fields == SINCE + 1 && found.lanes == WORKERS + 1
 }
 
 // Opens the heap of the file, or makes one. Another process that has it is told.
@@ -149,20 +154,29 @@ fn begin(file: &mut File) -> Result<Heap, Failure> {
     Ok(heap)
 }
 
+// What all counters have.
+struct Counters {
+    // The total, and then the workers' counts.
+    values: Vec<u64>,
+    // The counts since the start.
+    since: u64,
+}
+
 // Reads all counters in one section. It takes the monitors in the workers' order: the total's last.
-fn look(session: &mut Session, signs: &Signs) -> Result<Vec<u64>, Refusal> {
+fn look(session: &mut Session, signs: &Signs) -> Result<Counters, Refusal> {
     for object in (1..=WORKERS).chain([TOTAL]) {
         session.enter_while(object, || !signs.has_failed())?;
     }
     let values = (0..=WORKERS).map(|field| session.load(field)).collect::<Result<_, _>>()?;
+    let since = session.load(SINCE)?;
     for object in 0..=WORKERS {
         session.exit(object)?;
     }
-    Ok(values)
+    Ok(Counters { values, since })
 }
 
 // Tells what the counters are. It fails where the total isn't the sum of its parts.
-fn tell(values: &[u64]) -> Result<(), Failure> {
+fn tell(Counters { values, .. }: &Counters) -> Result<(), Failure> {
     let parts: Vec<String> = values[1..].iter().map(|value| value.to_string()).collect();
     let is_sum = values[1..].iter().sum::<u64>() == values[0];
     println!("total {} = {}{}", values[0], parts.join(" + "), if is_sum { "" } else { ": WRONG" });
@@ -170,6 +184,14 @@ fn tell(values: &[u64]) -> Result<(), Failure> {
         Ok(())
     } else {
         Err("the total isn't the sum of its parts".into())
+    }
+}
+
+// Fails where the transient field doesn't have so many counts.
+fn must_be_since(found: &Counters, counts: u64) -> Result<(), Failure> {
+    match found.since {
+        since if since == counts => Ok(()),
+        since => Err(format!("{since} counts since the start, and not {counts}").into()),
     }
 }
 
@@ -187,7 +209,9 @@ fn run(path: &str, seconds: Option<f64>) -> Result<(), Failure> {
     let signs = Signs::default();
     // Lane 0 is this thread's.
     let mut own = heap.session()?;
-    tell(&look(&mut own, &signs)?)?;
+    let first = look(&mut own, &signs)?;
+    must_be_since(&first, 0)?;
+    tell(&first)?;
     let until = seconds.map(|seconds| Instant::now() + Duration::from_secs_f64(seconds));
     let sessions = (0..WORKERS).map(|_| heap.session()).collect::<Result<Vec<_>, _>>()?;
     let last = thread::scope(|scope| {
@@ -208,6 +232,7 @@ fn run(path: &str, seconds: Option<f64>) -> Result<(), Failure> {
         last
     })?;
     own.end()?;
+    must_be_since(&last, last.values[0] - first.values[0])?;
     let mut closed = heap.close().map_err(|(_, refusal)| refusal)?;
     closed.make_calls(&mut file)?;
     // Durable now.

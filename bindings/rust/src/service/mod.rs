@@ -68,7 +68,7 @@ const RING: u32 = 4_096;
 ///     .objects(2)
 ///     .field(0, 0, 100) // field 0, of object 0 and guarded by it
 ///     .field(1, 1, 0)
-///     .guarded(zelamiku::Field { owner: 1, guard: 0, first: 5 }) // field 2, of object 1 and guarded by object 0
+///     .guarded(zelamiku::Field { owner: 1, guard: 0, first: 5, is_transient: false }) // field 2, of object 1 and guarded by object 0
 ///     .linger(Duration::from_millis(1))
 ///     .open(&path)?;
 /// assert_eq!(heap.lanes(), 4);
@@ -123,7 +123,21 @@ impl Options {
     /// ```
     /// let options = zelamiku::service::Heap::options().objects(2).field(0, 0, 100).field(1, 1, 100);
     /// ```
-    pub fn field(mut self, number: u32, object: u32, first: u64) -> Options {
+    pub fn field(self, number: u32, object: u32, first: u64) -> Options {
+        self.next(number, object, first, false)
+    }
+
+    /// Declares the next field as [`field`](Options::field) does, and as transient: threads load and store it as any other, what they
+    /// store costs the log nothing, and each open begins with the first value again. It is for what can be had anew: a cache, a count.
+    ///
+    /// ```
+    /// let options = zelamiku::service::Heap::options().objects(1).field(0, 0, 100).transient(1, 0, 0);
+    /// ```
+    pub fn transient(self, number: u32, object: u32, first: u64) -> Options {
+        self.next(number, object, first, true)
+    }
+
+    fn next(mut self, number: u32, object: u32, first: u64, is_transient: bool) -> Options {
         let place = self.plan.fields.len();
         if number as usize != place && self.misplaced.is_none() {
             self.misplaced = Some((number, place));
@@ -132,13 +146,14 @@ impl Options {
             owner: object,
             guard: object,
             first,
+            is_transient,
         })
     }
 
     /// Declares the next field, which another object than its owner may guard.
     ///
     /// ```
-    /// let field = zelamiku::Field { owner: 1, guard: 0, first: 5 };
+    /// let field = zelamiku::Field { owner: 1, guard: 0, first: 5, is_transient: false };
     /// let options = zelamiku::service::Heap::options().objects(2).guarded(field);
     /// ```
     pub fn guarded(mut self, field: Field) -> Options {
@@ -156,6 +171,7 @@ impl Options {
             owner: object,
             guard: object,
             first,
+            is_transient: false,
         };
         self.plan.fields.extend((0..count).map(|_| field));
         self

@@ -1,10 +1,20 @@
 //! Where the thread of a lane sleeps: one mutex and one condition variable a lane, so that a wake wakes one thread.
 use std::sync::atomic::{AtomicBool, AtomicU64};
 use std::sync::{Condvar, Mutex, MutexGuard, PoisonError};
+use std::time::{Duration, Instant};
+
+// Of the thread that has the lane, or of its bell.
+#[derive(Clone, Copy, PartialEq, Eq)]
+enum State {
+    Quiet,
+    Asleep,
+    // Somebody has rung since the thread slept last.
+    Rung,
+}
 
 /// What others tell the thread that has the lane.
 pub struct Seat {
-    is_rung: Mutex<bool>,
+    state: Mutex<State>,
     bell: Condvar,
     /// The sections of the lane that are acknowledged, since the heap was opened.
     pub acknowledged: AtomicU64,
@@ -21,7 +31,7 @@ pub struct Seat {
 impl Seat {
     pub fn new() -> Seat {
         Seat {
-            is_rung: Mutex::new(false),
+            state: Mutex::new(State::Quiet),
             bell: Condvar::new(),
             acknowledged: AtomicU64::new(0),
             ended: AtomicU64::new(0),
@@ -33,16 +43,40 @@ impl Seat {
 
     /// Sleeps until somebody rings, or has since the last sleep. It may have been for a reason that is past: look again.
     pub fn sleep(&self) {
-        let mut is_rung = lock(&self.is_rung);
-        while !*is_rung {
-            is_rung = self.bell.wait(is_rung).unwrap_or_else(PoisonError::into_inner);
-        }
-        *is_rung = false;
+        self.sleep_until(None);
     }
 
+    /// Sleeps so, or until the deadline; whether somebody has rung.
+    pub fn sleep_until(&self, deadline: Option<Instant>) -> bool {
+        let mut state = lock(&self.state);
+        while *state != State::Rung {
+            let rest = deadline.map(|deadline| deadline.saturating_duration_since(Instant::now()));
+            if rest == Some(Duration::ZERO) {
+                break;
+            }
+            *state = State::Asleep;
+            state = match rest {
+                Some(rest) => {
+                    self.bell
+                        .wait_timeout(state, rest)
+                        .unwrap_or_else(PoisonError::into_inner)
+                        .0
+                }
+                None => self.bell.wait(state).unwrap_or_else(PoisonError::into_inner),
+            };
+        }
+        std::mem::replace(&mut *state, State::Quiet) == State::Rung
+    }
+
+    #[cfg(test)]
+    pub fn is_asleep(&self) -> bool {
+        *lock(&self.state) == State::Asleep
+    }
+
+    /// A bell that nobody hears costs no call of the system.
     pub fn ring(&self) {
-        let was_rung = std::mem::replace(&mut *lock(&self.is_rung), true);
-        if !was_rung {
+        let before = std::mem::replace(&mut *lock(&self.state), State::Rung);
+        if before == State::Asleep {
             self.bell.notify_one();
         }
     }

@@ -8,6 +8,7 @@ use std::fmt;
 use std::hint::spin_loop;
 use std::sync::atomic::Ordering;
 use std::sync::Arc;
+use std::time::Instant;
 
 // A monitor that is held for a moment is waited for by so many tries, before the thread sleeps.
 const TRIES: u32 = 40;
@@ -88,12 +89,18 @@ impl Session {
         self.inner.as_mut().ok_or_else(|| shared.why())
     }
 
+    // The library may tell a session that a sync has failed before the helper has told why the heap has ended.
     fn refused(&self, refusal: Refusal) -> Error {
-        Error::refused(ErrorKind::Refused, &self.shared.path, refusal)
+        let kind = match refusal {
+            Refusal::Stopped => ErrorKind::Sync,
+            _ => ErrorKind::Refused,
+        };
+        Error::refused(kind, &self.shared.path, refusal)
     }
 
     /// Takes the object's monitor and answers a guard of it, which gives it back when it is dropped. The thread sleeps while another one
-    /// has the monitor, and while the lane has no room before a round.
+    /// has the monitor, and while the lane has no room before a round. Threads that sleep for one monitor get it in the order in which
+    /// they came; one that comes while it is free takes it before them.
     ///
     /// [`ErrorKind::Refused`] by `UnknownObject` or `Worn`; [`ErrorKind::Write`] where a round that was waited for can't write; each
     /// final kind.
@@ -223,27 +230,58 @@ impl Session {
     /// # Ok::<(), Box<dyn std::error::Error>>(())
     /// ```
     pub fn durable(&mut self) -> Result<(), Error> {
+        self.await_round(None).map(|_| ())
+    }
+
+    /// Sleeps until all sections that this session has ended are durable, or until the deadline; whether they are.
+    ///
+    /// It asks for a round, which is made whether or not the session still waits for it. So after a deadline that has passed, the
+    /// sections are as if nobody had waited: they will be durable, and may be waited for again. A deadline in the past asks for the
+    /// round and doesn't sleep. It fails as [`durable`](Session::durable) does.
+    ///
+    /// ```
+    /// # use zelamiku::service::Heap;
+    /// # let path = std::env::temp_dir().join(format!("zelamiku-durable-by-{}", std::process::id()));
+    /// # let _ = std::fs::remove_file(&path);
+    /// # let heap = Heap::options().objects(1).field(0, 0, 0).open(&path)?;
+    /// # let mut session = heap.session()?;
+    /// use std::time::{Duration, Instant};
+    /// session.synchronized(0, |s| s.store(0, 1))?;
+    /// if !session.durable_by(Instant::now() + Duration::from_secs(1))? {
+    ///     println!("still not durable, after a second");
+    /// }
+    /// # session.durable()?;
+    /// assert!(session.durable_by(Instant::now())?);
+    /// # std::fs::remove_file(path)?;
+    /// # Ok::<(), Box<dyn std::error::Error>>(())
+    /// ```
+    pub fn durable_by(&mut self, deadline: Instant) -> Result<bool, Error> {
+        self.await_round(Some(deadline))
+    }
+
+    fn await_round(&mut self, deadline: Option<Instant>) -> Result<bool, Error> {
         let seat = self.seat();
         if seat.acknowledged.load(Ordering::SeqCst) >= self.ended {
-            return Ok(());
+            return Ok(true);
         }
         let troubles = self.shared.troubles.load(Ordering::SeqCst);
         self.shared.awaiting.fetch_add(1, Ordering::SeqCst);
         seat.wanted.store(self.ended, Ordering::SeqCst);
         self.shared.demand();
-        let answer = self.sleep_until_durable(troubles);
+        let answer = self.sleep_until_durable(troubles, deadline);
         seat.wanted.store(0, Ordering::SeqCst);
         self.shared.awaiting.fetch_sub(1, Ordering::SeqCst);
         answer
     }
 
-    fn sleep_until_durable(&self, troubles: u64) -> Result<(), Error> {
+    fn sleep_until_durable(&self, troubles: u64, deadline: Option<Instant>) -> Result<bool, Error> {
         let seat = self.seat();
+        let mut is_early = true;
         loop {
             // Before the sections are looked at, since the helper's last round comes before it says so.
             let is_settled = self.shared.is_settled.load(Ordering::SeqCst);
             if seat.acknowledged.load(Ordering::SeqCst) >= self.ended {
-                return Ok(());
+                return Ok(true);
             }
             if is_settled {
                 return Err(self.shared.why());
@@ -251,7 +289,10 @@ impl Session {
             if self.shared.troubles.load(Ordering::SeqCst) != troubles {
                 return Err(self.shared.trouble());
             }
-            seat.sleep();
+            if !is_early {
+                return Ok(false);
+            }
+            is_early = seat.sleep_until(deadline);
         }
     }
 
@@ -628,7 +669,8 @@ impl Held<'_> {
         self.session.wait_for(self.object)
     }
 
-    /// Wakes one session that waits for this monitor; whether there was one. It goes on once the monitor is free.
+    /// Wakes one session that waits for this monitor; whether there was one. It goes on once the monitor is free. Which of several isn't
+    /// promised, as Java promises nothing (JLS 17.2.2): one of them may never be it. Where each is to have its turn, wake all.
     ///
     /// ```
     /// # use zelamiku::service::Heap;
@@ -650,7 +692,7 @@ impl Held<'_> {
         }
     }
 
-    /// Wakes all sessions that wait for this monitor, and answers how many.
+    /// Wakes all sessions that wait for this monitor, and answers how many. In which order they go on isn't promised.
     ///
     /// ```
     /// # use zelamiku::service::Heap;

@@ -19,19 +19,12 @@ pub struct Spare {
 /// What the helper is to do next.
 pub enum Order {
     Round,
-    Close(Sender<Result<(), Error>>),
+    Close(Reply),
     // The heap has stopped.
     Stop,
 }
 
-#[derive(Default)]
-struct Orders {
-    // Somebody waits for a round.
-    is_urgent: bool,
-    closing: Vec<Sender<Result<(), Error>>>,
-    // The helper sleeps.
-    is_asleep: bool,
-}
+type Reply = Sender<Result<(), Error>>;
 
 pub struct Shared {
     pub path: Arc<Path>,
@@ -51,7 +44,12 @@ pub struct Shared {
     why: OnceLock<Error>,
     trouble: Mutex<Option<Error>>,
     has_work: AtomicBool,
-    orders: Mutex<Orders>,
+    // Somebody waits for a round.
+    is_urgent: AtomicBool,
+    // The helper sleeps, or is about to and looks once more.
+    is_asleep: AtomicBool,
+    // Who asks that the heap is closed.
+    closing: Mutex<Vec<Reply>>,
     bell: Condvar,
 }
 
@@ -70,7 +68,9 @@ impl Shared {
             why: OnceLock::new(),
             trouble: Mutex::new(None),
             has_work: AtomicBool::new(false),
-            orders: Mutex::new(Orders::default()),
+            is_urgent: AtomicBool::new(false),
+            is_asleep: AtomicBool::new(false),
+            closing: Mutex::new(Vec::new()),
             bell: Condvar::new(),
         }
     }
@@ -128,41 +128,41 @@ impl Shared {
         if has_ended && is_urgent {
             self.demand();
         } else if has_ended && !self.has_work.load(Ordering::Relaxed) && !self.has_work.swap(true, Ordering::SeqCst) {
-            self.wake_helper(false);
+            self.wake_helper();
         }
     }
 
     /// Asks for a round, now.
     pub fn demand(&self) {
-        self.wake_helper(true);
+        self.is_urgent.store(true, Ordering::SeqCst);
+        self.wake_helper();
     }
 
-    fn wake_helper(&self, is_urgent: bool) {
-        let mut orders = lock(&self.orders);
-        orders.is_urgent |= is_urgent;
-        let is_asleep = orders.is_asleep;
-        drop(orders);
-        if is_asleep {
+    // Of something that it finds when it looks. While it works nobody takes the mutex, and of many one wakes it.
+    fn wake_helper(&self) {
+        if self.is_asleep.load(Ordering::SeqCst) && self.is_asleep.swap(false, Ordering::SeqCst) {
+            // It has the mutex from its look to its sleep.
+            drop(lock(&self.closing));
             self.bell.notify_one();
         }
     }
 
     /// The reply is dropped where the helper has ended, or ends before it is asked.
-    pub fn ask_to_close(&self, reply: Sender<Result<(), Error>>) {
-        let mut orders = lock(&self.orders);
+    pub fn ask_to_close(&self, reply: Reply) {
+        let mut closing = lock(&self.closing);
         if !self.is_settled.load(Ordering::SeqCst) {
-            orders.closing.push(reply);
+            closing.push(reply);
         }
-        drop(orders);
+        drop(closing);
         self.demand();
     }
 
     /// The helper has ended.
     pub fn settle(&self) {
-        let mut orders = lock(&self.orders);
+        let mut closing = lock(&self.closing);
         self.is_settled.store(true, Ordering::SeqCst);
-        orders.closing.clear();
-        drop(orders);
+        closing.clear();
+        drop(closing);
         self.ring_all();
     }
 
@@ -182,39 +182,46 @@ impl Shared {
 
     /// Sleeps until there is something to do. A section that nobody waits for may lie so long; and calls that failed are made again then.
     pub fn next_order(&self, linger: Duration, again_at: Option<Instant>) -> Order {
-        let mut orders = lock(&self.orders);
+        let mut closing = lock(&self.closing);
         let mut due = again_at;
         loop {
-            if self.is_over.load(Ordering::SeqCst) {
-                return Order::Stop;
-            }
-            if let Some(reply) = orders.closing.pop() {
-                return Order::Close(reply);
-            }
-            let has_work = self.has_work.load(Ordering::SeqCst);
-            let is_awaited = has_work && again_at.is_none() && self.awaiting.load(Ordering::SeqCst) > 0;
-            if std::mem::take(&mut orders.is_urgent) || is_awaited {
-                return Order::Round;
+            // Before the look: who tells of something afterwards finds it, and waits for the mutex.
+            self.is_asleep.store(true, Ordering::SeqCst);
+            if let Some(order) = self.order(&mut closing, again_at.is_some()) {
+                self.is_asleep.store(false, Ordering::SeqCst);
+                return order;
             }
             let now = Instant::now();
-            if has_work {
+            if self.has_work.load(Ordering::SeqCst) {
                 due = due.or_else(|| now.checked_add(linger));
             }
             let rest = due.map(|due| due.saturating_duration_since(now));
             if rest == Some(Duration::ZERO) {
+                self.is_asleep.store(false, Ordering::SeqCst);
                 return Order::Round;
             }
-            orders.is_asleep = true;
-            orders = match rest {
+            closing = match rest {
                 Some(rest) => {
                     self.bell
-                        .wait_timeout(orders, rest)
+                        .wait_timeout(closing, rest)
                         .unwrap_or_else(PoisonError::into_inner)
                         .0
                 }
-                None => self.bell.wait(orders).unwrap_or_else(PoisonError::into_inner),
+                None => self.bell.wait(closing).unwrap_or_else(PoisonError::into_inner),
             };
-            orders.is_asleep = false;
         }
+    }
+
+    // What there is to do now. A round that is only waited for doesn't come before the calls that failed are due.
+    fn order(&self, closing: &mut Vec<Reply>, is_troubled: bool) -> Option<Order> {
+        if self.is_over.load(Ordering::SeqCst) {
+            return Some(Order::Stop);
+        }
+        if let Some(reply) = closing.pop() {
+            return Some(Order::Close(reply));
+        }
+        let is_awaited =
+            !is_troubled && self.has_work.load(Ordering::SeqCst) && self.awaiting.load(Ordering::SeqCst) > 0;
+        (self.is_urgent.swap(false, Ordering::SeqCst) || is_awaited).then_some(Order::Round)
     }
 }

@@ -7,7 +7,7 @@ use std::error::Error;
 use std::io;
 use std::path::Path;
 use std::sync::{Arc, Mutex};
-use std::time::Duration;
+use std::time::{Duration, Instant};
 
 // The calls that a device fails, and the bytes that are durable on it.
 #[derive(Default)]
@@ -16,6 +16,8 @@ struct State {
     pending: Vec<(usize, Vec<u8>)>,
     writes_fail: bool,
     syncs_fail: bool,
+    // A sync returns once this is false.
+    syncs_hang: bool,
     syncs: u64,
 }
 
@@ -41,6 +43,9 @@ impl Device for Failing {
 
     // One that fails drops what was written.
     fn sync(&mut self) -> io::Result<()> {
+        while self.with(|state| state.syncs_hang) {
+            std::thread::yield_now();
+        }
         self.with(|state| {
             state.syncs += 1;
             let pending = std::mem::take(&mut state.pending);
@@ -59,6 +64,7 @@ const FIELD: Field = Field {
     owner: 0,
     guard: 0,
     first: 5,
+    is_transient: false,
 };
 
 fn start(heap: handles::Heap, device: &Failing, lanes: u32) -> Heap {
@@ -230,4 +236,55 @@ fn what_the_library_refuses_is_told_and_nothing_is_done() {
     assert!((1..10).contains(&full.unwrap()));
     session.durable().unwrap();
     heap.close().unwrap();
+}
+
+#[test]
+fn a_deadline_that_passes_leaves_all_as_it_was() {
+    let (heap, device) = make(1);
+    let mut session = heap.session().unwrap();
+    let long = || Instant::now() + Duration::from_secs(100);
+    session.synchronized(0, |s| s.store(0, 6)).unwrap();
+    assert!(session.durable_by(long()).unwrap());
+    device.with(|state| state.syncs_hang = true);
+    session.synchronized(0, |s| s.store(0, 7)).unwrap();
+    for deadline in [Instant::now(), Instant::now() + Duration::from_millis(20)] {
+        assert!(!session.durable_by(deadline).unwrap());
+        assert!(Instant::now() >= deadline);
+    }
+    assert!(session.is_durable(1) && !session.is_durable(2));
+    // The session goes on, and the round that was asked for too.
+    session.synchronized(0, |s| s.store(0, 8)).unwrap();
+    device.with(|state| state.syncs_hang = false);
+    assert!(session.durable_by(long()).unwrap());
+    assert!(session.durable_by(Instant::now()).unwrap());
+    assert_eq!(found_on(&device), 8);
+    device.with(|state| state.syncs_fail = true);
+    session.synchronized(0, |s| s.store(0, 9)).unwrap();
+    assert_eq!(session.durable_by(long()).unwrap_err().kind(), ErrorKind::Sync);
+}
+
+#[test]
+fn threads_that_sleep_for_one_monitor_get_it_in_turn() {
+    const THREADS: usize = 7;
+    let (heap, _device) = make(THREADS as u32 + 1);
+    let mut session = heap.session().unwrap();
+    let held = session.enter(0).unwrap();
+    let turns = Arc::new(Mutex::new(Vec::new()));
+    let mut threads = Vec::new();
+    for number in 0..THREADS {
+        let (mut session, turns) = (heap.session().unwrap(), Arc::clone(&turns));
+        threads.push(std::thread::spawn(move || {
+            let take_turn = || turns.lock().unwrap().push(number);
+            session.synchronized(0, |_| Ok(take_turn())).unwrap();
+        }));
+        // Lane 0 has the monitor. One that only stands in the queue may try once more.
+        while !heap.shared.seats[number + 1].is_asleep() {
+            std::thread::yield_now();
+        }
+    }
+    held.exit().unwrap();
+    for thread in threads {
+        thread.join().unwrap();
+    }
+    assert_eq!(*turns.lock().unwrap(), (0..THREADS).collect::<Vec<_>>());
 }

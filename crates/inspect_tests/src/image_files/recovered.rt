@@ -60,7 +60,7 @@ fn file_round_there(
 #[test]
 fn file_round(rt: HostRuntime) {
     let lines = b"image lanes 2 capacity 4000 objects 4 fields 2 size 130208
-control a sequence 1 version 1
+control a sequence 1 version 2
 lane t1 start 0 settled 0 logged 0 kept 0
 lane t2 start 0 settled 0 logged 0 kept 0
 cut 0 0
@@ -158,7 +158,7 @@ fn told_of_crashed(rt: &HostRuntime, lines: &[u8], report: &[u8]) -> Option<[Ans
 #[test]
 fn a_crashed_file_is_shown_and_recovered(rt: HostRuntime) {
     let lines = b"image lanes 2 capacity 4000 objects 4 fields 2 size 130208
-control a sequence 3 version 1
+control a sequence 3 version 2
 lane t1 start 0 settled 0 logged 4 kept 0
 lane t2 start 0 settled 0 logged 3 kept 0
 section t1 1 unfinished records 4
@@ -226,7 +226,7 @@ fn told_of_refused(rt: &HostRuntime, cases: &[Case]) -> Option<([bool; 2], Optio
     Some((small, first_other(rt, &image, cases)))
 }
 
-// The header's gate, its lanes, the version of the control, and the first thread's first record.
+// The header's gate, its lanes, the version of the control, the first row's mark, and the first thread's first record.
 #[test]
 fn a_refused_file_keeps_each_byte(rt: HostRuntime) {
     let bad_record = RecoverError::BadRecord {
@@ -236,7 +236,9 @@ fn a_refused_file_keeps_each_byte(rt: HostRuntime) {
     let cases = [
         (8, 0, RecoverError::NotFormatted),
         (9, 33, RecoverError::BadHeader),
-        (83, 2, RecoverError::BadControl),
+        (83, 3, RecoverError::BadControl),
+        (83, 1, RecoverError::OldVersion),
+        (2164, 2, RecoverError::BadHeader),
         (2208, 9, bad_record),
     ];
     assert!(rt; told_of_refused(&rt, &cases) == Some(([true; 2], None)));

@@ -171,7 +171,7 @@ fn is_refused(alloc: Global, bytes: &[u8], why: RecoverError) -> Option<[bool; 4
 #[test]
 fn a_formatted_image_is_shown(rt: HostRuntime) {
     let lines = b"image lanes 2 capacity 4000 objects 4 fields 2 size 130208
-control a sequence 1 version 1
+control a sequence 1 version 2
 lane t1 start 0 settled 0 logged 0 kept 0
 lane t2 start 0 settled 0 logged 0 kept 0
 cut 0 0
@@ -184,7 +184,7 @@ heap 10 20
 fn an_unfinished_section_is_shown_and_drawn(rt: HostRuntime) {
     let alloc = rt.alloc();
     let lines = b"image lanes 2 capacity 4000 objects 4 fields 2 size 130208
-control a sequence 3 version 1
+control a sequence 3 version 2
 lane t1 start 0 settled 0 logged 4 kept 0
 lane t2 start 0 settled 0 logged 3 kept 0
 section t1 1 unfinished records 4
@@ -279,7 +279,7 @@ fn is_change_shown(alloc: Global, changes: &[Change], lines: &[u8]) -> Option<bo
 #[test]
 fn a_worn_control_is_shown(rt: HostRuntime) {
     let lines = b"image lanes 2 capacity 4000 objects 4 fields 2 size 130208
-control a sequence 18446744073709551615 version 1
+control a sequence 18446744073709551615 version 2
 lane t1 start 0 settled 3 logged 3 kept 1
 lane t2 start 0 settled 0 logged 0 kept 0
 section t1 1 whole records 3
@@ -330,7 +330,11 @@ fn refused_images_are_not_shown(rt: HostRuntime) {
         ([(8, 0), (8, 0)], RecoverError::NotFormatted),
         ([(9, 33), (9, 33)], RecoverError::BadHeader),
         ([(64, 0), (1112, 0)], RecoverError::NoControl),
-        ([(83, 2), (83, 2)], RecoverError::BadControl),
+        ([(83, 3), (83, 3)], RecoverError::BadControl),
+        ([(83, 1), (83, 1)], RecoverError::OldVersion),
+        ([(83, 1), (2164, 1)], RecoverError::BadControl),
+        ([(2164, 2), (2164, 2)], RecoverError::BadHeader),
+        ([(2165, 1), (2165, 1)], RecoverError::BadHeader),
         (
             [(2208, 9), (2208, 9)],
             RecoverError::BadRecord { lane, place },

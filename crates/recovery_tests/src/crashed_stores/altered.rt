@@ -7,7 +7,7 @@ use super::runs::{
 use block_disk::{Fill, MemDisk};
 use durable::StoreCall;
 use heap_model::Lane;
-use recover::{RecoverError, Why, study};
+use recover::{RecoverError, Why, recover, study};
 use std::alloc::Global;
 use std::ops::Range;
 
@@ -123,22 +123,65 @@ fn a_part_of_an_image_is_refused(rt: HostRuntime) {
 
 #[test]
 fn an_altered_image_is_refused(rt: HostRuntime) {
-    let altered: [(&[Change], RecoverError); 13] = [
+    let altered: [(&[Change], RecoverError); 18] = [
         (&[(8, 0)], RecoverError::NotFormatted),
         (&[(9, 0)], RecoverError::BadHeader),
         (&[(9, 33)], RecoverError::BadHeader),
         (&[(31, 161)], RecoverError::BadHeader),
         (&[(2163, 4)], RecoverError::BadHeader),
+        // A mark that is none, and a byte that isn't zero behind one.
+        (&[(2164, 2)], RecoverError::BadHeader),
+        (&[(2165, 1)], RecoverError::BadHeader),
         (&[(64, 0), (1112, 0)], RecoverError::NoControl),
         (&[(79, 2)], RecoverError::BadControl),
-        (&[(83, 2)], RecoverError::BadControl),
+        (&[(83, 3)], RecoverError::BadControl),
+        (&[(83, 1)], RecoverError::OldVersion),
         (&[(103, 4)], RecoverError::BadControl),
         (&[(119, 4)], RecoverError::BadControl),
+        // A field that is transient, in version 1.
+        (&[(83, 1), (2180, 1)], RecoverError::BadControl),
         (&[(2208, 9)], bad_record(0, 0)),
         (&[(103, 1)], illegal(0, 1)),
         (&[(119, 0)], illegal(0, 3)),
+        // A store to a field that is transient.
+        (&[(2164, 1)], illegal(0, 1)),
     ];
     assert!(rt; are_refused(rt.alloc(), &stored(), &altered));
+}
+
+// What recovery gives where the second field's cell says 99, and where the field is transient too.
+fn left_with_another_value(alloc: Global) -> Option<[Option<Result<Outcome, RecoverError>>; 2]> {
+    let image = crashed(alloc, &stored(), Fill::Lost)?;
+    let persistent = left_of(alloc, &image, &[(2207, 99)]);
+    let transient = left_of(alloc, &image, &[(2207, 99), (2180, 1)]);
+    Some([persistent, transient])
+}
+
+// A transient field has its row's first value, whatever its cell says.
+#[test]
+fn a_transient_field_begins_anew(rt: HostRuntime) {
+    let wanted = [kept(1, 0, [5, 99]), kept(1, 0, [5, 20])];
+    let told = left_with_another_value(rt.alloc());
+    assert!(rt; told == Some([Some(Ok(wanted[0])), Some(Ok(wanted[1]))]));
+}
+
+// Whether recovery of an image of version 1 is refused, and leaves its bytes as they were.
+fn is_left_alone(alloc: Global) -> Option<[bool; 2]> {
+    let image = crashed(alloc, &stored(), Fill::Lost)?;
+    let old = changed(alloc, &image, &[(83, 1)])?;
+    let again = changed(alloc, &old, &[])?;
+    match recover(alloc, old) {
+        Err((disk, why)) => Some([
+            why == RecoverError::OldVersion,
+            disk.bytes() == again.bytes(),
+        ]),
+        Ok(_) => None,
+    }
+}
+
+#[test]
+fn an_image_of_version_1_is_left_alone(rt: HostRuntime) {
+    assert!(rt; is_left_alone(rt.alloc()) == Some([true; 2]));
 }
 
 // What recovery answers where the gate of the last control is closed.

@@ -231,7 +231,7 @@ acknowledged 0 0\n\
 refused state\n\
 crashed\n\
 image lanes 2 capacity 4000 objects 4 fields 2 size 130208\n\
-control a sequence 3 version 1\n\
+control a sequence 3 version 2\n\
 lane t1 start 0 settled 0 logged 4 kept 0\n\
 lane t2 start 0 settled 0 logged 3 kept 0\n\
 section t1 1 unfinished records 4\n\

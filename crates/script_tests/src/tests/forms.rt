@@ -20,6 +20,14 @@ fn lines_have_their_forms(rt: HostRuntime) {
         owner: "o.1",
         guard: "field",
         first: u64::MAX,
+        is_transient: false,
+    };
+    let transient = Command::Field {
+        name: "transient",
+        owner: "o0",
+        guard: "o1",
+        first: 30,
+        is_transient: true,
     };
     let format = Command::Format {
         lanes: 2,
@@ -30,6 +38,7 @@ fn lines_have_their_forms(rt: HostRuntime) {
             b"field  f_0 o.1   field 18446744073709551615".as_slice(),
             Some(field),
         ),
+        (b"transient transient o0 o1 30", Some(transient)),
         (b"object A", Some(Command::Object { name: "A" })),
         (b"format 002 4000", Some(format)),
         (b"t1 enter o0", step(0, Step::Enter("o0"))),
@@ -85,6 +94,8 @@ fn other_lines_have_no_form(rt: HostRuntime) {
         b"field f o g 18446744073709551616",
         b"field f o g +1",
         b"field f o g",
+        b"transient f o g",
+        b"transient f o g 1 2",
         b"t0 resume",
         b"t33 resume",
         b"t resume",

@@ -208,6 +208,61 @@ refused state\n\
 ",
 );
 
+// A transient field keeps what threads store while the machine runs, and after `recover` has its first value; no log and no
+// home write has its stores.
+const TRANSIENT: (&[u8], &[u8]) = (
+    b"\
+object o0\n\
+object o1\n\
+object o2\n\
+object o3\n\
+field f0 o0 o0 10\n\
+field f1 o1 o1 20\n\
+transient f2 o0 o0 30\n\
+format 2 4000\n\
+t1 enter o0\n\
+t1 store f2 31\n\
+t1 load f2\n\
+t1 store f0 5\n\
+t1 exit o0\n\
+log\n\
+home\n\
+settle\n\
+heap\n\
+crash lost\n\
+show\n\
+recover\n\
+t1 enter o0\n\
+t1 load f2\n\
+",
+    b"\
+formatted 130232\n\
+ok\n\
+ok\n\
+value 31\n\
+ok\n\
+ok\n\
+logged 3\n\
+wrote 1\n\
+acknowledged 1 0\n\
+heap 5 20 30\n\
+crashed\n\
+image lanes 2 capacity 4000 objects 4 fields 3 size 130232\n\
+control a sequence 3 version 2\n\
+transient 2\n\
+lane t1 start 0 settled 3 logged 3 kept 1\n\
+lane t2 start 0 settled 0 logged 0 kept 0\n\
+section t1 1 whole records 3\n\
+cut 1 0\n\
+heap 5 20 30\n\
+kept 1 0\n\
+undone 0\n\
+heap 5 20 30\n\
+ok\n\
+value 30\n\
+",
+);
+
 // The examples whole, from their text to what they print.
 #[test]
 fn scripts_are_played(rt: HostRuntime) {
@@ -225,5 +280,11 @@ fn lanes_and_waits_are_played(rt: HostRuntime) {
         (WOKEN.0, WOKEN.1, Ok(())),
         (TWO_LANES.0, TWO_LANES.1, Ok(())),
     ];
+    assert!(rt; first_other(rt.alloc(), &cases).is_none());
+}
+
+#[test]
+fn transient_fields_are_played(rt: HostRuntime) {
+    let cases = [(TRANSIENT.0, TRANSIENT.1, Ok(()))];
     assert!(rt; first_other(rt.alloc(), &cases).is_none());
 }

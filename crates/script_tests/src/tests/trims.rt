@@ -52,7 +52,7 @@ logged 1000\n\
 crashed\n\
 refused state\n\
 image lanes 1 capacity 2000 objects 1 fields 1 size 34184\n\
-control a sequence 5 version 1\n\
+control a sequence 5 version 2\n\
 lane t1 start 2000 settled 2000 logged 3000 kept 2\n\
 section t1 3 whole records 1000\n\
 cut 2\n\

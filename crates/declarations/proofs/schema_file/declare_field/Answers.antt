@@ -9,12 +9,12 @@ use Rattle.declarations.proofs.schema_file.declare_field.Goals as goal
 
 pub returns-clause-ok : goal.returns-clause-ok
 returns-clause-ok c =
-    let o = order.Field c.args.name.now c.args.owner.now c.args.guard.now c.args.first in
+    let o = order.Field c.args.name.now c.args.owner.now c.args.guard.now c.args.first c.args.is_transient in
     subst (λ (r : Result Unit SchemaFaultKind). OnOk r (Declares c.args.declaring.now o Added c.field.new.self)) (sym c.added.ensures)
     (if_added c.args.declaring.now c.field.new.self o c.field.result c.field.ensures.ok)
 
 pub returns-clause-refused : goal.returns-clause-refused
 returns-clause-refused c =
-    let o = order.Field c.args.name.now c.args.owner.now c.args.guard.now c.args.first in
+    let o = order.Field c.args.name.now c.args.owner.now c.args.guard.now c.args.first c.args.is_transient in
     subst (λ (r : Result Unit SchemaFaultKind). IfErr r (λ kind. RefusesDeclaration c.args.declaring.now o kind)) (sym c.added.ensures)
     (if_not_added c.args.declaring.now c.field.new.self o c.field.result refl c.field.ensures.ok c.field.ensures.refused)

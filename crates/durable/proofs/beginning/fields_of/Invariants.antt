@@ -1,4 +1,4 @@
-use Rattle.std.proofs.Common.{◌≡◌, ◌<◌, ◌≤◌, ℕ, length, slice_index, slice_index_or, vec_len, vec_capacity}
+use Rattle.std.proofs.Common.{◌≡◌, ◌<◌, ◌≤◌, ℕ, not, length, slice_index, slice_index_or, vec_len, vec_capacity}
 use Rattle.image.specs.declared.guard_row.GuardRow.{GuardRow}
 use Rattle.store_memory.specs.Memory.{field_in}
 use Rattle.durable.proofs.beginning.fields_of.Given as goal
@@ -10,6 +10,7 @@ invariant-loop-place l = record {
   len : vec_len l.fields ≡ l.place;
   room : length l.guards ≤ vec_capacity l.fields;
   guards : (f : ℕ) (d : GuardRow) → f < l.place → (field_in l.fields.items f).guard ≡ (slice_index_or l.guards f d).guard;
+  marks : (f : ℕ) (d : GuardRow) → f < l.place → (field_in l.fields.items f).is_logged ≡ not (slice_index_or l.guards f d).transient;
   values : (f : ℕ) → f < l.place → (field_in l.fields.items f).value ≡ slice_index l.heap f;
   logged : (f : ℕ) → f < l.place → (field_in l.fields.items f).logged ≡ slice_index l.heap f;
 }

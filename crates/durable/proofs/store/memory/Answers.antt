@@ -3,10 +3,10 @@ use Rattle.durable.proofs.store.memory.Goals as goal
 
 pub new-requires-clause-guards : goal.new-requires-clause-guards
 new-requires-clause-guards c =
-    are_named c.args.layout.now c.args.guards.now c.args.heap.now c.in_ok-fields.fields.items c.requires.rows c.in_ok-fields.ensures.size c.in_ok-fields.ensures.guards
+    are_named c.args.layout.now c.args.guards.now c.args.heap.now c.in_ok-fields.fields.items c.requires.rows c.in_ok-fields.ensures.size c.in_ok-fields.ensures.guards c.in_ok-fields.ensures.marks
 
 pub returns-clause-remembers : goal.returns-clause-remembers
 returns-clause-remembers c = λ s set.
     c.in_ok-applied.ensures.remembers s
-    (are_fields c.args.layout.now c.args.guards.now c.args.heap.now c.in_ok-fields.fields.items c.requires.rows c.in_ok-fields.ensures.size c.in_ok-fields.ensures.guards c.args.last s
+    (are_fields c.args.layout.now c.args.guards.now c.args.heap.now c.in_ok-fields.fields.items c.requires.rows c.in_ok-fields.ensures.size c.in_ok-fields.ensures.guards c.in_ok-fields.ensures.marks c.args.last s
     c.in_ok-fields.ensures.values set)

@@ -9,6 +9,7 @@ use Rattle.std.specs.Arc.{arc_value}
 use Rattle.hosted_heap.specs.Hosting.{lanes_of}
 use Rattle.hosted_heap.specs.Lanes.{AreNewHere, IsBack, IsJoinedHere, IsLaneEnd, IsNewHere, lane_at, lane_in, lanes_at}
 use Rattle.hosted_heap.specs.Sessions.{Seated}
+use Rattle.hosted_heap.specs.Stopping.{Stopping}
 use Rattle.hosted_heap.specs.declared.lane_end.LaneEnd.{LaneEnd}
 use Rattle.hosted_heap.proofs.Ends.{lanes_at_more}
 use Rattle.hosted_heap.proofs.Orders.{lanes_down, lanes_more, new_popped}
@@ -25,14 +26,16 @@ sessions-init c =
       subst (λ (u : List Seated). IsDown all u (length all)) (sym none) down,
       ap (λ (u : List Seated). length u) none ∙ sym (ap (λ (es : List LaneEnd). length es) c.new-lanes.ensures.items),
       c.requires.of,
-      subst (AreNewHere h) (sym none) (All-nil (IsNewHere h)),
+      subst (AreNewHere h c.args.stop.now.word) (sym none) (All-nil (IsNewHere h c.args.stop.now.word)),
       λ k rings all. (all, subst (All (IsLaneEnd h k rings)) (sym c.new-lanes.ensures.items) (All-nil (IsLaneEnd h k rings)), subst (All (IsJoinedHere h k rings)) (sym none) (All-nil (IsJoinedHere h k rings))),
       ap (λ (es : List LaneEnd). lanes_at es) c.new-lanes.ensures.items ∙ sym (ap (λ (u : List Seated). lanes_of u) none),
+      refl,
     )
 
 pub sessions-preserved : goal.sessions-preserved
 sessions-preserved c =
     let h : Home = arc_value c.args.shared.now in
+    let word : ℕ = c.args.stop.now.word in
     let s : Session = c.in-Some.session in
     let was = c.sessions.invariant in
     let left = c.pop.new.self.items in
@@ -52,8 +55,8 @@ sessions-preserved c =
       ap (λ (u : List Seated). length u) pushed ∙ length_push unused one ∙ ap (λ (n : ℕ). n + 1) was.2
           ∙ sym (ap (λ (es : List LaneEnd). length es) c.in_ok-push-2.ensures.items ∙ length_push c.sessions.lanes.items c.in_ok-session.end),
       (All-pop (IsSessionOf h) _ _ (Some s) c.in-Some.ensures.items was.3).0,
-      subst (AreNewHere h) (sym pushed)
-          (All-push (IsNewHere h) _ one was.4 (record { home = ends.session.0 ∙ c.in_ok-try_clone.ensures; untold = ap (λ (x : Session). (view_of x).events) ends.session.1 ∙ new.2 })),
+      subst (AreNewHere h word) (sym pushed)
+          (All-push (IsNewHere h word) _ one was.4 (record { home = ends.session.0 ∙ c.in_ok-try_clone.ensures; word_is = ap (λ (x : Stopping). x.word) (ends.session.2 ∙ c.in_ok-word.ensures.other ∙ was.7); untold = ap (λ (x : Session). (view_of x).events) ends.session.1 ∙ new.2 })),
       λ k rings all.
           let each = was.5 k rings all in
           let parts = All-pop (IsJoined h k rings) _ _ (Some s) c.in-Some.ensures.items each.0 in (
@@ -68,6 +71,7 @@ sessions-preserved c =
       ap (λ (es : List LaneEnd). lanes_at es) c.in_ok-push-2.ensures.items ∙ lanes_at_more c.sessions.lanes.items c.in_ok-session.end
           ∙ ap (λ (n : ℕ). n ∷ lanes_at c.sessions.lanes.items) (ap (λ (items : List Session). lane_in items) ends.end.0 ∙ sym (ap (λ (x : Session). (view_of x).lane.0) ends.session.1))
           ∙ ap (λ (ns : List ℕ). (view_of one.session).lane.0 ∷ ns) was.6 ∙ sym (lanes_more unused one) ∙ sym (ap (λ (u : List Seated). lanes_of u) pushed),
+      c.for_session.ensures.same ∙ was.7,
     )
 
 pub returns-clause-lanes : goal.returns-clause-lanes

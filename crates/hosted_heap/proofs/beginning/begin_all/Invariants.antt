@@ -16,10 +16,10 @@ IsDown left unused all = (lanes_of unused ≡ range_with_len (length left) (leng
 
 abbrev pub invariant-sessions : goal.invariant-sessions
 invariant-sessions l = AreNew 0 l.left.items × IsDown l.left.items l.unused.items (length l.fn.sessions.items) × (length l.unused.items ≡ length l.lanes.items)
-    × All (IsSessionOf (arc_value l.fn.shared)) l.left.items × AreNewHere (arc_value l.fn.shared) l.unused.items
+    × All (IsSessionOf (arc_value l.fn.shared)) l.left.items × AreNewHere (arc_value l.fn.shared) l.initial.stop.word l.unused.items
     × ((k : ℕ) (rings : Rings) → All (IsJoined (arc_value l.fn.shared) k rings) l.fn.sessions.items
     → All (IsJoined (arc_value l.fn.shared) k rings) l.left.items × All (IsLaneEnd (arc_value l.fn.shared) k rings) l.lanes.items × All (IsJoinedHere (arc_value l.fn.shared) k rings) l.unused.items)
-    × (lanes_at l.lanes.items ≡ lanes_of l.unused.items)
+    × (lanes_at l.lanes.items ≡ lanes_of l.unused.items) × (l.stop ≡ l.initial.stop)
 
 abbrev pub decreases-sessions : goal.decreases-sessions
 decreases-sessions l = vec_len l.left

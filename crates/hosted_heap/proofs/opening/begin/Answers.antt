@@ -5,12 +5,14 @@ use Rattle.image.specs.declared.layout.Layout.{Layout}
 use Rattle.monitor.specs.Seats.{Home}
 use Rattle.running_heap.specs.Joined.{IsHelping, IsJoined}
 use Rattle.session.specs.Sessions.{IsSessionOf}
+use Rattle.std.specs.Arc.{arc_value}
 use Rattle.std.specs.List.{range_with_len}
 use Rattle.steps.specs.Views.{plan}
 use Rattle.store_past.specs.Past.{no_past}
 use Rattle.trim_helper.specs.Parts.{IsServing}
 use Rattle.hosted_heap.specs.Hosting.{hosted_device}
-use Rattle.hosted_heap.specs.Lanes.{lanes_at}
+use Rattle.hosted_heap.specs.Lanes.{AreNewHere, lanes_at}
+use Rattle.hosted_heap.specs.Stopping.{Stopping}
 use Rattle.hosted_heap.specs.declared.lane_end.LaneEnd.{LaneEnd}
 use Rattle.hosted_heap.proofs.opening.begin.Goals as goal
 
@@ -37,7 +39,7 @@ invariant_of-result c =
       helping = subst (λ (h : Home). IsHelping hosted_device h x.helper) same c.in-Ok.ensures.helping;
       layout_is = c.layout-layout.ensures.layout ∙ sym c.in-Ok.ensures.layout;
       within = c.layout-layout.ensures.recovered.image.header.limits;
-      unused_are = c.in_ok-unused.ensures.homes;
+      unused_are = subst (λ (s : Stopping). AreNewHere (arc_value c.in_ok-shared.shared) s.word unused) (sym c.in_ok-unused.ensures.stop) c.in_ok-unused.ensures.homes;
       count = (let same = c.in_ok-unused.ensures.count in omega (arith, same));
       lanes_are = ends.0;
       order = c.in_ok-unused.ensures.paired ∙ c.in_ok-unused.ensures.in_order ∙ ap (λ (n : ℕ). range_with_len 0 n) c.in-Ok.ensures.count ∙ ap (λ (l : Layout). range_with_len 0 l.lanes) (sym c.layout-layout.ensures.layout);
@@ -58,6 +60,7 @@ returns c =
         unmade = c.requires.calls.0;
         none_left = c.requires.calls.1;
         unused = c.in_ok-unused.ensures.in_order ∙ ap (λ (n : ℕ). range_with_len 0 n) c.in-Ok.ensures.count;
+        unstopped = ap (λ (s : Stopping). s.seen) c.in_ok-unused.ensures.stop ∙ c.in_ok-stop.ensures;
         none_out = drop_all (length c.in_ok-unused.unused.items) c.in_ok-unused.lanes.items (let same = c.in_ok-unused.ensures.count in omega (arith, same));
       };
     }

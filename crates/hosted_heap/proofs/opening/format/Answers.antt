@@ -20,6 +20,7 @@ begin-requires c =
         objects = ap (λ (l : Layout). l.objects) told.layout;
         fields = ap (λ (l : Layout). l.fields) told.layout;
         guarded = λ f d low. ap (λ (r : GuardRow). r.guard.0) (told.guards f d low);
+        marked = λ f d low. ap (λ (r : GuardRow). r.transient) (told.guards f d low);
       };
       calls = (c.in-Ok-new.ensures.host.0, c.in-Ok-new.ensures.host.1);
     }

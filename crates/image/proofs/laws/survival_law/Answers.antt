@@ -1,4 +1,4 @@
-use Rattle.image.proofs.Places.{header_survives, guards_survive, cell_survives}
+use Rattle.image.proofs.Places.{header_survives, guards_survive, cell_survives, home_survives}
 use Rattle.image.proofs.Commits.{shows_survives}
 use Rattle.image.proofs.laws.survival_law.Goals as goal
 
@@ -13,3 +13,6 @@ returns-clause-control c = shows_survives
 
 pub returns-clause-cell : goal.returns-clause-cell
 returns-clause-cell c = cell_survives
+
+pub returns-clause-home : goal.returns-clause-home
+returns-clause-home c = home_survives

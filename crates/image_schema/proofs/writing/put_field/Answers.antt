@@ -3,6 +3,7 @@ use Rattle.std.proofs.lemmas.Option.{get_or_from_slice_get}
 use Rattle.std.specs.Fmt.{decimal}
 use Rattle.std.specs.List.{concat}
 use Rattle.guards.specs.Schema.{guard_of, names_of, owner_of}
+use Rattle.script_lines.specs.Grammar.{field_word}
 use Rattle.declarations.specs.SchemaText.{ended, name_of}
 use Rattle.inspect.specs.Written.{AppendsPart}
 use Rattle.image_schema.proofs.writing.put_field.Goals as goal
@@ -16,5 +17,6 @@ returns-clause-part g c =
     sym (get_or_from_slice_get schema.objects c.owner.result.0 c.object_name.result.now [] c.object_name.ensures) ∙ ap (name_of schema.objects) c.owner.ensures.owner in
     let guard : c.object_name-2.result.now ≡ name_of schema.objects (guard_of schema f) =
     sym (get_or_from_slice_get schema.objects c.guard.result.0 c.object_name-2.result.now [] c.object_name-2.ensures) ∙ ap (name_of schema.objects) c.guard.ensures.guard in
+    let word = c.field_word.ensures ∙ ap field_word c.transient.ensures in
     subst (λ (text : List ℕ). OnErr c.put_line.result (AppendsPart (g.W.Write.contents c.args.writer.now) (g.W.Write.contents c.put_line.new.writer) text))
-    (λ i. ended (concat (codes "field " ∷ name i ∷ codes " " ∷ owner i ∷ codes " " ∷ guard i ∷ codes " " ∷ decimal c.args.value ∷ []))) c.put_line.ensures.part
+    (λ i. ended (concat (word i ∷ codes " " ∷ name i ∷ codes " " ∷ owner i ∷ codes " " ∷ guard i ∷ codes " " ∷ decimal c.args.value ∷ []))) c.put_line.ensures.part

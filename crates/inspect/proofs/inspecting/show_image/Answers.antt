@@ -3,7 +3,7 @@ use Rattle.std.proofs.lemmas.Result.{on_ok_weaker}
 use Rattle.std.specs.Io.KnownBytes.{Appends}
 use Rattle.recover.specs.Study.{IsStudyOf}
 use Rattle.recover.specs.declared.studied.Study.{Study as Studied}
-use Rattle.recover.specs.declared.error.RecoverError.TheVariants.{Fault, NotFormatted, BadHeader, TooSmall, NoControl, BadControl, Worn, BadRecord, IllegalLog, NoMemory}
+use Rattle.recover.specs.declared.error.RecoverError.TheVariants.{Fault, NotFormatted, BadHeader, TooSmall, NoControl, BadControl, OldVersion, Worn, BadRecord, IllegalLog, NoMemory}
 use Rattle.inspect.specs.declared.error.InspectError.{InspectError}
 use Rattle.inspect.specs.declared.error.InspectError.TheVariants.{Study, Write}
 use Rattle.inspect.specs.Inspection.{IsNotShown, Refuses, text_in}
@@ -16,6 +16,7 @@ refuses text image old new s is (Study BadHeader) h = absurd h
 refuses text image old new s is (Study TooSmall) h = absurd h
 refuses text image old new s is (Study NoControl) h = absurd h
 refuses text image old new s is (Study BadControl) h = absurd h
+refuses text image old new s is (Study OldVersion) h = absurd h
 refuses text image old new s is (Study Worn) h = absurd h
 refuses text image old new s is (Study (BadRecord lane place)) h = absurd h
 refuses text image old new s is (Study (IllegalLog lane place)) h = absurd h

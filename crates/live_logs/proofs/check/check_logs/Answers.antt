@@ -1,5 +1,6 @@
-use Rattle.std.proofs.Common.{ℕ, ◌≡◌, List, ap, arith, subst, Vec, Global}
+use Rattle.std.proofs.Common.{ℕ, ◌≡◌, List, ap, arith, subst, Vec, Global, Option}
 use Rattle.std.proofs.lemmas.Result.{err_from_is_err_and}
+use Rattle.heap_model.specs.declared.ids.ObjectId.{ObjectId}
 use Rattle.heap_model.specs.declared.record.UndoRecord.{UndoRecord}
 use Rattle.live_logs.specs.declared.step.Step.{Step}
 use Rattle.live_logs.specs.Logs.{guard_in, kept_of, lanes_of, settled_of}
@@ -34,7 +35,7 @@ pub returns-in-Some-clause-exact : goal.returns-in-Some-clause-exact
 returns-in-Some-clause-exact c = Restless (log_of c.in_ok-steps.steps.items) c.in_ok-steps.ensures.exact c.in-Some.ensures.1 (ap (settled_of c.args.counts.now) c.from.ensures)
 
 -- what the walk through the steps finds is the least of the lanes' records
-found_is : (guard settled : ℕ → ℕ) (logs : List (Vec UndoRecord Global)) (walked steps : List Step) (l i : ℕ) → Replays guard (lanes_of logs) (log_of steps) → walked ≡ steps → IsLeastCrossing settled (log_of walked) l i → IsLeastUnsettled settled (lanes_of logs) l i
+found_is : (guard : ℕ → Option ObjectId) (settled : ℕ → ℕ) (logs : List (Vec UndoRecord Global)) (walked steps : List Step) (l i : ℕ) → Replays guard (lanes_of logs) (log_of steps) → walked ≡ steps → IsLeastCrossing settled (log_of walked) l i → IsLeastUnsettled settled (lanes_of logs) l i
 found_is guard settled logs walked steps l i replays same least = least_unsettled settled guard (lanes_of logs) (log_of steps) replays l i (subst (λ (xs : List Step). IsLeastCrossing settled (log_of xs) l i) same least)
 
 pub returns-in-Some-least_crossing-clause-there : goal.returns-in-Some-least_crossing-clause-there
@@ -48,7 +49,7 @@ returns-in-Some-least_crossing-clause-there c =
 
 pub returns-in-Some-least_crossing-clause-exact : goal.returns-in-Some-least_crossing-clause-exact
 returns-in-Some-least_crossing-clause-exact c =
-    let guard : ℕ → ℕ = guard_in c.args.guards.now in
+    let guard : ℕ → Option ObjectId = guard_in c.args.guards.now in
     let counts = c.args.counts.now in
     let logs = c.args.logs.now in
     let steps : List Step = c.in_ok-steps.steps.items in
@@ -59,7 +60,7 @@ returns-in-Some-least_crossing-clause-exact c =
 
 pub returns-clause-exact : goal.returns-clause-exact
 returns-clause-exact c =
-    let guard : ℕ → ℕ = guard_in c.args.guards.now in
+    let guard : ℕ → Option ObjectId = guard_in c.args.guards.now in
     let counts = c.args.counts.now in
     let lanes : ℕ → List UndoRecord = lanes_of c.args.logs.now in
     let none = subst (λ (xs : List Step). (l i : ℕ) → Crosses (settled_of counts) (log_of xs) l i → ⊥) c.deref.ensures.value c.in_default-least_crossing.ensures in

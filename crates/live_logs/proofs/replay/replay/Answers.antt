@@ -1,7 +1,8 @@
-use Rattle.std.proofs.Common.{ℕ, ◌≡◌, ◌≢◌, ◌<◌, ◌≤◌, ◌-◌, ◌∙◌, List, [], ◌∷◌, reverse, Vec, Global, length, sym, ap, subst, inl, inr, arith, slice_index, slice_set, get_or-set_same, get_or-set_other}
+use Rattle.std.proofs.Common.{ℕ, ◌≡◌, ◌≢◌, ◌<◌, ◌≤◌, ◌-◌, ◌∙◌, List, [], ◌∷◌, reverse, Vec, Global, length, sym, ap, subst, inl, inr, arith, slice_index, slice_set, get_or-set_same, get_or-set_other, Option}
 use Rattle.std.proofs.lemmas.Bool.{cases_lt}
 use Rattle.std.proofs.lemmas.List.{length-reverse, length-set}
 use Rattle.std.proofs.lemmas.List.Elements.{All-contains, All-push}
+use Rattle.heap_model.specs.declared.ids.ObjectId.{ObjectId}
 use Rattle.heap_model.specs.declared.record.UndoRecord.{UndoRecord}
 use Rattle.std.specs.Prelude.{All}
 use Rattle.log_state.specs.Limits.{IsInRange, IsOfObjects}
@@ -18,7 +19,7 @@ use Rattle.live_logs.proofs.replay.replay.Goals as goal
 
 pub loop-next-preserved : goal.loop-next-preserved
 loop-next-preserved c =
-    let guard : ℕ → ℕ = guard_in c.args.guards.now in
+    let guard : ℕ → Option ObjectId = guard_in c.args.guards.now in
     let lanes : ℕ → List UndoRecord = lanes_of c.args.logs.now in
     let first : ℕ → ℕ = number_at c.free_at-monitors.result in
     let left : List ℕ = c.loop-next.left in
@@ -46,7 +47,7 @@ lanes_past : (logs : List (Vec UndoRecord Global)) (m : ℕ) → length logs ≤
 lanes_past logs m le = ap (λ (xs : List UndoRecord). reverse xs) (records_past logs m le)
 
 -- a lane with records left is there
-left_there : (guard first : ℕ → ℕ) (logs : List (Vec UndoRecord Global)) (done : List (ℕ × UndoRecord)) (t : Monitors) (left : ℕ → ℕ) (l : ℕ) → IsMidway guard first (lanes_of logs) done t left → 0 < left l → l < length logs
+left_there : (guard : ℕ → Option ObjectId) (first : ℕ → ℕ) (logs : List (Vec UndoRecord Global)) (done : List (ℕ × UndoRecord)) (t : Monitors) (left : ℕ → ℕ) (l : ℕ) → IsMidway guard first (lanes_of logs) done t left → 0 < left l → l < length logs
 left_there guard first logs done t left l midway some = elim (cases_lt l (length logs)) [
   | inl lt ↦ lt
   | inr le ↦ absurd (omega (arith, midway.rest.within l, ap length (lanes_past logs l le)))
@@ -58,7 +59,7 @@ records_in-requires c = left_there (guard_in c.args.guards.now) (number_at c.fre
 
 pub returns-in-Some-least_left : goal.returns-in-Some-least_left
 returns-in-Some-least_left c =
-    let guard : ℕ → ℕ = guard_in c.args.guards.now in
+    let guard : ℕ → Option ObjectId = guard_in c.args.guards.now in
     let logs = c.args.logs.now in
     let lanes : ℕ → List UndoRecord = lanes_of logs in
     let first : ℕ → ℕ = number_at c.free_at-monitors.result in

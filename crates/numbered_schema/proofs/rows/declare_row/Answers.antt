@@ -4,11 +4,11 @@ use Rattle.numbered_schema.specs.Rows.{field_name}
 use Rattle.numbered_schema.proofs.Numbered.{fields_are, row_declared, row_refused}
 use Rattle.numbered_schema.proofs.rows.declare_row.Goals as goal
 
-pub returns-in-Ok-field-clause-ok : goal.returns-in-Ok-field-clause-ok
-returns-in-Ok-field-clause-ok c = λ objects before is.
+pub returns-in-Ok-declare_named-clause-ok : goal.returns-in-Ok-declare_named-clause-ok
+returns-in-Ok-declare_named-clause-ok c = λ objects before is.
     let number : c.fields-number.result ≡ length before = c.fields-number.ensures.count ∙ ap (λ (d : Declarations). field_count d) is ∙ fields_are 0 before in
     let name : c.as_str.result.now ≡ field_name (length before) = c.as_str.ensures.value ∙ c.in-Ok.ensures.ok ∙ ap field_name number in
-    row_declared objects before c.args.row c.args.builder.now c.field.new.self c.as_str.result.now is name c.in-Ok-field.ensures.ok.1
+    row_declared objects before c.args.row c.args.builder.now c.declare_named.new.builder c.as_str.result.now is name c.in-Ok-declare_named.ensures.ok.1
 
 pub returns-clause-refused : goal.returns-clause-refused
 returns-clause-refused c = λ objects before is.

@@ -8,6 +8,7 @@ open-requires-clause-schema c = record {
   objects = ap (λ l. l.objects) c.in-Ok.ensures.layout;
   fields = ap (λ l. l.fields) c.in-Ok.ensures.layout;
   guarded = λ f d lt. ap (λ r. r.guard.0) (c.in-Ok.ensures.guards f d lt);
+  marked = λ f d lt. ap (λ r. r.transient) (c.in-Ok.ensures.guards f d lt);
 }
 
 pub returns-clause-joined : goal.returns-clause-joined

@@ -1,12 +1,12 @@
 use Rattle.std.proofs.Common.{ℕ, ◌≡◌, ◌<◌, ◌≤◌, length}
 use Rattle.std.specs.Prelude.{vec_capacity}
-use Rattle.undo_log.specs.StandsFor.{guard_in}
 use Rattle.live_logs.specs.Logs as logs
+use Rattle.recover.specs.Logs.{logged_guard_in}
 use Rattle.recover.proofs.check.guarding_objects.Given as goal
 
 abbrev pub invariant-loop-row : goal.invariant-loop-row
 invariant-loop-row l = record {
   count : length l.objects.items ≡ l.row-index;
   room : length l.guards ≤ vec_capacity l.objects;
-  each : (f : ℕ) → f < l.row-index → logs.guard_in l.objects.items f ≡ guard_in l.guards f;
+  each : (f : ℕ) → f < l.row-index → logs.guard_in l.objects.items f ≡ logged_guard_in l.guards f;
 }

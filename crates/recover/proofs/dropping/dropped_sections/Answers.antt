@@ -6,10 +6,10 @@ use Rattle.cut_laws.proofs.Existence.{stable_exists}
 use Rattle.image.specs.Rows.{IsRow, empty_row}
 use Rattle.image.specs.declared.lane_row.LaneRow.{LaneRow}
 use Rattle.dependence.specs.Trace.{Trace}
-use Rattle.undo_log.specs.StandsFor.{row_of, guard_in}
+use Rattle.undo_log.specs.StandsFor.{row_of}
 use Rattle.recover.specs.declared.live_sections.LiveSections.{LiveSections}
 use Rattle.recover.specs.declared.report.Dropped.{Dropped}
-use Rattle.recover.specs.Logs.{lanes_of}
+use Rattle.recover.specs.Logs.{lanes_of, logged_guard_in}
 use Rattle.live_logs.specs.Tables.{log_of}
 use Rattle.recover.specs.Dropping.{acts_in, AreEntriesOf, sections_after, settled_sections, trimmed_sections, unsettled_sections}
 use Rattle.recover.specs.Live.{live_at, trimmed_at, IsLiveIn, IsReady, AreReported}
@@ -21,16 +21,16 @@ use Rattle.recover.proofs.StepLemmas.{steps_low, steps_named, ready}
 use Rattle.recover.proofs.dropping.dropped_sections.Goals as goal
 
 pub graph_of-requires-clause-low : goal.graph_of-requires-clause-low
-graph_of-requires-clause-low c = λ k d lt. omega (arith, c.requires.logs.count, steps_low (guard_in c.args.guards.now) c.args.logs.now c.args.steps.now c.requires.replays k d lt)
+graph_of-requires-clause-low c = λ k d lt. omega (arith, c.requires.logs.count, steps_low (logged_guard_in c.args.guards.now) c.args.logs.now c.args.steps.now c.requires.replays k d lt)
 
 pub graph_of-requires-clause-objects : goal.graph_of-requires-clause-objects
-graph_of-requires-clause-objects c = steps_named c.args.layout.now (guard_in c.args.guards.now) c.args.rows.now c.args.logs.now c.args.steps.now c.requires.logs c.requires.replays
+graph_of-requires-clause-objects c = steps_named c.args.layout.now (logged_guard_in c.args.guards.now) c.args.rows.now c.args.logs.now c.args.steps.now c.requires.logs c.requires.replays
 
 pub graph_of-requires-clause-next : goal.graph_of-requires-clause-next
-graph_of-requires-clause-next c = pushable (guard_in c.args.guards.now) c.requires.replays.replay.first (lanes_of c.args.logs.now) (log_of c.args.steps.now) c.requires.replays.replay.greedy
+graph_of-requires-clause-next c = pushable (logged_guard_in c.args.guards.now) c.requires.replays.replay.first (lanes_of c.args.logs.now) (log_of c.args.steps.now) c.requires.replays.replay.greedy
 
 pub live_counts-counts-requires-clause-held : goal.live_counts-counts-requires-clause-held
-live_counts-counts-requires-clause-held c = lanes_free (guard_in c.args.guards.now) c.args.logs.now (log_of c.args.steps.now) c.requires.replays
+live_counts-counts-requires-clause-held c = lanes_free (logged_guard_in c.args.guards.now) c.args.logs.now (log_of c.args.steps.now) c.requires.replays
 
 pub live_counts-counts-requires-clause-order : goal.live_counts-counts-requires-clause-order
 live_counts-counts-requires-clause-order c = λ l lt.
@@ -50,7 +50,7 @@ live_counts-counts-requires-clause-others c = λ l le. row_past c.args.layout.no
 pub drop_lane-requires-clause-ready : goal.drop_lane-requires-clause-ready
 drop_lane-requires-clause-ready c =
     subst (IsReady c.live_counts-counts.result) (sym c.loop-lane.invariant.same)
-    (ready c.args.layout.now (guard_in c.args.guards.now) c.args.rows.now c.args.logs.now (log_of c.args.steps.now) c.live_counts-counts.result c.in_ok-graph.graph c.requires.limits c.requires.rows c.requires.logs c.requires.replays
+    (ready c.args.layout.now (logged_guard_in c.args.guards.now) c.args.rows.now c.args.logs.now (log_of c.args.steps.now) c.live_counts-counts.result c.in_ok-graph.graph c.requires.limits c.requires.rows c.requires.logs c.requires.replays
     c.in_ok-graph.ensures.exact c.live_counts-counts.ensures)
 
 pub drop_lane-requires-clause-order : goal.drop_lane-requires-clause-order

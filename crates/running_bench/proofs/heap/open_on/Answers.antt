@@ -9,6 +9,7 @@ open-requires-clause-schema g c = record {
   objects = ap (λ l. l.objects) c.in-Ok.ensures.layout;
   fields = ap (λ l. l.fields) c.in-Ok.ensures.layout;
   guarded = λ f d lt. ap (λ r. r.guard.0) (c.in-Ok.ensures.guards f d lt);
+  marked = λ f d lt. ap (λ r. r.transient) (c.in-Ok.ensures.guards f d lt);
 }
 
 pub returns-clause-of : goal.returns-clause-of

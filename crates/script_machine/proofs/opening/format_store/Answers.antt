@@ -5,9 +5,11 @@ use Rattle.image.specs.Format.{format_calls}
 use Rattle.image.specs.Layout.{IsLayoutOf}
 use Rattle.image.specs.declared.layout.Layout.{Layout}
 use Rattle.image.specs.declared.guard_row.GuardRow.{GuardRow}
+use Rattle.guards.specs.Schema.{is_transient_of}
 use Rattle.heap_model.specs.declared.limits.TheConstants.{LAST_NUMBER}
 use Rattle.plain_monitors.specs.Table.{setting_in}
 use Rattle.script_machine.specs.OfSchema.{IsDiskOf}
+use Rattle.script_machine.proofs.AgreementLemmas.{not_not}
 use Rattle.script_machine.proofs.SchemaLemmas.{made_of}
 use Rattle.script_machine.proofs.opening.format_store.Goals as goal
 
@@ -18,6 +20,7 @@ returns-in-Ok-clause-tells c =
       objects = ap (λ (l : Layout). l.objects) (sym made);
       fields = ap (λ (l : Layout). l.fields) (sym made);
       guards = λ f d below. ap (λ (r : GuardRow). r.guard.0) (c.in-Ok.ensures.guards f d (subst (λ n. f < n) (ap (λ (l : Layout). l.fields) made) below));
+      marks = λ f d below. ap (λ (r : GuardRow). r.transient) (c.in-Ok.ensures.guards f d (subst (λ n. f < n) (ap (λ (l : Layout). l.fields) made) below)) ∙ sym (not_not (is_transient_of c.args.schema.now f));
       values = λ f below. c.in-Ok.ensures.heap f (subst (λ n. f < n) (ap (λ (l : Layout). l.fields) made) below);
       last_is = refl;
     })

@@ -10,5 +10,5 @@ loop-field-preserved c =
     let long = c.loop-field.invariant.0 in
     let items = c.in_ok-push.ensures.items in (
       length-more xs ys c.heap_value.result c.loop-field.field long items,
-      λ s p t. each-more xs ys c.heap_value.result c.loop-field.field (λ f. value s.first f (applied p)) long items (c.loop-field.invariant.1 s p t) (c.heap_value.ensures s p t),
+      λ s p t. each-more xs ys c.heap_value.result c.loop-field.field (λ f. value s.first f (applied p)) long items (c.loop-field.invariant.1 s p t) (c.heap_value.ensures.value s p t),
     )

@@ -39,7 +39,7 @@ returns-clause-ok g c = λ p has places.
     let ran = settled_then _ known.layout s p now since _ device all.0 known.has_failed c.in_default-settle_applied.ensures.running on.device all.1.has.past c.settle_applied.ensures.layout settled.0.ran in
     subst (λ parts. HasSpelled s c.args.shared.plan.lanes c.args.store.now.known.layout parts p since device c.close-words.result) c.meet.ensures.gathered
     (subst (λ l. HasSpelled s c.args.shared.plan.lanes l (taken_in c.meet.new.seat) p since device c.close-words.result) (c.settle_applied.ensures.layout ∙ on.layout)
-    (has_spelled s c.args.shared.plan.lanes (taken_in c.meet.new.seat) history.0 history.1 c.log_law.ensures c.order_law.ensures c.all_kept_law.ensures c.stable_law.ensures.one (λ f. refl) c.close-words.result history.2 p
+    (has_spelled s c.args.shared.plan.lanes (taken_in c.meet.new.seat) history.0 history.1 c.log_law.ensures c.order_law.ensures c.all_kept_law.ensures c.stable_law.ensures.one c.unlogged_law.ensures c.close-words.result history.2 p
     (λ x among lt. let counts = c.meet.ensures.count x.lane in omega (arith, (c.close-words.ensures.read x among).0, (places x.lane (omega arith)).0))
     (λ x among lt. let place = c.meet.ensures.place x.lane in omega (arith, (c.close-words.ensures.read x among).1, (places x.lane (omega arith)).1))
     known since device now ran settled.0.has c.in_default-settle_applied.ensures.running settled.1 (same_lanes _ _ _ settled.0.same all.2) free))

@@ -1,4 +1,4 @@
-use Rattle.std.proofs.Common.{◌≡◌, ◌+◌, ◌*◌, ◌<◌, ◌≤◌, ◌++◌, ◌∙◌, [], ◌∷◌, ℕ, List, length, take, get_or, sym, ap, arith}
+use Rattle.std.proofs.Common.{◌≡◌, ◌+◌, ◌*◌, ◌<◌, ◌≤◌, ◌++◌, ◌∙◌, ℕ, List, length, take, get_or, sym, ap, arith}
 use Rattle.std.proofs.lemmas.List.{take_more}
 use Rattle.block_disk.specs.Bytes.{spliced}
 use Rattle.block_disk.proofs.Bytes.{length_spliced}

@@ -1,4 +1,4 @@
-use Rattle.std.proofs.Common.{◌≡◌, ◌∙◌, ◌≤◌, ℕ, List, length, ap, subst, arith}
+use Rattle.std.proofs.Common.{◌∙◌, ℕ, List, length, ap, subst, arith}
 use Rattle.block_disk.specs.Device.{Range, Device, unit_ranges, written_units}
 use Rattle.block_disk.specs.Images.{ImageBut, LeavesOnly}
 use Rattle.block_disk.proofs.InUnits.{units_failures}

@@ -13,11 +13,13 @@ returns-clause-handed c =
       lane = told.next;
       untold = told.untold;
       home_is = told.home;
+      word_is = told.word;
       end = told.out.0;
       out = told.out.1;
       home = told.same.0;
       helper = told.same.1;
       calls = told.same.2;
+      stop = told.same.3;
     })
     c.put.ensures
     refl

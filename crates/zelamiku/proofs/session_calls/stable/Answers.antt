@@ -5,4 +5,4 @@ use Rattle.zelamiku.proofs.session_calls.stable.Goals as goal
 
 pub returns-in-Session-clause-told : goal.returns-in-Session-clause-told
 returns-in-Session-clause-told c =
-    stays (ReadsStable c.stable.result) _ _ _ _ c.in-Session.is c.stable.ensures.home (refl, c.stable.ensures.quiet, c.stable.ensures.read)
+    stays (ReadsStable c.stable.result) _ _ _ _ c.in-Session.is c.stable.ensures.home c.stable.ensures.word (refl, c.stable.ensures.quiet, c.stable.ensures.read)

@@ -1,4 +1,4 @@
-use Rattle.std.proofs.Common.{ℕ, ◌<◌, sym, subst}
+use Rattle.std.proofs.Common.{ℕ, ◌≡◌, ◌<◌, true, sym, subst}
 use Rattle.heap_model.specs.Log.{value as value_of}
 use Rattle.block_disk.specs.Images.{Always}
 use Rattle.image.specs.Cells.{HasCell}
@@ -12,7 +12,7 @@ use Rattle.durable.proofs.store.Store.close.Goals as goal
 pub returns-in-Ok-clause-home : goal.returns-in-Ok-clause-home
 returns-in-Ok-clause-home g c = λ s p has.
     let closes = c.in-Ok.ensures s p has in
-    subst (λ (x : Parts g.row.D.Denot). (f : ℕ) → f < c.args.self.known.layout.fields → HasCell c.args.self.known.layout f (g.D.Disk.device x.disk).now.bytes (value_of s.first f (applied p))) (sym c.self.view_is)
+    subst (λ (x : Parts g.row.D.Denot). (f : ℕ) → f < c.args.self.known.layout.fields → s.is_logged f ≡ true → HasCell c.args.self.known.layout f (g.D.Disk.device x.disk).now.bytes (value_of s.first f (applied p))) (sym c.self.view_is)
     (home_cells c.args.self.known s p (g.D.Disk.device c.args.self.disk) has closes.0 closes.1 closes.2)
 
 pub returns-in-Ok-clause-stands : goal.returns-in-Ok-clause-stands

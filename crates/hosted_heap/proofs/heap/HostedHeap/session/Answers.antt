@@ -1,4 +1,4 @@
-use Rattle.std.proofs.Common.{◌≡◌, ◌+◌, ◌≤◌, ◌∷◌, ◌++◌, List, Option, Some, None, IfSome, option_to_list, [], length, ap, ◌∙◌, subst, arith}
+use Rattle.std.proofs.Common.{ℕ, ◌≡◌, ◌+◌, ◌≤◌, ◌∷◌, ◌++◌, List, Option, Some, None, IfSome, option_to_list, [], length, ap, ◌∙◌, subst, arith}
 use Rattle.std.proofs.lemmas.List.{length-append}
 use Rattle.std.proofs.lemmas.List.Elements.{All-pop}
 use Rattle.monitor.specs.Seats.{Home}
@@ -27,7 +27,7 @@ invariant_of-self c =
       helping = was.helping;
       layout_is = was.layout_is;
       within = was.within;
-      unused_are = (All-pop (IsNewHere h) unused left c.pop.result popped was.unused_are).0;
+      unused_are = (All-pop (IsNewHere h c.self.inside.stop.word) unused left c.pop.result popped was.unused_are).0;
       count = omega (arith, long, count);
       lanes_are = was.lanes_are;
       order = was.order;
@@ -43,21 +43,32 @@ returns-clause-out c =
     (popped_out c.self.inside.unused.items left c.pop.result ends c.pop.ensures.items c.self.invariant.count)
 
 -- a session of these words that was told nothing
-untold_of : (h : Home) (o : Option Seated) → IfSome o (IsNewHere h) → IfSome o (λ s. (view_of s.session).events ≡ [])
-untold_of h None is = tt
-untold_of h (Some s) is = is.untold
+untold_of : (h : Home) (word : ℕ) (o : Option Seated) → IfSome o (IsNewHere h word) → IfSome o (λ s. (view_of s.session).events ≡ [])
+untold_of h word None is = tt
+untold_of h word (Some s) is = is.untold
 
-home_of : (h k : Home) (o : Option Seated) → h ≡ k → IfSome o (IsNewHere h) → IfSome o (λ s. s.home ≡ k)
-home_of h k None same is = tt
-home_of h k (Some s) same is = is.home ∙ same
+home_of : (h k : Home) (word : ℕ) (o : Option Seated) → h ≡ k → IfSome o (IsNewHere h word) → IfSome o (λ s. s.home ≡ k)
+home_of h k word None same is = tt
+home_of h k word (Some s) same is = is.home ∙ same
+
+word_of : (h : Home) (word later : ℕ) (o : Option Seated) → word ≡ later → IfSome o (IsNewHere h word) → IfSome o (λ s. s.stop.word ≡ later)
+word_of h word later None same is = tt
+word_of h word later (Some s) same is = is.word_is ∙ same
 
 pub returns-clause-untold : goal.returns-clause-untold
 returns-clause-untold c =
     let h : Home = arc_value c.self.inside.shared in
-    untold_of h c.pop.result (All-pop (IsNewHere h) c.self.inside.unused.items c.pop.new.self.items c.pop.result c.pop.ensures.items c.self.invariant.unused_are).1
+    untold_of h c.self.inside.stop.word c.pop.result (All-pop (IsNewHere h c.self.inside.stop.word) c.self.inside.unused.items c.pop.new.self.items c.pop.result c.pop.ensures.items c.self.invariant.unused_are).1
 
 pub returns-clause-home : goal.returns-clause-home
 returns-clause-home c =
     let h : Home = arc_value c.self.inside.shared in
-    home_of h c.args.self.now.home c.pop.result (ap (λ (x : Hosting). x.home) c.self.view_is)
-    (All-pop (IsNewHere h) c.self.inside.unused.items c.pop.new.self.items c.pop.result c.pop.ensures.items c.self.invariant.unused_are).1
+    home_of h c.args.self.now.home c.self.inside.stop.word c.pop.result (ap (λ (x : Hosting). x.home) c.self.view_is)
+    (All-pop (IsNewHere h c.self.inside.stop.word) c.self.inside.unused.items c.pop.new.self.items c.pop.result c.pop.ensures.items c.self.invariant.unused_are).1
+
+pub returns-clause-word : goal.returns-clause-word
+returns-clause-word c =
+    let h : Home = arc_value c.self.inside.shared in
+    let word = c.self.inside.stop.word in
+    word_of h word c.args.self.now.stop.word c.pop.result (ap (λ (x : Hosting). x.stop.word) c.self.view_is)
+    (All-pop (IsNewHere h word) c.self.inside.unused.items c.pop.new.self.items c.pop.result c.pop.ensures.items c.self.invariant.unused_are).1

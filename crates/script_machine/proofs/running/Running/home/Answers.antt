@@ -25,7 +25,7 @@ invariant_of-result c =
     let l = x.known.layout in
     let leaves = weaker (device_of x.disk) (device_of y.disk) (ShowsPast l s g.past) (ShowsStep l s g.past Nothing) (λ image shown. Shows shown) (c.in-Ok.ensures.shown s g.past g.tells) in
     same-told a x y g brings.then (homes-told s g.past c.in-Ok.cells brings.then brings.written) brings.tells c.write_homes.ensures.layout (c.in-Ok.ensures.running g.running)
-    (called_of a g.first l g.past Nothing x.disk y.disk g.tells.setting leaves g.of_schema)
+    (called_of a g.first g.past Nothing x y.disk g.tells g.running leaves g.of_schema)
 
 pub returns : goal.returns
 returns c =

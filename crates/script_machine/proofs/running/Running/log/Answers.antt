@@ -27,7 +27,7 @@ invariant_of-result c =
     let step = c.log_step.ensures in
     elim c.match-log_step.branch [
       | in-Ok w ↦ same-told a x y g (after_log g.past) refl (rw w.in-Ok.is at step.ok (setting_from a g.first) g.past g.tells) step.layout (rw w.in-Ok.is at step.running).1
-          (called_of a g.first x.known.layout g.past Logging x.disk y.disk g.tells.setting (step.shown (setting_from a g.first) g.past g.tells) g.of_schema)
+          (called_of a g.first g.past Logging x y.disk g.tells g.running (step.shown (setting_from a g.first) g.past g.tells) g.of_schema)
       | in-Err+in_ok-refused_call-in-Err w ↦
           let told = sym w.refused_call.ensures ∙ w.in_ok-refused_call-in-Err.was in
           let same : y ≡ x = told-unchanged x y w.in-Err.why w.in_ok-refused_call-in-Err.field-0 told (rw w.in-Err.is at step.refused) in

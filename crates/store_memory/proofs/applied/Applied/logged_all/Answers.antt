@@ -6,7 +6,7 @@ use Rattle.heap_model.specs.Log.{value, log_from}
 use Rattle.store_memory.specs.declared.states.FieldState.{FieldState}
 use Rattle.store_past.specs.Past.{has_store, after_log}
 use Rattle.store_memory.specs.Dirty.{is_dirty_in}
-use Rattle.store_memory.specs.Memory.{Memory, field_in, value_in, guard_in}
+use Rattle.store_memory.specs.Memory.{Memory, field_in, value_in, guard_in, is_logged_in}
 use Rattle.store_memory.specs.Remembers.{Remembers}
 use Rattle.store_memory.specs.Limits.{FitWords}
 use Rattle.store_memory.specs.Within.{memory_of}
@@ -28,6 +28,7 @@ invariant_of-self c =
           (subst (λ (xs : List FieldState). (f : ℕ) → f < length xs → (field_in c.log_all.new.fields f).logged ≡ value (λ g. (field_in xs g).logged) f (log_from c.records.result.now)) c.deref_mut.ensures.value c.log_all.ensures.logged))
           (subst (λ (xs : List FieldState). (f : ℕ) → value_in c.log_all.new.fields f ≡ value_in xs f) c.deref_mut.ensures.value c.log_all.ensures.values)
           (subst (λ (xs : List FieldState). (f : ℕ) → guard_in c.log_all.new.fields f ≡ guard_in xs f) c.deref_mut.ensures.value c.log_all.ensures.guards)
+          (subst (λ (xs : List FieldState). (f : ℕ) → is_logged_in c.log_all.new.fields f ≡ is_logged_in xs f) c.deref_mut.ensures.value c.log_all.ensures.marks)
           (subst (λ (xs : List LaneRecord). (f : ℕ) → f < c.self.inside.dirty.fields → is_dirty_in c.log_all.new.dirty f ≡ (if is_dirty_in c.self.inside.dirty f then true else has_store f (log_from xs))) c.records.ensures c.log_all.ensures.dirty)
           c.log_all.ensures.dirty_fields);
       within = c.self.invariant.within;
@@ -48,5 +49,6 @@ returns-clause-logged c = λ s p was.
     (subst (λ (xs : List FieldState). (f : ℕ) → f < length xs → (field_in c.log_all.new.fields f).logged ≡ value (λ g. (field_in xs g).logged) f (log_from c.records.result.now)) c.deref_mut.ensures.value c.log_all.ensures.logged))
     (subst (λ (xs : List FieldState). (f : ℕ) → value_in c.log_all.new.fields f ≡ value_in xs f) c.deref_mut.ensures.value c.log_all.ensures.values)
     (subst (λ (xs : List FieldState). (f : ℕ) → guard_in c.log_all.new.fields f ≡ guard_in xs f) c.deref_mut.ensures.value c.log_all.ensures.guards)
+    (subst (λ (xs : List FieldState). (f : ℕ) → is_logged_in c.log_all.new.fields f ≡ is_logged_in xs f) c.deref_mut.ensures.value c.log_all.ensures.marks)
     (subst (λ (xs : List LaneRecord). (f : ℕ) → f < c.self.inside.dirty.fields → is_dirty_in c.log_all.new.dirty f ≡ (if is_dirty_in c.self.inside.dirty f then true else has_store f (log_from xs))) c.records.ensures c.log_all.ensures.dirty)
     c.log_all.ensures.dirty_fields)

@@ -1,0 +1,48 @@
+-- How the writes of a disk are told to its host: one that goes on where the last one ended is told with it (this project's own).
+use Rattle.std.specs.Prelude.{ℕ, ◌+◌, ◌==◌, ◌&&◌, nat_le, if◌then◌else◌, Bool, false, List, [], ◌∷◌, ◌++◌, length}
+use Rattle.block_disk.specs.Memory.{Stop, Wrote, WriteFailed, Synced, SyncFailed, Fits}
+use Rattle.deferred_disk.specs.declared.call.TheConstants.{MOST_BYTES}
+
+-- a write of so many more bytes at this place goes on where that stop ended, and both together have MOST_BYTES at most
+abbrev pub goes_on_with : Stop → (at more : ℕ) → Bool
+goes_on_with (Wrote from bytes) at more = (from + length bytes == at) && nat_le (length bytes + more) MOST_BYTES
+goes_on_with (WriteFailed from len) at more = false
+goes_on_with Synced at more = false
+goes_on_with SyncFailed at more = false
+
+-- the write of these bytes too, behind its own
+abbrev pub longer : Stop → List ℕ → Stop
+longer (Wrote from bytes) more = Wrote from (bytes ++ more)
+longer (WriteFailed from len) more = WriteFailed from len
+longer Synced more = Synced
+longer SyncFailed more = SyncFailed
+
+-- these calls, the newest first, and one more write: as one with the newest, if it goes on where that ended
+abbrev pub join_write : (at : ℕ) → List ℕ → List Stop → List Stop
+join_write at more [] = Wrote at more ∷ []
+join_write at more (newest ∷ older) = if goes_on_with newest at (length more) then longer newest more ∷ older else Wrote at more ∷ newest ∷ older
+
+-- these calls, and one more
+abbrev pub join : Stop → List Stop → List Stop
+join (Wrote at more) calls = join_write at more calls
+join (WriteFailed at len) calls = WriteFailed at len ∷ calls
+join Synced calls = Synced ∷ calls
+join SyncFailed calls = SyncFailed ∷ calls
+
+-- the calls that these stops are told as, both the newest first
+abbrev pub joined : List Stop → List Stop
+joined [] = []
+joined (stop ∷ older) = join stop (joined older)
+
+-- the newest call is a sync, if there is one
+abbrev pub IsAtSync : List Stop → Type 0
+IsAtSync [] = Unit {0}
+IsAtSync (Wrote at bytes ∷ older) = ⊥
+IsAtSync (WriteFailed at len ∷ older) = ⊥
+IsAtSync (Synced ∷ older) = Unit {0}
+IsAtSync (SyncFailed ∷ older) = ⊥
+
+-- each of them lies within a device of this size
+abbrev pub AllFit : ℕ → List Stop → Type 0
+AllFit size [] = Unit {0}
+AllFit size (stop ∷ older) = Fits size stop × AllFit size older

@@ -1,0 +1,44 @@
+//! The version of an image, by its control.
+ghost use Rattle.std.specs.Prelude.{◌≡◌, ◌<◌, ◌⊎◌, ℕ, MatchResult, IfErr, length, false, true};
+ghost use Rattle.undo_log.specs.StandsFor.{is_transient_in};
+ghost use Rattle.recover.specs.declared.error.RecoverError.TheVariants.{BadControl, OldVersion};
+
+use crate::error::RecoverError;
+use image::{Control, GuardRow, OLD_VERSION};
+
+/// Tests that a control of version 1, which is from before there were transient fields, stands with no marked row.
+pub fn test_marks(control: &Control, guards: &[GuardRow]) -> Result<(), RecoverError>
+    ensures exact { MatchResult result (λ _. control.now.version ≡ 1 → (f : ℕ) → is_transient_in guards.now f ≡ false)
+        (λ e. (control.now.version ≡ 1) × ((f : ℕ) × (is_transient_in guards.now f ≡ true))) }
+    ensures only { IfErr result (λ e. e ≡ BadControl) }
+{
+    if control.version == OLD_VERSION && has_transient(guards) {
+        return Err(RecoverError::BadControl);
+    }
+    Ok(())
+}
+
+/// Tests that the control is of the version that is read, 2.
+pub fn test_version(control: &Control) -> Result<(), RecoverError>
+    requires { (control.now.version ≡ 1) ⊎ (control.now.version ≡ 2) }
+    ensures exact { MatchResult result (λ _. control.now.version ≡ 2) (λ _. control.now.version ≡ 1) }
+    ensures only { IfErr result (λ e. e ≡ OldVersion) }
+{
+    if control.version == OLD_VERSION {
+        return Err(RecoverError::OldVersion);
+    }
+    Ok(())
+}
+
+// Whether a row is marked.
+fn has_transient(guards: &[GuardRow]) -> bool
+    ensures some { result ≡ true → (f : ℕ) × (is_transient_in guards.now f ≡ true) }
+    ensures none { result ≡ false → (f : ℕ) → is_transient_in guards.now f ≡ false }
+{
+    for row in guards {
+        if row.transient {
+            return true;
+        }
+    }
+    false
+}

@@ -1,0 +1,79 @@
+//! A store whose schema has a transient field.
+
+use crate::step_tests::{Told, acq, adopted, first_other, one, put, rel};
+use block_disk::MemDisk;
+use durable::{Store, StoreCall, StoreError};
+use guards::{Schema, SchemaBuilder};
+use heap_model::{FieldId, ObjectId};
+use std::alloc::Global;
+
+// The common schema with a transient field more, guarded by the first object.
+fn schema_or_none(alloc: Global) -> Option<Schema> {
+    let mut builder = SchemaBuilder::new(alloc);
+    builder.object("o0").ok()?;
+    builder.object("o1").ok()?;
+    builder.object("o2").ok()?;
+    builder.object("o3").ok()?;
+    builder.field(ObjectId(0), "f0", ObjectId(0), 10).ok()?;
+    builder.field(ObjectId(1), "f1", ObjectId(1), 20).ok()?;
+    builder.transient(ObjectId(0), "f2", ObjectId(0), 30).ok()?;
+    builder.build().ok()
+}
+
+// A store of it, on a device as large as its image with 2 lanes of 4,000 records.
+fn fresh(alloc: Global) -> Option<Store<MemDisk>> {
+    let disk = MemDisk::new(alloc, 130_232).ok()?;
+    match schema_or_none(alloc) {
+        Some(schema) => adopted(alloc, disk, &schema, 2, 4000, 9),
+        None => None,
+    }
+}
+
+// The values of its fields.
+fn values(store: &Store<MemDisk>) -> Option<[u64; 3]> {
+    if store.layout().fields < 3 {
+        return None;
+    }
+    Some([
+        store.heap_value(FieldId(0)),
+        store.heap_value(FieldId(1)),
+        store.heap_value(FieldId(2)),
+    ])
+}
+
+// Its steps: a section that stores to a field, and would to the transient one.
+fn steps() -> [Told; 8] {
+    let refused = (one(put(2, 30, 31)), Err(StoreError::BadId));
+    [
+        refused,
+        (one(acq(0, 0)), Ok(())),
+        refused,
+        (one(put(0, 10, 5)), Ok(())),
+        (one(rel(0, 0)), Ok(())),
+        (StoreCall::Log, Ok(())),
+        (StoreCall::Home, Ok(())),
+        (StoreCall::Settle, Ok(())),
+    ]
+}
+
+// Whether each step answers as it is to, and the values then.
+type Answered = (bool, Option<[u64; 3]>);
+
+fn answered(store: &mut Store<MemDisk>) -> Answered {
+    let are_so = first_other(store, &steps()).is_none();
+    (are_so, values(store))
+}
+
+// The same of a fresh store, and whether it is closed then.
+fn told_of_steps(alloc: Global) -> Option<(Answered, bool)> {
+    let mut store = fresh(alloc)?;
+    let found = answered(&mut store);
+    Some((found, store.close().is_ok()))
+}
+
+// A store of it is no record, whoever holds its guard; it keeps its first value.
+#[test]
+fn a_transient_field_keeps_its_first_value(rt: HostRuntime) {
+    let wanted = ((true, Some([5, 20, 30])), true);
+    assert!(rt; told_of_steps(rt.alloc()) == Some(wanted));
+}

@@ -1,0 +1,26 @@
+-- What a session answers by what it has seen of a stop.
+use Rattle.std.proofs.Common.{◌≡◌, ℕ, Bool, true, false, Option, Some, None, IsSome, ◌∙◌, subst}
+use Rattle.std.specs.Option.{is_some}
+use Rattle.hosted_heap.specs.Failing.{HasTold, failed_call}
+use Rattle.hosted_heap.specs.Hosting.{Hosting}
+use Rattle.hosted_heap.specs.declared.error.FailedCall.{FailedCall}
+use Rattle.hosted_heap.specs.declared.error.FailedCall.TheVariants.{Sync}
+use Rattle.zelamiku.specs.Behind.{heap_behind}
+use Rattle.zelamiku.specs.Own.{Held}
+use Rattle.zelamiku.specs.StopDoors.{AfterFailure, FailsCallAt, UnlessSeen}
+use Rattle.zelamiku.specs.declared.state.Open.TheVariants as kind
+use Rattle.zelamiku.specs.declared.status.TheConstants.{STOPPED}
+
+pub seen_stop : (seen : Option Bool) (there after : Held) (status : ℕ) (call : Type 0) → is_some seen ≡ true → status ≡ STOPPED → after ≡ there → UnlessSeen seen there after status call
+seen_stop None there after status call is told same = absurd cc
+seen_stop (Some written) there after status call is told same = (told, same)
+
+pub unseen_stop : (seen : Option Bool) (there after : Held) (status : ℕ) (call : Type 0) → is_some seen ≡ false → call → UnlessSeen seen there after status call
+unseen_stop None there after status call is told = told
+unseen_stop (Some written) there after status call is told = absurd cc
+
+-- a heap was told of the call that is the first of those that are left
+pub failed_at : (x y : Hosting) (o : Option FailedCall) (after : Held) (status : ℕ) → o ≡ failed_call x.calls.left → HasTold x y → (o ≡ Some Sync → IsSome y.stop.seen) → AfterFailure o (heap_behind x) after status
+    → FailsCallAt (kind.Heap x) after status
+failed_at x y o after status is same written told =
+    (record { told = y; same = same; written = λ sync. written (is ∙ sync) }, subst (λ (p : Option FailedCall). AfterFailure p (heap_behind x) after status) is told)

@@ -1,0 +1,20 @@
+//! What C calls where a call of the device couldn't be made.
+ghost use Rattle.zelamiku.specs.Behind.{Answers};
+ghost use Rattle.zelamiku.specs.StopDoors.{FailsCallAt};
+
+use crate::slot::{Slot, put, take};
+use crate::{status, stop_calls};
+use std::alloc::Global;
+
+/// The host couldn't make the call of the device that it was told.
+#[unsafe(no_mangle)]
+pub extern "C" fn zelamiku_call_failed(alloc: Global, place: &mut Slot) -> u32
+    ensures { Answers FailsCallAt place.old.handle.state place.new.handle.state result }
+{
+    let Some(mut state) = take(alloc, place) else {
+        return status::CLOSED;
+    };
+    let answer = stop_calls::call_failed(&mut state);
+    put(place, state);
+    answer
+}
