@@ -91,6 +91,7 @@ line_keeps order.Heap old new line asks h is = absurd h
 line_keeps (order.Crash fill back) old new line asks h is = absurd h
 line_keeps order.Show old new line asks h is = absurd h
 line_keeps order.Recover old new line asks h is = absurd h
+line_keeps order.Upgrade old new line asks h is = absurd h
 
 lines_keep : (lines : List (List ℕ)) (old new : Declarations) → DeclaresLines old lines new → HasNames old → HasNames new
 lines_keep [] old new h is = subst HasNames (sym h) is

@@ -147,7 +147,6 @@ study_ended image s e ended front shows homes count =
     subst (λ (ls : ℕ → List UndoRecord). AreLegal (logged_guard_in e.guards.items) e.control.rows ls) (sym lanes) (legal_none (logged_guard_in e.guards.items) e.control.rows) in
     let holds : Holds image (held_by e) = record {
       control = record { front = front_there; shows = shows_there; marks = λ is. absurd (omega (arith, is, version)) };
-      version = version;
       logs = record { count = count ∙ ap (λ (l : Layout). l.lanes) (sym ended.layout_is); live = live };
       legal = legal;
     } in

@@ -53,7 +53,6 @@ study_kept s t old new has same shows =
     let rs : List Range = slot_range t ∷ [] in
     let holds : Holds new (held_by s) = record {
       control = record { front = front_survives l s.guards.items rs (slot_spared l t) old new has.holds.control.front same; shows = shows; marks = has.holds.control.marks };
-      version = has.holds.version;
       logs = logs_survive l s.control.rows s.records.items rs (slot_spared l t) old new has.holds.logs same;
       legal = has.holds.legal;
     } in

@@ -18,7 +18,7 @@ use Rattle.recover.specs.declared.error.RecoverError.{RecoverError}
 use Rattle.recover.specs.declared.error.RecoverError.TheVariants.{Fault, NotFormatted, BadHeader, TooSmall, NoControl, BadControl, OldVersion, Worn, BadRecord, IllegalLog, NoMemory}
 use Rattle.recover.specs.Logs.{records_of, lanes_of, AreLogs, AreLoggable, RefusesLogs, logged_guard_in}
 use Rattle.recover.specs.Settled.{RefusesLegal}
-use Rattle.recover.specs.Reading.{HasLayout, HasCurrent, RefusesFront, RefusesLive, RefusesImage}
+use Rattle.recover.specs.Reading.{HasLayout, HasControl, RefusesFront, RefusesLive, RefusesImage}
 use Rattle.live_logs.proofs.LaneLemmas.{records_past}
 
 pub refused_logs : (image : List ℕ) (l : Layout) (guards : List GuardRow) (c : Control) (e : RecoverError) → RefusesLogs l image c.rows e → RefusesLive image l guards c e
@@ -49,7 +49,7 @@ refused_legal image l guards c logs (IllegalLog lane place) are h = (logs, are, 
 refused_legal image l guards c logs NoMemory are h = tt
 
 -- what refuses the live records refuses the image
-pub refused_live : (image : List ℕ) (l : Layout) (guards : List GuardRow) (s : Slot) (c : Control) (e : RecoverError) → HasCurrent image l guards s c → RefusesLive image l guards c e → RefusesImage image e
+pub refused_live : (image : List ℕ) (l : Layout) (guards : List GuardRow) (s : Slot) (c : Control) (e : RecoverError) → HasControl image l guards s c → RefusesLive image l guards c e → RefusesImage image e
 refused_live image l guards s c Fault has h = tt
 refused_live image l guards s c NotFormatted has h = absurd h
 refused_live image l guards s c BadHeader has h = absurd h

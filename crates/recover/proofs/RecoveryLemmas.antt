@@ -1,5 +1,5 @@
 -- An image has one study, and recovery keeps its heap.
-use Rattle.std.proofs.Common.{ℕ, ◌≡◌, ◌∙◌, ◌+◌, ◌-◌, ◌^◌, List, [], ◌∷◌, reverse, sym, ap, subst, inl, inr, Result, Ok, Err, MatchResult}
+use Rattle.std.proofs.Common.{ℕ, ◌≡◌, ◌∙◌, ◌+◌, ◌-◌, ◌^◌, ◌⊎◌, List, [], ◌∷◌, reverse, refl, sym, ap, subst, inl, inr, Result, Ok, Err, MatchResult, OnOk}
 use Rattle.std.proofs.lemmas.List.{reverse-reverse}
 use Rattle.heap_model.specs.declared.ids.FieldId.{FieldId}
 use Rattle.heap_model.specs.declared.record.UndoRecord.{UndoRecord}
@@ -24,11 +24,13 @@ use Rattle.recover.specs.declared.error.RecoverError.{RecoverError}
 use Rattle.recover.specs.declared.error.RecoverError.TheVariants.{Fault, NotFormatted, BadHeader, TooSmall, NoControl, BadControl, OldVersion, Worn, BadRecord, IllegalLog, NoMemory}
 use Rattle.recover.specs.declared.findings.Findings.{Findings}
 use Rattle.recover.specs.declared.studied.Study.{Study}
+use Rattle.recover.specs.declared.versions.Versions.{Versions}
+use Rattle.recover.specs.declared.versions.Versions.TheVariants.{Current, Both}
 use Rattle.recover.specs.Ending.{end_calls}
 use Rattle.recover.specs.Logs.{lanes_of, records_of}
 use Rattle.recover.specs.Putting.{put_calls}
-use Rattle.recover.specs.Reading.{HasControl, HasCurrent, HasFront, RefusesLive}
-use Rattle.recover.specs.Recovery.{AreAlike, IsEnded, IsMadeBy, IsOnTheWay, IsWorn, OneStudyLaw, RefusesRecovery, SameHeapLaw, SameStudyLaw, put_back_on}
+use Rattle.recover.specs.Reading.{HasControl, HasFront, IsOfOldVersion, RefusesFront, RefusesLive}
+use Rattle.recover.specs.Recovery.{AreAlike, IsEnded, IsMadeBy, IsOnTheWay, IsTooOld, IsWorn, OneStudyLaw, RefusesOf, SameHeapLaw, SameStudyLaw, put_back_on}
 use Rattle.recover.specs.Study.{AreUndone, IsReportOf, IsStudyOf}
 use Rattle.recover.proofs.OneReport.{one_report}
 use Rattle.recover.proofs.SurvivalLemmas.{one_shown, one_logs}
@@ -101,7 +103,7 @@ study_moves bytes image a b p q is =
     (subst (λ (c : Control). HasLive a.layout image c.rows (lanes_of b.records.items)) same.controls
     (subst (λ (ls : ℕ → List UndoRecord). HasLive a.layout image a.control.rows ls) lanes is.holds.logs.live)) in
     record {
-      holds = record { control = record { front = front; shows = shows; marks = q.holds.control.marks }; version = q.holds.version; logs = record { count = q.holds.logs.count; live = live }; legal = q.holds.legal };
+      holds = record { control = record { front = front; shows = shows; marks = q.holds.control.marks }; logs = record { count = q.holds.logs.count; live = live }; legal = q.holds.legal };
       stands = subst (λ (l : Layout). StandsFor l image b.heap.items) same.layouts (subst (λ (heap : List ℕ). StandsFor a.layout image heap) same.heaps is.stands);
       reports = q.reports;
     }
@@ -129,28 +131,67 @@ way_moves bytes a b p q image (inr (e, ended, is)) = inr (e, ended_moves a b e (
 -- an image whose control has a sequence below the last isn't worn
 pub not_worn : (image : List ℕ) (l : Layout) (guards : List GuardRow) (s : Slot) (c : Control) → HasControl image l guards s c → (c.sequence ≡ 2 ^ 64 - 1 → ⊥) → IsWorn image → ⊥
 not_worn image l guards s c has low worn =
-    let layouts : worn.layout ≡ l = same_layout image worn.layout l worn.shown.has.front.layout.header has.front.layout.header in
-    let shown : Shows l image worn.slot worn.control = subst (λ (k : Layout). Shows k image worn.slot worn.control) layouts worn.shown.has.shows in
+    let layouts : worn.layout ≡ l = same_layout image worn.layout l worn.shown.front.layout.header has.front.layout.header in
+    let shown : Shows l image worn.slot worn.control = subst (λ (k : Layout). Shows k image worn.slot worn.control) layouts worn.shown.shows in
     let both : (let x : Slot × Control = (worn.slot, worn.control) in x ≡ (s, c)) = one_shown l image worn.slot s worn.control c shown has.shows in
     low (sym (ap (λ (x : Slot × Control). x.1.sequence) both) ∙ worn.last)
 
-refused_late : (image : List ℕ) (l : Layout) (guards : List GuardRow) (s : Slot) (c : Control) (e : RecoverError) → HasCurrent image l guards s c → (IsWorn image → ⊥) → RefusesLive image l guards c e → RefusesRecovery image e
-refused_late image l guards s c Fault has low h = tt
-refused_late image l guards s c NotFormatted has low h = absurd h
-refused_late image l guards s c BadHeader has low h = absurd h
-refused_late image l guards s c TooSmall has low h = absurd h
-refused_late image l guards s c NoControl has low h = absurd h
-refused_late image l guards s c BadControl has low h = absurd h
-refused_late image l guards s c OldVersion has low h = absurd h
-refused_late image l guards s c Worn has low h = absurd h
-refused_late image l guards s c (BadRecord lane place) has low h = (low, (l, guards, s, c, has, h))
-refused_late image l guards s c (IllegalLog lane place) has low h = (low, (l, guards, s, c, has, h))
-refused_late image l guards s c NoMemory has low h = tt
+-- nor is one of an old version whose control has another
+pub not_old : (v : Versions) (image : List ℕ) (l : Layout) (guards : List GuardRow) (s : Slot) (c : Control) → HasControl image l guards s c → (v ≡ Current → c.version ≡ 1 → ⊥) → IsTooOld v image → ⊥
+not_old Both image l guards s c has other old = old
+not_old Current image l guards s c has other old =
+    let layouts : old.layout ≡ l = same_layout image old.layout l old.shown.front.layout.header has.front.layout.header in
+    let shown : Shows l image old.slot old.control = subst (λ (k : Layout). Shows k image old.slot old.control) layouts old.shown.shows in
+    let both : (let x : Slot × Control = (old.slot, old.control) in x ≡ (s, c)) = one_shown l image old.slot s old.control c shown has.shows in
+    other refl (sym (ap (λ (x : Slot × Control). x.1.version) both) ∙ old.version)
 
-pub recoverable_if : (image : List ℕ) (l : Layout) (guards : List GuardRow) (s : Slot) (c : Control) (r : Result Findings RecoverError) → HasCurrent image l guards s c → (c.sequence ≡ 2 ^ 64 - 1 → ⊥) →
-    MatchResult r (λ found. IsStudyOf image found.study) (RefusesLive image l guards c) → MatchResult r (λ found. IsStudyOf image found.study) (RefusesRecovery image)
-recoverable_if image l guards s c (Ok found) has low h = h
-recoverable_if image l guards s c (Err e) has low h = refused_late image l guards s c e has (not_worn image l guards s c has.has low) h
+-- what refuses the front refuses the image
+pub refused_front : (v : Versions) (image : List ℕ) (e : RecoverError) → RefusesFront image e → RefusesOf v image e
+refused_front v image Fault h = tt
+refused_front v image NotFormatted h = h
+refused_front v image BadHeader h = h
+refused_front v image TooSmall h = h
+refused_front v image NoControl h = h
+refused_front v image BadControl h = h
+refused_front v image OldVersion h = absurd h
+refused_front v image Worn h = absurd h
+refused_front v image (BadRecord lane place) h = absurd h
+refused_front v image (IllegalLog lane place) h = absurd h
+refused_front v image NoMemory h = tt
+
+-- so does an old control, where the old version isn't taken
+pub refused_old : (v : Versions) (image : List ℕ) (l : Layout) (guards : List GuardRow) (s : Slot) (c : Control) (e : RecoverError) → HasControl image l guards s c → v ≡ Current → c.version ≡ 1 → e ≡ OldVersion → RefusesOf v image e
+refused_old v image l guards s c e has current old why =
+    let is : IsOfOldVersion image = record { layout = l; guards = guards; slot = s; control = c; shown = has; version = old } in
+    subst (λ (w : Versions). RefusesOf w image e) (sym current) (subst (RefusesOf Current image) (sym why) is)
+
+refused_late : (v : Versions) (image : List ℕ) (l : Layout) (guards : List GuardRow) (s : Slot) (c : Control) (e : RecoverError) → HasControl image l guards s c → (IsTooOld v image ⊎ IsWorn image → ⊥) → RefusesLive image l guards c e → RefusesOf v image e
+refused_late v image l guards s c Fault has low h = tt
+refused_late v image l guards s c NotFormatted has low h = absurd h
+refused_late v image l guards s c BadHeader has low h = absurd h
+refused_late v image l guards s c TooSmall has low h = absurd h
+refused_late v image l guards s c NoControl has low h = absurd h
+refused_late v image l guards s c BadControl has low h = absurd h
+refused_late v image l guards s c OldVersion has low h = absurd h
+refused_late v image l guards s c Worn has low h = absurd h
+refused_late v image l guards s c (BadRecord lane place) has low h = (low, (l, guards, s, c, has, h))
+refused_late v image l guards s c (IllegalLog lane place) has low h = (low, (l, guards, s, c, has, h))
+refused_late v image l guards s c NoMemory has low h = tt
+
+neither : {P Q : Type 0} → (P → ⊥) → (Q → ⊥) → P ⊎ Q → ⊥
+neither p q (inl is) = p is
+neither p q (inr is) = q is
+
+pub recoverable_if : (v : Versions) (image : List ℕ) (l : Layout) (guards : List GuardRow) (s : Slot) (c : Control) (r : Result Findings RecoverError) → HasControl image l guards s c → (v ≡ Current → c.version ≡ 1 → ⊥) → (c.sequence ≡ 2 ^ 64 - 1 → ⊥) →
+    MatchResult r (λ found. IsStudyOf image found.study) (RefusesLive image l guards c) → MatchResult r (λ found. IsStudyOf image found.study) (RefusesOf v image)
+recoverable_if v image l guards s c (Ok found) has current low h = h
+recoverable_if v image l guards s c (Err e) has current low h =
+    refused_late v image l guards s c e has (neither (not_old v image l guards s c has current) (not_worn image l guards s c has low)) h
+
+-- what holds anyway
+pub taken_if : {F E : Type 0} (r : Result F E) (P : Type 0) → P → OnOk r P
+taken_if (Ok found) P p = p
+taken_if (Err e) P p = tt
 
 -- Calls.
 

@@ -190,7 +190,6 @@ module _ (s : Study) (fields : List FieldId) (undone : AreUndone s.layout s.guar
           shows = shows_survives l s.slot s.control rs (apart_before l fields 64 2096 (omega arith)) old new has.holds.control.shows same;
           marks = has.holds.control.marks;
         };
-        version = has.holds.version;
         logs = logs_survive l s.control.rows s.records.items rs spared old new has.holds.logs same;
         legal = has.holds.legal;
       } in

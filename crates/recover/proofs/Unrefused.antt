@@ -1,5 +1,5 @@
 -- An image that has a study isn't refused.
-use Rattle.std.proofs.Common.{ℕ, zero, suc, ◌≡◌, ◌+◌, ◌<◌, ◌⊎◌, List, [], ◌∷◌, length, get_or, reverse, refl, sym, ap, ◌∙◌, subst, inl, inr, arith, Result, Ok, Err, Vec, Global, length-append, Option}
+use Rattle.std.proofs.Common.{ℕ, zero, suc, ◌≡◌, ◌+◌, ◌<◌, ◌⊎◌, List, [], ◌∷◌, length, get_or, reverse, refl, sym, ap, ◌∙◌, subst, inl, inr, arith, Result, Ok, Err, Vec, Global, length-append, Option, true, false}
 use Rattle.heap_model.specs.Log.{lane}
 use Rattle.heap_model.specs.declared.ids.ObjectId.{ObjectId}
 use Rattle.heap_model.specs.declared.record.UndoRecord.{UndoRecord}
@@ -17,9 +17,9 @@ use Rattle.image.specs.declared.layout.Layout.{Layout}
 use Rattle.image.specs.declared.slot.Slot.{Slot}
 use Rattle.image.proofs.Reading.{header_is_read, guards_are_read}
 use Rattle.undo_log.specs.Area.{HasRecord, HasRecords}
-use Rattle.undo_log.specs.StandsFor.{row_of, HasLive}
+use Rattle.undo_log.specs.StandsFor.{is_transient_in, row_of, HasLive}
 use Rattle.recover.specs.Logs.{AreLogs, IsBadAt, lanes_of, logged_guard_in}
-use Rattle.recover.specs.Reading.{HasLayout, HasControl, RefusesRows, RefusesImage}
+use Rattle.recover.specs.Reading.{HasFront, HasLayout, HasControl, HasStrayMark, RefusesRows, RefusesImage}
 use Rattle.recover.specs.Recovery.{StudiedLaw}
 use Rattle.live_logs.specs.Replay.{IsStuckAt, Replays}
 use Rattle.recover.specs.Settled.{AreLegal, IsIllegalAt, Stuck, Restless, Crossing}
@@ -108,6 +108,15 @@ module _ (image : List ℕ) (s : Study) (of : IsStudyOf image s) where
   no_guards : (m : Layout) → HasLayout image m → RefusesRows m image BadHeader → ⊥
   no_guards m has bad = bad s.guards.items (subst (λ (k : Layout). HasGuards k image s.guards.items) (sym (one_header m has.header)) of.holds.control.front.guards_are)
 
+  -- nor is a row marked beside an old control
+  no_stray : (m : Layout) (guards : List GuardRow) → HasFront image m guards → HasStrayMark image m guards → ⊥
+  no_stray m guards front stray =
+      let is : m ≡ s.layout = one_header m front.layout.header in
+      let same : guards ≡ s.guards.items = guards_are_read s.layout image guards s.guards.items (subst (λ (k : Layout). HasGuards k image guards) is front.guards_are) of.holds.control.front.guards_are in
+      let old : s.control.version ≡ 1 = sym (one_version m stray.slot stray.control is stray.shows) ∙ stray.version in
+      let unmarked : is_transient_in guards stray.field ≡ false = subst (λ (gs : List GuardRow). is_transient_in gs stray.field ≡ false) (sym same) (of.holds.control.marks old stray.field) in
+      absurd (let both : true ≡ false = sym stray.marked ∙ unmarked in cc)
+
   not_refused : (e : RecoverError) → RefusesImage image e → (e ≡ Fault) ⊎ (e ≡ NoMemory)
   not_refused Fault h = inl refl
   not_refused NotFormatted h = elim (layout_read (Err image_error.NotFormatted) h) [ inl is ↦ absurd cc | inr is ↦ absurd cc ]
@@ -117,12 +126,12 @@ module _ (image : List ℕ) (s : Study) (of : IsStudyOf image s) where
   not_refused NoControl h = absurd (h.3 s.slot of.holds.control.shows.is_open)
   not_refused BadControl h = elim h.3 [
     | inl none ↦ absurd (none.1 s.slot s.control (subst (λ (k : Layout). Shows k image s.slot s.control) (sym (one_header h.0 h.2.layout.header)) of.holds.control.shows))
-    | inr stray ↦ absurd (omega (arith, stray.version, of.holds.version, one_version h.0 stray.slot stray.control (one_header h.0 h.2.layout.header) stray.shows))
+    | inr stray ↦ absurd (no_stray h.0 h.1 h.2 stray)
   ]
-  not_refused OldVersion h = absurd (omega (arith, h.version, of.holds.version, one_version h.layout h.slot h.control (one_header h.layout h.shown.front.layout.header) h.shown.shows))
+  not_refused OldVersion h = absurd h
   not_refused Worn h = absurd h
-  not_refused (BadRecord lane place) h = absurd (not_bad h.0 h.1 h.2 h.3 h.4.has lane.0 place h.5.0 h.5.1)
-  not_refused (IllegalLog lane place) h = absurd (legal_logs h.0 h.1 h.2 h.3 h.4.has h.5.0 h.5.1 lane.0 place h.5.2)
+  not_refused (BadRecord lane place) h = absurd (not_bad h.0 h.1 h.2 h.3 h.4 lane.0 place h.5.0 h.5.1)
+  not_refused (IllegalLog lane place) h = absurd (legal_logs h.0 h.1 h.2 h.3 h.4 h.5.0 h.5.1 lane.0 place h.5.2)
   not_refused NoMemory h = inr refl
 
 pub studied : StudiedLaw

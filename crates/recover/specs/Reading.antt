@@ -66,11 +66,6 @@ pub record HasStrayMark (image : List ℕ) (l : Layout) (guards : List GuardRow)
   pub field : ℕ
   pub marked : is_transient_in guards field ≡ true
 
--- the image has these, and its control is of the version that is read
-pub record HasCurrent (image : List ℕ) (l : Layout) (guards : List GuardRow) (s : Slot) (c : Control) : Type 0 where
-  pub has : HasControl image l guards s c
-  pub version : c.version ≡ 2
-
 -- nothing is wrong with the image's front, but that its control is of version 1
 pub record IsOfOldVersion (image : List ℕ) : Type 0 where
   pub layout : Layout
@@ -80,10 +75,9 @@ pub record IsOfOldVersion (image : List ℕ) : Type 0 where
   pub shown : HasControl image layout guards slot control
   pub version : control.version ≡ 1
 
--- what the image holds, where nothing is wrong with it
+-- what the image holds, of whichever version, where nothing is wrong with it
 pub record Holds (image : List ℕ) (found : LoggedImage) : Type 0 where
   pub control : HasControl image found.layout found.guards.items found.slot found.control
-  pub version : found.control.version ≡ 2
   pub logs : AreLogs found.layout image found.control.rows found.records.items
   pub legal : AreLegal (logged_guard_in found.guards.items) found.control.rows (lanes_of found.records.items)
 
@@ -102,18 +96,6 @@ RefusesFront image BadControl = (l : Layout) × (guards : List GuardRow) × HasF
 RefusesFront image NoMemory = Unit {0}
 RefusesFront image _ = ⊥
 
--- what each refusal to read the front of an image of the version that is read says of it
-abbrev pub RefusesCurrent : List ℕ → RecoverError → Type 0
-RefusesCurrent image Fault = Unit {0}
-RefusesCurrent image NotFormatted = RefusesFront image NotFormatted
-RefusesCurrent image BadHeader = RefusesFront image BadHeader
-RefusesCurrent image TooSmall = RefusesFront image TooSmall
-RefusesCurrent image NoControl = RefusesFront image NoControl
-RefusesCurrent image BadControl = RefusesFront image BadControl
-RefusesCurrent image OldVersion = IsOfOldVersion image
-RefusesCurrent image NoMemory = Unit {0}
-RefusesCurrent image _ = ⊥
-
 -- to read and to replay the live records of an image with this layout, these guard rows and this control
 abbrev pub RefusesLive : List ℕ → Layout → List GuardRow → Control → RecoverError → Type 0
 RefusesLive image l guards c Fault = Unit {0}
@@ -123,7 +105,7 @@ RefusesLive image l guards c (IllegalLog lane place) =
 RefusesLive image l guards c NoMemory = Unit {0}
 RefusesLive image l guards c _ = ⊥
 
--- what each refusal to study an image says of it: the first test that it doesn't pass
+-- what each refusal to study an image says of it: the first test that it doesn't pass; either version is studied
 abbrev pub RefusesImage : List ℕ → RecoverError → Type 0
 RefusesImage image Fault = Unit {0}
 RefusesImage image NotFormatted = RefusesFront image NotFormatted
@@ -131,10 +113,10 @@ RefusesImage image BadHeader = RefusesFront image BadHeader
 RefusesImage image TooSmall = RefusesFront image TooSmall
 RefusesImage image NoControl = RefusesFront image NoControl
 RefusesImage image BadControl = RefusesFront image BadControl
-RefusesImage image OldVersion = IsOfOldVersion image
+RefusesImage image OldVersion = ⊥
 RefusesImage image Worn = ⊥
 RefusesImage image (BadRecord lane place) =
-    (l : Layout) × (guards : List GuardRow) × (s : Slot) × (c : Control) × HasCurrent image l guards s c × RefusesLive image l guards c (BadRecord lane place)
+    (l : Layout) × (guards : List GuardRow) × (s : Slot) × (c : Control) × HasControl image l guards s c × RefusesLive image l guards c (BadRecord lane place)
 RefusesImage image (IllegalLog lane place) =
-    (l : Layout) × (guards : List GuardRow) × (s : Slot) × (c : Control) × HasCurrent image l guards s c × RefusesLive image l guards c (IllegalLog lane place)
+    (l : Layout) × (guards : List GuardRow) × (s : Slot) × (c : Control) × HasControl image l guards s c × RefusesLive image l guards c (IllegalLog lane place)
 RefusesImage image NoMemory = Unit {0}

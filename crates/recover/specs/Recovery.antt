@@ -16,10 +16,12 @@ use Rattle.recover.specs.declared.error.RecoverError.{RecoverError}
 use Rattle.recover.specs.declared.error.RecoverError.TheVariants.{Fault, NotFormatted, BadHeader, TooSmall, NoControl, BadControl, OldVersion, Worn, BadRecord, IllegalLog, NoMemory}
 use Rattle.recover.specs.declared.report.Report.{Report}
 use Rattle.recover.specs.declared.studied.Study.{Study}
+use Rattle.recover.specs.declared.versions.Versions.{Versions}
+use Rattle.recover.specs.declared.versions.Versions.TheVariants.{Current, Both}
 use Rattle.recover.specs.Ending.{end_calls}
 use Rattle.recover.specs.Logs.{lanes_of, records_of}
 use Rattle.recover.specs.Putting.{put_calls}
-use Rattle.recover.specs.Reading.{HasCurrent, RefusesImage}
+use Rattle.recover.specs.Reading.{HasControl, IsOfOldVersion, RefusesImage}
 use Rattle.recover.specs.Study.{AreUndone, IsStudyOf}
 
 -- the study of an image once it was recovered: nothing is logged, and the heap is the same
@@ -76,22 +78,36 @@ pub record IsWorn (image : List ℕ) : Type 0 where
   pub guards : List GuardRow
   pub slot : Slot
   pub control : Control
-  pub shown : HasCurrent image layout guards slot control
+  pub shown : HasControl image layout guards slot control
   pub last : control.sequence ≡ 2 ^ 64 - 1
 
--- what each refusal to recover an image says of it: the first test that it doesn't pass; the control is tested before the records
+-- the image is of a version that isn't among these: recovery takes the current one alone, an upgrade the old one too
+abbrev pub IsTooOld : Versions → List ℕ → Type 0
+IsTooOld Current image = IsOfOldVersion image
+IsTooOld Both image = ⊥
+
+-- what each refusal to recover an image of these versions says of it: the first test that it doesn't pass; the control is
+-- tested before the records
+abbrev pub RefusesOf : Versions → List ℕ → RecoverError → Type 0
+RefusesOf v image Fault = Unit {0}
+RefusesOf v image NotFormatted = RefusesImage image NotFormatted
+RefusesOf v image BadHeader = RefusesImage image BadHeader
+RefusesOf v image TooSmall = RefusesImage image TooSmall
+RefusesOf v image NoControl = RefusesImage image NoControl
+RefusesOf v image BadControl = RefusesImage image BadControl
+RefusesOf v image OldVersion = IsTooOld v image
+RefusesOf v image Worn = (IsTooOld v image → ⊥) × IsWorn image
+RefusesOf v image (BadRecord lane place) = (IsTooOld v image ⊎ IsWorn image → ⊥) × RefusesImage image (BadRecord lane place)
+RefusesOf v image (IllegalLog lane place) = (IsTooOld v image ⊎ IsWorn image → ⊥) × RefusesImage image (IllegalLog lane place)
+RefusesOf v image NoMemory = Unit {0}
+
+-- to recover an image
 abbrev pub RefusesRecovery : List ℕ → RecoverError → Type 0
-RefusesRecovery image Fault = Unit {0}
-RefusesRecovery image NotFormatted = RefusesImage image NotFormatted
-RefusesRecovery image BadHeader = RefusesImage image BadHeader
-RefusesRecovery image TooSmall = RefusesImage image TooSmall
-RefusesRecovery image NoControl = RefusesImage image NoControl
-RefusesRecovery image BadControl = RefusesImage image BadControl
-RefusesRecovery image OldVersion = RefusesImage image OldVersion
-RefusesRecovery image Worn = IsWorn image
-RefusesRecovery image (BadRecord lane place) = (IsWorn image → ⊥) × RefusesImage image (BadRecord lane place)
-RefusesRecovery image (IllegalLog lane place) = (IsWorn image → ⊥) × RefusesImage image (IllegalLog lane place)
-RefusesRecovery image NoMemory = Unit {0}
+RefusesRecovery image e = RefusesOf Current image e
+
+-- to upgrade one: the same in the same order, but that no image is too old
+abbrev pub RefusesUpgrade : List ℕ → RecoverError → Type 0
+RefusesUpgrade image e = RefusesOf Both image e
 
 -- the device after old values were put back: a write of the home cell of each of these fields
 abbrev pub put_back_on : Study → List FieldId → Device → Device

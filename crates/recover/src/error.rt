@@ -26,7 +26,7 @@ pub enum RecoverError {
     /// version from before there were transient fields though some guard row tells of one.
     #[error("bad control")]
     BadControl,
-    /// The control is of version 1: the image is from before there were transient fields.
+    /// The control is of version 1: the image is from before there were transient fields, and has to be upgraded first.
     #[error("old version")]
     OldVersion,
     /// The control's sequence is at its last value, 2^64 - 1, so that no other can be committed.

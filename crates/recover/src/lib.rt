@@ -3,7 +3,9 @@
 //! [`study`] reads an image of which nothing is known, and refuses it by the first thing that is wrong with it: header,
 //! guard rows, control, records, or logs that no threads can have left. Else it tells what the image holds, the heap that
 //! it stands for, and which sections are kept and dropped. [`recover`] puts that heap into the home cells and empties the
-//! logs; a crash at any moment of it leaves an image that stands for the same heap.
+//! logs; a crash at any moment of it leaves an image that stands for the same heap. An image of the version before, which had
+//! no transient fields, is read as one that has none, and refused by [`recover`]: [`upgrade`] does what recovery does of it
+//! too, and so makes it one of the current version, in place.
 #![tactic(auto)]
 
 mod check;
@@ -28,10 +30,12 @@ mod report;
 mod studied;
 mod studying;
 mod version;
+mod versions;
 
 pub use error::RecoverError;
 pub use laws::{one_study_law, same_heap_law, studied_law, study_law, transient_law};
-pub use recovering::recover;
+pub use recovering::{recover, recover_of, upgrade};
 pub use report::{Dropped, Report, Why};
 pub use studied::Study;
 pub use studying::study;
+pub use versions::Versions;

@@ -5,7 +5,7 @@ ghost use Rattle.image.specs.Guards.{HasGuards};
 ghost use Rattle.image.specs.Layout.{IsLayout, size_of};
 ghost use Rattle.image.specs.Slots.{Shows};
 ghost use Rattle.recover.specs.Logs.{lanes_of, logged_guard_in};
-ghost use Rattle.recover.specs.Reading.{HasControl, HasCurrent, HasLayout, Holds, RefusesControl, RefusesCurrent, RefusesFront, RefusesLayout, RefusesLive, RefusesRows};
+ghost use Rattle.recover.specs.Reading.{HasControl, HasLayout, Holds, RefusesControl, RefusesFront, RefusesLayout, RefusesLive, RefusesRows};
 ghost use Rattle.live_logs.specs.Replay.{Replays};
 ghost use Rattle.live_logs.specs.Tables.{IsLow, log_of};
 ghost use Rattle.recover.specs.declared.error.RecoverError.TheVariants.{Fault};
@@ -16,14 +16,15 @@ use crate::front::Front;
 use crate::logged_image::LoggedImage;
 use crate::logs::read_logs;
 use crate::replayed::Replayed;
-use crate::version::{test_marks, test_version};
+use crate::version::test_marks;
 use block_disk::Disk;
 use image::{
     Control, GuardRow, ImageError, Layout, Slot, choose_control, read_guards, read_header,
 };
 use std::alloc::Global;
 
-/// Reads what the image on the device, of which nothing has to be known, holds before its lanes' areas.
+/// Reads what the image on the device, of which nothing has to be known, holds before its lanes' areas, whichever its
+/// version is.
 ///
 /// Refusals, in this order (docs/FORMAT.md, "Which image is refused"); the device is left as it was:
 /// - `NotFormatted`: the device has fewer than 64 bytes, the name isn't there, or the header's gate is closed;
@@ -54,19 +55,6 @@ pub fn read_front<D: Disk>(alloc: Global, disk: &mut D) -> Result<Front, Recover
     })
 }
 
-/// Reads the same of an image of the version that is read.
-///
-/// Refusals: those of [`read_front`], in their order, and then `OldVersion`: the control is of version 1.
-pub fn read_current<D: Disk>(alloc: Global, disk: &mut D) -> Result<Front, RecoverError>
-    ensures exact { MatchResult result (λ f. HasCurrent (D.device disk.old).now.bytes f.layout f.guards.items f.slot f.control) (RefusesCurrent (D.device disk.old).now.bytes) }
-    ensures same { SameMoments (D.device disk.old) (D.device disk.new) }
-    ensures cause { HasCause (D.device disk.old).failures (D.device disk.new).failures Fault result }
-{
-    let front = read_front(alloc, disk)?;
-    test_version(&front.control)?;
-    Ok(front)
-}
-
 /// Reads the live records of the image with this front, and replays them.
 ///
 /// Refusals, in this order; the device is left as it was:
@@ -79,7 +67,7 @@ pub fn read_live<D: Disk>(
     disk: &mut D,
     front: Front,
 ) -> Result<Replayed, RecoverError>
-    requires { HasCurrent (D.device disk.old).now.bytes front.layout front.guards.items front.slot front.control }
+    requires { HasControl (D.device disk.old).now.bytes front.layout front.guards.items front.slot front.control }
     ensures exact { MatchResult result (λ r. Holds (D.device disk.old).now.bytes r.image) (RefusesLive (D.device disk.old).now.bytes front.layout front.guards.items front.control) }
     ensures control { IfOk result (λ r. r.image.control ≡ front.control) }
     ensures replays { IfOk result (λ r. Replays (logged_guard_in r.image.guards.items) (lanes_of r.image.records.items) (log_of r.steps.items)) }

@@ -1,4 +1,4 @@
-//! Recovering an image: old values are put back, and then nothing counts of what was logged.
+//! Recovering an image, or upgrading it: old values are put back, and then nothing counts of what was logged.
 ghost use Rattle.std.specs.Prelude.{◌≡◌, ◌⊎◌, ◌+◌, ◌-◌, ◌<◌, ◌≤◌, ◌^◌, [], IfErr, IfOk, MatchResult, OnErr, OnOk};
 ghost use Rattle.block_disk.specs.Device.{HasCause, HasFailed, SameMoments, synced};
 ghost use Rattle.block_disk.specs.Images.{LeavesOnly};
@@ -7,7 +7,8 @@ ghost use Rattle.image.specs.Recovered.{IsRecovered};
 ghost use Rattle.image.specs.Slots.{other};
 ghost use Rattle.recover.specs.Ending.{end_calls};
 ghost use Rattle.recover.specs.Logs.{lanes_of};
-ghost use Rattle.recover.specs.Recovery.{IsCutOff, IsMadeBy, IsOnTheWay, IsRecovery, LeavesOnTheWay, RefusesRecovery, put_back_on};
+ghost use Rattle.recover.specs.Reading.{IsOfOldVersion};
+ghost use Rattle.recover.specs.Recovery.{IsCutOff, IsMadeBy, IsOnTheWay, IsRecovery, IsTooOld, LeavesOnTheWay, RefusesOf, RefusesRecovery, RefusesUpgrade, put_back_on};
 ghost use Rattle.recover.specs.Study.{AreUndone, IsStudyOf};
 ghost use Rattle.recover.specs.declared.error.RecoverError.TheVariants.{Fault};
 ghost use Rattle.recover.specs.declared.studied.Study.{Study as Shape};
@@ -17,10 +18,12 @@ use crate::ending::end_recovery;
 use crate::error::RecoverError;
 use crate::findings::Findings;
 use crate::putting::put_back;
-use crate::reading::read_current;
+use crate::reading::read_front;
 use crate::report::Report;
 use crate::studied::Study;
 use crate::studying::find_out;
+use crate::version::test_version;
+use crate::versions::Versions;
 use block_disk::Disk;
 use image::Recovered;
 use std::alloc::Global;
@@ -34,13 +37,15 @@ use std::alloc::Global;
 ///
 /// Refusals, in this order, each with the device (docs/FORMAT.md, "Which image is refused"); but for the last nothing
 /// was done but the first sync:
-/// - `NotFormatted`, `BadHeader`, `TooSmall`, `NoControl`, `BadControl`, `OldVersion`: as of [`study`](crate::study);
+/// - `NotFormatted`, `BadHeader`, `TooSmall`, `NoControl`, `BadControl`: as of [`study`](crate::study);
+/// - `OldVersion`: the control is of version 1; [`upgrade`] takes such an image;
 /// - `Worn`: the control's sequence is at its last value, 2^64 - 1, so that no other can be committed;
 /// - `BadRecord`, `IllegalLog`: as of [`study`](crate::study);
 /// - `NoMemory`: there was no room for what is read or found;
 /// - `Fault`: a call of the device failed. The image may be recovered again.
 pub fn recover<D: Disk>(alloc: Global, disk: D) -> Result<(Recovered<D>, Report), (D, RecoverError)>
     ensures ok { IfOk result (λ r. IsRecovery (D.device disk) (D.device r.0.disk) r.0 r.1) }
+    ensures current { OnOk result (IsOfOldVersion (D.device disk).now.bytes → ⊥) }
     ensures any_moment { IfOk result (λ r. (s : Shape) → IsStudyOf (D.device disk).now.bytes s → LeavesOnly (synced (D.device disk)) (D.device r.0.disk) (IsOnTheWay s)) }
     ensures refused { IfErr result (λ back. RefusesRecovery (D.device disk).now.bytes back.1) }
     ensures untouched { IfErr result (λ back. (back.1 ≡ Fault) ⊎ SameMoments (synced (D.device disk)) (D.device back.0)) }
@@ -49,8 +54,50 @@ pub fn recover<D: Disk>(alloc: Global, disk: D) -> Result<(Recovered<D>, Report)
     ensures cause { IfErr result (λ back. back.1 ≡ Fault → HasFailed (D.device disk).failures (D.device back.0).failures) }
     ensures failures { IfOk result (λ r. (D.device disk).failures ≤ (D.device r.0.disk).failures) }
 {
+    recover_of(alloc, disk, Versions::Current)
+}
+
+/// Makes the image on the device, of which nothing has to be known, one of the current version, in place. Of an image of
+/// version 1, from before there were transient fields, it reads the records, puts the old values back under the old control,
+/// and commits a control of version 2 with empty logs and the next sequence: all its fields are persistent. Of an image of
+/// version 2 it does what [`recover`] does.
+///
+/// The calls of the device are those of [`recover`]. Once the first sync was answered, whatever a crash leaves stands for the
+/// same heap, under the old control or under the new one. So it may be run again after any crash and after any refusal.
+///
+/// The refusals are those of [`recover`], in the same order and leaving the same, but that no image is of an old version.
+pub fn upgrade<D: Disk>(alloc: Global, disk: D) -> Result<(Recovered<D>, Report), (D, RecoverError)>
+    ensures ok { IfOk result (λ r. IsRecovery (D.device disk) (D.device r.0.disk) r.0 r.1) }
+    ensures any_moment { IfOk result (λ r. (s : Shape) → IsStudyOf (D.device disk).now.bytes s → LeavesOnly (synced (D.device disk)) (D.device r.0.disk) (IsOnTheWay s)) }
+    ensures refused { IfErr result (λ back. RefusesUpgrade (D.device disk).now.bytes back.1) }
+    ensures untouched { IfErr result (λ back. (back.1 ≡ Fault) ⊎ SameMoments (synced (D.device disk)) (D.device back.0)) }
+    ensures interrupted { IfErr result (λ back. (s : Shape) → IsStudyOf (D.device disk).now.bytes s → LeavesOnTheWay s (D.device disk) (D.device back.0)) }
+    ensures cut_off { IfErr result (λ back. IsCutOff (D.device disk) (D.device back.0)) }
+    ensures cause { IfErr result (λ back. back.1 ≡ Fault → HasFailed (D.device disk).failures (D.device back.0).failures) }
+    ensures failures { IfOk result (λ r. (D.device disk).failures ≤ (D.device r.0.disk).failures) }
+{
+    recover_of(alloc, disk, Versions::Both)
+}
+
+/// What [`recover`] does of an image of the current version, and [`upgrade`] of either: the one of them that takes these
+/// versions.
+pub fn recover_of<D: Disk>(
+    alloc: Global,
+    disk: D,
+    versions: Versions,
+) -> Result<(Recovered<D>, Report), (D, RecoverError)>
+    ensures ok { IfOk result (λ r. IsRecovery (D.device disk) (D.device r.0.disk) r.0 r.1) }
+    ensures taken { OnOk result (IsTooOld versions (D.device disk).now.bytes → ⊥) }
+    ensures any_moment { IfOk result (λ r. (s : Shape) → IsStudyOf (D.device disk).now.bytes s → LeavesOnly (synced (D.device disk)) (D.device r.0.disk) (IsOnTheWay s)) }
+    ensures refused { IfErr result (λ back. RefusesOf versions (D.device disk).now.bytes back.1) }
+    ensures untouched { IfErr result (λ back. (back.1 ≡ Fault) ⊎ SameMoments (synced (D.device disk)) (D.device back.0)) }
+    ensures interrupted { IfErr result (λ back. (s : Shape) → IsStudyOf (D.device disk).now.bytes s → LeavesOnTheWay s (D.device disk) (D.device back.0)) }
+    ensures cut_off { IfErr result (λ back. IsCutOff (D.device disk) (D.device back.0)) }
+    ensures cause { IfErr result (λ back. back.1 ≡ Fault → HasFailed (D.device disk).failures (D.device back.0).failures) }
+    ensures failures { IfOk result (λ r. (D.device disk).failures ≤ (D.device r.0.disk).failures) }
+{
     let mut disk = disk;
-    match recover_in_place(alloc, &mut disk) {
+    match recover_in_place(alloc, &mut disk, versions) {
         Ok(study) => {
             let sequence = study.control.sequence + 1;
             let recovered = Recovered::of(
@@ -68,13 +115,18 @@ pub fn recover<D: Disk>(alloc: Global, disk: D) -> Result<(Recovered<D>, Report)
 }
 
 // Recovers the image, and gives the study of it as it was before.
-fn recover_in_place<D: Disk>(alloc: Global, disk: &mut D) -> Result<Study, RecoverError>
+fn recover_in_place<D: Disk>(
+    alloc: Global,
+    disk: &mut D,
+    versions: Versions,
+) -> Result<Study, RecoverError>
     ensures ok { IfOk result (λ s. IsStudyOf (D.device disk.old).now.bytes s) }
+    ensures taken { OnOk result (IsTooOld versions (D.device disk.old).now.bytes → ⊥) }
     ensures recovered { IfOk result (λ s. IsRecovered (D.device disk.new) s.layout s.guards.items (other s.slot) (s.control.sequence + 1) s.heap.items) }
     ensures not_worn { IfOk result (λ s. s.control.sequence < 2 ^ 64 - 1) }
     ensures made { IfOk result (λ s. IsMadeBy s (D.device disk.old) (D.device disk.new)) }
     ensures any_moment { OnOk result ((s : Shape) → IsStudyOf (D.device disk.old).now.bytes s → LeavesOnly (synced (D.device disk.old)) (D.device disk.new) (IsOnTheWay s)) }
-    ensures refused { IfErr result (RefusesRecovery (D.device disk.old).now.bytes) }
+    ensures refused { IfErr result (RefusesOf versions (D.device disk.old).now.bytes) }
     ensures untouched { IfErr result (λ e. (e ≡ Fault) ⊎ SameMoments (synced (D.device disk.old)) (D.device disk.new)) }
     ensures interrupted { OnErr result ((s : Shape) → IsStudyOf (D.device disk.old).now.bytes s → LeavesOnTheWay s (D.device disk.old) (D.device disk.new)) }
     ensures cut_off { OnErr result (IsCutOff (D.device disk.old) (D.device disk.new)) }
@@ -82,20 +134,26 @@ fn recover_in_place<D: Disk>(alloc: Global, disk: &mut D) -> Result<Study, Recov
 {
     // What is read has to be what another crash would leave.
     sync(disk)?;
-    let found = find_recoverable(alloc, disk)?;
+    let found = find_recoverable(alloc, disk, versions)?;
     finish(disk, &found)?;
     Ok(found.study)
 }
 
 // Finds out whether the image can be recovered, and what that takes.
-fn find_recoverable<D: Disk>(alloc: Global, disk: &mut D) -> Result<Findings, RecoverError>
-    ensures exact { MatchResult result (λ found. IsStudyOf (D.device disk.old).now.bytes found.study) (RefusesRecovery (D.device disk.old).now.bytes) }
+fn find_recoverable<D: Disk>(
+    alloc: Global,
+    disk: &mut D,
+    versions: Versions,
+) -> Result<Findings, RecoverError>
+    ensures exact { MatchResult result (λ found. IsStudyOf (D.device disk.old).now.bytes found.study) (RefusesOf versions (D.device disk.old).now.bytes) }
+    ensures taken { OnOk result (IsTooOld versions (D.device disk.old).now.bytes → ⊥) }
     ensures undone { IfOk result (λ found. AreUndone found.study.layout found.study.guards.items found.study.control.rows (lanes_of found.study.records.items) found.undone.items) }
     ensures not_worn { IfOk result (λ found. found.study.control.sequence < 2 ^ 64 - 1) }
     ensures same { SameMoments (D.device disk.old) (D.device disk.new) }
     ensures cause { HasCause (D.device disk.old).failures (D.device disk.new).failures Fault result }
 {
-    let front = read_current(alloc, disk)?;
+    let front = read_front(alloc, disk)?;
+    test_version(&front.control, versions)?;
     // The end has to commit a control, so this comes before anything is written.
     if front.control.sequence == u64::MAX {
         return Err(RecoverError::Worn);

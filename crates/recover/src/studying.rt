@@ -5,7 +5,7 @@ ghost use Rattle.block_disk.specs.Device.{HasCause, SameMoments};
 ghost use Rattle.undo_log.specs.StandsFor.{StandsFor, row_of};
 ghost use Rattle.recover.specs.Heap.{RefusesHeap};
 ghost use Rattle.recover.specs.Logs.{lanes_of, logged_guard_in};
-ghost use Rattle.recover.specs.Reading.{HasCurrent, Holds, RefusesImage, RefusesLive};
+ghost use Rattle.recover.specs.Reading.{HasControl, Holds, RefusesImage, RefusesLive};
 ghost use Rattle.live_logs.specs.Replay.{Replays};
 ghost use Rattle.recover.specs.Study.{AreUndone, IsReportOf, IsStudyOf};
 ghost use Rattle.live_logs.specs.Tables.{IsLow, log_of};
@@ -17,7 +17,7 @@ use crate::findings::Findings;
 use crate::front::Front;
 use crate::heap::{OldHeap, old_heap};
 use crate::logged_image::LoggedImage;
-use crate::reading::{read_current, read_live};
+use crate::reading::{read_front, read_live};
 use crate::replayed::Replayed;
 use crate::report::Report;
 use crate::studied::Study;
@@ -28,7 +28,8 @@ use live_logs::Step;
 use std::alloc::Global;
 
 /// Studies the image on the device, of which nothing has to be known: what it holds, the heap that it stands for, and
-/// what recovery keeps and drops of it.
+/// what recovery keeps and drops of it. It may be of version 2 or of version 1, from before there were transient fields, as
+/// the study's control tells; what is said of recovery is then done by [`upgrade`](crate::upgrade).
 ///
 /// Refusals, in this order (docs/FORMAT.md, "Which image is refused"); the device is left as it was:
 /// - `NotFormatted`: the device has fewer than 64 bytes, the name isn't there, or the header's gate is closed;
@@ -40,7 +41,6 @@ use std::alloc::Global;
 /// - `NoControl`: the gates of both slots are closed;
 /// - `BadControl`: both are open with the same sequence, or the slot that counts doesn't hold the control of an image of
 ///   this layout, or one of version 1 though some field is transient;
-/// - `OldVersion`: that control is of version 1;
 /// - `BadRecord`: a live place whose bytes are no record of the image; the least lane, then the least place;
 /// - `IllegalLog`: no threads can have left the live records; the lane and the place of the first that shows it.
 ///
@@ -51,7 +51,7 @@ pub fn study<D: Disk>(alloc: Global, disk: &mut D) -> Result<Study, RecoverError
     ensures same { SameMoments (D.device disk.old) (D.device disk.new) }
     ensures cause { HasCause (D.device disk.old).failures (D.device disk.new).failures Fault result }
 {
-    let front = read_current(alloc, disk)?;
+    let front = read_front(alloc, disk)?;
     let findings = find_out(alloc, disk, front)?;
     Ok(findings.study)
 }
@@ -62,7 +62,7 @@ pub fn find_out<D: Disk>(
     disk: &mut D,
     front: Front,
 ) -> Result<Findings, RecoverError>
-    requires { HasCurrent (D.device disk.old).now.bytes front.layout front.guards.items front.slot front.control }
+    requires { HasControl (D.device disk.old).now.bytes front.layout front.guards.items front.slot front.control }
     ensures exact { MatchResult result (λ found. IsStudyOf (D.device disk.old).now.bytes found.study) (RefusesLive (D.device disk.old).now.bytes front.layout front.guards.items front.control) }
     ensures undone { IfOk result (λ found. AreUndone found.study.layout found.study.guards.items found.study.control.rows (lanes_of found.study.records.items) found.undone.items) }
     ensures control { IfOk result (λ found. found.study.control ≡ front.control) }

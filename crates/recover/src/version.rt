@@ -1,9 +1,11 @@
 //! The version of an image, by its control.
-ghost use Rattle.std.specs.Prelude.{◌≡◌, ◌<◌, ◌⊎◌, ℕ, MatchResult, IfErr, length, false, true};
+ghost use Rattle.std.specs.Prelude.{◌≡◌, ◌≢◌, ◌<◌, ℕ, MatchResult, IfErr, length, false, true};
 ghost use Rattle.undo_log.specs.StandsFor.{is_transient_in};
 ghost use Rattle.recover.specs.declared.error.RecoverError.TheVariants.{BadControl, OldVersion};
+ghost use Rattle.recover.specs.declared.versions.Versions.TheVariants.{Current};
 
 use crate::error::RecoverError;
+use crate::versions::Versions;
 use image::{Control, GuardRow, OLD_VERSION};
 
 /// Tests that a control of version 1, which is from before there were transient fields, stands with no marked row.
@@ -18,13 +20,12 @@ pub fn test_marks(control: &Control, guards: &[GuardRow]) -> Result<(), RecoverE
     Ok(())
 }
 
-/// Tests that the control is of the version that is read, 2.
-pub fn test_version(control: &Control) -> Result<(), RecoverError>
-    requires { (control.now.version ≡ 1) ⊎ (control.now.version ≡ 2) }
-    ensures exact { MatchResult result (λ _. control.now.version ≡ 2) (λ _. control.now.version ≡ 1) }
+/// Tests that the control's version is one of these.
+pub fn test_version(control: &Control, versions: Versions) -> Result<(), RecoverError>
+    ensures exact { MatchResult result (λ _. versions ≡ Current → control.now.version ≢ 1) (λ _. (versions ≡ Current) × (control.now.version ≡ 1)) }
     ensures only { IfErr result (λ e. e ≡ OldVersion) }
 {
-    if control.version == OLD_VERSION {
+    if versions == Versions::Current && control.version == OLD_VERSION {
         return Err(RecoverError::OldVersion);
     }
     Ok(())

@@ -4,6 +4,7 @@ mod crashes;
 mod faults;
 mod rounds;
 mod runs;
+mod upgrades;
 
 ghost use Rattle.std.specs.Prelude.{◌≤◌};
 

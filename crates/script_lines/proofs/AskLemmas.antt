@@ -202,7 +202,8 @@ one_word-found a =
     (λ _. if_found P _ _ _ (here (codes "heap"))
     (λ _. if_found P _ _ _ (here (codes "show"))
     (λ _. if_found P _ _ _ (here (codes "recover"))
-    (λ _. tt)))))))
+    (λ _. if_found P _ _ _ (here (codes "upgrade"))
+    (λ _. tt))))))))
 
 two_words-found : (a b : List ℕ) → IfSome (two_words a b) (λ order. AreAsking (a ∷ b ∷ []) order)
 two_words-found a b =
@@ -331,6 +332,7 @@ order_in-every words (order.Crash fill back) h = elim h.2 [
 ]
 order_in-every words order.Show h = ap order_in h
 order_in-every words order.Recover h = ap order_in h
+order_in-every words order.Upgrade h = ap order_in h
 
 -- no form has more than five words
 pub asking-few : (words : List (List ℕ)) (order : Order) → AreAsking words order → length words ≤ 5
@@ -349,6 +351,7 @@ asking-few words (order.Crash fill back) h = elim h.2 [
 ]
 asking-few words order.Show h = few words h (omega arith)
 asking-few words order.Recover h = few words h (omega arith)
+asking-few words order.Upgrade h = few words h (omega arith)
 
 missing : {A : Type 0} (P : Type 0) (a : A) → None ≡ Some a → P
 missing P a e = absurd cc

@@ -73,6 +73,7 @@ AreAsking words (order.Crash fill back) = (left : List ℕ) × IsFill left fill
     ⊎ ((number : List ℕ) × IsNumber number back × (words ≡ codes "crash" ∷ left ∷ codes "back" ∷ number ∷ [])))
 AreAsking words order.Show = words ≡ codes "show" ∷ []
 AreAsking words order.Recover = words ≡ codes "recover" ∷ []
+AreAsking words order.Upgrade = words ≡ codes "upgrade" ∷ []
 
 -- a line asks for this
 abbrev pub Asks : Order → List ℕ → Type 0

@@ -33,6 +33,7 @@ pub data Order : Type 0 where
   Crash : Fill → ℕ → Order
   Show : Order
   Recover : Order
+  Upgrade : Order
 
 -- what a step does
 abbrev pub step_of : Step → Action
@@ -59,3 +60,4 @@ order_of command.Heap = Heap
 order_of (command.Crash fill back) = Crash fill back
 order_of command.Show = Show
 order_of command.Recover = Recover
+order_of command.Upgrade = Upgrade

@@ -62,7 +62,8 @@ one_word word =
     else (if bytes_eq word (codes "heap") then Some order.Heap
     else (if bytes_eq word (codes "show") then Some order.Show
     else (if bytes_eq word (codes "recover") then Some order.Recover
-    else None))))))
+    else (if bytes_eq word (codes "upgrade") then Some order.Upgrade
+    else None)))))))
 
 abbrev pub two_words : List ℕ → List ℕ → Option Order
 two_words first second =

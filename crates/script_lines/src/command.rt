@@ -47,6 +47,8 @@ pub enum Command<'a> {
     Show,
     /// Recovers the device.
     Recover,
+    /// Upgrades the device's image to the current version, and recovers it so.
+    Upgrade,
 }
 
 /// A step of a thread, on an object's monitor or on a field.

@@ -55,6 +55,9 @@ fn alone(word: &[u8]) -> Option<Command<'_>>
     if spells(word, "recover") {
         return Some(Command::Recover);
     }
+    if spells(word, "upgrade") {
+        return Some(Command::Upgrade);
+    }
     None
 }
 

@@ -33,9 +33,12 @@ use Rattle.durable.specs.declared.doubt.Doubt.{Doubt}
 use Rattle.durable.specs.declared.doubt.Doubt.TheVariants.{Nothing, Logging, Settling, Trimming}
 use Rattle.store_past.specs.declared.error.StoreError.{StoreError}
 use Rattle.recover.specs.Reading as reading
+use Rattle.recover.specs.Recovery.{IsTooOld}
 use Rattle.recover.specs.Study.{IsStudyOf}
 use Rattle.recover.specs.declared.error.RecoverError.{RecoverError}
 use Rattle.recover.specs.declared.studied.Study.{Study}
+use Rattle.recover.specs.declared.versions.Versions.{Versions}
+use Rattle.recover.specs.declared.versions.Versions.TheVariants.{Current, Both}
 use Rattle.script_machine.specs.declared.answer.Answer.{Answer}
 use Rattle.script_machine.specs.declared.answer.Answer.TheVariants.{Done, Formatted, Value, Waiting, Logged, Wrote, Crashed, Shown, Refused}
 use Rattle.script_machine.specs.declared.answer.Answer.TheVariants as answers
@@ -354,8 +357,9 @@ module _ (old : MachineState) (answer : Answer) (new : MachineState) where
   ShowsImage w = Shows w ⊎ ShowsNone w
 
   -- the device is recovered: the store is over what recovery made of it and was told nothing, and each field has the value
-  -- that is told of it, a transient one its first value
-  pub record Recovers (w : Wreck) : Type 0 where
+  -- that is told of it, a transient one its first value. Its image was of one of these versions
+  pub record Recovers (versions : Versions) (w : Wreck) : Type 0 where
+    pub taken : IsTooOld versions (device_of w.disk).now.bytes → ⊥
     pub live : Live
     pub report : Report
     pub answers : answer ≡ answers.Recovered report
@@ -365,16 +369,16 @@ module _ (old : MachineState) (answer : Answer) (new : MachineState) where
     pub restored : IsRestored w.schema live.store.known.layout.lanes report.heap.items live.monitors
 
   -- the image is refused, and the machine stays down
-  pub record RefusesImage (w : Wreck) : Type 0 where
+  pub record RefusesImage (versions : Versions) (w : Wreck) : Type 0 where
     pub refusal : Refusal
     pub disk : Memory
     pub answers : answer ≡ Refused refusal
     pub stays : new ≡ Down (record w { disk = disk })
-    pub refuses : RefusesDisk w.disk disk refusal
+    pub refuses : RefusesDisk versions w.disk disk refusal
 
   -- the device is recovered, or its image is refused
-  abbrev pub RecoversDevice : Wreck → Type 0
-  RecoversDevice w = Recovers w ⊎ RefusesImage w
+  abbrev pub RecoversDevice : Versions → Wreck → Type 0
+  RecoversDevice versions w = Recovers versions w ⊎ RefusesImage versions w
 
 -- what is so while the machine declares, and what is so in any other state
 abbrev pub WhileDeclaring : MachineState → (declaring : Declarations → Type 0) → (other : Type 0) → Type 0
@@ -397,6 +401,10 @@ WhileDown (Running m) down other = other
 WhileDown (Down d) down other = down d
 WhileDown Spent down other = other
 
+-- while the machine is down its device is recovered, if its image is of one of these versions
+abbrev pub RecoversWhileDown : Versions → (old : MachineState) → Answer → (new : MachineState) → Type 0
+RecoversWhileDown versions old answer new = WhileDown old (RecoversDevice old answer new versions) (Refuses old answer new why.State)
+
 -- what the line makes of the machine, and what is answered. A line that doesn't belong to the state is refused as `state`
 abbrev pub Steps : (old : MachineState) → Order → Answer → (new : MachineState) → Type 0
 Steps old (order.Object name) answer new = WhileDeclaring old (λ d. AnswersDeclaration old answer new d (order.Object name)) (Refuses old answer new why.State)
@@ -410,4 +418,5 @@ Steps old order.Trim answer new = WhileRunning old (TrimsLogs old answer new) (R
 Steps old order.Heap answer new = WhileRunning old (TellsHeap old answer new) (Refuses old answer new why.State)
 Steps old (order.Crash fill back) answer new = WhileRunning old (λ m. Crashes old answer new m fill back) (Refuses old answer new why.State)
 Steps old order.Show answer new = WhileDown old (ShowsImage old answer new) (Refuses old answer new why.State)
-Steps old order.Recover answer new = WhileDown old (RecoversDevice old answer new) (Refuses old answer new why.State)
+Steps old order.Recover answer new = RecoversWhileDown Current old answer new
+Steps old order.Upgrade answer new = RecoversWhileDown Both old answer new

@@ -13,7 +13,8 @@ use Rattle.image.specs.Recovered as image
 use Rattle.recover.specs.declared.report.Report as recover
 use Rattle.recover.specs.declared.error.RecoverError.{RecoverError}
 use Rattle.recover.specs.declared.studied.Study.{Study}
-use Rattle.recover.specs.Recovery.{IsRecovery, IsOnTheWay, RefusesRecovery}
+use Rattle.recover.specs.declared.versions.Versions.{Versions}
+use Rattle.recover.specs.Recovery.{IsRecovery, IsOnTheWay, RefusesOf}
 use Rattle.recover.specs.Study.{IsStudyOf}
 use Rattle.script_machine.specs.declared.answer.Report.{Report}
 use Rattle.script_machine.specs.declared.answer.Refusal.{Refusal}
@@ -51,9 +52,9 @@ pub record Restores (old : Memory) (store : Parts Memory) (told : Report) : Type
   pub any_moment : (s : Study) → IsStudyOf (device_of old).now.bytes s → LeavesOnly (synced (device_of old)) (device_of recovered.disk) (IsOnTheWay s)
   pub reopens : Reopens recovered found store told
 
--- the bytes on the disk are refused for this reason, which is told; the disk is then the second, and but for a sync nothing was done
-pub record RefusesDisk (old new : Memory) (told : Refusal) : Type 0 where
+-- The bytes on the disk are refused for this reason, where these versions are taken, and it is told; the disk is then the second, and but for a sync nothing was done
+pub record RefusesDisk (versions : Versions) (old new : Memory) (told : Refusal) : Type 0 where
   pub reason : RecoverError
   pub told_is : told_of_recovery reason ≡ Ok told
-  pub refused : RefusesRecovery (device_of old).now.bytes reason
+  pub refused : RefusesOf versions (device_of old).now.bytes reason
   pub untouched : SameMoments (synced (device_of old)) (device_of new)

@@ -1,10 +1,12 @@
 //! A store over a device in memory: of a new image, and of one that was recovered.
-ghost use Rattle.std.specs.Prelude.{◌≡◌, false, IfOk, MatchResult};
+ghost use Rattle.std.specs.Prelude.{◌≡◌, false, IfOk, MatchResult, OnOk};
+ghost use Rattle.block_disk.specs.Memory.{device_of};
 ghost use Rattle.heap_model.specs.Setting.{Setting};
 ghost use Rattle.image.specs.Layout.{size_of};
 ghost use Rattle.durable.specs.Begin.{IsSettingOf};
 ghost use Rattle.store_image.specs.Formatting.{layout_with};
 ghost use Rattle.store_past.specs.Past.{no_past};
+ghost use Rattle.recover.specs.Recovery.{IsTooOld};
 ghost use Rattle.script_machine.specs.Limits.{IsFormattable};
 ghost use Rattle.script_machine.specs.OfSchema.{IsDiskOf};
 ghost use Rattle.script_machine.specs.Reports.{Reopens, Restores, RefusesDisk};
@@ -18,7 +20,7 @@ use durable::Store;
 use guards::Schema;
 use heap_model::LAST_NUMBER;
 use image::{Layout, Recovered};
-use recover::recover;
+use recover::{Versions, recover_of};
 use std::alloc::{AllocError, Global};
 
 /// Makes and formats a device of the image's size, for so many lanes with room for `capacity` records each: the store over
@@ -62,16 +64,18 @@ fn adopt(alloc: Global, recovered: Recovered<MemDisk>) -> Result<Store<MemDisk>,
     }
 }
 
-/// Recovers the device: the store over it and what was found, or the device, which is refused. A fault of the device is
-/// want of memory.
+/// Recovers the device, if its image is of one of these versions: the store over it and what was found, or the device, which
+/// is refused. A fault of the device is want of memory.
 pub(crate) fn restore(
     alloc: Global,
     disk: MemDisk,
+    versions: Versions,
 ) -> Result<Result<(Store<MemDisk>, Report), (MemDisk, Refusal)>, AllocError>
     ensures running { IfOk result (λ outcome. IfOk outcome (λ made. made.0.known.has_failed ≡ false)) }
-    ensures restored { IfOk result (λ outcome. MatchResult outcome (λ made. Restores disk made.0 made.1) (λ back. RefusesDisk disk back.0 back.1)) }
+    ensures restored { IfOk result (λ outcome. MatchResult outcome (λ made. Restores disk made.0 made.1) (λ back. RefusesDisk versions disk back.0 back.1)) }
+    ensures taken { IfOk result (λ outcome. OnOk outcome (IsTooOld versions (device_of disk).now.bytes → ⊥)) }
 {
-    match recover(alloc, disk) {
+    match recover_of(alloc, disk, versions) {
         Ok((recovered, found)) => Ok(Ok(restored(alloc, recovered, found)?)),
         Err((disk, error)) => Ok(Err((disk, refused_recovery(error)?))),
     }

@@ -20,6 +20,7 @@ use declarations::Declaring;
 use heap_model::{LAST_NUMBER, Lane};
 use image::Layout;
 use plain_monitors::Monitors;
+use recover::Versions;
 use script_lines::{Command, Step};
 use std::alloc::{AllocError, Global};
 
@@ -80,7 +81,8 @@ impl Phase {
             Command::Heap => self.heap(alloc),
             Command::Crash { fill, back } => self.crash(*fill, *back),
             Command::Show => self.show(alloc),
-            Command::Recover => self.recover(alloc),
+            Command::Recover => self.recover(alloc, Versions::Current),
+            Command::Upgrade => self.recover(alloc, Versions::Both),
         }
     }
 
@@ -229,11 +231,12 @@ impl Phase {
         }
     }
 
-    fn recover(self, alloc: Global) -> Result<(Phase, Answer), AllocError>
-        ensures { IfOk result (λ r. machine.Steps (shown self) order.Recover r.1 (shown r.0)) }
+    // Recovers the device, if its image is of one of these versions.
+    fn recover(self, alloc: Global, versions: Versions) -> Result<(Phase, Answer), AllocError>
+        ensures { IfOk result (λ r. machine.RecoversWhileDown versions (shown self) r.1 (shown r.0)) }
     {
         match self {
-            Phase::Down(down) => recover_down(alloc, down),
+            Phase::Down(down) => recover_down(alloc, down, versions),
             other => Ok(other.refuse()),
         }
     }
@@ -275,12 +278,16 @@ fn crash_running(running: Running, fill: Fill, back: u64) -> Result<(Phase, Answ
     Ok((Phase::Down(down), Answer::Crashed))
 }
 
-// Recovers the device that a crash left.
-fn recover_down(alloc: Global, down: Down) -> Result<(Phase, Answer), AllocError>
-    ensures { IfOk result (λ r. machine.RecoversDevice (machine.Down down) r.1 (shown r.0) down) }
+// Recovers the device that a crash left, if its image is of one of these versions.
+fn recover_down(
+    alloc: Global,
+    down: Down,
+    versions: Versions,
+) -> Result<(Phase, Answer), AllocError>
+    ensures { IfOk result (λ r. machine.RecoversDevice (machine.Down down) r.1 (shown r.0) versions down) }
 {
     let (schema, disk) = down.into_parts();
-    match restore(alloc, disk)? {
+    match restore(alloc, disk, versions)? {
         Ok((store, report)) => {
             let lanes = store.layout().lanes;
             let monitors = Monitors::with_values(alloc, schema, LAST_NUMBER, lanes, &report.heap)?;

@@ -47,6 +47,7 @@ use Rattle.scripts.specs.Crashing.{HistoryLaw, Survives, IsAtItsEnd, RestLaw, Is
 use Rattle.script_machine.specs.Machine.{MachineState, Running, Down, Steps, IsRestored, Recovers, RefusesImage, GoesDown, Crashes, LogsRecords, Settles, Acknowledges, TrimsLogs, WritesHome}
 use Rattle.script_lines.specs.Orders.{Order}
 use Rattle.script_lines.specs.Orders as order
+use Rattle.recover.specs.declared.versions.Versions.TheVariants.{Current}
 use Rattle.script_machine.specs.Refusals.{told_of_recovery}
 use Rattle.script_machine.specs.Reports.{Recovered, Found}
 use Rattle.script_machine.specs.States.{Live, Wreck, Tells, begun_at, crash_back}
@@ -105,7 +106,7 @@ module _ (m : Live) (s : Setting) (p : Past) (has : Tells m.store s p) (w : Doub
       one_layout found.layout own there.limits here.limits (sym there.spelled ∙ here.spelled)
 
   -- what is told, where recovery gives the heap of this cut and keeps its sections
-  told_of : (log : List (ℕ × Record)) (cut : ℕ → ℕ) (r : Recovers (Down wreck) told new wreck) → r.restores.recovered.heap ≡ kept_heap own s log cut
+  told_of : (log : List (ℕ × Record)) (cut : ℕ → ℕ) (r : Recovers (Down wreck) told new Current wreck) → r.restores.recovered.heap ≡ kept_heap own s log cut
       → ((lane : ℕ) → lane < own.lanes → counts_of r.restores.found.kept lane ≡ cut lane) → Survives m s log cut told new
   told_of log cut r heap kept =
       let recovery = r.restores.recovery in
@@ -125,14 +126,14 @@ module _ (m : Live) (s : Setting) (p : Past) (has : Tells m.store s p) (w : Doub
         restored = subst (λ (n : ℕ). IsRestored m.monitors.schema n r.report.heap.items r.live.monitors) (ap (λ (l : Layout). l.lanes) same) r.restored;
       }
 
-  at_its_end : RefusesImage (Down wreck) told new wreck → IsAtItsEnd (Down wreck) told
+  at_its_end : RefusesImage (Down wreck) told new Current wreck → IsAtItsEnd (Down wreck) told
   at_its_end r =
       let worn = only_worn image r.refuses.reason r.refusal r.refuses.told_is (run (Err (r.disk, r.refuses.reason)) tt r.refuses.refused) in
       record { refused = r.answers ∙ ap Refused worn.0; last = worn.1 }
 
   -- it stands for the heap of this cut, and names its sections
   module _ (cut : ℕ → ℕ) (stands : StandsForCut own s p.logged cut image) where
-    survived : Recovers (Down wreck) told new wreck → Survives m s p.logged cut told new
+    survived : Recovers (Down wreck) told new Current wreck → Survives m s p.logged cut told new
     survived r =
         let recovery = r.restores.recovery in
         let of = recovery.of in

@@ -232,6 +232,7 @@ module _ (first : ℕ → ℕ) (s : Setting) (events : Events) (p : Past) (line 
   stepped now said (order.Crash fill back) asks steps = crashing now said fill back steps
   stepped now said order.Show asks steps = stayed now steps.1
   stepped now said order.Recover asks steps = stayed now steps.1
+  stepped now said order.Upgrade asks steps = stayed now steps.1
 
   pub went : (now : Live) (output : List ℕ) → PlaysLine (Running m) line output (Running now) → Goes now
   went now output (text, inl skips) = stayed now skips.same

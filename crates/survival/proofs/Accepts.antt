@@ -2,7 +2,7 @@
 use Rattle.std.proofs.Common.{ℕ, zero, suc, ◌≡◌, ◌+◌, ◌-◌, ◌<◌, ◌⊎◌, ◌==◌, if◌then◌else◌, Bool, true, false, List, [], ◌∷◌, ◌++◌, length, map, get_or, reverse, Option, Some, None, Result, Ok, Err, refl, sym, ap, ◌∙◌, subst, inl, inr, arith, Contains, Vec, Global}
 use Rattle.std.specs.Prelude.{not}
 use Rattle.std.proofs.lemmas.Bool.{cases_lt}
-use Rattle.std.proofs.lemmas.List.{map-append, length-reverse, reverse-reverse}
+use Rattle.std.proofs.lemmas.List.{get_or_past, map-append, length-reverse, reverse-reverse}
 use Rattle.heap_model.specs.declared.ids.ObjectId.{ObjectId}
 use Rattle.heap_model.specs.declared.ids.FieldId.{FieldId}
 use Rattle.heap_model.specs.declared.record.Record.{Record}
@@ -19,7 +19,7 @@ use Rattle.cut_laws.proofs.Chain.{In, holds_in}
 use Rattle.cut_laws.proofs.Next.{legal_before}
 use Rattle.history_laws.proofs.Rebase.{until_ends}
 use Rattle.history_laws.proofs.Reorder.{rest_after_until}
-use Rattle.image.specs.Guards.{HasGuards}
+use Rattle.image.specs.Guards.{HasGuards, no_row}
 use Rattle.image.specs.Header.{HasHeader, ReadsHeader}
 use Rattle.image.specs.Layout.{size_of}
 use Rattle.image.specs.Slots.{Shows}
@@ -33,22 +33,26 @@ use Rattle.image.specs.declared.slot.Slot.{Slot}
 use Rattle.image.proofs.Reading.{one_layout, header_is_read, control_is_chosen, guards_are_read}
 use Rattle.undo_log.specs.Area.{IsOfImage, HasRecord, HasRecords}
 use Rattle.undo_log.specs.Dropped.{undo_logs, records_in}
-use Rattle.undo_log.specs.StandsFor.{row_of, row_in, is_transient_in, settled_of, AreRowsOf, HasLive, StandsFor}
+use Rattle.undo_log.specs.StandsFor.{row_of, row_in, is_transient_in, settled_of, AreRowsOf, HasLive, ShowsCut, StandsFor}
+use Rattle.undo_log.proofs.ImageStands.{image_stands}
 use Rattle.undo_log.proofs.OneHeap.{one_span, one_heap}
 use Rattle.store_past.specs.Past.{Past}
 use Rattle.store_image.specs.Consistent.{TellsCut}
 use Rattle.store_image.specs.KeptHeap.{kept_heap}
 use Rattle.store_image.proofs.Places.{live_size, cut_place}
-use Rattle.store_image.proofs.Stands.{empty, stands}
+use Rattle.store_image.proofs.Stands.{empty, kept_at, kept_size}
 use Rattle.survival.specs.Accepted.{IsLeftBy, FindsPast}
+use Rattle.survival.specs.Old.{IsLeftOf}
 use Rattle.recover.specs.Logs.{AreLogs, IsBadAt, lanes_of, logged_guard_in}
-use Rattle.recover.specs.Reading.{HasLayout, HasControl, RefusesRows, RefusesImage, Holds}
+use Rattle.recover.specs.Reading.{HasFront, HasLayout, HasControl, HasStrayMark, IsOfOldVersion, RefusesRows, RefusesImage, Holds}
 use Rattle.live_logs.specs.Replay.{IsStuckAt, Replays}
 use Rattle.recover.specs.Settled.{first_of, settled_records, AreLegal, IsAtRest, TakesUnsettled, IsIllegalAt, Stuck, Restless, Crossing}
 use Rattle.recover.specs.declared.error.RecoverError.{RecoverError}
 use Rattle.recover.specs.declared.error.RecoverError.TheVariants.{Fault, NotFormatted, BadHeader, TooSmall, NoControl, BadControl, OldVersion, Worn, BadRecord, IllegalLog, NoMemory}
 use Rattle.recover.specs.declared.logged_image.LoggedImage.{LoggedImage}
 use Rattle.recover.proofs.HomeLemmas.{persistent_logged}
+use Rattle.recover.proofs.RecoveryLemmas.{not_old}
+use Rattle.recover.specs.declared.versions.Versions.TheVariants.{Current}
 use Rattle.survival.proofs.LaneParts.{contains_reverse, lane_map}
 use Rattle.survival.proofs.Blank.{blanks, undone, valueless, blank_legal, holder_blank}
 use Rattle.survival.proofs.Unstuck.{IsGuarded, unstuck}
@@ -153,15 +157,29 @@ has_at l lane place image (x ∷ xs) (suc i) d has lt =
 none_there : (xs : List UndoRecord) (r : UndoRecord) → xs ≡ [] → Contains xs r → ⊥
 none_there xs r is h = omega (arith, h.1, ap (λ (ys : List UndoRecord). length ys) is)
 
-module _ (l : Layout) (s : Setting) (p : Past) (image : List ℕ) (left : IsLeftBy l s p image) where
+-- what a store leaves today is of version 2
+pub of_today : (l : Layout) (s : Setting) (p : Past) (image : List ℕ) → IsLeftBy l s p image → IsLeftOf 2 l s p image
+of_today l s p image left = record {
+  past = left.past;
+  lanes = left.lanes;
+  slot = left.shows.slot;
+  control = left.shows.control;
+  shows = left.shows.shows;
+  version_is = left.shows.current;
+  tells = left.shows.tells;
+  parts = left.shows.parts;
+  persistent = λ is. absurd (omega (arith, is));
+}
+
+module _ {v : ℕ} (l : Layout) (s : Setting) (p : Past) (image : List ℕ) (left : IsLeftOf v l s p image) where
   abbrev pub logs : ℕ → List UndoRecord
   logs = undo_logs (records_since p.base p.logged)
 
   abbrev pub rows : List LaneRow
-  rows = left.shows.control.rows
+  rows = left.control.rows
 
   abbrev pub guards : List GuardRow
-  guards = left.shows.parts.guards
+  guards = left.parts.guards
 
   -- what was logged is a legal list
   legal : IsLegal s p.logged
@@ -171,17 +189,34 @@ module _ (l : Layout) (s : Setting) (p : Past) (image : List ℕ) (left : IsLeft
   pub live : HasLive l image rows logs
   live = record {
     live = λ lane below.
-        let start = sym (left.shows.tells.start lane below) in
+        let start = sym (left.tells.start lane below) in
         record {
-          size = omega (arith, left.shows.tells.start lane below, left.shows.tells.logged lane below, live_size p.base lane p.logged, length-reverse (logs lane));
-          each = subst (λ (k : ℕ). HasRecords l lane k image (reverse (logs lane))) start (left.shows.parts.live lane below);
+          size = omega (arith, left.tells.start lane below, left.tells.logged lane below, live_size p.base lane p.logged, length-reverse (logs lane));
+          each = subst (λ (k : ℕ). HasRecords l lane k image (reverse (logs lane))) start (left.parts.live lane below);
         };
     others = λ lane from. empty (logs lane) (omega (arith, ap (λ (xs : List UndoRecord). length xs) (left.lanes lane from), live_size p.base lane p.logged));
   }
 
   -- the acknowledged ones among them are those of the cut's sections past the base
   settled_is : (lane : ℕ) → lane < l.lanes → settled_of rows lane ≡ records_in (p.cut lane - p.base lane) (logs lane)
-  settled_is lane below = omega (arith, left.shows.tells.start lane below, left.shows.tells.settled lane below, cut_place p.base lane p.cut p.logged (left.past.within lane))
+  settled_is lane below = omega (arith, left.tells.start lane below, left.tells.settled lane below, cut_place p.base lane p.cut p.logged (left.past.within lane))
+
+  -- so it stands for the heap of the cut
+  shows_cut : ShowsCut l s p.logged p.base p.cut image
+  shows_cut = record {
+    slot = left.slot;
+    control = left.control;
+    shows = left.shows;
+    guards = guards;
+    guarded = left.parts.guarded;
+    rows = left.parts.rows;
+    live = live;
+    settled = settled_is;
+    homes = left.parts.homes;
+  }
+
+  pub stands_there : StandsFor l image (kept_heap l s p.logged p.cut)
+  stands_there = image_stands l s p.logged p.base p.cut image (kept_heap l s p.logged p.cut) legal left.past.base_whole left.past.closed left.past.within shows_cut (kept_size l s p.logged p.cut) (kept_at l s p.logged p.cut)
 
   -- a live record's field is one of the image's
   named : (lane : ℕ) (r : UndoRecord) → Contains (logs lane) r → IsOfImage l r
@@ -200,9 +235,9 @@ module _ (l : Layout) (s : Setting) (p : Past) (image : List ℕ) (left : IsLeft
   guarded_one lane (undo.WaitRel o n) has h = tt
   guarded_one lane (undo.Put f v) has h =
       let kept : s.is_logged f.0 ≡ true = stored_logged s p.logged p.base legal left.past.base_whole left.past.base_closed lane f v has in
-      let persistent : is_transient_in guards f.0 ≡ false = left.shows.parts.rows.mark f.0 h ∙ ap (λ (b : Bool). not b) kept in
-      let guard : (row_in guards f.0).guard.0 ≡ s.guard f.0 = left.shows.parts.rows.guard f.0 h in
-      persistent_logged guards f.0 (omega (arith, h, left.shows.parts.guarded.size)) persistent ∙ (λ i. Some (record { 0 = guard i }))
+      let persistent : is_transient_in guards f.0 ≡ false = left.parts.rows.mark f.0 h ∙ ap (λ (b : Bool). not b) kept in
+      let guard : (row_in guards f.0).guard.0 ≡ s.guard f.0 = left.parts.rows.guard f.0 h in
+      persistent_logged guards f.0 (omega (arith, h, left.parts.guarded.size)) persistent ∙ (λ i. Some (record { 0 = guard i }))
 
   -- each lane is at rest where it is settled
   rest : (lane : ℕ) → IsAtRest rows logs lane
@@ -212,7 +247,7 @@ module _ (l : Layout) (s : Setting) (p : Past) (image : List ℕ) (left : IsLeft
         let same : first_of (records_in (p.cut lane - p.base lane) (logs lane)) (logs lane) ≡ settled_records rows logs lane = ap (λ (k : ℕ). first_of k (logs lane)) (sym (settled_is lane below)) in
         record {
           free = ap (λ (xs : List UndoRecord). holding (map undo_action xs)) (sym same) ∙ ends.free;
-          kept = omega (arith, ap (λ (xs : List UndoRecord). ended (map undo_action xs)) same, ends.count, left.shows.tells.kept lane below);
+          kept = omega (arith, ap (λ (xs : List UndoRecord). ended (map undo_action xs)) same, ends.count, left.tells.kept lane below);
         }
     | inr from ↦
         let none : settled_records rows logs lane ≡ [] = ap (λ (xs : List UndoRecord). first_of (settled_of rows lane) xs) (live.others lane from) ∙ first_none (settled_of rows lane) in
@@ -250,17 +285,17 @@ module _ (l : Layout) (s : Setting) (p : Past) (image : List ℕ) (left : IsLeft
 
   -- an image has one layout, one list of guard rows and one control
   one_header : (other : Layout) → HasHeader image other → other ≡ l
-  one_header other has = one_layout other l has.limits left.shows.parts.header.limits (sym has.spelled ∙ left.shows.parts.header.spelled)
+  one_header other has = one_layout other l has.limits left.parts.header.limits (sym has.spelled ∙ left.parts.header.spelled)
 
   module _ (m : Layout) (others : List GuardRow) (t : Slot) (c : Control) (has : HasControl image m others t c) where
     layout_is : m ≡ l
     layout_is = one_header m has.front.layout.header
 
     guards_is : others ≡ guards
-    guards_is = guards_are_read l image others guards (subst (λ (k : Layout). HasGuards k image others) layout_is has.front.guards_are) left.shows.parts.guarded
+    guards_is = guards_are_read l image others guards (subst (λ (k : Layout). HasGuards k image others) layout_is has.front.guards_are) left.parts.guarded
 
-    control_is : c ≡ left.shows.control
-    control_is = one_shown l image left.shows.slot t left.shows.control c left.shows.shows (subst (λ (k : Layout). Shows k image t c) layout_is has.shows)
+    control_is : c ≡ left.control
+    control_is = one_shown l image left.slot t left.control c left.shows (subst (λ (k : Layout). Shows k image t c) layout_is has.shows)
 
     rows_is : c.rows ≡ rows
     rows_is = ap (λ (d : Control). d.rows) control_is
@@ -303,34 +338,56 @@ module _ (l : Layout) (s : Setting) (p : Past) (image : List ℕ) (left : IsLeft
 
   -- the header's answers
   layout_read : (answer : Result Layout ImageError) → ReadsHeader image answer → (answer ≡ Ok l) ⊎ (answer ≡ Err image_error.Fault)
-  layout_read answer reads = header_is_read l image answer left.shows.parts.header left.shows.parts.room reads
+  layout_read answer reads = header_is_read l image answer left.parts.header left.parts.room reads
 
   -- nor is a guard row bad
   no_guards : (m : Layout) → HasLayout image m → RefusesRows m image BadHeader → ⊥
-  no_guards m has bad = bad guards (subst (λ (k : Layout). HasGuards k image guards) (sym (one_header m has.header)) left.shows.parts.guarded)
+  no_guards m has bad = bad guards (subst (λ (k : Layout). HasGuards k image guards) (sym (one_header m has.header)) left.parts.guarded)
 
-  -- the control that it shows isn't old
-  not_old : (m : Layout) (t : Slot) (c : Control) → m ≡ l → Shows m image t c → c.version ≡ 1 → ⊥
-  not_old m t c is shows old =
-      let same : c ≡ left.shows.control = one_shown l image left.shows.slot t left.shows.control c left.shows.shows (subst (λ (k : Layout). Shows k image t c) is shows) in
-      omega (arith, old, ap (λ (d : Control). d.version) same, left.shows.current)
+  -- no row is marked beside a control of version 1
+  pub unmarked : v ≡ 1 → (f : ℕ) → is_transient_in guards f ≡ false
+  unmarked old f = elim (cases_lt f l.fields) [
+    | inl below ↦ left.parts.rows.mark f below ∙ ap (λ (b : Bool). not b) (left.persistent old f below)
+    | inr from ↦ ap (λ (row : GuardRow). row.transient) (get_or_past guards f no_row (omega (arith, from, left.parts.guarded.size)))
+  ]
+
+  -- what it shows
+  pub has_control : HasControl image l guards left.slot left.control
+  has_control = record {
+    front = record { layout = record { header = left.parts.header; room = left.parts.room }; guards_are = left.parts.guarded };
+    shows = left.shows;
+    marks = λ old. unmarked (sym left.version_is ∙ old);
+  }
+
+  no_stray : (m : Layout) (others : List GuardRow) → HasFront image m others → HasStrayMark image m others → ⊥
+  no_stray m others front stray =
+      let is : m ≡ l = one_header m front.layout.header in
+      let control : stray.control ≡ left.control = one_shown l image left.slot stray.slot left.control stray.control left.shows (subst (λ (k : Layout). Shows k image stray.slot stray.control) is stray.shows) in
+      let same : others ≡ guards = guards_are_read l image others guards (subst (λ (k : Layout). HasGuards k image others) is front.guards_are) left.parts.guarded in
+      let old : v ≡ 1 = sym left.version_is ∙ sym (ap (λ (c : Control). c.version) control) ∙ stray.version in
+      let none : is_transient_in others stray.field ≡ false = subst (λ (gs : List GuardRow). is_transient_in gs stray.field ≡ false) (sym same) (unmarked old stray.field) in
+      absurd (let both : true ≡ false = sym stray.marked ∙ none in cc)
+
+  -- nor is a control of version 2 an old one
+  pub isnt_old : v ≡ 2 → IsOfOldVersion image → ⊥
+  isnt_old two = not_old Current image l guards left.slot left.control has_control (λ _ one. omega (arith, one, left.version_is, two))
 
   -- no refusal but that of the device and want of memory
   pub accepted : (e : RecoverError) → RefusesImage image e → (e ≡ Fault) ⊎ (e ≡ NoMemory)
   accepted Fault h = inl refl
   accepted NotFormatted h = elim (layout_read (Err image_error.NotFormatted) h) [ inl is ↦ absurd cc | inr is ↦ absurd cc ]
-  accepted BadHeader (inl h) = absurd (h.1 l left.shows.parts.header)
+  accepted BadHeader (inl h) = absurd (h.1 l left.parts.header)
   accepted BadHeader (inr h) = absurd (no_guards h.0 h.1 h.2)
-  accepted TooSmall h = absurd (omega (arith, h.2, left.shows.parts.room, ap size_of (one_header h.0 h.1)))
-  accepted NoControl h = absurd (h.3 left.shows.slot left.shows.shows.is_open)
+  accepted TooSmall h = absurd (omega (arith, h.2, left.parts.room, ap size_of (one_header h.0 h.1)))
+  accepted NoControl h = absurd (h.3 left.slot left.shows.is_open)
   accepted BadControl h = elim h.3 [
-    | inl none ↦ absurd (none.1 left.shows.slot left.shows.control (subst (λ (k : Layout). Shows k image left.shows.slot left.shows.control) (sym (one_header h.0 h.2.layout.header)) left.shows.shows))
-    | inr stray ↦ absurd (not_old h.0 stray.slot stray.control (one_header h.0 h.2.layout.header) stray.shows stray.version)
+    | inl none ↦ absurd (none.1 left.slot left.control (subst (λ (k : Layout). Shows k image left.slot left.control) (sym (one_header h.0 h.2.layout.header)) left.shows))
+    | inr stray ↦ absurd (no_stray h.0 h.1 h.2 stray)
   ]
-  accepted OldVersion h = absurd (not_old h.layout h.slot h.control (one_header h.layout h.shown.front.layout.header) h.shown.shows h.version)
+  accepted OldVersion h = absurd h
   accepted Worn h = absurd h
-  accepted (BadRecord lane place) h = absurd (not_bad h.0 h.1 h.2 h.3 h.4.has lane.0 place h.5.0 h.5.1)
-  accepted (IllegalLog lane place) h = absurd (not_illegal h.0 h.1 h.2 h.3 h.4.has h.5.0 h.5.1 lane.0 place h.5.2)
+  accepted (BadRecord lane place) h = absurd (not_bad h.0 h.1 h.2 h.3 h.4 lane.0 place h.5.0 h.5.1)
+  accepted (IllegalLog lane place) h = absurd (not_illegal h.0 h.1 h.2 h.3 h.4 h.5.0 h.5.1 lane.0 place h.5.2)
   accepted NoMemory h = inr refl
 
   -- what is found is what the past says
@@ -339,9 +396,8 @@ module _ (l : Layout) (s : Setting) (p : Past) (image : List ℕ) (left : IsLeft
       let has = holds.control in
       record {
         layout = layout_is found.layout found.guards.items found.slot found.control has;
-        version = holds.version;
-        rows = subst (λ (gs : List GuardRow). AreRowsOf l.fields gs s) (sym (guards_is found.layout found.guards.items found.slot found.control has)) left.shows.parts.rows;
-        tells = subst (λ (c : Control). TellsCut l p.logged p.base p.cut c.rows) (sym (control_is found.layout found.guards.items found.slot found.control has)) left.shows.tells;
+        rows = subst (λ (gs : List GuardRow). AreRowsOf l.fields gs s) (sym (guards_is found.layout found.guards.items found.slot found.control has)) left.parts.rows;
+        tells = subst (λ (c : Control). TellsCut l p.logged p.base p.cut c.rows) (sym (control_is found.layout found.guards.items found.slot found.control has)) left.tells;
         live = lanes_is found.layout found.guards.items found.slot found.control has found.records.items holds.logs;
       }
 
@@ -350,4 +406,4 @@ module _ (l : Layout) (s : Setting) (p : Past) (image : List ℕ) (left : IsLeft
   finds_heap heap found holds for_it =
       one_heap l image heap (kept_heap l s p.logged p.cut)
       (subst (λ (k : Layout). StandsFor k image heap) (layout_is found.layout found.guards.items found.slot found.control holds.control) for_it)
-      (stands l s p left.past left.lanes image left.shows).heap
+      stands_there

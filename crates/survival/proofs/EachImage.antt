@@ -30,10 +30,10 @@ use Rattle.live_logs.proofs.FirstLemmas.{begins_at, lowered_more, lowered_none, 
 use Rattle.live_logs.proofs.LaneLemmas.{records_past}
 use Rattle.live_logs.proofs.SettledLemmas.{all_rest}
 use Rattle.recover.specs.Logs.{AreLogs, IsReadTo, lanes_of, logged_guard_in, records_of}
-use Rattle.recover.specs.Reading.{HasCurrent, HasFront, HasLayout, Holds, RefusesImage}
+use Rattle.recover.specs.Reading.{HasControl, HasFront, HasLayout, Holds, RefusesImage}
 use Rattle.recover.specs.Settled.{AreAtRest, AreLegal, IsAtRest, Stuck, Restless, Crossing, kept_of}
 use Rattle.recover.specs.declared.error.RecoverError.{RecoverError}
-use Rattle.recover.specs.declared.error.RecoverError.TheVariants.{Fault, NotFormatted, BadHeader, TooSmall, NoControl, BadControl, OldVersion, BadRecord, IllegalLog, NoMemory}
+use Rattle.recover.specs.declared.error.RecoverError.TheVariants.{Fault, NotFormatted, BadHeader, TooSmall, NoControl, BadControl, BadRecord, IllegalLog, NoMemory}
 use Rattle.recover.specs.declared.logged_image.LoggedImage.{LoggedImage}
 use Rattle.recover.proofs.LogLemmas.{row_is}
 use Rattle.survival.proofs.Greedy.{Ended, ends_there, left_or_done, none_there}
@@ -44,15 +44,15 @@ abbrev pub NoReason : List ℕ → Type 0
 NoReason image = (reason : RecoverError) → reason ≢ Fault → reason ≢ NoMemory → RefusesImage image reason → ⊥
 
 -- The lanes' live records, one place after the other.
-module _ (image : List ℕ) (no : NoReason image) (l : Layout) (guards : List GuardRow) (slot : Slot) (c : Control) (control : HasCurrent image l guards slot c) where
+module _ (image : List ℕ) (no : NoReason image) (l : Layout) (guards : List GuardRow) (slot : Slot) (c : Control) (control : HasControl image l guards slot c) where
   abbrev rows : List LaneRow
   rows = c.rows
 
   limits : IsLayout l
-  limits = control.has.front.layout.header.limits
+  limits = control.front.layout.header.limits
 
   row_there : (m : ℕ) → m < l.lanes → IsRow l.capacity (row_of rows m)
-  row_there m lt = row_is l rows m empty_row control.has.shows.spells.valid.rows limits.lanes.1 lt
+  row_there m lt = row_is l rows m empty_row control.shows.spells.valid.rows limits.lanes.1 lt
 
   -- the lane's live places have records
   abbrev IsRead : ℕ → Type 0
@@ -161,7 +161,7 @@ lowest logs range (suc n) =
     (more.0, subst (λ (k : ℕ). IsLowestOf logs k more.0) next (lowest_more logs n before.0 more.0 before.1 more.1))
 
 -- Logs that no test refuses are legal.
-module _ (image : List ℕ) (no : NoReason image) (l : Layout) (guards : List GuardRow) (slot : Slot) (c : Control) (control : HasCurrent image l guards slot c)
+module _ (image : List ℕ) (no : NoReason image) (l : Layout) (guards : List GuardRow) (slot : Slot) (c : Control) (control : HasControl image l guards slot c)
     (logs : List (Vec UndoRecord Global)) (are : AreLogs l image c.rows logs) where
   abbrev guard : ℕ → Option ObjectId
   guard = logged_guard_in guards
@@ -304,26 +304,25 @@ marked_or_not (row ∷ rest) = elim (cases_Bool row.transient) [
 
 -- Nothing is wrong with an image that no reason of its own refuses.
 module _ (image : List ℕ) (no : NoReason image) (none : (found : LoggedImage) → Holds image found → ⊥) where
-  with_control : (l : Layout) (guards : List GuardRow) (slot : Slot) (c : Control) → HasCurrent image l guards slot c → ⊥
+  with_control : (l : Layout) (guards : List GuardRow) (slot : Slot) (c : Control) → HasControl image l guards slot c → ⊥
   with_control l guards slot c control = lanes_read image no l guards slot c control l.lanes (omega arith) (λ reads.
       let logs = logs_there image no l guards slot c control reads in
       logs_legal image no l guards slot c control logs.0 logs.1 (λ legal. none (record {
         layout = l;
         slot = slot;
         control = c;
-        guards = vec_of guards (omega (arith, control.has.front.guards_are.size, control.has.front.layout.header.limits.fields.1));
-        records = vec_of logs.0 (omega (arith, logs.1.count, control.has.front.layout.header.limits.lanes.1));
-      }) (record { control = control.has; version = control.version; logs = logs.1; legal = legal })))
+        guards = vec_of guards (omega (arith, control.front.guards_are.size, control.front.layout.header.limits.fields.1));
+        records = vec_of logs.0 (omega (arith, logs.1.count, control.front.layout.header.limits.lanes.1));
+      }) (record { control = control; logs = logs.1; legal = legal })))
 
-  -- a control of version 1 is refused, by a marked row or by itself
+  -- a control of version 1 is refused by a marked row, and else read as one of version 2
   with_shown : (l : Layout) (guards : List GuardRow) → HasFront image l guards → (t : Slot) (c : Control) → Shows l image t c → ⊥
   with_shown l guards front t c shows = elim shows.spells.valid.version [
     | inl old ↦ elim (marked_or_not guards) [
       | inl marked ↦ no BadControl (λ e. cc) (λ e. cc) (l, guards, front, inr (record { slot = t; control = c; shows = shows; version = old; field = marked.0; marked = marked.1 }))
-      | inr none ↦ no OldVersion (λ e. cc) (λ e. cc)
-          (record { layout = l; guards = guards; slot = t; control = c; shown = record { front = front; shows = shows; marks = λ _. none }; version = old })
+      | inr none ↦ with_control l guards t c (record { front = front; shows = shows; marks = λ _. none })
     ]
-    | inr current ↦ with_control l guards t c (record { has = record { front = front; shows = shows; marks = λ old. absurd (omega (arith, old, current)) }; version = current })
+    | inr current ↦ with_control l guards t c (record { front = front; shows = shows; marks = λ old. absurd (omega (arith, old, current)) })
   ]
 
   with_gate : (l : Layout) (guards : List GuardRow) → HasFront image l guards → (s : Slot) → gate s image ≡ 165 → ⊥

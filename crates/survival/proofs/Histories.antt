@@ -7,7 +7,7 @@ use Rattle.heap_model.specs.declared.event.Event.{Event}
 use Rattle.heap_model.specs.declared.record.Record.{Record}
 use Rattle.heap_model.specs.declared.record.Record.TheVariants.{Acq, Rel, WaitRel, Put}
 use Rattle.heap_model.specs.Setting.{Setting}
-use Rattle.heap_model.specs.History.{log_of}
+use Rattle.heap_model.specs.History.{IsLegalHistory, log_of}
 use Rattle.history_laws.specs.Laws.{LogLaw, OrderLaw}
 use Rattle.heap_model.specs.Log.{lane, number, IsLegal, IsLaneWisePrefix}
 use Rattle.heap_model.specs.Sections.{Action, Takes, Frees, Stores, action, actions, ended, Section, Did, Earlier, Took}
@@ -21,8 +21,10 @@ use Rattle.durable.specs.declared.store_call.StoreCall.{StoreCall}
 use Rattle.durable.specs.declared.store_call.StoreCall.TheVariants.{Apply, Log, Home as HomeStep, Settle, Trim}
 use Rattle.store_image.specs.declared.home.Home.TheVariants.{Wrote, Done}
 use Rattle.store_image.proofs.Stands.{same_heap}
-use Rattle.store_past.specs.Past.{Past, applied}
-use Rattle.survival.specs.History.{AppliesHistory, HistoryLaw, applied_by}
+use Rattle.image.specs.declared.layout.Layout.{Layout}
+use Rattle.store_image.specs.KeptHeap.{kept_heap}
+use Rattle.store_past.specs.Past.{Past, IsPast, applied}
+use Rattle.survival.specs.History.{AppliesHistory, HistoryLaw, KeepsHistory, applied_by}
 use Rattle.survival.proofs.LaneParts.{lane_own, lane_other}
 
 -- What a section did is told by its lane alone.
@@ -152,7 +154,7 @@ made_all s p q [] made = ap applied made
 made_all s p q (call ∷ calls) (mid, one, rest) = made_all s mid q calls rest ∙ made_one s p mid call calls one
 
 -- the older part of a list has the beginning of each lane
-older_first : (newer older all : List (ℕ × Record)) → IsLaneWisePrefix (newer ++ older) all → IsLaneWisePrefix older all
+pub older_first : (newer older all : List (ℕ × Record)) → IsLaneWisePrefix (newer ++ older) all → IsLaneWisePrefix older all
 older_first newer older all first l = (
   (first l).0 ++ lane l newer,
   (first l).1 ∙ ap (λ (xs : List Record). (first l).0 ++ xs) (lane_append l newer older) ∙ sym (append_assoc (first l).0 (lane l newer) (lane l older)),
@@ -166,14 +168,18 @@ logged_first s p reached calls n history made told =
     older_first reached.fresh reached.logged (log_of s history)
     (older_first more.0 (reached.fresh ++ reached.logged) (log_of s history) (subst (λ (xs : List (ℕ × Record)). IsLaneWisePrefix xs (log_of s history)) parts told))
 
+-- what is kept of a past is of the history, of whose logs it has the beginning
+pub keeps_history : LogLaw → OrderLaw → (l : Layout) (s : Setting) (reached : Past) (history : List (ℕ × Event)) (heap : List ℕ) (cut : ℕ → ℕ) → IsPast s reached → IsLegalHistory s history →
+    IsLaneWisePrefix reached.logged (log_of s history) → IsWhole (actions reached.logged) cut → IsClosed (actions reached.logged) cut → heap ≡ kept_heap l s reached.logged cut → KeepsHistory l s history cut heap
+keeps_history log_legal in_order l s reached history heap cut is legal first whole closed heap_is =
+    let here : IsLegal s reached.logged = legal_before s reached.fresh reached.logged is.legal in
+    let all_legal : IsLegal s (log_of s history) = log_legal s history legal in
+    record {
+      whole = whole_there s reached.logged (log_of s history) here all_legal first cut whole;
+      closed = closed_there s reached.logged (log_of s history) here all_legal first cut whole closed;
+      heap_is = heap_is ∙ same_heap l s reached.logged (log_of s history) cut (λ f. in_order s reached.logged (log_of s history) here all_legal first cut whole f);
+    }
+
 pub of_history : LogLaw → OrderLaw → HistoryLaw
 of_history log_legal in_order x s p calls history heap kept legal told by =
-    let reached : Past = by.then in
-    let here : IsLegal s reached.logged = legal_before s reached.fresh reached.logged by.is.legal in
-    let all_legal : IsLegal s (log_of s history) = log_legal s history legal in
-    let first : IsLaneWisePrefix reached.logged (log_of s history) = logged_first s p reached calls by.n history by.made told in
-    record {
-      whole = whole_there s reached.logged (log_of s history) here all_legal first by.cut by.whole;
-      closed = closed_there s reached.logged (log_of s history) here all_legal first by.cut by.whole by.closed;
-      heap_is = by.heap_is ∙ same_heap x.layout s reached.logged (log_of s history) by.cut (λ f. in_order s reached.logged (log_of s history) here all_legal first by.cut by.whole f);
-    }
+    keeps_history log_legal in_order x.layout s by.then history heap by.cut by.is legal (logged_first s p by.then calls by.n history by.made told) by.whole by.closed by.heap_is

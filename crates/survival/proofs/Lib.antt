@@ -19,3 +19,4 @@ pub mod SideLemmas
 pub mod RunAgain
 pub mod Histories
 pub mod Running
+pub mod Upgrades

@@ -10,15 +10,19 @@ use Rattle.image.specs.declared.layout.Layout.{Layout}
 use Rattle.store_past.specs.Past.{Past}
 use Rattle.recover.specs.Recovery.{AreAlike, IsCutOff, IsEnded, IsOnTheWay, IsRecovery, OneStudyLaw, SameReports, StudiedLaw}
 use Rattle.recover.specs.declared.error.RecoverError.{RecoverError}
+use Rattle.recover.specs.declared.versions.Versions.TheVariants.{Current}
+use Rattle.recover.specs.Reading.{IsOfOldVersion}
+use Rattle.recover.proofs.RecoveryLemmas.{not_old}
 use Rattle.recover.specs.declared.report.Report.{Report}
 use Rattle.recover.specs.Study.{IsStudyOf, held_by}
 use Rattle.recover.specs.declared.studied.Study.{Study}
-use Rattle.survival.specs.Again.{AreCutOff, Attempt, IsKept, ByStore, ByRecovery, KeptAcceptedLaw, KeptAgainLaw, KeptHeapLaw, KeptOnLaw, KeptReportLaw, ReportsKept, StaysKept, TellsAgain, TriedLaw}
+use Rattle.survival.specs.Again.{AreCutOff, Attempt, IsKept, ByStore, ByOldStore, ByRecovery, CurrentOnLaw, KeptAcceptedLaw, KeptAgainLaw, KeptHeapLaw, KeptOnLaw, KeptReportLaw, ReportsKept, StaysKept, TellsAgain, TriedLaw}
 use Rattle.survival.specs.WholeRun.{MayBeLeft}
-use Rattle.survival.proofs.Accepts.{accepted, finds, finds_heap}
+use Rattle.survival.proofs.Accepts.{accepted, finds, finds_heap, of_today}
 
 pub kept_is_found : OneStudyLaw → KeptHeapLaw
-kept_is_found one l s p image study (ByStore left) of = finds_heap l s p image left study.heap.items (held_by study) of.holds of.stands
+kept_is_found one l s p image study (ByStore left) of = finds_heap l s p image (of_today l s p image left) study.heap.items (held_by study) of.holds of.stands
+kept_is_found one l s p image study (ByOldStore left) of = finds_heap l s p image left study.heap.items (held_by study) of.holds of.stands
 kept_is_found one l s p image study (ByRecovery other is heap reports) of = (one image study other of is).heaps ∙ heap
 
 -- two reports that say the same
@@ -31,11 +35,13 @@ same_reported l p a b same (inr ended) = inr (record {
 })
 
 pub kept_report : OneStudyLaw → KeptReportLaw
-kept_report one l s p image study (ByStore left) of = inl (λ lane below. of.reports.kept_are lane ∙ (finds l s p image left (held_by study) of.holds).tells.kept lane below)
+kept_report one l s p image study (ByStore left) of = inl (λ lane below. of.reports.kept_are lane ∙ (finds l s p image (of_today l s p image left) (held_by study) of.holds).tells.kept lane below)
+kept_report one l s p image study (ByOldStore left) of = inl (λ lane below. of.reports.kept_are lane ∙ (finds l s p image left (held_by study) of.holds).tells.kept lane below)
 kept_report one l s p image study (ByRecovery other is heap reports) of = same_reported l p study.report other.report (one image study other of is).reports_same reports
 
 pub kept_accepted : StudiedLaw → KeptAcceptedLaw
-kept_accepted law l s p image e (ByStore left) refuses = accepted l s p image left e refuses
+kept_accepted law l s p image e (ByStore left) refuses = accepted l s p image (of_today l s p image left) e refuses
+kept_accepted law l s p image e (ByOldStore left) refuses = accepted l s p image left e refuses
 kept_accepted law l s p image e (ByRecovery study is heap reports) refuses = law image study e is refuses
 
 -- A recovery that is cut off leaves only such images, where each that was left before it is such, and each on the way.
@@ -151,6 +157,42 @@ tried_law one attempts image last first again of tries of_last =
     } in
     let found : IsTried first last = tried_on one first attempts image last begun tries in
     same_told first found.again again (one last again found.again of_last found.of) found.tells
+
+-- The version over several tries.
+
+-- the image's study is of a control of version 2
+record IsCurrent (image : List ℕ) : Type 0 where
+  study : Study
+  of : IsStudyOf image study
+  version : study.control.version ≡ 2
+
+current_of : (image : List ℕ) (study : Study) → IsStudyOf image study → (IsOfOldVersion image → ⊥) → IsCurrent image
+current_of image study of young = elim of.holds.control.shows.spells.valid.version [
+  | inl old ↦ absurd (young (record { layout = study.layout; guards = study.guards.items; slot = study.slot; control = study.control; shown = of.holds.control; version = old }))
+  | inr now ↦ record { study = study; of = of; version = now }
+]
+
+isnt_old : (image : List ℕ) → IsCurrent image → IsOfOldVersion image → ⊥
+isnt_old image is = not_old Current image is.study.layout is.study.guards.items is.study.slot is.study.control is.of.holds.control (λ _ one. omega (arith, one, is.version))
+
+-- so it is of each image on the way
+current_way : OneStudyLaw → (old : List ℕ) → IsCurrent old → (study : Study) → IsStudyOf old study → (image : List ℕ) → IsOnTheWay study image → IsCurrent image
+current_way one old is study of image (inl there) = record {
+  study = study;
+  of = there;
+  version = ap (λ (c : Control). c.version) (one old study is.study of is.of).controls ∙ is.version;
+}
+current_way one old is study of image (inr (e, ended, there)) = record { study = e; of = there; version = ap (λ (c : Control). c.version) ended.control_is }
+
+current_tries : OneStudyLaw → (attempts : List Attempt) (image last : List ℕ) → IsCurrent image → AreCutOff attempts image last → IsCurrent last
+current_tries one [] image last is same = subst IsCurrent (sym same) is
+current_tries one (a ∷ later) image last is (now, cut_off, (next, left, rest)) =
+    let here : IsCurrent a.old.now.bytes = subst IsCurrent (sym (ap (λ (m : Moment). m.bytes) now)) is in
+    let all : Always a.old IsCurrent = left_alone IsCurrent image a.old now is in
+    current_tries one later next last (left_on a.old a.new IsCurrent all (leaves_on a.old a.new IsCurrent all (current_way one a.old.now.bytes here) cut_off) next left) rest
+
+pub current_on : OneStudyLaw → CurrentOnLaw
+current_on one attempts image last study of young tries = isnt_old last (current_tries one attempts image last (current_of image study of young) tries)
 
 -- however a recovery ended, it left what one leaves that is cut off
 pub always_cut_off : {E : Type 0} (device : E → Device) (old : Device) (answer : Result (Parts E × Report) (E × RecoverError)) → IfOk answer (λ r. IsRecovery old (device r.0.disk) r.0 r.1) →

@@ -12,7 +12,8 @@ use Rattle.store_past.specs.Past.{applied}
 use Rattle.survival.specs.Again.{ByStore, HasStudyLaw}
 use Rattle.survival.specs.History.{applied_by}
 use Rattle.survival.specs.Running.{RunLaw}
-use Rattle.survival.proofs.Accepts.{accepted}
+use Rattle.recover.specs.declared.versions.Versions.TheVariants.{Current}
+use Rattle.survival.proofs.Accepts.{accepted, isnt_old, of_today}
 use Rattle.survival.proofs.Histories.{made_all, of_history}
 use Rattle.survival.proofs.WholeRuns.{cannot, found, left_by, of_run, shows_some}
 
@@ -55,7 +56,7 @@ keeps_run log_legal in_order studied x s p q old new failed history image has ra
     record {
       study = study.0;
       of = study.1;
-      taken = λ e refused. cannot image (λ r refuses. accepted x.layout s by.past image by.is r refuses) e refused;
+      taken = λ e refused. cannot Current image (λ r refuses. accepted x.layout s by.past image (of_today x.layout s by.past image by.is) r refuses) (isnt_old x.layout s by.past image (of_today x.layout s by.past image by.is) refl) e refused;
       cut = survives.cut;
       stays = survives.stays;
       kept_are = survives.kept_are;

@@ -13,7 +13,7 @@ use Rattle.image.specs.declared.layout.Layout.{Layout}
 use Rattle.undo_log.specs.StandsFor.{row_of, settled_of, HasLive}
 use Rattle.store_past.specs.Past.{Past}
 use Rattle.store_image.specs.KeptHeap.{kept_heap}
-use Rattle.store_image.proofs.Stands.{kept_size, stands}
+use Rattle.store_image.proofs.Stands.{kept_size}
 use Rattle.recover.specs.Logs.{lanes_of, logged_guard_in}
 use Rattle.recover.specs.Reading.{Holds}
 use Rattle.recover.specs.Settled.{AreLegal}
@@ -21,9 +21,9 @@ use Rattle.recover.specs.Study.{AreUndone, IsReportOf, IsStudyOf, held_by}
 use Rattle.recover.specs.declared.report.Report.{Report}
 use Rattle.recover.specs.declared.studied.Study.{Study}
 use Rattle.recover.proofs.LogLemmas.{row_is}
-use Rattle.survival.specs.Accepted.{IsLeftBy}
-use Rattle.survival.specs.Again.{IsKept, ByStore, ByRecovery}
-use Rattle.survival.proofs.Accepts.{guards, legal_there, live, logs, replayed, rows}
+use Rattle.survival.specs.Again.{IsKept, ByStore, ByOldStore, ByRecovery}
+use Rattle.survival.specs.Old.{IsLeftOf}
+use Rattle.survival.proofs.Accepts.{guards, has_control, legal_there, live, logs, of_today, replayed, rows, stands_there}
 use Rattle.survival.proofs.Reports.{Drops, drops_few, drops_there, fields_there}
 use Rattle.survival.proofs.Vecs.{lanes_are, logs_long, logs_to, vec_of}
 
@@ -33,16 +33,16 @@ kept_at [] lane = refl
 kept_at (r ∷ rs) zero = refl
 kept_at (r ∷ rs) (suc lane) = kept_at rs lane
 
-module _ (l : Layout) (s : Setting) (p : Past) (image : List ℕ) (left : IsLeftBy l s p image) where
+module _ {v : ℕ} (l : Layout) (s : Setting) (p : Past) (image : List ℕ) (left : IsLeftOf v l s p image) where
   limits : IsLayout l
-  limits = left.shows.parts.header.limits
+  limits = left.parts.header.limits
 
   -- a lane's live records fit its area
   lane_fits : (lane : ℕ) → length (logs l s p image left lane) ≤ 1048576
   lane_fits lane = elim (cases_lt lane l.lanes) [
     | inr from ↦ omega (arith, ap (λ (xs : List UndoRecord). length xs) ((live l s p image left).others lane from))
     | inl below ↦
-        let row : IsRow l.capacity (row_of (rows l s p image left) lane) = row_is l (rows l s p image left) lane empty_row left.shows.shows.spells.valid.rows limits.lanes.1 below in
+        let row : IsRow l.capacity (row_of (rows l s p image left) lane) = row_is l (rows l s p image left) lane empty_row left.shows.spells.valid.rows limits.lanes.1 below in
         omega (arith, row.fits, limits.capacity.1, ((live l s p image left).live lane below).size, length-reverse (logs l s p image left lane))
   ]
 
@@ -77,9 +77,9 @@ module _ (l : Layout) (s : Setting) (p : Past) (image : List ℕ) (left : IsLeft
   abbrev study : Study
   study = record {
     layout = l;
-    slot = left.shows.slot;
-    control = left.shows.control;
-    guards = vec_of (guards l s p image left) (omega (arith, left.shows.parts.guarded.size, limits.fields.1));
+    slot = left.slot;
+    control = left.control;
+    guards = vec_of (guards l s p image left) (omega (arith, left.parts.guarded.size, limits.fields.1));
     records = vec_of records (omega (arith, records_long, limits.lanes.1));
     heap = vec_of (kept_heap l s p.logged p.cut) (omega (arith, kept_size l s p.logged p.cut, limits.fields.1));
     report = report;
@@ -87,12 +87,7 @@ module _ (l : Layout) (s : Setting) (p : Past) (image : List ℕ) (left : IsLeft
 
   holds : Holds image (held_by study)
   holds = record {
-    control = record {
-      front = record { layout = record { header = left.shows.parts.header; room = left.shows.parts.room }; guards_are = left.shows.parts.guarded };
-      shows = left.shows.shows;
-      marks = λ is. absurd (omega (arith, is, left.shows.current));
-    };
-    version = left.shows.current;
+    control = has_control l s p image left;
     logs = record {
       count = records_long;
       live = subst (λ (ls : ℕ → List UndoRecord). HasLive l image (rows l s p image left) ls) (sym records_are) (live l s p image left);
@@ -114,7 +109,7 @@ module _ (l : Layout) (s : Setting) (p : Past) (image : List ℕ) (left : IsLeft
   left_study : IsStudyOf image study
   left_study = record {
     holds = holds;
-    stands = (stands l s p left.past left.lanes image left.shows).heap;
+    stands = stands_there l s p image left;
     reports = subst (λ (ls : ℕ → List UndoRecord). IsReportOf l (guards l s p image left) (rows l s p image left) ls report) (sym records_are) reports;
   }
 
@@ -122,5 +117,6 @@ module _ (l : Layout) (s : Setting) (p : Past) (image : List ℕ) (left : IsLeft
   study_left = (study, left_study)
 
 pub study_there : (l : Layout) (s : Setting) (p : Past) (image : List ℕ) → IsKept l s p image → (study : Study) × IsStudyOf image study
-study_there l s p image (ByStore left) = study_left l s p image left
+study_there l s p image (ByStore left) = study_left l s p image (of_today l s p image left)
+study_there l s p image (ByOldStore left) = study_left l s p image left
 study_there l s p image (ByRecovery found is _ _) = (found, is)

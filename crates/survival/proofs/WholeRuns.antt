@@ -27,8 +27,8 @@ use Rattle.durable.proofs.Pasts.{past_apply, past_home, past_log}
 use Rattle.cut_laws.proofs.Stays.{cut_stays}
 use Rattle.durable.proofs.Showing.{undone_beyond, of_lanes_before, past_settle, past_trim, logged_heap}
 use Rattle.survival.specs.Accepted.{IsLeftBy}
-use Rattle.survival.specs.Again.{AreCutOff, Attempt, HasStudyLaw, IsKept, ByStore, KeptAcceptedLaw, KeptHeapLaw, KeptOnLaw, KeptReportLaw, SurvivesAgain, TellsAgain, TriedLaw}
-use Rattle.recover.specs.Recovery.{IsRecovery, RefusesRecovery}
+use Rattle.survival.specs.Again.{AreCutOff, Attempt, CurrentOnLaw, HasStudyLaw, IsKept, ByStore, KeptAcceptedLaw, KeptHeapLaw, KeptOnLaw, KeptReportLaw, SurvivesAgain, TellsAgain, TriedLaw}
+use Rattle.recover.specs.Recovery.{IsRecovery, IsTooOld, RefusesOf, RefusesRecovery}
 use Rattle.recover.specs.Reading.{RefusesImage}
 use Rattle.recover.specs.Study.{IsStudyOf, held_by}
 use Rattle.survival.specs.WholeRun.{IsSettling, MayAcknowledge, Next, Before, Survives, CannotRecover, MayBeLeft}
@@ -36,7 +36,9 @@ use Rattle.recover.specs.declared.error.RecoverError.{RecoverError}
 use Rattle.recover.specs.declared.error.RecoverError.TheVariants.{Fault, NotFormatted, BadHeader, TooSmall, NoControl, BadControl, OldVersion, Worn, BadRecord, IllegalLog, NoMemory}
 use Rattle.recover.specs.declared.report.Report.{Report}
 use Rattle.recover.specs.declared.studied.Study.{Study}
-use Rattle.survival.proofs.Accepts.{accepted, finds, finds_heap}
+use Rattle.recover.specs.declared.versions.Versions.{Versions}
+use Rattle.recover.specs.declared.versions.Versions.TheVariants.{Current}
+use Rattle.survival.proofs.Accepts.{accepted, isnt_old, finds, finds_heap, of_today}
 
 -- a call whose settling is in doubt is one
 settles : (o : Option StoreCall) → doubt_in o ≡ Settling → o ≡ Some Settle
@@ -160,18 +162,18 @@ left_by l s p w image is of (ShowsTrimmed doubt shown) = record {
 }
 
 -- why it isn't recovered
-pub cannot : (image : List ℕ) → ((e : RecoverError) → RefusesImage image e → (e ≡ Fault) ⊎ (e ≡ NoMemory)) → (e : RecoverError) → RefusesRecovery image e → CannotRecover image e
-cannot image takes Fault refuses = inl refl
-cannot image takes NotFormatted refuses = ⊎_elim (λ is. inl is) (λ is. inr (inl is)) (takes NotFormatted refuses)
-cannot image takes BadHeader refuses = ⊎_elim (λ is. inl is) (λ is. inr (inl is)) (takes BadHeader refuses)
-cannot image takes TooSmall refuses = ⊎_elim (λ is. inl is) (λ is. inr (inl is)) (takes TooSmall refuses)
-cannot image takes NoControl refuses = ⊎_elim (λ is. inl is) (λ is. inr (inl is)) (takes NoControl refuses)
-cannot image takes BadControl refuses = ⊎_elim (λ is. inl is) (λ is. inr (inl is)) (takes BadControl refuses)
-cannot image takes OldVersion refuses = ⊎_elim (λ is. inl is) (λ is. inr (inl is)) (takes OldVersion refuses)
-cannot image takes Worn refuses = inr (inr (refl, refuses))
-cannot image takes (BadRecord lane place) refuses = ⊎_elim (λ is. inl is) (λ is. inr (inl is)) (takes (BadRecord lane place) refuses.1)
-cannot image takes (IllegalLog lane place) refuses = ⊎_elim (λ is. inl is) (λ is. inr (inl is)) (takes (IllegalLog lane place) refuses.1)
-cannot image takes NoMemory refuses = inr (inl refl)
+pub cannot : (v : Versions) (image : List ℕ) → ((e : RecoverError) → RefusesImage image e → (e ≡ Fault) ⊎ (e ≡ NoMemory)) → (IsTooOld v image → ⊥) → (e : RecoverError) → RefusesOf v image e → CannotRecover image e
+cannot v image takes young Fault refuses = inl refl
+cannot v image takes young NotFormatted refuses = ⊎_elim (λ is. inl is) (λ is. inr (inl is)) (takes NotFormatted refuses)
+cannot v image takes young BadHeader refuses = ⊎_elim (λ is. inl is) (λ is. inr (inl is)) (takes BadHeader refuses)
+cannot v image takes young TooSmall refuses = ⊎_elim (λ is. inl is) (λ is. inr (inl is)) (takes TooSmall refuses)
+cannot v image takes young NoControl refuses = ⊎_elim (λ is. inl is) (λ is. inr (inl is)) (takes NoControl refuses)
+cannot v image takes young BadControl refuses = ⊎_elim (λ is. inl is) (λ is. inr (inl is)) (takes BadControl refuses)
+cannot v image takes young OldVersion refuses = absurd (young refuses)
+cannot v image takes young Worn refuses = inr (inr (refl, refuses.1))
+cannot v image takes young (BadRecord lane place) refuses = ⊎_elim (λ is. inl is) (λ is. inr (inl is)) (takes (BadRecord lane place) refuses.1)
+cannot v image takes young (IllegalLog lane place) refuses = ⊎_elim (λ is. inl is) (λ is. inr (inl is)) (takes (IllegalLog lane place) refuses.1)
+cannot v image takes young NoMemory refuses = inr (inl refl)
 
 -- no call takes back what is acknowledged
 pub grows_by : (s : Setting) (p q : Past) (call : StoreCall) → IsPast s p → Makes s p call q → IsPast s q × ((l : ℕ) → p.cut l ≤ q.cut l)
@@ -215,11 +217,11 @@ pub found : (l : Layout) (s : Setting) (p : Past) (w : Doubt) (image : List ℕ)
     Keeps l s p w study.heap.items (counts_of study.report.kept)
 found l s p w image is of_lanes shows study of =
     let left = left_by l s p w image is of_lanes shows in
-    let tells = (finds l s left.past image left.is (held_by study) of.holds).tells in
+    let tells = (finds l s left.past image (of_today l s left.past image left.is) (held_by study) of.holds).tells in
     record {
       cut = left.past.cut;
       acknowledged = left.acknowledged;
-      heap_is = finds_heap l s left.past image left.is study.heap.items (held_by study) of.holds of.stands ∙ left.heap;
+      heap_is = finds_heap l s left.past image (of_today l s left.past image left.is) study.heap.items (held_by study) of.holds of.stands ∙ left.heap;
       kept_are = λ lane below. of.reports.kept_are lane ∙ tells.kept lane below;
     }
 
@@ -232,7 +234,7 @@ keeps l s p w device image is of_lanes shows (Ok r) done refused =
     (subst (λ (report : Report). Keeps l s p w done.study.heap.items (counts_of report.kept)) (sym done.report_is) (found l s p w image.now.bytes is of_lanes shows done.study done.of))
 keeps l s p w device image is of_lanes shows (Err back) done refused =
     let by = left_by l s p w image.now.bytes is of_lanes shows in
-    cannot image.now.bytes (λ e refuses. accepted l s by.past image.now.bytes by.is e refuses) back.1 refused
+    cannot Current image.now.bytes (λ e refuses. accepted l s by.past image.now.bytes (of_today l s by.past image.now.bytes by.is) e refuses) (isnt_old l s by.past image.now.bytes (of_today l s by.past image.now.bytes by.is) refl) back.1 refused
 
 -- after a run
 pub of_run : (x : Known) (s : Setting) (p : Past) (calls : List StoreCall) (image heap : List ℕ) (kept : ℕ → ℕ) → IsPast s p → (some : ShowsSome x s p calls image) → Keeps x.layout s some.then some.doubt heap kept →
@@ -303,21 +305,23 @@ survived_again x s p calls image last study was some by heaps reports kept of = 
 }
 
 pub survives_again : {E : Type 0} (x : Known) (s : Setting) (p : Past) (calls : List StoreCall) (old new : Device) (device : E → Device) (there : Device) (image : List ℕ) (attempts : List Attempt) → HasPast x s p old →
-    KeptHeapLaw → KeptReportLaw → KeptAcceptedLaw → KeptOnLaw → LeavesOnly old new (ShowsAfterSome x.layout s p calls) → MayBeLeft old new image → AreCutOff attempts image there.now.bytes →
+    KeptHeapLaw → KeptReportLaw → KeptAcceptedLaw → KeptOnLaw → HasStudyLaw → CurrentOnLaw → LeavesOnly old new (ShowsAfterSome x.layout s p calls) → MayBeLeft old new image → AreCutOff attempts image there.now.bytes →
     (answer : Result (Parts E × Report) (E × RecoverError)) → IfOk answer (λ r. IsRecovery there (device r.0.disk) r.0 r.1) → IfErr answer (λ back. RefusesRecovery there.now.bytes back.1) →
     MatchResult answer (λ r. SurvivesAgain x s p calls r.0.heap r.1) (λ back. CannotRecover there.now.bytes back.1)
-survives_again x s p calls old new device there image attempts has heaps reports takes on leaves left tries (Ok r) done refused =
+survives_again x s p calls old new device there image attempts has heaps reports takes on studied stays leaves left tries (Ok r) done refused =
     let some = shows_some x s p calls old new image has leaves left in
     let by = left_by x.layout s some.then some.doubt image some.is some.of_lanes some.shows in
     let kept = on x.layout s by.past attempts image there.now.bytes (ByStore by.is) tries in
     subst (λ (heap : List ℕ). SurvivesAgain x s p calls heap r.1) (sym done.heap_is)
     (subst (λ (report : Report). SurvivesAgain x s p calls done.study.heap.items report) (sym done.report_is)
     (survived_again x s p calls image there.now.bytes done.study has.past some by heaps reports kept done.of))
-survives_again x s p calls old new device there image attempts has heaps reports takes on leaves left tries (Err back) done refused =
+survives_again x s p calls old new device there image attempts has heaps reports takes on studied stays leaves left tries (Err back) done refused =
     let some = shows_some x s p calls old new image has leaves left in
     let by = left_by x.layout s some.then some.doubt image some.is some.of_lanes some.shows in
     let kept = on x.layout s by.past attempts image there.now.bytes (ByStore by.is) tries in
-    cannot there.now.bytes (λ e refuses. takes x.layout s by.past there.now.bytes e kept refuses) back.1 refused
+    let first = studied x.layout s by.past image (ByStore by.is) in
+    let young = isnt_old x.layout s by.past image (of_today x.layout s by.past image by.is) refl in
+    cannot Current there.now.bytes (λ e refuses. takes x.layout s by.past there.now.bytes e kept refuses) (stays attempts image there.now.bytes first.0 first.1 young tries) back.1 refused
 
 -- each image on the way has a study
 pub studied_again : (x : Known) (s : Setting) (p : Past) (calls : List StoreCall) (old new : Device) (image last : List ℕ) (attempts : List Attempt) → HasPast x s p old →
@@ -328,7 +332,7 @@ studied_again x s p calls old new image last attempts has studied on leaves left
     studied x.layout s by.past last (on x.layout s by.past attempts image last (ByStore by.is) tries)
 
 -- the heap and the report of each try are those of the first
-told_again : {E : Type 0} (device : E → Device) (there : Device) (image : List ℕ) (attempts : List Attempt) (first : Study) → IsStudyOf image first → TriedLaw → AreCutOff attempts image there.now.bytes →
+pub told_again : {E : Type 0} (device : E → Device) (there : Device) (image : List ℕ) (attempts : List Attempt) (first : Study) → IsStudyOf image first → TriedLaw → AreCutOff attempts image there.now.bytes →
     (answer : Result (Parts E × Report) (E × RecoverError)) → IfOk answer (λ r. IsRecovery there (device r.0.disk) r.0 r.1) → IfOk answer (λ r. TellsAgain first r.0.sequence r.0.heap r.1)
 told_again device there image attempts first of tried tries (Ok r) done =
     subst (λ (n : ℕ). TellsAgain first n r.0.heap r.1) (sym done.sequence_is)

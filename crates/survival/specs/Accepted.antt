@@ -14,7 +14,7 @@ use Rattle.store_image.specs.KeptHeap.{kept_heap}
 use Rattle.store_image.specs.declared.committed.Committed.{Committed}
 pub use Rattle.durable.specs.Runs.{IsLeftBy}
 use Rattle.recover.specs.Logs.{lanes_of}
-use Rattle.recover.specs.Reading.{Holds, RefusesImage}
+use Rattle.recover.specs.Reading.{Holds, IsOfOldVersion, RefusesImage}
 use Rattle.recover.specs.declared.error.RecoverError.{RecoverError}
 use Rattle.recover.specs.declared.error.RecoverError.TheVariants.{Fault, NoMemory}
 use Rattle.recover.specs.declared.logged_image.LoggedImage.{LoggedImage}
@@ -27,11 +27,14 @@ LeftLaw = (l : Layout) (s : Setting) (p : Past) (c : Committed) (d : Device) →
 abbrev pub AcceptedLaw : Type 0
 AcceptedLaw = (l : Layout) (s : Setting) (p : Past) (image : List ℕ) (e : RecoverError) → IsLeftBy l s p image → RefusesImage image e → (e ≡ Fault) ⊎ (e ≡ NoMemory)
 
+-- Its control is of the version that recovery takes.
+abbrev pub CurrentLaw : Type 0
+CurrentLaw = (l : Layout) (s : Setting) (p : Past) (image : List ℕ) → IsLeftBy l s p image → IsOfOldVersion image → ⊥
+
 -- what was found in an image is what the past says: the guard rows, the acknowledged sections, and the records since what was
--- trimmed; and its control is of the version that recovery takes
+-- trimmed
 pub record FindsPast (l : Layout) (s : Setting) (p : Past) (found : LoggedImage) : Type 0 where
   pub layout : found.layout ≡ l
-  pub version : found.control.version ≡ 2
   pub rows : AreRowsOf l.fields found.guards.items s
   pub tells : TellsCut l p.logged p.base p.cut found.control.rows
   pub live : (lane : ℕ) → lanes_of found.records.items lane ≡ undo_logs (records_since p.base p.logged) lane

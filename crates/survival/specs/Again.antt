@@ -1,4 +1,5 @@
--- Recovery that is cut off, or answers a fault, and is run again: any number of times it is of the same heap (this project's own).
+-- Recovery, or an upgrade, that is cut off, or answers a fault, and is run again: any number of times it is of the same heap (this
+-- project's own).
 use Rattle.std.specs.Prelude.{ℕ, ◌≡◌, ◌+◌, ◌⊎◌, ◌<◌, List, [], ◌∷◌}
 use Rattle.heap_model.specs.Cuts.{counts_of}
 use Rattle.heap_model.specs.Setting.{Setting}
@@ -7,7 +8,7 @@ use Rattle.block_disk.specs.Images.{Always}
 use Rattle.image.specs.declared.layout.Layout.{Layout}
 use Rattle.store_image.specs.KeptHeap.{kept_heap}
 use Rattle.store_past.specs.Past.{Past}
-use Rattle.recover.specs.Reading.{RefusesImage}
+use Rattle.recover.specs.Reading.{IsOfOldVersion, RefusesImage}
 use Rattle.durable.specs.Store.{Known}
 use Rattle.durable.specs.declared.store_call.StoreCall.{StoreCall}
 use Rattle.recover.specs.Recovery.{IsCutOff, SameReports}
@@ -17,6 +18,7 @@ use Rattle.recover.specs.declared.error.RecoverError.TheVariants.{Fault, NoMemor
 use Rattle.recover.specs.declared.report.Report.{Report}
 use Rattle.recover.specs.declared.studied.Study.{Study}
 use Rattle.survival.specs.Accepted.{IsLeftBy}
+use Rattle.survival.specs.Old.{IsLeftByOld}
 use Rattle.survival.specs.WholeRun.{MayBeLeft, Survives}
 
 -- nothing is left to keep or to drop: a recovery has ended
@@ -29,9 +31,10 @@ pub record HasEnded (r : Report) : Type 0 where
 abbrev pub ReportsKept : Layout → Past → Report → Type 0
 ReportsKept l p r = ((lane : ℕ) → lane < l.lanes → counts_of r.kept lane ≡ p.cut lane) ⊎ HasEnded r
 
--- a store of this past leaves this image, or a recovery on the way, which has found the kept heap
+-- a store of this past leaves this image, or one of version 1 left it, or a recovery on the way, which has found the kept heap
 pub data IsKept (l : Layout) (s : Setting) (p : Past) (image : List ℕ) : Type 0 where
   ByStore : IsLeftBy l s p image → IsKept l s p image
+  ByOldStore : IsLeftByOld l s p image → IsKept l s p image
   ByRecovery : (study : Study) → IsStudyOf image study → study.heap.items ≡ kept_heap l s p.logged p.cut → ReportsKept l p study.report → IsKept l s p image
 
 -- Such an image has a study, so that nothing of what is said of its study is said of none.
@@ -59,7 +62,7 @@ pub record StaysKept (l : Layout) (s : Setting) (p : Past) (old new : Device) : 
 abbrev pub KeptAgainLaw : Type 0
 KeptAgainLaw = (l : Layout) (s : Setting) (p : Past) (old new : Device) → Always old (IsKept l s p) → IsCutOff old new → StaysKept l s p old new
 
--- a try to recover, which a crash or a fault cut off: the device before and after it
+-- a try to recover or to upgrade, which a crash or a fault cut off: the device before and after it
 pub record Attempt : Type 0 where
   pub old : Device
   pub new : Device
@@ -74,6 +77,10 @@ AreCutOff (a ∷ later) image last =
 -- So many tries of such an image leave such an image.
 abbrev pub KeptOnLaw : Type 0
 KeptOnLaw = (l : Layout) (s : Setting) (p : Past) (attempts : List Attempt) (image last : List ℕ) → IsKept l s p image → AreCutOff attempts image last → IsKept l s p last
+
+-- They never make an image one of the old version, which recovery would refuse.
+abbrev pub CurrentOnLaw : Type 0
+CurrentOnLaw = (attempts : List Attempt) (image last : List ℕ) (study : Study) → IsStudyOf image study → (IsOfOldVersion image → ⊥) → AreCutOff attempts image last → IsOfOldVersion last → ⊥
 
 -- What a try gives and reports, by the sequence of its control: that heap, and all that the first try reports, as long as the
 -- sequence is the first one's; a greater one shows that a recovery has ended.

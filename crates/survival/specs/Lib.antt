@@ -3,7 +3,9 @@ pub mod Accepted
 pub mod WholeRun
 pub mod Sides
 pub mod Unsettled
+pub mod Old
 pub mod Again
+pub mod Upgrade
 pub mod EachImage
 pub mod History
 pub mod Running

@@ -1,19 +1,22 @@
 //! Laws of what a store leaves, each the contract of a function that does nothing.
-ghost use Rattle.survival.specs.Accepted.{AcceptedLaw, FoundHeapLaw, FoundLaw, LeftLaw};
+ghost use Rattle.survival.specs.Accepted.{AcceptedLaw, CurrentLaw, FoundHeapLaw, FoundLaw, LeftLaw};
 ghost use Rattle.survival.specs.EachImage.{EachImageLaw, HeldStudyLaw};
 ghost use Rattle.survival.specs.History.{HistoryLaw};
 ghost use Rattle.survival.specs.Running.{RunLaw};
 ghost use Rattle.survival.specs.Unsettled.{UnsettledLaw};
 ghost use Rattle.survival.specs.Sides.{SidesLaw};
-ghost use Rattle.survival.specs.Again.{HasStudyLaw, KeptAcceptedLaw, KeptAgainLaw, KeptHeapLaw, KeptOnLaw, KeptReportLaw, TriedLaw};
+ghost use Rattle.survival.specs.Upgrade.{OldHistoryLaw};
+ghost use Rattle.survival.specs.Again.{CurrentOnLaw, HasStudyLaw, KeptAcceptedLaw, KeptAgainLaw, KeptHeapLaw, KeptOnLaw, KeptReportLaw, TriedLaw};
 
 use history_laws::{log_law, order_law};
 use recover::{one_study_law, studied_law};
 
-/// No image that a store leaves is refused, whatever a crash left of its device. Only the device can fail, and memory be wanting.
+/// No image that a store leaves is refused, whatever a crash left of its device, nor is it of an old version. Only the device can
+/// fail, and memory be wanting.
 pub fn accepted_law()
     ensures left { LeftLaw }
     ensures accepted { AcceptedLaw }
+    ensures current { CurrentLaw }
 {}
 
 /// What is found in such an image is what the store's past says, and the heap that it stands for is the kept one.
@@ -42,6 +45,15 @@ pub fn history_law()
     order_law();
 }
 
+/// What survives of a heap of version 1 is of the threads' history: where its store had applied, thread by thread, a beginning of
+/// what a legal history logs, the heap that an upgrade gives is that of the kept sections' stores in the history's order.
+pub fn old_history_law()
+    ensures { OldHistoryLaw }
+{
+    log_law();
+    order_law();
+}
+
 /// What a crash leaves of a run is of the threads' history: whoever made the calls, and at whatever moment it came, recovery takes the
 /// image, and the sections that it keeps are whole ones of the history, each with all that it depends on there.
 pub fn run_law()
@@ -58,16 +70,17 @@ pub fn has_study_law()
     ensures { HasStudyLaw }
 {}
 
-/// Recovery that a crash cuts off, or that answers a fault, may be run again, any number of times: each time it takes the
-/// image, finds the kept heap, reports the acknowledged sections until a try has ended, and leaves only images of which the
-/// same may be said. Until then all else that it reports is what the first try does: what is dropped, why, and how many fields
-/// take an old value back.
+/// Recovery that a crash cuts off, or that answers a fault, may be run again, any number of times, and so may an upgrade, also
+/// of an image that a store of version 1 left: each time it takes the image, finds the kept heap, reports the acknowledged
+/// sections until a try has ended, and leaves only images of which the same may be said. Until then all else that it reports is
+/// what the first try does: what is dropped, why, and how many fields take an old value back. No try makes an image old.
 pub fn again_law()
     ensures heap { KeptHeapLaw }
     ensures report { KeptReportLaw }
     ensures accepted { KeptAcceptedLaw }
     ensures again { KeptAgainLaw }
     ensures on { KeptOnLaw }
+    ensures current { CurrentOnLaw }
     ensures tried { TriedLaw }
 {
     one_study_law();

@@ -25,8 +25,8 @@ const WORN: [Change; 8] = [
     (79, 255),
 ];
 
-// The image with the bytes at these places changed.
-fn changed(alloc: Global, image: &MemDisk, changes: &[Change]) -> Option<MemDisk> {
+/// The image with the bytes at these places changed.
+pub(super) fn changed(alloc: Global, image: &MemDisk, changes: &[Change]) -> Option<MemDisk> {
     let mut bytes = image.bytes().to_vec(alloc).ok()?;
     for (at, value) in changes {
         *bytes.get_mut(*at)? = *value;

@@ -157,19 +157,19 @@ fn joined(alloc: Global, first: &[u8], second: &[u8], third: &[u8]) -> Result<Ve
 // A crash with its script, and what the recovery behind it tells.
 type Crash = ((&'static [u8], &'static [u8]), &'static [u8], &'static [u8]);
 
-// Whether the lines are played, then the crash and a recovery.
-fn is_recovered(alloc: Global, case: Crash) -> Option<bool> {
+// Whether the lines are played, then the crash and this line, which recovers.
+fn is_recovered(alloc: Global, case: Crash, line: &[u8]) -> Option<bool> {
     let ((lines, printed), crash, report) = case;
-    let script = joined(alloc, lines, crash, b"recover\n").ok()?;
+    let script = joined(alloc, lines, crash, line).ok()?;
     let wanted = joined(alloc, printed, b"crashed\n", report).ok()?;
     Some(is_played(alloc, (&script, &wanted, Ok(()))))
 }
 
 // The first of these that isn't.
-fn first_unrecovered(alloc: Global, cases: &[Crash]) -> Option<usize> {
+fn first_unrecovered(alloc: Global, cases: &[Crash], line: &[u8]) -> Option<usize> {
     cases
         .iter()
-        .position(|case| is_recovered(alloc, *case) != Some(true))
+        .position(|case| is_recovered(alloc, *case, line) != Some(true))
 }
 
 // The last calls of a settling or of a trim, from the end: a sync, the gate's opening, a sync, the body, a sync, the gate's closing.
@@ -188,7 +188,9 @@ fn crashes_are_recovered(rt: HostRuntime) {
         (BOTH, b"crash lost back 1\n", BOTH_DROPPED),
         (BOTH, b"crash kept back 1\n", BOTH_KEPT),
     ];
-    assert!(rt; first_unrecovered(rt.alloc(), &cases).is_none());
+    assert!(rt; first_unrecovered(rt.alloc(), &cases, b"recover\n").is_none());
+    // A script's own image has the current version, of which an upgrade is a recovery.
+    assert!(rt; first_unrecovered(rt.alloc(), &cases, b"upgrade\n").is_none());
 }
 
 // A section that drags another along, shown after the crash and not before it.
@@ -247,6 +249,48 @@ heap 10 20\n\
 ",
 );
 
+// A crash inside of an upgrade.
+const UPGRADED: (&[u8], &[u8]) = (
+    b"\
+object o0\n\
+object o1\n\
+object o2\n\
+object o3\n\
+field f0 o0 o0 10\n\
+field f1 o1 o1 20\n\
+format 2 4000\n\
+upgrade\n\
+t1 enter o0\n\
+t1 store f0 5\n\
+t1 exit o0\n\
+log\n\
+home\n\
+crash kept\n\
+upgrade\n\
+crash ff back 7\n\
+recover\n\
+",
+    b"\
+formatted 130208\n\
+refused state\n\
+ok\n\
+ok\n\
+ok\n\
+logged 3\n\
+wrote 1\n\
+crashed\n\
+kept 0 0\n\
+dropped t1 1 unsettled\n\
+undone 1\n\
+heap 10 20\n\
+crashed\n\
+kept 0 0\n\
+dropped t1 1 unsettled\n\
+undone 1\n\
+heap 10 20\n\
+",
+);
+
 // A crash before the last sync of the format.
 const UNFORMATTED: (&[u8], &[u8]) = (
     b"\
@@ -271,6 +315,7 @@ refused state\n\
 fn images_are_shown(rt: HostRuntime) {
     let cases = [
         (DRAGGED.0, DRAGGED.1, Ok(())),
+        (UPGRADED.0, UPGRADED.1, Ok(())),
         (UNFORMATTED.0, UNFORMATTED.1, Ok(())),
     ];
     assert!(rt; first_other(rt.alloc(), &cases).is_none());

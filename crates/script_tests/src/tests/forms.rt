@@ -70,6 +70,7 @@ fn crashes_have_their_forms(rt: HostRuntime) {
         (b"heap", Some(Command::Heap)),
         (b"show", Some(Command::Show)),
         (b"recover", Some(Command::Recover)),
+        (b"upgrade", Some(Command::Upgrade)),
     ];
     assert!(rt; first_other(&cases).is_none());
 }

@@ -1,10 +1,11 @@
-use Rattle.std.proofs.Common.{inr, subst}
+use Rattle.std.proofs.Common.{◌≤◌, arith, inr, subst}
 use Rattle.std.proofs.lemmas.Result.{err_from_is_err_and}
 use Rattle.block_disk.specs.Device.{Device, SameMoments, synced}
 use Rattle.block_disk.proofs.Images.{stays}
-use Rattle.recover.specs.Recovery.{IsOnTheWay}
+use Rattle.recover.specs.Recovery.{IsOnTheWay, RefusesOf}
 use Rattle.recover.specs.Study.{IsStudyOf}
 use Rattle.recover.proofs.RecoveryLemmas.{made_by, since_synced}
+use Rattle.recover.proofs.StudyLemmas.{ok_cause}
 use Rattle.recover.proofs.recovering.recover_in_place.Goals as goal
 
 pub returns-in_err-finish-clause-interrupted : goal.returns-in_err-finish-clause-interrupted
@@ -53,3 +54,15 @@ returns-in_err-found-clause-interrupted g c =
     let d2 = g.D.Disk.device c.find_recoverable.new.disk in
     let read = subst (λ (d : Device). SameMoments d d2) c.in_ok-sync.ensures.ok c.find_recoverable.ensures.same in
     rw p.1 (λ t of. inr (stays (synced d0) d2 (IsOnTheWay t) read))
+
+pub returns-in_err-found-clause-refused : goal.returns-in_err-found-clause-refused
+returns-in_err-found-clause-refused g c =
+    let p = err_from_is_err_and c.from_residual-in_err-found.result c.from_residual-in_err-found.ensures.1 in
+    rw (p.1, p.2) (subst (λ (d : Device). RefusesOf c.args.versions d.now.bytes c.in_err-found.field-0.0) c.in_ok-sync.ensures.ok c.in_err-found.ensures.exact)
+
+pub returns-clause-cause : goal.returns-clause-cause
+returns-clause-cause g c =
+    let d0 = (g.D.Disk.device c.args.disk.now).failures in
+    let d3 = (g.D.Disk.device c.finish.new.disk).failures in
+    let later : d0 ≤ d3 = omega (arith, c.sync.ensures.cause.later, c.find_recoverable.ensures.cause.later, c.finish.ensures.cause.later) in
+    ok_cause d0 d3 _ later

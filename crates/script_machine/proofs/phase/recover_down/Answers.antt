@@ -1,7 +1,8 @@
 use Rattle.std.proofs.Common.{◌<◌, inl, refl, sym, ◌∙◌, ap, subst, slice_index}
 use Rattle.guards.specs.Schema.{Declarations, field_count}
 use Rattle.image.specs.declared.layout.Layout.{Layout}
-use Rattle.block_disk.specs.Memory.{Memory}
+use Rattle.block_disk.specs.Memory.{Memory, device_of}
+use Rattle.recover.specs.Recovery.{IsTooOld}
 use Rattle.script_machine.specs.Machine as machine
 use Rattle.script_machine.specs.Agreement.{BeginsWith}
 use Rattle.script_machine.specs.OfSchema.{IsDiskOf}
@@ -12,6 +13,7 @@ use Rattle.script_machine.proofs.phase.recover_down.Goals as goal
 
 pub returns-in_ok-monitors-in-Ok : goal.returns-in_ok-monitors-in-Ok
 returns-in_ok-monitors-in-Ok c = let parts = c.into_parts-schema.ensures.parts in inl (record {
+  taken = subst (λ (d : Memory). IsTooOld c.args.versions (device_of d).now.bytes → ⊥) (ap (λ (p : Declarations × Memory). p.1) parts) (rw c.in-Ok.is at c.in_ok-store.ensures.taken);
   live = record { monitors = c.in_ok-monitors-in-Ok.monitors; store = c.in-Ok.store };
   report = c.in-Ok.report;
   answers = refl;

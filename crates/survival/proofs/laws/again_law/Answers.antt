@@ -1,4 +1,4 @@
-use Rattle.survival.proofs.RunAgain.{kept_accepted, kept_again, kept_is_found, kept_on, kept_report, tried_law}
+use Rattle.survival.proofs.RunAgain.{current_on, kept_accepted, kept_again, kept_is_found, kept_on, kept_report, tried_law}
 use Rattle.survival.proofs.laws.again_law.Goals as goal
 
 pub returns-clause-heap : goal.returns-clause-heap
@@ -15,6 +15,9 @@ returns-clause-again c = kept_again c.one_study_law.ensures
 
 pub returns-clause-on : goal.returns-clause-on
 returns-clause-on c = kept_on c.one_study_law.ensures
+
+pub returns-clause-current : goal.returns-clause-current
+returns-clause-current c = current_on c.one_study_law.ensures
 
 pub returns-clause-tried : goal.returns-clause-tried
 returns-clause-tried c = tried_law c.one_study_law.ensures

@@ -22,7 +22,7 @@ returns-clause-moments g c = λ s p has n made.
 pub returns-clause-again : goal.returns-clause-again
 returns-clause-again g c = λ s p has image attempts left tries.
     survives_again c.args.store.now.known s p c.args.calls.now (g.D.Disk.device c.args.store.now.disk) (g.D.Disk.device c.play.new.self.disk) g.E.Disk.device (g.E.Disk.device c.args.left) image attempts has
-    c.again_law.ensures.heap c.again_law.ensures.report c.again_law.ensures.accepted c.again_law.ensures.on (c.play.ensures.shown s p has) left tries c.recover.result c.recover.ensures.ok c.recover.ensures.refused
+    c.again_law.ensures.heap c.again_law.ensures.report c.again_law.ensures.accepted c.again_law.ensures.on c.has_study_law.ensures c.again_law.ensures.current (c.play.ensures.shown s p has) left tries c.recover.result c.recover.ensures.ok c.recover.ensures.refused
 
 pub returns-clause-tried : goal.returns-clause-tried
 returns-clause-tried g c = λ s p has image attempts left tries.
