@@ -10,7 +10,7 @@ use Rattle.image.specs.declared.error.ImageError.TheVariants as images
 use Rattle.image.specs.declared.layout.Layout.{Layout}
 use Rattle.monitor.specs.Seats.{Home}
 use Rattle.monitor.specs.declared.view.Plan.{Plan}
-use Rattle.recover.specs.Reading.{RefusesImage}
+use Rattle.recover.specs.Reading.{IsOfOldVersion, RefusesImage}
 use Rattle.recover.specs.Recovery.{IsRecovery, IsWorn, RefusesRecovery, StudiedLaw}
 use Rattle.recover.specs.Study.{IsStudyOf}
 use Rattle.recover.specs.declared.error.RecoverError.{RecoverError}
@@ -76,8 +76,8 @@ finding_stops old new s recover.BadHeader law of refused cause = neither recover
 finding_stops old new s recover.TooSmall law of refused cause = neither recover.TooSmall (λ is. absurd cc) (λ is. absurd cc) (law old.now.bytes s recover.TooSmall of refused)
 finding_stops old new s recover.NoControl law of refused cause = neither recover.NoControl (λ is. absurd cc) (λ is. absurd cc) (law old.now.bytes s recover.NoControl of refused)
 finding_stops old new s recover.BadControl law of refused cause = neither recover.BadControl (λ is. absurd cc) (λ is. absurd cc) (law old.now.bytes s recover.BadControl of refused)
-finding_stops old new s recover.OldVersion law of refused cause = neither recover.OldVersion (λ is. absurd cc) (λ is. absurd cc) (law old.now.bytes s recover.OldVersion of refused)
-finding_stops old new s recover.Worn law of refused cause = refused
+finding_stops old new s recover.OldVersion law of refused cause = refused
+finding_stops old new s recover.Worn law of refused cause = refused.1
 finding_stops old new s (recover.BadRecord lane place) law of refused cause = neither (recover.BadRecord lane place) (λ is. absurd cc) (λ is. absurd cc) (law old.now.bytes s (recover.BadRecord lane place) of refused.1)
 finding_stops old new s (recover.IllegalLog lane place) law of refused cause = neither (recover.IllegalLog lane place) (λ is. absurd cc) (λ is. absurd cc) (law old.now.bytes s (recover.IllegalLog lane place) of refused.1)
 finding_stops old new s recover.NoMemory law of refused cause = tt
@@ -90,7 +90,7 @@ finding_alike old seen new recover.BadHeader same later refused = absurd refused
 finding_alike old seen new recover.TooSmall same later refused = absurd refused
 finding_alike old seen new recover.NoControl same later refused = absurd refused
 finding_alike old seen new recover.BadControl same later refused = absurd refused
-finding_alike old seen new recover.OldVersion same later refused = absurd refused
+finding_alike old seen new recover.OldVersion same later refused = subst (λ (m : Moment). IsOfOldVersion m.bytes) same.now refused
 finding_alike old seen new recover.Worn same later refused = subst (λ (m : Moment). IsWorn m.bytes) same.now refused
 finding_alike old seen new (recover.BadRecord lane place) same later refused = absurd refused
 finding_alike old seen new (recover.IllegalLog lane place) same later refused = absurd refused

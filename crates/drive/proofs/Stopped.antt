@@ -7,7 +7,7 @@ use Rattle.image.specs.declared.layout.Layout.{Layout}
 use Rattle.monitor.specs.Seats.{Home}
 use Rattle.recover.specs.Reading.{RefusesImage}
 use Rattle.recover.specs.Recovery.{RefusesRecovery}
-use Rattle.survival.specs.Accepted.{AcceptedLaw}
+use Rattle.survival.specs.Accepted.{AcceptedLaw, CurrentLaw}
 use Rattle.recover.specs.declared.error.RecoverError.{RecoverError}
 use Rattle.recover.specs.declared.error.RecoverError.TheVariants as recover
 use Rattle.running_heap.specs.Closed.{IsClosed}
@@ -17,7 +17,7 @@ use Rattle.store_past.specs.declared.error.StoreError.{StoreError}
 use Rattle.store_past.specs.declared.error.StoreError.TheVariants as store
 use Rattle.trim_helper.specs.Endings.{HasOpen, HoldNone, IsCloseWhy, IsComplete, IsWornOut, RefusesClosing}
 use Rattle.trim_helper.specs.Parts.{Parts}
-use Rattle.trim_helper.specs.Settled.{IsStop, IsWhy}
+use Rattle.trim_helper.specs.Settled.{RefusesRound}
 use Rattle.trim_helper.specs.declared.close_error.CloseError.{CloseError}
 use Rattle.trim_helper.specs.declared.close_error.CloseError.TheVariants as close
 use Rattle.trim_helper.specs.declared.ended.Ended.{Ended}
@@ -49,30 +49,19 @@ round_since first old new store.Unwritten low stops = absurd stops
 round_since first old new store.Fault low stops = failed_since first.failures old.failures new.failures low stops
 round_since first old new store.Unfinished low stops = absurd stops
 
--- nothing else stops a helper
-no_stop : (e : StoreError) → (e ≡ store.Failed → ⊥) → (e ≡ store.Worn → ⊥) → (e ≡ store.Fault → ⊥) → IsStop e → ⊥
-no_stop e failed worn fault stop = elim stop [
-  | inl is ↦ failed is
-  | inr other ↦ elim other [
-    | inl is ↦ worn is
-    | inr is ↦ fault is
-  ]
-]
-
 -- a round of a helper whose store hadn't failed
-pub round_stops : (old new : Device) (x y : Known) (r : Result ℕ StoreError) → x.has_failed ≡ false → IfErr r IsStop → IfErr r (λ e. IsWhy x y e) → HasCause old.failures new.failures store.Fault r
-    → (y.committed.sequence ≡ 2 ^ 64 - 1 → IsWornOut new) → IfErr r (λ e. StopsRound old new e)
-round_stops old new x y (Ok n) running stop why cause worn = tt
-round_stops old new x y (Err store.Failed) running stop why cause worn = absurd (let both : true ≡ false = sym (why.failed refl) ∙ running in cc)
-round_stops old new x y (Err store.BadLane) running stop why cause worn = no_stop store.BadLane (λ is. absurd cc) (λ is. absurd cc) (λ is. absurd cc) stop
-round_stops old new x y (Err store.BadId) running stop why cause worn = no_stop store.BadId (λ is. absurd cc) (λ is. absurd cc) (λ is. absurd cc) stop
-round_stops old new x y (Err store.Worn) running stop why cause worn = worn (why.worn refl)
-round_stops old new x y (Err store.NotNext) running stop why cause worn = no_stop store.NotNext (λ is. absurd cc) (λ is. absurd cc) (λ is. absurd cc) stop
-round_stops old new x y (Err store.TooLong) running stop why cause worn = no_stop store.TooLong (λ is. absurd cc) (λ is. absurd cc) (λ is. absurd cc) stop
-round_stops old new x y (Err store.LogFull) running stop why cause worn = no_stop store.LogFull (λ is. absurd cc) (λ is. absurd cc) (λ is. absurd cc) stop
-round_stops old new x y (Err store.Unwritten) running stop why cause worn = no_stop store.Unwritten (λ is. absurd cc) (λ is. absurd cc) (λ is. absurd cc) stop
-round_stops old new x y (Err store.Fault) running stop why cause worn = cause.failed refl
-round_stops old new x y (Err store.Unfinished) running stop why cause worn = no_stop store.Unfinished (λ is. absurd cc) (λ is. absurd cc) (λ is. absurd cc) stop
+pub round_stops : (old new : Device) (x y : Known) (r : Result ℕ StoreError) → x.has_failed ≡ false → IfErr r (RefusesRound x y) → HasCause old.failures new.failures store.Fault r → (y.committed.sequence ≡ 2 ^ 64 - 1 → IsWornOut new) → IfErr r (λ e. StopsRound old new e)
+round_stops old new x y (Ok n) running refused cause worn = tt
+round_stops old new x y (Err store.Failed) running refused cause worn = absurd (let both : true ≡ false = sym refused ∙ running in cc)
+round_stops old new x y (Err store.Worn) running refused cause worn = worn refused.1
+round_stops old new x y (Err store.Fault) running refused cause worn = cause.failed refl
+round_stops old new x y (Err store.BadLane) running refused cause worn = absurd refused
+round_stops old new x y (Err store.BadId) running refused cause worn = absurd refused
+round_stops old new x y (Err store.NotNext) running refused cause worn = absurd refused
+round_stops old new x y (Err store.TooLong) running refused cause worn = absurd refused
+round_stops old new x y (Err store.LogFull) running refused cause worn = absurd refused
+round_stops old new x y (Err store.Unwritten) running refused cause worn = absurd refused
+round_stops old new x y (Err store.Unfinished) running refused cause worn = absurd refused
 
 -- a helper's device, where its store's control has the last sequence
 pub worn_out : {D : Type 0} (device : D → Device) (h : Home) (x : Parts D) → IsHelping device h x → x.store.known.committed.sequence ≡ 2 ^ 64 - 1 → IsWornOut (device x.store.disk)
@@ -119,28 +108,28 @@ no_other : (h : Home) (l : Layout) (es : List Ended) (closed : Device) (e : Reco
 no_other h l es closed e law ran refused fault memory = ⊎_elim fault memory (law l (plan h) ran.now closed.now.bytes e (ran.left closed.now.bytes (image_now closed)) refused)
 
 -- recovery takes what a good closing gave back
-loses_closed : (h : Home) (l : Layout) (es : List Ended) (closed new : Device) (e : RecoverError) → AcceptedLaw → IsClosed h l es closed → RefusesTelling closed new e → LosesClosed closed new e
-loses_closed h l es closed new recover.Fault law ran refused = refused
-loses_closed h l es closed new recover.NotFormatted law ran refused = no_other h l es closed recover.NotFormatted law ran refused (λ is. absurd cc) (λ is. absurd cc)
-loses_closed h l es closed new recover.BadHeader law ran refused = no_other h l es closed recover.BadHeader law ran refused (λ is. absurd cc) (λ is. absurd cc)
-loses_closed h l es closed new recover.TooSmall law ran refused = no_other h l es closed recover.TooSmall law ran refused (λ is. absurd cc) (λ is. absurd cc)
-loses_closed h l es closed new recover.NoControl law ran refused = no_other h l es closed recover.NoControl law ran refused (λ is. absurd cc) (λ is. absurd cc)
-loses_closed h l es closed new recover.BadControl law ran refused = no_other h l es closed recover.BadControl law ran refused (λ is. absurd cc) (λ is. absurd cc)
-loses_closed h l es closed new recover.OldVersion law ran refused = no_other h l es closed recover.OldVersion law ran refused (λ is. absurd cc) (λ is. absurd cc)
-loses_closed h l es closed new recover.Worn law ran refused = refused
-loses_closed h l es closed new (recover.BadRecord lane place) law ran refused = no_other h l es closed (recover.BadRecord lane place) law ran refused.1 (λ is. absurd cc) (λ is. absurd cc)
-loses_closed h l es closed new (recover.IllegalLog lane place) law ran refused = no_other h l es closed (recover.IllegalLog lane place) law ran refused.1 (λ is. absurd cc) (λ is. absurd cc)
-loses_closed h l es closed new recover.NoMemory law ran refused = tt
+loses_closed : (h : Home) (l : Layout) (es : List Ended) (closed new : Device) (e : RecoverError) → AcceptedLaw → CurrentLaw → IsClosed h l es closed → RefusesTelling closed new e → LosesClosed closed new e
+loses_closed h l es closed new recover.Fault law young ran refused = refused
+loses_closed h l es closed new recover.NotFormatted law young ran refused = no_other h l es closed recover.NotFormatted law ran refused (λ is. absurd cc) (λ is. absurd cc)
+loses_closed h l es closed new recover.BadHeader law young ran refused = no_other h l es closed recover.BadHeader law ran refused (λ is. absurd cc) (λ is. absurd cc)
+loses_closed h l es closed new recover.TooSmall law young ran refused = no_other h l es closed recover.TooSmall law ran refused (λ is. absurd cc) (λ is. absurd cc)
+loses_closed h l es closed new recover.NoControl law young ran refused = no_other h l es closed recover.NoControl law ran refused (λ is. absurd cc) (λ is. absurd cc)
+loses_closed h l es closed new recover.BadControl law young ran refused = no_other h l es closed recover.BadControl law ran refused (λ is. absurd cc) (λ is. absurd cc)
+loses_closed h l es closed new recover.OldVersion law young ran refused = absurd (young l (plan h) ran.now closed.now.bytes (ran.left closed.now.bytes (image_now closed)) refused)
+loses_closed h l es closed new recover.Worn law young ran refused = refused.1
+loses_closed h l es closed new (recover.BadRecord lane place) law young ran refused = no_other h l es closed (recover.BadRecord lane place) law ran refused.1 (λ is. absurd cc) (λ is. absurd cc)
+loses_closed h l es closed new (recover.IllegalLog lane place) law young ran refused = no_other h l es closed (recover.IllegalLog lane place) law ran refused.1 (λ is. absurd cc) (λ is. absurd cc)
+loses_closed h l es closed new recover.NoMemory law young ran refused = tt
 
-pub told_stops : (h : Home) (l : Layout) (old closed new : Device) (es : List Ended) (e : DriveError) → HoldNone es → IsComplete l.lanes es → old.failures ≤ closed.failures → IsClosed h l es closed → AcceptedLaw → StopsTelling closed new e → StopsBy h l old new e
-told_stops h l old closed new es NoMemory none complete later ran law stops = tt
-told_stops h l old closed new es (Schema e) none complete later ran law stops = absurd stops
-told_stops h l old closed new es (Image e) none complete later ran law stops = absurd stops
-told_stops h l old closed new es (Helper e) none complete later ran law stops = absurd stops
-told_stops h l old closed new es (Session e) none complete later ran law stops = absurd stops
-told_stops h l old closed new es (Close e) none complete later ran law stops = absurd stops
-told_stops h l old closed new es (Recover e) none complete later ran law stops = record { ended = es; none = none; complete = complete; closed = closed; later = later; ran = ran; refused = loses_closed h l es closed new e law ran stops }
-told_stops h l old closed new es OtherSchema none complete later ran law stops = absurd stops
+pub told_stops : (h : Home) (l : Layout) (old closed new : Device) (es : List Ended) (e : DriveError) → HoldNone es → IsComplete l.lanes es → old.failures ≤ closed.failures → IsClosed h l es closed → AcceptedLaw → CurrentLaw → StopsTelling closed new e → StopsBy h l old new e
+told_stops h l old closed new es NoMemory none complete later ran law young stops = tt
+told_stops h l old closed new es (Schema e) none complete later ran law young stops = absurd stops
+told_stops h l old closed new es (Image e) none complete later ran law young stops = absurd stops
+told_stops h l old closed new es (Helper e) none complete later ran law young stops = absurd stops
+told_stops h l old closed new es (Session e) none complete later ran law young stops = absurd stops
+told_stops h l old closed new es (Close e) none complete later ran law young stops = absurd stops
+told_stops h l old closed new es (Recover e) none complete later ran law young stops = record { ended = es; none = none; complete = complete; closed = closed; later = later; ran = ran; refused = loses_closed h l es closed new e law young ran stops }
+told_stops h l old closed new es OtherSchema none complete later ran law young stops = absurd stops
 
 -- a run's stop since a later moment is one since an earlier one
 pub stops_since : (h : Home) (l : Layout) (first old new : Device) (e : DriveError) → first.failures ≤ old.failures → StopsBy h l old new e → StopsBy h l first new e

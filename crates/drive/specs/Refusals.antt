@@ -6,7 +6,7 @@ use Rattle.guards.specs.declared.error.SchemaError.TheVariants as schemas
 use Rattle.image.specs.Layout.{size_of}
 use Rattle.image.specs.Recovered.{Parts}
 use Rattle.image.specs.declared.error.ImageError.TheVariants as images
-use Rattle.recover.specs.Reading.{RefusesImage}
+use Rattle.recover.specs.Reading.{IsOfOldVersion, RefusesImage}
 use Rattle.recover.specs.Recovery.{IsRecovery, IsWorn}
 use Rattle.recover.specs.declared.error.RecoverError.{RecoverError}
 use Rattle.recover.specs.declared.error.RecoverError.TheVariants as recover
@@ -43,6 +43,7 @@ RefusesLook workers old new _ = ⊥
 -- an image that was studied isn't recovered
 abbrev pub RefusesFinding : (old new : Device) → RecoverError → Type 0
 RefusesFinding old new recover.Fault = HasFailed old.failures new.failures
+RefusesFinding old new recover.OldVersion = IsOfOldVersion old.now.bytes
 RefusesFinding old new recover.Worn = IsWorn old.now.bytes
 RefusesFinding old new recover.NoMemory = Unit {0}
 RefusesFinding old new _ = ⊥

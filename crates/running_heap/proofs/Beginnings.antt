@@ -13,7 +13,7 @@ use Rattle.monitor.specs.declared.view.View as raw
 use Rattle.monitor.specs.Views.{lane_of}
 use Rattle.monitor.specs.Seats.{Home, Sitting, fresh_view, fresh_views}
 use Rattle.session.specs.Opened.{IsOpened, AreOpened}
-use Rattle.session.specs.Sessions.{IsSessionOf, view_of}
+use Rattle.session.specs.Sessions.{IsSessionOf, ring_of, view_of}
 use Rattle.session.specs.declared.session.Session.{Session}
 use Rattle.trim_helper.specs.Endings.{Rings}
 use Rattle.trim_helper.specs.Moves.{IsEndOf, most_room}
@@ -67,7 +67,7 @@ module _ (capacity : ℕ) (k : Plan) where
       (record {
         of = All-head (IsSessionOf h) x xs of;
         holds = opened.0.lane;
-        ring = subst (λ m. IsEndOf x.ring (before ++ c ∷ cs) m) (at ∙ sym (lane_is l s x c opened.0 first.2)) (end_at before cs x.ring c opened.0.pair);
+        ring = subst (λ m. IsEndOf (ring_of x) (before ++ c ∷ cs) m) (at ∙ sym (lane_is l s x c opened.0 first.2)) (end_at before cs (ring_of x) c opened.0.pair);
       })
       (subst (λ (rings : Rings). All (IsJoined h capacity rings) xs) (append_assoc before (c ∷ []) cs)
       (are_joined h (before ++ c ∷ []) (suc l) first.0 ss xs cs long first.3 opened.1 (All-tail (IsSessionOf h) x xs of)))

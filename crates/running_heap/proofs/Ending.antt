@@ -18,6 +18,7 @@ use Rattle.monitor.specs.Views.{lane_of}
 use Rattle.session.specs.declared.session.Session.{Session}
 use Rattle.session.specs.Logs.{sent_in, actions_in, held_count}
 use Rattle.session.specs.Past.{BeganBelow}
+use Rattle.session.specs.Sessions.{capacity_of, ring_of, seat_of}
 use Rattle.steps.specs.Views.{plan, view, IsSeatOf}
 use Rattle.trim_helper.specs.declared.ended.Ended.{Ended}
 use Rattle.trim_helper.specs.Endings.{AreEnded, IsEnded, Rings, part_at, parts_of, place_read}
@@ -39,12 +40,12 @@ keeps_limits start capacity (r ∷ older) within began =
     )
 
 -- what a session leaves, as its helper meets it
-pub ended_of : (h : Home) (c : ℕ) (rings : Rings) (x : Session) (e : Ended) (k : ℕ) → IsJoined h c rings x → e.seat ≡ x.seat → e.producer ≡ x.ring → k ≡ x.capacity → e.lane ≡ lane_of e.seat.view →
+pub ended_of : (h : Home) (c : ℕ) (rings : Rings) (x : Session) (e : Ended) (k : ℕ) → IsJoined h c rings x → e.seat ≡ seat_of x → e.producer ≡ ring_of x → k ≡ capacity_of x → e.lane ≡ lane_of e.seat.view →
     sent e.producer ≡ sent_in (view e.seat) → e.held ≡ held_count (view e.seat) → IsWithinLimits (actions_in (view e.seat)) → BeganBelow ((view e.seat).trimmed + k) (actions_in (view e.seat)) → IsEnded h c rings e
 ended_of h c rings x e k joined seat ring capacity lane all_sent held within began =
     let of : IsSeatOf h e.seat = subst (IsSeatOf h) (sym seat) joined.of in
     let same : (view e.seat).plan ≡ plan h = of.1 in
-    let at : (lane_of x.seat.view).0 ≡ e.lane.0 = ap (λ (s : Sitting). (lane_of s.view).0) (sym seat) ∙ ap (λ (l : Lane). l.0) (sym lane) in
+    let at : (lane_of (seat_of x).view).0 ≡ e.lane.0 = ap (λ (s : Sitting). (lane_of s.view).0) (sym seat) ∙ ap (λ (l : Lane). l.0) (sym lane) in
     record {
       seat = (of.0, of.2);
       lane = ap (λ (l : Lane). l.0) lane;
@@ -53,7 +54,7 @@ ended_of h c rings x e k joined seat ring capacity lane all_sent held within beg
           (keeps_limits (place_read e.seat) c (own_log (view e.seat).plan e.seat.view.events) within
           (subst (λ n. BeganBelow ((view e.seat).trimmed + n) (actions_in (view e.seat))) (capacity ∙ joined.holds) began));
       held = held ∙ ap (λ (s : Setting). held_in s e.seat.view.events) same;
-      ring = subst (λ (p : Producer Record Global AnyItems). IsEndOf p rings e.lane.0) (sym ring) (subst (λ l. IsEndOf x.ring rings l) at joined.ring);
+      ring = subst (λ (p : Producer Record Global AnyItems). IsEndOf p rings e.lane.0) (sym ring) (subst (λ l. IsEndOf (ring_of x) rings l) at joined.ring);
     }
 
 -- the list of those that met

@@ -7,11 +7,14 @@ use Rattle.block_disk.specs.Device.{Device}
 use Rattle.heap_model.specs.declared.record.Record.{Record}
 use Rattle.heap_model.specs.declared.ids.Lane.{Lane}
 use Rattle.session.specs.Sessions.{ring_of, view_of}
+use Rattle.monitor.specs.Seats.{Home}
 use Rattle.steps.specs.Views.{plan}
-use Rattle.trim_helper.specs.Helping.{IsHelper, count_published, place_published, taken_in}
+use Rattle.store_past.specs.Past.{Past}
+use Rattle.trim_helper.specs.Helping.{count_published, place_published}
 use Rattle.trim_helper.specs.Moves.{IsEndOf}
-use Rattle.trim_helper.proofs.Rounds.{drains_same, drains_served, moved_seat}
-use Rattle.running_heap.specs.Joined.{HasGoneOn}
+use Rattle.trim_helper.specs.Parts.{IsServing, Parts}
+use Rattle.trim_helper.proofs.Rounds.{drains_same, drains_served, goes_drained, moved_seat}
+use Rattle.running_heap.specs.Joined.{HasGoneOn, IsHelping}
 use Rattle.running_heap.specs.Laws.{CallLaw, DrainLaw, EndedLaw, RingsLaw, RoundLaw, WaitLaw}
 
 -- another value of the same end
@@ -43,24 +46,23 @@ over_ended h c rings later e ended same = record {
   ring = same.ends e.producer e.lane.0 ended.ring;
 }
 
-pub goes_on : {D : Type 0} (device : D → Device) → RoundLaw device
-goes_on device h x y n p was on served = record {
+-- over a call that keeps its words and rings, and after which it serves a past
+helps_on : {D : Type 0} (device : D → Device) (h : Home) (x y : Parts D) (now : Past) → IsHelping device h x → HasGoneOn h x y → IsServing device y (plan h) now → IsHelping device h y
+helps_on device h x y now was on serving = record {
   seat = on.seat;
   lanes = was.lanes ∙ ap (λ l. l.lanes) (sym on.layout);
   rings = on.rings.count ∙ was.rings;
   nobody = on.taken ∙ was.nobody;
-  past = served.now;
-  serving = served.serves;
+  past = now;
+  serving = serving;
 }
+
+pub goes_on : {D : Type 0} (device : D → Device) → RoundLaw device
+goes_on device h p x y answer was on round = helps_on device h x y round.now was on round.serves
 
 pub drains_on : {D : Type 0} (device : D → Device) → DrainLaw device
 drains_on device h x y n was seat drained quiet =
-    let on : HasGoneOn h x y = record {
-      seat = subst (λ s. IsHelper h s) (sym seat) was.seat;
-      taken = ap taken_in seat;
-      rings = drains_same _ _ _ _ _ _ _ _ n drained;
-      layout = drained.advances.layout;
-    } in
+    let on : HasGoneOn h x y = goes_drained h x y was.seat seat (drains_same _ _ _ _ _ _ _ _ n drained) drained.advances.layout in
     let served = moved_seat count_published place_published _ _ _ _ _ y.is_settled (plan h) was.past n x.seat y.seat seat
     (drains_served _ _ _ _ _ _ _ _ n x.is_settled y.is_settled (count_published x.seat) (place_published x.seat) (plan h) was.past drained quiet was.serving) in
-    (on, goes_on device h x y n was.past was on served)
+    (on, helps_on device h x y served.now was on served.serves)

@@ -7,9 +7,9 @@ use Rattle.monitor.specs.Seats.{Home}
 use Rattle.steps.specs.Views.{plan}
 use Rattle.store_past.specs.Past.{Past, no_past}
 use Rattle.trim_helper.specs.Helping.{count_published, place_published}
-use Rattle.trim_helper.specs.Parts.{HasServed, Parts}
+use Rattle.trim_helper.specs.Parts.{IsServing, Parts}
 use Rattle.trim_helper.proofs.Rounds.{drains_served, moved_seat}
-use Rattle.running_heap.specs.Life.{BirthLaw, ClosedLifeLaw, DrainLifeLaw, HasLived}
+use Rattle.running_heap.specs.Life.{BirthLaw, ClosedLifeLaw, DrainLifeLaw, HasLived, LifeLaw}
 
 module _ {D : Type 0} (device : D → Device) where
   pub begins : BirthLaw device
@@ -19,27 +19,32 @@ module _ {D : Type 0} (device : D → Device) where
     running = running;
   }
 
-  pub lives_on : (h : Home) (opened : Device) (x y : Parts D) (p : Past) (n : ℕ) → HasLived device h opened x p → y.store.known.layout ≡ x.store.known.layout → (served : HasServed device x y (plan h) p n) → y.store.known.has_failed ≡ false → HasLived device h opened y served.now
-  lives_on h opened x y p n was layout served running =
+  -- the calls of a round, or of a drain, behind those since the opening
+  lives_by : (h : Home) (opened : Device) (x y : Parts D) (p q : Past) → HasLived device h opened x p → y.store.known.layout ≡ x.store.known.layout → HasRun y.store.known.layout (plan h) p (device x.store.disk) q (device y.store.disk) y.store.known.has_failed →
+      IsServing device y (plan h) q → y.store.known.has_failed ≡ false → HasLived device h opened y q
+  lives_by h opened x y p q was layout ran serves running =
       let life = was.life in
-      let ran : HasRun y.store.known.layout (plan h) p (device x.store.disk) served.now (device y.store.disk) false =
-      subst (λ (b : Bool). HasRun y.store.known.layout (plan h) p (device x.store.disk) served.now (device y.store.disk) b) running served.ran in
+      let on : HasRun y.store.known.layout (plan h) p (device x.store.disk) q (device y.store.disk) false =
+      subst (λ (b : Bool). HasRun y.store.known.layout (plan h) p (device x.store.disk) q (device y.store.disk) b) running ran in
       record {
         life = record {
           began = life.began;
           nothing = life.nothing;
           layout = life.layout ∙ sym layout;
-          ran = ran_then x.store.known.layout y.store.known.layout (plan h) no_past p served.now opened (device x.store.disk) (device y.store.disk) false false layout life.ran (life.ran.whole refl) ran;
+          ran = ran_then x.store.known.layout y.store.known.layout (plan h) no_past p q opened (device x.store.disk) (device y.store.disk) false false layout life.ran (life.ran.whole refl) on;
         };
-        serving = served.serves;
+        serving = serves;
         running = running;
       }
+
+  pub lives_on : LifeLaw device
+  lives_on h opened p x y answer was on round running = lives_by h opened x y p round.now was on.layout round.ran round.serves running
 
   pub lives_drained : DrainLifeLaw device
   lives_drained h opened x y p n was seat drained quiet =
       let served = moved_seat count_published place_published _ _ _ _ _ y.is_settled (plan h) p n x.seat y.seat seat
       (drains_served _ _ _ _ _ _ _ _ n x.is_settled y.is_settled (count_published x.seat) (place_published x.seat) (plan h) p drained quiet was.serving) in
-      (served.now, lives_on h opened x y p n was drained.advances.layout served (drained.advances.running ∙ was.running))
+      (served.now, lives_by h opened x y p served.now was drained.advances.layout served.ran served.serves (drained.advances.running ∙ was.running))
 
   pub lives_closed : ClosedLifeLaw device
   lives_closed h opened d x p ended was from =

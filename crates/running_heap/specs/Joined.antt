@@ -6,9 +6,10 @@ use Rattle.steps.specs.Views.{plan}
 use Rattle.session.specs.declared.session.Session.{Session}
 use Rattle.session.specs.Sessions.{IsSessionOf, view_of, ring_of, capacity_of}
 use Rattle.store_past.specs.Past.{Past}
+pub use Rattle.trim_helper.specs.Calls.{HasGoneOn}
 use Rattle.trim_helper.specs.Endings.{Rings}
 use Rattle.trim_helper.specs.Helping.{IsHelper, taken_in}
-use Rattle.trim_helper.specs.Moves.{IsEndOf, SameRings}
+use Rattle.trim_helper.specs.Moves.{IsEndOf}
 use Rattle.trim_helper.specs.Parts.{Parts, IsServing}
 
 -- The session is of these words, its lane holds so many records, and the other end of its ring is the lane's.
@@ -21,13 +22,6 @@ pub record IsJoined (h : Home) (capacity : ℕ) (rings : Rings) (x : Session) : 
 abbrev pub AreNew : (first : ℕ) → List Session → Type 0
 AreNew l [] = Unit {0}
 AreNew l (x ∷ xs) = ((view_of x).lane.0 ≡ l) × ((view_of x).events ≡ []) × AreNew (suc l) xs
-
--- What each call of a helper keeps: its words, its lanes and rings, and whom it took in.
-pub record HasGoneOn {D : Type 0} (h : Home) (x y : Parts D) : Type 0 where
-  pub seat : IsHelper h y.seat
-  pub taken : taken_in y.seat ≡ taken_in x.seat
-  pub rings : SameRings x.rings y.rings
-  pub layout : y.store.known.layout ≡ x.store.known.layout
 
 module _ {D : Type 0} (device : D → Device) where
   -- The helper is of these words and has their lanes, it took in nobody, and its store has a past under their setting.

@@ -1,5 +1,5 @@
 -- A session stays joined to its helper, and a helper goes on.
-use Rattle.std.specs.Prelude.{ℕ, ◌≡◌, true}
+use Rattle.std.specs.Prelude.{ℕ, ◌≡◌, true, Result}
 use Rattle.block_disk.specs.Device.{Device}
 use Rattle.monitor.specs.Seats.{Home}
 use Rattle.session.specs.declared.session.Session.{Session}
@@ -7,10 +7,12 @@ use Rattle.session.specs.declared.waiting.Waiting.{Waiting}
 use Rattle.session.specs.Sessions.{IsSessionOf, SameRing, SameRingWaiting, SameRingResumed}
 use Rattle.steps.specs.Views.{plan}
 use Rattle.store_past.specs.Past.{Past}
+use Rattle.store_past.specs.declared.error.StoreError.{StoreError}
+use Rattle.trim_helper.specs.Calls.{Rounds}
 use Rattle.trim_helper.specs.declared.ended.Ended.{Ended}
 use Rattle.trim_helper.specs.Endings.{IsEnded, Rings}
 use Rattle.trim_helper.specs.Moves.{SameRings}
-use Rattle.trim_helper.specs.Parts.{HasDrained, HasServed, Parts}
+use Rattle.trim_helper.specs.Parts.{HasDrained, Parts}
 use Rattle.running_heap.specs.Joined.{IsHelping, IsJoined, HasGoneOn}
 
 -- over a call of the session, which keeps its words, and its ring and lane
@@ -30,9 +32,9 @@ abbrev pub EndedLaw : Type 0
 EndedLaw = (h : Home) (c : ℕ) (rings later : Rings) (e : Ended) → IsEnded h c rings e → SameRings rings later → IsEnded h c later e
 
 module _ {D : Type 0} (device : D → Device) where
-  -- a helper goes on over a round
+  -- a helper goes on over a round, whatever it answers
   abbrev pub RoundLaw : Type 0
-  RoundLaw = (h : Home) (x y : Parts D) (n : ℕ) (p : Past) → IsHelping device h x → HasGoneOn h x y → HasServed device x y (plan h) p n → IsHelping device h y
+  RoundLaw = (h : Home) (p : Past) (x y : Parts D) (answer : Result ℕ StoreError) → IsHelping device h x → HasGoneOn h x y → Rounds device (plan h) p x y answer → IsHelping device h y
 
   -- over a drain, which keeps its seat, and after which nothing is settled that wasn't, nor where something was applied
   abbrev pub DrainLaw : Type 0

@@ -1,5 +1,5 @@
 -- A heap's life since its opening: the store calls that its helper made (this project's own).
-use Rattle.std.specs.Prelude.{ℕ, ◌≡◌, true, false, List}
+use Rattle.std.specs.Prelude.{ℕ, ◌≡◌, true, false, List, Result}
 use Rattle.block_disk.specs.Device.{Device}
 use Rattle.durable.specs.Runs.{HasRun}
 use Rattle.durable.specs.Store.{Known, HasPast}
@@ -7,8 +7,10 @@ use Rattle.image.specs.declared.layout.Layout.{Layout}
 use Rattle.monitor.specs.Seats.{Home}
 use Rattle.steps.specs.Views.{plan}
 use Rattle.store_past.specs.Past.{Past, no_past}
+use Rattle.store_past.specs.declared.error.StoreError.{StoreError}
 use Rattle.trim_helper.specs.declared.ended.Ended.{Ended}
-use Rattle.trim_helper.specs.Parts.{HasDrained, HasServed, IsServing, Parts}
+use Rattle.trim_helper.specs.Calls.{HasGoneOn, Rounds}
+use Rattle.trim_helper.specs.Parts.{HasDrained, IsServing, Parts}
 use Rattle.running_heap.specs.Closed.{IsClosedFrom}
 
 -- From the one device, when its store had been told nothing, to the other these calls of the store were made, and none of them failed.
@@ -31,7 +33,7 @@ module _ {D : Type 0} (device : D → Device) where
 
   -- and it goes on over a round after which the store hasn't failed
   abbrev pub LifeLaw : Type 0
-  LifeLaw = (h : Home) (opened : Device) (x y : Parts D) (p : Past) (n : ℕ) → HasLived h opened x p → y.store.known.layout ≡ x.store.known.layout → (served : HasServed device x y (plan h) p n) → y.store.known.has_failed ≡ false → HasLived h opened y served.now
+  LifeLaw = (h : Home) (opened : Device) (p : Past) (x y : Parts D) (answer : Result ℕ StoreError) → HasLived h opened x p → HasGoneOn h x y → (round : Rounds device (plan h) p x y answer) → y.store.known.has_failed ≡ false → HasLived h opened y round.now
 
   -- and over a drain
   abbrev pub DrainLifeLaw : Type 0

@@ -1,15 +1,14 @@
 //! Sessions end, and meet their helper.
-ghost use Rattle.std.specs.Prelude.{◌≡◌, ◌≤◌, ℕ, All, IfErr, IfOk, IsErrAnd, MatchResult, true};
-ghost use Rattle.heap_model.specs.Setting.{Setting};
+ghost use Rattle.std.specs.Prelude.{◌≡◌, ℕ, All, IfOk};
 ghost use Rattle.monitor.specs.Seats.{Home};
 ghost use Rattle.running_heap.specs.Closed.{IsClosed, IsClosedFrom};
 ghost use Rattle.running_heap.specs.Joined.{IsHelping, IsJoined};
+ghost use Rattle.session.specs.Sessions.{seat_of};
 ghost use Rattle.steps.specs.Views.{plan};
 ghost use Rattle.store_past.specs.Past.{Past};
-ghost use Rattle.trim_helper.specs.Closed.{Stood, disk_of};
-ghost use Rattle.trim_helper.specs.Endings.{HoldNone, IsCloseWhy, IsComplete, IsEnded, IsOfSessions, RefusesClosing, Rings};
+ghost use Rattle.trim_helper.specs.Calls.{Closes};
+ghost use Rattle.trim_helper.specs.Endings.{IsEnded, Rings};
 ghost use Rattle.trim_helper.specs.Parts.{IsServing};
-ghost use Rattle.trim_helper.specs.Taken.{HasTaken};
 
 use block_disk::Disk;
 use monitor::Shared;
@@ -18,7 +17,7 @@ use trim_helper::{CloseError, Ended, Helper, close_down};
 
 /// Ends a session, for its helper to meet. It may still hold monitors; then its heap isn't closed.
 pub fn end(session: Session) -> Ended
-    ensures seat { result.seat ≡ session.seat }
+    ensures seat { result.seat ≡ seat_of session }
     ensures ended { (h : Home) (capacity : ℕ) (rings : Rings) → IsJoined h capacity rings session → IsEnded h capacity rings result }
 {
     let ended = session.finish();
@@ -51,13 +50,7 @@ pub fn close<D: Disk>(
     requires ended { All (IsEnded shared helper.store.known.layout.capacity helper.rings) ended.items }
     ensures ok { IfOk result (λ disk. IsClosed shared helper.store.known.layout ended.items (D.device disk)) }
     ensures from { (p : Past) → IsServing D.device helper (plan shared) p → IfOk result (λ disk. IsClosedFrom shared helper.store.known.layout ended.items p (D.device helper.store.disk) (D.device disk)) }
-    ensures refused { MatchResult result (λ disk. HoldNone ended.items × IsComplete helper.store.known.layout.lanes ended.items) (λ back. RefusesClosing helper.store.known.layout.lanes ended.items back.1) }
-    ensures untouched { IfErr result (λ back. IsOfSessions back.1 → back.0 ≡ helper.store.disk) }
-    ensures failed { helper.store.known.has_failed ≡ true → HoldNone ended.items → IsComplete helper.store.known.layout.lanes ended.items → IsErrAnd result (λ back. back.1 ≡ CloseError.Failed) }
-    ensures why { IfErr result (λ back. IsCloseWhy helper.store.known (D.device helper.store.disk) (D.device back.0) back.1) }
-    ensures failures { IfOk result (λ disk. (D.device helper.store.disk).failures ≤ (D.device disk).failures) }
-    ensures any_moment { (s : Setting) (p : Past) → HasTaken helper.store.known (D.device helper.store.disk) helper.rings helper.waiting s p
-        → Stood helper.store.known.layout s p ended.items (D.device helper.store.disk) (D.device (disk_of result)) }
+    ensures closes { (p : Past) → IsServing D.device helper (plan shared) p → Closes D.device shared ended.items p helper result }
 {
     close_down(shared, ended, helper)
 }

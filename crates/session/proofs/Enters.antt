@@ -10,7 +10,7 @@ use Rattle.heap_model.specs.declared.limits.TheConstants.{SECTION_RECORDS, LAST_
 use Rattle.session.specs.declared.limits.TheConstants.{MOST_HELD}
 use Rattle.session.specs.Logs.{held_count, place}
 use Rattle.session.specs.Calls.{IsNews, IsQuiet, IsFull, HasRing, Tries, Begins, GoesOn}
-use Rattle.session.proofs.Lengthening.{after_quiet, thin_back}
+use Rattle.session.proofs.Lengthening.{after_quiet, seen_later, thin_back}
 
 -- where the ring has room, and the reason is what a look or a try showed
 pub ring_tried : (c k f r : ℕ) (v w : View) (o : ObjectId) (x : Result (Unit {0}) SessionError) → k ≤ f → MatchResult x (λ _. f ≤ r + 1) (λ _. f ≤ r) → Tries v w o x →
@@ -51,7 +51,7 @@ began c v u w o (Err Worn) q fits low t = ((let r = t.2.trimmed in omega arith),
   where
     later : (n : ℕ) → u.plan.last ≤ n → v.plan.last ≤ n
     later n le = (let e = ap (λ k. k.last) q.plan in omega arith)
-began c v u w o (Err (Held x)) q fits low (inl a) = ((let r = a.6.trimmed in omega arith), low, inl (a.0, a.1, a.2, (λ e. a.3 (e ∙ sym q.lane)), a.4, a.5, after_quiet v u w _ q a.6))
+began c v u w o (Err (Held x)) q fits low (inl a) = ((let r = a.4.told.trimmed in omega arith), low, inl (a.0, a.1, a.2, (λ e. a.3 (e ∙ sym q.lane)), seen_later v u w o x _ q a.4))
 began c v u w o (Err (Held x)) q fits low (inr a) = ((let r = a.4.trimmed in omega arith), low, inr (a.0, later a.0 a.1, still_news x a.2, a.3, after_quiet v u w _ q a.4))
   where
     later : (n : ℕ) → n < u.plan.last → n < v.plan.last

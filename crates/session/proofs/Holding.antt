@@ -104,14 +104,13 @@ pub hold_one : {x : Option Hold} {h k : Hold} → x ≡ Some h → x ≡ Some k 
 hold_one {x} {h} {k} e f = let out : Option Hold → Hold = λ y. elim y [ None ↦ h | Some z ↦ z ] in ap out (sym e ∙ f)
 
 pub looked_up : (v : View) (gs slice : List Grip) (o : ObjectId) (x : Option (ℕ × Grip)) → Holds v gs → slice ≡ gs →
-    MatchOption x (grip_in o.0 slice ≡ None) (λ r. (r.0 ≡ place_in o.0 slice) × (grip_in o.0 slice ≡ Some r.1)) → MatchOption x (FindsNone v gs o) (λ r. Finds v gs o r.1)
+    MatchOption x (grip_in o.0 slice ≡ None) (λ r. grip_in o.0 slice ≡ Some r.1) → MatchOption x (FindsNone v gs o) (λ r. Finds v gs o r.1)
 looked_up v gs slice o None h same e = finds_none v gs o h (ap (grip_in o.0) (sym same) ∙ e)
-looked_up v gs slice o (Some r) h same e = finds v gs o r.1 h (ap (grip_in o.0) (sym same) ∙ e.1)
+looked_up v gs slice o (Some r) h same e = finds v gs o r.1 h (ap (grip_in o.0) (sym same) ∙ e)
 
-pub placed : (gs slice : List Grip) (o : ℕ) (x : Option (ℕ × Grip)) → slice ≡ gs →
-    MatchOption x (grip_in o slice ≡ None) (λ r. (r.0 ≡ place_in o slice) × (grip_in o slice ≡ Some r.1)) → IfSome x (λ r. r.0 ≡ place_in o gs)
+pub placed : (gs slice : List Grip) (o : ℕ) (x : Option (ℕ × Grip)) → slice ≡ gs → IfSome x (λ r. r.0 ≡ place_in o slice) → IfSome x (λ r. r.0 ≡ place_in o gs)
 placed gs slice o None same e = tt
-placed gs slice o (Some r) same e = e.0 ∙ ap (place_in o) same
+placed gs slice o (Some r) same e = e ∙ ap (place_in o) same
 
 -- a changed grip is found
 pub found_changed : (w : View) (gs held : List Grip) (g n : Grip) (o : ObjectId) → held ≡ with_grip n gs → n.object ≡ o → Keeps w n → grip_in o.0 gs ≡ Some g → Finds w held o n

@@ -3,13 +3,15 @@ use Rattle.std.proofs.Common.{ℕ, ◌≡◌, ◌≢◌, if◌then◌else◌, Li
 use Rattle.heap_model.specs.declared.ids.ObjectId.{ObjectId}
 use Rattle.heap_model.specs.declared.event.Event.{Event}
 use Rattle.heap_model.specs.declared.event.Event.TheVariants.{NestedEnter, NestedExit, Exit, Wait, Resume}
+use Rattle.heap_model.specs.declared.event.Sight.{Sight}
 use Rattle.heap_model.specs.State.{with_at}
 use Rattle.heap_model.specs.declared.record.Record.{Record}
 use Rattle.heap_model.specs.Own.{own, own_log, more, less, pause_count}
 use Rattle.heap_model.specs.Sections.{action, holding, open_section}
 use Rattle.session.specs.Logs.{log_in, held_count, section_records, place}
-use Rattle.steps.specs.Views.{View}
-use Rattle.steps.specs.Views.{Lengthens, hold, slot_in}
+use Rattle.steps.specs.Views.{View, Lengthens, hold, slot_in}
+use Rattle.steps.specs.declared.grip.Seen.{Seen}
+use Rattle.session.specs.Calls.{Sees}
 use Rattle.session.proofs.GripLists.{by_test}
 
 pub after_both : (v w x : View) (a b : List Event) → Lengthens v w a → Lengthens w x b → Lengthens v x (b ++ a)
@@ -36,6 +38,10 @@ after_quiet v w x b f s = record {
   fats = λ o i e. s.fats o i (f.fats o i e);
   words = λ o x h. s.words o x (f.words o x h);
 }
+
+-- a look behind nothing
+pub seen_later : (v w x : View) (o : ObjectId) (y : Seen) (sight : Sight) → Lengthens v w [] → Sees w x o y sight → Sees v x o y sight
+seen_later v w x o y sight f s = record { word = s.word; shows = s.shows; told = after_quiet v w x _ f s.told }
 
 -- what isn't known to be fat wasn't before
 pub thin_back : (v w : View) (newer : List Event) (o : ObjectId) → Lengthens v w newer → slot_in o.0 w.fats ≡ None → slot_in o.0 v.fats ≡ None

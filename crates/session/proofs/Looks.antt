@@ -62,7 +62,7 @@ miss_looks o (seen.Lock (thin.Fat i m)) = tt
 miss_looks o (seen.Fat f) = ((_, refl), tt)
 
 tried_looks : (v w : View) (o : ObjectId) (x : Seen) → SeesAnother v w o x ⊎ SeesChange v w o x → OnlyLooks v w o
-tried_looks v w o x (inl a) = (_, ((_, refl), tt), a.6)
+tried_looks v w o x (inl a) = (_, ((_, refl), tt), a.4.told)
 tried_looks v w o x (inr a) = (_, looks_append o (miss_events o x) (Look o (Found None 0 a.0) ∷ []) (miss_looks o x) ((_, refl), tt), a.4)
 
 -- a try that answers that the monitor is held
@@ -82,6 +82,6 @@ quiet_enter c u v w o done e f = (
 
 pub waits_looks : (v w : View) (o : ObjectId) (s : Still) → WaitsOn v w o s → OnlyLooks v w o
 waits_looks v w o still.InSet told = (_, ((_, refl), tt), told)
-waits_looks v w o (still.Held x) (fat, inl (inl a)) = (_, ((_, refl), tt), a.6)
-waits_looks v w o (still.Held x) (fat, inl (inr a)) = (_, ((_, refl), tt), a.4)
+waits_looks v w o (still.Held x) (fat, inl (inl a)) = (_, ((_, refl), tt), a.4.told)
+waits_looks v w o (still.Held x) (fat, inl (inr a)) = (_, ((_, refl), tt), a.2.told)
 waits_looks v w o (still.Held x) (fat, inr a) = tried_looks v w o x (inr a)

@@ -37,11 +37,11 @@ other_owner w o StillInSet owned agrees free = absurd owned
 pub sees_another : (u w : View) (o : ObjectId) (sight : Sight) (x : Seen) → IsOwned sight → sight_in x ≡ sight → AgreesWith w o sight → hold u o.0 ≡ None → IsOfSlot (slot_in o.0 w.fats) x → Lengthens u w (Look o sight ∷ []) → SeesAnother u w o x
 sees_another u w o sight x owned is agrees free slot told =
     let f = other_owner w o sight owned agrees (hold_after u w (Look o sight ∷ []) o.0 told ∙ free) in
-    (f.0, f.1, f.2, (λ e. f.3 (e ∙ sym told.lane)), slot, is ∙ f.4, subst (λ z. Lengthens u w (Look o z ∷ [])) (sym is) told)
+    (f.0, f.1, f.2, (λ e. f.3 (e ∙ sym told.lane)), record { word = slot; shows = is ∙ f.4; told = subst (λ z. Lengthens u w (Look o z ∷ [])) f.4 told })
 
 -- the look showed a monitor with the last number
 pub sees_last : (u w : View) (o : ObjectId) (sight : Sight) (n : ℕ) (x : Seen) → sight ≡ Found None 0 n → u.plan.last ≤ n → sight_in x ≡ sight → IsOfSlot (slot_in o.0 w.fats) x → Lengthens u w (Look o sight ∷ []) → SeesLast u w o x
-sees_last u w o sight n x is high shown slot told = (n, high, slot, shown ∙ is, subst (λ z. Lengthens u w (Look o z ∷ [])) is told)
+sees_last u w o sight n x is high shown slot told = (n, high, record { word = slot; shows = shown ∙ is; told = subst (λ z. Lengthens u w (Look o z ∷ [])) is told })
 
 -- a lock word that names a slot names that of its monitor
 pub whole_slot : (v : View) (o : ObjectId) (lock : Shape) (fat : Option FatShape) → IsWhole v o lock fat → IsSlot v o (slot_named lock)

@@ -7,6 +7,7 @@ use Rattle.heap_model.specs.declared.event.Event.TheVariants.{Wait}
 use Rattle.heap_model.specs.Own.{Hold}
 use Rattle.steps.specs.Views.{View}
 use Rattle.steps.specs.declared.grip.Grip.{Grip}
+use Rattle.session.specs.declared.parts.Parts.{Parts}
 use Rattle.session.specs.declared.session.Session.{Session}
 use Rattle.session.specs.declared.waiting.Waiting.{Waiting}
 use Rattle.session.specs.declared.error.SessionError.{SessionError}
@@ -23,8 +24,8 @@ use Rattle.session.proofs.Lengthening.{after_quiet, held_stays, records_stay, pl
 use Rattle.session.proofs.Sitting.{not_full_by}
 
 -- the room stays where nothing was pushed
-pub room_again : (s t : Session) → SameNumbers s t → HasRoomToWait s → HasRoomToWait t
-room_again s t same room = record {
+pub room_again : (p q : Parts) → SameNumbers p q → HasRoomToWait p → HasRoomToWait q
+room_again p q same room = record {
   ring = λ one. subst (λ ring. SECTION_RECORDS + 1 ≤ known_free ring) (sym same.ring) (room.ring (sym same.held ∙ one));
   lane = λ one. (let a = room.lane (sym same.held ∙ one) in let b = same.place in let c = same.trimmed in let d = same.capacity in omega arith);
   short = λ several. (let n = same.held in let a = room.short (omega arith) in let b = same.records in omega arith);
@@ -39,11 +40,11 @@ worn_again v w h told (inl a) = inl (let e = ap (λ k. k.last) told.plan in omeg
 worn_again v w h told (inr a) = inr (held_stays v w told ∙ a.0, (let e = place_stays v w told in let b = a.1 in omega arith))
 
 -- a section isn't full where there is room for a wait
-room_for_wait : (s : Session) → HasRoomToWait s → 1 < held_count (view_of s) → IsFull (view_of s) 2 → ⊥
+room_for_wait : (s : Session) → HasRoomToWait s.parts → 1 < held_count (view_of s) → IsFull (view_of s) 2 → ⊥
 room_for_wait s room several = not_full_by _ _ _ _ _ _ _ _ _ 2 s.sits (let n = held_length _ _ s.sits.stays.holds in room.short (omega arith))
 
 -- there is room for the wait, as an earlier view and a later one have it
-leaves_room : (v : View) (t : Session) (u : View) (c : ℕ) → Lengthens v (view_of t) [] → (view_of t).trimmed ≤ u.trimmed → t.capacity ≡ c → HasRoomToWait t → LeavesRoom c v u
+leaves_room : (v : View) (t : Session) (u : View) (c : ℕ) → Lengthens v (view_of t) [] → (view_of t).trimmed ≤ u.trimmed → t.parts.capacity ≡ c → HasRoomToWait t.parts → LeavesRoom c v u
 leaves_room v t u c f rises same room = (
   λ several full. room_for_wait t room (subst (λ (n : ℕ). 1 < n) (sym (held_stays _ _ f)) several) (full_again _ _ 2 f full),
   λ one. (let n = held_length _ _ t.sits.stays.holds in let h = held_stays v (view_of t) f in let lane = room.lane (omega arith) in let k = t.sits.stays.known in let p = t.sits.stays.told.places in
@@ -51,7 +52,7 @@ leaves_room v t u c f rises same room = (
 )
 
 -- the answer of both tests
-pub wait_answer : (s t u : Session) (o : ObjectId) (h : Hold) (x : Result Grip SessionError) (c : ℕ) → Lengthens (view_of s) (view_of t) [] → Lengthens (view_of t) (view_of u) [] → t.capacity ≡ c → HasRoomToWait t →
+pub wait_answer : (s t u : Session) (o : ObjectId) (h : Hold) (x : Result Grip SessionError) (c : ℕ) → Lengthens (view_of s) (view_of t) [] → Lengthens (view_of t) (view_of u) [] → t.parts.capacity ≡ c → HasRoomToWait t.parts →
     MatchResult x (MayWait u o h) (RefusesFat (view_of t) (view_of u) o h) → MatchResult x (MayWait u o h) (RefusesWait c (view_of s) (view_of u) o h)
 wait_answer s t u o h (Ok g) c f k same room may = may
 wait_answer s t u o h (Err NoFat) c f k same room no_ = (leaves_room (view_of s) t (view_of u) c f k.trimmed same room, thin_back _ _ [] o f no_.0, no_.1, after_quiet _ _ _ [] f k)
@@ -84,7 +85,7 @@ ring_for c k r v w o h P (Err TooDeep) le why = absurd why
 ring_for c k r v w o h P (Err (Held x)) le why = absurd why
 
 -- a wait is begun
-pub begun : (s t : Session) (w : View) (o : ObjectId) (h : Hold) (g : Grip) (c : ℕ) → Lengthens (view_of s) (view_of t) [] → t.capacity ≡ c → MayWait t o h g → Lengthens (view_of t) w (Wait g.object g.number ∷ []) → BeginsWait c (view_of s) w o h
+pub begun : (s t : Session) (w : View) (o : ObjectId) (h : Hold) (g : Grip) (c : ℕ) → Lengthens (view_of s) (view_of t) [] → t.parts.capacity ≡ c → MayWait t o h g → Lengthens (view_of t) w (Wait g.object g.number ∷ []) → BeginsWait c (view_of s) w o h
 begun s t w o h g c f same may told = (
   leaves_room (view_of s) t w c f told.trimmed same may.room,
   λ worn. may.fresh (worn_again _ _ h f worn),

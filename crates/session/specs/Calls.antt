@@ -40,7 +40,8 @@ use Rattle.session.specs.Sessions.{awaited, capacity_of, free_of, free_waiting, 
 abbrev pub IsQuiet : View → View → Type 0
 IsQuiet v w = Lengthens v w []
 
--- the helper is behind, as far as the view knows: so many records with all that were sent pass the ring, or with those since the trimmed place pass the lane
+-- the helper is behind, as far as the view knows: so many records pass the ring with all that were sent, or the lane with those since
+-- the trimmed place
 abbrev pub IsBehind : (capacity needed : ℕ) → View → Type 0
 IsBehind c k w = (RING_RECORDS < place w + k) ⊎ (w.trimmed + c < place w + k)
 
@@ -72,9 +73,23 @@ sight_in (seen.Lock (thin.Thin t a n)) = Found (Some (lane_of_thread t)) (a + 1)
 sight_in (seen.Lock (thin.Fat i m)) = StillInSet
 sight_in (seen.Fat f) = fat_sight f
 
--- the look showed another thread's hold, in the word of the monitor's slot, or in the lock word where it has none
+-- A look was told, of what the word shows: that of the monitor's slot, or the lock word where it has none.
+pub record Sees (v w : View) (o : ObjectId) (x : Seen) (sight : Sight) : Type 0 where
+  pub word : IsOfSlot (slot_in o.0 w.fats) x
+  pub shows : sight_in x ≡ sight
+  pub told : Lengthens v w (Look o sight ∷ [])
+
+-- the look showed another thread's hold
 abbrev pub SeesAnother : View → View → ObjectId → Seen → Type 0
-SeesAnother v w o x = (l : Lane) × (c : ℕ) × (n : ℕ) × (l ≢ v.lane) × IsOfSlot (slot_in o.0 w.fats) x × (sight_in x ≡ Found (Some l) c n) × Lengthens v w (Look o (sight_in x) ∷ [])
+SeesAnother v w o x = (l : Lane) × (c : ℕ) × (n : ℕ) × (l ≢ v.lane) × Sees v w o x (Found (Some l) c n)
+
+-- the look showed a monitor that can't be taken any more
+abbrev pub SeesLast : View → View → ObjectId → Seen → Type 0
+SeesLast v w o x = (n : ℕ) × (v.plan.last ≤ n) × Sees v w o x (Found None 0 n)
+
+-- the look showed a monitor that can't be taken now
+abbrev pub SeesTaken : View → View → ObjectId → Seen → Type 0
+SeesTaken v w o x = SeesAnother v w o x ⊎ SeesLast v w o x
 
 -- the word is that of a slot
 abbrev pub IsFatSeen : Seen → Type 0
@@ -86,9 +101,13 @@ abbrev pub IsNews : View → View → ObjectId → Seen → Type 0
 IsNews v w o (seen.Lock x) = IsThin v o
 IsNews v w o (seen.Fat f) = IsFat w o
 
+-- a look that shows the monitor free at this number, and then a try that meets this word
+abbrev pub missed_events : ObjectId → (number : ℕ) → Seen → List Event
+missed_events o n x = miss_events o x ++ Look o (Found None 0 n) ∷ []
+
 -- the look showed a free monitor below the last number, which was gone at the try
 abbrev pub SeesChange : View → View → ObjectId → Seen → Type 0
-SeesChange v w o x = (n : ℕ) × (n < v.plan.last) × IsNews v w o x × IsAnother w o n x × Lengthens v w (miss_events o x ++ Look o (Found None 0 n) ∷ [])
+SeesChange v w o x = (n : ℕ) × (n < v.plan.last) × IsNews v w o x × IsAnother w o n x × Lengthens v w (missed_events o n x)
 
 -- a lock word that names a slot, and was met in place of a free one, is known whole from then on
 abbrev pub IsLastingHeld : View → ObjectId → SessionError → Type 0
@@ -102,11 +121,19 @@ Tries v w o (Err Worn) = (n : ℕ) × (v.plan.last ≤ n) × Lengthens v w (Look
 Tries v w o (Err (Held x)) = SeesAnother v w o x ⊎ SeesChange v w o x
 Tries v w o (Err _) = ⊥
 
+-- places have come to their end, and nothing is told
+abbrev pub HasNoPlace : View → View → Type 0
+HasNoPlace v w = (LAST_PLACE ≤ place v) × IsQuiet v w
+
+-- a first monitor where there is a place for the section: the try
+abbrev pub TriesFirst : View → View → ObjectId → Result (Unit {0}) SessionError → Type 0
+TriesFirst v w o x = (place v < LAST_PLACE) × Tries v w o x
+
 -- an enter that would begin a section
 abbrev pub Begins : (capacity : ℕ) → View → View → ObjectId → Result (Unit {0}) SessionError → Type 0
 Begins c v w o (Err Behind) = IsBehind c SECTION_RECORDS w × IsQuiet v w
 Begins c v w o (Ok done) = Fits c SECTION_RECORDS v w × (place v < LAST_PLACE) × Tries v w o (Ok done)
-Begins c v w o (Err Worn) = Fits c SECTION_RECORDS v w × (((LAST_PLACE ≤ place v) × IsQuiet v w) ⊎ ((place v < LAST_PLACE) × Tries v w o (Err Worn)))
+Begins c v w o (Err Worn) = Fits c SECTION_RECORDS v w × (HasNoPlace v w ⊎ TriesFirst v w o (Err Worn))
 Begins c v w o (Err (Held x)) = Fits c SECTION_RECORDS v w × (place v < LAST_PLACE) × Tries v w o (Err (Held x))
 Begins c v w o (Err _) = ⊥
 
@@ -172,14 +199,10 @@ BeginsWait c v w o h = LeavesRoom c v w × (¬ IsWaitWorn v h) × Lengthens v w 
 abbrev pub Resumes : View → View → ObjectId → Type 0
 Resumes v w o = (n : ℕ) × (n < v.plan.last) × Lengthens v w (Resume o n ∷ Look o (Found None 0 n) ∷ [])
 
--- the look showed a monitor that can't be taken any more
-abbrev pub SeesLast : View → View → ObjectId → Seen → Type 0
-SeesLast v w o x = (n : ℕ) × (v.plan.last ≤ n) × IsOfSlot (slot_in o.0 w.fats) x × (sight_in x ≡ Found None 0 n) × Lengthens v w (Look o (Found None 0 n) ∷ [])
-
 -- why a thread waits on: the monitor, which is fat, tells by the word of its slot
 abbrev pub WaitsOn : View → View → ObjectId → Still → Type 0
 WaitsOn v w o still.InSet = Lengthens v w (Look o StillInSet ∷ [])
-WaitsOn v w o (still.Held x) = IsFatSeen x × ((SeesAnother v w o x ⊎ SeesLast v w o x) ⊎ SeesChange v w o x)
+WaitsOn v w o (still.Held x) = IsFatSeen x × (SeesTaken v w o x ⊎ SeesChange v w o x)
 
 -- each is a look at the object
 abbrev pub AreLooks : ObjectId → List Event → Type 0
@@ -193,6 +216,10 @@ OnlyLooks v w o = (looks : List Event) × AreLooks o looks × Lengthens v w look
 -- an enter of a monitor that isn't held
 abbrev pub EntersFirst : (capacity : ℕ) → View → View → ObjectId → Result (Unit {0}) SessionError → Type 0
 EntersFirst c v w o x = (held_count v ≡ 0 → Begins c v w o x) × (0 < held_count v → GoesOn v w o x)
+
+-- looks, and then such an enter
+abbrev pub EntersLater : (capacity : ℕ) → View → View → ObjectId → Result (Unit {0}) SessionError → Type 0
+EntersLater c v w o x = (u : View) × OnlyLooks v u o × EntersFirst c u w o x
 
 -- An enter of a monitor that isn't held, which waits where another thread was seen to have it: looks, and then the enter that
 -- is answered. A monitor that was taken after looks is left fat, where a slot is left.
@@ -287,10 +314,13 @@ pub record Notifies (h : Home) (x y : Session) (o : ObjectId) (r : Result (Optio
   pub not_held : o.0 < (plan h).objects → Lacks x o → Refuses x y error.NotHeld r
   pub held : o.0 < (plan h).objects → IsHeld (view_of x) o.0 → Tells x y (λ woken. event.Notify o woken ∷ []) r
 
+-- these are the lanes of the mask
+abbrev pub AreLanesOf : set.FinSet nat_cmp → List Lane → Type 0
+AreLanesOf mask woken = (l : Lane) → Contains woken l ↔ (set.contains mask l.0 ≡ true)
+
 -- the lanes of this mask left the monitor's wait set, all of them
 abbrev pub WakesAll : Session → Session → ObjectId → set.FinSet nat_cmp → Type 0
-WakesAll x y o mask = (woken : List Lane)
-    × Lengthens (view_of x) (view_of y) (event.NotifyAll o woken ∷ []) × ((l : Lane) → Contains woken l ↔ (set.contains mask l.0 ≡ true))
+WakesAll x y o mask = (woken : List Lane) × Lengthens (view_of x) (view_of y) (event.NotifyAll o woken ∷ []) × AreLanesOf mask woken
 
 -- A notification of all: the wait set is empty then.
 pub record NotifiesAll (h : Home) (x y : Session) (o : ObjectId) (r : Result (set.FinSet nat_cmp) SessionError) : Type 0 where
@@ -308,6 +338,11 @@ pub record Shows (x y : Session) (o : ObjectId) (lock : Shape) (fat : Option Fat
 pub record Looks (h : Home) (x y : Session) (o : ObjectId) (r : Result (Shape × Option FatShape) SessionError) : Type 0 where
   pub unknown : (plan h).objects ≤ o.0 → Refuses x y error.UnknownObject r
   pub known : o.0 < (plan h).objects → (lock : Shape) × (fat : Option FatShape) × (r ≡ Ok (lock, fat)) × Shows x y o lock fat
+
+-- A reading of how many sections of the lane were acknowledged at the last publication.
+pub record ReadsStable (x y : Session) (sections : ℕ) : Type 0 where
+  pub quiet : IsQuiet (view_of x) (view_of y)
+  pub read : (view_of y).stable ≡ sections
 
 -- the session comes back with this refusal, and nothing was told
 abbrev pub ComesBack : {A : Type 0} → Session → SessionError → Result A (Session × SessionError) → Type 0

@@ -8,5 +8,6 @@ pub mod Opened
 -- The scaffold: what a session keeps beside its seat's view, and what the parts of a call answer.
 pub mod Grips
 pub mod Sits
+pub mod Kept
 pub mod Steps
 pub mod Keeping

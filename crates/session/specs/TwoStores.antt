@@ -11,7 +11,7 @@ use Rattle.session.specs.Calls.{HoldsGuard, IsQuiet, LacksGuard, LacksRoom, Refu
 use Rattle.session.specs.Sessions.{view_of}
 
 -- both fields' guards are held: both stores, the first and then the second; or neither, where the records that they make don't fit
-abbrev pub StoresTwo : View → View → (f : FieldId) → (x : ℕ) → (g : FieldId) → (y : ℕ) → Result (Unit {0}) SessionError → Type 0
+abbrev pub StoresTwo : View → View → FieldId → ℕ → FieldId → ℕ → Result (Unit {0}) SessionError → Type 0
 StoresTwo v w f x g y (Ok done) = (¬ LacksRoom v (records_of v.plan f + records_of v.plan g))
     × (before : ℕ) × (then_before : ℕ) × Lengthens v w (Store g then_before y ∷ Store f before x ∷ [])
 StoresTwo v w f x g y (Err SectionFull) = LacksRoom v (records_of v.plan f + records_of v.plan g) × IsQuiet v w

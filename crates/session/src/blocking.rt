@@ -12,9 +12,9 @@ use std::thread;
 impl Session {
     ghost use Rattle.std.specs.Prelude.{◌≡◌, ◌<◌, IfOk, MatchResult};
     ghost use Rattle.session.specs.Keeping.{HasNoGrip};
-    ghost use Rattle.steps.specs.Views.{View, plan, IsHeld};
+    ghost use Rattle.steps.specs.Views.{plan, IsHeld};
     ghost use Rattle.session.specs.Logs.{held_count};
-    ghost use Rattle.session.specs.Calls.{IsQuiet, OnlyLooks, EntersFirst, EntersWaiting, IsFatOrFull, IsSettled, LeavesRing, WaitsFor, WaitsToEnter};
+    ghost use Rattle.session.specs.Calls.{IsQuiet, EntersLater, EntersWaiting, IsFatOrFull, IsSettled, LeavesRing, WaitsFor, WaitsToEnter};
     ghost use Rattle.session.specs.Sessions.{SameRing, IsSessionOf, view_of, capacity_of, free_of};
 
     /// Takes the monitor, or one lock more of it, and waits while another thread holds it (JLS 17.1). After such a wait it makes
@@ -83,7 +83,7 @@ impl Session {
         ensures seat { IsSessionOf shared.now self.new }
         ensures ring { SameRing self.old self.new }
         ensures settled { IsSettled result }
-        ensures first { (u : View) × OnlyLooks (view_of self.old) u object × EntersFirst (capacity_of self.old) u (view_of self.new) object result }
+        ensures first { EntersLater (capacity_of self.old) (view_of self.old) (view_of self.new) object result }
         ensures fat { IfOk result (λ done. IsFatOrFull (view_of self.new) object) }
         ensures ring_room { held_count (view_of self.old) ≡ 0 → LeavesRing self.old self.new result }
     {

@@ -7,6 +7,7 @@ ghost use Rattle.steps.specs.Views.{view};
 ghost use Rattle.session.specs.Logs.{sent_in, actions_in, held_count};
 ghost use Rattle.session.specs.Past.{BeganBelow, IsWithinLimits-prop, BeganBelow-prop};
 
+use crate::parts::Parts;
 use crate::session::Session;
 use heap_model::Record;
 use monitor::Seat;
@@ -25,7 +26,7 @@ pub struct Ended {
     ghost sent: { sent ring ≡ sent_in (view seat) },
     ghost counted: { held ≡ held_count (view seat) },
     ghost limits: { IsWithinLimits (actions_in (view seat)) } by { IsWithinLimits-prop (actions_in (view seat)) },
-    ghost began: { BeganBelow ((view seat).trimmed + capacity) (actions_in (view seat)) } by { BeganBelow-prop ((view seat).trimmed + capacity) (actions_in (view seat)) },
+    ghost began: { BeganBelow ((view seat).trimmed + capacity) (actions_in (view seat)) } by { Prim.hlevel BeganBelow-prop },
 }
 
 impl Session {
@@ -35,7 +36,8 @@ impl Session {
     pub fn finish(self) -> Ended
         ensures { Ends self result }
     {
-        let Session {
+        let Session { parts } = self;
+        let Parts {
             seat,
             ring,
             held,
@@ -44,7 +46,7 @@ impl Session {
             sections: _,
             capacity,
             trimmed: _,
-        } = self;
+        } = parts;
         Ended {
             seat,
             ring,

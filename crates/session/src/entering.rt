@@ -14,10 +14,9 @@ impl Session {
     ghost use Rattle.std.specs.Prelude.{◌≡◌, ◌+◌, ◌<◌, ◌≤◌, length, [], ◌∷◌, None, IfErr, MatchResult};
     ghost use Rattle.heap_model.specs.declared.event.Event.TheVariants as event;
     ghost use Rattle.heap_model.specs.declared.limits.TheConstants.{SECTION_RECORDS};
-    ghost use Rattle.rtrb.specs.Ring.{known_free};
     ghost use Rattle.steps.specs.Views.{plan, Lengthens, room_of};
     ghost use Rattle.session.specs.declared.limits.TheConstants.{MOST_HELD};
-    ghost use Rattle.session.specs.Sits.{HasRoom};
+    ghost use Rattle.session.specs.Kept.{HasRoomIn};
     ghost use Rattle.session.specs.Logs.{held_count};
     ghost use Rattle.session.specs.Calls.{IsQuiet, IsLastingHeld, Tries, Begins, LeavesRing, Enters, EntersAgain, EntersFirst};
     ghost use Rattle.session.specs.Keeping.{HasGrip, HasNoGrip, MakesFat, SameNumbers, hold_of};
@@ -82,8 +81,8 @@ impl Session {
         ensures ring { SameRing self.old self.new }
         ensures told { Lengthens (view_of self.old) (view_of self.new) (event.NestedEnter grip.object ∷ []) }
     {
-        let more = steps::nest(shared, &mut self.seat, grip);
-        put(&mut self.held, more);
+        let more = steps::nest(shared, &mut self.parts.seat, grip);
+        put(&mut self.parts.held, more);
     }
 
     // Makes a thin monitor fat, if a slot is left.
@@ -95,13 +94,13 @@ impl Session {
         ensures seat { IsSessionOf shared.now self.new }
         ensures ring { SameRing self.old self.new }
         ensures quiet { IsQuiet (view_of self.old) (view_of self.new) }
-        ensures numbers { SameNumbers self.old self.new }
+        ensures numbers { SameNumbers self.old.parts self.new.parts }
         ensures made { MakesFat self.new grip result }
     {
-        let Some(fat) = steps::inflate(shared, &mut self.seat, grip) else {
+        let Some(fat) = steps::inflate(shared, &mut self.parts.seat, grip) else {
             return None;
         };
-        put(&mut self.held, fat);
+        put(&mut self.parts.held, fat);
         Some(fat)
     }
 
@@ -121,11 +120,11 @@ impl Session {
         ensures ring_room { held_count (view_of self.old) ≡ 0 → LeavesRing self.old self.new result }
         ensures lasting { IfErr result (IsLastingHeld (view_of self.new) object) }
     {
-        let count = self.held.len();
+        let count = self.parts.held.len();
         if count == 0 {
             return self.begin(shared, object);
         }
-        if self.records + count as u64 + 2 > SECTION_RECORDS {
+        if self.parts.records + count as u64 + 2 > SECTION_RECORDS {
             seldom();
             return Err(SessionError::SectionFull);
         }
@@ -142,29 +141,29 @@ impl Session {
         requires seat { IsSessionOf shared.now self.old }
         requires object { object.0 < (plan shared.now).objects }
         requires free { HasNoGrip self.old object }
-        requires empty { self.old.held.items ≡ [] }
+        requires empty { self.old.parts.held.items ≡ [] }
         ensures seat { IsSessionOf shared.now self.new }
         ensures ring { SameRing self.old self.new }
         ensures begins { Begins (capacity_of self.old) (view_of self.old) (view_of self.new) object result }
         ensures ring_room { LeavesRing self.old self.new result }
         ensures lasting { IfErr result (IsLastingHeld (view_of self.new) object) }
     {
-        if !ring_has_room(&mut self.ring, SECTION_RECORDS as usize) {
+        if !ring_has_room(&mut self.parts.ring, SECTION_RECORDS as usize) {
             seldom();
             return Err(SessionError::Behind);
         }
         if !lane_has_room(
             shared,
-            &mut self.seat,
-            &mut self.trimmed,
-            self.place,
-            self.capacity,
+            &mut self.parts.seat,
+            &mut self.parts.trimmed,
+            self.parts.place,
+            self.parts.capacity,
             SECTION_RECORDS,
         ) {
             seldom();
             return Err(SessionError::Behind);
         }
-        if self.place >= LAST_PLACE {
+        if self.parts.place >= LAST_PLACE {
             seldom();
             return Err(SessionError::Worn);
         }
@@ -177,16 +176,16 @@ impl Session {
         requires seat { IsSessionOf shared.now self.old }
         requires object { object.0 < (plan shared.now).objects }
         requires free { HasNoGrip self.old object }
-        requires few { length self.old.held.items < MOST_HELD }
-        requires short { self.old.records + length self.old.held.items + 2 ≤ SECTION_RECORDS }
-        requires room { HasRoom self.old.records self.old.place self.old.capacity self.old.trimmed (known_free self.old.ring) }
+        requires few { length self.old.parts.held.items < MOST_HELD }
+        requires short { self.old.parts.records + length self.old.parts.held.items + 2 ≤ SECTION_RECORDS }
+        requires room { HasRoomIn self.old.parts }
         ensures seat { IsSessionOf shared.now self.new }
         ensures ring { SameRing self.old self.new }
         ensures tries { Tries (view_of self.old) (view_of self.new) object result }
         ensures free { MatchResult result (λ _. free_of self.old ≤ free_of self.new + 1) (λ _. free_of self.old ≤ free_of self.new) }
         ensures lasting { IfErr result (IsLastingHeld (view_of self.new) object) }
     {
-        let found = steps::look(shared, &mut self.seat, object);
+        let found = steps::look(shared, &mut self.parts.seat, object);
         let Some(free) = free_at(&found) else {
             seldom();
             return Err(SessionError::Held(shown(&found)));
@@ -196,12 +195,12 @@ impl Session {
             return Err(SessionError::Worn);
         }
         // The grip is made anew from what is known here, so that nothing of the answer but its kind is looked at.
-        match steps::try_take(shared, &mut self.seat, object, free.slot, free.number) {
+        match steps::try_take(shared, &mut self.parts.seat, object, free.slot, free.number) {
             Ok(_grip) => {
-                put_first(&mut self.held, first_grip(object, free));
-                self.records += 1;
-                self.place += 1;
-                self.ring.push_reserved(Record::Acq {
+                put_first(&mut self.parts.held, first_grip(object, free));
+                self.parts.records += 1;
+                self.parts.place += 1;
+                self.parts.ring.push_reserved(Record::Acq {
                     object,
                     number: free.number,
                 });

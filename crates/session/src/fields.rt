@@ -38,8 +38,8 @@ impl Session {
             seldom();
             return Err(SessionError::NotHeld);
         };
-        let value = steps::read_field(shared, &mut self.seat, field);
-        self.seat.stands();
+        let value = steps::read_field(shared, &mut self.parts.seat, field);
+        self.parts.seat.stands();
         monitor::load_law();
         Ok(value)
     }
@@ -69,7 +69,7 @@ impl Session {
             self.write_alone(shared, field, value);
             return Ok(());
         }
-        if self.records + self.held.len() as u64 + 1 > SECTION_RECORDS {
+        if self.parts.records + self.parts.held.len() as u64 + 1 > SECTION_RECORDS {
             seldom();
             return Err(SessionError::SectionFull);
         }
@@ -82,13 +82,13 @@ impl Session {
         requires seat { IsSessionOf shared.now self.old }
         requires field { field.0 < (plan shared.now).fields }
         requires held { IsHeld (view_of self.old) ((plan shared.now).guard field.0) }
-        requires some { 0 < length self.old.held.items }
-        requires short { self.old.records + length self.old.held.items + records_of (plan shared.now) field ≤ SECTION_RECORDS }
+        requires some { 0 < length self.old.parts.held.items }
+        requires short { self.old.parts.records + length self.old.parts.held.items + records_of (plan shared.now) field ≤ SECTION_RECORDS }
         ensures seat { IsSessionOf shared.now self.new }
         ensures ring { SameRing self.old self.new }
         ensures told { Lengthens (view_of self.old) (view_of self.new) (event.Store field result value ∷ []) }
-        ensures held { self.new.held ≡ self.old.held }
-        ensures records { self.new.records ≡ self.old.records + records_of (plan shared.now) field }
+        ensures held { self.new.parts.held ≡ self.old.parts.held }
+        ensures records { self.new.parts.records ≡ self.old.parts.records + records_of (plan shared.now) field }
     {
         if steps::is_logged(shared, field) {
             self.write(shared, field, value)
@@ -104,18 +104,18 @@ impl Session {
         requires field { field.0 < (plan shared.now).fields }
         requires logged { (plan shared.now).is_logged field.0 ≡ true }
         requires held { IsHeld (view_of self.old) ((plan shared.now).guard field.0) }
-        requires some { 0 < length self.old.held.items }
-        requires short { self.old.records + length self.old.held.items + 1 ≤ SECTION_RECORDS }
+        requires some { 0 < length self.old.parts.held.items }
+        requires short { self.old.parts.records + length self.old.parts.held.items + 1 ≤ SECTION_RECORDS }
         ensures seat { IsSessionOf shared.now self.new }
         ensures ring { SameRing self.old self.new }
         ensures told { Lengthens (view_of self.old) (view_of self.new) (event.Store field result value ∷ []) }
-        ensures held { self.new.held ≡ self.old.held }
-        ensures records { self.new.records ≡ self.old.records + 1 }
+        ensures held { self.new.parts.held ≡ self.old.parts.held }
+        ensures records { self.new.parts.records ≡ self.old.parts.records + 1 }
     {
-        let before = steps::write_field(shared, &mut self.seat, field, value);
-        self.records += 1;
-        self.place += 1;
-        self.ring.push_reserved(Record::Put {
+        let before = steps::write_field(shared, &mut self.parts.seat, field, value);
+        self.parts.records += 1;
+        self.parts.place += 1;
+        self.parts.ring.push_reserved(Record::Put {
             field,
             before,
             after: value,
@@ -133,10 +133,10 @@ impl Session {
         ensures seat { IsSessionOf shared.now self.new }
         ensures ring { SameRing self.old self.new }
         ensures told { Lengthens (view_of self.old) (view_of self.new) (event.Store field result value ∷ []) }
-        ensures held { self.new.held ≡ self.old.held }
-        ensures records { self.new.records ≡ self.old.records }
+        ensures held { self.new.parts.held ≡ self.old.parts.held }
+        ensures records { self.new.parts.records ≡ self.old.parts.records }
     {
-        steps::write_field(shared, &mut self.seat, field, value)
+        steps::write_field(shared, &mut self.parts.seat, field, value)
     }
 }
 

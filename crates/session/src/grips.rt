@@ -1,6 +1,6 @@
 //! The monitors that a thread holds, in an array.
 
-ghost use Rattle.std.specs.Prelude.{◌≡◌, ◌+◌, ◌<◌, ◌^◌, ◌==◌, ◌∷◌, Some, None, MatchOption, length, if◌then◌else◌};
+ghost use Rattle.std.specs.Prelude.{◌≡◌, ◌+◌, ◌<◌, ◌^◌, ◌==◌, ◌∷◌, Some, None, IfSome, MatchOption, length, if◌then◌else◌};
 ghost use Rattle.session.specs.declared.limits.TheConstants.{MOST_HELD};
 ghost use Rattle.session.specs.Grips.{grip_in, place_in, with_grip, without_grip};
 
@@ -27,7 +27,8 @@ fn place_of(held: &[Grip], object: ObjectId) -> usize
 #[inline(always)]
 #[tactic(auto, using(crate::proofs::GripLists::place_grip, crate::proofs::GripLists::place_none))]
 pub fn grip_for(held: &[Grip], object: ObjectId) -> Option<(usize, Grip)>
-    ensures { MatchOption result (grip_in object.0 held.now ≡ None) (λ r. (r.0 ≡ place_in object.0 held.now) × (grip_in object.0 held.now ≡ Some r.1)) }
+    ensures found { MatchOption result (grip_in object.0 held.now ≡ None) (λ r. grip_in object.0 held.now ≡ Some r.1) }
+    ensures place { IfSome result (λ r. r.0 ≡ place_in object.0 held.now) }
 {
     let place = place_of(held, object);
     if place < held.len() {
@@ -136,9 +137,9 @@ impl Session {
     #[inline(always)]
     pub(crate) fn find(&self, object: ObjectId) -> Option<(usize, Grip)>
         ensures found { MatchOption result (HasNoGrip self.now object) (λ r. HasGrip self.now object r.1) }
-        ensures place { IfSome result (λ r. r.0 ≡ place_in object.0 self.now.held.items) }
+        ensures place { IfSome result (λ r. r.0 ≡ place_in object.0 self.now.parts.held.items) }
     {
-        grip_for(self.held.as_slice(), object)
+        grip_for(self.parts.held.as_slice(), object)
     }
 
     // The grip on the object, if there is one.

@@ -53,8 +53,8 @@ impl Session {
         ensures ring { SameRing self.old self.new }
         ensures told { Lengthens (view_of self.old) (view_of self.new) (event.NestedExit grip.object ∷ []) }
     {
-        let less = steps::unnest(shared, &mut self.seat, grip);
-        put(&mut self.held, less);
+        let less = steps::unnest(shared, &mut self.parts.seat, grip);
+        put(&mut self.parts.held, less);
     }
 
     // The last exit. The grip is at this place.
@@ -62,19 +62,23 @@ impl Session {
     fn release(&mut self, shared: &Shared, grip: Grip, place: usize)
         requires seat { IsSessionOf shared.now self.old }
         requires found { HasGrip self.old grip.object grip }
-        requires place { place ≡ place_in grip.object.0 self.old.held.items }
+        requires place { place ≡ place_in grip.object.0 self.old.parts.held.items }
         requires last { grip.count ≡ 1 }
         ensures seat { IsSessionOf shared.now self.new }
         ensures ring { SameRing self.old self.new }
         ensures told { Lengthens (view_of self.old) (view_of self.new) (event.Exit grip.object grip.number ∷ []) }
     {
-        steps::release(shared, &mut self.seat, grip);
-        take_at(&mut self.held, grip.object, place);
-        let (records, sections) = after_release(self.held.len(), self.records, self.sections);
-        self.records = records;
-        self.sections = sections;
-        self.place += 1;
-        self.ring.push_reserved(Record::Rel {
+        steps::release(shared, &mut self.parts.seat, grip);
+        take_at(&mut self.parts.held, grip.object, place);
+        let (records, sections) = after_release(
+            self.parts.held.len(),
+            self.parts.records,
+            self.parts.sections,
+        );
+        self.parts.records = records;
+        self.parts.sections = sections;
+        self.parts.place += 1;
+        self.parts.ring.push_reserved(Record::Rel {
             object: grip.object,
             number: grip.number,
         });

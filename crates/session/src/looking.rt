@@ -8,7 +8,7 @@ use monitor::Shared;
 
 impl Session {
     ghost use Rattle.std.specs.Prelude.{◌≡◌, ◌<◌};
-    ghost use Rattle.session.specs.Calls.{IsQuiet, Looks};
+    ghost use Rattle.session.specs.Calls.{Looks, ReadsStable};
     ghost use Rattle.session.specs.Sessions.{SameRing, HasRoomLeft, IsSessionOf, view_of, seat_of, ring_of};
     ghost use Rattle.session.specs.Logs.{sent_in, held_count, sections_ended};
     ghost use Rattle.monitor.specs.Views.{Stands};
@@ -18,7 +18,7 @@ impl Session {
     pub fn sections(&self) -> u64
         ensures { result ≡ sections_ended (view_of self.now) }
     {
-        self.sections
+        self.parts.sections
     }
 
     /// What the session was told is its lane's part of one legal history (JLS 17.1, 17.2), and what it has sent is the log of
@@ -28,7 +28,7 @@ impl Session {
         ensures sent { sent (ring_of self.now) ≡ sent_in (view_of self.now) }
         ensures room { 0 < held_count (view_of self.now) → HasRoomLeft self.now }
     {
-        self.seat.stands();
+        self.parts.seat.stands();
     }
 
     /// What the monitor's words say: its lock word and, where that is fat, the word of its slot. One load of each. The session
@@ -49,7 +49,7 @@ impl Session {
         if u64::from(object.0) >= steps::objects(shared) {
             return Err(SessionError::UnknownObject);
         }
-        let found = steps::look(shared, &mut self.seat, object);
+        let found = steps::look(shared, &mut self.parts.seat, object);
         Ok((found.lock, found.fat))
     }
 
@@ -59,9 +59,8 @@ impl Session {
         requires seat { IsSessionOf shared.now self.old }
         ensures seat { IsSessionOf shared.now self.new }
         ensures ring { SameRing self.old self.new }
-        ensures quiet { IsQuiet (view_of self.old) (view_of self.new) }
-        ensures read { (view_of self.new).stable ≡ result }
+        ensures told { ReadsStable self.old self.new result }
     {
-        steps::read_stable(shared, &mut self.seat)
+        steps::read_stable(shared, &mut self.parts.seat)
     }
 }

@@ -31,7 +31,7 @@ impl Session {
         let Some(grip) = self.grip_on(object) else {
             return Err(SessionError::NotHeld);
         };
-        Ok(steps::notify_one(shared, &mut self.seat, grip))
+        Ok(steps::notify_one(shared, &mut self.parts.seat, grip))
     }
 
     /// Takes all lanes out of the monitor's wait set, and answers them (JLS 17.2.2). One swap.
@@ -54,6 +54,6 @@ impl Session {
         let Some(grip) = self.grip_on(object) else {
             return Err(SessionError::NotHeld);
         };
-        Ok(steps::notify_all(shared, &mut self.seat, grip))
+        Ok(steps::notify_all(shared, &mut self.parts.seat, grip))
     }
 }

@@ -27,16 +27,12 @@ fn is_wait_worn(held: usize, place: u64, number: u64, last: u64) -> bool
 }
 
 impl Session {
-    ghost use Rattle.std.specs.Prelude.{◌≡◌, ◌+◌, ◌<◌, ◌≤◌, length, [], ◌∷◌, Err, IfErr, MatchResult};
-    ghost use Rattle.heap_model.specs.Own.{Hold};
+    ghost use Rattle.std.specs.Prelude.{◌≡◌, ◌+◌, ◌<◌, length, [], ◌∷◌, MatchResult};
     ghost use Rattle.heap_model.specs.declared.event.Event.TheVariants as event;
-    ghost use Rattle.session.specs.declared.error.SessionError.TheVariants as error;
-    ghost use Rattle.steps.specs.Views.{plan, KeepsEach, Lengthens};
-    ghost use Rattle.heap_model.specs.declared.limits.TheConstants.{SECTION_RECORDS};
-    ghost use Rattle.session.specs.Logs.{held_count};
-    ghost use Rattle.session.specs.Calls.{AsksToWait, HasRingToWait, IsQuiet, IsWaitWorn, Lacks, Owns};
-    ghost use Rattle.session.specs.Sessions.{SameRing, SameRingWaiting, IsSessionOf, IsWaitingOf, view_of, view_waiting, capacity_of, awaited, free_of, free_waiting};
-    ghost use Rattle.session.specs.Keeping.{FindsFat, FindsRoom, HasGrip, HasRoomToWait, MayWait, PreparesWait, hold_of};
+    ghost use Rattle.steps.specs.Views.{KeepsEach, Lengthens};
+    ghost use Rattle.session.specs.Calls.{AsksToWait, IsQuiet, IsWaitWorn};
+    ghost use Rattle.session.specs.Sessions.{SameRing, SameRingWaiting, IsSessionOf, IsWaitingOf, view_of, view_waiting, awaited, free_of, free_waiting};
+    ghost use Rattle.session.specs.Keeping.{AsksForGrip, FindsFat, FindsRoom, HasGrip, HasRoomToWait, LooksAtRing, MayWait, hold_of};
     ghost use Rattle.session.specs.Steps.{RefusesFat};
 
     /// Joins the monitor's wait set and frees the monitor, whatever the count of its locks, which comes back with it (JLS
@@ -75,11 +71,7 @@ impl Session {
         ensures seat { IsSessionOf shared.now self.new }
         ensures ring { SameRing self.old self.new }
         ensures quiet { IsQuiet (view_of self.old) (view_of self.new) }
-        ensures unknown { (plan shared.now).objects ≤ object.0 → result ≡ Err error.UnknownObject }
-        ensures not_held { object.0 < (plan shared.now).objects → Lacks self.old object → result ≡ Err error.NotHeld }
-        ensures held { (h : Hold) → object.0 < (plan shared.now).objects → Owns self.old object h → PreparesWait self.old self.new object h result }
-        ensures ring_room { (h : Hold) → object.0 < (plan shared.now).objects → Owns self.old object h → held_count (view_of self.old) ≡ 1
-            → IfErr result (λ e. HasRingToWait self.old (self.new, e)) }
+        ensures asked { AsksForGrip shared.now self.old self.new object result }
     {
         if u64::from(object.0) >= steps::objects(shared) {
             return Err(SessionError::UnknownObject);
@@ -96,31 +88,31 @@ impl Session {
     // Whether there is room for a wait.
     fn room_to_wait(&mut self, shared: &Shared) -> Result<(), SessionError>
         requires seat { IsSessionOf shared.now self.old }
-        requires some { 0 < length self.old.held.items }
+        requires some { 0 < length self.old.parts.held.items }
         ensures seat { IsSessionOf shared.now self.new }
         ensures ring { SameRing self.old self.new }
         ensures quiet { IsQuiet (view_of self.old) (view_of self.new) }
         ensures grips { KeepsEach (view_of self.old) (view_of self.new) }
-        ensures held { self.new.held ≡ self.old.held }
+        ensures held { self.new.parts.held ≡ self.old.parts.held }
         ensures room { FindsRoom self.old self.new result }
-        ensures ring_room { held_count (view_of self.old) ≡ 1 → IfErr result (λ e. HasRingToWait self.old (self.new, e)) }
+        ensures ring_room { LooksAtRing self.old self.new result }
     {
-        let count = self.held.len();
+        let count = self.parts.held.len();
         if count > 1 {
-            if self.records + count as u64 + 2 > SECTION_RECORDS {
+            if self.parts.records + count as u64 + 2 > SECTION_RECORDS {
                 return Err(SessionError::SectionFull);
             }
             return Ok(());
         }
-        if !ring_has_room(&mut self.ring, SECTION_RECORDS as usize + 1) {
+        if !ring_has_room(&mut self.parts.ring, SECTION_RECORDS as usize + 1) {
             return Err(SessionError::Behind);
         }
         if !lane_has_room(
             shared,
-            &mut self.seat,
-            &mut self.trimmed,
-            self.place,
-            self.capacity,
+            &mut self.parts.seat,
+            &mut self.parts.trimmed,
+            self.parts.place,
+            self.parts.capacity,
             SECTION_RECORDS + 1,
         ) {
             return Err(SessionError::Behind);
@@ -132,7 +124,7 @@ impl Session {
     fn fatten_to_wait(&mut self, shared: &Shared, grip: Grip) -> Result<Grip, SessionError>
         requires seat { IsSessionOf shared.now self.old }
         requires found { HasGrip self.old grip.object grip }
-        requires room { HasRoomToWait self.old }
+        requires room { HasRoomToWait self.old.parts }
         ensures seat { IsSessionOf shared.now self.new }
         ensures ring { SameRing self.old self.new }
         ensures quiet { IsQuiet (view_of self.old) (view_of self.new) }
@@ -140,8 +132,8 @@ impl Session {
         ensures free { free_of self.new ≡ free_of self.old }
     {
         if is_wait_worn(
-            self.held.len(),
-            self.place,
+            self.parts.held.len(),
+            self.parts.place,
             grip.number,
             steps::last(shared),
         ) {
@@ -160,16 +152,17 @@ impl Session {
     fn why_worn(&mut self, shared: &Shared, grip: Grip) -> SessionError
         requires seat { IsSessionOf shared.now self.old }
         requires found { HasGrip self.old grip.object grip }
+        requires worn { IsWaitWorn (view_of self.old) (hold_of grip) }
         ensures seat { IsSessionOf shared.now self.new }
         ensures ring { SameRing self.old self.new }
         ensures quiet { IsQuiet (view_of self.old) (view_of self.new) }
-        ensures why { IsWaitWorn (view_of self.old) (hold_of grip) → RefusesFat (view_of self.old) (view_of self.new) grip.object (hold_of grip) result }
+        ensures why { RefusesFat (view_of self.old) (view_of self.new) grip.object (hold_of grip) result }
         ensures free { free_of self.new ≡ free_of self.old }
     {
         if let Some(_slot) = grip.slot {
             return SessionError::Worn;
         }
-        if steps::has_slot(shared, &mut self.seat) {
+        if steps::has_slot(shared, &mut self.parts.seat) {
             return SessionError::Worn;
         }
         SessionError::NoFat
@@ -185,35 +178,22 @@ impl Session {
         ensures told { Lengthens (view_of self) (view_waiting result) (event.Wait grip.object grip.number ∷ []) }
         ensures free { free_of self ≡ free_waiting result + 1 }
     {
-        let Session {
-            mut seat,
-            mut ring,
-            mut held,
-            records,
-            place,
-            sections,
-            capacity,
-            trimmed,
-        } = self;
-        let object = grip.object;
+        let Session { parts } = self;
+        let mut parts = parts;
         let slot = grip.slot.unwrap();
-        steps::join_wait(shared, &mut seat, grip);
-        take_out(&mut held, object);
-        let (records, sections) = after_release(held.len(), records, sections);
-        ring.push_reserved(Record::WaitRel {
-            object,
+        steps::join_wait(shared, &mut parts.seat, grip);
+        take_out(&mut parts.held, grip.object);
+        let (records, sections) = after_release(parts.held.len(), parts.records, parts.sections);
+        parts.records = records;
+        parts.sections = sections;
+        parts.place += 1;
+        parts.ring.push_reserved(Record::WaitRel {
+            object: grip.object,
             number: grip.number,
         });
         Waiting {
-            seat,
-            ring,
-            held,
-            records,
-            place: place + 1,
-            sections,
-            capacity,
-            trimmed,
-            object,
+            parts,
+            object: grip.object,
             count: grip.count,
             slot,
             removed: false,

@@ -24,7 +24,7 @@ impl Waiting {
         ensures history { Stands (seat_waiting self.now).view }
         ensures sent { sent (ring_waiting self.now) ≡ sent_in (view_waiting self.now) }
     {
-        self.seat.stands();
+        self.parts.seat.stands();
     }
 
     /// Takes the monitor again, by as many locks as before, if the thread was removed from its wait set and the monitor is
@@ -57,7 +57,7 @@ impl Waiting {
         if self.removed {
             return false;
         }
-        if steps::poll_wait(shared, &mut self.seat, self.object) {
+        if steps::poll_wait(shared, &mut self.parts.seat, self.object) {
             return true;
         }
         self.removed = true;
@@ -75,7 +75,7 @@ impl Waiting {
         ensures told { LooksAgain self.old self.new (plan shared.now).last result }
         ensures fat { IfErr result IsFatSeen }
     {
-        let found = steps::look(shared, &mut self.seat, self.object);
+        let found = steps::look(shared, &mut self.parts.seat, self.object);
         let Some(free) = free_at(&found) else {
             return Err(shown(&found));
         };
@@ -96,51 +96,31 @@ impl Waiting {
         ensures told { Retakes self number result }
     {
         let Waiting {
-            mut seat,
-            mut ring,
-            mut held,
-            records,
-            place,
-            sections,
-            capacity,
-            trimmed,
+            parts,
             object,
             count,
             slot,
             removed,
         } = self;
-        match steps::try_retake(shared, &mut seat, object, count, slot, number) {
+        let mut parts = parts;
+        match steps::try_retake(shared, &mut parts.seat, object, count, slot, number) {
             Ok(grip) => {
-                held.insert(0, grip);
-                ring.push_reserved(Record::Acq { object, number });
-                Ok(Session {
-                    seat,
-                    ring,
-                    held,
-                    records: records + 1,
-                    place: place + 1,
-                    sections,
-                    capacity,
-                    trimmed,
-                })
+                parts.held.insert(0, grip);
+                parts.records += 1;
+                parts.place += 1;
+                parts.ring.push_reserved(Record::Acq { object, number });
+                Ok(Session { parts })
             }
-            Err(seen) => Err((
-                Waiting {
-                    seat,
-                    ring,
-                    held,
-                    records,
-                    place,
-                    sections,
-                    capacity,
-                    trimmed,
+            Err(seen) => {
+                let waiting = Waiting {
+                    parts,
                     object,
                     count,
                     slot,
                     removed,
-                },
-                Still::Held(seen),
-            )),
+                };
+                Err((waiting, Still::Held(seen)))
+            }
         }
     }
 }

@@ -1,21 +1,12 @@
 //! A session: one thread's use of the heap.
 
 ghost use Rattle.std.specs.Prelude.{◌≡◌};
-ghost use Rattle.std.proofs.Props.{props};
-ghost use Rattle.rtrb.specs.Ring.{sent, known_free, producer_capacity};
-ghost use Rattle.steps.specs.Views.{view};
+ghost use Rattle.rtrb.specs.Ring.{producer_capacity};
 ghost use Rattle.heap_model.specs.declared.limits.TheConstants.{RING_RECORDS};
-ghost use Rattle.session.specs.declared.limits.TheConstants.{MOST_HELD};
-ghost use Rattle.session.specs.Past.{IsWithinLimits-prop, BeganBelow-prop};
-ghost use Rattle.session.specs.Sits.{Sits};
+ghost use Rattle.session.specs.Kept.{SitsIn};
+ghost use Rattle.session.specs.Past.{kept_props};
 
-use crate::limits::MOST_HELD;
-use arrayvec::ArrayVec;
-use heap_model::Record;
-use monitor::Seat;
-use rtrb::Producer;
-use std::alloc::Global;
-use steps::Grip;
+use crate::parts::Parts;
 
 /// One thread's use of the heap: the seat of its lane, the monitors that it holds, and its end of the ring through which
 /// the helper gets its records. It may cross to another thread.
@@ -24,20 +15,7 @@ use steps::Grip;
 /// it as it was.
 #[derive(Drop)]
 pub struct Session {
-    pub(crate) seat: Seat,
-    pub(crate) ring: Producer<Record, Global>,
-    // The grips, the newest first.
-    pub(crate) held: ArrayVec<Grip, MOST_HELD>,
-    // How many records the open section has.
-    pub(crate) records: u64,
-    // How many records were sent since the session was opened.
-    pub(crate) place: u64,
-    // How many sections have ended.
-    pub(crate) sections: u64,
-    // How many records the lane holds.
-    pub(crate) capacity: u64,
-    // The place up to which the lane was trimmed when that was read last.
-    pub(crate) trimmed: u64,
-    ghost sits: { Sits (view seat) held.items (sent ring) (known_free ring) records place sections capacity trimmed } by { Prim.hlevel (props, IsWithinLimits-prop, BeganBelow-prop) },
-    ghost sized: { producer_capacity ring ≡ RING_RECORDS },
+    pub(crate) parts: Parts,
+    ghost sits: { SitsIn parts } by { Prim.hlevel kept_props },
+    ghost sized: { producer_capacity parts.ring ≡ RING_RECORDS },
 }

@@ -41,7 +41,7 @@ impl Session {
             return Err(SessionError::NotHeld);
         };
         let records = records_of(shared, first) + records_of(shared, second);
-        if self.records + self.held.len() as u64 + records > SECTION_RECORDS {
+        if self.parts.records + self.parts.held.len() as u64 + records > SECTION_RECORDS {
             return Err(SessionError::SectionFull);
         }
         self.write_either(shared, first, one);

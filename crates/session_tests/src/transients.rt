@@ -30,27 +30,28 @@ fn declare(alloc: Global) -> Option<Schema> {
     builder.build().ok()
 }
 
-// Takes the monitor, stores to the transient field, loads it, and gives the monitor back. Answers what was loaded.
-fn store_and_load(shared: &Shared, session: &mut Session, value: u64) -> Option<u64>
+// Takes the monitor, stores to the transient field, loads it, and gives the monitor back. Answers whether each call was Ok, the load
+// with what was stored.
+fn store_and_load(shared: &Shared, session: &mut Session, value: u64) -> [bool; 4]
     requires seat { IsSessionOf shared.now session.old }
     ensures seat { IsSessionOf shared.now session.new }
 {
-    session.try_enter(shared, OBJECT).ok()?;
-    session.store(shared, CACHED, value).ok()?;
-    let loaded = session.load(shared, CACHED).ok()?;
-    session.exit(shared, OBJECT).ok()?;
-    Some(loaded)
+    let entered = session.try_enter(shared, OBJECT).is_ok();
+    let stored = session.store(shared, CACHED, value).is_ok();
+    let loaded = session.load(shared, CACHED) == Ok(value);
+    let left = session.exit(shared, OBJECT).is_ok();
+    [entered, stored, loaded, left]
 }
 
-// Loads the transient field in a section of its own.
-fn load_cached(shared: &Shared, session: &mut Session) -> Option<u64>
+// Loads the transient field in a section of its own. Answers whether each call was Ok, the load with this value.
+fn finds_cached(shared: &Shared, session: &mut Session, value: u64) -> [bool; 3]
     requires seat { IsSessionOf shared.now session.old }
     ensures seat { IsSessionOf shared.now session.new }
 {
-    session.try_enter(shared, OBJECT).ok()?;
-    let loaded = session.load(shared, CACHED).ok()?;
-    session.exit(shared, OBJECT).ok()?;
-    Some(loaded)
+    let entered = session.try_enter(shared, OBJECT).is_ok();
+    let loaded = session.load(shared, CACHED) == Ok(value);
+    let left = session.exit(shared, OBJECT).is_ok();
+    [entered, loaded, left]
 }
 
 // The first records that wait in the ring.
@@ -77,18 +78,17 @@ fn fill_section(shared: &Shared, session: &mut Session) -> [bool; 6]
     [entered, cached, kept, full, both, twice]
 }
 
-// After 997 persistent stores, one of each field at once. Answers what both hold then, and whether the monitor was given back.
-fn store_one_of_each(shared: &Shared, session: &mut Session) -> Option<(u64, u64, bool)>
+// After 997 persistent stores, one of each field at once. Answers whether each call was Ok, and each load with what was stored.
+fn store_one_of_each(shared: &Shared, session: &mut Session) -> [bool; 6]
     requires seat { IsSessionOf shared.now session.old }
 {
-    session.try_enter(shared, OBJECT).ok()?;
-    if !store_often(shared, session, KEPT, 997) {
-        return None;
-    }
-    session.store_two(shared, KEPT, 5, CACHED, 6).ok()?;
-    let kept = session.load(shared, KEPT).ok()?;
-    let cached = session.load(shared, CACHED).ok()?;
-    Some((kept, cached, session.exit(shared, OBJECT).is_ok()))
+    let entered = session.try_enter(shared, OBJECT).is_ok();
+    let often = store_often(shared, session, KEPT, 997);
+    let both = session.store_two(shared, KEPT, 5, CACHED, 6).is_ok();
+    let kept = session.load(shared, KEPT) == Ok(5);
+    let cached = session.load(shared, CACHED) == Ok(6);
+    let left = session.exit(shared, OBJECT).is_ok();
+    [entered, often, both, kept, cached, left]
 }
 
 // The other thread loads what the first one stored, and the ring has the take and the release alone.
@@ -97,7 +97,7 @@ fn a_transient_store_is_loaded_and_not_sent(rt: HostRuntime) -> Result<(), Fail>
     let schema = declare(rt.alloc()).ok_or(AllocError)?;
     let (shared, mut a, mut b, mut ring) = open_of(rt.alloc(), schema, LAST).ok_or(AllocError)?;
     let own = store_and_load(&shared, &mut a, 31);
-    let other = load_cached(&shared, &mut b);
+    let other = finds_cached(&shared, &mut b, 31);
     let records = first_records(&mut ring);
     let take = Record::Acq {
         object: OBJECT,
@@ -107,7 +107,7 @@ fn a_transient_store_is_loaded_and_not_sent(rt: HostRuntime) -> Result<(), Fail>
         object: OBJECT,
         number: 0,
     };
-    assert_eq!(rt; (own, other), (Some(31), Some(31)));
+    assert_eq!(rt; (own, other), ([true; 4], [true; 3]));
     assert_eq!(rt; records, [Some(take), Some(release), None, None]);
     Ok(())
 }
@@ -128,6 +128,6 @@ fn transient_stores_fill_no_section(rt: HostRuntime) -> Result<(), Fail> {
 fn a_store_to_one_of_each_needs_one_record(rt: HostRuntime) -> Result<(), Fail> {
     let schema = declare(rt.alloc()).ok_or(AllocError)?;
     let (shared, mut a, _b, _ring) = open_of(rt.alloc(), schema, LAST).ok_or(AllocError)?;
-    assert_eq!(rt; store_one_of_each(&shared, &mut a), Some((5, 6, true)));
+    assert_eq!(rt; store_one_of_each(&shared, &mut a), [true; 6]);
     Ok(())
 }

@@ -1,5 +1,5 @@
 -- Why the store stops the closing.
-use Rattle.std.proofs.Common.{◌≡◌, true, ◌∙◌, sym, ⊎_elim}
+use Rattle.std.proofs.Common.{ℕ, ◌≡◌, true, List, ◌∙◌, sym, subst, ⊎_elim}
 use Rattle.block_disk.specs.Device.{Device, HasFailed}
 use Rattle.heap_model.specs.Setting.{Setting}
 use Rattle.durable.specs.Store.{Known, HasPast}
@@ -8,8 +8,9 @@ use Rattle.store_past.specs.declared.error.StoreError.{StoreError}
 use Rattle.store_past.specs.declared.error.StoreError.TheVariants.{Failed, Worn, Fault}
 use Rattle.trim_helper.specs.declared.close_error.CloseError.{CloseError}
 use Rattle.trim_helper.specs.declared.close_error.CloseError.TheVariants as close
-use Rattle.trim_helper.specs.Endings.{IsCloseStop, IsCloseWhy, IsOfSessions}
-use Rattle.trim_helper.specs.Settled.{IsStop, IsWhy}
+use Rattle.trim_helper.specs.declared.ended.Ended.{Ended}
+use Rattle.trim_helper.specs.Endings.{IsCloseStop, IsCloseWhy, IsOfSessions, RefusesEnded}
+use Rattle.trim_helper.specs.Settled.{IsStop, RefusesRound}
 
 module _ (old : Known) (before now : Device) (reason : StoreError) (e : CloseError) (stop : IsStop reason) (failed : e ≡ close.Failed → reason ≡ Failed) (worn : e ≡ close.Worn → reason ≡ Worn) (fault : IsStop reason → e ≡ close.Fault → reason ≡ Fault) where
   -- nothing could be applied
@@ -21,10 +22,10 @@ module _ (old : Known) (before now : Device) (reason : StoreError) (e : CloseErr
   }
 
   -- what was applied could not be made durable
-  pub why_settled : (mid new : Known) (s : Setting) (p : Past) → mid.has_failed ≡ old.has_failed → IsWhy mid new reason → HasPast new s p now → (reason ≡ Fault → HasFailed before.failures now.failures) → IsCloseWhy old before now e
+  pub why_settled : (mid new : Known) (s : Setting) (p : Past) → mid.has_failed ≡ old.has_failed → RefusesRound mid new reason → HasPast new s p now → (reason ≡ Fault → HasFailed before.failures now.failures) → IsCloseWhy old before now e
   why_settled mid new s p same why has broke = record {
-    failed = λ is. sym same ∙ why.failed (failed is);
-    worn = λ is. record { known = new; setting = s; past = p; has = has; last = why.worn (worn is) };
+    failed = λ is. let told : RefusesRound mid new Failed = subst (RefusesRound mid new) (failed is) why in sym same ∙ told;
+    worn = λ is. let told : RefusesRound mid new Worn = subst (RefusesRound mid new) (worn is) why in record { known = new; setting = s; past = p; has = has; last = told.1 };
     fault = λ is. broke (fault stop is);
   }
 
@@ -35,3 +36,11 @@ not_sessions (close.Unfinished l) stop is = ⊎_elim (λ a. absurd cc) (λ b. �
 not_sessions close.Failed stop is = is
 not_sessions close.Worn stop is = is
 not_sessions close.Fault stop is = is
+
+-- sessions that stop it name no reason of the store
+pub never_why : (lanes : ℕ) (es : List Ended) (old : Known) (before now : Device) (e : CloseError) → RefusesEnded lanes es e → IsCloseWhy old before now e
+never_why lanes es old before now (close.Missing l) why = record { failed = λ is. absurd cc; worn = λ is. absurd cc; fault = λ is. absurd cc }
+never_why lanes es old before now (close.Unfinished l) why = record { failed = λ is. absurd cc; worn = λ is. absurd cc; fault = λ is. absurd cc }
+never_why lanes es old before now close.Failed why = elim why [ ]
+never_why lanes es old before now close.Worn why = elim why [ ]
+never_why lanes es old before now close.Fault why = elim why [ ]

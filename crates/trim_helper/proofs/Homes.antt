@@ -10,15 +10,11 @@ use Rattle.heap_model.specs.Cuts.{IsStable}
 use Rattle.cut_laws.specs.Laws.{StayLaw}
 use Rattle.block_disk.specs.Device.{Device, HasCause}
 use Rattle.block_disk.specs.Images.{LeavesOnly}
-use Rattle.block_disk.proofs.Images.{and_then, weaker}
+use Rattle.block_disk.proofs.Images.{weaker}
 use Rattle.block_disk.proofs.Failures.{failed_since}
-use Rattle.image.specs.declared.layout.Layout.{Layout}
-use Rattle.undo_log.specs.StandsFor.{StandsFor}
-use Rattle.store_image.specs.KeptHeap.{StandsForCut, StandsForEither}
-use Rattle.durable.proofs.Showing.{logged_heap}
 use Rattle.store_memory.specs.Begin.{IsLeastDirtyOf}
 use Rattle.durable.specs.Calls.{IsClean, AnswersHome, after_home_step, RefusesLog, RefusesHome, RefusesSettle}
-use Rattle.store_past.specs.Past.{Past, IsPast, applied, after_log, after_settle}
+use Rattle.store_past.specs.Past.{Past, IsPast, IsTrimmed, applied, after_log, after_settle}
 use Rattle.durable.specs.Runs.{HasRun}
 use Rattle.durable.specs.Store as stores
 use Rattle.durable.specs.Store.{Known, HasPast, ShowsStep, Shows}
@@ -31,7 +27,7 @@ use Rattle.store_past.specs.declared.error.StoreError.TheVariants.{Failed, BadLa
 use Rattle.store_image.specs.declared.home.Home.{Home}
 use Rattle.store_image.specs.declared.home.Home.TheVariants.{Wrote, Done}
 use Rattle.heap_model.specs.declared.ids.FieldId.{FieldId}
-use Rattle.trim_helper.specs.Settled.{HasClean, HasSame, IsSettled, IsStop, IsWhy, StandsForRound, StandsBefore, StandsAfter}
+use Rattle.trim_helper.specs.Settled.{HasClean, HasSame, IsSettled, IsStop, RefusesRound, Settles, SettlesAndTrims}
 
 pub clean_none : (x : Known) (d : Device) (s : Setting) (p : Past) → HasPast x s p d → (h : HasClean d x d s p 0) × (h.ran.cut_off ≡ [])
 clean_none x d s p has = (record { dirty = p.is_dirty; has = has; clean = λ f lt. absurd (omega arith); ran = ran_none x.layout s p d x.has_failed }, refl)
@@ -94,41 +90,84 @@ module _ (o : Device) (x y : Known) (d e : Device) (s : Setting) (p : Past) (n :
   }
 
 -- why the helper stops
-pub stops_home : (x : Known) (e : StoreError) → RefusesHome x e → IsStop e
-stops_home x Failed h = inl refl
-stops_home x Fault h = inr (inr refl)
-stops_home x BadLane h = elim h [ ]
-stops_home x BadId h = elim h [ ]
-stops_home x Worn h = elim h [ ]
-stops_home x NotNext h = elim h [ ]
-stops_home x TooLong h = elim h [ ]
-stops_home x LogFull h = elim h [ ]
-stops_home x Unwritten h = elim h [ ]
-stops_home x Unfinished h = elim h [ ]
+pub home_moved : (x y : Known) (e : StoreError) → y.has_failed ≡ x.has_failed → RefusesHome y e → RefusesHome x e
+home_moved x y Failed same h = sym same ∙ h
+home_moved x y Fault same h = sym same ∙ h
+home_moved x y Worn same h = elim h [ ]
+home_moved x y BadLane same h = elim h [ ]
+home_moved x y BadId same h = elim h [ ]
+home_moved x y NotNext same h = elim h [ ]
+home_moved x y TooLong same h = elim h [ ]
+home_moved x y LogFull same h = elim h [ ]
+home_moved x y Unwritten same h = elim h [ ]
+home_moved x y Unfinished same h = elim h [ ]
 
-pub stops_log : (x : Known) (p : Past) (e : StoreError) → RefusesLog x p e → IsStop e
-stops_log x p Failed h = inl refl
-stops_log x p Fault h = inr (inr refl)
-stops_log x p Worn h = inr (inl refl)
-stops_log x p BadLane h = elim h [ ]
-stops_log x p BadId h = elim h [ ]
-stops_log x p NotNext h = elim h [ ]
-stops_log x p TooLong h = elim h [ ]
-stops_log x p LogFull h = elim h [ ]
-stops_log x p Unwritten h = elim h [ ]
-stops_log x p Unfinished h = elim h [ ]
+-- nothing could be logged
+pub refused_log : (x y : Known) (p : Past) (e : StoreError) → RefusesLog x p e → (e ≡ Fault) ⊎ (y ≡ x) → RefusesRound x y e
+refused_log x y p Failed h same = h
+refused_log x y p Fault h same = h
+refused_log x y p Worn h same = (h.0, ⊎_elim (λ no. absurd cc) (λ as_was. ap (λ (z : Known). z.committed.sequence) as_was ∙ h.1) same)
+refused_log x y p BadLane h same = elim h [ ]
+refused_log x y p BadId h same = elim h [ ]
+refused_log x y p NotNext h same = elim h [ ]
+refused_log x y p TooLong h same = elim h [ ]
+refused_log x y p LogFull h same = elim h [ ]
+refused_log x y p Unwritten h same = elim h [ ]
+refused_log x y p Unfinished h same = elim h [ ]
 
-pub stops_settle : (x : Known) (s : Setting) (p : Past) (e : StoreError) → IsClean s p → RefusesSettle x s p e → IsStop e
-stops_settle x s p Failed clean h = inl refl
-stops_settle x s p Fault clean h = inr (inr refl)
-stops_settle x s p Worn clean h = inr (inl refl)
-stops_settle x s p Unwritten clean h = absurd (let no : true ≡ false = sym h.1.2 ∙ clean h.1.0 h.1.1 in cc)
-stops_settle x s p BadLane clean h = elim h [ ]
-stops_settle x s p BadId clean h = elim h [ ]
-stops_settle x s p NotNext clean h = elim h [ ]
-stops_settle x s p TooLong clean h = elim h [ ]
-stops_settle x s p LogFull clean h = elim h [ ]
-stops_settle x s p Unfinished clean h = elim h [ ]
+-- nothing could be written home
+pub refused_home : (x y z : Known) (e : StoreError) → x.has_failed ≡ false → y.has_failed ≡ false → RefusesHome y e → RefusesRound x z e
+refused_home x y z Failed ran runs h = absurd (let no : false ≡ true = sym runs ∙ h in cc)
+refused_home x y z Fault ran runs h = ran
+refused_home x y z Worn ran runs h = elim h [ ]
+refused_home x y z BadLane ran runs h = elim h [ ]
+refused_home x y z BadId ran runs h = elim h [ ]
+refused_home x y z NotNext ran runs h = elim h [ ]
+refused_home x y z TooLong ran runs h = elim h [ ]
+refused_home x y z LogFull ran runs h = elim h [ ]
+refused_home x y z Unwritten ran runs h = elim h [ ]
+refused_home x y z Unfinished ran runs h = elim h [ ]
+
+-- nothing could be acknowledged
+refused_settle : (x y z : Known) (s : Setting) (p : Past) (e : StoreError) → x.has_failed ≡ false → y.has_failed ≡ false → IsClean s p → RefusesSettle y s p e → (e ≡ Fault) ⊎ (z ≡ y) → RefusesRound x z e
+refused_settle x y z s p Failed ran runs clean h same = absurd (let no : false ≡ true = sym runs ∙ h in cc)
+refused_settle x y z s p Fault ran runs clean h same = ran
+refused_settle x y z s p Worn ran runs clean h same = (ran, ⊎_elim (λ no. absurd cc) (λ as_was. ap (λ (k : Known). k.committed.sequence) as_was ∙ h.2) same)
+refused_settle x y z s p Unwritten ran runs clean h same = absurd (let no : true ≡ false = sym h.1.2 ∙ clean h.1.0 h.1.1 in cc)
+refused_settle x y z s p BadLane ran runs clean h same = elim h [ ]
+refused_settle x y z s p BadId ran runs clean h same = elim h [ ]
+refused_settle x y z s p NotNext ran runs clean h same = elim h [ ]
+refused_settle x y z s p TooLong ran runs clean h same = elim h [ ]
+refused_settle x y z s p LogFull ran runs clean h same = elim h [ ]
+refused_settle x y z s p Unfinished ran runs clean h same = elim h [ ]
+
+pub settle_refused : {D T : Type 0} (x : Known) (y z : stores.Parts D) (s : Setting) (p : Past) (r : Result T StoreError) → x.has_failed ≡ false → y.known.has_failed ≡ false → IsClean s p →
+    MatchResult r (λ done. (y.known.has_failed ≡ false) × IsClean s p) (RefusesSettle y.known s p) → IfErr r (λ e. (e ≡ Fault) ⊎ (z ≡ y)) → IfErr r (RefusesRound x z.known)
+settle_refused x y z s p (Ok t) ran runs clean h same = tt
+settle_refused x y z s p (Err e) ran runs clean h same = refused_settle x y.known z.known s p e ran runs clean h (⊎_elim (λ is. inl is) (λ as_was. inr (ap (λ k. k.known) as_was)) same)
+
+-- a round's refusal is one of three
+pub stops_round : (x y : Known) (e : StoreError) → RefusesRound x y e → IsStop e
+stops_round x y Failed h = inl refl
+stops_round x y Fault h = inr (inr refl)
+stops_round x y Worn h = inr (inl refl)
+stops_round x y BadLane h = elim h [ ]
+stops_round x y BadId h = elim h [ ]
+stops_round x y NotNext h = elim h [ ]
+stops_round x y TooLong h = elim h [ ]
+stops_round x y LogFull h = elim h [ ]
+stops_round x y Unwritten h = elim h [ ]
+stops_round x y Unfinished h = elim h [ ]
+
+-- it is settled, or refused
+module _ (s : Setting) (p : Past) (x y : Known) (d e : Device) (runs : x.has_failed ≡ false) where
+  abbrev pub settles_by : (r : Result (Unit {0}) StoreError) → OnOk r ((h : HasSame d y e s p) × IsSettled s h.now) → OnErr r (HasSame d y e s p) → IfErr r (RefusesRound x y) → Settles s p x d y e r
+  settles_by (Ok t) ok err why = record { same = ok.0; settled = ok.1; failed = λ off. absurd (let no : false ≡ true = sym runs ∙ off in cc); refused = tt }
+  settles_by (Err k) ok err why = record { same = err; settled = tt; failed = λ off. absurd (let no : false ≡ true = sym runs ∙ off in cc); refused = why }
+
+  pub trims_by : (r : Result (Unit {0}) StoreError) → OnOk r ((h : HasSame d y e s p) × IsSettled s h.now × IsTrimmed h.now) → OnErr r (HasSame d y e s p) → IfErr r (RefusesRound x y) → SettlesAndTrims s p x d y e r
+  trims_by (Ok t) ok err why = record { settles = settles_by (Ok t) (ok.0, ok.1) tt tt; trimmed = ok.2 }
+  trims_by (Err k) ok err why = record { settles = settles_by (Err k) tt err why; trimmed = tt }
 
 -- the stable cut has what was acknowledged
 module _ (x y : Known) (d e : Device) (s : Setting) (p : Past) where
@@ -193,10 +232,7 @@ module _ {T E : Type 0} where
   if_err_match (Ok t) P Q R f h = tt
   if_err_match (Err e) P Q R f h = f e h
 
--- images, and causes of faults
-
-pub moment_more : (d e f : Device) (l m : Layout) (s : Setting) (log : List (ℕ × Record)) (cut : ℕ → ℕ) → m ≡ l → LeavesOnly d e (StandsForCut l s log cut) → LeavesOnly e f (StandsForCut m s log cut) → LeavesOnly d f (StandsForCut l s log cut)
-moment_more d e f l m s log cut same was on = and_then d e f (StandsForCut l s log cut) was (subst (λ k. LeavesOnly e f (StandsForCut k s log cut)) same on)
+-- causes of faults
 
 module _ {T E : Type 0} where
   pub no_fault : (a b : ℕ) (fault : E) (r : Result T E) → a ≤ b → IfErr r (λ e. ⊥) → HasCause a b fault r
@@ -205,7 +241,7 @@ module _ {T E : Type 0} where
       never : (q : Result T E) → IsErrOf q fault → IfErr q (λ e. ⊥) → ⊥
       never q is none = subst (λ (z : Result T E). IfErr z (λ e. ⊥)) is none
 
-err_same : {S E : Type 0} (r : Result S E) (e f : E) → r ≡ Err e → r ≡ Err f → e ≡ f
+pub err_same : {S E : Type 0} (r : Result S E) (e f : E) → r ≡ Err e → r ≡ Err f → e ≡ f
 err_same r e f one two = let both : Err e ≡ r = sym one in cc
 
 pub passed_on : {T S E : Type 0} (a b c : ℕ) (r : Result T E) (q : Result S E) (fault e : E) → r ≡ Err e → q ≡ Err e → a ≤ b → HasCause b c fault r → HasCause a c fault q
@@ -213,42 +249,6 @@ passed_on a b c r q fault e is on le cause = record {
   later = omega (arith, cause.later);
   failed = λ same. let eq : e ≡ fault = err_same q e fault on same in failed_since a b c le (cause.failed (is ∙ ap Err eq));
 }
-
-module _ (l m : Layout) (s : Setting) (p : Past) (is : IsPast s p) where
-  to_round : (image : List ℕ) → StandsForCut l s p.logged p.cut image → StandsForRound l s (applied p) p.cut image
-  to_round image st = StandsBefore (record { heap = subst (StandsFor l image) (sym (logged_heap l s p is)) st.heap; sections = st.sections })
-
-  -- while records are logged
-  pub round_logs : (d e : Device) → LeavesOnly d e (StandsForCut l s p.logged p.cut) → LeavesOnly d e (StandsForRound l s (applied p) p.cut)
-  round_logs d e on = weaker d e (StandsForCut l s p.logged p.cut) (StandsForRound l s (applied p) p.cut) to_round on
-
-  -- and then values go home
-  pub round_homes : (d e f : Device) → m ≡ l → LeavesOnly d e (StandsForRound l s (applied p) p.cut) → LeavesOnly e f (StandsForCut m s (applied p) p.cut) → LeavesOnly d f (StandsForRound l s (applied p) p.cut)
-  round_homes d e f same was on =
-      and_then d e f (StandsForRound l s (applied p) p.cut) was
-      (weaker e f (StandsForCut l s (applied p) p.cut) (StandsForRound l s (applied p) p.cut) (λ image st. StandsBefore st) (subst (λ k. LeavesOnly e f (StandsForCut k s (applied p) p.cut)) same on))
-
-  -- and then the cut is acknowledged
-  pub round_settles : (d e f : Device) (cut : ℕ → ℕ) → IsStable (actions (applied p)) cut → m ≡ l → LeavesOnly d e (StandsForRound l s (applied p) p.cut) → LeavesOnly e f (StandsForEither m s (applied p) p.cut cut) →
-      LeavesOnly d f (StandsForRound l s (applied p) p.cut)
-  round_settles d e f cut stable same was on =
-      and_then d e f (StandsForRound l s (applied p) p.cut) was
-      (weaker e f (StandsForEither l s (applied p) p.cut cut) (StandsForRound l s (applied p) p.cut) (λ image either. ⊎_elim (λ (st : StandsForCut l s (applied p) p.cut image). StandsBefore st) (λ (st : StandsForCut l s (applied p) cut image). StandsAfter cut stable st) either)
-      (subst (λ k. LeavesOnly e f (StandsForEither k s (applied p) p.cut cut)) same on))
-
--- why the helper stops, by the store
-
-pub why_home : (x : Known) (e : StoreError) → RefusesHome x e → (e ≡ Failed → x.has_failed ≡ true) × (e ≢ Worn)
-why_home x Failed h = (λ is. h, λ is. absurd cc)
-why_home x Fault h = (λ is. absurd cc, λ is. absurd cc)
-why_home x BadLane h = elim h [ ]
-why_home x BadId h = elim h [ ]
-why_home x Worn h = elim h [ ]
-why_home x NotNext h = elim h [ ]
-why_home x TooLong h = elim h [ ]
-why_home x LogFull h = elim h [ ]
-why_home x Unwritten h = elim h [ ]
-why_home x Unfinished h = elim h [ ]
 
 -- a store that has failed refuses as such
 pub failed_log : (x : Known) (p : Past) (e : StoreError) → x.has_failed ≡ true → RefusesLog x p e → e ≡ Failed
@@ -262,34 +262,6 @@ failed_log x p TooLong off h = elim h [ ]
 failed_log x p LogFull off h = elim h [ ]
 failed_log x p Unwritten off h = elim h [ ]
 failed_log x p Unfinished off h = elim h [ ]
-
-pub why_log : (x y : Known) (p : Past) (e : StoreError) → RefusesLog x p e → (e ≡ Fault) ⊎ (y ≡ x) → IsWhy x y e
-why_log x y p Failed h same = record { failed = λ is. h; worn = λ is. absurd cc }
-why_log x y p Worn h same = record { failed = λ is. absurd cc; worn = λ is. ⊎_elim (λ no. absurd cc) (λ as_was. ap (λ (z : Known). z.committed.sequence) as_was ∙ h.1) same }
-why_log x y p Fault h same = record { failed = λ is. absurd cc; worn = λ is. absurd cc }
-why_log x y p BadLane h same = elim h [ ]
-why_log x y p BadId h same = elim h [ ]
-why_log x y p NotNext h same = elim h [ ]
-why_log x y p TooLong h same = elim h [ ]
-why_log x y p LogFull h same = elim h [ ]
-why_log x y p Unwritten h same = elim h [ ]
-why_log x y p Unfinished h same = elim h [ ]
-
-why_refused : (x y z : Known) (s : Setting) (p : Past) (e : StoreError) → y.has_failed ≡ false → RefusesSettle y s p e → (e ≡ Fault) ⊎ (z ≡ y) → IsWhy x z e
-why_refused x y z s p Failed runs h same = absurd (let no : false ≡ true = sym runs ∙ h in cc)
-why_refused x y z s p Worn runs h same = record { failed = λ is. absurd cc; worn = λ is. ⊎_elim (λ no. absurd cc) (λ as_was. ap (λ (k : Known). k.committed.sequence) as_was ∙ h.2) same }
-why_refused x y z s p Fault runs h same = record { failed = λ is. absurd cc; worn = λ is. absurd cc }
-why_refused x y z s p Unwritten runs h same = record { failed = λ is. absurd cc; worn = λ is. absurd cc }
-why_refused x y z s p BadLane runs h same = elim h [ ]
-why_refused x y z s p BadId runs h same = elim h [ ]
-why_refused x y z s p NotNext runs h same = elim h [ ]
-why_refused x y z s p TooLong runs h same = elim h [ ]
-why_refused x y z s p LogFull runs h same = elim h [ ]
-why_refused x y z s p Unfinished runs h same = elim h [ ]
-
-pub why_settle : {T : Type 0} (x y z : Known) (s : Setting) (p : Past) (r : Result T StoreError) → y.has_failed ≡ false → MatchResult r (λ done. (y.has_failed ≡ false) × IsClean s p) (RefusesSettle y s p) → IfErr r (λ e. (e ≡ Fault) ⊎ (z ≡ y)) → IfErr r (λ e. IsWhy x z e)
-why_settle x y z s p (Ok t) runs h same = tt
-why_settle x y z s p (Err e) runs h same = why_refused x y z s p e runs h same
 
 pub if_err_more : {T E : Type 0} (r : Result T E) (P Q : E → Type 0) → ((e : E) → P e → Q e) → IfErr r P → IfErr r Q
 if_err_more (Ok t) P Q f h = tt

@@ -7,12 +7,12 @@ use Rattle.heap_model.specs.History.{state_after, log_of}
 use Rattle.heap_model.specs.Sections.{actions}
 use Rattle.heap_model.specs.Cuts.{all_ended}
 use Rattle.block_disk.specs.Device.{Device}
-use Rattle.block_disk.specs.Images.{Always, LeavesOnly}
+use Rattle.block_disk.specs.Images.{Always}
 use Rattle.heap_model.specs.declared.record.Record.{Record}
 use Rattle.heap_model.specs.Log.{IsLegal, lane}
 use Rattle.durable.specs.Runs.{HasRun, IsLeftBy}
 use Rattle.store_past.specs.Past.{Past, applied}
-use Rattle.trim_helper.specs.Settled.{StandsForRound, closed_value}
+use Rattle.trim_helper.specs.Settled.{closed_value}
 use Rattle.image.specs.declared.layout.Layout.{Layout}
 use Rattle.undo_log.specs.StandsFor.{StandsFor}
 use Rattle.store_image.specs.KeptHeap.{StandsForCut, values_below}
@@ -54,8 +54,8 @@ abbrev pub AreSent : List Ended → List (ℕ × Record) → Type 0
 AreSent ended log = All (WasSent log) ended
 
 -- Some store calls were made since the one moment, and one may have been cut off by a fault. Whatever a crash left since then shows what
--- some of them make of the past, so that recovery takes it, and stands for the heap of what was acknowledged, or of the stable cut, of
--- these records and those applied since. Once the sessions were let meet, all of these are what they had sent.
+-- some of them make of the past, so that recovery takes it, with the stable cut only where a settling was running. Once the sessions were
+-- let meet, all that is applied then is what they had sent.
 pub record Stood (l : Layout) (s : Setting) (p : Past) (ended : List Ended) (since now : Device) : Type 0 where
   pub newer : List (ℕ × Record)
   pub legal : IsLegal s (newer ++ applied p)
@@ -63,7 +63,6 @@ pub record Stood (l : Layout) (s : Setting) (p : Past) (ended : List Ended) (sin
   pub then : Past
   pub same : applied then ≡ newer ++ applied p
   pub ran : HasRun l s p since then now true
-  pub leaves : LeavesOnly since now (StandsForRound l s (newer ++ applied p) p.cut)
 
 -- the device that is given back, whatever is answered
 abbrev pub disk_of : {D E : Type 0} → Result D (D × E) → D

@@ -10,5 +10,7 @@ pub mod Limits
 pub mod Opening
 pub mod Endings
 pub mod Closed
--- The scaffold: what is known while the sessions that have ended meet their rings.
+pub mod Calls
+-- The scaffold: a helper's parts in its own methods, and what is known while the sessions that have ended meet their rings.
+pub mod Whole
 pub mod Meeting

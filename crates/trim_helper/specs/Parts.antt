@@ -12,7 +12,7 @@ use Rattle.monitor.specs.Seats.{Helping}
 use Rattle.heap_model.specs.declared.limits.TheConstants.{RING_RECORDS}
 use Rattle.trim_helper.specs.Helping.{count_published, place_published}
 use Rattle.trim_helper.specs.Moves.{most_room}
-use Rattle.trim_helper.specs.Serving.{Serves, Drains, Served}
+use Rattle.trim_helper.specs.Serving.{Serves, Drains}
 
 -- a helper over whatever device: its store, its ends of the rings and the record that waits to be next, by lane, whether nothing was
 -- applied since a round answered Ok, and its seat
@@ -31,10 +31,6 @@ module _ {D : Type 0} (device : D → Device) where
   -- so many records were applied
   abbrev pub HasDrained : (old new : Parts D) → ℕ → Type 0
   HasDrained x y n = Drains x.store.known (device x.store.disk) x.rings x.waiting y.store.known (device y.store.disk) y.rings y.waiting n
-
-  -- so many records were applied after those of the past, and what could be was made durable
-  abbrev pub HasServed : (old new : Parts D) → Setting → Past → ℕ → Type 0
-  HasServed x y s p n = Served (device x.store.disk) y.store.known (device y.store.disk) y.rings y.waiting y.is_settled (count_published y.seat) (place_published y.seat) s p n
 
   -- each lane has a ring, and the store has a past
   pub record IsWhole (x : Parts D) : Type 0 where

@@ -7,8 +7,6 @@ use Rattle.heap_model.specs.Setting.{Setting}
 use Rattle.heap_model.specs.History.{IsLegalHistory}
 use Rattle.heap_model.specs.Log.{lane}
 use Rattle.block_disk.specs.Device.{Device}
-use Rattle.block_disk.specs.Images.{Always, LeavesOnly}
-use Rattle.store_image.specs.KeptHeap.{StandsForCut}
 use Rattle.store_past.specs.Past.{Past, IsTrimmed, applied}
 use Rattle.durable.specs.Runs.{HasRun}
 use Rattle.durable.specs.Store.{Known}
@@ -19,7 +17,7 @@ use Rattle.trim_helper.specs.Rings.{received_of, known_of}
 use Rattle.trim_helper.specs.Limits.{KeepsLimits}
 use Rattle.trim_helper.specs.Moves.{Looks}
 use Rattle.trim_helper.specs.Taken.{HasTaken, Advances, trimmed_of}
-use Rattle.trim_helper.specs.Settled.{IsSettled, StandsForRound}
+use Rattle.trim_helper.specs.Settled.{IsSettled}
 
 -- By lane, a published count is at most what is acknowledged, and a published place at most what is trimmed.
 -- Where nothing was applied since all was settled, they are equal, all that is acknowledged is trimmed, and the store hasn't failed.
@@ -40,9 +38,8 @@ pub record Drains {A P : Type 0} (x : Known) (d : Device) (rings : List (Consume
   pub advances : Advances x d seen waiting x' d' rings' waiting' n
   pub most : (l : ℕ) → length (received_of rings' l) ≤ length (received_of rings l) + RING_RECORDS
 
--- So many records were applied after those of the past, and the helper goes on: what was acknowledged and what was trimmed stay so. Whatever a crash left since then shows what some of the
--- store calls that were made, or that a fault cut off, make of the past, so that recovery takes it; it stands for what was acknowledged, or for the stable cut of all that was applied, and once all
--- is settled for what is acknowledged, which is all that is published.
+-- So many records were applied after those of the past, and the helper goes on: what was acknowledged and what was trimmed stay so. Whatever
+-- a crash left since then shows what some of the store calls that were made, or that a fault cut off, make of the past.
 pub record Served {A P : Type 0} (before : Device) (x : Known) (d : Device) (rings : List (Consumer Record A P)) (waiting : List (Option Record)) (is_settled : Bool) (count place : ℕ → ℕ) (s : Setting) (p : Past) (n : ℕ) : Type 0 where
   pub newer : List (ℕ × Record)
   pub long : length newer ≡ n
@@ -52,8 +49,6 @@ pub record Served {A P : Type 0} (before : Device) (x : Known) (d : Device) (rin
   pub places : (l : ℕ) → trimmed_of p l ≤ trimmed_of now l
   pub serves : Serves x d rings waiting is_settled count place s now
   pub ran : HasRun x.layout s p before now d x.has_failed
-  pub rests : is_settled ≡ true → Always d (StandsForCut x.layout s (newer ++ applied p) now.cut)
-  pub moments : LeavesOnly before d (StandsForRound x.layout s (newer ++ applied p) p.cut)
 
 -- a session's view: its lane, its events, the newest first, and the acknowledged count and trimmed place that it last read
 pub record Part : Type 0 where

@@ -1,13 +1,10 @@
 -- What making records durable makes of a past.
-use Rattle.std.specs.Prelude.{ℕ, ◌≡◌, ◌<◌, ◌≤◌, ◌⊎◌, ◌-◌, ◌^◌, if◌then◌else◌, Bool, true, false, List, []}
-use Rattle.heap_model.specs.declared.record.Record.{Record}
+use Rattle.std.specs.Prelude.{ℕ, ◌≡◌, ◌<◌, ◌≤◌, ◌⊎◌, ◌-◌, ◌^◌, if◌then◌else◌, Bool, true, false, [], Result, OnOk, IfErr, IsErrOf}
 use Rattle.heap_model.specs.Setting.{Setting}
 use Rattle.heap_model.specs.Sections.{actions}
 use Rattle.heap_model.specs.Cuts.{IsStable}
 use Rattle.block_disk.specs.Device.{Device}
-use Rattle.image.specs.declared.layout.Layout.{Layout}
-use Rattle.store_image.specs.KeptHeap.{StandsForCut}
-use Rattle.store_past.specs.Past.{Past, applied}
+use Rattle.store_past.specs.Past.{Past, IsTrimmed, applied}
 use Rattle.durable.specs.Runs.{HasRun}
 use Rattle.durable.specs.Store.{Known, HasPast}
 use Rattle.trim_helper.specs.Taken.{trimmed_of}
@@ -40,15 +37,25 @@ pub record IsSettled (s : Setting) (p : Past) : Type 0 where
 abbrev pub IsStop : StoreError → Type 0
 IsStop e = (e ≡ Failed) ⊎ ((e ≡ Worn) ⊎ (e ≡ Fault))
 
--- The image stands for the heap of what was acknowledged, or of the stable cut.
-pub data StandsForRound (l : Layout) (s : Setting) (log : List (ℕ × Record)) (cut : ℕ → ℕ) (image : List ℕ) : Type 0 where
-  StandsBefore : StandsForCut l s log cut image → StandsForRound l s log cut image
-  StandsAfter : (stable : ℕ → ℕ) → IsStable (actions log) stable → StandsForCut l s log stable image → StandsForRound l s log cut image
+-- Why a round is refused: the device had failed before; the control has to be written, and its sequence is at its last value; or a call of
+-- the device failed now.
+abbrev pub RefusesRound : (old new : Known) → StoreError → Type 0
+RefusesRound old new Failed = old.has_failed ≡ true
+RefusesRound old new Worn = (old.has_failed ≡ false) × (new.committed.sequence ≡ 2 ^ 64 - 1)
+RefusesRound old new Fault = old.has_failed ≡ false
+RefusesRound old new _ = ⊥
 
--- why nothing more is made durable: the device had failed before, or the control's sequence is at its last value
-pub record IsWhy (old new : Known) (e : StoreError) : Type 0 where
-  pub failed : e ≡ Failed → old.has_failed ≡ true
-  pub worn : e ≡ Worn → new.committed.sequence ≡ 2 ^ 64 - 1
+-- What was applied is made durable and its stable cut acknowledged, or that is refused.
+pub record Settles (s : Setting) (p : Past) (old : Known) (before : Device) (new : Known) (now : Device) (answer : Result (Unit {0}) StoreError) : Type 0 where
+  pub same : HasSame before new now s p
+  pub settled : OnOk answer (IsSettled s same.now)
+  pub failed : old.has_failed ≡ true → IsErrOf answer Failed
+  pub refused : IfErr answer (RefusesRound old new)
+
+-- So it is, and what is acknowledged is trimmed.
+pub record SettlesAndTrims (s : Setting) (p : Past) (old : Known) (before : Device) (new : Known) (now : Device) (answer : Result (Unit {0}) StoreError) : Type 0 where
+  pub settles : Settles s p old before new now answer
+  pub trimmed : OnOk answer (IsTrimmed settles.same.now)
 
 -- the field's value once all is at home: a persistent one's last, and a transient one's first
 abbrev pub closed_value : Setting → (value : ℕ → ℕ) → (field : ℕ) → ℕ

@@ -1,16 +1,17 @@
 //! Both ends meet.
-ghost use Rattle.std.specs.Prelude.{◌≡◌, ◌+◌, ◌<◌, ◌≤◌, ◌==◌, ◌++◌, List, [], ℕ, if◌then◌else◌, ◌⊎◌, MatchOption, MatchResult, IfErr, IfOk, IsErrAnd, IsErrOf, OnOk, length, true};
+ghost use Rattle.std.specs.Prelude.{◌≡◌, ◌+◌, ◌<◌, ◌≤◌, ◌==◌, [], ℕ, if◌then◌else◌, ◌⊎◌, MatchOption, MatchResult, IfErr, IfOk, IsErrOf, OnOk, length, true};
 ghost use Rattle.store_past.specs.Past.{Past};
 ghost use Rattle.heap_model.specs.Setting.{Setting};
 ghost use Rattle.monitor.specs.Words.{setting_of};
-ghost use Rattle.trim_helper.specs.Closed.{HasSpelled, IsClosedDown, Stood, disk_of};
+ghost use Rattle.trim_helper.specs.Calls.{Closes};
+ghost use Rattle.trim_helper.specs.Closed.{HasSpelled, Stood};
 ghost use Rattle.trim_helper.specs.Helping.{IsHelper, count_published, place_published, taken_in};
-ghost use Rattle.trim_helper.specs.Endings.{AreEnded, HasOpen, HoldNone, IsCloseStop, IsCloseWhy, IsComplete, IsOfSessions, RefusesClosing, RefusesEnded, count_lane, parts_of};
+ghost use Rattle.trim_helper.specs.Endings.{AreEnded, HasOpen, HoldNone, IsCloseStop, IsCloseWhy, IsComplete, RefusesEnded, count_lane, parts_of};
 ghost use Rattle.trim_helper.specs.Moves.{most_room};
 ghost use Rattle.heap_model.specs.declared.limits.TheConstants.{RING_RECORDS};
 ghost use Rattle.trim_helper.specs.Parts.{IsServing};
-ghost use Rattle.trim_helper.specs.Serving.{Serves};
 ghost use Rattle.trim_helper.specs.Taken.{HasTaken, trimmed_of};
+ghost use Rattle.trim_helper.specs.Whole.{as_parts};
 
 use crate::close_error::{CloseError, close_error};
 use crate::draining::drain_known;
@@ -106,11 +107,11 @@ fn finish<D: Disk>(
     ensures ok { (p : Past) → HasTaken store.old.known (D.device store.old.disk) rings.old waiting.old (setting_of shared.plan) p → ((l : ℕ) → l < store.old.known.layout.lanes → (count_published seat l ≤ p.cut l) × (place_published seat l ≤ trimmed_of p l))
         → IfOk result (HasSpelled (setting_of shared.plan) shared.plan.lanes store.old.known.layout (parts_of ended.items) p (D.device store.old.disk) (D.device store.new.disk)) }
     ensures stop { IfErr result IsCloseStop }
-    ensures failures { OnOk result ((D.device store.old.disk).failures ≤ (D.device store.new.disk).failures) }
+    ensures later { OnOk result ((D.device store.old.disk).failures ≤ (D.device store.new.disk).failures) }
     ensures why { (s : Setting) (p : Past) → HasTaken store.old.known (D.device store.old.disk) rings.old waiting.old s p
         → IfErr result (λ e. IsCloseWhy store.old.known (D.device store.old.disk) (D.device store.new.disk) e) }
     ensures failed { (s : Setting) (p : Past) → HasTaken store.old.known (D.device store.old.disk) rings.old waiting.old s p → store.old.known.has_failed ≡ true → IsErrOf result CloseError.Failed }
-    ensures any_moment { (s : Setting) (p : Past) → HasTaken store.old.known (D.device store.old.disk) rings.old waiting.old s p
+    ensures stood { (s : Setting) (p : Past) → HasTaken store.old.known (D.device store.old.disk) rings.old waiting.old s p
         → Stood store.old.known.layout s p ended.items (D.device store.old.disk) (D.device store.new.disk) }
 {
     log_law();
@@ -149,15 +150,7 @@ pub fn close_down<D: Disk>(
     requires lanes { shared.plan.lanes ≡ helper.store.known.layout.lanes }
     requires ended { AreEnded shared helper.store.known.layout.capacity helper.rings ended.items }
     requires nothing { taken_in helper.seat ≡ [] }
-    ensures ok { (p : Past) → IsServing D.device helper (setting_of shared.plan) p
-        → IfOk result (λ disk. IsClosedDown (setting_of shared.plan) shared.plan.lanes helper.store.known.layout (parts_of ended.items) p (D.device helper.store.disk) (D.device disk)) }
-    ensures refused { MatchResult result (λ disk. HoldNone ended.items × IsComplete helper.store.known.layout.lanes ended.items) (λ back. RefusesClosing helper.store.known.layout.lanes ended.items back.1) }
-    ensures untouched { IfErr result (λ back. IsOfSessions back.1 → back.0 ≡ helper.store.disk) }
-    ensures failed { helper.store.known.has_failed ≡ true → HoldNone ended.items → IsComplete helper.store.known.layout.lanes ended.items → IsErrAnd result (λ back. back.1 ≡ CloseError.Failed) }
-    ensures why { IfErr result (λ back. IsCloseWhy helper.store.known (D.device helper.store.disk) (D.device back.0) back.1) }
-    ensures failures { IfOk result (λ disk. (D.device helper.store.disk).failures ≤ (D.device disk).failures) }
-    ensures any_moment { (s : Setting) (p : Past) → HasTaken helper.store.known (D.device helper.store.disk) helper.rings helper.waiting s p
-        → Stood helper.store.known.layout s p ended.items (D.device helper.store.disk) (D.device (disk_of result)) }
+    ensures closes { (p : Past) → IsServing D.device helper (setting_of shared.plan) p → Closes D.device shared ended.items p helper result }
 {
     let Helper { serving } = helper;
     close_serving(shared, ended, serving)
@@ -173,17 +166,7 @@ fn close_serving<D: Disk>(
     requires lanes { shared.plan.lanes ≡ helper.store.known.layout.lanes }
     requires ended { AreEnded shared helper.store.known.layout.capacity helper.rings.items ended.items }
     requires nothing { taken_in helper.seat ≡ [] }
-    ensures ok { (p : Past) → Serves helper.store.known (D.device helper.store.disk) helper.rings.items helper.waiting helper.is_settled (count_published helper.seat) (place_published helper.seat) (setting_of shared.plan) p
-        → IfOk result (λ disk. IsClosedDown (setting_of shared.plan) shared.plan.lanes helper.store.known.layout (parts_of ended.items) p (D.device helper.store.disk) (D.device disk)) }
-    ensures refused { MatchResult result (λ disk. HoldNone ended.items × IsComplete helper.store.known.layout.lanes ended.items) (λ back. RefusesClosing helper.store.known.layout.lanes ended.items back.1) }
-    ensures why { (s : Setting) (p : Past) → HasTaken helper.store.known (D.device helper.store.disk) helper.rings.items helper.waiting s p
-        → IfErr result (λ back. IsCloseWhy helper.store.known (D.device helper.store.disk) (D.device back.0) back.1) }
-    ensures untouched { IfErr result (λ back. IsOfSessions back.1 → back.0 ≡ helper.store.disk) }
-    ensures failures { IfOk result (λ disk. (D.device helper.store.disk).failures ≤ (D.device disk).failures) }
-    ensures failed { (s : Setting) (p : Past) → HasTaken helper.store.known (D.device helper.store.disk) helper.rings.items helper.waiting s p → helper.store.known.has_failed ≡ true → HoldNone ended.items → IsComplete helper.store.known.layout.lanes ended.items
-        → IsErrAnd result (λ back. back.1 ≡ CloseError.Failed) }
-    ensures any_moment { (s : Setting) (p : Past) → HasTaken helper.store.known (D.device helper.store.disk) helper.rings.items helper.waiting s p
-        → Stood helper.store.known.layout s p ended.items (D.device helper.store.disk) (D.device (disk_of result)) }
+    ensures closes { (p : Past) → IsServing D.device (as_parts helper) (setting_of shared.plan) p → Closes D.device shared ended.items p (as_parts helper) result }
 {
     let Serving {
         mut store,

@@ -1,19 +1,18 @@
 //! The helper.
-ghost use Rattle.std.specs.Prelude.{◌≡◌, ◌+◌, ◌<◌, ◌≤◌, [], ℕ, List, None, true, false, vec_len, length, IfErr, IfOk, IsErrOf, OnErr, OnOk};
-ghost use Rattle.block_disk.specs.Device.{HasCause};
+ghost use Rattle.std.specs.Prelude.{◌≡◌, ◌<◌, ◌≤◌, [], ℕ, List, true, false, vec_len, length, IfErr, IfOk, OnErr, OnOk};
 ghost use Rattle.durable.specs.Store.{HasPast};
 ghost use Rattle.heap_model.specs.declared.event.Event.{Event};
 ghost use Rattle.heap_model.specs.History.{log_of};
 ghost use Rattle.heap_model.specs.Log.{lane as lane_of};
 ghost use Rattle.heap_model.specs.Setting.{Setting};
 ghost use Rattle.store_past.specs.Past.{Past, applied, no_past};
-ghost use Rattle.store_past.specs.declared.error.StoreError.TheVariants.{Failed, Fault};
-ghost use Rattle.trim_helper.specs.Helping.{IsHelper, count_published, place_published, taken_in};
-ghost use Rattle.trim_helper.specs.Moves.{SameRings, most_room};
-ghost use Rattle.trim_helper.specs.Parts.{HasDrained, HasServed, IsServing};
-ghost use Rattle.trim_helper.specs.Rings.{known_of, received_of, waiting_in};
+ghost use Rattle.store_past.specs.declared.error.StoreError.TheVariants.{Failed};
+ghost use Rattle.trim_helper.specs.Calls.{HasGoneOn, Rounds};
+ghost use Rattle.trim_helper.specs.Helping.{IsHelper, count_published, place_published};
+ghost use Rattle.trim_helper.specs.Moves.{most_room};
+ghost use Rattle.trim_helper.specs.Parts.{HasDrained, IsServing};
+ghost use Rattle.trim_helper.specs.Rings.{received_of};
 ghost use Rattle.trim_helper.specs.Serving.{HoldHistory};
-ghost use Rattle.trim_helper.specs.Settled.{IsStop, IsWhy};
 ghost use Rattle.trim_helper.specs.Taken.{HasTaken, IsLaneStuck};
 ghost use Rattle.heap_model.specs.declared.limits.TheConstants.{RING_RECORDS};
 
@@ -37,12 +36,13 @@ pub struct Helper<D: Disk> {
 
 impl<D: Disk> Model for Helper<D> {
     ghost use Rattle.trim_helper.specs.Parts.{Parts, IsWhole};
+    ghost use Rattle.trim_helper.specs.Whole.{as_parts};
 
     ghost Value = { Parts D };
 
-    ghost view = { λ h. record { store = h.serving.store; rings = h.serving.rings.items; waiting = h.serving.waiting; is_settled = h.serving.is_settled; seat = h.serving.seat } };
+    ghost view = { λ h. as_parts h.serving };
 
-    ghost invariant = { λ h. IsWhole D.device (record { store = h.serving.store; rings = h.serving.rings.items; waiting = h.serving.waiting; is_settled = h.serving.is_settled; seat = h.serving.seat }) };
+    ghost invariant = { λ h. IsWhole D.device (as_parts h.serving) };
 }
 
 impl<D: Disk> Helper<D> {
@@ -92,30 +92,15 @@ impl<D: Disk> Helper<D> {
 
     /// Drains the rings, logs what was applied, writes it home, acknowledges its stable cut, forgets what is acknowledged, and
     /// then publishes both. So each lane has its area but for the records that aren't acknowledged. It answers how many records
-    /// it applied. With nothing applied since the last round that answered Ok it makes no device call.
+    /// it applied. With nothing applied since the last round that answered Ok it makes no device call, and isn't refused.
     ///
-    /// Refusals: `Failed`; `Worn`: the control's sequence is at its last value; `Fault`: a call of the device failed now. What was
-    /// done before one stands, and nothing is published.
+    /// Refusals: `Failed`; `Worn`: a control must be written, and its sequence is at its last value; `Fault`: a call of the device
+    /// failed now. What was done before one stands, and nothing is published.
     pub fn round(&mut self, shared: &Shared) -> Result<u64, StoreError>
         requires seat { IsHelper shared.now self.old.seat }
         requires lanes { shared.now.plan.lanes ≡ self.old.store.known.layout.lanes }
-        ensures ok { (s : Setting) (p : Past) → IsServing D.device self.old s p → IfOk result (λ n. HasServed D.device self.old self.new s p n) }
-        ensures most { (l : ℕ) → length (received_of self.new.rings l) ≤ length (received_of self.old.rings l) + RING_RECORDS }
-        ensures emptied { OnOk result ((l : ℕ) → l < length self.new.rings → waiting_in self.new.waiting l ≡ None → known_of self.new.rings l ≡ []) }
-        ensures settled { OnOk result (self.new.is_settled ≡ true) }
-        ensures quiet { self.old.is_settled ≡ true → IfOk result (λ n. n ≡ 0 → D.device self.new.store.disk ≡ D.device self.old.store.disk) }
-        ensures stop { IfErr result IsStop }
-        ensures failed { self.old.store.known.has_failed ≡ true → IsErrOf result Failed }
-        ensures running { OnOk result (self.new.store.known.has_failed ≡ false) }
-        ensures why { IfErr result (λ e. IsWhy self.old.store.known self.new.store.known e) }
-        ensures err { (s : Setting) (p : Past) → IsServing D.device self.old s p → OnErr result ((n : ℕ) × HasServed D.device self.old self.new s p n) }
-        ensures unsettled { OnErr result (self.new.is_settled ≡ false) }
-        ensures unpublished { OnErr result (self.new.seat ≡ self.old.seat) }
-        ensures cause { HasCause (D.device self.old.store.disk).failures (D.device self.new.store.disk).failures Fault result }
-        ensures seat { IsHelper shared.now self.new.seat }
-        ensures gathered { taken_in self.new.seat ≡ taken_in self.old.seat }
-        ensures rings { SameRings self.old.rings self.new.rings }
-        ensures layout { self.new.store.known.layout ≡ self.old.store.known.layout }
+        ensures rounds { (s : Setting) (p : Past) → IsServing D.device self.old s p → Rounds D.device s p self.old self.new result }
+        ensures goes_on { HasGoneOn shared.now self.old self.new }
     {
         self.serving.round(shared)
     }

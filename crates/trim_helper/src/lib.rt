@@ -15,6 +15,7 @@ mod meeting;
 mod opening;
 mod published;
 mod rings;
+mod round;
 mod serving;
 mod settling;
 

@@ -1,26 +1,21 @@
 //! The parts of a helper, and what they do together.
-ghost use Rattle.std.specs.Prelude.{◌≡◌, ◌+◌, ◌<◌, ◌≤◌, ◌++◌, [], ℕ, List, None, true, false, vec_len, length, IfErr, IfOk, IsErrOf, OnErr, OnOk};
+ghost use Rattle.std.specs.Prelude.{◌≡◌, ◌<◌, ◌≤◌, [], ℕ, List, true, false, vec_len, length, IfErr, IfOk, OnErr, OnOk};
 ghost use Rattle.heap_model.specs.Setting.{Setting};
-ghost use Rattle.heap_model.specs.declared.record.Record.{Record};
 ghost use Rattle.store_past.specs.Past.{Past, applied};
 ghost use Rattle.durable.specs.Store.{HasPast};
 ghost use Rattle.store_past.specs.declared.error.StoreError.TheVariants.{Failed};
-ghost use Rattle.trim_helper.specs.Moves.{most_room, SameRings};
+ghost use Rattle.trim_helper.specs.Moves.{most_room};
 ghost use Rattle.trim_helper.specs.Taken.{HasTaken, IsLaneStuck, trimmed_of};
-ghost use Rattle.trim_helper.specs.Serving.{Drains, HoldHistory, Served, Serves};
+ghost use Rattle.trim_helper.specs.Serving.{Drains, HoldHistory, Serves};
 ghost use Rattle.heap_model.specs.declared.event.Event.{Event};
 ghost use Rattle.heap_model.specs.History.{log_of};
 ghost use Rattle.heap_model.specs.Log.{lane as lane_of};
 ghost use Rattle.heap_model.specs.declared.limits.TheConstants.{RING_RECORDS};
-ghost use Rattle.trim_helper.specs.Rings.{known_of, received_of, waiting_in};
-ghost use Rattle.block_disk.specs.Device.{HasCause};
-ghost use Rattle.store_past.specs.declared.error.StoreError.TheVariants.{Fault};
+ghost use Rattle.trim_helper.specs.Rings.{received_of};
 ghost use Rattle.trim_helper.specs.Helping.{IsHelper, count_published, place_published, taken_in};
-ghost use Rattle.trim_helper.specs.Settled.{IsStop, IsWhy};
 
 use crate::draining::drain_rings;
 use crate::published::publish;
-use crate::settling::settle_and_trim;
 use block_disk::Disk;
 use durable::{Store, StoreError};
 use heap_model::{LANES, Lane, RING_RECORDS, Record};
@@ -96,47 +91,6 @@ impl<D: Disk> Serving<D> {
         }
     }
 
-    /// Drains the rings, makes what was applied durable, acknowledges its stable cut, forgets that, and publishes both.
-    pub fn round(&mut self, shared: &Shared) -> Result<u64, StoreError>
-        requires seat { IsHelper shared.now self.old.seat }
-        requires lanes { shared.now.plan.lanes ≡ self.old.store.known.layout.lanes }
-        requires serves { (s : Setting) × (p : Past) × Serves self.old.store.known (D.device self.old.store.disk) self.old.rings.items self.old.waiting self.old.is_settled (count_published self.old.seat) (place_published self.old.seat) s p }
-        ensures ok { (s : Setting) (p : Past) → Serves self.old.store.known (D.device self.old.store.disk) self.old.rings.items self.old.waiting self.old.is_settled (count_published self.old.seat) (place_published self.old.seat) s p
-            → IfOk result (λ n. Served (D.device self.old.store.disk) self.new.store.known (D.device self.new.store.disk) self.new.rings.items self.new.waiting true (count_published self.new.seat) (place_published self.new.seat) s p n) }
-        ensures err { (s : Setting) (p : Past) → Serves self.old.store.known (D.device self.old.store.disk) self.old.rings.items self.old.waiting self.old.is_settled (count_published self.old.seat) (place_published self.old.seat) s p
-            → OnErr result ((n : ℕ) × Served (D.device self.old.store.disk) self.new.store.known (D.device self.new.store.disk) self.new.rings.items self.new.waiting false (count_published self.new.seat) (place_published self.new.seat) s p n) }
-        ensures emptied { OnOk result ((l : ℕ) → l < length self.new.rings.items → waiting_in self.new.waiting l ≡ None → known_of self.new.rings.items l ≡ []) }
-        ensures settled { OnOk result (self.new.is_settled ≡ true) }
-        ensures unsettled { OnErr result (self.new.is_settled ≡ false) }
-        ensures quiet { self.old.is_settled ≡ true → IfOk result (λ n. n ≡ 0 → D.device self.new.store.disk ≡ D.device self.old.store.disk) }
-        ensures stop { IfErr result IsStop }
-        ensures why { IfErr result (λ e. IsWhy self.old.store.known self.new.store.known e) }
-        ensures failed { self.old.store.known.has_failed ≡ true → IsErrOf result Failed }
-        ensures running { OnOk result (self.new.store.known.has_failed ≡ false) }
-        ensures unpublished { OnErr result (self.new.seat ≡ self.old.seat) }
-        ensures most { (l : ℕ) → length (received_of self.new.rings.items l) ≤ length (received_of self.old.rings.items l) + RING_RECORDS }
-        ensures layout { self.new.store.known.layout ≡ self.old.store.known.layout }
-        ensures seat { IsHelper shared.now self.new.seat }
-        ensures gathered { taken_in self.new.seat ≡ taken_in self.old.seat }
-        ensures same { SameRings self.old.rings.items self.new.rings.items }
-        ensures serves { (s : Setting) (p : Past) → Serves self.old.store.known (D.device self.old.store.disk) self.old.rings.items self.old.waiting self.old.is_settled (count_published self.old.seat) (place_published self.old.seat) s p → (n : ℕ) × Served (D.device self.old.store.disk) self.new.store.known (D.device self.new.store.disk) self.new.rings.items self.new.waiting self.new.is_settled (count_published self.new.seat) (place_published self.new.seat) s p n }
-        ensures cause { HasCause (D.device self.old.store.disk).failures (D.device self.new.store.disk).failures Fault result }
-    {
-        let count = match self.drain() {
-            Ok(count) => count,
-            Err(reason) => return Err(reason),
-        };
-        if self.is_settled {
-            return Ok(count);
-        }
-        if let Err(reason) = settle_and_trim(&mut self.store) {
-            return Err(reason);
-        }
-        publish_all(&self.store, shared, &mut self.seat);
-        self.is_settled = true;
-        Ok(count)
-    }
-
     /// Its store.
     pub fn into_store(self) -> Store<D>
         ensures { result ≡ self.store }
@@ -145,8 +99,8 @@ impl<D: Disk> Serving<D> {
     }
 }
 
-// Publishes by lane what is acknowledged and trimmed.
-fn publish_all<D: Disk>(store: &Store<D>, shared: &Shared, seat: &mut HelperSeat)
+/// Publishes by lane what is acknowledged and trimmed.
+pub fn publish_all<D: Disk>(store: &Store<D>, shared: &Shared, seat: &mut HelperSeat)
     requires seat { IsHelper shared.now seat.old }
     requires lanes { shared.now.plan.lanes ≡ store.now.known.layout.lanes }
     requires rises { (s : Setting) × (p : Past) × HasPast store.now.known s p (D.device store.now.disk) × ((l : ℕ) → l < store.now.known.layout.lanes → (count_published seat.old l ≤ p.cut l) × (place_published seat.old l ≤ trimmed_of p l)) }

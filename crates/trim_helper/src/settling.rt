@@ -1,13 +1,12 @@
 //! What was applied is made durable, its stable cut is acknowledged, and what is acknowledged is forgotten.
-ghost use Rattle.std.specs.Prelude.{◌≡◌, ◌≢◌, ◌<◌, ℕ, IfErr, IsErrOf, OnErr, OnOk, true, false};
+ghost use Rattle.std.specs.Prelude.{◌≡◌, ℕ, IfErr, OnErr, OnOk, false};
 ghost use Rattle.heap_model.specs.Setting.{Setting};
 ghost use Rattle.block_disk.specs.Device.{HasCause};
-ghost use Rattle.block_disk.specs.Images.{LeavesOnly};
-ghost use Rattle.store_image.specs.KeptHeap.{StandsForCut};
-ghost use Rattle.store_past.specs.declared.error.StoreError.TheVariants.{Failed, Fault, Worn};
-ghost use Rattle.store_past.specs.Past.{Past, IsTrimmed, applied};
+ghost use Rattle.store_past.specs.declared.error.StoreError.TheVariants.{Fault};
+ghost use Rattle.store_past.specs.Past.{Past};
+ghost use Rattle.durable.specs.Calls.{RefusesHome};
 ghost use Rattle.durable.specs.Store.{HasPast};
-ghost use Rattle.trim_helper.specs.Settled.{HasClean, HasSame, IsSettled, IsStop, IsWhy, StandsForRound};
+ghost use Rattle.trim_helper.specs.Settled.{HasClean, Settles, SettlesAndTrims};
 
 use block_disk::Disk;
 use cut_laws::{stable_law, stay_law};
@@ -17,12 +16,10 @@ use durable::{Home, Store, StoreError};
 fn write_home<D: Disk>(store: &mut Store<D>) -> Result<(), StoreError>
     ensures clean { (s : Setting) (p : Past) → HasPast store.old.known s p (D.device store.old.disk) → OnOk result (HasClean (D.device store.old.disk) store.new.known (D.device store.new.disk) s p s.fields) }
     ensures kept { (s : Setting) (p : Past) → HasPast store.old.known s p (D.device store.old.disk) → OnErr result (HasClean (D.device store.old.disk) store.new.known (D.device store.new.disk) s p 0) }
-    ensures stop { (s : Setting) (p : Past) → HasPast store.old.known s p (D.device store.old.disk) → IfErr result IsStop }
-    ensures why { (s : Setting) (p : Past) → HasPast store.old.known s p (D.device store.old.disk) → IfErr result (λ e. (e ≡ Failed → store.old.known.has_failed ≡ true) × (e ≢ Worn)) }
+    ensures refused { (s : Setting) (p : Past) → HasPast store.old.known s p (D.device store.old.disk) → IfErr result (RefusesHome store.old.known) }
     ensures running { OnOk result (store.new.known.has_failed ≡ store.old.known.has_failed) }
-    ensures layout { store.new.known.layout ≡ store.old.known.layout }
-    ensures any_moment { (s : Setting) (p : Past) → HasPast store.old.known s p (D.device store.old.disk) → LeavesOnly (D.device store.old.disk) (D.device store.new.disk) (StandsForCut store.old.known.layout s p.logged p.cut) }
     ensures cause { HasCause (D.device store.old.disk).failures (D.device store.new.disk).failures Fault result }
+    ensures layout { store.new.known.layout ≡ store.old.known.layout }
 {
     let fields = store.layout().fields;
     for field in 0..fields {
@@ -37,15 +34,11 @@ fn write_home<D: Disk>(store: &mut Store<D>) -> Result<(), StoreError>
 
 /// Logs what was applied, writes it home, and acknowledges its stable cut.
 pub fn settle_applied<D: Disk>(store: &mut Store<D>) -> Result<(), StoreError>
-    ensures settled { (s : Setting) (p : Past) → HasPast store.old.known s p (D.device store.old.disk) → OnOk result ((h : HasSame (D.device store.old.disk) store.new.known (D.device store.new.disk) s p) × IsSettled s h.now) }
-    ensures kept { (s : Setting) (p : Past) → HasPast store.old.known s p (D.device store.old.disk) → OnErr result (HasSame (D.device store.old.disk) store.new.known (D.device store.new.disk) s p) }
-    ensures stop { (s : Setting) (p : Past) → HasPast store.old.known s p (D.device store.old.disk) → IfErr result IsStop }
-    ensures why { (s : Setting) (p : Past) → HasPast store.old.known s p (D.device store.old.disk) → IfErr result (λ e. IsWhy store.old.known store.new.known e) }
-    ensures failed { (s : Setting) (p : Past) → HasPast store.old.known s p (D.device store.old.disk) → store.old.known.has_failed ≡ true → IsErrOf result Failed }
-    ensures layout { store.new.known.layout ≡ store.old.known.layout }
+    ensures settles { (s : Setting) (p : Past) → HasPast store.old.known s p (D.device store.old.disk)
+        → Settles s p store.old.known (D.device store.old.disk) store.new.known (D.device store.new.disk) result }
     ensures running { OnOk result (store.new.known.has_failed ≡ false) }
-    ensures any_moment { (s : Setting) (p : Past) → HasPast store.old.known s p (D.device store.old.disk) → LeavesOnly (D.device store.old.disk) (D.device store.new.disk) (StandsForRound store.old.known.layout s (applied p) p.cut) }
     ensures cause { HasCause (D.device store.old.disk).failures (D.device store.new.disk).failures Fault result }
+    ensures layout { store.new.known.layout ≡ store.old.known.layout }
 {
     stable_law();
     stay_law();
@@ -61,15 +54,11 @@ pub fn settle_applied<D: Disk>(store: &mut Store<D>) -> Result<(), StoreError>
 /// Logs what was applied, writes it home, and then acknowledges its stable cut and forgets it, both at once. It takes six
 /// syncs.
 pub fn settle_and_trim<D: Disk>(store: &mut Store<D>) -> Result<(), StoreError>
-    ensures settled { (s : Setting) (p : Past) → HasPast store.old.known s p (D.device store.old.disk) → OnOk result ((h : HasSame (D.device store.old.disk) store.new.known (D.device store.new.disk) s p) × IsSettled s h.now × IsTrimmed h.now) }
-    ensures kept { (s : Setting) (p : Past) → HasPast store.old.known s p (D.device store.old.disk) → OnErr result (HasSame (D.device store.old.disk) store.new.known (D.device store.new.disk) s p) }
-    ensures stop { (s : Setting) (p : Past) → HasPast store.old.known s p (D.device store.old.disk) → IfErr result IsStop }
-    ensures why { (s : Setting) (p : Past) → HasPast store.old.known s p (D.device store.old.disk) → IfErr result (λ e. IsWhy store.old.known store.new.known e) }
-    ensures failed { (s : Setting) (p : Past) → HasPast store.old.known s p (D.device store.old.disk) → store.old.known.has_failed ≡ true → IsErrOf result Failed }
-    ensures layout { store.new.known.layout ≡ store.old.known.layout }
+    ensures settles { (s : Setting) (p : Past) → HasPast store.old.known s p (D.device store.old.disk)
+        → SettlesAndTrims s p store.old.known (D.device store.old.disk) store.new.known (D.device store.new.disk) result }
     ensures running { OnOk result (store.new.known.has_failed ≡ false) }
-    ensures any_moment { (s : Setting) (p : Past) → HasPast store.old.known s p (D.device store.old.disk) → LeavesOnly (D.device store.old.disk) (D.device store.new.disk) (StandsForRound store.old.known.layout s (applied p) p.cut) }
     ensures cause { HasCause (D.device store.old.disk).failures (D.device store.new.disk).failures Fault result }
+    ensures layout { store.new.known.layout ≡ store.old.known.layout }
 {
     stable_law();
     stay_law();

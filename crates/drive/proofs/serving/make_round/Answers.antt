@@ -1,6 +1,5 @@
 use Rattle.steps.specs.Views.{plan}
-use Rattle.trim_helper.specs.Parts.{HasServed}
-use Rattle.drive.proofs.Served.{either_way}
+use Rattle.drive.proofs.Served.{runs_on}
 use Rattle.drive.proofs.Stopped.{round_stops, worn_out}
 use Rattle.drive.proofs.serving.make_round.Goals as goal
 
@@ -8,15 +7,24 @@ pub returns-clause-helping : goal.returns-clause-helping
 returns-clause-helping g c =
     let was = c.requires.helping in
     let h = c.args.shared.now in
-    let served = either_way (λ n. HasServed g.D.Disk.device c.args.helper.now c.round.new.self (plan h) was.past n) c.round.result (c.round.ensures.ok (plan h) was.past was.serving) (c.round.ensures.err (plan h) was.past was.serving) in
-    c.helping_law.ensures.round h c.args.helper.now c.round.new.self served.0 was.past was (record { seat = c.round.ensures.seat; taken = c.round.ensures.gathered; rings = c.round.ensures.rings; layout = c.round.ensures.layout }) served.1
+    c.helping_law.ensures.round h was.past c.args.helper.now c.round.new.self c.round.result was c.round.ensures.goes_on (c.round.ensures.rounds (plan h) was.past was.serving)
 
 pub returns-clause-stayed : goal.returns-clause-stayed
-returns-clause-stayed g c = record { rings = c.round.ensures.rings; layout = c.round.ensures.layout; later = c.round.ensures.cause.later }
+returns-clause-stayed g c =
+    let was = c.requires.helping in
+    let on = c.round.ensures.goes_on in
+    record { rings = on.rings; layout = on.layout; later = (c.round.ensures.rounds (plan c.args.shared.now) was.past was.serving).cause.later }
+
+pub returns-clause-running : goal.returns-clause-running
+returns-clause-running g c =
+    let was = c.requires.helping in
+    runs_on g.D.Disk.device (plan c.args.shared.now) was.past c.args.helper.now c.round.new.self c.round.result (c.round.ensures.rounds (plan c.args.shared.now) was.past was.serving)
 
 pub returns-clause-cause : goal.returns-clause-cause
 returns-clause-cause g c =
     let device = g.D.Disk.device in
+    let was = c.requires.helping in
     let new = c.round.new.self in
-    round_stops (device c.args.helper.now.store.disk) (device new.store.disk) c.args.helper.now.store.known new.store.known c.round.result c.requires.running c.round.ensures.stop c.round.ensures.why c.round.ensures.cause
+    let round = c.round.ensures.rounds (plan c.args.shared.now) was.past was.serving in
+    round_stops (device c.args.helper.now.store.disk) (device new.store.disk) c.args.helper.now.store.known new.store.known c.round.result c.requires.running round.refused round.cause
     (worn_out device c.args.shared.now new (returns-clause-helping g c))

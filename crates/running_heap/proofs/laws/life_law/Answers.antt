@@ -5,7 +5,7 @@ pub returns-clause-begins : goal.returns-clause-begins
 returns-clause-begins g c h x serving running = begins g.D.Disk.device h x serving running
 
 pub returns-clause-round : goal.returns-clause-round
-returns-clause-round g c h opened x y p n was layout served running = lives_on g.D.Disk.device h opened x y p n was layout served running
+returns-clause-round g c h opened p x y answer was on round running = lives_on g.D.Disk.device h opened p x y answer was on round running
 
 pub returns-clause-drain : goal.returns-clause-drain
 returns-clause-drain g c h opened x y p n was seat drained quiet = lives_drained g.D.Disk.device h opened x y p n was seat drained quiet

@@ -6,6 +6,7 @@ use Rattle.trim_helper.specs.Meeting.{HasPart}
 use Rattle.trim_helper.specs.Taken.{applied_more}
 use Rattle.block_disk.specs.Device.{HasFailed}
 use Rattle.trim_helper.proofs.ClosingReasons.{why_drained, why_settled}
+use Rattle.trim_helper.proofs.Homes.{stops_round}
 use Rattle.trim_helper.proofs.Rounds.{settled_then, looks_drains, looks_taken, stood_round, stood_still, taken_follows}
 use Rattle.trim_helper.proofs.Sent.{HasMet, are_sent}
 use Rattle.trim_helper.specs.Serving.{Among, Part}
@@ -30,42 +31,42 @@ returns-clause-ok g c = λ p has places.
     c.in_default.ensures.advances (c.in_default.ensures.stuck) in
     let free = all_free (setting_of c.args.shared.plan) c.args.shared.plan.lanes c.layout-layout.result.capacity (place_published c.meet.new.seat) (taken_in c.meet.new.seat) history.0 history.1 c.meet.new.rings c.meet.ensures.met present count
     c.log_law.ensures c.own_log_law.ensures in
-    let settled = c.in_default-settle_applied.ensures.settled (setting_of c.args.shared.plan) (applied_more all.0 p) all.1.has in
-    let now = settled.0.now in
+    let settled = c.in_default-settle_applied.ensures.settles (setting_of c.args.shared.plan) (applied_more all.0 p) all.1.has in
+    let now = settled.same.now in
     let on = c.in_default.ensures.advances in
     let known = c.settle_applied.new.store.known in
     let since = g.D.Disk.device c.args.store.now.disk in
     let device = g.D.Disk.device c.settle_applied.new.store.disk in
-    let ran = settled_then _ known.layout s p now since _ device all.0 known.has_failed c.in_default-settle_applied.ensures.running on.device all.1.has.past c.settle_applied.ensures.layout settled.0.ran in
+    let ran = settled_then _ known.layout s p now since _ device all.0 known.has_failed c.in_default-settle_applied.ensures.running on.device all.1.has.past c.settle_applied.ensures.layout settled.same.ran in
     subst (λ parts. HasSpelled s c.args.shared.plan.lanes c.args.store.now.known.layout parts p since device c.close-words.result) c.meet.ensures.gathered
     (subst (λ l. HasSpelled s c.args.shared.plan.lanes l (taken_in c.meet.new.seat) p since device c.close-words.result) (c.settle_applied.ensures.layout ∙ on.layout)
     (has_spelled s c.args.shared.plan.lanes (taken_in c.meet.new.seat) history.0 history.1 c.log_law.ensures c.order_law.ensures c.all_kept_law.ensures c.stable_law.ensures.one c.unlogged_law.ensures c.close-words.result history.2 p
     (λ x among lt. let counts = c.meet.ensures.count x.lane in omega (arith, (c.close-words.ensures.read x among).0, (places x.lane (omega arith)).0))
     (λ x among lt. let place = c.meet.ensures.place x.lane in omega (arith, (c.close-words.ensures.read x among).1, (places x.lane (omega arith)).1))
-    known since device now ran settled.0.has c.in_default-settle_applied.ensures.running settled.1 (same_lanes _ _ _ settled.0.same all.2) free))
+    known since device now ran settled.same.has c.in_default-settle_applied.ensures.running settled.settled (same_lanes _ _ _ settled.same.same all.2) free))
 
-pub returns-in-Err-clause-any_moment : goal.returns-in-Err-clause-any_moment
-returns-in-Err-clause-any_moment g c = λ s p has.
+pub returns-in-Err-clause-stood : goal.returns-in-Err-clause-stood
+returns-in-Err-clause-stood g c = λ s p has.
     let now = looks_taken _ _ _ _ _ s p c.meet.ensures.looks has in
     let each : (x : Part) → Among (parts_of c.args.ended.items) x → HasMet c.args.shared c.meet.new.rings x = λ x among. c.meet.ensures.met.whole x (subst (λ parts. Among parts x) (sym c.meet.ensures.gathered) among) in
     stood_still _ s p c.args.ended.items _ _ has.has.past.legal
     (λ none complete. are_sent c.args.shared _ c.args.rings.now c.meet.new.rings c.args.ended.items (applied p) c.requires.ended each (taken_follows _ _ _ _ s p now)) c.in-Err.ensures.kept.1.device
 
-pub returns-in-Err-settle_applied-clause-any_moment : goal.returns-in-Err-settle_applied-clause-any_moment
-returns-in-Err-settle_applied-clause-any_moment g c = λ s p has.
+pub returns-in-Err-settle_applied-clause-stood : goal.returns-in-Err-settle_applied-clause-stood
+returns-in-Err-settle_applied-clause-stood g c = λ s p has.
     let on = c.in_default.ensures.advances in
     let each : (x : Part) → Among (parts_of c.args.ended.items) x → HasMet c.args.shared c.drain_known.new.rings x = λ x among. on.whole x.lane ∙ c.meet.ensures.met.whole x (subst (λ parts. Among parts x) (sym c.meet.ensures.gathered) among) in
     stood_round _ _ c.settle_applied.new.store.known _ _ _ _ _ _ _ s p _ c.args.ended.items (looks_drains _ _ _ _ _ c.meet.new.rings _ _ _ _ c.requires.room c.meet.ensures.looks on) has
     (λ log follows. are_sent c.args.shared _ c.args.rings.now c.drain_known.new.rings c.args.ended.items log c.requires.ended each follows) c.settle_applied.ensures.layout
-    c.in-Err-settle_applied.ensures.kept c.in-Err-settle_applied.ensures.any_moment
+    (λ s p has. (c.in-Err-settle_applied.ensures.settles s p has).same)
 
-pub returns-clause-any_moment : goal.returns-clause-any_moment
-returns-clause-any_moment g c = λ s p has.
+pub returns-clause-stood : goal.returns-clause-stood
+returns-clause-stood g c = λ s p has.
     let on = c.in_default.ensures.advances in
     let each : (x : Part) → Among (parts_of c.args.ended.items) x → HasMet c.args.shared c.drain_known.new.rings x = λ x among. on.whole x.lane ∙ c.meet.ensures.met.whole x (subst (λ parts. Among parts x) (sym c.meet.ensures.gathered) among) in
     stood_round _ _ c.settle_applied.new.store.known _ _ _ _ _ _ _ s p _ c.args.ended.items (looks_drains _ _ _ _ _ c.meet.new.rings _ _ _ _ c.requires.room c.meet.ensures.looks on) has
     (λ log follows. are_sent c.args.shared _ c.args.rings.now c.drain_known.new.rings c.args.ended.items log c.requires.ended each follows) c.settle_applied.ensures.layout
-    (λ s p has. (c.in_default-settle_applied.ensures.settled s p has).0) c.in_default-settle_applied.ensures.any_moment
+    (λ s p has. (c.in_default-settle_applied.ensures.settles s p has).same)
 
 pub returns-in-Err-clause-why : goal.returns-in-Err-clause-why
 returns-in-Err-clause-why g c = λ s p taken.
@@ -77,11 +78,12 @@ returns-in-Err-settle_applied-clause-why g c = λ s p taken.
     let on = c.in_default.ensures.advances in
     let made = on.made s p (looks_taken _ _ _ _ _ s p c.meet.ensures.looks taken) in
     let q = applied_more made.0 p in
-    let left = c.in-Err-settle_applied.ensures in
-    let kept = left.kept s q made.2.has in
+    let left = c.in-Err-settle_applied.ensures.settles s q made.2.has in
     let told = c.close_error-in-Err-settle_applied.ensures in
-    why_settled c.args.store.now.known (g.D.Disk.device c.args.store.now.disk) _ c.in-Err-settle_applied.reason c.close_error-in-Err-settle_applied.result (left.stop s q made.2.has) told.failed told.worn told.fault
-    c.drain_known.new.store.known c.settle_applied.new.store.known s kept.now on.running (left.why s q made.2.has) kept.has
+    let x = c.drain_known.new.store.known in
+    let y = c.settle_applied.new.store.known in
+    why_settled c.args.store.now.known (g.D.Disk.device c.args.store.now.disk) _ c.in-Err-settle_applied.reason c.close_error-in-Err-settle_applied.result (stops_round x y c.in-Err-settle_applied.reason left.refused) told.failed told.worn told.fault
+    x y s left.same.now on.running left.refused left.same.has
     (λ is. subst (λ d. HasFailed d.failures (g.D.Disk.device c.settle_applied.new.store.disk).failures) on.device (c.settle_applied.ensures.cause.failed (c.in-Err-settle_applied.is ∙ ap Err is)))
 
 pub returns-in-Err-clause-failed : goal.returns-in-Err-clause-failed
@@ -91,17 +93,17 @@ pub returns-in-Err-settle_applied-clause-failed : goal.returns-in-Err-settle_app
 returns-in-Err-settle_applied-clause-failed g c = λ s p taken off.
     let on = c.in_default.ensures.advances in
     let made = on.made s p (looks_taken _ _ _ _ _ s p c.meet.ensures.looks taken) in
-    let is = c.in-Err-settle_applied.ensures.failed s (applied_more made.0 p) made.2.has (on.running ∙ off) in
+    let is = (c.in-Err-settle_applied.ensures.settles s (applied_more made.0 p) made.2.has).failed (on.running ∙ off) in
     ap Err (c.close_error-in-Err-settle_applied.ensures.from_failed (let same : Err c.in-Err-settle_applied.reason ≡ Err StoreFailed = is in cc))
 
 pub returns-clause-failed : goal.returns-clause-failed
 returns-clause-failed g c = λ s p taken off.
     let on = c.in_default.ensures.advances in
     let made = on.made s p (looks_taken _ _ _ _ _ s p c.meet.ensures.looks taken) in
-    absurd (let no = c.in_default-settle_applied.ensures.failed s (applied_more made.0 p) made.2.has (on.running ∙ off) in cc)
+    absurd (let no = (c.in_default-settle_applied.ensures.settles s (applied_more made.0 p) made.2.has).failed (on.running ∙ off) in cc)
 
-pub returns-clause-failures : goal.returns-clause-failures
-returns-clause-failures g c =
+pub returns-clause-later : goal.returns-clause-later
+returns-clause-later g c =
     let rose = c.settle_applied.ensures.cause.later in
     let same = ap (λ d. d.failures) c.in_default.ensures.advances.device in
     omega (arith, rose, same)

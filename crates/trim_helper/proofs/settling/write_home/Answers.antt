@@ -1,12 +1,10 @@
 use Rattle.std.proofs.Common.{◌∙◌, ◌≡◌, ap, refl, sym, arith}
-use Rattle.block_disk.proofs.Images.{begin}
 use Rattle.durable.proofs.Running.{failed_or_still}
-use Rattle.store_image.specs.KeptHeap.{StandsForCut}
-use Rattle.trim_helper.proofs.Homes.{moment_more, no_fault, passed_on, clean_none, clean_most, clean_done, clean_more, clean_kept, dirtied, stops_home, why_home}
+use Rattle.trim_helper.proofs.Homes.{no_fault, passed_on, clean_none, clean_most, clean_done, clean_more, clean_kept, dirtied, home_moved}
 use Rattle.trim_helper.proofs.settling.write_home.Goals as goal
 
 pub loop-field-init : goal.loop-field-init
-loop-field-init g c = record { clean = λ s p has. clean_none _ _ s p has; moment = λ s p has. begin (g.D.Disk.device c.args.store.now.disk) (StandsForCut c.args.store.now.known.layout s p.logged p.cut); later = omega arith; running = refl; layout = refl }
+loop-field-init g c = record { clean = λ s p has. clean_none _ _ s p has; later = omega arith; running = refl; layout = refl }
 
 pub returns-in-Ok-Done-clause-clean : goal.returns-in-Ok-Done-clause-clean
 returns-in-Ok-Done-clause-clean g c = λ s p has.
@@ -23,11 +21,6 @@ returns-in-Err-clause-kept g c = λ s p has.
     clean_kept _ _ _ _ _ s p _ was c.home_step.ensures.layout all.1 (failed_or_still g.D.Disk.device c.loop-field.store c.home_step.new.self c.home_step.result c.in-Err.reason c.in-Err.is c.in-Err.ensures.refused c.home_step.ensures.failed)
     (c.home_step.ensures.shown s (dirtied p was.dirty) was.has) (c.in-Err.ensures.kept s (dirtied p was.dirty) was.has)
 
-pub returns-in-Err-clause-stop : goal.returns-in-Err-clause-stop
-returns-in-Err-clause-stop g c = λ s p has.
-    let was = (c.loop-field.invariant.clean s p has).0 in
-    stops_home c.loop-field.store.known c.in-Err.reason (c.in-Err.ensures.answer s (dirtied p was.dirty) was.has)
-
 pub returns-in-Err-clause-layout : goal.returns-in-Err-clause-layout
 returns-in-Err-clause-layout g c = c.home_step.ensures.layout ∙ c.loop-field.invariant.layout
 
@@ -38,9 +31,6 @@ loop-field-preserved g c = record {
       let more = clean_more _ _ _ _ _ s p _ was c.home_step.ensures.layout c.in-Ok-Wrote.ensures.running.0 (c.home_step.ensures.shown s (dirtied p was.dirty) was.has) c.in-Ok-Wrote.field-0 c.in-Ok-Wrote.field-0-0 c.in-Ok-Wrote.field-0-is
       (c.in-Ok-Wrote.ensures.ok s (dirtied p was.dirty) was.has) (c.in-Ok-Wrote.ensures.answer s (dirtied p was.dirty) was.has).1 in
       (more, more.ran.whole c.in-Ok-Wrote.ensures.running.1);
-  moment = λ s p has.
-      let was = (c.loop-field.invariant.clean s p has).0 in
-      moment_more _ _ _ _ c.loop-field.store.known.layout s p.logged p.cut c.loop-field.invariant.layout (c.loop-field.invariant.moment s p has) (c.home_step.ensures.any_moment s (dirtied p was.dirty) was.has);
   later = omega (arith, c.loop-field.invariant.later, c.home_step.ensures.cause.later);
   running = c.in-Ok-Wrote.ensures.running.1 ∙ sym c.in-Ok-Wrote.ensures.running.0 ∙ c.loop-field.invariant.running;
   layout = c.home_step.ensures.layout ∙ c.loop-field.invariant.layout;
@@ -58,24 +48,11 @@ returns-clause-clean g c = λ s p has.
 pub returns-clause-layout : goal.returns-clause-layout
 returns-clause-layout g c = c.loop-field.invariant.layout
 
-pub returns-in-Ok-Done-clause-any_moment : goal.returns-in-Ok-Done-clause-any_moment
-returns-in-Ok-Done-clause-any_moment g c = λ s p has.
-    let was = (c.loop-field.invariant.clean s p has).0 in
-    moment_more _ _ _ _ c.loop-field.store.known.layout s p.logged p.cut c.loop-field.invariant.layout (c.loop-field.invariant.moment s p has) (c.home_step.ensures.any_moment s (dirtied p was.dirty) was.has)
-
-pub returns-in-Err-clause-any_moment : goal.returns-in-Err-clause-any_moment
-returns-in-Err-clause-any_moment g c = λ s p has.
-    let was = (c.loop-field.invariant.clean s p has).0 in
-    moment_more _ _ _ _ c.loop-field.store.known.layout s p.logged p.cut c.loop-field.invariant.layout (c.loop-field.invariant.moment s p has) (c.home_step.ensures.any_moment s (dirtied p was.dirty) was.has)
-
 pub returns-in-Ok-Done-clause-cause : goal.returns-in-Ok-Done-clause-cause
 returns-in-Ok-Done-clause-cause g c = no_fault _ _ _ _ (omega (arith, c.loop-field.invariant.later, c.home_step.ensures.cause.later)) tt
 
 pub returns-in-Err-clause-cause : goal.returns-in-Err-clause-cause
 returns-in-Err-clause-cause g c = passed_on _ _ _ c.home_step.result _ _ c.in-Err.reason c.in-Err.is refl c.loop-field.invariant.later c.home_step.ensures.cause
-
-pub returns-clause-any_moment : goal.returns-clause-any_moment
-returns-clause-any_moment g c = c.loop-field.invariant.moment
 
 pub returns-clause-cause : goal.returns-clause-cause
 returns-clause-cause g c = no_fault _ _ _ _ c.loop-field.invariant.later tt
@@ -86,8 +63,7 @@ returns-in-Ok-Done-clause-running g c = c.in-Ok-Done.ensures.running.1 ∙ sym c
 pub returns-clause-running : goal.returns-clause-running
 returns-clause-running g c = c.loop-field.invariant.running
 
-pub returns-in-Err-clause-why : goal.returns-in-Err-clause-why
-returns-in-Err-clause-why g c = λ s p has.
+pub returns-in-Err-clause-refused : goal.returns-in-Err-clause-refused
+returns-in-Err-clause-refused g c = λ s p has.
     let was = (c.loop-field.invariant.clean s p has).0 in
-    let why = why_home c.loop-field.store.known c.in-Err.reason (c.in-Err.ensures.answer s (dirtied p was.dirty) was.has) in
-    (λ is. sym c.loop-field.invariant.running ∙ why.0 is, why.1)
+    home_moved c.args.store.now.known c.loop-field.store.known c.in-Err.reason c.loop-field.invariant.running (c.in-Err.ensures.answer s (dirtied p was.dirty) was.has)

@@ -5,7 +5,7 @@ use Rattle.session.proofs.session.Session.make_fat.Goals as goal
 pub returns-then-is_none-clause-fat : goal.returns-then-is_none-clause-fat
 returns-then-is_none-clause-fat c =
     let t = c.fatten.new.self in
-    made_fat (view_of t) c.args.object c.in-Some.grip t.held.items c.fatten.result c.in-Some.ensures.object c.fatten.ensures.made
+    made_fat (view_of t) c.args.object c.in-Some.grip t.parts.held.items c.fatten.result c.in-Some.ensures.object c.fatten.ensures.made
 
 pub returns-else-is_none-clause-fat : goal.returns-else-is_none-clause-fat
 returns-else-is_none-clause-fat c =

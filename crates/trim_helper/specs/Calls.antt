@@ -1,0 +1,84 @@
+-- What each call of a helper makes of it, as one relation a call (this project's own).
+use Rattle.std.specs.Prelude.{ℕ, ◌≡◌, ◌+◌, ◌-◌, ◌<◌, ◌≤◌, ◌^◌, ◌++◌, true, false, List, [], Option, Result, Ok, length, IfOk, IfErr, OnOk, OnErr, IsErrOf, IsErrAnd, MatchResult}
+use Rattle.rtrb.specs.declared.consumer.Consumer.{Consumer}
+use Rattle.heap_model.specs.declared.limits.TheConstants.{RING_RECORDS}
+use Rattle.heap_model.specs.declared.record.Record.{Record}
+use Rattle.heap_model.specs.Setting.{Setting}
+use Rattle.block_disk.specs.Device.{Device, HasCause}
+use Rattle.block_disk.specs.Images.{Always}
+use Rattle.image.specs.declared.layout.Layout.{Layout}
+use Rattle.store_past.specs.Past.{Past, applied}
+use Rattle.store_past.specs.declared.error.StoreError.{StoreError}
+use Rattle.store_past.specs.declared.error.StoreError.TheVariants.{Failed, Fault}
+use Rattle.durable.specs.Runs.{HasRun, IsLeftBy}
+use Rattle.durable.specs.Store.{Known, HasPast}
+use Rattle.monitor.specs.Seats.{Home}
+use Rattle.monitor.specs.Words.{setting_of}
+use Rattle.trim_helper.specs.Closed.{IsClosedDown, Stood, disk_of}
+use Rattle.trim_helper.specs.Endings.{HoldNone, IsCloseWhy, IsComplete, IsOfSessions, RefusesClosing, parts_of}
+use Rattle.trim_helper.specs.Helping.{IsHelper, taken_in}
+use Rattle.trim_helper.specs.Moves.{SameRings}
+use Rattle.trim_helper.specs.Parts.{Parts, IsServing}
+use Rattle.trim_helper.specs.Rings.{received_of}
+use Rattle.trim_helper.specs.Settled.{RefusesRound}
+use Rattle.trim_helper.specs.Taken.{IsLaneStuck, applied_more, trimmed_of}
+use Rattle.trim_helper.specs.declared.close_error.CloseError.{CloseError}
+use Rattle.trim_helper.specs.declared.close_error.CloseError.TheVariants as close
+use Rattle.trim_helper.specs.declared.ended.Ended.{Ended}
+
+-- What each call of a helper keeps: its words, its lanes and rings, and whom it took in.
+pub record HasGoneOn {D : Type 0} (h : Home) (x y : Parts D) : Type 0 where
+  pub seat : IsHelper h y.seat
+  pub taken : taken_in y.seat ≡ taken_in x.seat
+  pub rings : SameRings x.rings y.rings
+  pub layout : y.store.known.layout ≡ x.store.known.layout
+
+-- No lane goes on, where a store of this layout has this past on this device: the record that waits isn't next, or none waits and none
+-- is known to be in the ring.
+pub record AreStuck {A P : Type 0} (l : Layout) (d : Device) (rings : List (Consumer Record A P)) (waiting : List (Option Record)) (s : Setting) (p : Past) : Type 0 where
+  pub known : Known
+  pub layout : known.layout ≡ l
+  pub has : HasPast known s p d
+  pub stuck : (lane : ℕ) → lane < length rings → IsLaneStuck known rings waiting s p lane
+
+module _ {D : Type 0} (device : D → Device) where
+  -- A round, of a helper that serves this past. Each lane goes on as far as it can; then store calls make durable what was applied,
+  -- acknowledge its stable cut and trim that, and both are published. Whatever a crash leaves meanwhile shows what some of these calls
+  -- make of the past, so that recovery takes it, with the stable cut only where a settling was running.
+  pub record Rounds (s : Setting) (p : Past) (x y : Parts D) (answer : Result ℕ StoreError) : Type 0 where
+    -- these records were applied, the newest first, at most a ring's of each lane, and it answers how many
+    pub newer : List (ℕ × Record)
+    pub count : IfOk answer (λ n. length newer ≡ n)
+    pub most : (l : ℕ) → length (received_of y.rings l) ≤ length (received_of x.rings l) + RING_RECORDS
+    -- whatever it answers, none was left that could be
+    pub stuck : x.store.known.has_failed ≡ false → AreStuck x.store.known.layout (device x.store.disk) y.rings y.waiting s (applied_more newer p)
+    -- the past since, which the helper serves: what was acknowledged and what was trimmed stays so
+    pub now : Past
+    pub same : applied now ≡ newer ++ applied p
+    pub cut : (l : ℕ) → p.cut l ≤ now.cut l
+    pub places : (l : ℕ) → trimmed_of p l ≤ trimmed_of now l
+    pub ran : HasRun y.store.known.layout s p (device x.store.disk) now (device y.store.disk) y.store.known.has_failed
+    pub serves : IsServing device y s now
+    -- after Ok all is settled and published, and whatever a crash leaves, a store of that past leaves
+    pub settled : OnOk answer (y.is_settled ≡ true)
+    pub left : OnOk answer (Always (device y.store.disk) (IsLeftBy y.store.known.layout s now))
+    -- where all was settled and nothing new came, the device isn't called, and nothing is refused
+    pub quiet : x.is_settled ≡ true → newer ≡ [] → (answer ≡ Ok 0) × (device y.store.disk ≡ device x.store.disk)
+    -- a refusal has its cause, and publishes nothing
+    pub failed : x.store.known.has_failed ≡ true → IsErrOf answer Failed
+    pub refused : IfErr answer (RefusesRound x.store.known y.store.known)
+    pub unsettled : OnErr answer (y.is_settled ≡ false)
+    pub unpublished : OnErr answer (y.seat ≡ x.seat)
+    pub cause : HasCause (device x.store.disk).failures (device y.store.disk).failures Fault answer
+
+  -- Sessions that have ended meet a helper that serves this past, and the device is given back. Once none of them stops it, what they sent
+  -- is applied, made durable and acknowledged.
+  pub record Closes (h : Home) (ended : List Ended) (p : Past) (x : Parts D) (answer : Result D (D × CloseError)) : Type 0 where
+    pub ok : IfOk answer (λ disk. IsClosedDown (setting_of h.plan) h.plan.lanes x.store.known.layout (parts_of ended) p (device x.store.disk) (device disk))
+    pub refused : MatchResult answer (λ disk. HoldNone ended × IsComplete x.store.known.layout.lanes ended) (λ back. RefusesClosing x.store.known.layout.lanes ended back.1)
+    pub failed : x.store.known.has_failed ≡ true → HoldNone ended → IsComplete x.store.known.layout.lanes ended → IsErrAnd answer (λ back. back.1 ≡ close.Failed)
+    pub why : IfErr answer (λ back. IsCloseWhy x.store.known (device x.store.disk) (device back.0) back.1)
+    -- where the sessions stop it the device is as it was; whatever stops it, a crash leaves what some store calls make of the past
+    pub untouched : IfErr answer (λ back. IsOfSessions back.1 → back.0 ≡ x.store.disk)
+    pub stood : Stood x.store.known.layout (setting_of h.plan) p ended (device x.store.disk) (device (disk_of answer))
+    pub later : IfOk answer (λ disk. (device x.store.disk).failures ≤ (device disk).failures)
