@@ -19,8 +19,9 @@
  * Everything else is answered by a status. No call waits, blocks, starts a thread or panics; each out-parameter is always set.
  *
  * The device. The library has no file: it works in memory, and asks the host to write and sync. On a file of the system zelamiku_file.h
- * does that: zelamiku_open_file, zelamiku_format_file, zelamiku_make_calls. Elsewhere zelamiku_next_call tells the next call, the host
- * makes it on a device of its own (a block device, a volume, a ring of requests), and zelamiku_call_done says that it has:
+ * does that: zelamiku_open_file, zelamiku_upgrade_file, zelamiku_format_file, zelamiku_make_calls; and on a network block device
+ * zelamiku_nbd.h. Elsewhere zelamiku_next_call tells the next call, the host makes it on a device of its own (a volume, a ring of
+ * requests), and zelamiku_call_done says that it has:
  *     uint8_t buffer[ZELAMIKU_MOST_BYTES];
  *     zelamiku_call call = {0};
  *     for (;;) {
@@ -31,12 +32,21 @@
  *         if (!made) return zelamiku_call_failed(&heap) == ZELAMIKU_OK ? 1 : -1; // and never zelamiku_call_done for it
  *         if (zelamiku_call_done(&heap) != ZELAMIKU_OK) return -1;
  *     }
- * A write that fails may be made again: the same call is told again.
+ * A write that fails may be made again: the same call is told again. Only on the same device, though: over a connection that was made anew,
+ * what was answered since the last sync may be gone, so all of it is written again, or the heap let go (zelamiku_nbd.h does so).
  * A sync that fails may not be made again, nor any later call. What was written before it may be lost, though the file still reads
  * as it was written, and though a later sync succeeds: systems drop the pages that they couldn't write. Told of it by
  * zelamiku_call_failed, the library lets the heap go: each later call of it answers ZELAMIKU_STOPPED, and so does each session that
  * would enter, wait or resume. Free the handles, and open the heap again from bytes that the device itself has: read past the
  * system's cache, or after the file system was mounted again.
+ *
+ * The premise on the device: between two syncs each range that is written may hold any bytes after a crash, and every other byte stays. A
+ * device of sectors, and the system's page cache, write the neighbours of a range again too, so there it holds exactly where rewriting a
+ * durable byte with its own value can't lose it (SQLite's powersafe overwrite). NVMe promises that of a logical block, and replicated Ceph
+ * RBD does; ATA and SCSI don't, nor drives without power-loss protection, nor parity RAID without a journal: docs/FORMAT.md, "What the
+ * device keeps". zelamiku_file.h and zelamiku_nbd.h rest on it too.
+ * One host writes the device at a time. Where another machine may open it, the device ends the other one's access first, with its requests
+ * that are underway: README, "Another machine".
  *
  * Waiting is the host's. Where a call answers ZELAMIKU_HELD, ZELAMIKU_BEHIND or ZELAMIKU_IN_SET, try again later; other answers stay:
  *     for (unsigned spins = 0; (answer = zelamiku_try_enter(&session, object)) == ZELAMIKU_HELD || answer == ZELAMIKU_BEHIND; spins++)
@@ -69,8 +79,13 @@ extern "C" {
 #define ZELAMIKU_MOST_FIELDS 16384
 #define ZELAMIKU_LEAST_CAPACITY 2000
 #define ZELAMIKU_MOST_CAPACITY 1048576
-#define ZELAMIKU_MOST_RECORDS 1000 /* of a section: one for each monitor that is taken, each that is freed, and each store */
-#define ZELAMIKU_MOST_HELD 16      /* monitors, by one session at once */
+#define ZELAMIKU_MOST_RECORDS 1000   /* of a section: one for each monitor that is taken, each that is freed, and each store */
+#define ZELAMIKU_MOST_HELD 16        /* monitors, by one session at once */
+#define ZELAMIKU_MOST_LOCKS 65536    /* of one monitor, by one session at once */
+#define ZELAMIKU_MOST_THIN_LOCKS 256 /* of a monitor that isn't among those of ZELAMIKU_MOST_FAT */
+#define ZELAMIKU_MOST_FAT 1024       /* monitors that were ever waited for, or locked more often than that, in one opening */
+#define ZELAMIKU_MOST_BYTES 4096     /* of a write */
+#define ZELAMIKU_MOST_SLOTS 16383    /* of a pool */
 
 /* A handle: of a heap, or of a session. One of static storage begins as ZELAMIKU_NONE by itself. */
 typedef struct {
@@ -93,12 +108,12 @@ typedef struct {
 /* What a call answers. zelamiku_status_text has a text of each. */
 typedef enum {
     ZELAMIKU_OK = 0,
-    ZELAMIKU_CLOSED = 1,          /* nothing is behind the handle */
+    ZELAMIKU_NOTHING = 1,         /* nothing is behind the handle; or another call has it meanwhile, which none may */
     ZELAMIKU_OPEN = 2,            /* the handle that is to be opened has something behind it */
     ZELAMIKU_WRONG_KIND = 3,      /* a session where a heap is wanted, or a heap where a session is */
     ZELAMIKU_NO_MEMORY = 4,       /* there was no memory */
     ZELAMIKU_WAITING = 5,         /* the session waits for a monitor: it can do nothing but resume */
-    ZELAMIKU_NONE_LEFT = 6,       /* no session, or no call, is left; or the heap is closed */
+    ZELAMIKU_NONE_LEFT = 6,       /* no session, or no call of the device, is left */
     ZELAMIKU_CALLS_LEFT = 7,      /* the host has yet to make calls of the device */
     ZELAMIKU_BAD_LANE = 8,        /* there is no such lane */
     ZELAMIKU_RUNNING = 9,         /* a session of the heap hasn't ended */
@@ -124,11 +139,15 @@ typedef enum {
     ZELAMIKU_BAD_CONTROL = 29,    /* the image's control can't be read */
     ZELAMIKU_BAD_RECORD = 30,     /* the image has a record that can't be read */
     ZELAMIKU_ILLEGAL_LOG = 31,    /* no threads can have left the image's log */
-    ZELAMIKU_DEVICE = 32,         /* of zelamiku_file.h alone: a call of the file has failed */
-    ZELAMIKU_LOST = 33,           /* of zelamiku_file.h alone: a sync of the file has failed, and the heap has stopped */
+    ZELAMIKU_DEVICE = 32,         /* of zelamiku_file.h, zelamiku_nbd.h: a call of the file or the server has failed */
+    ZELAMIKU_LOST = 33,           /* of zelamiku_file.h, zelamiku_nbd.h: a sync has failed, or the connection has ended, and the heap has stopped */
     ZELAMIKU_BUSY = 34,           /* of zelamiku_file.h alone: another open of the file has its heap, or the file was replaced or removed */
     ZELAMIKU_STOPPED = 35,        /* the heap has stopped since the host told that it couldn't make a sync (zelamiku_call_failed) */
-    ZELAMIKU_OLD_VERSION = 40     /* the image has version 1, from before there were transient fields */
+    ZELAMIKU_POOL_EMPTY = 36,     /* no slot of the pool is free */
+    ZELAMIKU_NOT_TAKEN = 37,      /* the slot isn't taken, or the pool has no such slot */
+    ZELAMIKU_DAMAGED = 38,        /* a field of the pool names no slot: it isn't a pool's, or was stored to by other calls */
+    ZELAMIKU_CLOSED = 39,         /* the heap was closed */
+    ZELAMIKU_OLD_VERSION = 40     /* the image has version 1, from before there were transient fields: zelamiku_upgrade opens it */
 } zelamiku_status;
 
 /* A field of a heap that is to be made. */
@@ -148,6 +167,31 @@ typedef struct {
     uint64_t undone;   /* the fields that took an old value back */
 } zelamiku_found;
 
+/* What recovery found, lane by lane; or for which record it refused. */
+typedef struct {
+    zelamiku_found found;
+    uint64_t kept[ZELAMIKU_MOST_LANES]; /* how many sections of each lane were kept, since the opening before */
+    uint64_t bad_place; /* after BAD_RECORD and ILLEGAL_LOG: the record's place in its lane */
+    uint32_t bad_lane;  /* and the lane; else ZELAMIKU_NOBODY */
+} zelamiku_told;
+
+/* Why a section was dropped. */
+enum {
+    ZELAMIKU_NOT_DROPPED = 0, /* there are no more */
+    ZELAMIKU_NOT_ENDED = 1,   /* it hadn't ended */
+    ZELAMIKU_DEPENDED = 2,    /* it depends on another that wasn't kept */
+    ZELAMIKU_UNSETTLED = 3    /* it had ended, and wasn't acknowledged */
+};
+
+/* A section that recovery dropped. */
+typedef struct {
+    uint64_t section;       /* its number in its lane, from 1, since the opening before */
+    uint64_t other_section; /* after ZELAMIKU_DEPENDED: that of the section on which it depends */
+    uint32_t lane;
+    uint32_t why;
+    uint32_t other_lane;    /* and that one's lane; else ZELAMIKU_NOBODY */
+} zelamiku_dropped;
+
 enum { ZELAMIKU_NO_CALL = 0, ZELAMIKU_WRITE = 1, ZELAMIKU_SYNC = 2 };
 
 /* A call of the device. */
@@ -156,9 +200,6 @@ typedef struct {
     uint64_t at;   /* where to write, in bytes from the device's start */
     uint64_t size; /* how many bytes */
 } zelamiku_call;
-
-/* No call writes more bytes than this. */
-#define ZELAMIKU_MOST_BYTES 4096
 
 /* What a look shows of a monitor. */
 typedef struct {
@@ -176,9 +217,12 @@ typedef struct {
 #else
 #define ZELAMIKU_HAS_SIZE(type, size) _Static_assert(sizeof(type) == (size), #type)
 #endif
+ZELAMIKU_HAS_SIZE(zelamiku_status, 4);
 ZELAMIKU_HAS_SIZE(zelamiku_handle, 16);
 ZELAMIKU_HAS_SIZE(zelamiku_field, 24);
 ZELAMIKU_HAS_SIZE(zelamiku_found, 40);
+ZELAMIKU_HAS_SIZE(zelamiku_told, 312);
+ZELAMIKU_HAS_SIZE(zelamiku_dropped, 32);
 ZELAMIKU_HAS_SIZE(zelamiku_call, 24);
 ZELAMIKU_HAS_SIZE(zelamiku_sight, 16);
 #undef ZELAMIKU_HAS_SIZE
@@ -188,12 +232,12 @@ ZELAMIKU_HAS_SIZE(zelamiku_sight, 16);
 static inline const char *zelamiku_status_text(uint32_t status) {
     switch (status) {
     case ZELAMIKU_OK: return "ok";
-    case ZELAMIKU_CLOSED: return "nothing is behind the handle";
+    case ZELAMIKU_NOTHING: return "nothing is behind the handle";
     case ZELAMIKU_OPEN: return "the handle to be opened has something behind it";
     case ZELAMIKU_WRONG_KIND: return "the handle is of the wrong kind";
     case ZELAMIKU_NO_MEMORY: return "there was no memory";
     case ZELAMIKU_WAITING: return "the session waits for a monitor";
-    case ZELAMIKU_NONE_LEFT: return "no session or call is left, or the heap is closed";
+    case ZELAMIKU_NONE_LEFT: return "no session or call is left";
     case ZELAMIKU_CALLS_LEFT: return "the host has yet to make calls of the device";
     case ZELAMIKU_BAD_LANE: return "there is no such lane";
     case ZELAMIKU_RUNNING: return "a session of the heap hasn't ended";
@@ -219,75 +263,98 @@ static inline const char *zelamiku_status_text(uint32_t status) {
     case ZELAMIKU_BAD_CONTROL: return "the image's control can't be read";
     case ZELAMIKU_BAD_RECORD: return "the image has a record that can't be read";
     case ZELAMIKU_ILLEGAL_LOG: return "no threads can have left the image's log";
-    case ZELAMIKU_DEVICE: return "a call of the file has failed";
-    case ZELAMIKU_LOST: return "a sync of the file has failed, and the heap has stopped";
+    case ZELAMIKU_DEVICE: return "a call of the device has failed";
+    case ZELAMIKU_LOST: return "a sync has failed or the connection has ended, and the heap has stopped";
     case ZELAMIKU_BUSY: return "another process has the heap of the file, or the file was replaced or removed";
     case ZELAMIKU_STOPPED: return "the heap has stopped since its host couldn't make a sync";
+    case ZELAMIKU_POOL_EMPTY: return "no slot of the pool is free";
+    case ZELAMIKU_NOT_TAKEN: return "the slot isn't taken, or the pool has no such slot";
+    case ZELAMIKU_DAMAGED: return "a field of the pool names no slot";
+    case ZELAMIKU_CLOSED: return "the heap was closed";
     case ZELAMIKU_OLD_VERSION: return "the image has a version from before there were transient fields";
     default: return "no status of zelamiku.h";
     }
 }
 
+/* The version of the library, as ZELAMIKU_VERSION_NUMBER is of this header: other numbers, other releases. */
+ZELAMIKU_MUST_USE uint32_t zelamiku_version(void);
+
 /* ---- the heap ---- */
 
-/* Each call of a heap that isn't to be opened also answers STOPPED, once zelamiku_call_failed was told of a sync; nothing was done then. */
+/* Each call of a heap that isn't to be opened also answers NOTHING, WRONG_KIND, and STOPPED once zelamiku_call_failed was told of a sync;
+ * nothing was done then. */
 
 /* Makes a heap of so many objects and of these fields, with `lanes` (1 to 32) sessions of `capacity` (2,000 to 1,048,576) records
  * each, and opens it. `size` gets the bytes of its image.
- * Needs: before the first call of zelamiku_next_call is made, the device has `size` zero bytes, durably.
+ * Needs: before the first call of zelamiku_next_call is made, the device has `size` zero bytes, durably. Where it may have an image, that
+ * one's gate, byte 8, is made zero first, alone and durably: an old header over zeros would be a heap of zeros.
  * OPEN, EMPTY, UNKNOWN_OBJECT, TOO_MANY, BAD_HEADER, NO_MEMORY, FAULT (want of memory too): the handle is as it was, and `size`
  * is 0. */
 #define zelamiku_format zelamiku_format_marked /* a program of an older header, whose fields are shorter, doesn't link */
-ZELAMIKU_MUST_USE uint32_t zelamiku_format(zelamiku_handle *heap, uint32_t objects, const zelamiku_field *fields, size_t count,
-                                           uint32_t lanes, uint32_t capacity, uint64_t *size);
+ZELAMIKU_MUST_USE zelamiku_status zelamiku_format(zelamiku_handle *heap, uint32_t objects, const zelamiku_field *fields, size_t count,
+                                                  uint32_t lanes, uint32_t capacity, uint64_t *size);
 
 /* Recovers the heap of these bytes, and opens it.
  * Needs: the device has these bytes, all of them, durably.
  * OPEN, NOT_FORMATTED, BAD_HEADER, TOO_SMALL, NO_CONTROL, BAD_CONTROL, OLD_VERSION, WORN, BAD_RECORD, ILLEGAL_LOG, NO_MEMORY, FAULT
- * (want of memory too): the handle is as it was, and `found` is all 0. Nothing was asked of the device. */
-ZELAMIKU_MUST_USE uint32_t zelamiku_open(zelamiku_handle *heap, const uint8_t *image, size_t size, zelamiku_found *found);
+ * (want of memory too): the handle is as it was, and `found` is all 0. Nothing was asked of the device.
+ * OLD_VERSION: an older library made the heap, and zelamiku_upgrade opens it. */
+ZELAMIKU_MUST_USE zelamiku_status zelamiku_open(zelamiku_handle *heap, const uint8_t *image, size_t size, zelamiku_found *found);
+
+/* The same, and tells what recovery did: `told` gets the sections that were kept, and the first `count` of `dropped` those that weren't,
+ * by lane and then by number, as many as there are; `told->found.dropped` is how many there are. After a refusal `told` says for which
+ * record, if it was for one. */
+ZELAMIKU_MUST_USE zelamiku_status zelamiku_open_telling(zelamiku_handle *heap, const uint8_t *image, size_t size, zelamiku_told *told,
+                                                        zelamiku_dropped *dropped, size_t count);
+
+/* Opens the heap of these bytes as zelamiku_open does, also where their image has version 1, from before there were transient fields: once
+ * the calls of its recovery are made, which zelamiku_next_call tells first, the image has version 2, in place, with the same heap. Until
+ * then it has version 1, whatever of the calls was made: call it again then. A library from before can't open it any more afterwards, so
+ * call it where the user has asked for that, or keep a copy of the image, and else call zelamiku_open.
+ * As zelamiku_open, but for OLD_VERSION. */
+ZELAMIKU_MUST_USE zelamiku_status zelamiku_upgrade(zelamiku_handle *heap, const uint8_t *image, size_t size, zelamiku_found *found);
 
 /* Hands out the session of the next lane, from 0 on.
- * OPEN: `session` has something behind it. CLOSED, WRONG_KIND: of `heap`. NONE_LEFT: each lane's was handed out, or the heap is
- * closed. NO_MEMORY: none was handed out, and it may be asked for again. The handles are as they were. */
-ZELAMIKU_MUST_USE uint32_t zelamiku_session(zelamiku_handle *heap, zelamiku_handle *session);
+ * OPEN: `session` has something behind it. NONE_LEFT: each lane's was handed out. CLOSED. NO_MEMORY: none was handed out, and it may be
+ * asked for again. The handles are as they were. */
+ZELAMIKU_MUST_USE zelamiku_status zelamiku_session(zelamiku_handle *heap, zelamiku_handle *session);
 
 /* Tells the call of the device that the host makes next, and copies its bytes. It tells the same call until zelamiku_call_done.
  * `call->kind` is ZELAMIKU_NO_CALL where none is left; another round may leave more. Into a buffer of fewer bytes than the call has,
  * which one of ZELAMIKU_MOST_BYTES never is, only the first of them are copied, though `call` tells all of it: the host may look at
  * such a call, and can't make it.
- * CLOSED, WRONG_KIND: `call` is ZELAMIKU_NO_CALL. */
-ZELAMIKU_MUST_USE uint32_t zelamiku_next_call(zelamiku_handle *heap, zelamiku_call *call, uint8_t *bytes, size_t size);
+ * After a refusal `call` is ZELAMIKU_NO_CALL. */
+ZELAMIKU_MUST_USE zelamiku_status zelamiku_next_call(zelamiku_handle *heap, zelamiku_call *call, uint8_t *bytes, size_t size);
 
 /* Says that the host has made the call that zelamiku_next_call told.
- * CLOSED, WRONG_KIND. NONE_LEFT: no call was told. */
-ZELAMIKU_MUST_USE uint32_t zelamiku_call_done(zelamiku_handle *heap);
+ * NONE_LEFT: no call was told. */
+ZELAMIKU_MUST_USE zelamiku_status zelamiku_call_done(zelamiku_handle *heap);
 
 /* Says that the host couldn't make the call that zelamiku_next_call told.
  * OK: it was a write, and nothing has changed: the same call is told again, and may be made again.
  * STOPPED: it was a sync, or one had failed before. The memory of the heap is let go, and nothing that the sessions do from now on is
  * made durable; what was acknowledged before stays. Free the handles.
- * CLOSED, WRONG_KIND. NONE_LEFT: no call was told. */
-ZELAMIKU_MUST_USE uint32_t zelamiku_call_failed(zelamiku_handle *heap);
+ * NONE_LEFT: no call was told. */
+ZELAMIKU_MUST_USE zelamiku_status zelamiku_call_failed(zelamiku_handle *heap);
 
 /* Takes what the sessions have done, writes it to the log, acknowledges each section that has ended and depends on none that hasn't,
  * and leaves the calls of that to zelamiku_next_call: make them after each round, or in a thread that orders its calls with this one.
  * `applied` gets how many records were taken. With none there is no call.
- * CLOSED, WRONG_KIND, NONE_LEFT (the heap is closed): nothing was done. CALLS_LEFT: the host hasn't made its calls for so many rounds
+ * CLOSED: nothing was done. CALLS_LEFT: the host hasn't made its calls for so many rounds
  * that those of one more might have no room: nothing was done; make them, and go on. FAULT, FAILED, WORN: the heap has stopped; what
  * was acknowledged stays: free the handles, and open it again. */
-ZELAMIKU_MUST_USE uint32_t zelamiku_round(zelamiku_handle *heap, uint64_t *applied);
+ZELAMIKU_MUST_USE zelamiku_status zelamiku_round(zelamiku_handle *heap, uint64_t *applied);
 
 /* How many sections of the lane are acknowledged since the heap was opened: no crash of the device loses them.
- * CLOSED, WRONG_KIND, NONE_LEFT (the heap is closed), BAD_LANE. CALLS_LEFT: make the calls that are left, and ask again.
+ * CLOSED, BAD_LANE. CALLS_LEFT: make the calls that are left, and ask again.
  * `sections` is 0 then. */
-ZELAMIKU_MUST_USE uint32_t zelamiku_acknowledged(zelamiku_handle *heap, uint32_t lane, uint64_t *sections);
+ZELAMIKU_MUST_USE zelamiku_status zelamiku_acknowledged(zelamiku_handle *heap, uint32_t lane, uint64_t *sections);
 
 /* Closes the heap, once each session that was handed out has ended: the last round. Make the calls that are left, and then free it.
  * RUNNING: a session hasn't ended; the heap goes on. CALLS_LEFT: the calls of the last round might have no room: make those that are
  * left, and close it then; the heap goes on. UNFINISHED, NO_MEMORY, FAULT, FAILED, WORN: the heap has stopped; what was acknowledged
- * stays. CLOSED, WRONG_KIND, NONE_LEFT (it is closed): nothing was done. */
-ZELAMIKU_MUST_USE uint32_t zelamiku_close(zelamiku_handle *heap);
+ * stays. CLOSED, by an earlier call: nothing was done. */
+ZELAMIKU_MUST_USE zelamiku_status zelamiku_close(zelamiku_handle *heap);
 
 /* Lets go of what is behind a handle. A heap stops, as if the process had: what was acknowledged stays. The handle is as at the
  * beginning. A session that is freed never ends, so that its heap isn't closed any more (RUNNING). What it holds stays held: others that
@@ -299,54 +366,78 @@ void zelamiku_free(zelamiku_handle *handle);
 
 /* ---- a session: one thread's use of the heap ---- */
 
-/* Each call of a session also answers CLOSED, WRONG_KIND and WAITING; nothing was done then. try_enter, begin_wait and try_resume answer
+/* Each call of a session also answers NOTHING, WRONG_KIND and WAITING; nothing was done then. try_enter, begin_wait and try_resume answer
  * STOPPED once the heap has stopped by zelamiku_call_failed, so that no loop that tries again spins for ever: what is held and what
  * waits stays as it was. The others go on, so that a section may be ended, though nothing of it will be durable. */
 
 /* Takes the object's monitor, or one lock more of it. The first of a section needs room for a whole one.
  * UNKNOWN_OBJECT, BEHIND, SECTION_FULL, TOO_MANY, TOO_DEEP, NO_FAT, WORN, HELD: what is held stays as it was. */
-ZELAMIKU_MUST_USE uint32_t zelamiku_try_enter(zelamiku_handle *session, uint32_t object);
+ZELAMIKU_MUST_USE zelamiku_status zelamiku_try_enter(zelamiku_handle *session, uint32_t object);
 
 /* Gives one lock back, and with the last one the monitor. With the last monitor the section ends.
  * UNKNOWN_OBJECT, NOT_HELD: nothing was done. */
-ZELAMIKU_MUST_USE uint32_t zelamiku_exit(zelamiku_handle *session, uint32_t object);
+ZELAMIKU_MUST_USE zelamiku_status zelamiku_exit(zelamiku_handle *session, uint32_t object);
 
 /* Loads a field whose guard is held.
  * UNKNOWN_FIELD, NOT_HELD: `value` is 0. */
-ZELAMIKU_MUST_USE uint32_t zelamiku_load(zelamiku_handle *session, uint32_t field, uint64_t *value);
+ZELAMIKU_MUST_USE zelamiku_status zelamiku_load(zelamiku_handle *session, uint32_t field, uint64_t *value);
 
 /* Stores a field whose guard is held.
  * UNKNOWN_FIELD, NOT_HELD, SECTION_FULL: nothing was stored. */
-ZELAMIKU_MUST_USE uint32_t zelamiku_store(zelamiku_handle *session, uint32_t field, uint64_t value);
+ZELAMIKU_MUST_USE zelamiku_status zelamiku_store(zelamiku_handle *session, uint32_t field, uint64_t value);
 
 /* Joins the wait set of a monitor that is held, and frees it, whatever the count of its locks. Resume it then.
  * UNKNOWN_OBJECT, NOT_HELD, BEHIND, SECTION_FULL, NO_FAT, WORN: the monitor is held as before. */
-ZELAMIKU_MUST_USE uint32_t zelamiku_begin_wait(zelamiku_handle *session, uint32_t object);
+ZELAMIKU_MUST_USE zelamiku_status zelamiku_begin_wait(zelamiku_handle *session, uint32_t object);
 
 /* Takes the monitor again, by as many locks as before, if the session was notified and the monitor is free.
  * IN_SET: nobody has notified it. HELD: another session has the monitor, or had it when this one tried; or the monitor has its last
  * number, 2^40 - 1, and can't be taken again. It waits on. WRONG_KIND: the session doesn't wait. */
-ZELAMIKU_MUST_USE uint32_t zelamiku_try_resume(zelamiku_handle *session);
+ZELAMIKU_MUST_USE zelamiku_status zelamiku_try_resume(zelamiku_handle *session);
 
 /* Takes one session out of the wait set of a monitor that is held; `lane` gets its lane, or ZELAMIKU_NOBODY.
  * UNKNOWN_OBJECT, NOT_HELD: `lane` is ZELAMIKU_NOBODY. */
-ZELAMIKU_MUST_USE uint32_t zelamiku_notify(zelamiku_handle *session, uint32_t object, uint32_t *lane);
+ZELAMIKU_MUST_USE zelamiku_status zelamiku_notify(zelamiku_handle *session, uint32_t object, uint32_t *lane);
 
 /* Takes all sessions out of the wait set of a monitor that is held; `lanes` gets a bit for each, 1 << its lane.
  * UNKNOWN_OBJECT, NOT_HELD: `lanes` is 0. */
-ZELAMIKU_MUST_USE uint32_t zelamiku_notify_all(zelamiku_handle *session, uint32_t object, uint64_t *lanes);
+ZELAMIKU_MUST_USE zelamiku_status zelamiku_notify_all(zelamiku_handle *session, uint32_t object, uint64_t *lanes);
 
 /* Looks at a monitor, which needn't be held.
  * UNKNOWN_OBJECT: `sight` is that of a free monitor. */
-ZELAMIKU_MUST_USE uint32_t zelamiku_look(zelamiku_handle *session, uint32_t object, zelamiku_sight *sight);
+ZELAMIKU_MUST_USE zelamiku_status zelamiku_look(zelamiku_handle *session, uint32_t object, zelamiku_sight *sight);
 
 /* How many sections of the session's lane the last round acknowledged. They are durable once the host has made that round's calls;
  * zelamiku_acknowledged tells only of such. */
-ZELAMIKU_MUST_USE uint32_t zelamiku_stable(zelamiku_handle *session, uint64_t *sections);
+ZELAMIKU_MUST_USE zelamiku_status zelamiku_round_sections(zelamiku_handle *session, uint64_t *sections);
+
+/* ---- a pool, by a session: slots that are taken and given back ---- */
+
+/* A pool has slots, numbered from 0. It lies in persistent fields of one object, which guards them: the head, and behind it a field for
+ * each slot. What a program keeps in a slot lies in fields of its own, as field BASE + slot, and may link to others by their numbers: so
+ * lists and trees are built. A slot that a section takes or gives back is taken or free after a crash as that section is there or not.
+ * Nothing else stores to the pool's fields. Where a heap has a pool the program knows: it is no part of the image. */
+
+/* Tells the fields of a pool of `count - 1` slots, all of which are free: `fields` gets the head's and then those of the slots, to be
+ * declared to zelamiku_format behind one another.
+ * EMPTY: there are fewer than 2. TOO_MANY: there are more than ZELAMIKU_MOST_SLOTS + 1. `fields` is as it was. */
+ZELAMIKU_MUST_USE zelamiku_status zelamiku_pool_fields(uint32_t object, zelamiku_field *fields, size_t count);
+
+/* Takes a slot of the pool whose head is this field, and which has so many slots. Its object's monitor is held; it makes two records.
+ * POOL_EMPTY, DAMAGED, UNKNOWN_FIELD, NOT_HELD, SECTION_FULL: nothing was stored, and `slot` is ZELAMIKU_NO_SLOT. */
+ZELAMIKU_MUST_USE zelamiku_status zelamiku_pool_take(zelamiku_handle *session, uint32_t head, uint32_t slots, uint32_t *slot);
+
+/* Gives a slot back that was taken: it is the next one to be taken. Its object's monitor is held; it makes two records.
+ * NOT_TAKEN, DAMAGED, UNKNOWN_FIELD, NOT_HELD, SECTION_FULL: nothing was stored. */
+ZELAMIKU_MUST_USE zelamiku_status zelamiku_pool_give(zelamiku_handle *session, uint32_t head, uint32_t slots, uint32_t slot);
+
+#define ZELAMIKU_NO_SLOT 4294967295u
+
+/* ---- the end of a session ---- */
 
 /* Ends the session. Its handle has nothing behind it then. Exit all monitors first: else its heap can't be closed.
  * WAITING, WRONG_KIND: the handle is as it was. */
-ZELAMIKU_MUST_USE uint32_t zelamiku_end(zelamiku_handle *session);
+ZELAMIKU_MUST_USE zelamiku_status zelamiku_end(zelamiku_handle *session);
 
 #ifdef __cplusplus
 }

@@ -26,6 +26,7 @@
 #endif
 #include <errno.h>
 #include <fcntl.h>
+#include <stdio.h>
 #include <stdlib.h>
 #include <string.h>
 #include <sys/file.h>
@@ -89,8 +90,17 @@ static inline bool zelamiku_file_reserve(int descriptor, uint64_t size) {
     return answer == 0;
 }
 
+/* Closes the gate of an image that the file may have, durably, before anything else of it goes: a system may keep a file's beginning longer
+ * than what lies behind it, and a header over zeros would be a heap of zeros. */
+static inline bool zelamiku_file_close_gate(int descriptor) {
+    struct stat info;
+    const uint8_t closed = 0;
+    if (fstat(descriptor, &info) != 0) return false;
+    return info.st_size == 0 || (zelamiku_file_write(descriptor, &closed, 1, 8) && zelamiku_file_sync(descriptor));
+}
+
 /* Locks the file for this open alone: OK, BUSY or DEVICE. */
-static inline uint32_t zelamiku_file_lock(int descriptor) {
+static inline zelamiku_status zelamiku_file_lock(int descriptor) {
     struct stat info;
     int answer;
     while ((answer = flock(descriptor, LOCK_EX | LOCK_NB)) != 0 && errno == EINTR) {}
@@ -109,34 +119,49 @@ static inline uint64_t zelamiku_file_image_size(const uint8_t *header, uint64_t 
 
 /* ---- the calls ---- */
 
+/* Writes a text of a status into `text`, for people, as far as there is room: for DEVICE and LOST with the system's cause, which errno has
+ * right after the call that answered them. Answers `text`. */
+static inline const char *zelamiku_file_text(zelamiku_status status, char *text, size_t size) {
+    bool has_cause = status == ZELAMIKU_DEVICE || status == ZELAMIKU_LOST;
+    const char *cause = has_cause ? strerror(errno) : "";
+    (void)snprintf(text, size, "%s%s%s", zelamiku_status_text(status), has_cause ? ": " : "", cause);
+    return text;
+}
+
 /* Makes a heap as zelamiku_format does, in a file, which has as many zeros as the image has bytes then, reserved and durably. Its first
  * calls are left to zelamiku_make_calls. Whatever the file had is gone.
  * BUSY, and then as zelamiku_format: the handle and the file are as they were. DEVICE: a call of the file has failed, by a full disk for
- * one; the handle is as it was, and the file may be shorter, or have zeros. */
-ZELAMIKU_MUST_USE static inline uint32_t zelamiku_format_file(zelamiku_handle *heap, int descriptor, uint32_t objects,
-                                                              const zelamiku_field *fields, size_t count, uint32_t lanes,
-                                                              uint32_t capacity) {
+ * one; the handle is as it was, and the file may have no image any more, be shorter, or have zeros. */
+ZELAMIKU_MUST_USE static inline zelamiku_status zelamiku_format_file(zelamiku_handle *heap, int descriptor, uint32_t objects,
+                                                                     const zelamiku_field *fields, size_t count, uint32_t lanes,
+                                                                     uint32_t capacity) {
     uint64_t size = 0;
-    uint32_t status = zelamiku_file_lock(descriptor);
+    zelamiku_status status = zelamiku_file_lock(descriptor);
     if (status != ZELAMIKU_OK) return status;
     status = zelamiku_format(heap, objects, fields, count, lanes, capacity, &size);
     if (status != ZELAMIKU_OK) return status;
-    if (zelamiku_file_resize(descriptor, 0) && zelamiku_file_reserve(descriptor, size) && zelamiku_file_sync(descriptor)) return ZELAMIKU_OK;
+    if (zelamiku_file_close_gate(descriptor) && zelamiku_file_resize(descriptor, 0) && zelamiku_file_reserve(descriptor, size) &&
+        zelamiku_file_sync(descriptor))
+        return ZELAMIKU_OK;
     int cause = errno;
     zelamiku_free(heap);
     errno = cause;
     return ZELAMIKU_DEVICE;
 }
 
-/* Locks a file, syncs it, reads it, and opens the heap of its bytes as zelamiku_open does. The calls of its recovery are left to
- * zelamiku_make_calls. It takes memory for 64 bytes where the file begins with no header of an image, and else for the image.
- * BUSY; as zelamiku_open; and DEVICE: the file can't be locked, synced or read. The handle is as it was, `found` is all 0, and nothing
- * was written. */
-ZELAMIKU_MUST_USE static inline uint32_t zelamiku_open_file(zelamiku_handle *heap, int descriptor, zelamiku_found *found) {
-    memset(found, 0, sizeof *found);
+/* Opens a heap of its bytes, and tells what recovery did: zelamiku_open_telling, or what upgrades. */
+typedef zelamiku_status zelamiku_opening(zelamiku_handle *heap, const uint8_t *image, size_t size, zelamiku_told *told,
+                                         zelamiku_dropped *dropped, size_t count);
+
+/* Locks a file, syncs it, reads it, and opens the heap of its bytes so. */
+ZELAMIKU_MUST_USE static inline zelamiku_status zelamiku_file_open(zelamiku_handle *heap, int descriptor, zelamiku_told *told,
+                                                                   zelamiku_dropped *dropped, size_t count, zelamiku_opening *opening) {
+    memset(told, 0, sizeof *told);
+    told->bad_lane = ZELAMIKU_NOBODY;
+    memset(dropped, 0, count * sizeof *dropped);
     struct stat info;
     uint8_t header[ZELAMIKU_HEADER_BYTES] = {0};
-    uint32_t status = zelamiku_file_lock(descriptor);
+    zelamiku_status status = zelamiku_file_lock(descriptor);
     if (status != ZELAMIKU_OK) return status;
     /* What a process before this one wrote may be in the system's cache alone: it is made durable, and then read from the device. */
     if (!zelamiku_file_sync(descriptor) || fstat(descriptor, &info) != 0 || info.st_size < 0) return ZELAMIKU_DEVICE;
@@ -145,34 +170,70 @@ ZELAMIKU_MUST_USE static inline uint32_t zelamiku_open_file(zelamiku_handle *hea
     size_t begun = size < sizeof header ? (size_t)size : sizeof header;
     if (!zelamiku_file_read(descriptor, header, begun)) return ZELAMIKU_DEVICE;
     /* No image is so small: of an image's header alone it is told, and what isn't one is refused by it. */
-    status = zelamiku_open(heap, header, begun, found);
+    status = opening(heap, header, begun, told, dropped, count);
     if (status != ZELAMIKU_TOO_SMALL) return status;
     size_t whole = (size_t)zelamiku_file_image_size(header, size);
     uint8_t *image = (uint8_t *)malloc(whole > 0 ? whole : 1);
     if (image == NULL) return ZELAMIKU_NO_MEMORY;
-    status = zelamiku_file_read(descriptor, image, whole) ? zelamiku_open(heap, image, whole, found) : (uint32_t)ZELAMIKU_DEVICE;
+    status = zelamiku_file_read(descriptor, image, whole) ? opening(heap, image, whole, told, dropped, count) : ZELAMIKU_DEVICE;
     free(image);
     return status;
 }
 
+/* Locks a file, syncs it, reads it, and opens the heap of its bytes as zelamiku_open_telling does. The calls of its recovery are left to
+ * zelamiku_make_calls. It takes memory for 64 bytes where the file begins with no header of an image, and else for the image.
+ * BUSY; as zelamiku_open_telling; and DEVICE: the file can't be locked, synced or read. The handle is as it was, `told->found` is all 0,
+ * and nothing was written. */
+ZELAMIKU_MUST_USE static inline zelamiku_status zelamiku_open_file_telling(zelamiku_handle *heap, int descriptor, zelamiku_told *told,
+                                                                           zelamiku_dropped *dropped, size_t count) {
+    return zelamiku_file_open(heap, descriptor, told, dropped, count, zelamiku_open_telling);
+}
+
+/* zelamiku_upgrade as such an opening, which tells `found` alone. */
+static inline zelamiku_status zelamiku_file_upgrading(zelamiku_handle *heap, const uint8_t *image, size_t size, zelamiku_told *told,
+                                                      zelamiku_dropped *dropped, size_t count) {
+    (void)dropped;
+    (void)count;
+    return zelamiku_upgrade(heap, image, size, &told->found);
+}
+
+/* The same, as zelamiku_upgrade does: the file's image has version 2 once zelamiku_make_calls has made the calls that are left to it.
+ * `found` alone is told. */
+ZELAMIKU_MUST_USE static inline zelamiku_status zelamiku_upgrade_file(zelamiku_handle *heap, int descriptor, zelamiku_found *found) {
+    zelamiku_told told;
+    zelamiku_dropped none = {0, 0, 0, 0, 0};
+    zelamiku_status status = zelamiku_file_open(heap, descriptor, &told, &none, 0, zelamiku_file_upgrading);
+    *found = told.found;
+    return status;
+}
+
+/* The same, as zelamiku_open does: `found` alone is told. */
+ZELAMIKU_MUST_USE static inline zelamiku_status zelamiku_open_file(zelamiku_handle *heap, int descriptor, zelamiku_found *found) {
+    zelamiku_told told;
+    zelamiku_dropped none = {0, 0, 0, 0, 0};
+    zelamiku_status status = zelamiku_open_file_telling(heap, descriptor, &told, &none, 0);
+    *found = told.found;
+    return status;
+}
+
 /* Makes all calls of the device that are left on the file, in their order. `made` gets how many there were.
- * CLOSED, WRONG_KIND: nothing was done. DEVICE: a write has failed, and no call behind it was made; the next zelamiku_make_calls begins
+ * NOTHING, WRONG_KIND: nothing was done. DEVICE: a write has failed, and no call behind it was made; the next zelamiku_make_calls begins
  * with it. LOST: a sync has failed, and no call may follow (zelamiku_call_failed): the heap was let go, and each later call answers
  * STOPPED. Free it and its sessions, and open the heap again once the file has what its device has: after the file system was mounted
  * again.
  * `made` is how many were made before that. */
-ZELAMIKU_MUST_USE static inline uint32_t zelamiku_make_calls(zelamiku_handle *heap, int descriptor, uint64_t *made) {
+ZELAMIKU_MUST_USE static inline zelamiku_status zelamiku_make_calls(zelamiku_handle *heap, int descriptor, uint64_t *made) {
     uint8_t bytes[ZELAMIKU_MOST_BYTES] = {0};
     zelamiku_call call = {ZELAMIKU_NO_CALL, 0, 0};
     for (*made = 0;; ++*made) {
-        uint32_t status = zelamiku_next_call(heap, &call, bytes, sizeof bytes);
+        zelamiku_status status = zelamiku_next_call(heap, &call, bytes, sizeof bytes);
         if (status != ZELAMIKU_OK || call.kind == ZELAMIKU_NO_CALL) return status;
         if (call.kind == ZELAMIKU_SYNC ? !zelamiku_file_sync(descriptor)
                                        : call.size > sizeof bytes || !zelamiku_file_write(descriptor, bytes, (size_t)call.size, call.at)) {
             int cause = errno;
             status = zelamiku_call_failed(heap);
             errno = cause;
-            return status == ZELAMIKU_STOPPED ? (uint32_t)ZELAMIKU_LOST : (uint32_t)ZELAMIKU_DEVICE;
+            return status == ZELAMIKU_STOPPED ? ZELAMIKU_LOST : ZELAMIKU_DEVICE;
         }
         status = zelamiku_call_done(heap);
         if (status != ZELAMIKU_OK) return status;

@@ -1,4 +1,5 @@
-/* Zelamiku for threads: a helper's thread, and threads that sleep where they wait, over zelamiku_file.h.
+/* Zelamiku for threads: a helper's thread, and threads that sleep where they wait, over zelamiku_file.h, or over the calls of another
+ * device (zelamiku_threads_start_over).
  *
  * Over these calls a program's threads use a heap in a file as they use mutexes and condition variables. The helper makes rounds while
  * there is work, and their calls on the file; without work it sleeps. Nothing spins but for a moment. Like zelamiku_file.h this is C,
@@ -72,9 +73,13 @@ typedef struct {
     } held[ZELAMIKU_MOST_HELD];
 } zelamiku_seat;
 
+/* Makes the calls of the device that are left, as zelamiku_make_calls does on a file, and with its answers. */
+typedef zelamiku_status zelamiku_threads_calls(zelamiku_handle *heap, void *device, uint64_t *made);
+
 typedef struct {
     zelamiku_handle heap;
-    int descriptor;
+    zelamiku_threads_calls *make_calls;
+    void *device;
     uint32_t lanes;
     uint64_t linger; /* nanoseconds */
     pthread_t helper;
@@ -107,13 +112,13 @@ static inline zelamiku_seat *zelamiku_seat_of(const zelamiku_thread *thread) {
 }
 
 /* The status with which the heap has ended, 0 where it goes on. While a stop looks, the answer is awaited. */
-static inline uint32_t zelamiku_threads_over(zelamiku_threads *all) {
+static inline zelamiku_status zelamiku_threads_over(zelamiku_threads *all) {
     uint32_t over = __atomic_load_n(&all->over, __ATOMIC_SEQ_CST);
-    if (over != ZELAMIKU_THREADS_CLOSING) return over;
+    if (over != ZELAMIKU_THREADS_CLOSING) return (zelamiku_status)over;
     pthread_mutex_lock(&all->mutex);
     over = __atomic_load_n(&all->over, __ATOMIC_SEQ_CST);
     pthread_mutex_unlock(&all->mutex);
-    return over;
+    return (zelamiku_status)over;
 }
 
 /* Sleeps until somebody rings, or has since the last sleep; whether that was before the deadline, where there is one. It may have been for
@@ -203,16 +208,16 @@ static inline void zelamiku_threads_freed(zelamiku_threads *all, zelamiku_seat *
 }
 
 /* DEVICE, and the cause in errno, where a write has failed since there were so many troubles. */
-static inline uint32_t zelamiku_threads_trouble(zelamiku_threads *all, uint64_t troubles) {
+static inline zelamiku_status zelamiku_threads_trouble(zelamiku_threads *all, uint64_t troubles) {
     if (__atomic_load_n(&all->troubles, __ATOMIC_SEQ_CST) == troubles) return ZELAMIKU_OK;
     errno = __atomic_load_n(&all->error, __ATOMIC_SEQ_CST);
     return ZELAMIKU_DEVICE;
 }
 
 /* Sleeps until a round has ended after that one. */
-static inline uint32_t zelamiku_threads_sleep(zelamiku_threads *all, zelamiku_seat *seat, uint64_t rounds, unsigned *demands) {
+static inline zelamiku_status zelamiku_threads_sleep(zelamiku_threads *all, zelamiku_seat *seat, uint64_t rounds, unsigned *demands) {
     uint64_t troubles = __atomic_load_n(&all->troubles, __ATOMIC_SEQ_CST);
-    uint32_t status;
+    zelamiku_status status;
     __atomic_add_fetch(&all->awaiting, 1, __ATOMIC_SEQ_CST);
     __atomic_store_n(&seat->is_behind, 1, __ATOMIC_SEQ_CST);
     if (*demands < ZELAMIKU_THREADS_DEMANDS) {
@@ -230,13 +235,13 @@ static inline uint32_t zelamiku_threads_sleep(zelamiku_threads *all, zelamiku_se
 /* ---- the helper ---- */
 
 /* Makes the calls that a failed write left, a round, and its calls. */
-static inline uint32_t zelamiku_threads_round(zelamiku_threads *all) {
+static inline zelamiku_status zelamiku_threads_round(zelamiku_threads *all) {
     uint64_t count = 0;
     __atomic_store_n(&all->has_work, 0, __ATOMIC_SEQ_CST);
     __atomic_thread_fence(__ATOMIC_SEQ_CST);
-    uint32_t status = zelamiku_make_calls(&all->heap, all->descriptor, &count);
+    zelamiku_status status = all->make_calls(&all->heap, all->device, &count);
     if (status == ZELAMIKU_OK) status = zelamiku_round(&all->heap, &count);
-    if (status == ZELAMIKU_OK) status = zelamiku_make_calls(&all->heap, all->descriptor, &count);
+    if (status == ZELAMIKU_OK) status = all->make_calls(&all->heap, all->device, &count);
     for (uint32_t lane = 0; status == ZELAMIKU_OK && lane < all->lanes; lane++) {
         uint64_t sections = 0;
         status = zelamiku_acknowledged(&all->heap, lane, &sections);
@@ -250,7 +255,7 @@ static inline bool zelamiku_seat_is_durable(zelamiku_seat *seat) {
 }
 
 /* Wakes those that waited for this round, and all where it went wrong. */
-static inline void zelamiku_threads_tell(zelamiku_threads *all, uint32_t status, int error) {
+static inline void zelamiku_threads_tell(zelamiku_threads *all, zelamiku_status status, int error) {
     if (status == ZELAMIKU_DEVICE) {
         __atomic_store_n(&all->error, error, __ATOMIC_SEQ_CST);
         __atomic_add_fetch(&all->troubles, 1, __ATOMIC_SEQ_CST);
@@ -305,7 +310,7 @@ static inline void *zelamiku_threads_help(void *data) {
         if (all->is_ending) break;
         all->is_urgent = false;
         pthread_mutex_unlock(&all->mutex);
-        uint32_t status = zelamiku_threads_round(all);
+        zelamiku_status status = zelamiku_threads_round(all);
         int error = errno;
         zelamiku_threads_tell(all, status, error);
         pthread_mutex_lock(&all->mutex);
@@ -332,15 +337,17 @@ static inline void zelamiku_threads_let_go(zelamiku_threads *all) {
 
 /* ---- the heap ---- */
 
-/* Takes over a heap that was opened or made on the file, and starts its helper. A section that nobody waits for is durable at the
- * latest so many microseconds, and a round, after its end; 5,000 is a good number, and a less one makes more syncs.
- * CLOSED, WRONG_KIND, NO_MEMORY (no thread could be started, too: errno says why): the heap's handle may only be freed. */
-ZELAMIKU_MUST_USE static inline uint32_t zelamiku_threads_start(zelamiku_threads *all, zelamiku_handle *heap, int descriptor,
-                                                                uint32_t linger) {
+/* Takes over a heap that was opened or made on a device, whose calls `make_calls` makes, and starts its helper. A section that nobody waits
+ * for is durable at the latest so many microseconds, and a round, after its end; 5,000 is a good number, and a less one makes more syncs.
+ * NOTHING, CLOSED, WRONG_KIND, NO_MEMORY (no thread could be started, too: errno says why): the heap's handle may only be freed. */
+ZELAMIKU_MUST_USE static inline zelamiku_status zelamiku_threads_start_over(zelamiku_threads *all, zelamiku_handle *heap,
+                                                                            zelamiku_threads_calls *make_calls, void *device,
+                                                                            uint32_t linger) {
     memset(all, 0, sizeof *all);
-    all->descriptor = descriptor;
+    all->make_calls = make_calls;
+    all->device = device;
     all->linger = (uint64_t)linger * 1000;
-    uint32_t status = ZELAMIKU_OK;
+    zelamiku_status status = ZELAMIKU_OK;
     while (all->lanes < ZELAMIKU_MOST_LANES &&
            (status = zelamiku_session(heap, &all->seats[all->lanes].session)) == ZELAMIKU_OK)
         all->lanes++;
@@ -382,10 +389,20 @@ ZELAMIKU_MUST_USE static inline uint32_t zelamiku_threads_start(zelamiku_threads
     return ZELAMIKU_NO_MEMORY;
 }
 
+static inline zelamiku_status zelamiku_threads_calls_of_file(zelamiku_handle *heap, void *descriptor, uint64_t *made) {
+    return zelamiku_make_calls(heap, (int)(intptr_t)descriptor, made);
+}
+
+/* The same, of a heap that was opened or made on the file. */
+ZELAMIKU_MUST_USE static inline zelamiku_status zelamiku_threads_start(zelamiku_threads *all, zelamiku_handle *heap, int descriptor,
+                                                                       uint32_t linger) {
+    return zelamiku_threads_start_over(all, heap, zelamiku_threads_calls_of_file, (void *)(intptr_t)descriptor, linger);
+}
+
 /* Under the mutex: whether nothing is open and all is durable, so that no section begins any more. RUNNING: a section is open or a
  * session waits. CALLS_LEFT: a section has ended since the last round. */
-static inline uint32_t zelamiku_threads_try_stop(zelamiku_threads *all) {
-    uint32_t status = ZELAMIKU_OK;
+static inline zelamiku_status zelamiku_threads_try_stop(zelamiku_threads *all) {
+    zelamiku_status status = ZELAMIKU_OK;
     __atomic_store_n(&all->over, ZELAMIKU_THREADS_CLOSING, __ATOMIC_SEQ_CST);
     for (uint32_t lane = 0; lane < all->lanes; lane++) {
         zelamiku_seat *seat = &all->seats[lane];
@@ -402,17 +419,17 @@ static inline uint32_t zelamiku_threads_try_stop(zelamiku_threads *all) {
  * CLOSED from then on, and no thread may be in one when this returns.
  * RUNNING: a section is open or a session waits; DEVICE: a write has failed: the heap goes on, and may be stopped later. What the heap
  * has ended with, as LOST: all was let go. */
-ZELAMIKU_MUST_USE static inline uint32_t zelamiku_threads_stop(zelamiku_threads *all) {
+ZELAMIKU_MUST_USE static inline zelamiku_status zelamiku_threads_stop(zelamiku_threads *all) {
     pthread_mutex_lock(&all->mutex);
     uint64_t troubles = __atomic_load_n(&all->troubles, __ATOMIC_SEQ_CST);
-    uint32_t status = __atomic_load_n(&all->over, __ATOMIC_SEQ_CST);
+    zelamiku_status status = (zelamiku_status)__atomic_load_n(&all->over, __ATOMIC_SEQ_CST);
     while (status == ZELAMIKU_OK && (status = zelamiku_threads_try_stop(all)) == ZELAMIKU_CALLS_LEFT) {
         uint64_t rounds = __atomic_load_n(&all->rounds, __ATOMIC_SEQ_CST);
         all->is_urgent = true;
         pthread_cond_signal(&all->bell);
         while (__atomic_load_n(&all->rounds, __ATOMIC_SEQ_CST) == rounds) pthread_cond_wait(&all->told, &all->mutex);
         status = zelamiku_threads_trouble(all, troubles);
-        if (status == ZELAMIKU_OK) status = __atomic_load_n(&all->over, __ATOMIC_SEQ_CST);
+        if (status == ZELAMIKU_OK) status = (zelamiku_status)__atomic_load_n(&all->over, __ATOMIC_SEQ_CST);
     }
     all->is_ending = status != ZELAMIKU_RUNNING && status != ZELAMIKU_DEVICE;
     bool is_clean = status == ZELAMIKU_OK;
@@ -423,12 +440,12 @@ ZELAMIKU_MUST_USE static inline uint32_t zelamiku_threads_stop(zelamiku_threads 
     for (uint32_t lane = 0; status == ZELAMIKU_OK && lane < all->lanes; lane++) status = zelamiku_end(&all->seats[lane].session);
     if (status == ZELAMIKU_OK) status = zelamiku_close(&all->heap);
     uint64_t made = 0;
-    if (status == ZELAMIKU_OK) status = zelamiku_make_calls(&all->heap, all->descriptor, &made);
+    if (status == ZELAMIKU_OK) status = all->make_calls(&all->heap, all->device, &made);
     int error = errno;
     zelamiku_threads_let_go(all);
     errno = error;
     /* All sections are durable, whatever became of the closing's own calls: what they leave is recovered. */
-    return is_clean && status == ZELAMIKU_DEVICE ? (uint32_t)ZELAMIKU_OK : status;
+    return is_clean && status == ZELAMIKU_DEVICE ? ZELAMIKU_OK : status;
 }
 
 /* ---- a thread's use of the heap ---- */
@@ -437,9 +454,9 @@ ZELAMIKU_MUST_USE static inline uint32_t zelamiku_threads_stop(zelamiku_threads 
  * that a wait is over, after which the thread doesn't hold that monitor. */
 
 /* Hands out a lane that nobody has. NONE_LEFT: each is lent. */
-ZELAMIKU_MUST_USE static inline uint32_t zelamiku_thread_begin(zelamiku_thread *thread, zelamiku_threads *all) {
+ZELAMIKU_MUST_USE static inline zelamiku_status zelamiku_thread_begin(zelamiku_thread *thread, zelamiku_threads *all) {
     thread->all = NULL;
-    uint32_t status = zelamiku_threads_over(all);
+    zelamiku_status status = zelamiku_threads_over(all);
     if (status != ZELAMIKU_OK) return status;
     status = ZELAMIKU_NONE_LEFT;
     pthread_mutex_lock(&all->mutex);
@@ -457,10 +474,10 @@ ZELAMIKU_MUST_USE static inline uint32_t zelamiku_thread_begin(zelamiku_thread *
 }
 
 /* Gives the lane back, which may be handed out again. UNFINISHED: it holds a monitor: nothing was done. */
-ZELAMIKU_MUST_USE static inline uint32_t zelamiku_thread_end(zelamiku_thread *thread) {
+ZELAMIKU_MUST_USE static inline zelamiku_status zelamiku_thread_end(zelamiku_thread *thread) {
     zelamiku_threads *all = thread->all;
     zelamiku_seat *seat = zelamiku_seat_of(thread);
-    uint32_t over = zelamiku_threads_over(all);
+    zelamiku_status over = zelamiku_threads_over(all);
     if (over != ZELAMIKU_OK) return over;
     if (seat->held_count > 0) return ZELAMIKU_UNFINISHED;
     pthread_mutex_lock(&all->mutex);
@@ -471,14 +488,14 @@ ZELAMIKU_MUST_USE static inline uint32_t zelamiku_thread_end(zelamiku_thread *th
 }
 
 /* The library may tell a session that a sync has failed before the helper has told what the heap has ended with. */
-static inline uint32_t zelamiku_thread_told(uint32_t status) {
-    return status == ZELAMIKU_STOPPED ? (uint32_t)ZELAMIKU_LOST : status;
+static inline zelamiku_status zelamiku_thread_told(zelamiku_status status) {
+    return status == ZELAMIKU_STOPPED ? ZELAMIKU_LOST : status;
 }
 
 /* Sleeps until the monitor can be taken. */
-static inline uint32_t zelamiku_thread_enter_slowly(zelamiku_threads *all, zelamiku_seat *seat, uint32_t object) {
+static inline zelamiku_status zelamiku_thread_enter_slowly(zelamiku_threads *all, zelamiku_seat *seat, uint32_t object) {
     unsigned demands = 0;
-    uint32_t status;
+    zelamiku_status status;
     for (;;) {
         uint64_t rounds = __atomic_load_n(&all->rounds, __ATOMIC_SEQ_CST);
         status = zelamiku_threads_over(all);
@@ -502,12 +519,12 @@ static inline uint32_t zelamiku_thread_enter_slowly(zelamiku_threads *all, zelam
  * monitors in one order everywhere: two threads that wait for each other's wait for ever.
  * UNKNOWN_OBJECT, SECTION_FULL, TOO_MANY, TOO_DEEP, NO_FAT, WORN; DEVICE, where a round that was waited for can't write: what is held
  * stays as it was. */
-ZELAMIKU_MUST_USE static inline uint32_t zelamiku_thread_enter(zelamiku_thread *thread, uint32_t object) {
+ZELAMIKU_MUST_USE static inline zelamiku_status zelamiku_thread_enter(zelamiku_thread *thread, uint32_t object) {
     zelamiku_threads *all = thread->all;
     zelamiku_seat *seat = zelamiku_seat_of(thread);
     bool begins = seat->held_count == 0;
     if (begins) __atomic_store_n(&seat->is_busy, 1, __ATOMIC_SEQ_CST);
-    uint32_t status = zelamiku_threads_over(all);
+    zelamiku_status status = zelamiku_threads_over(all);
     bool goes_on = status == ZELAMIKU_OK;
     for (unsigned tries = 0; goes_on && tries < ZELAMIKU_THREADS_TRIES; tries++) {
         status = zelamiku_thread_told(zelamiku_try_enter(&seat->session, object));
@@ -538,10 +555,10 @@ static inline void zelamiku_thread_forget(zelamiku_seat *seat, uint32_t place) {
 
 /* Gives one lock back, and with the last one the monitor. With the last monitor the section ends.
  * UNKNOWN_OBJECT, NOT_HELD: nothing was done. */
-ZELAMIKU_MUST_USE static inline uint32_t zelamiku_thread_exit(zelamiku_thread *thread, uint32_t object) {
+ZELAMIKU_MUST_USE static inline zelamiku_status zelamiku_thread_exit(zelamiku_thread *thread, uint32_t object) {
     zelamiku_threads *all = thread->all;
     zelamiku_seat *seat = zelamiku_seat_of(thread);
-    uint32_t status = zelamiku_exit(&seat->session, object);
+    zelamiku_status status = zelamiku_exit(&seat->session, object);
     if (status == ZELAMIKU_OK) {
         uint32_t place = 0;
         while (seat->held[place].object != object) place++;
@@ -550,31 +567,48 @@ ZELAMIKU_MUST_USE static inline uint32_t zelamiku_thread_exit(zelamiku_thread *t
             zelamiku_threads_freed(all, seat, object, false);
         }
     }
-    uint32_t over = zelamiku_threads_over(all);
+    zelamiku_status over = zelamiku_threads_over(all);
     return over != ZELAMIKU_OK ? over : status;
 }
 
 /* Loads a field whose guard is held.
  * UNKNOWN_FIELD, NOT_HELD: `value` is 0. */
-ZELAMIKU_MUST_USE static inline uint32_t zelamiku_thread_load(zelamiku_thread *thread, uint32_t field, uint64_t *value) {
+ZELAMIKU_MUST_USE static inline zelamiku_status zelamiku_thread_load(zelamiku_thread *thread, uint32_t field, uint64_t *value) {
     *value = 0;
-    uint32_t over = zelamiku_threads_over(thread->all);
+    zelamiku_status over = zelamiku_threads_over(thread->all);
     return over != ZELAMIKU_OK ? over : zelamiku_load(&zelamiku_seat_of(thread)->session, field, value);
 }
 
 /* Stores a field whose guard is held.
  * UNKNOWN_FIELD, NOT_HELD, SECTION_FULL: nothing was stored. */
-ZELAMIKU_MUST_USE static inline uint32_t zelamiku_thread_store(zelamiku_thread *thread, uint32_t field, uint64_t value) {
+ZELAMIKU_MUST_USE static inline zelamiku_status zelamiku_thread_store(zelamiku_thread *thread, uint32_t field, uint64_t value) {
     zelamiku_seat *seat = zelamiku_seat_of(thread);
-    uint32_t over = zelamiku_threads_over(thread->all);
+    zelamiku_status over = zelamiku_threads_over(thread->all);
     if (over != ZELAMIKU_OK) return over;
     seat->records++;
     return zelamiku_store(&seat->session, field, value);
 }
 
+/* Takes a slot of the pool, by its head's field and how many slots it has, as zelamiku_pool_take; its object's monitor is held. */
+ZELAMIKU_MUST_USE static inline zelamiku_status zelamiku_thread_take(zelamiku_thread *thread, uint32_t head, uint32_t slots, uint32_t *slot) {
+    *slot = ZELAMIKU_NO_SLOT;
+    zelamiku_status over = zelamiku_threads_over(thread->all);
+    if (over != ZELAMIKU_OK) return over;
+    zelamiku_seat_of(thread)->records += 2;
+    return zelamiku_pool_take(&zelamiku_seat_of(thread)->session, head, slots, slot);
+}
+
+/* Gives a slot back to the pool, as zelamiku_pool_give. */
+ZELAMIKU_MUST_USE static inline zelamiku_status zelamiku_thread_give(zelamiku_thread *thread, uint32_t head, uint32_t slots, uint32_t slot) {
+    zelamiku_status over = zelamiku_threads_over(thread->all);
+    if (over != ZELAMIKU_OK) return over;
+    zelamiku_seat_of(thread)->records += 2;
+    return zelamiku_pool_give(&zelamiku_seat_of(thread)->session, head, slots, slot);
+}
+
 /* Sleeps until the session was notified and has taken the monitor again. */
-static inline uint32_t zelamiku_thread_resume(zelamiku_threads *all, zelamiku_seat *seat, uint32_t object) {
-    uint32_t status;
+static inline zelamiku_status zelamiku_thread_resume(zelamiku_threads *all, zelamiku_seat *seat, uint32_t object) {
+    zelamiku_status status;
     for (;;) {
         status = zelamiku_threads_over(all);
         if (status == ZELAMIKU_OK) status = zelamiku_thread_told(zelamiku_try_resume(&seat->session));
@@ -586,11 +620,11 @@ static inline uint32_t zelamiku_thread_resume(zelamiku_threads *all, zelamiku_se
 }
 
 /* Joins the monitor's wait set, unless there is no room for it. */
-static inline uint32_t zelamiku_thread_begin_wait(zelamiku_threads *all, zelamiku_seat *seat, uint32_t object) {
+static inline zelamiku_status zelamiku_thread_begin_wait(zelamiku_threads *all, zelamiku_seat *seat, uint32_t object) {
     unsigned demands = 0;
     for (;;) {
         uint64_t rounds = __atomic_load_n(&all->rounds, __ATOMIC_SEQ_CST);
-        uint32_t status = zelamiku_threads_over(all);
+        zelamiku_status status = zelamiku_threads_over(all);
         if (status == ZELAMIKU_OK) status = zelamiku_thread_told(zelamiku_begin_wait(&seat->session, object));
         /* What holds the monitor may be what the room waits for. */
         if (status != ZELAMIKU_BEHIND || demands == ZELAMIKU_THREADS_DEMANDS) return status;
@@ -602,10 +636,10 @@ static inline uint32_t zelamiku_thread_begin_wait(zelamiku_threads *all, zelamik
 /* Frees a monitor that is held, by all its locks, sleeps until another thread notifies this one, and takes it again by as many. It isn't
  * woken by anything else. Where no other monitor is held the section ends, and the next one begins when it goes on.
  * UNKNOWN_OBJECT, NOT_HELD, BEHIND, SECTION_FULL, NO_FAT, WORN, DEVICE: the monitor is held as before. */
-ZELAMIKU_MUST_USE static inline uint32_t zelamiku_thread_wait(zelamiku_thread *thread, uint32_t object) {
+ZELAMIKU_MUST_USE static inline zelamiku_status zelamiku_thread_wait(zelamiku_thread *thread, uint32_t object) {
     zelamiku_threads *all = thread->all;
     zelamiku_seat *seat = zelamiku_seat_of(thread);
-    uint32_t status = zelamiku_thread_begin_wait(all, seat, object);
+    zelamiku_status status = zelamiku_thread_begin_wait(all, seat, object);
     if (status != ZELAMIKU_OK) return status;
     uint32_t place = 0;
     while (seat->held[place].object != object) place++;
@@ -629,10 +663,10 @@ static inline void zelamiku_thread_put(zelamiku_threads *all, uint64_t lanes, ui
 /* Wakes one thread that waits for a monitor that is held; `is_woken` gets whether there was one. It goes on once the monitor is free.
  * Which of several isn't promised: one of them may never be it. Where each is to have its turn, wake all.
  * UNKNOWN_OBJECT, NOT_HELD: `is_woken` is false. */
-ZELAMIKU_MUST_USE static inline uint32_t zelamiku_thread_notify(zelamiku_thread *thread, uint32_t object, bool *is_woken) {
+ZELAMIKU_MUST_USE static inline zelamiku_status zelamiku_thread_notify(zelamiku_thread *thread, uint32_t object, bool *is_woken) {
     uint32_t lane = ZELAMIKU_NOBODY;
     *is_woken = false;
-    uint32_t status = zelamiku_threads_over(thread->all);
+    zelamiku_status status = zelamiku_threads_over(thread->all);
     if (status == ZELAMIKU_OK) status = zelamiku_notify(&zelamiku_seat_of(thread)->session, object, &lane);
     if (status != ZELAMIKU_OK || lane == ZELAMIKU_NOBODY) return status;
     *is_woken = true;
@@ -642,9 +676,9 @@ ZELAMIKU_MUST_USE static inline uint32_t zelamiku_thread_notify(zelamiku_thread 
 
 /* Wakes all threads that wait for a monitor that is held. In which order they go on isn't promised.
  * UNKNOWN_OBJECT, NOT_HELD: nobody is woken. */
-ZELAMIKU_MUST_USE static inline uint32_t zelamiku_thread_notify_all(zelamiku_thread *thread, uint32_t object) {
+ZELAMIKU_MUST_USE static inline zelamiku_status zelamiku_thread_notify_all(zelamiku_thread *thread, uint32_t object) {
     uint64_t lanes = 0;
-    uint32_t status = zelamiku_threads_over(thread->all);
+    zelamiku_status status = zelamiku_threads_over(thread->all);
     if (status == ZELAMIKU_OK) status = zelamiku_notify_all(&zelamiku_seat_of(thread)->session, object, &lanes);
     zelamiku_thread_put(thread->all, lanes, object);
     return status;
@@ -665,11 +699,11 @@ static inline uint64_t zelamiku_thread_durable(const zelamiku_thread *thread) {
  * gets whether they are. It asks for a round, which is made whether or not the thread still waits for it: after the deadline the sections
  * are as good as if nobody had waited, and may be waited for again. A deadline that has passed asks for the round and doesn't sleep.
  * Fails as zelamiku_thread_await. `is_durable` is false then. */
-ZELAMIKU_MUST_USE static inline uint32_t zelamiku_thread_await_until(zelamiku_thread *thread, const struct timespec *deadline,
-                                                                     bool *is_durable) {
+ZELAMIKU_MUST_USE static inline zelamiku_status zelamiku_thread_await_until(zelamiku_thread *thread, const struct timespec *deadline,
+                                                                            bool *is_durable) {
     zelamiku_threads *all = thread->all;
     zelamiku_seat *seat = zelamiku_seat_of(thread);
-    uint32_t status = ZELAMIKU_OK;
+    zelamiku_status status = ZELAMIKU_OK;
     *is_durable = zelamiku_seat_is_durable(seat);
     if (*is_durable) return ZELAMIKU_OK;
     uint64_t troubles = __atomic_load_n(&all->troubles, __ATOMIC_SEQ_CST);
@@ -691,7 +725,7 @@ ZELAMIKU_MUST_USE static inline uint32_t zelamiku_thread_await_until(zelamiku_th
 /* Sleeps until all sections that the thread has ended are durable: it asks for a round, and sleeps on while a section that one of them
  * depends on is open.
  * DEVICE: a write has failed: call again. LOST, or what else the heap has ended with, CLOSED among it: they weren't durable before. */
-ZELAMIKU_MUST_USE static inline uint32_t zelamiku_thread_await(zelamiku_thread *thread) {
+ZELAMIKU_MUST_USE static inline zelamiku_status zelamiku_thread_await(zelamiku_thread *thread) {
     bool is_durable = false;
     return zelamiku_thread_await_until(thread, NULL, &is_durable);
 }

@@ -21,11 +21,10 @@ static int file;
 static zelamiku_threads heap;
 static atomic_bool stopping;
 
-static void must(uint32_t status, const char *what) {
+static void must(zelamiku_status status, const char *what) {
     if (status != ZELAMIKU_OK) {
-        int cause = errno;
-        fprintf(stderr, "%s: %s\n", what, zelamiku_status_text(status));
-        if (status == ZELAMIKU_DEVICE || status == ZELAMIKU_LOST) fprintf(stderr, "%s\n", strerror(cause));
+        char text[256];
+        fprintf(stderr, "%s: %s\n", what, zelamiku_file_text(status, text, sizeof text));
         /* A sync that failed isn't made again: a later one may succeed though the file has lost what was written. */
         if (status == ZELAMIKU_LOST) fprintf(stderr, "Mount the file system again before you start on this file.\n");
         exit(2);
@@ -80,7 +79,7 @@ static bool is_free(void) {
 static void begin(const char *name) {
     zelamiku_handle handle = ZELAMIKU_NONE;
     zelamiku_found found = {0};
-    uint32_t answer = zelamiku_open_file(&handle, file, &found);
+    zelamiku_status answer = zelamiku_open_file(&handle, file, &found);
     if (answer == ZELAMIKU_NOT_FORMATTED && is_free()) {
         zelamiku_field fields[FIELDS];
         for (uint32_t i = 0; i <= WORKERS; i++) fields[i] = (zelamiku_field){.owner = i, .guard = i};

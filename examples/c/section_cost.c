@@ -22,7 +22,7 @@ enum { OWN = 0, SHARED = 1, SECTIONS = 500, CAPACITY = 65536 };
 
 static atomic_bool ended;
 
-static void must(uint32_t status, const char *what) {
+static void must(zelamiku_status status, const char *what) {
     if (status != ZELAMIKU_OK) {
         fprintf(stderr, "%s: %s\n", what, zelamiku_status_text(status));
         exit(2);
@@ -30,8 +30,8 @@ static void must(uint32_t status, const char *what) {
 }
 
 /* Where the helper is behind it tries again. */
-static inline uint32_t enter(zelamiku_handle *session, uint32_t object) {
-    uint32_t status;
+static inline zelamiku_status enter(zelamiku_handle *session, uint32_t object) {
+    zelamiku_status status;
     while ((status = zelamiku_try_enter(session, object)) == ZELAMIKU_BEHIND) sched_yield();
     return status;
 }

@@ -1,11 +1,14 @@
-/* Tests of zelamiku_file.h on a file that moves a byte at a time, is interrupted, fails at each call in turn, and is another's.
+/* Tests of zelamiku_file.h on a file that moves a byte at a time, is interrupted, fails at each call in turn, is another's, and gets a heap
+ * where it has one.
  *
  *     file FOLDER      prints nothing but a last line, and answers 0, where all is as it must be */
 #define _GNU_SOURCE
 #include <errno.h>
 #include <fcntl.h>
 #include <stdio.h>
+#include <stdint.h>
 #include <stdlib.h>
+#include <string.h>
 #include <sys/file.h>
 #include <sys/types.h>
 #include <unistd.h>
@@ -21,6 +24,26 @@ static int is_interrupted(void) {
     return 1;
 }
 
+/* What was done to the file while `records` is set, in order. */
+enum { WRITTEN, ZEROED, SYNCED };
+static struct {
+    int kind;
+    off_t at;
+    size_t size;
+    uint8_t bytes[4096];
+} steps[256];
+static int records, step_count;
+
+static void note(int kind, const void *bytes, size_t size, off_t at) {
+    if (!records) return;
+    if (step_count == 256 || size > 4096) abort();
+    steps[step_count].kind = kind;
+    steps[step_count].at = at;
+    steps[step_count].size = size;
+    if (size > 0) memcpy(steps[step_count].bytes, bytes, size);
+    step_count++;
+}
+
 static int is_due(void) {
     if (fails_in == 0 || --fails_in > 0) return 0;
     errno = EIO;
@@ -29,6 +52,7 @@ static int is_due(void) {
 
 static ssize_t flaky_pwrite(int file, const void *bytes, size_t size, off_t at) {
     if (is_interrupted() || is_due()) return -1;
+    note(WRITTEN, bytes, size, at);
     return pwrite(file, bytes, moves_one_byte && size > 1 ? 1 : size, at);
 }
 
@@ -42,7 +66,14 @@ static ssize_t flaky_pread(int file, void *bytes, size_t size, off_t at) {
 }
 
 static int flaky_fdatasync(int file) {
-    return is_interrupted() || is_due() ? -1 : fdatasync(file);
+    if (is_interrupted() || is_due()) return -1;
+    note(SYNCED, NULL, 0, 0);
+    return fdatasync(file);
+}
+
+static int watched_ftruncate(int file, off_t size) {
+    note(ZEROED, NULL, 0, 0);
+    return ftruncate(file, size);
 }
 
 static size_t most; /* the most bytes that were asked of malloc at once */
@@ -55,6 +86,7 @@ static void *watched_malloc(size_t size) {
 #define pwrite flaky_pwrite
 #define pread flaky_pread
 #define fdatasync flaky_fdatasync
+#define ftruncate watched_ftruncate
 #define malloc watched_malloc
 #include "zelamiku_file.h"
 
@@ -121,8 +153,51 @@ static void life(void) {
     MUST(zelamiku_make_calls(&heap, file, &made) == ZELAMIKU_OK && made > 0);
     MUST(zelamiku_acknowledged(&heap, 0, &sections) == ZELAMIKU_OK && sections == 1);
     zelamiku_free(&heap);
-    MUST(zelamiku_make_calls(&heap, file, &made) == ZELAMIKU_CLOSED && made == 0);
+    MUST(zelamiku_make_calls(&heap, file, &made) == ZELAMIKU_NOTHING && made == 0);
     MUST(found() == 7);
+}
+
+/* Where the two controls begin in an image, by their gates, and the last byte of their version behind each (docs/FORMAT.md). */
+static const off_t SLOTS[2] = {64, 1112};
+#define VERSION_BYTE 19
+
+/* Makes the file's image one of version 1, as a library from before there were transient fields left it. */
+static void make_old(void) {
+    for (int i = 0; i < 2; i++) {
+        uint8_t slot = 0, version = 1;
+        MUST(pread(file, &slot, 1, SLOTS[i]) == 1);
+        if (slot == 0xa5) MUST(zelamiku_file_write(file, &version, 1, (uint64_t)SLOTS[i] + VERSION_BYTE));
+    }
+}
+
+/* An image of version 1 isn't opened; it is upgraded in place, and its heap goes on. */
+static void old(void) {
+    static uint8_t before[1 << 20], after[1 << 20];
+    zelamiku_handle heap = ZELAMIKU_NONE;
+    zelamiku_found what = {0};
+    uint64_t made = 0;
+    make_heap(&heap);
+    store(&heap, 7);
+    MUST(zelamiku_make_calls(&heap, file, &made) == ZELAMIKU_OK && made > 0);
+    zelamiku_free(&heap);
+    make_old();
+    struct stat info;
+    MUST(fstat(file, &info) == 0 && info.st_size <= (off_t)sizeof before);
+    MUST(zelamiku_file_read(file, before, (size_t)info.st_size));
+    MUST(zelamiku_open_file(&heap, file, &what) == ZELAMIKU_OLD_VERSION && !heap.is_open);
+    MUST(zelamiku_file_read(file, after, (size_t)info.st_size) && memcmp(before, after, (size_t)info.st_size) == 0);
+    /* Until the calls are made the image has version 1 still. */
+    MUST(zelamiku_upgrade_file(&heap, file, &what) == ZELAMIKU_OK && what.fields == 1);
+    zelamiku_free(&heap);
+    MUST(zelamiku_open_file(&heap, file, &what) == ZELAMIKU_OLD_VERSION);
+    MUST(zelamiku_upgrade_file(&heap, file, &what) == ZELAMIKU_OK && what.fields == 1 && what.lanes == 2);
+    MUST(zelamiku_make_calls(&heap, file, &made) == ZELAMIKU_OK && made > 0 && load(&heap) == 7);
+    zelamiku_free(&heap);
+    MUST(found() == 7);
+    /* One of version 2 is opened. */
+    MUST(zelamiku_upgrade_file(&heap, file, &what) == ZELAMIKU_OK && zelamiku_make_calls(&heap, file, &made) == ZELAMIKU_OK);
+    MUST(load(&heap) == 7);
+    zelamiku_free(&heap);
 }
 
 /* What is no heap, and a heap that isn't made, leave the file as it was. */
@@ -217,7 +292,7 @@ static int faults(void) {
         MUST(zelamiku_acknowledged(&heap, 0, &sections) == ZELAMIKU_OK && sections == 1);
         store(&heap, 8);
         fails_in = call;
-        uint32_t status = zelamiku_make_calls(&heap, file, &made);
+        zelamiku_status status = zelamiku_make_calls(&heap, file, &made);
         int left = fails_in;
         fails_in = 0;
         if (status == ZELAMIKU_OK) {
@@ -268,21 +343,94 @@ static void bytes(void) {
     }
 }
 
+/* ---- what a crash leaves of a file that gets a heap where it has one ---- */
+
+enum { PART = 512, CRASHES = 32 };
+
+/* Lays a step over an image, or where it was still pending some parts of it, by the bits of `which`. */
+static void lay(uint8_t *image, size_t size, int step, uint32_t which) {
+    size_t from = steps[step].kind == ZEROED ? 0 : (size_t)steps[step].at;
+    size_t end = steps[step].kind == ZEROED ? size : from + steps[step].size;
+    for (size_t part = from / PART; part * PART < end && steps[step].kind != SYNCED; part++) {
+        size_t at = part * PART > from ? part * PART : from;
+        size_t count = ((part + 1) * PART < end ? (part + 1) * PART : end) - at;
+        if (!(which >> part % 32 & 1)) continue;
+        if (steps[step].kind == ZEROED)
+            memset(image + at, 0, count);
+        else
+            memcpy(image + at, steps[step].bytes + (at - from), count);
+    }
+}
+
+/* Opens what a crash leaves that comes when so many steps were begun: those before the last sync are durable. */
+static zelamiku_status after_crash(const uint8_t *before, size_t size, int count, uint32_t which, uint64_t *value) {
+    uint8_t *image = malloc(size);
+    int durable = count;
+    while (durable > 0 && steps[durable - 1].kind != SYNCED) durable--;
+    MUST(image != NULL);
+    memcpy(image, before, size);
+    for (int i = 0; i < count; i++) lay(image, size, i, i < durable ? UINT32_MAX : which);
+    zelamiku_handle heap = ZELAMIKU_NONE;
+    zelamiku_found what = {0};
+    zelamiku_status status = zelamiku_open(&heap, image, size, &what);
+    if (status == ZELAMIKU_OK) *value = load(&heap);
+    zelamiku_free(&heap);
+    free(image);
+    return status;
+}
+
+/* A crash at each call leaves the heap that was there, none, or the new one, with the value that each has: and never a header over zeros,
+ * though the system may have kept any part of the file as it was. */
+static int over_another(void) {
+    zelamiku_handle heap = ZELAMIKU_NONE;
+    int seen[3] = {0};
+    make_heap(&heap);
+    store(&heap, 7);
+    uint64_t made = 0;
+    MUST(zelamiku_make_calls(&heap, file, &made) == ZELAMIKU_OK);
+    zelamiku_free(&heap);
+    MUST(found() == 7);
+    size_t size = (size_t)lseek(file, 0, SEEK_END);
+    uint8_t *before = malloc(size);
+    MUST(before != NULL && pread(file, before, size, 0) == (ssize_t)size);
+    records = 1;
+    make_heap(&heap);
+    records = 0;
+    zelamiku_free(&heap);
+    for (int count = 0; count <= step_count; count++)
+        for (uint32_t crash = 0; crash < CRASHES; crash++) {
+            uint64_t value = 0;
+            /* The first part alone stays, all stay, and others at random. */
+            uint32_t which = crash == 0 ? UINT32_MAX - 1 : crash == 1 ? 0 : crash * 2654435761u ^ (uint32_t)count * 40503u;
+            zelamiku_status status = after_crash(before, size, count, which, &value);
+            MUST(status == ZELAMIKU_NOT_FORMATTED || (status == ZELAMIKU_OK && (value == 7 || value == 5)));
+            if (status == ZELAMIKU_OK) MUST(value == 7 ? count <= 1 : count + 2 > step_count);
+            seen[status != ZELAMIKU_OK ? 0 : value == 7 ? 1 : 2]++;
+        }
+    MUST(seen[0] > 0 && seen[1] > 0 && seen[2] > 0);
+    free(before);
+    MUST(found() == 5);
+    return seen[0] + seen[1] + seen[2];
+}
+
 int main(int argc, char **argv) {
     MUST(argc == 2 && chdir(argv[1]) == 0);
     file = open("file.image", O_RDWR | O_CREAT | O_TRUNC, 0644);
     MUST(file >= 0);
     life();
+    old();
     refusals();
     others();
     sizes();
     bytes();
-    int calls = faults();
+    int calls = faults(), crashes = over_another();
     MUST(calls > 2);
     MUST(ftruncate(file, 0) == 0);
     moves_one_byte = 1;
     life();
     bytes();
-    printf("file: a life, its refusals, other opens, large files, a fault at each of %d calls, and calls that are short and interrupted\n", calls);
+    printf("file: a life, an old image, refusals, other opens, large files, a fault at each of %d calls, %d crashes while a heap is made "
+           "over another, and calls that are short and interrupted\n",
+           calls, crashes);
     return 0;
 }

@@ -168,7 +168,7 @@ static void *wait_once(void *data) {
     zelamiku_thread own;
     MUST(zelamiku_thread_begin(&own, &all) == ZELAMIKU_OK && zelamiku_thread_enter(&own, TOTAL) == ZELAMIKU_OK);
     MUST(zelamiku_thread_enter(&own, TOTAL) == ZELAMIKU_OK && zelamiku_thread_store(&own, 0, 1) == ZELAMIKU_OK);
-    uint32_t status = zelamiku_thread_wait(&own, TOTAL);
+    zelamiku_status status = zelamiku_thread_wait(&own, TOTAL);
     if (status != ZELAMIKU_OK) return (void *)(uintptr_t)status;
     /* By both locks. */
     MUST(zelamiku_thread_exit(&own, TOTAL) == ZELAMIKU_OK && zelamiku_thread_sections(&own) == 1);
@@ -224,7 +224,7 @@ static void failing_writes(void) {
     }
     MUST(zelamiku_thread_durable(&own) == 1 && zelamiku_threads_stop(&all) == ZELAMIKU_DEVICE);
     /* A lane without room is told too. */
-    uint32_t status = ZELAMIKU_OK;
+    zelamiku_status status = ZELAMIKU_OK;
     while ((status = zelamiku_thread_enter(&own, TOTAL)) == ZELAMIKU_OK)
         MUST(zelamiku_thread_store(&own, 0, 7) == ZELAMIKU_OK && zelamiku_thread_exit(&own, TOTAL) == ZELAMIKU_OK);
     MUST(status == ZELAMIKU_DEVICE);
@@ -249,7 +249,7 @@ static void failing_syncs(void) {
     MUST(zelamiku_thread_enter(&own, TOTAL) == ZELAMIKU_OK && zelamiku_thread_store(&own, 0, 3) == ZELAMIKU_OK);
     __atomic_store_n(&syncs_fail, 1, __ATOMIC_SEQ_CST);
     /* A round may have taken a part of the section, so that its end is told already. */
-    uint32_t status = zelamiku_thread_exit(&own, TOTAL);
+    zelamiku_status status = zelamiku_thread_exit(&own, TOTAL);
     MUST(status == ZELAMIKU_OK || status == ZELAMIKU_LOST);
     MUST(zelamiku_thread_await(&own) == ZELAMIKU_LOST);
     __atomic_store_n(&syncs_fail, 0, __ATOMIC_SEQ_CST);

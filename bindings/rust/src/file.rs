@@ -1,5 +1,5 @@
 //! Heaps in files of the system.
-use crate::{raw, Field, Found, Heap, Refusal};
+use crate::{raw, Field, Found, Heap, NotOpened, Refusal, Report};
 use std::fmt;
 use std::fs::File;
 use std::io;
@@ -14,6 +14,15 @@ const MOST_IMAGE_BYTES: u64 = 2160 + 24 * 16_384 + 16 * 32 * 1_048_576;
 pub enum FileError {
     /// The heap is refused; or, by [`Refusal::Busy`], another open of the file has it.
     Refused(Refusal),
+    /// The heap is refused for this record, that of its lane at this place in it.
+    Record {
+        /// [`Refusal::BadRecord`] or [`Refusal::IllegalLog`].
+        refusal: Refusal,
+        /// The lane.
+        lane: u32,
+        /// The place.
+        place: u64,
+    },
     /// A call of the file has failed.
     System(io::Error),
 }
@@ -22,7 +31,7 @@ impl FileError {
     /// The refusal, where no call of the file has failed.
     pub fn refusal(&self) -> Option<Refusal> {
         match self {
-            FileError::Refused(refusal) => Some(*refusal),
+            FileError::Refused(refusal) | FileError::Record { refusal, .. } => Some(*refusal),
             FileError::System(_) => None,
         }
     }
@@ -32,6 +41,7 @@ impl fmt::Display for FileError {
     fn fmt(&self, f: &mut fmt::Formatter<'_>) -> fmt::Result {
         match self {
             FileError::Refused(refusal) => refusal.fmt(f),
+            FileError::Record { refusal, lane, place } => write!(f, "{refusal}: lane {lane}, place {place}"),
             FileError::System(error) => error.fmt(f),
         }
     }
@@ -42,6 +52,16 @@ impl std::error::Error for FileError {}
 impl From<Refusal> for FileError {
     fn from(refusal: Refusal) -> FileError {
         FileError::Refused(refusal)
+    }
+}
+
+impl From<NotOpened> for FileError {
+    fn from(why: NotOpened) -> FileError {
+        let refusal = why.refusal;
+        match why.record {
+            Some((lane, place)) => FileError::Record { refusal, lane, place },
+            None => FileError::Refused(refusal),
+        }
     }
 }
 
@@ -67,6 +87,16 @@ fn lock(file: &File) -> Result<(), FileError> {
     Ok(())
 }
 
+// Closes the gate of an image that the file may have, durably, before anything else of it goes: a system may keep a file's beginning
+// longer than what lies behind it, and a header over zeros would be a heap of zeros.
+fn close_gate(file: &File) -> io::Result<()> {
+    if file.metadata()?.len() == 0 {
+        return Ok(());
+    }
+    file.write_all_at(&[0], 8)?;
+    file.sync_data()
+}
+
 // How many bytes of the file its image has, by its header; or just the header's, where these can't be an image's.
 fn image_size(header: &[u8], size: u64) -> u64 {
     let told = header[24..32].iter().fold(0, |told, byte| told << 8 | u64::from(*byte));
@@ -84,7 +114,8 @@ fn first_bytes(file: &File, count: u64) -> io::Result<Vec<u8>> {
     Ok(bytes)
 }
 
-/// One open has a file's heap at a time: [`open_file`](Heap::open_file) and [`format_file`](Heap::format_file) lock the file (`flock`),
+/// One open has a file's heap at a time: [`open_file`](Heap::open_file), [`upgrade_file`](Heap::upgrade_file) and
+/// [`format_file`](Heap::format_file) lock the file (`flock`),
 /// and answer [`Refusal::Busy`] where another open has locked it. The lock stays, also after another refusal, until the file and its
 /// clones are dropped. A file that has no name any more is busy too: `heapctl` may have replaced it between the caller's opening of it
 /// and this lock, and what went there would be lost. Open it again then.
@@ -93,18 +124,42 @@ impl Heap {
     /// takes memory for 64 bytes where the file begins with no header of an image, and else for the image. The calls of the recovery
     /// are left to [`make_calls`](Heap::make_calls) on the same file.
     pub fn open_file(file: &File) -> Result<(Heap, Found), FileError> {
+        let (heap, report) = Heap::open_file_telling(file)?;
+        Ok((heap, report.found))
+    }
+
+    /// The same as [`upgrade`](Heap::upgrade) does: the file's image has version 2 once [`make_calls`](Heap::make_calls) has made the calls
+    /// that are left to it.
+    pub fn upgrade_file(file: &File) -> Result<(Heap, Found), FileError> {
+        Heap::of_file(file, Heap::upgrade, |refusal| *refusal == Refusal::TooSmall)
+    }
+
+    /// Opens the heap of a file as [`open_file`](Heap::open_file) does, and tells which sections recovery kept and dropped, and why.
+    pub fn open_file_telling(file: &File) -> Result<(Heap, Report), FileError> {
+        Heap::of_file(file, Heap::open_telling, |it| it.refusal == Refusal::TooSmall)
+    }
+
+    // Locks a file, syncs it, and opens the heap of its bytes so.
+    fn of_file<T, E>(
+        file: &File,
+        open: fn(&[u8]) -> Result<T, E>,
+        is_too_small: fn(&E) -> bool,
+    ) -> Result<T, FileError>
+    where
+        FileError: From<E>,
+    {
         lock(file)?;
         // What a process before this one wrote may be in the system's cache alone.
         file.sync_all()?;
         let size = file.metadata()?.len();
         let header = first_bytes(file, size.min(HEADER_BYTES))?;
         // No image is so small: of an image's header alone it is told, and what isn't one is refused by it.
-        match Heap::open(&header) {
-            Err(Refusal::TooSmall) => {}
+        match open(&header) {
+            Err(refusal) if is_too_small(&refusal) => {}
             other => return Ok(other?),
         }
         let image = first_bytes(file, image_size(&header, size))?;
-        Ok(Heap::open(&image)?)
+        Ok(open(&image)?)
     }
 
     /// Locks a file that is open for writing, makes a heap as [`format`](Heap::format) does, and gives the file as many zero bytes as
@@ -113,6 +168,7 @@ impl Heap {
     pub fn format_file(file: &File, objects: u32, fields: &[Field], lanes: u32, capacity: u32) -> Result<(Heap, u64), FileError> {
         lock(file)?;
         let (heap, size) = Heap::format(objects, fields, lanes, capacity)?;
+        close_gate(file)?;
         file.set_len(0)?;
         file.set_len(size)?;
         file.sync_all()?;

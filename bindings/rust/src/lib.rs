@@ -5,25 +5,40 @@
 //! is a [`Closed`], which can only tell the last calls of the device. No call waits but `enter` and `resume`, which try again.
 //!
 //! A heap whose device fails to sync has stopped for good: see [`Device`]. In a file of the system a heap is opened by
-//! [`Heap::open_file`] and made by [`Heap::format_file`], for one process at a time.
+//! [`Heap::open_file`] or, where an older library has made it, [`Heap::upgrade_file`], and made by [`Heap::format_file`], for one process at a time.
 #![deny(unsafe_code)]
 use std::fmt;
 use std::io;
 
 #[cfg(unix)]
 mod file;
+mod pool;
 #[allow(unsafe_code)]
 mod raw;
 mod refusal;
+mod report;
 #[cfg(unix)]
 pub mod service;
 
 #[cfg(unix)]
 pub use file::FileError;
+pub use pool::Pool;
 pub use raw::Found;
 pub use refusal::Refusal;
+pub use report::{Dropped, NotOpened, Report, Why};
 use raw::Owned;
 
+/// The version of the library that is linked: 10,000 times the first number, 100 times the second, and the third.
+///
+/// ```
+/// assert_eq!(zelamiku::library_version(), 100); // this crate's own release
+/// ```
+#[must_use]
+pub fn library_version() -> u32 {
+    raw::version()
+}
+
+#[inline]
 fn answer(status: u32) -> Result<(), Refusal> {
     if status == 0 {
         Ok(())
@@ -201,12 +216,31 @@ impl Heap {
         Ok((Heap::of(handle), size))
     }
 
-    /// Recovers the heap of these bytes, which the device has, durably, and opens it.
+    /// Recovers the heap of these bytes, which the device has, durably, and opens it. [`Refusal::OldVersion`]: an older library made
+    /// it, and [`upgrade`](Heap::upgrade) opens it.
     pub fn open(image: &[u8]) -> Result<(Heap, Found), Refusal> {
         let mut handle = Owned::none();
         let mut found = Found::default();
         answer(handle.open(image, &mut found))?;
         Ok((Heap::of(handle), found))
+    }
+
+    /// Opens the heap of these bytes as [`open`](Heap::open) does, also where their image has version 1, from before there were transient
+    /// fields: once the calls of its recovery are made, which are the first of [`make_calls`](Heap::make_calls), the image has version
+    /// 2, in place, with the same heap. Until then it has version 1, whatever of the calls was made: upgrade it again then. A library
+    /// from before can't open it any more afterwards.
+    pub fn upgrade(image: &[u8]) -> Result<(Heap, Found), Refusal> {
+        let mut handle = Owned::none();
+        let mut found = Found::default();
+        answer(handle.upgrade(image, &mut found))?;
+        Ok((Heap::of(handle), found))
+    }
+
+    /// Recovers the heap of these bytes as [`open`](Heap::open) does, and tells which sections it kept and dropped, and why; or for which
+    /// record it refused.
+    pub fn open_telling(image: &[u8]) -> Result<(Heap, Report), NotOpened> {
+        let (handle, report) = report::open(image)?;
+        Ok((Heap::of(handle), report))
     }
 
     /// Hands out the session of the next lane, from 0 on; [`Refusal::NoneLeft`] once all were.
@@ -279,12 +313,14 @@ pub struct Waiting {
 
 impl Session {
     /// Takes the object's monitor, or one lock more of it.
+    #[inline]
     pub fn try_enter(&mut self, object: u32) -> Result<(), Refusal> {
         answer(self.handle.try_enter(object))
     }
 
     /// Takes the monitor, and backs off while another session has it or the helper is behind: for ever, where that one never gives it
     /// back, or no more rounds are made.
+    #[inline]
     pub fn enter(&mut self, object: u32) -> Result<(), Refusal> {
         self.enter_while(object, || true)
     }
@@ -302,11 +338,13 @@ impl Session {
     }
 
     /// Gives one lock back, and with the last one the monitor.
+    #[inline]
     pub fn exit(&mut self, object: u32) -> Result<(), Refusal> {
         answer(self.handle.exit(object))
     }
 
     /// Loads a field whose guard is held.
+    #[inline]
     pub fn load(&mut self, field: u32) -> Result<u64, Refusal> {
         let mut value = 0;
         answer(self.handle.load(field, &mut value))?;
@@ -314,6 +352,7 @@ impl Session {
     }
 
     /// Stores a field whose guard is held.
+    #[inline]
     pub fn store(&mut self, field: u32, value: u64) -> Result<(), Refusal> {
         answer(self.handle.store(field, value))
     }
@@ -352,10 +391,26 @@ impl Session {
     }
 
     /// How many sections of the lane the last round acknowledged. They are durable once that round's calls are made.
-    pub fn stable(&mut self) -> Result<u64, Refusal> {
+    pub fn round_sections(&mut self) -> Result<u64, Refusal> {
         let mut sections = 0;
-        answer(self.handle.stable(&mut sections))?;
+        answer(self.handle.round_sections(&mut sections))?;
         Ok(sections)
+    }
+
+    /// Takes a slot of the pool, whose object's monitor is held: two records of the section.
+    ///
+    /// [`Refusal::PoolEmpty`]: none is free. [`Refusal::Damaged`]: its fields aren't a pool's. Nothing was stored then.
+    pub fn take(&mut self, pool: Pool) -> Result<u32, Refusal> {
+        let mut slot = raw::NO_SLOT;
+        answer(self.handle.pool_take(pool.head, pool.slots, &mut slot))?;
+        Ok(slot)
+    }
+
+    /// Gives a slot back, which is the next one to be taken then: two records of the section.
+    ///
+    /// [`Refusal::NotTaken`]: it isn't taken, or the pool has no such slot. [`Refusal::Damaged`]. Nothing was stored then.
+    pub fn give(&mut self, pool: Pool, slot: u32) -> Result<(), Refusal> {
+        answer(self.handle.pool_give(pool.head, pool.slots, slot))
     }
 
     /// Ends the session. Exit all monitors first: else its heap can't be closed. One that is dropped doesn't end.

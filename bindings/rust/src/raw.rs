@@ -7,6 +7,8 @@ pub const WRITE: u32 = 1;
 pub const MOST_BYTES: usize = 4096;
 /// The owner of a monitor that is free.
 pub const NOBODY: u32 = 64;
+/// Where no slot was taken.
+pub const NO_SLOT: u32 = u32::MAX;
 
 // For `flock`, the same on each Unix that has it: alone, and without waiting.
 #[cfg(unix)]
@@ -41,7 +43,7 @@ impl Handle {
 }
 
 #[repr(C)]
-#[derive(Clone, Copy)]
+#[derive(Clone, Copy, Default)]
 pub struct Field {
     pub owner: u32,
     pub guard: u32,
@@ -64,6 +66,28 @@ pub struct Found {
     pub dropped: u64,
     /// The fields that took an old value back.
     pub undone: u64,
+}
+
+#[repr(C)]
+#[derive(Default)]
+pub struct Told {
+    pub found: Found,
+    pub kept: [u64; 32],
+    pub bad_place: u64,
+    pub bad_lane: u32,
+}
+
+pub const NOT_ENDED: u32 = 1;
+pub const DEPENDED: u32 = 2;
+
+#[repr(C)]
+#[derive(Clone, Copy, Default)]
+pub struct Dropped {
+    pub section: u64,
+    pub other_section: u64,
+    pub lane: u32,
+    pub why: u32,
+    pub other_lane: u32,
 }
 
 #[repr(C)]
@@ -95,6 +119,15 @@ extern "C" {
         size: *mut u64,
     ) -> u32;
     fn zelamiku_open(heap: *mut Handle, image: *const u8, size: usize, found: *mut Found) -> u32;
+    fn zelamiku_upgrade(heap: *mut Handle, image: *const u8, size: usize, found: *mut Found) -> u32;
+    fn zelamiku_open_telling(
+        heap: *mut Handle,
+        image: *const u8,
+        size: usize,
+        told: *mut Told,
+        dropped: *mut Dropped,
+        count: usize,
+    ) -> u32;
     fn zelamiku_session(heap: *mut Handle, session: *mut Handle) -> u32;
     fn zelamiku_next_call(heap: *mut Handle, call: *mut Call, bytes: *mut u8, size: usize) -> u32;
     fn zelamiku_call_done(heap: *mut Handle) -> u32;
@@ -112,8 +145,12 @@ extern "C" {
     fn zelamiku_notify(session: *mut Handle, object: u32, lane: *mut u32) -> u32;
     fn zelamiku_notify_all(session: *mut Handle, object: u32, lanes: *mut u64) -> u32;
     fn zelamiku_look(session: *mut Handle, object: u32, sight: *mut Sight) -> u32;
-    fn zelamiku_stable(session: *mut Handle, sections: *mut u64) -> u32;
+    fn zelamiku_round_sections(session: *mut Handle, sections: *mut u64) -> u32;
+    fn zelamiku_pool_fields(object: u32, fields: *mut Field, count: usize) -> u32;
+    fn zelamiku_pool_take(session: *mut Handle, head: u32, slots: u32, slot: *mut u32) -> u32;
+    fn zelamiku_pool_give(session: *mut Handle, head: u32, slots: u32, slot: u32) -> u32;
     fn zelamiku_end(session: *mut Handle) -> u32;
+    fn zelamiku_version() -> u32;
 }
 
 /// A handle, whose memory only this value has. What is behind it is let go with it.
@@ -134,7 +171,8 @@ unsafe impl Send for Owned {}
 macro_rules! calls {
     ($($name:ident($($argument:ident: $type:ty),*) = $function:ident;)*) => {
         impl Owned {
-            $(pub fn $name(&mut self, $($argument: $type),*) -> u32 {
+            $(#[inline]
+            pub fn $name(&mut self, $($argument: $type),*) -> u32 {
                 unsafe { $function(&mut self.0, $($argument),*) }
             })*
         }
@@ -156,7 +194,9 @@ calls! {
     notify(object: u32, lane: &mut u32) = zelamiku_notify;
     notify_all(object: u32, lanes: &mut u64) = zelamiku_notify_all;
     look(object: u32, sight: &mut Sight) = zelamiku_look;
-    stable(sections: &mut u64) = zelamiku_stable;
+    round_sections(sections: &mut u64) = zelamiku_round_sections;
+    pool_take(head: u32, slots: u32, slot: &mut u32) = zelamiku_pool_take;
+    pool_give(head: u32, slots: u32, slot: u32) = zelamiku_pool_give;
     end() = zelamiku_end;
 }
 
@@ -173,6 +213,15 @@ impl Owned {
         unsafe { zelamiku_open(&mut self.0, image.as_ptr(), image.len(), found) }
     }
 
+    pub fn upgrade(&mut self, image: &[u8], found: &mut Found) -> u32 {
+        unsafe { zelamiku_upgrade(&mut self.0, image.as_ptr(), image.len(), found) }
+    }
+
+    pub fn open_telling(&mut self, image: &[u8], told: &mut Told, dropped: &mut [Dropped]) -> u32 {
+        let (at, count) = (dropped.as_mut_ptr(), dropped.len());
+        unsafe { zelamiku_open_telling(&mut self.0, image.as_ptr(), image.len(), told, at, count) }
+    }
+
     pub fn session(&mut self, session: &mut Owned) -> u32 {
         unsafe { zelamiku_session(&mut self.0, &mut session.0) }
     }
@@ -180,4 +229,16 @@ impl Owned {
     pub fn next_call(&mut self, call: &mut Call, bytes: &mut [u8]) -> u32 {
         unsafe { zelamiku_next_call(&mut self.0, call, bytes.as_mut_ptr(), bytes.len()) }
     }
+}
+
+/// The fields of a pool, the head's first: one more than it has slots.
+pub fn pool_fields(object: u32, fields: &mut [Field]) -> u32 {
+    // SAFETY: the pointer is that of a slice that is borrowed for the call.
+    unsafe { zelamiku_pool_fields(object, fields.as_mut_ptr(), fields.len()) }
+}
+
+/// The version of the library.
+pub fn version() -> u32 {
+    // SAFETY: the call has no pointers.
+    unsafe { zelamiku_version() }
 }

@@ -34,12 +34,12 @@ macro_rules! refusals {
 }
 
 refusals! {
-    1 Closed "nothing is behind the handle"
+    1 Nothing "nothing is behind the handle"
     2 Open "the handle to be opened has something behind it"
     3 WrongKind "the handle is of the wrong kind"
     4 NoMemory "there was no memory"
     5 Waiting "the session waits for a monitor"
-    6 NoneLeft "no session or call is left, or the heap is closed"
+    6 NoneLeft "no session or call is left"
     7 CallsLeft "the host has yet to make calls of the device"
     8 BadLane "there is no such lane"
     9 Running "a session of the heap hasn't ended"
@@ -67,6 +67,10 @@ refusals! {
     31 IllegalLog "no threads can have left the image's log"
     34 Busy "another process has the heap of the file, or the file was replaced or removed"
     35 Stopped "the heap has stopped since its host couldn't make a sync"
+    36 PoolEmpty "no slot of the pool is free"
+    37 NotTaken "the slot isn't taken, or the pool has no such slot"
+    38 Damaged "a field of the pool names no slot"
+    39 Closed "the heap was closed"
     40 OldVersion "the image has a version from before there were transient fields"
 }
 

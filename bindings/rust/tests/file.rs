@@ -86,3 +86,43 @@ fn a_large_file_takes_the_memory_of_its_image() {
     assert!(Heap::open_file(&file).is_ok());
     fs::remove_file(&path).unwrap();
 }
+
+// Where the two controls begin in an image, by their gates, and the last byte of their version behind each.
+const SLOTS: [usize; 2] = [64, 1112];
+const VERSION_BYTE: usize = 19;
+
+#[test]
+fn an_old_heap_is_upgraded_in_place() {
+    let path = path_for("old");
+    let mut file = open(&path);
+    let mut heap = make(&mut file);
+    let mut session = heap.session().unwrap();
+    session.enter(0).unwrap();
+    session.store(0, 7).unwrap();
+    session.exit(0).unwrap();
+    heap.round().unwrap();
+    heap.make_calls(&mut file).unwrap();
+    drop((heap, session, file));
+    let mut bytes = fs::read(&path).unwrap();
+    for slot in SLOTS.into_iter().filter(|slot| bytes[*slot] == 0xa5).collect::<Vec<_>>() {
+        bytes[slot + VERSION_BYTE] = 1;
+    }
+    fs::write(&path, &bytes).unwrap();
+    let mut file = open(&path);
+    assert_eq!(refusal(Heap::open_file(&file)), Some(Refusal::OldVersion));
+    assert_eq!(fs::read(&path).unwrap(), bytes);
+    // Until its calls are made the image has version 1 still.
+    drop(Heap::upgrade_file(&file).unwrap());
+    assert_eq!(refusal(Heap::open_file(&file)), Some(Refusal::OldVersion));
+    let (mut heap, found) = Heap::upgrade_file(&file).unwrap();
+    assert_eq!((found.objects, found.fields, found.lanes), (1, 1, 1));
+    heap.make_calls(&mut file).unwrap();
+    drop((heap, file));
+    let mut file = open(&path);
+    let (mut heap, _) = Heap::open_file(&file).unwrap();
+    heap.make_calls(&mut file).unwrap();
+    let mut session = heap.session().unwrap();
+    session.enter(0).unwrap();
+    assert_eq!(session.load(0), Ok(7));
+    fs::remove_file(&path).unwrap();
+}

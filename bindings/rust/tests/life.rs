@@ -41,7 +41,7 @@ fn what_is_acknowledged_is_found_again() {
     assert_eq!(heap.acknowledged(0), Err(Refusal::CallsLeft));
     heap.make_calls(&mut device).unwrap();
     assert_eq!(heap.acknowledged(0), Ok(1));
-    assert_eq!(session.stable(), Ok(1));
+    assert_eq!(session.round_sections(), Ok(1));
     drop((heap, session));
     let (mut heap, found) = Heap::open(&device.0).unwrap();
     assert_eq!((found.objects, found.fields, found.lanes), (2, 2, 2));

@@ -1,4 +1,4 @@
-//! One table of statuses stands in the library, in zelamiku.h and in this crate: that they say the same.
+//! One table of statuses stands in the library, in zelamiku.h and in this crate, and so do limits and numbers: that they say the same.
 use std::collections::BTreeMap;
 use std::fs;
 use std::path::Path;
@@ -84,7 +84,7 @@ fn the_library_and_the_header_have_the_same_numbers() {
             .lines()
             .find(|line| line.contains(&format!("ZELAMIKU_{name} = {number}")))
             .unwrap();
-        assert!(line.contains("of zelamiku_file.h alone"), "{line}");
+        assert!(line.contains("of zelamiku_file.h"), "{line}");
     }
 }
 
@@ -113,4 +113,52 @@ fn the_header_and_this_crate_have_the_same_names_and_texts() {
             }
         }
     }
+}
+
+// Of the header: `#define ZELAMIKU_NAME NUMBER`.
+fn header_number(name: &str) -> u64 {
+    let header = read("../c/zelamiku.h");
+    let start = format!("#define ZELAMIKU_{name} ");
+    let rest = header.lines().find_map(|line| line.strip_prefix(&start));
+    let rest = rest.unwrap_or_else(|| panic!("{name} isn't in the header"));
+    let end = rest.find(|c: char| !c.is_ascii_digit()).unwrap_or(rest.len());
+    rest[..end].parse().unwrap()
+}
+
+// Of the library: `pub const NAME: TYPE = NUMBER;`.
+fn library_number(path: &str, name: &str) -> u64 {
+    let source = read(&format!("../../crates/{path}"));
+    let start = format!("pub const {name}: ");
+    let rest = source.lines().find_map(|line| line.strip_prefix(&start));
+    let number = rest.and_then(|rest| rest.split_once(" = ")).unwrap().1.trim_end_matches(';');
+    match number {
+        "u32::MAX" => u32::MAX.into(),
+        digits => digits.replace('_', "").parse().unwrap(),
+    }
+}
+
+#[test]
+fn the_header_has_the_limits_and_numbers_of_the_library() {
+    let numbers = [
+        ("MOST_LANES", "heap_model/src/limits.rt", "LANES"),
+        ("MOST_OBJECTS", "heap_model/src/limits.rt", "MOST_OBJECTS"),
+        ("MOST_FIELDS", "heap_model/src/limits.rt", "MOST_FIELDS"),
+        ("LEAST_CAPACITY", "heap_model/src/limits.rt", "LEAST_CAPACITY"),
+        ("MOST_CAPACITY", "heap_model/src/limits.rt", "MOST_CAPACITY"),
+        ("MOST_RECORDS", "heap_model/src/limits.rt", "SECTION_RECORDS"),
+        ("MOST_HELD", "session/src/limits.rt", "MOST_HELD"),
+        ("MOST_LOCKS", "session/src/limits.rt", "FAT_LOCKS"),
+        ("MOST_THIN_LOCKS", "session/src/limits.rt", "THIN_LOCKS"),
+        ("MOST_FAT", "lock_word/src/lock_word.rt", "FAT_SLOTS"),
+        ("MOST_BYTES", "deferred_disk/src/call.rt", "MOST_BYTES"),
+        ("MOST_SLOTS", "pool/src/pool.rt", "MOST_SLOTS"),
+        ("NO_SLOT", "zelamiku/src/pool_calls.rt", "NO_SLOT"),
+        ("NOBODY", "zelamiku/src/session_calls.rt", "NOBODY"),
+        ("VERSION_NUMBER", "zelamiku/src/version.rt", "VERSION"),
+    ];
+    for (name, path, constant) in numbers {
+        assert_eq!(header_number(name), library_number(path, constant), "{name}");
+    }
+    // And the library that is linked is this header's.
+    assert_eq!(u64::from(zelamiku::library_version()), header_number("VERSION_NUMBER"));
 }

@@ -1,7 +1,7 @@
+mod Begun
 mod Closings
 mod Ends
 mod Fits
 mod Later
 mod Makings
 mod Orders
-mod Rounds

@@ -10,8 +10,9 @@ use Rattle.heap_model.specs.declared.limits.TheConstants.{LAST_NUMBER}
 use Rattle.image.specs.Recovered.{Parts}
 use Rattle.image.specs.declared.error.ImageError.TheVariants as images
 use Rattle.image.specs.declared.guard_row.GuardRow.{GuardRow}
-use Rattle.recover.specs.Recovery.{IsRecovery, RefusesRecovery}
+use Rattle.recover.specs.Recovery.{IsRecovery, IsTooOld, RefusesOf}
 use Rattle.recover.specs.declared.report.Report.{Report}
+use Rattle.recover.specs.declared.versions.Versions.{Versions}
 use Rattle.steps.specs.Views.{plan}
 use Rattle.store_image.specs.Formatting.{AreLimits, layout_with}
 use Rattle.store_past.specs.Past.{no_past}
@@ -42,8 +43,9 @@ pub record IsMade (objects : ℕ) (rows : List GuardRow) (lanes capacity : ℕ) 
   pub values : (f : ℕ) (d : GuardRow) → f < made.layout.fields → slice_index made.heap f ≡ (slice_index_or rows f d).first
   pub begun : HasBegun (numbered objects rows) made x
 
--- It runs with what recovery finds in these bytes, which it reports.
-pub record IsFound (bytes : List ℕ) (x : Hosting) (report : Report) : Type 0 where
+-- It runs with what recovery finds in these bytes, an image of one of these versions, which it reports.
+pub record IsFound (versions : Versions) (bytes : List ℕ) (x : Hosting) (report : Report) : Type 0 where
+  pub taken : IsTooOld versions bytes → ⊥
   pub found : Parts Deferred
   pub recovery : IsRecovery (device_of (fresh bytes)) (hosted_device found.disk) found report
   pub begun : HasBegun (numbered found.layout.objects found.guards) found x
@@ -57,9 +59,9 @@ RefusesMaking objects rows lanes capacity (Image images.NoMemory) = AreLimits la
 RefusesMaking objects rows lanes capacity (Image images.Fault) = AreLimits lanes capacity
 RefusesMaking objects rows lanes capacity _ = ⊥
 
--- why none is opened
-abbrev pub RefusesOpening : (bytes : List ℕ) → HostError → Type 0
-RefusesOpening bytes NoMemory = Unit {0}
-RefusesOpening bytes (Recover e) = RefusesRecovery bytes e
-RefusesOpening bytes (Schema e) = e ≡ schemas.NoMemory
-RefusesOpening bytes (Image e) = ⊥
+-- why none is opened, where these versions are taken
+abbrev pub RefusesOpening : Versions → (bytes : List ℕ) → HostError → Type 0
+RefusesOpening versions bytes NoMemory = Unit {0}
+RefusesOpening versions bytes (Recover e) = RefusesOf versions bytes e
+RefusesOpening versions bytes (Schema e) = e ≡ schemas.NoMemory
+RefusesOpening versions bytes (Image e) = ⊥

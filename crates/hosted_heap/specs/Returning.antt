@@ -4,7 +4,7 @@ use Rattle.monitor.specs.Seats.{Sitting}
 use Rattle.session.specs.declared.session.Session.{Session}
 use Rattle.session.specs.declared.waiting.Waiting.{Waiting}
 use Rattle.steps.specs.Views.{IsReady}
-use Rattle.session.specs.Sessions.{SameRing, SameRingWaiting, seat_of}
+use Rattle.session.specs.Sessions.{SameRing, SameRingWaiting, seat_of, seat_waiting}
 
 -- both seats are of one heap, and the second is between two steps
 abbrev pub IsBeside : Sitting → Sitting → Type 0
@@ -16,7 +16,7 @@ IsLater s x = IsBeside (seat_of s) (seat_of x) × SameRing s x
 
 -- it is the same session, while it waits
 abbrev pub IsLaterWaiting : Session → Waiting → Type 0
-IsLaterWaiting s w = IsBeside (seat_of s) w.seat × SameRingWaiting s w
+IsLaterWaiting s w = IsBeside (seat_of s) (seat_waiting w) × SameRingWaiting s w
 
 -- a session may follow these only as the first of them after some calls
 abbrev pub MayReturn : List Session → Session → Type 0

@@ -1,11 +1,40 @@
--- Why a round isn't answered Ok (this project's own).
-use Rattle.std.specs.Prelude.{ℕ, Result, Ok, Err}
+-- What a round of a hosted heap makes of it (this project's own).
+use Rattle.std.specs.Prelude.{ℕ, ◌≡◌, ◌+◌, ◌<◌, ◌↔◌, Result, Ok, Err, IsErrOf, length}
+use Rattle.deferred_disk.specs.Host.{HasLooked}
+use Rattle.deferred_disk.specs.declared.disk.TheConstants.{SYNCS}
+use Rattle.rtrb.specs.Ring.{known_items}
+use Rattle.steps.specs.Views.{plan}
+use Rattle.store_past.specs.Past.{Past}
+use Rattle.store_past.specs.declared.error.StoreError.{StoreError}
+use Rattle.trim_helper.specs.Calls.{Rounds}
+use Rattle.trim_helper.specs.Parts.{IsServing}
+use Rattle.hosted_heap.specs.Hosting.{Hosting, SameHeap, hosted_device}
 use Rattle.hosted_heap.specs.declared.error.RoundError.{RoundError}
 use Rattle.hosted_heap.specs.declared.error.RoundError.TheVariants.{CallsLeft, Store}
-use Rattle.store_past.specs.declared.error.StoreError.{StoreError}
+use Rattle.hosted_heap.specs.declared.room.TheConstants.{ROUND_SYNCS}
 
--- the round was begun, and stopped for a reason of which this holds
-abbrev pub IfStopped : Result ℕ RoundError → (StoreError → Type 0) → Type 0
-IfStopped (Ok applied) is = Unit {0}
-IfStopped (Err CallsLeft) is = Unit {0}
-IfStopped (Err (Store e)) is = is e
+-- the round was begun, and this holds of what the helper answered
+abbrev pub IfBegun : Result ℕ RoundError → (Result ℕ StoreError → Type 0) → Type 0
+IfBegun (Ok applied) is = is (Ok applied)
+IfBegun (Err CallsLeft) is = Unit {0}
+IfBegun (Err (Store e)) is = is (Err e)
+
+-- a round of its helper, which answers this
+abbrev pub MakesRound : Hosting → Hosting → Result ℕ StoreError → Type 0
+MakesRound x y answer = (p : Past) → IsServing hosted_device x.helper (plan x.home) p → Rounds hosted_device (plan x.home) p x.helper y.helper answer
+
+-- A call of the helper leaves the rest of the heap as it was.
+pub record KeepsSessions (x y : Hosting) : Type 0 where
+  pub home : y.home ≡ x.home
+  pub unused : y.unused ≡ x.unused
+  pub out : y.out ≡ x.out
+  pub stop : y.stop ≡ x.stop
+  pub layout : y.helper.store.known.layout ≡ x.helper.store.known.layout
+
+-- A round of the heap: there is no room to hand its syncs over, and nothing was done, or its helper makes one.
+pub record HasRound (x y : Hosting) (answer : Result ℕ RoundError) : Type 0 where
+  pub calls_left : IsErrOf answer CallsLeft ↔ (SYNCS < length (known_items y.calls.ring) + ROUND_SYNCS)
+  pub nothing : IsErrOf answer CallsLeft → SameHeap x y
+  pub rounds : IfBegun answer (MakesRound x y)
+  pub kept : KeepsSessions x y
+  pub calls : HasLooked x.calls y.calls

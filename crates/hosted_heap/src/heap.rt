@@ -50,19 +50,15 @@ impl Model for HostedHeap {
 }
 
 impl HostedHeap {
-    ghost use Rattle.std.specs.Prelude.{◌≡◌, ◌≢◌, ◌<◌, ◌≤◌, ◌+◌, ◌↔◌, [], ◌∷◌, ℕ, List, None, Some, IsSome, Err, true, false, length, IfErr, IfOk, IfSome, IsErrOf, OnErr, OnOk, MatchOption};
-    ghost use Rattle.block_disk.specs.Device.{HasCause, HasFailed};
+    ghost use Rattle.std.specs.Prelude.{◌≡◌, ◌≢◌, ◌<◌, ◌≤◌, ◌+◌, ◌↔◌, [], ◌∷◌, List, None, Some, IsSome, Err, true, false, length, IfOk, IfSome, IsErrOf, OnOk, MatchOption};
     ghost use Rattle.deferred_disk.specs.Deferred.{stop_of};
     ghost use Rattle.deferred_disk.specs.Host.{Fetches, HasLooked};
     ghost use Rattle.deferred_disk.specs.declared.call.DeviceCall.{DeviceCall};
     ghost use Rattle.deferred_disk.specs.declared.disk.TheConstants.{SYNCS};
     ghost use Rattle.rtrb.specs.Ring.{known_items};
     ghost use Rattle.session.specs.Sessions.{view_of};
-    ghost use Rattle.hosted_heap.specs.Rounds.{IfStopped};
-    ghost use Rattle.hosted_heap.specs.declared.error.RoundError.TheVariants as rounds;
-    ghost use Rattle.hosted_heap.specs.declared.room.TheConstants.{ROUND_SYNCS};
+    ghost use Rattle.hosted_heap.specs.Rounds.{HasRound, KeepsSessions, MakesRound};
     ghost use Rattle.hosted_heap.specs.declared.lane_end.LaneEnd.{LaneEnd};
-    ghost use Rattle.trim_helper.specs.Rings.{known_of, waiting_in};
     ghost use Rattle.hosted_heap.specs.Hosting.{SameHeap, hosted_device};
     ghost use Rattle.hosted_heap.specs.Failing.{HasTold, failed_call};
     ghost use Rattle.hosted_heap.specs.declared.error.FailedCall.TheVariants as FailedCalls;
@@ -70,9 +66,7 @@ impl HostedHeap {
     ghost use Rattle.image.specs.Layout.{size_of};
     ghost use Rattle.steps.specs.Views.{plan};
     ghost use Rattle.store_past.specs.Past.{Past};
-    ghost use Rattle.store_past.specs.declared.error.StoreError.TheVariants.{Fault};
-    ghost use Rattle.trim_helper.specs.Parts.{HasServed, IsServing};
-    ghost use Rattle.trim_helper.specs.Settled.{IsStop, IsWhy};
+    ghost use Rattle.trim_helper.specs.Parts.{IsServing};
 
     /// The layout of its image.
     pub fn layout(&self) -> Layout
@@ -156,25 +150,7 @@ impl HostedHeap {
     /// - `Store`: as by [`Helper::round`]. A `Fault` is want of memory; from then on each round answers `Failed`, and the heap has to be
     ///   opened again.
     pub fn round(&mut self) -> Result<u64, RoundError>
-        ensures calls_left { IsErrOf result rounds.CallsLeft ↔ (SYNCS < length (known_items self.new.calls.ring) + ROUND_SYNCS) }
-        ensures nothing { IsErrOf result rounds.CallsLeft → SameHeap self.old self.new }
-        ensures ok { (p : Past) → IsServing hosted_device self.old.helper (plan self.old.home) p
-            → IfOk result (λ n. HasServed hosted_device self.old.helper self.new.helper (plan self.old.home) p n) }
-        ensures emptied { OnOk result ((l : ℕ) → l < length self.new.helper.rings → waiting_in self.new.helper.waiting l ≡ None → known_of self.new.helper.rings l ≡ []) }
-        ensures settled { OnOk result (self.new.helper.is_settled ≡ true) }
-        ensures quiet { self.old.helper.is_settled ≡ true → IfOk result (λ n. n ≡ 0 → hosted_device self.new.helper.store.disk ≡ hosted_device self.old.helper.store.disk) }
-        ensures stop { IfStopped result IsStop }
-        ensures why { IfStopped result (λ e. IsWhy self.old.helper.store.known self.new.helper.store.known e) }
-        ensures err { (p : Past) → IsServing hosted_device self.old.helper (plan self.old.home) p
-            → IfStopped result (λ e. (n : ℕ) × HasServed hosted_device self.old.helper self.new.helper (plan self.old.home) p n) }
-        ensures unsettled { IfStopped result (λ e. self.new.helper.is_settled ≡ false) }
-        ensures cause { IfStopped result (λ e. e ≡ Fault → HasFailed (hosted_device self.old.helper.store.disk).failures (hosted_device self.new.helper.store.disk).failures) }
-        ensures later { (hosted_device self.old.helper.store.disk).failures ≤ (hosted_device self.new.helper.store.disk).failures }
-        ensures layout { self.new.helper.store.known.layout ≡ self.old.helper.store.known.layout }
-        ensures home { self.new.home ≡ self.old.home }
-        ensures sessions { (self.new.unused ≡ self.old.unused) × (self.new.out ≡ self.old.out) }
-        ensures stopper { self.new.stop ≡ self.old.stop }
-        ensures calls { HasLooked self.old.calls self.new.calls }
+        ensures round { HasRound self.old self.new result }
     {
         if !self.has_room(ROUND_SYNCS) {
             return Err(RoundError::CallsLeft);
@@ -197,21 +173,8 @@ impl HostedHeap {
 
     // The round of the helper.
     fn serve(&mut self) -> Result<u64, StoreError>
-        ensures ok { (p : Past) → IsServing hosted_device self.old.helper (plan self.old.home) p
-            → IfOk result (λ n. HasServed hosted_device self.old.helper self.new.helper (plan self.old.home) p n) }
-        ensures err { (p : Past) → IsServing hosted_device self.old.helper (plan self.old.home) p
-            → OnErr result ((n : ℕ) × HasServed hosted_device self.old.helper self.new.helper (plan self.old.home) p n) }
-        ensures emptied { OnOk result ((l : ℕ) → l < length self.new.helper.rings → waiting_in self.new.helper.waiting l ≡ None → known_of self.new.helper.rings l ≡ []) }
-        ensures settled { OnOk result (self.new.helper.is_settled ≡ true) }
-        ensures quiet { self.old.helper.is_settled ≡ true → IfOk result (λ n. n ≡ 0 → hosted_device self.new.helper.store.disk ≡ hosted_device self.old.helper.store.disk) }
-        ensures unsettled { OnErr result (self.new.helper.is_settled ≡ false) }
-        ensures stop { IfErr result IsStop }
-        ensures why { IfErr result (λ e. IsWhy self.old.helper.store.known self.new.helper.store.known e) }
-        ensures cause { HasCause (hosted_device self.old.helper.store.disk).failures (hosted_device self.new.helper.store.disk).failures Fault result }
-        ensures layout { self.new.helper.store.known.layout ≡ self.old.helper.store.known.layout }
-        ensures home { self.new.home ≡ self.old.home }
-        ensures sessions { (self.new.unused ≡ self.old.unused) × (self.new.out ≡ self.old.out) }
-        ensures stopper { self.new.stop ≡ self.old.stop }
+        ensures serves { MakesRound self.old self.new result }
+        ensures kept { KeepsSessions self.old self.new }
         ensures calls { self.new.calls ≡ self.old.calls }
     {
         joined_law();

@@ -12,6 +12,7 @@ mod error;
 mod heap;
 mod lane_end;
 mod opening;
+mod pools;
 mod returned;
 mod returning;
 mod room;

@@ -13,7 +13,7 @@ use guards::Schema;
 use heap_model::LAST_NUMBER;
 use image::{GuardRow, ImageError, Layout, Recovered};
 use numbered_schema::declare;
-use recover::{Report, recover};
+use recover::{Report, Versions, recover_of};
 use running_heap::RunningHeap;
 use std::alloc::{AllocError, Global};
 use std::sync::Arc;
@@ -55,19 +55,23 @@ pub fn format(
     }
 }
 
-/// Opens the heap of the image that the host's device has, durably; these are its bytes, all of them. It is recovered first, in
-/// memory: the calls of that are the first that the host makes.
+/// Opens the heap of the image that the host's device has, durably, if it is of one of these versions; these are its bytes, all of
+/// them. It is recovered first, in memory, and so is of the current version: the calls of that are the first that the host makes.
 ///
-/// Refusals, in this order: `NoMemory` for the bytes; `Recover`, as [`recover`](recover::recover) refuses; `Schema` and `NoMemory`,
-/// for want of memory.
-pub fn open(alloc: Global, bytes: &[u8]) -> Result<(HostedHeap, Report), HostError>
-    ensures ok { IfOk result (λ r. IsFound bytes.now r.0 r.1) }
-    ensures refused { IfErr result (RefusesOpening bytes.now) }
+/// Refusals, in this order: `NoMemory` for the bytes; `Recover`, as [`recover_of`](recover::recover_of) refuses; `Schema` and
+/// `NoMemory`, for want of memory.
+pub fn open(
+    alloc: Global,
+    bytes: &[u8],
+    versions: Versions,
+) -> Result<(HostedHeap, Report), HostError>
+    ensures ok { IfOk result (λ r. IsFound versions bytes.now r.0 r.1) }
+    ensures refused { IfErr result (RefusesOpening versions bytes.now) }
 {
     let Ok((disk, calls)) = DeferredDisk::from_bytes(alloc, bytes) else {
         return Err(HostError::NoMemory);
     };
-    let (recovered, report) = match recover(alloc, disk) {
+    let (recovered, report) = match recover_of(alloc, disk, versions) {
         Ok(found) => found,
         Err((_disk, refusal)) => return Err(HostError::Recover(refusal)),
     };

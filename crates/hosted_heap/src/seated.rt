@@ -47,17 +47,16 @@ impl Model for HostedSession {
 }
 
 impl HostedSession {
-    ghost use Rattle.std.specs.Prelude.{◌≡◌, [], ◌∷◌, ◌++◌, IsSome, MatchResult, true};
+    ghost use Rattle.std.specs.Prelude.{◌≡◌, [], ◌∷◌, ◌++◌, IsSome, true};
     ghost use Rattle.std.specs.Option.{is_some};
-    ghost use Rattle.hosted_heap.specs.Sessions.{inner_wait};
-    ghost use Rattle.session.specs.Calls.{AsksToWait, Enters, Exits, IsQuiet, Loads, Looks, Notifies, NotifiesAll, StoresAs};
-    ghost use Rattle.session.specs.Sessions.{view_of};
+    ghost use Rattle.hosted_heap.specs.Sessions.{HasLookedAt, SamePlace, SamePlaceWait, inner_wait};
+    ghost use Rattle.session.specs.Calls.{AsksToWait, Enters, Exits, Loads, Looks, Notifies, NotifiesAll, ReadsStable, StoresAs};
 
-    /// Looks whether the heap has stopped since its host couldn't make a sync ([`HostedHeap::call_failed`](crate::HostedHeap::call_failed)).
-    /// Nothing that the session does from then on is made durable; once it is so, it stays so.
+    /// Looks whether the heap has stopped since its host couldn't make a sync
+    /// ([`HostedHeap::call_failed`](crate::HostedHeap::call_failed)). Nothing that the session does from then on is made durable;
+    /// once it is so, it stays so.
     pub fn is_stopped(&mut self) -> bool
-        ensures same { (self.new.home ≡ self.old.home) × (self.new.session ≡ self.old.session) × (self.new.before ≡ self.old.before) }
-        ensures word { self.new.stop.word ≡ self.old.stop.word }
+        ensures looked { HasLookedAt self.old self.new }
         ensures seen { result ≡ is_some self.new.stop.seen }
         ensures again { IsSome self.old.stop.seen → result ≡ true }
     {
@@ -66,8 +65,7 @@ impl HostedSession {
 
     /// Takes the monitor, or one lock more of it ([`Session::try_enter`]).
     pub fn try_enter(&mut self, object: ObjectId) -> Result<(), SessionError>
-        ensures home { self.new.home ≡ self.old.home }
-        ensures word { self.new.stop.word ≡ self.old.stop.word }
+        ensures heap { SamePlace self.old self.new }
         ensures told { Enters self.old.home self.old.session self.new.session object result }
     {
         self.session.try_enter(&self.shared, object)
@@ -75,8 +73,7 @@ impl HostedSession {
 
     /// Gives one lock back, and with the last one the monitor ([`Session::exit`]).
     pub fn exit(&mut self, object: ObjectId) -> Result<(), SessionError>
-        ensures home { self.new.home ≡ self.old.home }
-        ensures word { self.new.stop.word ≡ self.old.stop.word }
+        ensures heap { SamePlace self.old self.new }
         ensures told { Exits self.old.home self.old.session self.new.session object result }
     {
         self.session.exit(&self.shared, object)
@@ -84,8 +81,7 @@ impl HostedSession {
 
     /// Loads a field ([`Session::load`]).
     pub fn load(&mut self, field: FieldId) -> Result<u64, SessionError>
-        ensures home { self.new.home ≡ self.old.home }
-        ensures word { self.new.stop.word ≡ self.old.stop.word }
+        ensures heap { SamePlace self.old self.new }
         ensures told { Loads self.old.home self.old.session self.new.session field result }
     {
         self.session.load(&self.shared, field)
@@ -93,8 +89,7 @@ impl HostedSession {
 
     /// Stores a field ([`Session::store`]).
     pub fn store(&mut self, field: FieldId, value: u64) -> Result<(), SessionError>
-        ensures home { self.new.home ≡ self.old.home }
-        ensures word { self.new.stop.word ≡ self.old.stop.word }
+        ensures heap { SamePlace self.old self.new }
         ensures told { StoresAs self.old.home self.old.session self.new.session field value result }
     {
         self.session.store(&self.shared, field, value)
@@ -102,8 +97,7 @@ impl HostedSession {
 
     /// Takes one lane out of the monitor's wait set ([`Session::notify`]).
     pub fn notify(&mut self, object: ObjectId) -> Result<Option<Lane>, SessionError>
-        ensures home { self.new.home ≡ self.old.home }
-        ensures word { self.new.stop.word ≡ self.old.stop.word }
+        ensures heap { SamePlace self.old self.new }
         ensures told { Notifies self.old.home self.old.session self.new.session object result }
     {
         self.session.notify(&self.shared, object)
@@ -111,8 +105,7 @@ impl HostedSession {
 
     /// Takes all lanes out of the monitor's wait set ([`Session::notify_all`]).
     pub fn notify_all(&mut self, object: ObjectId) -> Result<WaitMask, SessionError>
-        ensures home { self.new.home ≡ self.old.home }
-        ensures word { self.new.stop.word ≡ self.old.stop.word }
+        ensures heap { SamePlace self.old self.new }
         ensures told { NotifiesAll self.old.home self.old.session self.new.session object result }
     {
         self.session.notify_all(&self.shared, object)
@@ -120,8 +113,7 @@ impl HostedSession {
 
     /// What the monitor's words say ([`Session::look`]).
     pub fn look(&mut self, object: ObjectId) -> Result<(LockWord, Option<FatWord>), SessionError>
-        ensures home { self.new.home ≡ self.old.home }
-        ensures word { self.new.stop.word ≡ self.old.stop.word }
+        ensures heap { SamePlace self.old self.new }
         ensures told { Looks self.old.home self.old.session self.new.session object result }
     {
         self.session.look(&self.shared, object)
@@ -130,10 +122,8 @@ impl HostedSession {
     /// How many sections of the lane the helper's last round acknowledged ([`Session::stable`]). They are on the host's device once
     /// the host has made the calls of that round.
     pub fn stable(&mut self) -> u64
-        ensures home { self.new.home ≡ self.old.home }
-        ensures word { self.new.stop.word ≡ self.old.stop.word }
-        ensures quiet { IsQuiet (view_of self.old.session) (view_of self.new.session) }
-        ensures read { (view_of self.new.session).stable ≡ result }
+        ensures heap { SamePlace self.old self.new }
+        ensures told { ReadsStable self.old.session self.new.session result }
     {
         self.session.stable(&self.shared)
     }
@@ -143,8 +133,7 @@ impl HostedSession {
         self,
         object: ObjectId,
     ) -> Result<HostedWaiting, (HostedSession, SessionError)>
-        ensures home { MatchResult result (λ w. w.home ≡ self.home) (λ e. e.0.home ≡ self.home) }
-        ensures word { MatchResult result (λ w. w.stop.word ≡ self.stop.word) (λ e. e.0.stop.word ≡ self.stop.word) }
+        ensures heap { SamePlaceWait self result }
         ensures told { AsksToWait self.home self.session object (inner_wait result) }
     {
         let HostedSession {

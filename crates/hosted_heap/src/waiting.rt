@@ -38,15 +38,14 @@ impl Model for HostedWaiting {
 }
 
 impl HostedWaiting {
-    ghost use Rattle.std.specs.Prelude.{◌≡◌, IsSome, MatchResult, true};
+    ghost use Rattle.std.specs.Prelude.{◌≡◌, IsSome, true};
     ghost use Rattle.std.specs.Option.{is_some};
     ghost use Rattle.session.specs.Calls.{AsksToResume};
-    ghost use Rattle.hosted_heap.specs.Sessions.{inner_resume};
+    ghost use Rattle.hosted_heap.specs.Sessions.{HasLookedWaiting, SamePlaceResume, inner_resume};
 
     /// Looks whether the heap has stopped ([`HostedSession::is_stopped`]).
     pub fn is_stopped(&mut self) -> bool
-        ensures same { (self.new.home ≡ self.old.home) × (self.new.waiting ≡ self.old.waiting) × (self.new.before ≡ self.old.before) }
-        ensures word { self.new.stop.word ≡ self.old.stop.word }
+        ensures looked { HasLookedWaiting self.old self.new }
         ensures seen { result ≡ is_some self.new.stop.seen }
         ensures again { IsSome self.old.stop.seen → result ≡ true }
     {
@@ -55,8 +54,7 @@ impl HostedWaiting {
 
     /// Takes the monitor again, if the thread was removed from its wait set and the monitor is free ([`Waiting::try_resume`]).
     pub fn try_resume(self) -> Result<HostedSession, (HostedWaiting, Still)>
-        ensures home { MatchResult result (λ s. s.home ≡ self.home) (λ e. e.0.home ≡ self.home) }
-        ensures word { MatchResult result (λ s. s.stop.word ≡ self.stop.word) (λ e. e.0.stop.word ≡ self.stop.word) }
+        ensures heap { SamePlaceResume self result }
         ensures told { AsksToResume self.waiting (inner_resume result) }
     {
         let HostedWaiting {

@@ -6,6 +6,7 @@ use deferred_disk::HostCalls;
 use heap_model::{FieldId, ObjectId};
 use hosted_heap::{AcknowledgedError, Closed, HostedHeap, HostedSession, format, open};
 use image::GuardRow;
+use recover::Versions;
 use std::alloc::Global;
 
 // One object for each of two fields, the second of which nobody stores.
@@ -142,7 +143,7 @@ fn made(alloc: Global) -> Option<(Host, Life)> {
 
 // The life of a heap that is opened on what that left.
 fn opened(alloc: Global, host: &mut Host) -> Option<Life> {
-    match open(alloc, &host.device.written) {
+    match open(alloc, &host.device.written, Versions::Current) {
         Ok((heap, _report)) => Some(live(alloc, heap, host)),
         Err(_) => None,
     }

@@ -8,6 +8,7 @@ use Rattle.guards.specs.Schema.{Field, Declarations, object_count, field_count, 
 use Rattle.pool.specs.Knowledge.{Values}
 use Rattle.pool.specs.FreeList.{Place, cell_of, Spells, IsNoneOf, AreDistinct, IsFreeList}
 use Rattle.pool.specs.LaidOut.{head_name, slot_name, first_link, cell_field, with_slots, with_head, with_part, first_values}
+use Rattle.pool.specs.Numbered.{FreeLaw}
 use Rattle.pool.proofs.DeclaringLemmas.{more_fields}
 
 -- what stands in a list, and what is put behind it
@@ -94,5 +95,16 @@ first_list d name n some =
     let head : known (field_count d) ≡ Some 1 = kept_by_slots h name o n n (field_count d) 1 (first_last before (cell_field (head_name name) o 1) (field_count d) refl) in
     let links : (s : ℕ) → s < n → known (cell_of p s) ≡ Some (link_to n (s + 1)) = (λ s low. ap (λ (i : ℕ). known (i + s)) (sym count) ∙ slot_begins h name o n n s low ∙ ap Some (link_behind n s)) in record {
       spelled = spelled_from p known links (known (field_count d)) 0 n (omega arith) (head ∙ ap Some (sym (link_to_slot n 0 some)));
+      distinct = distinct_from 0 n;
+    }
+
+-- and so are those of a pool whose fields a host has declared
+pub free_list : FreeLaw
+free_list p known some firsts =
+    let n = p.slots in
+    let head : known p.head ≡ Some 1 = ap known (let e : p.head ≡ p.head + 0 = omega arith in e) ∙ firsts 0 (omega arith) in
+    let links : (s : ℕ) → s < n → known (cell_of p s) ≡ Some (link_to n (s + 1)) =
+    (λ s low. ap known (let e : p.head + 1 + s ≡ p.head + suc s = omega arith in e) ∙ firsts (suc s) (omega arith) ∙ ap Some (link_behind n s)) in record {
+      spelled = spelled_from p known links (known p.head) 0 n (omega arith) (head ∙ ap Some (sym (link_to_slot n 0 some)));
       distinct = distinct_from 0 n;
     }

@@ -3,6 +3,7 @@ pub mod Knowledge
 pub mod FreeList
 pub mod Calls
 pub mod LaidOut
+pub mod Numbered
 -- The scaffold: one name, and the parts of laying out.
 pub mod Names
 pub mod Declaring

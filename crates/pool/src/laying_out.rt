@@ -105,7 +105,7 @@ fn declare_cell(
 }
 
 // The link with which a slot begins: to the next one, but for the last.
-fn link_behind(slot: u32, slots: u32) -> u64
+pub(crate) fn link_behind(slot: u32, slots: u32) -> u64
     requires { slot < slots }
     ensures { result ≡ first_link slots slot }
 {

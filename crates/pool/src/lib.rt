@@ -2,15 +2,18 @@
 //!
 //! [`Pool::take`] and [`Pool::give`] work over any [`Cells`] that hold these fields, whose `store_two` does both stores or
 //! neither: so whatever ends a section, each slot is taken or stands in the list once. [`Pool::lay_out`] declares
-//! these fields in a schema, and makes the pool.
+//! these fields in a schema, and makes the pool. A host that numbers its fields declares them itself, with the values of
+//! [`first_value`], and makes the pool by [`Pool::in_fields`].
 #![tactic(auto)]
 
 mod cells;
 mod error;
 mod laying_out;
 mod names;
+mod numbered;
 mod pool;
 
 pub use cells::Cells;
 pub use error::PoolError;
+pub use numbered::{first_value, free_law};
 pub use pool::{MOST_SLOTS, Pool, TAKEN};

@@ -1,5 +1,5 @@
 -- What a session answers by what it has seen of a stop.
-use Rattle.std.proofs.Common.{◌≡◌, ℕ, Bool, true, false, Option, Some, None, IsSome, ◌∙◌, subst}
+use Rattle.std.proofs.Common.{◌≡◌, ℕ, Bool, true, false, Option, Some, None, IsSome, refl, ◌∙◌, subst}
 use Rattle.std.specs.Option.{is_some}
 use Rattle.hosted_heap.specs.Failing.{HasTold, failed_call}
 use Rattle.hosted_heap.specs.Hosting.{Hosting}
@@ -11,13 +11,14 @@ use Rattle.zelamiku.specs.StopDoors.{AfterFailure, FailsCallAt, UnlessSeen}
 use Rattle.zelamiku.specs.declared.state.Open.TheVariants as kind
 use Rattle.zelamiku.specs.declared.status.TheConstants.{STOPPED}
 
-pub seen_stop : (seen : Option Bool) (there after : Held) (status : ℕ) (call : Type 0) → is_some seen ≡ true → status ≡ STOPPED → after ≡ there → UnlessSeen seen there after status call
-seen_stop None there after status call is told same = absurd cc
-seen_stop (Some written) there after status call is told same = (told, same)
+pub seen_stop : (seen : Option Bool) (there : Held) (call : Held → ℕ → Type 0) → is_some seen ≡ true → UnlessSeen seen there call there STOPPED
+seen_stop None there call is = absurd cc
+seen_stop (Some written) there call is = (refl, refl)
 
-pub unseen_stop : (seen : Option Bool) (there after : Held) (status : ℕ) (call : Type 0) → is_some seen ≡ false → call → UnlessSeen seen there after status call
-unseen_stop None there after status call is told = told
-unseen_stop (Some written) there after status call is told = absurd cc
+pub unseen_stop : (seen : Option Bool) (there : Held) (call : Held → ℕ → Type 0) (after : Held) (status : ℕ) → is_some seen ≡ false → call after status
+    → UnlessSeen seen there call after status
+unseen_stop None there call after status is told = told
+unseen_stop (Some written) there call after status is told = absurd cc
 
 -- a heap was told of the call that is the first of those that are left
 pub failed_at : (x y : Hosting) (o : Option FailedCall) (after : Held) (status : ℕ) → o ≡ failed_call x.calls.left → HasTold x y → (o ≡ Some Sync → IsSome y.stop.seen) → AfterFailure o (heap_behind x) after status

@@ -6,7 +6,7 @@ use Rattle.hosted_heap.specs.declared.closing.Closed.{Closed}
 use Rattle.zelamiku.specs.Own.{Held}
 use Rattle.zelamiku.specs.declared.state.Open.{Open}
 use Rattle.zelamiku.specs.declared.state.Open.TheVariants as kind
-use Rattle.zelamiku.specs.declared.status.TheConstants.{CLOSED}
+use Rattle.zelamiku.specs.declared.status.TheConstants.{NOTHING}
 
 -- nothing
 abbrev pub nothing_behind : Held
@@ -39,5 +39,5 @@ waiting_behind w = behind (kind.Waiting w)
 -- A call of a handle: before it and after it this is behind the handle, and the status is what C is answered. `p` is the call of what
 -- is there; where nothing is, nothing is done.
 abbrev pub Answers : (p : Open → (after : Held) → (status : ℕ) → Type 0) → (before after : Held) (status : ℕ) → Type 0
-Answers p None after status = (status ≡ CLOSED) × (after ≡ nothing_behind)
+Answers p None after status = (status ≡ NOTHING) × (after ≡ nothing_behind)
 Answers p (Some before) after status = p before.«open» after status

@@ -9,7 +9,7 @@ use Rattle.deferred_disk.specs.declared.disk.TheConstants.{SYNCS}
 use Rattle.hosted_heap.specs.Closing.{IsNotClosed}
 use Rattle.hosted_heap.specs.Hosting.{Hosting, IsClosedWith, SameHeap, hosted_device}
 use Rattle.hosted_heap.specs.Opening.{IsFound, IsMade, RefusesMaking, RefusesOpening}
-use Rattle.hosted_heap.specs.Rounds.{IfStopped}
+use Rattle.hosted_heap.specs.Rounds.{HasRound}
 use Rattle.hosted_heap.specs.Sessions.{Seated}
 use Rattle.hosted_heap.specs.declared.closing.Closed.{Closed}
 use Rattle.hosted_heap.specs.declared.closing.NotClosed.{NotClosed}
@@ -25,20 +25,19 @@ use Rattle.image.specs.Layout.{size_of}
 use Rattle.image.specs.declared.guard_row.GuardRow.{GuardRow}
 use Rattle.image.specs.declared.layout.Layout.{Layout}
 use Rattle.recover.specs.declared.report.Report.{Report}
+use Rattle.recover.specs.declared.versions.Versions.{Versions}
 use Rattle.rtrb.specs.Ring.{known_items}
 use Rattle.session.specs.Sessions.{view_of}
 use Rattle.steps.specs.Views.{plan}
 use Rattle.store_past.specs.Past.{Past}
 use Rattle.store_past.specs.declared.error.StoreError.TheVariants.{Fault}
-use Rattle.trim_helper.specs.Parts.{HasServed, IsServing}
-use Rattle.trim_helper.specs.Rings.{known_of, waiting_in}
-use Rattle.trim_helper.specs.Settled.{IsStop, IsWhy}
+use Rattle.trim_helper.specs.Parts.{IsServing}
 use Rattle.zelamiku.specs.Own.{Held}
 use Rattle.zelamiku.specs.Behind.{Answers, behind, nothing_behind, heap_behind, closed_behind, session_behind, stopped_behind}
 use Rattle.zelamiku.specs.HeapStatuses.{acknowledged_status, host_status, not_closed_status, round_status}
 use Rattle.zelamiku.specs.declared.state.Open.{Open}
 use Rattle.zelamiku.specs.declared.state.Open.TheVariants as kind
-use Rattle.zelamiku.specs.declared.status.TheConstants.{OK, OPEN, WRONG_KIND, NO_MEMORY, NONE_LEFT, BAD_HEADER, STOPPED}
+use Rattle.zelamiku.specs.declared.status.TheConstants.{OK, OPEN, WRONG_KIND, NO_MEMORY, NONE_LEFT, BAD_HEADER, STOPPED, CLOSED}
 use Rattle.zelamiku.specs.declared.words.Call.{Call}
 use Rattle.zelamiku.specs.declared.words.Field.{Field}
 use Rattle.zelamiku.specs.declared.words.Found.{Found}
@@ -79,22 +78,23 @@ found_of l report = record { size = size_of l; objects = l.objects; fields = l.f
 abbrev pub nothing_found : Found
 nothing_found = record { size = 0; objects = 0; fields = 0; lanes = 0; capacity = 0; dropped = 0; undone = 0 }
 
--- the heap runs with what recovery finds in these bytes, and this is told of it
-pub record IsOpened (bytes : List ℕ) (x : Hosting) (found : Found) : Type 0 where
+-- the heap runs with what recovery finds in these bytes, an image of one of these versions, and this is told of it
+pub record IsOpened (versions : Versions) (bytes : List ℕ) (x : Hosting) (found : Found) : Type 0 where
   pub report : Report
-  pub recovered : IsFound bytes x report
+  pub recovered : IsFound versions bytes x report
   pub told : found ≡ found_of x.helper.store.known.layout report
 
 -- why no heap is opened
-pub record RefusesOpen (bytes : List ℕ) (status : ℕ) : Type 0 where
+pub record RefusesOpen (versions : Versions) (bytes : List ℕ) (status : ℕ) : Type 0 where
   pub why : HostError
-  pub refuses : RefusesOpening bytes why
+  pub refuses : RefusesOpening versions bytes why
   pub told : status ≡ host_status why
 
--- `zelamiku_open`, where nothing was behind the handle: the heap that recovery finds in these bytes, or none
-pub data OpensAt (bytes : List ℕ) (found : Found) (after : Held) (status : ℕ) : Type 0 where
-  IsOpen : (x : Hosting) → IsOpened bytes x found → after ≡ heap_behind x → status ≡ OK → OpensAt bytes found after status
-  NotOpen : RefusesOpen bytes status → after ≡ nothing_behind → OpensAt bytes found after status
+-- `zelamiku_open` of the current version, and `zelamiku_upgrade` of both, where nothing was behind the handle: the heap that recovery
+-- finds in these bytes, or none
+pub data OpensAt (versions : Versions) (bytes : List ℕ) (found : Found) (after : Held) (status : ℕ) : Type 0 where
+  IsOpen : (x : Hosting) → IsOpened versions bytes x found → after ≡ heap_behind x → status ≡ OK → OpensAt versions bytes found after status
+  NotOpen : RefusesOpen versions bytes status → after ≡ nothing_behind → OpensAt versions bytes found after status
 
 -- the session of the next lane, which was told nothing, and the heap that handed it out
 pub record IsNext (x y : Hosting) (s : Seated) : Type 0 where
@@ -118,7 +118,7 @@ pub data HandsOne (x : Hosting) (handed after : Held) (status : ℕ) : Type 0 wh
 -- `zelamiku_session`, of what is behind the heap's handle
 abbrev pub HandsOutAt : (handed : Held) → Open → (after : Held) → (status : ℕ) → Type 0
 HandsOutAt handed (kind.Heap x) after status = HandsOne x handed after status
-HandsOutAt handed (kind.Closed x) after status = (status ≡ NONE_LEFT) × (after ≡ closed_behind x)
+HandsOutAt handed (kind.Closed x) after status = (status ≡ CLOSED) × (after ≡ closed_behind x)
 HandsOutAt handed kind.Stopped after status = (status ≡ STOPPED) × (after ≡ stopped_behind)
 HandsOutAt handed other after status = (status ≡ WRONG_KIND) × (after ≡ behind other)
 
@@ -169,31 +169,10 @@ MakesCallAt (kind.Closed x) after status = (y : Closed) × (y.disk ≡ x.disk) �
 MakesCallAt kind.Stopped after status = (status ≡ STOPPED) × (after ≡ stopped_behind)
 MakesCallAt other after status = (status ≡ WRONG_KIND) × (after ≡ behind other)
 
--- a round of the heap, which answers this
-pub record HasRound (x y : Hosting) (answer : Result ℕ RoundError) : Type 0 where
-  pub calls_left : IsErrOf answer rounds.CallsLeft ↔ (SYNCS < length (known_items y.calls.ring) + ROUND_SYNCS)
-  pub nothing : IsErrOf answer rounds.CallsLeft → SameHeap x y
-  pub served : (p : Past) → IsServing hosted_device x.helper (plan x.home) p → IfOk answer (λ n. HasServed hosted_device x.helper y.helper (plan x.home) p n)
-  pub emptied : OnOk answer ((l : ℕ) → l < length y.helper.rings → waiting_in y.helper.waiting l ≡ None → known_of y.helper.rings l ≡ [])
-  pub settled : OnOk answer (y.helper.is_settled ≡ true)
-  pub quiet : x.helper.is_settled ≡ true → IfOk answer (λ n. n ≡ 0 → hosted_device y.helper.store.disk ≡ hosted_device x.helper.store.disk)
-  pub stop : IfStopped answer IsStop
-  pub why : IfStopped answer (λ e. IsWhy x.helper.store.known y.helper.store.known e)
-  pub stopped : (p : Past) → IsServing hosted_device x.helper (plan x.home) p → IfStopped answer (λ e. (n : ℕ) × HasServed hosted_device x.helper y.helper (plan x.home) p n)
-  pub unsettled : IfStopped answer (λ e. y.helper.is_settled ≡ false)
-  pub cause : IfStopped answer (λ e. e ≡ Fault → HasFailed (hosted_device x.helper.store.disk).failures (hosted_device y.helper.store.disk).failures)
-  pub later : (hosted_device x.helper.store.disk).failures ≤ (hosted_device y.helper.store.disk).failures
-  pub layout : y.helper.store.known.layout ≡ x.helper.store.known.layout
-  pub home : y.home ≡ x.home
-  pub stopper : y.stop ≡ x.stop
-  pub unused : y.unused ≡ x.unused
-  pub out : y.out ≡ x.out
-  pub calls : HasLooked x.calls y.calls
-
 -- `zelamiku_round`
 abbrev pub RoundsAt : (applied : ℕ) → Open → (after : Held) → (status : ℕ) → Type 0
 RoundsAt applied (kind.Heap x) after status = (y : Hosting) × (answer : Result ℕ RoundError) × HasRound x y answer × IsSeen round_status answer applied status × (after ≡ heap_behind y)
-RoundsAt applied (kind.Closed x) after status = (status ≡ NONE_LEFT) × (after ≡ closed_behind x)
+RoundsAt applied (kind.Closed x) after status = (status ≡ CLOSED) × (after ≡ closed_behind x)
 RoundsAt applied kind.Stopped after status = (status ≡ STOPPED) × (after ≡ stopped_behind)
 RoundsAt applied other after status = (status ≡ WRONG_KIND) × (after ≡ behind other)
 
@@ -211,7 +190,7 @@ pub record HasAcknowledged (x y : Hosting) (lane : ℕ) (answer : Result ℕ Ack
 abbrev pub AcknowledgesAt : (lane sections : ℕ) → Open → (after : Held) → (status : ℕ) → Type 0
 AcknowledgesAt lane sections (kind.Heap x) after status =
     (y : Hosting) × (answer : Result ℕ AcknowledgedError) × HasAcknowledged x y lane answer × IsSeen acknowledged_status answer sections status × (after ≡ heap_behind y)
-AcknowledgesAt lane sections (kind.Closed x) after status = (status ≡ NONE_LEFT) × (after ≡ closed_behind x)
+AcknowledgesAt lane sections (kind.Closed x) after status = (status ≡ CLOSED) × (after ≡ closed_behind x)
 AcknowledgesAt lane sections kind.Stopped after status = (status ≡ STOPPED) × (after ≡ stopped_behind)
 AcknowledgesAt lane sections other after status = (status ≡ WRONG_KIND) × (after ≡ behind other)
 
@@ -230,6 +209,6 @@ pub data ClosesOne (x : Hosting) (after : Held) (status : ℕ) : Type 0 where
 -- `zelamiku_close`
 abbrev pub ClosesAt : Open → (after : Held) → (status : ℕ) → Type 0
 ClosesAt (kind.Heap x) after status = ClosesOne x after status
-ClosesAt (kind.Closed x) after status = (status ≡ NONE_LEFT) × (after ≡ closed_behind x)
+ClosesAt (kind.Closed x) after status = (status ≡ CLOSED) × (after ≡ closed_behind x)
 ClosesAt kind.Stopped after status = (status ≡ STOPPED) × (after ≡ stopped_behind)
 ClosesAt other after status = (status ≡ WRONG_KIND) × (after ≡ behind other)

@@ -5,6 +5,8 @@ pub mod Behind
 pub mod SessionDoors
 pub mod StopDoors
 pub mod SessionStatuses
+pub mod PoolDoors
 -- What C's calls of a heap answer.
 pub mod HeapStatuses
 pub mod HeapDoors
+pub mod ReportDoors

@@ -7,15 +7,15 @@ use Rattle.std.specs.Ordering.{nat_cmp}
 use Rattle.std.specs.Result.{result_unwrap_or}
 use Rattle.heap_model.specs.declared.event.Sight.{Sight}
 use Rattle.heap_model.specs.declared.event.Sight.TheVariants.{Found, StillInSet}
+use Rattle.heap_model.specs.declared.ids.FieldId.{FieldId}
 use Rattle.heap_model.specs.declared.ids.Lane.{Lane}
-use Rattle.hosted_heap.specs.Sessions.{Seated, SeatedWaiting, inner_resume, inner_wait}
+use Rattle.heap_model.specs.declared.ids.ObjectId.{ObjectId}
+use Rattle.hosted_heap.specs.Sessions.{SamePlace, SamePlaceResume, SamePlaceWait, Seated, SeatedWaiting, inner_resume, inner_wait}
 use Rattle.lock_word.specs.Spelling.{sight_of}
 use Rattle.lock_word.specs.WaitMask.{bit_of}
 use Rattle.lock_word.specs.declared.fat_word.FatShape.{FatShape}
 use Rattle.lock_word.specs.declared.lock_word.Shape.{Shape}
-use Rattle.monitor.specs.Seats.{Home}
-use Rattle.session.specs.Calls.{AsksToResume, AsksToWait, Enters, Exits, IsQuiet, Loads, Looks, Notifies, NotifiesAll, StoresAs}
-use Rattle.session.specs.Sessions.{view_of}
+use Rattle.session.specs.Calls.{AsksToResume, AsksToWait, Enters, Exits, Loads, Looks, Notifies, NotifiesAll, ReadsStable, StoresAs}
 use Rattle.session.specs.declared.error.SessionError.{SessionError}
 use Rattle.session.specs.declared.error.Still.{Still}
 use Rattle.session.specs.declared.session.Session.{Session}
@@ -39,9 +39,9 @@ abbrev pub OfSession : (Seated → Held → ℕ → Type 0) → Open → Held �
 OfSession p (kind.Session s) after status = p s after status
 OfSession p other after status = HasNoSession other after status
 
--- the session is there again, with the words of its heap, and learns of a stop as before
+-- the session is there again, of the same heap
 abbrev pub Stays : (Seated → Seated → ℕ → Type 0) → Seated → Held → ℕ → Type 0
-Stays p s after status = (t : Seated) × (after ≡ session_behind t) × (t.home ≡ s.home) × (t.stop.word ≡ s.stop.word) × p s t status
+Stays p s after status = (t : Seated) × (after ≡ session_behind t) × SamePlace s t × p s t status
 
 -- A call of a session through its handle: `p` is the call itself, of the session before it and after it.
 abbrev pub AnswersAs : (p : Seated → Seated → (status : ℕ) → Type 0) → (before after : Held) (status : ℕ) → Type 0
@@ -51,25 +51,36 @@ AnswersAs p = Answers (OfSession (Stays p))
 abbrev pub AnswersUnlessStopped : (p : Seated → Seated → (status : ℕ) → Type 0) → (before after : Held) (status : ℕ) → Type 0
 AnswersUnlessStopped p = Answers (OfSession (UnlessStopped (Stays p)))
 
+-- the object of this number, and the field
+abbrev pub object_at : ℕ → ObjectId
+object_at n = record { 0 = n }
+
+abbrev pub field_at : ℕ → FieldId
+field_at n = record { 0 = n }
+
 -- an enter of the object of this number
 abbrev pub EntersAt : (object : ℕ) → Seated → Seated → ℕ → Type 0
 EntersAt object s t status = (answer : Result (Unit {0}) SessionError)
-    × Enters s.home s.session t.session (record { 0 = object }) answer × (status ≡ status_of answer)
+    × Enters s.home s.session t.session (object_at object) answer × (status ≡ status_of answer)
 
 -- an exit
 abbrev pub ExitsAt : (object : ℕ) → Seated → Seated → ℕ → Type 0
 ExitsAt object s t status = (answer : Result (Unit {0}) SessionError)
-    × Exits s.home s.session t.session (record { 0 = object }) answer × (status ≡ status_of answer)
+    × Exits s.home s.session t.session (object_at object) answer × (status ≡ status_of answer)
 
--- a load of the field of this number: its value, or 0 where it is refused
+-- the value that a load gives C: 0 where it is refused
+abbrev pub value_told : Result ℕ SessionError → ℕ
+value_told answer = result_unwrap_or answer 0
+
+-- a load of the field of this number
 abbrev pub LoadsAt : (field value : ℕ) → Seated → Seated → ℕ → Type 0
 LoadsAt field value s t status = (answer : Result ℕ SessionError)
-    × Loads s.home s.session t.session (record { 0 = field }) answer × (value ≡ result_unwrap_or answer 0) × (status ≡ status_of answer)
+    × Loads s.home s.session t.session (field_at field) answer × (value ≡ value_told answer) × (status ≡ status_of answer)
 
 -- a store
 abbrev pub StoresAt : (field value : ℕ) → Seated → Seated → ℕ → Type 0
 StoresAt field value s t status = (answer : Result (Unit {0}) SessionError)
-    × StoresAs s.home s.session t.session (record { 0 = field }) value answer × (status ≡ status_of answer)
+    × StoresAs s.home s.session t.session (field_at field) value answer × (status ≡ status_of answer)
 
 -- the lane that a notification took out, or that there was none
 abbrev pub lane_told : Result (Option Lane) SessionError → ℕ
@@ -80,7 +91,7 @@ lane_told (Err e) = NOBODY
 -- a notification of one
 abbrev pub NotifiesAt : (object lane : ℕ) → Seated → Seated → ℕ → Type 0
 NotifiesAt object lane s t status = (answer : Result (Option Lane) SessionError)
-    × Notifies s.home s.session t.session (record { 0 = object }) answer × (lane ≡ lane_told answer) × (status ≡ status_of answer)
+    × Notifies s.home s.session t.session (object_at object) answer × (lane ≡ lane_told answer) × (status ≡ status_of answer)
 
 -- a lane's bit is set where the lane is in the mask
 abbrev pub AreBitsOf : (lanes : ℕ) → set.FinSet nat_cmp → Type 0
@@ -89,7 +100,7 @@ AreBitsOf lanes mask = (l : ℕ) → bit_at lanes l ≡ bit_of mask l
 -- a notification of all
 abbrev pub NotifiesAllAt : (object lanes : ℕ) → Seated → Seated → ℕ → Type 0
 NotifiesAllAt object lanes s t status = (answer : Result (set.FinSet nat_cmp) SessionError)
-    × NotifiesAll s.home s.session t.session (record { 0 = object }) answer × IfOk answer (AreBitsOf lanes) × (status ≡ status_of answer)
+    × NotifiesAll s.home s.session t.session (object_at object) answer × IfOk answer (AreBitsOf lanes) × (status ≡ status_of answer)
 
 -- the sight of a free monitor
 abbrev pub free_sight : (number : ℕ) → words.Sight
@@ -101,38 +112,42 @@ sight_told (Found None count number) = free_sight number
 sight_told (Found (Some lane) count number) = record { owner = lane.0; locks = count; number = number }
 sight_told StillInSet = free_sight 0
 
+-- C is shown what these words show
+abbrev pub IsSightOf : words.Sight → Shape × Option FatShape → Type 0
+IsSightOf sight found = sight ≡ sight_told (sight_of found.0 found.1)
+
 -- a look
 abbrev pub LooksAt : (object : ℕ) (sight : words.Sight) → Seated → Seated → ℕ → Type 0
-LooksAt object sight s t status = (answer : Result (Shape × Option FatShape) SessionError) × Looks s.home s.session t.session (record { 0 = object }) answer
-    × IfOk answer (λ found. sight ≡ sight_told (sight_of found.0 found.1)) × (status ≡ status_of answer)
+LooksAt object sight s t status = (answer : Result (Shape × Option FatShape) SessionError)
+    × Looks s.home s.session t.session (object_at object) answer × IfOk answer (IsSightOf sight) × (status ≡ status_of answer)
 
 -- what the session learns of its lane's acknowledged sections
-abbrev pub ReadsStable : (sections : ℕ) → Seated → Seated → ℕ → Type 0
-ReadsStable sections s t status = (status ≡ OK) × IsQuiet (view_of s.session) (view_of t.session) × ((view_of t.session).stable ≡ sections)
+abbrev pub ReadsStableAt : (sections : ℕ) → Seated → Seated → ℕ → Type 0
+ReadsStableAt sections s t status = (status ≡ OK) × ReadsStable s.session t.session sections
 
--- What a wait gave is there, with the words of its heap: a session that waits, or the session that was refused.
-abbrev pub IsThereAfterWait : Home → (word : ℕ) → Result SeatedWaiting (Seated × SessionError) → Held → ℕ → Type 0
-IsThereAfterWait h word (Ok w) after status = (w.home ≡ h) × (w.stop.word ≡ word) × (after ≡ waiting_behind w) × (status ≡ OK)
-IsThereAfterWait h word (Err e) after status = (e.0.home ≡ h) × (e.0.stop.word ≡ word) × (after ≡ session_behind e.0) × (status ≡ refusal_status e.1)
+-- What a wait gave is there: a session that waits, or the session that was refused.
+abbrev pub IsThereAfterWait : Result SeatedWaiting (Seated × SessionError) → Held → ℕ → Type 0
+IsThereAfterWait (Ok w) after status = (after ≡ waiting_behind w) × (status ≡ OK)
+IsThereAfterWait (Err e) after status = (after ≡ session_behind e.0) × (status ≡ refusal_status e.1)
 
 -- a wait that a session asks for
 abbrev pub WaitsFrom : (object : ℕ) → Seated → Held → ℕ → Type 0
 WaitsFrom object s after status = (answer : Result SeatedWaiting (Seated × SessionError))
-    × AsksToWait s.home s.session (record { 0 = object }) (inner_wait answer) × IsThereAfterWait s.home s.stop.word answer after status
+    × AsksToWait s.home s.session (object_at object) (inner_wait answer) × SamePlaceWait s answer × IsThereAfterWait answer after status
 
 -- and through its handle
 abbrev pub WaitsAt : (object : ℕ) → Open → Held → ℕ → Type 0
 WaitsAt object = OfSession (UnlessStopped (WaitsFrom object))
 
--- What a resume gave is there, with the words of its heap: the session, or one that waits on.
-abbrev pub IsThereAfterResume : Home → (word : ℕ) → Result Seated (SeatedWaiting × Still) → Held → ℕ → Type 0
-IsThereAfterResume h word (Ok s) after status = (s.home ≡ h) × (s.stop.word ≡ word) × (after ≡ session_behind s) × (status ≡ OK)
-IsThereAfterResume h word (Err e) after status = (e.0.home ≡ h) × (e.0.stop.word ≡ word) × (after ≡ waiting_behind e.0) × (status ≡ still_status e.1)
+-- What a resume gave is there: the session, or one that waits on.
+abbrev pub IsThereAfterResume : Result Seated (SeatedWaiting × Still) → Held → ℕ → Type 0
+IsThereAfterResume (Ok s) after status = (after ≡ session_behind s) × (status ≡ OK)
+IsThereAfterResume (Err e) after status = (after ≡ waiting_behind e.0) × (status ≡ still_status e.1)
 
 -- a resume of what waits
 abbrev pub ResumesFrom : SeatedWaiting → Held → ℕ → Type 0
 ResumesFrom w after status = (answer : Result Seated (SeatedWaiting × Still))
-    × AsksToResume w.waiting (inner_resume answer) × IsThereAfterResume w.home w.stop.word answer after status
+    × AsksToResume w.waiting (inner_resume answer) × SamePlaceResume w answer × IsThereAfterResume answer after status
 
 -- and through its handle
 abbrev pub Resumes : Open → Held → ℕ → Type 0

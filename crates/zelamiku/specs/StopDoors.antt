@@ -2,7 +2,7 @@
 use Rattle.std.specs.Prelude.{ℕ, ◌≡◌, Bool, Option, Some, None, IsSome}
 use Rattle.hosted_heap.specs.Failing.{HasTold, failed_call}
 use Rattle.hosted_heap.specs.Hosting.{Hosting}
-use Rattle.hosted_heap.specs.Sessions.{Seated, SeatedWaiting}
+use Rattle.hosted_heap.specs.Sessions.{HasLookedAt, HasLookedWaiting, Seated, SeatedWaiting}
 use Rattle.hosted_heap.specs.declared.error.FailedCall.{FailedCall}
 use Rattle.hosted_heap.specs.declared.error.FailedCall.TheVariants.{Write, Sync}
 use Rattle.zelamiku.specs.Own.{Held}
@@ -11,35 +11,22 @@ use Rattle.zelamiku.specs.declared.state.Open.{Open}
 use Rattle.zelamiku.specs.declared.state.Open.TheVariants as kind
 use Rattle.zelamiku.specs.declared.status.TheConstants.{NONE_LEFT, OK, STOPPED, WRONG_KIND}
 
--- a session has looked whether its heap has stopped
-pub record HasLookedAt (s u : Seated) : Type 0 where
-  pub home : u.home ≡ s.home
-  pub session : u.session ≡ s.session
-  pub before : u.before ≡ s.before
-  pub word : u.stop.word ≡ s.stop.word
-
--- and one that waits
-pub record HasWaitedAt (w u : SeatedWaiting) : Type 0 where
-  pub home : u.home ≡ w.home
-  pub waiting : u.waiting ≡ w.waiting
-  pub before : u.before ≡ w.before
-  pub word : u.stop.word ≡ w.stop.word
-
 -- Where it has seen that it has, the status says so, and what was there stays; else it makes the call.
-abbrev pub UnlessSeen : (seen : Option Bool) (there after : Held) (status : ℕ) (call : Type 0) → Type 0
-UnlessSeen None there after status call = call
-UnlessSeen (Some written) there after status call = (status ≡ STOPPED) × (after ≡ there)
+abbrev pub UnlessSeen : (seen : Option Bool) (there : Held) (call : Held → ℕ → Type 0) (after : Held) (status : ℕ) → Type 0
+UnlessSeen None there call after status = call after status
+UnlessSeen (Some written) there call after status = (status ≡ STOPPED) × (after ≡ there)
 
 -- a call that a session makes unless it sees that its heap has stopped
 abbrev pub UnlessStopped : (Seated → Held → ℕ → Type 0) → Seated → Held → ℕ → Type 0
-UnlessStopped p s after status = (u : Seated) × HasLookedAt s u × UnlessSeen u.stop.seen (session_behind u) after status (p u after status)
+UnlessStopped p s after status = (u : Seated) × HasLookedAt s u × UnlessSeen u.stop.seen (session_behind u) (p u) after status
 
 -- and one that waits
 abbrev pub UnlessStoppedWaiting : (SeatedWaiting → Held → ℕ → Type 0) → SeatedWaiting → Held → ℕ → Type 0
-UnlessStoppedWaiting p w after status = (u : SeatedWaiting) × HasWaitedAt w u × UnlessSeen u.stop.seen (waiting_behind u) after status (p u after status)
+UnlessStoppedWaiting p w after status = (v : SeatedWaiting) × HasLookedWaiting w v
+    × UnlessSeen v.stop.seen (waiting_behind v) (p v) after status
 
--- What is there once a call couldn't be made: behind a write what was there, since it may be made again; behind a sync nothing is left, as no call
--- may follow.
+-- What is there once a call couldn't be made: behind a write what was there, since it may be made again; behind a sync nothing is
+-- left, as no call may follow.
 abbrev pub AfterFailure : Option FailedCall → (there after : Held) (status : ℕ) → Type 0
 AfterFailure None there after status = (status ≡ NONE_LEFT) × (after ≡ there)
 AfterFailure (Some Write) there after status = (status ≡ OK) × (after ≡ there)
@@ -51,9 +38,13 @@ pub record TellsSessions (x : Hosting) (failed : Option FailedCall) : Type 0 whe
   pub same : HasTold x told
   pub written : failed ≡ Some Sync → IsSome told.stop.seen
 
+-- so of a heap that runs
+abbrev pub FailsHeapCall : Option FailedCall → Hosting → (after : Held) → (status : ℕ) → Type 0
+FailsHeapCall failed x after status = TellsSessions x failed × AfterFailure failed (heap_behind x) after status
+
 -- `zelamiku_call_failed`
 abbrev pub FailsCallAt : Open → (after : Held) → (status : ℕ) → Type 0
-FailsCallAt (kind.Heap x) after status = TellsSessions x (failed_call x.calls.left) × AfterFailure (failed_call x.calls.left) (heap_behind x) after status
+FailsCallAt (kind.Heap x) after status = FailsHeapCall (failed_call x.calls.left) x after status
 FailsCallAt (kind.Closed x) after status = AfterFailure (failed_call x.calls.left) (closed_behind x) after status
 FailsCallAt kind.Stopped after status = (status ≡ STOPPED) × (after ≡ stopped_behind)
 FailsCallAt other after status = (status ≡ WRONG_KIND) × (after ≡ behind other)

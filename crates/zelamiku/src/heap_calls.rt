@@ -15,7 +15,7 @@ use deferred_disk::{DeviceCall, HostCalls};
 use heap_model::{Lane, ObjectId};
 use hosted_heap::{AcknowledgedError, HostedHeap, NotClosed};
 use image::GuardRow;
-use recover::Report;
+use recover::{Report, Versions};
 use std::alloc::{AllocError, Global};
 
 /// A heap of these objects and fields.
@@ -62,12 +62,12 @@ fn row_of(field: Field) -> GuardRow
     }
 }
 
-/// The heap of these bytes, and what recovery found in them.
-pub fn open(alloc: Global, bytes: &[u8]) -> Result<(HostedHeap, Found), u32>
-    ensures ok { IfOk result (λ r. IsOpened bytes.now r.0 r.1) }
-    ensures refused { IfErr result (RefusesOpen bytes.now) }
+/// The heap of these bytes, an image of one of these versions, and what recovery found in them.
+pub fn open(alloc: Global, bytes: &[u8], versions: Versions) -> Result<(HostedHeap, Found), u32>
+    ensures ok { IfOk result (λ r. IsOpened versions bytes.now r.0 r.1) }
+    ensures refused { IfErr result (RefusesOpen versions bytes.now) }
 {
-    match hosted_heap::open(alloc, bytes) {
+    match hosted_heap::open(alloc, bytes, versions) {
         Ok((heap, report)) => {
             let found = found_in(&heap, &report);
             Ok((heap, found))
@@ -76,7 +76,7 @@ pub fn open(alloc: Global, bytes: &[u8]) -> Result<(HostedHeap, Found), u32>
     }
 }
 
-fn found_in(heap: &HostedHeap, report: &Report) -> Found
+pub(crate) fn found_in(heap: &HostedHeap, report: &Report) -> Found
     ensures { result ≡ found_of heap.now.helper.store.known.layout report.now }
 {
     let layout = heap.layout();
@@ -98,7 +98,7 @@ pub fn session(alloc: Global, state: &mut Inner, place: &mut Slot) -> u32
 {
     match &mut state.open {
         Open::Heap(heap) => hand_out(alloc, heap, place),
-        Open::Closed(_) => status::NONE_LEFT,
+        Open::Closed(_) => status::CLOSED,
         Open::Stopped => status::STOPPED,
         _ => status::WRONG_KIND,
     }
@@ -211,7 +211,7 @@ pub fn round(state: &mut Inner) -> (u64, u32)
             Ok(applied) => (applied, status::OK),
             Err(refusal) => (0, status::of_round(refusal)),
         },
-        Open::Closed(_) => (0, status::NONE_LEFT),
+        Open::Closed(_) => (0, status::CLOSED),
         Open::Stopped => (0, status::STOPPED),
         _ => (0, status::WRONG_KIND),
     }
@@ -227,7 +227,7 @@ pub fn acknowledged(state: &mut Inner, lane: u32) -> (u64, u32)
             Ok(sections) => (sections, status::OK),
             Err(refusal) => (0, status::of_acknowledged(refusal)),
         },
-        Open::Closed(_) => (0, status::NONE_LEFT),
+        Open::Closed(_) => (0, status::CLOSED),
         Open::Stopped => (0, status::STOPPED),
         _ => (0, status::WRONG_KIND),
     }
@@ -265,7 +265,7 @@ fn closed_of(content: Open) -> (Open, u32)
                 (Open::Closed(closed), status::of_close(refusal))
             }
         },
-        Open::Closed(closed) => (Open::Closed(closed), status::NONE_LEFT),
+        Open::Closed(closed) => (Open::Closed(closed), status::CLOSED),
         Open::Stopped => (Open::Stopped, status::STOPPED),
         other => (other, status::WRONG_KIND),
     }

@@ -2,12 +2,14 @@
 ghost use Rattle.std.specs.Prelude.{◌≡◌, ◌≢◌, None};
 ghost use Rattle.zelamiku.specs.Behind.{Answers};
 ghost use Rattle.zelamiku.specs.HeapDoors.{AcknowledgesAt, ClosesAt, FormatsAt, HandsOut, MakesCallAt, OpensAt, PutsNew, RoundsAt, TellsNextAt, nothing_found, told_of};
+ghost use Rattle.recover.specs.declared.versions.Versions.TheVariants.{Current, Both};
 ghost use Rattle.zelamiku.specs.declared.status.TheConstants.{OK};
 
 use crate::slot::{Slot, put, put_new, take};
 use crate::state::Open;
 use crate::words::{Call, Field, Found};
 use crate::{heap_calls, status};
+use recover::Versions;
 use std::alloc::Global;
 
 /// Makes a heap and opens it. A program whose fields have no mark, from before there were transient ones, calls another name.
@@ -49,14 +51,42 @@ pub extern "C" fn zelamiku_open(
     image: &[u8],
     found: &mut Found,
 ) -> u32
-    ensures told { PutsNew (OpensAt image.now found.new) place.old.handle.state place.new.handle.state result }
+    ensures told { PutsNew (OpensAt Current image.now found.new) place.old.handle.state place.new.handle.state result }
+    ensures refused { result ≢ OK → found.new ≡ nothing_found }
+{
+    open_at(alloc, place, Versions::Current, image, found)
+}
+
+/// Upgrades a heap and opens it.
+#[unsafe(no_mangle)]
+pub extern "C" fn zelamiku_upgrade(
+    alloc: Global,
+    place: &mut Slot,
+    image: &[u8],
+    found: &mut Found,
+) -> u32
+    ensures told { PutsNew (OpensAt Both image.now found.new) place.old.handle.state place.new.handle.state result }
+    ensures refused { result ≢ OK → found.new ≡ nothing_found }
+{
+    open_at(alloc, place, Versions::Both, image, found)
+}
+
+// Recovers a heap of one of these versions and opens it.
+fn open_at(
+    alloc: Global,
+    place: &mut Slot,
+    versions: Versions,
+    image: &[u8],
+    found: &mut Found,
+) -> u32
+    ensures told { PutsNew (OpensAt versions image.now found.new) place.old.handle.state place.new.handle.state result }
     ensures refused { result ≢ OK → found.new ≡ nothing_found }
 {
     *found = heap_calls::nothing_found();
     if place.is_open() {
         return status::OPEN;
     }
-    match heap_calls::open(alloc, image) {
+    match heap_calls::open(alloc, image, versions) {
         Ok((heap, opened)) => {
             let Ok(()) = put_new(alloc, place, Open::Heap(heap)) else {
                 return status::NO_MEMORY;
@@ -78,7 +108,7 @@ pub extern "C" fn zelamiku_session(alloc: Global, place: &mut Slot, session: &mu
         return status::OPEN;
     }
     let Some(mut state) = take(alloc, place) else {
-        return status::CLOSED;
+        return status::NOTHING;
     };
     let answer = heap_calls::session(alloc, &mut state, session);
     put(place, state);
@@ -99,7 +129,7 @@ pub extern "C" fn zelamiku_next_call(
 {
     *call = heap_calls::no_call();
     let Some(mut state) = take(alloc, place) else {
-        return status::CLOSED;
+        return status::NOTHING;
     };
     let (next, answer) = heap_calls::next_call(&mut state, bytes);
     *call = next;
@@ -113,7 +143,7 @@ pub extern "C" fn zelamiku_call_done(alloc: Global, place: &mut Slot) -> u32
     ensures { Answers MakesCallAt place.old.handle.state place.new.handle.state result }
 {
     let Some(mut state) = take(alloc, place) else {
-        return status::CLOSED;
+        return status::NOTHING;
     };
     let answer = heap_calls::call_done(&mut state);
     put(place, state);
@@ -128,7 +158,7 @@ pub extern "C" fn zelamiku_round(alloc: Global, place: &mut Slot, applied: &mut 
 {
     *applied = 0;
     let Some(mut state) = take(alloc, place) else {
-        return status::CLOSED;
+        return status::NOTHING;
     };
     let (count, answer) = heap_calls::round(&mut state);
     *applied = count;
@@ -149,7 +179,7 @@ pub extern "C" fn zelamiku_acknowledged(
 {
     *sections = 0;
     let Some(mut state) = take(alloc, place) else {
-        return status::CLOSED;
+        return status::NOTHING;
     };
     let (count, answer) = heap_calls::acknowledged(&mut state, lane);
     *sections = count;
@@ -163,7 +193,7 @@ pub extern "C" fn zelamiku_close(alloc: Global, place: &mut Slot) -> u32
     ensures { Answers ClosesAt place.old.handle.state place.new.handle.state result }
 {
     let Some(mut state) = take(alloc, place) else {
-        return status::CLOSED;
+        return status::NOTHING;
     };
     let answer = heap_calls::close(&mut state);
     put(place, state);

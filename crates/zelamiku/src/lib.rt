@@ -1,13 +1,17 @@
 //! The heap for C, and for what calls as C does: a static library, with `zelamiku.h`.
 //!
 //! A host keeps a handle for a heap, and one for each session. A call takes what is behind a handle out of it, works on that, and puts
-//! it back; a handle with nothing behind it is answered `CLOSED`. No call takes two heaps, and none waits.
+//! it back; a handle with nothing behind it is answered `NOTHING`. No call takes two heaps, and none waits.
 #![tactic(auto)]
 
 mod handle;
 mod heap_calls;
 mod heap_exports;
 mod loose;
+mod pool_calls;
+mod pool_exports;
+mod report_calls;
+mod report_exports;
 mod session_calls;
 mod session_exports;
 mod slot;
@@ -15,15 +19,20 @@ mod state;
 mod status;
 mod stop_calls;
 mod stop_exports;
+mod version;
 mod words;
 
 pub use heap_exports::{
     zelamiku_acknowledged, zelamiku_call_done, zelamiku_close, zelamiku_format_marked,
     zelamiku_free, zelamiku_next_call, zelamiku_open, zelamiku_round, zelamiku_session,
+    zelamiku_upgrade,
 };
+pub use pool_exports::{zelamiku_pool_fields, zelamiku_pool_give, zelamiku_pool_take};
+pub use report_exports::zelamiku_open_telling;
 pub use session_exports::{
     zelamiku_begin_wait, zelamiku_end, zelamiku_exit, zelamiku_load, zelamiku_look,
-    zelamiku_notify, zelamiku_notify_all, zelamiku_stable, zelamiku_store, zelamiku_try_enter,
-    zelamiku_try_resume,
+    zelamiku_notify, zelamiku_notify_all, zelamiku_round_sections, zelamiku_store,
+    zelamiku_try_enter, zelamiku_try_resume,
 };
 pub use stop_exports::zelamiku_call_failed;
+pub use version::zelamiku_version;

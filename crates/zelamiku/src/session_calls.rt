@@ -6,7 +6,7 @@ ghost use Rattle.std.specs.Result.{result_unwrap_or};
 ghost use Rattle.lock_word.specs.Spelling.{fat_sight, sight_of};
 ghost use Rattle.lock_word.specs.WaitMask.{bit_of};
 ghost use Rattle.zelamiku.specs.Behind.{Answers, behind};
-ghost use Rattle.zelamiku.specs.SessionDoors.{AnswersAs, AnswersUnlessStopped, EndsTo, EntersAt, ExitsAt, HasNoSession, LoadsAt, LooksAt, NotifiesAllAt, NotifiesAt, ReadsStable, Resumes, StoresAt, WaitsAt, free_sight, lane_told, sight_told};
+ghost use Rattle.zelamiku.specs.SessionDoors.{AnswersAs, AnswersUnlessStopped, EndsTo, EntersAt, ExitsAt, HasNoSession, LoadsAt, LooksAt, NotifiesAllAt, NotifiesAt, ReadsStableAt, Resumes, StoresAt, WaitsAt, free_sight, lane_told, sight_told};
 ghost use Rattle.zelamiku.specs.SessionStatuses.{status_of};
 ghost use Rattle.zelamiku.specs.declared.status.TheConstants.{OK};
 
@@ -19,7 +19,7 @@ use lock_word::{FatShape, FatWord, LockWord, Shape, WaitMask};
 use session::SessionError;
 
 // What a call of a session is answered where there is none.
-fn no_session(found: &Open) -> u32
+pub(crate) fn no_session(found: &Open) -> u32
     ensures { HasNoSession found.now (behind found.now) result }
 {
     match found {
@@ -213,7 +213,7 @@ fn owned(thread: u32, again: u32, number: u64) -> Sight
 
 /// How many sections of the lane the last round acknowledged, and the status.
 pub fn stable(state: &mut Inner) -> (u64, u32)
-    ensures told { AnswersAs (ReadsStable result.0) (Some state.old) (Some state.new) result.1 }
+    ensures told { AnswersAs (ReadsStableAt result.0) (Some state.old) (Some state.new) result.1 }
     ensures refused { result.1 ≢ OK → result.0 ≡ 0 }
 {
     match &mut state.open {

@@ -1,7 +1,7 @@
 //! What C calls of a session. Each export is one call of `session_calls` on what is behind the handle.
 ghost use Rattle.std.specs.Prelude.{◌≡◌, ◌≢◌};
 ghost use Rattle.zelamiku.specs.Behind.{Answers};
-ghost use Rattle.zelamiku.specs.SessionDoors.{AnswersAs, AnswersUnlessStopped, Ends, EntersAt, ExitsAt, LoadsAt, LooksAt, NotifiesAllAt, NotifiesAt, ReadsStable, Resumes, StoresAt, WaitsAt, free_sight};
+ghost use Rattle.zelamiku.specs.SessionDoors.{AnswersAs, AnswersUnlessStopped, Ends, EntersAt, ExitsAt, LoadsAt, LooksAt, NotifiesAllAt, NotifiesAt, ReadsStableAt, Resumes, StoresAt, WaitsAt, free_sight};
 ghost use Rattle.zelamiku.specs.declared.session_calls.TheConstants.{NOBODY};
 ghost use Rattle.zelamiku.specs.declared.status.TheConstants.{OK};
 
@@ -16,7 +16,7 @@ pub extern "C" fn zelamiku_try_enter(alloc: Global, place: &mut Slot, object: u3
     ensures told { AnswersUnlessStopped (EntersAt object) place.old.handle.state place.new.handle.state result }
 {
     let Some(mut state) = take(alloc, place) else {
-        return status::CLOSED;
+        return status::NOTHING;
     };
     let answer = session_calls::try_enter(&mut state, object);
     put(place, state);
@@ -29,7 +29,7 @@ pub extern "C" fn zelamiku_exit(alloc: Global, place: &mut Slot, object: u32) ->
     ensures told { AnswersAs (ExitsAt object) place.old.handle.state place.new.handle.state result }
 {
     let Some(mut state) = take(alloc, place) else {
-        return status::CLOSED;
+        return status::NOTHING;
     };
     let answer = session_calls::exit(&mut state, object);
     put(place, state);
@@ -44,7 +44,7 @@ pub extern "C" fn zelamiku_load(alloc: Global, place: &mut Slot, field: u32, val
 {
     *value = 0;
     let Some(mut state) = take(alloc, place) else {
-        return status::CLOSED;
+        return status::NOTHING;
     };
     let (found, answer) = session_calls::load(&mut state, field);
     *value = found;
@@ -58,7 +58,7 @@ pub extern "C" fn zelamiku_store(alloc: Global, place: &mut Slot, field: u32, va
     ensures told { AnswersAs (StoresAt field value) place.old.handle.state place.new.handle.state result }
 {
     let Some(mut state) = take(alloc, place) else {
-        return status::CLOSED;
+        return status::NOTHING;
     };
     let answer = session_calls::store(&mut state, field, value);
     put(place, state);
@@ -71,7 +71,7 @@ pub extern "C" fn zelamiku_begin_wait(alloc: Global, place: &mut Slot, object: u
     ensures told { Answers (WaitsAt object) place.old.handle.state place.new.handle.state result }
 {
     let Some(mut state) = take(alloc, place) else {
-        return status::CLOSED;
+        return status::NOTHING;
     };
     let answer = session_calls::begin_wait(&mut state, object);
     put(place, state);
@@ -84,7 +84,7 @@ pub extern "C" fn zelamiku_try_resume(alloc: Global, place: &mut Slot) -> u32
     ensures told { Answers Resumes place.old.handle.state place.new.handle.state result }
 {
     let Some(mut state) = take(alloc, place) else {
-        return status::CLOSED;
+        return status::NOTHING;
     };
     let answer = session_calls::try_resume(&mut state);
     put(place, state);
@@ -104,7 +104,7 @@ pub extern "C" fn zelamiku_notify(
 {
     *lane = session_calls::NOBODY;
     let Some(mut state) = take(alloc, place) else {
-        return status::CLOSED;
+        return status::NOTHING;
     };
     let (woken, answer) = session_calls::notify(&mut state, object);
     *lane = woken;
@@ -125,7 +125,7 @@ pub extern "C" fn zelamiku_notify_all(
 {
     *lanes = 0;
     let Some(mut state) = take(alloc, place) else {
-        return status::CLOSED;
+        return status::NOTHING;
     };
     let (woken, answer) = session_calls::notify_all(&mut state, object);
     *lanes = woken;
@@ -146,7 +146,7 @@ pub extern "C" fn zelamiku_look(
 {
     *sight = session_calls::nobodys(0);
     let Some(mut state) = take(alloc, place) else {
-        return status::CLOSED;
+        return status::NOTHING;
     };
     let (found, answer) = session_calls::look(&mut state, object);
     *sight = found;
@@ -156,13 +156,17 @@ pub extern "C" fn zelamiku_look(
 
 /// How many sections of the session's lane the last round acknowledged.
 #[unsafe(no_mangle)]
-pub extern "C" fn zelamiku_stable(alloc: Global, place: &mut Slot, sections: &mut u64) -> u32
-    ensures told { AnswersAs (ReadsStable sections.new) place.old.handle.state place.new.handle.state result }
+pub extern "C" fn zelamiku_round_sections(
+    alloc: Global,
+    place: &mut Slot,
+    sections: &mut u64,
+) -> u32
+    ensures told { AnswersAs (ReadsStableAt sections.new) place.old.handle.state place.new.handle.state result }
     ensures refused { result ≢ OK → sections.new ≡ 0 }
 {
     *sections = 0;
     let Some(mut state) = take(alloc, place) else {
-        return status::CLOSED;
+        return status::NOTHING;
     };
     let (found, answer) = session_calls::stable(&mut state);
     *sections = found;
@@ -176,7 +180,7 @@ pub extern "C" fn zelamiku_end(alloc: Global, place: &mut Slot) -> u32
     ensures told { Answers Ends place.old.handle.state place.new.handle.state result }
 {
     let Some(mut state) = take(alloc, place) else {
-        return status::CLOSED;
+        return status::NOTHING;
     };
     let (_back, answer) = session_calls::end(&mut state);
     if answer == status::OK {

@@ -14,7 +14,7 @@ use trim_helper::CloseError;
 
 pub const OK: u32 = 0;
 
-pub const CLOSED: u32 = 1;
+pub const NOTHING: u32 = 1;
 
 pub const OPEN: u32 = 2;
 
@@ -79,7 +79,14 @@ pub const ILLEGAL_LOG: u32 = 31;
 // 32 to 34 are of zelamiku_file.h.
 pub const STOPPED: u32 = 35;
 
-// 36 to 39 are others'.
+pub const POOL_EMPTY: u32 = 36;
+
+pub const NOT_TAKEN: u32 = 37;
+
+pub const DAMAGED: u32 = 38;
+
+pub const CLOSED: u32 = 39;
+
 pub const OLD_VERSION: u32 = 40;
 
 /// The status of a session's refusal.

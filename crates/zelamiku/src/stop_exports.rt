@@ -12,7 +12,7 @@ pub extern "C" fn zelamiku_call_failed(alloc: Global, place: &mut Slot) -> u32
     ensures { Answers FailsCallAt place.old.handle.state place.new.handle.state result }
 {
     let Some(mut state) = take(alloc, place) else {
-        return status::CLOSED;
+        return status::NOTHING;
     };
     let answer = stop_calls::call_failed(&mut state);
     put(place, state);

@@ -1,4 +1,5 @@
 //! What crosses to C besides handles and numbers.
+use heap_model::LANES;
 
 /// A field as C declares it: the object that has it, the object whose monitor guards it, the value with which it begins, and
 /// whether it is transient, which 0 says that it isn't.
@@ -26,6 +27,34 @@ pub struct Found {
     pub dropped: u64,
     /// The fields that took an old value back.
     pub undone: u64,
+}
+
+/// What recovery found, lane by lane; or for which record it refused.
+#[repr(C)]
+#[derive(Clone, Copy)]
+pub struct Told {
+    pub found: Found,
+    /// How many sections of each lane were kept.
+    pub kept: [u64; LANES],
+    /// The record for which the image is refused: its place in its lane.
+    pub place: u64,
+    /// Its lane, or 64 where there is no such record.
+    pub lane: u32,
+}
+
+/// A section that recovery dropped.
+#[repr(C)]
+#[derive(Clone, Copy)]
+pub struct Dropped {
+    /// Its number in its lane, from 1.
+    pub section: u64,
+    /// That of the section for which it was dropped, where it was for another.
+    pub after_section: u64,
+    pub lane: u32,
+    /// 0 that there are no more; 1 it hasn't ended, 2 it depends on that other section, 3 it wasn't acknowledged.
+    pub why: u32,
+    /// The lane of that other section, or 64.
+    pub after_lane: u32,
 }
 
 /// A call of the device.

@@ -81,6 +81,8 @@ impl ErrorKind {
 enum Cause {
     None,
     Refusal(Refusal),
+    // For a record of the file's image: its lane, and its place in it.
+    Record(Refusal, u32, u64),
     System(Arc<io::Error>),
     // What differs.
     Told(Arc<str>),
@@ -121,6 +123,10 @@ impl Error {
 
     pub(super) fn refused(kind: ErrorKind, path: &Arc<Path>, refusal: Refusal) -> Error {
         Error::new(kind, path, Cause::Refusal(refusal))
+    }
+
+    pub(super) fn for_record(path: &Arc<Path>, refusal: Refusal, lane: u32, place: u64) -> Error {
+        Error::new(ErrorKind::Opening, path, Cause::Record(refusal, lane, place))
     }
 
     pub(super) fn system(kind: ErrorKind, path: &Arc<Path>, error: io::Error) -> Error {
@@ -168,7 +174,7 @@ impl Error {
     #[must_use]
     pub fn refusal(&self) -> Option<Refusal> {
         match self.0.cause {
-            Cause::Refusal(refusal) => Some(refusal),
+            Cause::Refusal(refusal) | Cause::Record(refusal, ..) => Some(refusal),
             _ => None,
         }
     }
@@ -180,6 +186,7 @@ impl fmt::Display for Error {
         match &self.0.cause {
             Cause::None => Ok(()),
             Cause::Refusal(refusal) => write!(f, ": {refusal}"),
+            Cause::Record(refusal, lane, place) => write!(f, ": {refusal}: lane {lane}, place {place}"),
             Cause::System(error) => write!(f, ": {error}"),
             Cause::Told(text) => write!(f, ": {text}"),
         }
@@ -195,7 +202,7 @@ impl fmt::Debug for Error {
 impl std::error::Error for Error {
     fn source(&self) -> Option<&(dyn std::error::Error + 'static)> {
         match &self.0.cause {
-            Cause::Refusal(refusal) => Some(refusal),
+            Cause::Refusal(refusal) | Cause::Record(refusal, ..) => Some(refusal),
             Cause::System(error) => Some(error.as_ref()),
             Cause::None | Cause::Told(_) => None,
         }

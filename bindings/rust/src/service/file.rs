@@ -1,7 +1,7 @@
 //! A heap's file: found, looked at, made.
 use super::error::{Error, ErrorKind};
 use crate as handles;
-use crate::{Device, Field, FileError, Found, Refusal};
+use crate::{Device, Field, FileError, Found, Refusal, Report};
 use std::fs::{File, OpenOptions};
 use std::io::{self, Read, Seek, SeekFrom, Write};
 use std::path::Path;
@@ -20,8 +20,8 @@ pub struct Plan {
 pub struct Opened {
     pub heap: handles::Heap,
     pub device: Box<dyn Device + Send>,
-    /// What recovery found, where the heap was there.
-    pub found: Option<Found>,
+    /// What recovery did, where the heap was there.
+    pub report: Option<Report>,
 }
 
 // How an image begins (docs/FORMAT.md), also one whose making was cut off.
@@ -38,8 +38,11 @@ pub fn open(path: &Arc<Path>, plan: &Plan) -> Result<Opened, Error> {
         .truncate(false)
         .open(path)
         .map_err(system)?;
-    let (mut heap, found) = match handles::Heap::open_file(&file) {
-        Ok((heap, found)) => (heap, Some(is_ours(path, plan, found)?)),
+    let (mut heap, report) = match handles::Heap::open_file_telling(&file) {
+        Ok((heap, report)) => {
+            must_be_ours(path, plan, report.found)?;
+            (heap, Some(report))
+        }
         Err(FileError::Refused(Refusal::NotFormatted)) if is_free(&mut file).map_err(system)? => {
             (make(path, plan, &mut file)?, None)
         }
@@ -47,13 +50,13 @@ pub fn open(path: &Arc<Path>, plan: &Plan) -> Result<Opened, Error> {
         Err(error) => return Err(refused(path, error)),
     };
     heap.make_calls(&mut file).map_err(system)?;
-    if found.is_none() {
+    if report.is_none() {
         sync_folder(path).map_err(system)?;
     }
     Ok(Opened {
         heap,
         device: Box::new(file),
-        found,
+        report,
     })
 }
 
@@ -61,6 +64,7 @@ fn refused(path: &Arc<Path>, error: FileError) -> Error {
     match error {
         FileError::Refused(Refusal::Busy) => Error::bare(ErrorKind::Busy, path),
         FileError::Refused(refusal) => Error::refused(ErrorKind::Opening, path, refusal),
+        FileError::Record { refusal, lane, place } => Error::for_record(path, refusal, lane, place),
         FileError::System(error) => Error::system(ErrorKind::File, path, error),
     }
 }
@@ -91,10 +95,10 @@ fn has_only_zeros(file: &mut File) -> io::Result<bool> {
     }
 }
 
-fn is_ours(path: &Arc<Path>, plan: &Plan, found: Found) -> Result<Found, Error> {
+fn must_be_ours(path: &Arc<Path>, plan: &Plan, found: Found) -> Result<(), Error> {
     let fields = plan.fields.len() as u64;
     if found.objects == plan.objects && u64::from(found.fields) == fields && found.lanes >= plan.lanes {
-        return Ok(found);
+        return Ok(());
     }
     let text = format!(
         "it has {} objects, {} fields and {} lanes, and asked for were {}, {} and {}",

@@ -27,7 +27,7 @@
 //! half full, and else so long after a section's end as [`Options::linger`] says.
 //!
 //! [`ErrorKind`] says of each failure whether the heap goes on.
-use crate::{Field, Found};
+use crate::{Field, Found, Pool, Refusal, Report};
 use std::fmt;
 use std::path::Path;
 use std::sync::{mpsc, Arc, Mutex};
@@ -81,6 +81,8 @@ pub struct Options {
     plan: Plan,
     // The numbers that `field` was told, with their places.
     misplaced: Option<(u32, usize)>,
+    // Of a pool that can't be.
+    refused: Option<Refusal>,
     linger: Duration,
 }
 
@@ -137,11 +139,32 @@ impl Options {
         self.next(number, object, first, true)
     }
 
-    fn next(mut self, number: u32, object: u32, first: u64, is_transient: bool) -> Options {
+    /// Declares the fields of a pool, all of whose slots are free: its head is the next field, and its slots' follow. The object has and
+    /// guards them. A pool whose head isn't the next field, or that has no slot or more than 16,383, is refused by
+    /// [`open`](Options::open).
+    ///
+    /// ```
+    /// use zelamiku::Pool;
+    /// let options = zelamiku::service::Heap::options().objects(1).field(0, 0, 100).pool(Pool::new(1, 64), 0);
+    /// ```
+    pub fn pool(mut self, pool: Pool, object: u32) -> Options {
+        self.must_be_next(pool.head());
+        match pool.fields(object) {
+            Ok(fields) => self.plan.fields.extend(fields),
+            Err(refusal) => self.refused = self.refused.or(Some(refusal)),
+        }
+        self
+    }
+
+    fn must_be_next(&mut self, number: u32) {
         let place = self.plan.fields.len();
         if number as usize != place && self.misplaced.is_none() {
             self.misplaced = Some((number, place));
         }
+    }
+
+    fn next(mut self, number: u32, object: u32, first: u64, is_transient: bool) -> Options {
+        self.must_be_next(number);
         self.guarded(Field {
             owner: object,
             guard: object,
@@ -212,6 +235,9 @@ impl Options {
             let text = format!("field {number} was declared where field {place} comes next");
             return Err(Error::told(ErrorKind::Opening, &path, text));
         }
+        if let Some(refusal) = self.refused {
+            return Err(Error::refused(ErrorKind::Opening, &path, refusal));
+        }
         let opened = file::open(&path, &self.plan)?;
         Heap::start(path, opened, &self.plan, self.linger)
     }
@@ -225,7 +251,7 @@ impl Options {
 pub struct Heap {
     shared: Arc<Shared>,
     helper: Mutex<Option<JoinHandle<()>>>,
-    found: Option<Found>,
+    report: Option<Report>,
     most_records: u32,
 }
 
@@ -259,6 +285,7 @@ impl Heap {
                 capacity: RING,
             },
             misplaced: None,
+            refused: None,
             linger: Duration::from_millis(5),
         }
     }
@@ -268,8 +295,9 @@ impl Heap {
         let Opened {
             mut heap,
             device,
-            found,
+            report,
         } = opened;
+        let found = report.as_ref().map(|report| report.found);
         let (lanes, capacity) = found.map_or((plan.lanes, plan.capacity), |found| (found.lanes, found.capacity));
         let mut free = Vec::new();
         for lane in 0..lanes as usize {
@@ -298,7 +326,7 @@ impl Heap {
         Ok(Heap {
             shared,
             helper: Mutex::new(Some(thread)),
-            found,
+            report,
             most_records: capacity.min(RING) / 4,
         })
     }
@@ -356,7 +384,25 @@ impl Heap {
     /// ```
     #[must_use]
     pub fn found(&self) -> Option<Found> {
-        self.found
+        self.report.as_ref().map(|report| report.found)
+    }
+
+    /// Which sections recovery kept and dropped, and why, where the heap was there; `None` where it was made.
+    ///
+    /// ```
+    /// # use zelamiku::service::Heap;
+    /// # let path = std::env::temp_dir().join(format!("zelamiku-report-{}", std::process::id()));
+    /// # let _ = std::fs::remove_file(&path);
+    /// # Heap::options().lanes(2).objects(1).field(0, 0, 0).open(&path)?.close()?;
+    /// let heap = Heap::options().lanes(2).objects(1).field(0, 0, 0).open(&path)?;
+    /// let report = heap.report().expect("it was there");
+    /// assert_eq!((report.kept.len(), report.dropped.len()), (2, 0));
+    /// # std::fs::remove_file(path)?;
+    /// # Ok::<(), Box<dyn std::error::Error>>(())
+    /// ```
+    #[must_use]
+    pub fn report(&self) -> Option<&Report> {
+        self.report.as_ref()
     }
 
     /// Closes the heap: `Ok` where all sections that have ended are durable. Sessions that are there still answer

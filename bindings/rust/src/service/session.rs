@@ -3,7 +3,7 @@ use super::error::{Error, ErrorKind};
 use super::seat::{lock, Seat};
 use super::shared::{Shared, Spare};
 use crate as handles;
-use crate::{Refusal, Sight};
+use crate::{Pool, Refusal, Sight};
 use std::fmt;
 use std::hint::spin_loop;
 use std::sync::atomic::Ordering;
@@ -83,6 +83,7 @@ impl Session {
         &self.shared.seats[self.lane]
     }
 
+    #[inline]
     fn handle(&mut self) -> Result<&mut handles::Session, Error> {
         self.shared.must_go_on()?;
         let shared = &self.shared;
@@ -389,9 +390,18 @@ impl Session {
         answer
     }
 
+    // Where the object's last lock stands among those that are held: mostly it was the last to be taken.
+    #[inline]
+    fn place_of(&self, object: u32) -> Option<usize> {
+        match self.held.last() {
+            Some(last) if *last == object => Some(self.held.len() - 1),
+            _ => self.held.iter().rposition(|other| *other == object),
+        }
+    }
+
     // Gives one lock back. One that a wait has lost with its heap isn't there any more.
     fn leave(&mut self, object: u32) -> Result<(), Error> {
-        let Some(place) = self.held.iter().rposition(|other| *other == object) else {
+        let Some(place) = self.place_of(object) else {
             return self.shared.must_go_on();
         };
         if let Some(session) = self.inner.as_mut() {
@@ -561,6 +571,7 @@ impl Held<'_> {
     /// # std::fs::remove_file(path)?;
     /// # Ok::<(), Box<dyn std::error::Error>>(())
     /// ```
+    #[inline]
     pub fn load(&mut self, field: u32) -> Result<u64, Error> {
         match self.session.handle()?.load(field) {
             Ok(value) => Ok(value),
@@ -583,10 +594,69 @@ impl Held<'_> {
     /// # std::fs::remove_file(path)?;
     /// # Ok::<(), Box<dyn std::error::Error>>(())
     /// ```
+    #[inline]
     pub fn store(&mut self, field: u32, value: u64) -> Result<(), Error> {
         match self.session.handle()?.store(field, value) {
             Ok(()) => {
                 self.session.records += 1;
+                Ok(())
+            }
+            Err(refusal) => Err(self.session.refused(refusal)),
+        }
+    }
+
+    /// Takes a slot of the pool, whose object's monitor is held; none where no slot is free. It costs the section two records.
+    ///
+    /// [`ErrorKind::Refused`] by `NotHeld`, `SectionFull`, and by `Damaged` or `UnknownField` where the heap has no such pool: nothing was
+    /// stored then.
+    ///
+    /// ```
+    /// # use zelamiku::{service::Heap, Pool};
+    /// # let path = std::env::temp_dir().join(format!("zelamiku-take-{}", std::process::id()));
+    /// # let _ = std::fs::remove_file(&path);
+    /// const SEATS: Pool = Pool::new(0, 2);
+    /// let heap = Heap::options().objects(1).pool(SEATS, 0).open(&path)?;
+    /// let mut session = heap.session()?;
+    /// let taken = session.synchronized(0, |s| Ok([s.take(SEATS)?, s.take(SEATS)?, s.take(SEATS)?]))?;
+    /// assert_eq!(taken, [Some(0), Some(1), None]);
+    /// # std::fs::remove_file(path)?;
+    /// # Ok::<(), Box<dyn std::error::Error>>(())
+    /// ```
+    pub fn take(&mut self, pool: Pool) -> Result<Option<u32>, Error> {
+        match self.session.handle()?.take(pool) {
+            Ok(slot) => {
+                self.session.records += 2;
+                Ok(Some(slot))
+            }
+            Err(Refusal::PoolEmpty) => Ok(None),
+            Err(refusal) => Err(self.session.refused(refusal)),
+        }
+    }
+
+    /// Gives a slot back to the pool: it is the next one to be taken. It costs the section two records.
+    ///
+    /// [`ErrorKind::Refused`] by `NotTaken`, and as [`take`](Held::take): nothing was stored then.
+    ///
+    /// ```
+    /// # use zelamiku::{service::Heap, Pool, Refusal};
+    /// # let path = std::env::temp_dir().join(format!("zelamiku-give-{}", std::process::id()));
+    /// # let _ = std::fs::remove_file(&path);
+    /// # const SEATS: Pool = Pool::new(0, 2);
+    /// # let heap = Heap::options().objects(1).pool(SEATS, 0).open(&path)?;
+    /// # let mut session = heap.session()?;
+    /// session.synchronized(0, |s| {
+    ///     let slot = s.take(SEATS)?.expect("a seat");
+    ///     s.give(SEATS, slot)
+    /// })?;
+    /// let error = session.synchronized(0, |s| s.give(SEATS, 0)).unwrap_err();
+    /// assert_eq!(error.refusal(), Some(Refusal::NotTaken));
+    /// # std::fs::remove_file(path)?;
+    /// # Ok::<(), Box<dyn std::error::Error>>(())
+    /// ```
+    pub fn give(&mut self, pool: Pool, slot: u32) -> Result<(), Error> {
+        match self.session.handle()?.give(pool, slot) {
+            Ok(()) => {
+                self.session.records += 2;
                 Ok(())
             }
             Err(refusal) => Err(self.session.refused(refusal)),

@@ -81,6 +81,7 @@ impl Shared {
         self.why.get().cloned().unwrap_or_else(closed)
     }
 
+    #[inline]
     pub fn must_go_on(&self) -> Result<(), Error> {
         if self.is_over.load(Ordering::Acquire) {
             return Err(self.why());

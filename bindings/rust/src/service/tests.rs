@@ -77,7 +77,7 @@ fn start(heap: handles::Heap, device: &Failing, lanes: u32) -> Heap {
     let opened = Opened {
         heap,
         device: Box::new(device.clone()),
-        found: None,
+        report: None,
     };
     Heap::start(Path::new("heap").into(), opened, &plan, Duration::ZERO).unwrap()
 }

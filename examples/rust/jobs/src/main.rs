@@ -7,7 +7,7 @@
 //! producer puts jobs until it has put so many in all, and the program ends when all are done; without, it goes on for ever. A file
 //! that isn't there, is empty or has only zeros gets a queue.
 //!
-//! The queue is a ring of slots in a heap's fields, which are made with it: `queue.rs`.
+//! The queue is lists of slots that a pool gives out, linked through a heap's fields: `queue.rs`.
 mod queue;
 
 use std::process::ExitCode;
@@ -24,8 +24,11 @@ fn payload(producer: u32, number: u64) -> u64 {
     number * 1_000 + u64::from(producer)
 }
 
-// Tells what the queue has, and fails where it isn't what the producers put and the consumers did.
-fn tell(found: &[queue::Found]) -> Result<(), Failure> {
+// Tells what the queue has, and fails where it isn't what the producers put and the consumers did, or a slot is lost.
+fn tell(found: &[queue::Found], has_each_slot: bool) -> Result<(), Failure> {
+    if !has_each_slot {
+        return Err(format!("a slot is lost, or lies in two lists: {found:?}").into());
+    }
     for (producer, found) in (0..).zip(found) {
         let queue::Found { put, done, sum, open } = found;
         println!("found {producer} put {put} done {done}");
@@ -111,10 +114,11 @@ fn work(heap: &Heap, own: &mut Session, found: &[queue::Found], most: u64) -> Re
 fn run(path: &str, jobs: Option<u64>) -> Result<(), Failure> {
     let heap = queue::options(queue::PRODUCERS + CONSUMERS + 1).open(path)?;
     let mut session = heap.session()?;
-    let found = queue::begin(&mut session)?;
-    tell(&found)?;
+    let (found, has_each_slot) = queue::look(&mut session)?;
+    tell(&found, has_each_slot)?;
     work(&heap, &mut session, &found, jobs.unwrap_or(u64::MAX))?;
-    tell(&queue::begin(&mut session)?)?;
+    let (found, has_each_slot) = queue::look(&mut session)?;
+    tell(&found, has_each_slot)?;
     Ok(heap.close()?)
 }
 

@@ -1,45 +1,65 @@
-//! A durable blocking queue of jobs: a ring of slots for each producer, in fields of one object.
+//! A durable blocking queue of jobs: a list of slots for each producer, linked through fields, and one pool of slots for all.
 //!
 //! A job is there from the section that put it to the section that says it is done, whatever happens in between: one that was taken
-//! when the process died is handed out again. One job of a producer is in hand at a time, so that its jobs are done in its order.
+//! when the process died is handed out again, since that a consumer has it is kept in a transient field. One job of a producer is in hand
+//! at a time, so that its jobs are done in its order.
 use zelamiku::service::{Error, Heap, Held, Options, Session};
+use zelamiku::Pool;
 
 pub const PRODUCERS: u32 = 3;
-const SLOTS: u32 = 8;
 
-// The object whose monitor guards all fields, and each producer's fields.
+// The object whose monitor guards all fields.
 const QUEUE: u32 = 0;
-const FIELDS: u32 = 4 + SLOTS;
 
-// How many jobs the producer has put, and how many of them are done: the next ones between lie in slots.
-fn put_count(producer: u32) -> u32 {
-    producer * FIELDS
+// Each producer's fields.
+#[derive(Clone, Copy)]
+enum Of {
+    // How many jobs it has put, and how many of them are done.
+    Put,
+    Done,
+    // The sum of the payloads of all jobs that are done: what a job does, here.
+    Sum,
+    // The slots of its oldest and its newest job that aren't done, plus one; 0 where there is none.
+    First,
+    Last,
 }
 
-fn done_count(producer: u32) -> u32 {
-    producer * FIELDS + 1
+const OF_EACH: u32 = 5;
+
+fn of(producer: u32, which: Of) -> u32 {
+    producer * OF_EACH + which as u32
 }
 
-// Whether a consumer has the job after those that are done.
-fn is_taken(producer: u32) -> u32 {
-    producer * FIELDS + 2
+// The pool, whose slots all producers share, and of each slot what lies in it.
+const SLOTS: Pool = Pool::new(PRODUCERS * OF_EACH, 16);
+const PAYLOAD: u32 = SLOTS.head() + 1 + SLOTS.slots();
+// The slot of the producer's next job, plus one.
+const NEXT: u32 = PAYLOAD + SLOTS.slots();
+
+// Whether a consumer has the producer's oldest job. It is transient: at each opening nobody has.
+const IN_HAND: u32 = NEXT + SLOTS.slots();
+
+fn payload_of(slot: u32) -> u32 {
+    PAYLOAD + slot
 }
 
-// The sum of the payloads of all jobs that are done: what a job does, here.
-fn sum(producer: u32) -> u32 {
-    producer * FIELDS + 3
+fn next_of(slot: u32) -> u32 {
+    NEXT + slot
 }
 
-fn slot(producer: u32, number: u64) -> u32 {
-    producer * FIELDS + 4 + (number % u64::from(SLOTS)) as u32
+fn in_hand(producer: u32) -> u32 {
+    IN_HAND + producer
 }
 
 /// The heap that has the queue: for so many threads.
 pub fn options(threads: u32) -> Options {
-    Heap::options()
+    let options = Heap::options()
         .lanes(threads)
         .objects(1)
-        .fields(PRODUCERS * FIELDS, QUEUE, 0)
+        .fields(PRODUCERS * OF_EACH, QUEUE, 0)
+        .pool(SLOTS, QUEUE)
+        .fields(2 * SLOTS.slots(), QUEUE, 0);
+    (0..PRODUCERS).fold(options, |options, producer| options.transient(in_hand(producer), QUEUE, 0))
 }
 
 /// A job that a consumer has in hand.
@@ -61,40 +81,71 @@ pub struct Found {
     pub open: Vec<u64>,
 }
 
-/// Begins anew after a process that had it: what was in hand is handed out again.
-pub fn begin(session: &mut Session) -> Result<Vec<Found>, Error> {
+/// What the queue has, and whether each slot lies in one producer's list or is free.
+pub fn look(session: &mut Session) -> Result<(Vec<Found>, bool), Error> {
     session.synchronized(QUEUE, |queue| {
-        (0..PRODUCERS)
-            .map(|producer| {
-                queue.store(is_taken(producer), 0)?;
-                look(queue, producer)
-            })
-            .collect()
+        let mut slots = Vec::new();
+        let found = (0..PRODUCERS)
+            .map(|producer| look_at(queue, producer, &mut slots))
+            .collect::<Result<_, _>>()?;
+        // All that are free, which go back in the same section: to the world it never happened.
+        let used = slots.len();
+        while let Some(slot) = queue.take(SLOTS)? {
+            slots.push(slot);
+        }
+        for slot in slots[used..].iter().rev() {
+            queue.give(SLOTS, *slot)?;
+        }
+        slots.sort_unstable();
+        Ok((found, slots.into_iter().eq(0..SLOTS.slots())))
     })
 }
 
-fn look(queue: &mut Held<'_>, producer: u32) -> Result<Found, Error> {
-    let (put, done) = (queue.load(put_count(producer))?, queue.load(done_count(producer))?);
-    let open = (done + 1..=put)
-        .map(|number| queue.load(slot(producer, number)))
-        .collect::<Result<_, _>>()?;
+fn look_at(queue: &mut Held<'_>, producer: u32, slots: &mut Vec<u32>) -> Result<Found, Error> {
+    let (put, done) = (queue.load(of(producer, Of::Put))?, queue.load(of(producer, Of::Done))?);
+    let mut open = Vec::new();
+    let mut link = queue.load(of(producer, Of::First))?;
+    while let Some(slot) = slot_in(link) {
+        slots.push(slot);
+        open.push(queue.load(payload_of(slot))?);
+        link = queue.load(next_of(slot))?;
+    }
     Ok(Found {
         put,
         done,
-        sum: queue.load(sum(producer))?,
+        sum: queue.load(of(producer, Of::Sum))?,
         open,
     })
 }
 
-/// Puts the producer's next job, and answers its number. It sleeps while the producer's slots are full.
+// The slot that a link names.
+fn slot_in(link: u64) -> Option<u32> {
+    link.checked_sub(1).map(|slot| slot as u32)
+}
+
+fn link_to(slot: u32) -> u64 {
+    u64::from(slot) + 1
+}
+
+/// Puts the producer's next job, and answers its number. It sleeps while no slot is free.
 pub fn put(session: &mut Session, producer: u32, payload: impl Fn(u64) -> u64) -> Result<u64, Error> {
     session.synchronized(QUEUE, |queue| {
-        while queue.load(put_count(producer))? - queue.load(done_count(producer))? == u64::from(SLOTS) {
-            queue.wait()?;
+        let slot = loop {
+            match queue.take(SLOTS)? {
+                Some(slot) => break slot,
+                None => queue.wait()?,
+            }
+        };
+        let number = queue.load(of(producer, Of::Put))? + 1;
+        queue.store(payload_of(slot), payload(number))?;
+        queue.store(next_of(slot), 0)?;
+        // Behind the newest, or as the oldest.
+        match slot_in(queue.load(of(producer, Of::Last))?) {
+            Some(newest) => queue.store(next_of(newest), link_to(slot))?,
+            None => queue.store(of(producer, Of::First), link_to(slot))?,
         }
-        let number = queue.load(put_count(producer))? + 1;
-        queue.store(slot(producer, number), payload(number))?;
-        queue.store(put_count(producer), number)?;
+        queue.store(of(producer, Of::Last), link_to(slot))?;
+        queue.store(of(producer, Of::Put), number)?;
         queue.notify_all()?;
         Ok(number)
     })
@@ -103,35 +154,43 @@ pub fn put(session: &mut Session, producer: u32, payload: impl Fn(u64) -> u64) -
 /// Takes a job, of the producers' in turn after `last`. It sleeps while there is none, and answers none once there will be no more.
 pub fn take(session: &mut Session, last: u32, is_over: impl Fn() -> bool) -> Result<Option<Job>, Error> {
     session.synchronized(QUEUE, |queue| loop {
-        let mut open = 0;
+        let mut is_empty = true;
         for producer in (1..=PRODUCERS).map(|step| (last + step) % PRODUCERS) {
-            let (put, done) = (queue.load(put_count(producer))?, queue.load(done_count(producer))?);
-            open += put - done;
-            if put > done && queue.load(is_taken(producer))? == 0 {
-                queue.store(is_taken(producer), 1)?;
-                let number = done + 1;
-                let payload = queue.load(slot(producer, number))?;
+            let Some(slot) = slot_in(queue.load(of(producer, Of::First))?) else {
+                continue;
+            };
+            is_empty = false;
+            if queue.load(in_hand(producer))? == 0 {
+                queue.store(in_hand(producer), 1)?;
                 return Ok(Some(Job {
                     producer,
-                    number,
-                    payload,
+                    number: queue.load(of(producer, Of::Done))? + 1,
+                    payload: queue.load(payload_of(slot))?,
                 }));
             }
         }
-        if open == 0 && is_over() {
+        if is_empty && is_over() {
             return Ok(None);
         }
         queue.wait()?;
     })
 }
 
-/// Says that a job is done, in the same section in which it does what it does to the heap: so that is done once.
+/// Says that a job is done, in the same section in which it does what it does to the heap: so that is done once. Its slot is free then.
 pub fn finish(session: &mut Session, job: Job) -> Result<(), Error> {
     session.synchronized(QUEUE, |queue| {
-        let before = queue.load(sum(job.producer))?;
-        queue.store(sum(job.producer), before.wrapping_add(job.payload))?;
-        queue.store(done_count(job.producer), job.number)?;
-        queue.store(is_taken(job.producer), 0)?;
+        let sum = queue.load(of(job.producer, Of::Sum))?;
+        queue.store(of(job.producer, Of::Sum), sum.wrapping_add(job.payload))?;
+        queue.store(of(job.producer, Of::Done), job.number)?;
+        if let Some(slot) = slot_in(queue.load(of(job.producer, Of::First))?) {
+            let next = queue.load(next_of(slot))?;
+            queue.store(of(job.producer, Of::First), next)?;
+            if next == 0 {
+                queue.store(of(job.producer, Of::Last), 0)?;
+            }
+            queue.give(SLOTS, slot)?;
+        }
+        queue.store(in_hand(job.producer), 0)?;
         queue.notify_all()?;
         Ok(())
     })

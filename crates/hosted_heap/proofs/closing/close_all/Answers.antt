@@ -9,14 +9,20 @@ close-requires-clause-ended c = (c.in-Ok.ensures.ended c.args.shared c.args.help
 pub returns-in-Err-clause-refused : goal.returns-in-Err-clause-refused
 returns-in-Err-clause-refused c =
     let x = c.args.helper in
-    let told = c.in-Ok.ensures.ended c.args.shared x.store.known.layout.capacity x.rings c.requires.lanes in (
+    let told = c.in-Ok.ensures.ended c.args.shared x.store.known.layout.capacity x.rings c.requires.lanes in
+    let closes = c.in-Err.ensures.closes c.requires.helping.past c.requires.helping.serving in (
       refl,
       stops_for c.args.shared x c.in-Err.disk c.in-Err.refusal (record {
         ended = c.in-Ok.ended.items;
         are = told.0;
         complete = complete_of x.store.known.layout.lanes c.in-Ok.ended.items (told.1 ∙ c.requires.order);
-        refuses = c.in-Err.ensures.refused;
-        untouched = c.in-Err.ensures.untouched;
-        why = c.in-Err.ensures.why;
+        refuses = closes.refused;
+        untouched = closes.untouched;
+        why = closes.why;
       }),
     )
+
+pub returns-in-Ok-close-clause-ok : goal.returns-in-Ok-close-clause-ok
+returns-in-Ok-close-clause-ok c =
+    let closes = c.in-Ok-close.ensures.closes c.requires.helping.past c.requires.helping.serving in
+    record { ended = c.in-Ok.ended.items; none = closes.refused.0; complete = closes.refused.1; closed = c.in-Ok-close.ensures.ok }

@@ -4,7 +4,7 @@ use Rattle.guards.specs.Schema.{Declarations}
 use Rattle.image.specs.Guards.{NamesObjects}
 use Rattle.image.specs.declared.guard_row.GuardRow.{GuardRow}
 use Rattle.image.specs.declared.layout.Layout.{Layout}
-use Rattle.recover.specs.Recovery.{IsRecovery}
+use Rattle.recover.specs.Recovery.{IsRecovery, IsTooOld, RefusesOf}
 use Rattle.std.specs.List.{slice_index_or}
 use Rattle.trim_helper.specs.Opening.{FitsSchema}
 use Rattle.hosted_heap.specs.Hosting.{hosted_device}
@@ -13,6 +13,10 @@ use Rattle.numbered_schema.specs.Rows.{numbered}
 use Rattle.hosted_heap.proofs.Fits.{fits_numbered}
 use Rattle.numbered_schema.proofs.Numbered.{only_memory}
 use Rattle.hosted_heap.proofs.opening.open.Goals as goal
+
+pub returns-in-Err-clause-refused : goal.returns-in-Err-clause-refused
+returns-in-Err-clause-refused c =
+    subst (λ (m : Memory). RefusesOf c.args.versions (device_of m).now.bytes c.in-Err.refusal) c.in-Ok.ensures.disk c.in-Err.ensures.refused
 
 pub returns-in-Err-declare-clause-refused : goal.returns-in-Err-declare-clause-refused
 returns-in-Err-declare-clause-refused c =
@@ -28,7 +32,7 @@ returns-in-Err-declare-clause-refused c =
 
 pub begin-requires : goal.begin-requires
 begin-requires c =
-    let found = c.in-Ok-recover.found.0 in
+    let found = c.in-Ok-recover_of.found.0 in
     let schema : c.in-Ok-declare.schema ≡ numbered found.layout.objects found.guards =
     c.in-Ok-declare.ensures.ok ∙ ap (λ (l : Layout). numbered l.objects c.guards.result.now) c.layout.ensures.layout ∙ ap (λ (r : List GuardRow). numbered found.layout.objects r) c.guards.ensures.guards in
     let size : length found.guards ≡ found.layout.fields = c.layout.ensures.recovered.image.guards.size ∙ ap (λ (l : Layout). l.fields) c.layout.ensures.layout in
@@ -36,11 +40,12 @@ begin-requires c =
 
 pub returns-in-Ok-begin-clause-ok : goal.returns-in-Ok-begin-clause-ok
 returns-in-Ok-begin-clause-ok c =
-    let found = c.in-Ok-recover.found.0 in
+    let found = c.in-Ok-recover_of.found.0 in
     let schema : c.in-Ok-declare.schema ≡ numbered found.layout.objects found.guards =
     c.in-Ok-declare.ensures.ok ∙ ap (λ (l : Layout). numbered l.objects c.guards.result.now) c.layout.ensures.layout ∙ ap (λ (r : List GuardRow). numbered found.layout.objects r) c.guards.ensures.guards in
     record {
       found = found;
-      recovery = subst (λ (m : Memory). IsRecovery (device_of m) (hosted_device found.disk) found c.in-Ok-recover.found.1) c.in-Ok.ensures.disk c.in-Ok-recover.ensures.ok;
+      taken = subst (λ (m : Memory). IsTooOld c.args.versions (device_of m).now.bytes → ⊥) c.in-Ok.ensures.disk c.in-Ok-recover_of.ensures.taken;
+      recovery = subst (λ (m : Memory). IsRecovery (device_of m) (hosted_device found.disk) found c.in-Ok-recover_of.found.1) c.in-Ok.ensures.disk c.in-Ok-recover_of.ensures.ok;
       begun = subst (λ (s : Declarations). HasBegun s found c.in-Ok-begin.heap) schema c.in-Ok-begin.ensures.begun;
     }

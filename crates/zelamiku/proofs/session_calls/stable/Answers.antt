@@ -1,8 +1,8 @@
 use Rattle.std.proofs.Common.{refl}
 use Rattle.zelamiku.proofs.Doors.{stays}
-use Rattle.zelamiku.specs.SessionDoors.{ReadsStable}
+use Rattle.zelamiku.specs.SessionDoors.{ReadsStableAt}
 use Rattle.zelamiku.proofs.session_calls.stable.Goals as goal
 
 pub returns-in-Session-clause-told : goal.returns-in-Session-clause-told
 returns-in-Session-clause-told c =
-    stays (ReadsStable c.stable.result) _ _ _ _ c.in-Session.is c.stable.ensures.home c.stable.ensures.word (refl, c.stable.ensures.quiet, c.stable.ensures.read)
+    stays (ReadsStableAt c.stable.result) _ _ _ _ c.in-Session.is c.stable.ensures.heap.home c.stable.ensures.heap.word_is (refl, c.stable.ensures.told)

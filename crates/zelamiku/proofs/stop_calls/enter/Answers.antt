@@ -1,20 +1,14 @@
 use Rattle.std.proofs.Common.{refl, sym, ◌∙◌}
-use Rattle.hosted_heap.specs.Sessions.{Seated}
 use Rattle.zelamiku.proofs.Stops.{seen_stop, unseen_stop}
 use Rattle.zelamiku.specs.Behind.{session_behind}
 use Rattle.zelamiku.specs.SessionDoors.{EntersAt, Stays}
-use Rattle.zelamiku.specs.StopDoors.{HasLookedAt}
-use Rattle.zelamiku.specs.declared.status.TheConstants.{STOPPED}
 use Rattle.zelamiku.proofs.stop_calls.enter.Goals as goal
 
 pub returns-then-is_stopped : goal.returns-then-is_stopped
 returns-then-is_stopped c =
     let u = c.is_stopped.new.self in
-    let look = c.is_stopped.ensures in (
-      u,
-      record { home = look.same.0; session = look.same.1; before = look.same.2; word = look.word },
-      seen_stop u.stop.seen (session_behind u) (session_behind u) STOPPED (Stays (EntersAt c.args.object) u (session_behind u) STOPPED) (sym look.seen ∙ c.if-is_stopped.true) refl refl,
-    )
+    let look = c.is_stopped.ensures in
+    (u, look.looked, seen_stop u.stop.seen (session_behind u) (Stays (EntersAt c.args.object) u) (sym look.seen ∙ c.if-is_stopped.true))
 
 pub returns : goal.returns
 returns c =
@@ -22,7 +16,7 @@ returns c =
     let t = c.try_enter.new.self in
     let look = c.is_stopped.ensures in (
       u,
-      record { home = look.same.0; session = look.same.1; before = look.same.2; word = look.word },
-      unseen_stop u.stop.seen (session_behind u) (session_behind t) c.of_answer.result (Stays (EntersAt c.args.object) u (session_behind t) c.of_answer.result) (sym look.seen ∙ c.if-is_stopped.false)
-          (t, refl, c.try_enter.ensures.home, c.try_enter.ensures.word, (c.try_enter.result, c.try_enter.ensures.told, c.of_answer.ensures)),
+      look.looked,
+      unseen_stop u.stop.seen (session_behind u) (Stays (EntersAt c.args.object) u) (session_behind t) c.of_answer.result (sym look.seen ∙ c.if-is_stopped.false)
+          (t, refl, c.try_enter.ensures.heap, (c.try_enter.result, c.try_enter.ensures.told, c.of_answer.ensures)),
     )

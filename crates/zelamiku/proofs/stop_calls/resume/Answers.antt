@@ -2,17 +2,14 @@ use Rattle.std.proofs.Common.{Ok, Err, refl, sym, ◌∙◌}
 use Rattle.zelamiku.proofs.Stops.{seen_stop, unseen_stop}
 use Rattle.zelamiku.specs.Behind.{session_behind, waiting_behind}
 use Rattle.zelamiku.specs.SessionDoors.{ResumesFrom}
-use Rattle.zelamiku.specs.declared.status.TheConstants.{OK, STOPPED}
+use Rattle.zelamiku.specs.declared.status.TheConstants.{OK}
 use Rattle.zelamiku.proofs.stop_calls.resume.Goals as goal
 
 pub returns-then-is_stopped : goal.returns-then-is_stopped
 returns-then-is_stopped c =
     let u = c.is_stopped.new.self in
-    let look = c.is_stopped.ensures in (
-      u,
-      record { home = look.same.0; waiting = look.same.1; before = look.same.2; word = look.word },
-      seen_stop u.stop.seen (waiting_behind u) (waiting_behind u) STOPPED (ResumesFrom u (waiting_behind u) STOPPED) (sym look.seen ∙ c.if-is_stopped.true) refl refl,
-    )
+    let look = c.is_stopped.ensures in
+    (u, look.looked, seen_stop u.stop.seen (waiting_behind u) (ResumesFrom u) (sym look.seen ∙ c.if-is_stopped.true))
 
 pub returns-in-Ok : goal.returns-in-Ok
 returns-in-Ok c =
@@ -20,9 +17,9 @@ returns-in-Ok c =
     let s = c.in-Ok.session in
     let look = c.is_stopped.ensures in (
       u,
-      record { home = look.same.0; waiting = look.same.1; before = look.same.2; word = look.word },
-      unseen_stop u.stop.seen (waiting_behind u) (session_behind s) OK (ResumesFrom u (session_behind s) OK) (sym look.seen ∙ c.if-is_stopped.false)
-          (Ok s, c.in-Ok.ensures.told, (c.in-Ok.ensures.home, c.in-Ok.ensures.word, refl, refl)),
+      look.looked,
+      unseen_stop u.stop.seen (waiting_behind u) (ResumesFrom u) (session_behind s) OK (sym look.seen ∙ c.if-is_stopped.false)
+          (Ok s, c.in-Ok.ensures.told, c.in-Ok.ensures.heap, (refl, refl)),
     )
 
 pub returns-in-Err : goal.returns-in-Err
@@ -31,7 +28,7 @@ returns-in-Err c =
     let w = c.in-Err.waiting in
     let look = c.is_stopped.ensures in (
       u,
-      record { home = look.same.0; waiting = look.same.1; before = look.same.2; word = look.word },
-      unseen_stop u.stop.seen (waiting_behind u) (waiting_behind w) c.of_still.result (ResumesFrom u (waiting_behind w) c.of_still.result) (sym look.seen ∙ c.if-is_stopped.false)
-          (Err (w, c.in-Err.still), c.in-Err.ensures.told, (c.in-Err.ensures.home, c.in-Err.ensures.word, refl, c.of_still.ensures)),
+      look.looked,
+      unseen_stop u.stop.seen (waiting_behind u) (ResumesFrom u) (waiting_behind w) c.of_still.result (sym look.seen ∙ c.if-is_stopped.false)
+          (Err (w, c.in-Err.still), c.in-Err.ensures.told, c.in-Err.ensures.heap, (refl, c.of_still.ensures)),
     )

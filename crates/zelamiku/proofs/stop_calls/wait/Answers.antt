@@ -2,17 +2,14 @@ use Rattle.std.proofs.Common.{Ok, Err, refl, sym, ◌∙◌}
 use Rattle.zelamiku.proofs.Stops.{seen_stop, unseen_stop}
 use Rattle.zelamiku.specs.Behind.{session_behind, waiting_behind}
 use Rattle.zelamiku.specs.SessionDoors.{WaitsFrom}
-use Rattle.zelamiku.specs.declared.status.TheConstants.{OK, STOPPED}
+use Rattle.zelamiku.specs.declared.status.TheConstants.{OK}
 use Rattle.zelamiku.proofs.stop_calls.wait.Goals as goal
 
 pub returns-then-is_stopped : goal.returns-then-is_stopped
 returns-then-is_stopped c =
     let u = c.is_stopped.new.self in
-    let look = c.is_stopped.ensures in (
-      u,
-      record { home = look.same.0; session = look.same.1; before = look.same.2; word = look.word },
-      seen_stop u.stop.seen (session_behind u) (session_behind u) STOPPED (WaitsFrom c.args.object u (session_behind u) STOPPED) (sym look.seen ∙ c.if-is_stopped.true) refl refl,
-    )
+    let look = c.is_stopped.ensures in
+    (u, look.looked, seen_stop u.stop.seen (session_behind u) (WaitsFrom c.args.object u) (sym look.seen ∙ c.if-is_stopped.true))
 
 pub returns-in-Ok : goal.returns-in-Ok
 returns-in-Ok c =
@@ -20,9 +17,9 @@ returns-in-Ok c =
     let w = c.in-Ok.waiting in
     let look = c.is_stopped.ensures in (
       u,
-      record { home = look.same.0; session = look.same.1; before = look.same.2; word = look.word },
-      unseen_stop u.stop.seen (session_behind u) (waiting_behind w) OK (WaitsFrom c.args.object u (waiting_behind w) OK) (sym look.seen ∙ c.if-is_stopped.false)
-          (Ok w, c.in-Ok.ensures.told, (c.in-Ok.ensures.home, c.in-Ok.ensures.word, refl, refl)),
+      look.looked,
+      unseen_stop u.stop.seen (session_behind u) (WaitsFrom c.args.object u) (waiting_behind w) OK (sym look.seen ∙ c.if-is_stopped.false)
+          (Ok w, c.in-Ok.ensures.told, c.in-Ok.ensures.heap, (refl, refl)),
     )
 
 pub returns-in-Err : goal.returns-in-Err
@@ -31,7 +28,7 @@ returns-in-Err c =
     let s = c.in-Err.session in
     let look = c.is_stopped.ensures in (
       u,
-      record { home = look.same.0; session = look.same.1; before = look.same.2; word = look.word },
-      unseen_stop u.stop.seen (session_behind u) (session_behind s) c.of_session.result (WaitsFrom c.args.object u (session_behind s) c.of_session.result) (sym look.seen ∙ c.if-is_stopped.false)
-          (Err (s, c.in-Err.refusal), c.in-Err.ensures.told, (c.in-Err.ensures.home, c.in-Err.ensures.word, refl, c.of_session.ensures)),
+      look.looked,
+      unseen_stop u.stop.seen (session_behind u) (WaitsFrom c.args.object u) (session_behind s) c.of_session.result (sym look.seen ∙ c.if-is_stopped.false)
+          (Err (s, c.in-Err.refusal), c.in-Err.ensures.told, c.in-Err.ensures.heap, (refl, c.of_session.ensures)),
     )

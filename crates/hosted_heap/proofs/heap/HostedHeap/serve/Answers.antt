@@ -1,13 +1,12 @@
-use Rattle.std.proofs.Common.{ℕ, OnErr, ap, sym, subst, ◌∙◌}
+use Rattle.std.proofs.Common.{ap, refl, sym, subst, ◌∙◌}
 use Rattle.image.specs.declared.layout.Layout.{Layout}
 use Rattle.monitor.specs.Seats.{Home}
 use Rattle.std.specs.Arc.{arc_value}
 use Rattle.steps.specs.Views.{plan}
-use Rattle.trim_helper.specs.Helping.{IsHelper}
-use Rattle.trim_helper.specs.Parts.{HasServed, IsServing}
+use Rattle.trim_helper.specs.Calls.{HasGoneOn, Rounds}
+use Rattle.trim_helper.specs.Parts.{IsServing}
 use Rattle.hosted_heap.specs.Hosting.{Hosting, hosted_device}
 use Rattle.hosted_heap.proofs.Later.{ends_on, joined_on}
-use Rattle.hosted_heap.proofs.Rounds.{either_way}
 use Rattle.hosted_heap.proofs.heap.HostedHeap.serve.Goals as goal
 
 pub invariant_of-self : goal.invariant_of-self
@@ -16,25 +15,34 @@ invariant_of-self c =
     let h = arc_value c.self.inside.shared in
     let x = c.self.inside.helper in
     let y = c.round.new.self in
+    let on : HasGoneOn h x y = subst (λ (k : Home). HasGoneOn k x y) c.deref.ensures c.round.ensures.goes_on in
     let past = was.helping.past in
-    let served = either_way (λ n. HasServed hosted_device x y (plan h) past n) c.round.result (c.round.ensures.ok (plan h) past was.helping.serving) (c.round.ensures.err (plan h) past was.helping.serving) in
-    let seat : IsHelper h y.seat = subst (λ (k : Home). IsHelper k y.seat) c.deref.ensures c.round.ensures.seat in
+    let capacity = ap (λ (l : Layout). l.capacity) on.layout in
     record {
-      helping = c.helping_law.ensures.round h x y served.0 past was.helping (record { seat = seat; taken = c.round.ensures.gathered; rings = c.round.ensures.rings; layout = c.round.ensures.layout }) served.1;
-      layout_is = was.layout_is ∙ sym c.round.ensures.layout;
+      helping = c.helping_law.ensures.round h past x y c.round.result was.helping on (c.round.ensures.rounds (plan h) past was.helping.serving);
+      layout_is = was.layout_is ∙ sym on.layout;
       within = was.within;
       unused_are = was.unused_are;
       count = was.count;
-      lanes_are = ends_on c.joined_law.ensures.rings h x.store.known.layout.capacity y.store.known.layout.capacity x.rings y.rings c.self.inside.lanes.items
-          (ap (λ (l : Layout). l.capacity) c.round.ensures.layout) c.round.ensures.rings was.lanes_are;
+      lanes_are = ends_on c.joined_law.ensures.rings h x.store.known.layout.capacity y.store.known.layout.capacity x.rings y.rings c.self.inside.lanes.items capacity on.rings was.lanes_are;
       order = was.order;
-      joined = joined_on c.joined_law.ensures.rings h x.store.known.layout.capacity y.store.known.layout.capacity x.rings y.rings c.self.inside.unused.items
-          (ap (λ (l : Layout). l.capacity) c.round.ensures.layout) c.round.ensures.rings was.joined;
+      joined = joined_on c.joined_law.ensures.rings h x.store.known.layout.capacity y.store.known.layout.capacity x.rings y.rings c.self.inside.unused.items capacity on.rings was.joined;
       paired = was.paired;
     }
 
-pub returns-clause-err : goal.returns-clause-err
-returns-clause-err c = λ p serving.
+pub returns-clause-serves : goal.returns-clause-serves
+returns-clause-serves c = λ p serving.
     let h = arc_value c.self.inside.shared in
-    subst (λ (x : Hosting). OnErr c.round.result ((n : ℕ) × HasServed hosted_device x.helper c.round.new.self (plan x.home) p n)) c.self.view_is
-    (c.round.ensures.err (plan h) p (subst (λ (x : Hosting). IsServing hosted_device x.helper (plan x.home) p) (sym c.self.view_is) serving))
+    subst (λ (x : Hosting). Rounds hosted_device (plan x.home) p x.helper c.round.new.self c.round.result) c.self.view_is
+    (c.round.ensures.rounds (plan h) p (subst (λ (x : Hosting). IsServing hosted_device x.helper (plan x.home) p) (sym c.self.view_is) serving))
+
+pub returns-clause-kept : goal.returns-clause-kept
+returns-clause-kept c =
+    let view = c.self.view_is in
+    record {
+      home = ap (λ (k : Hosting). k.home) view;
+      unused = ap (λ (k : Hosting). k.unused) view;
+      out = ap (λ (k : Hosting). k.out) view;
+      stop = ap (λ (k : Hosting). k.stop) view;
+      layout = c.round.ensures.goes_on.layout ∙ ap (λ (k : Hosting). k.helper.store.known.layout) view;
+    }

@@ -2,7 +2,7 @@ use Rattle.std.proofs.Common.{refl, ◌∙◌}
 use Rattle.hosted_heap.specs.declared.error.HostError.TheVariants.{NoMemory}
 use Rattle.zelamiku.specs.HeapDoors.{IsOpen, NotOpen}
 use Rattle.zelamiku.proofs.Emptiness.{nothing_there}
-use Rattle.zelamiku.proofs.heap_exports.zelamiku_open.Goals as goal
+use Rattle.zelamiku.proofs.heap_exports.open_at.Goals as goal
 
 pub returns-in-Ok-put_new-clause-told : goal.returns-in-Ok-put_new-clause-told
 returns-in-Ok-put_new-clause-told c = rw (nothing_there c.args.place.now.handle.state c.if-is_open.ensures) (IsOpen c.in-Ok.heap c.in-Ok.ensures.ok c.in-Ok-put_new.ensures.ok refl)

@@ -1,0 +1,56 @@
+-- A round of the heap that isn't begun, or is.
+use Rattle.std.proofs.Common.{ℕ, ◌≡◌, ◌<◌, ◌+◌, ◌↔◌, Bool, true, false, Result, Ok, Err, length, refl, sym, ap, ◌∙◌, subst}
+use Rattle.deferred_disk.specs.Host.{HasLooked, Host}
+use Rattle.deferred_disk.specs.declared.disk.TheConstants.{SYNCS}
+use Rattle.monitor.specs.Seats.{Home}
+use Rattle.rtrb.specs.Ring.{known_items}
+use Rattle.steps.specs.Views.{plan}
+use Rattle.deferred_disk.specs.Deferred.{Deferred}
+use Rattle.store_past.specs.declared.error.StoreError.{StoreError}
+use Rattle.trim_helper.specs.Calls.{Rounds}
+use Rattle.trim_helper.specs.Parts.{IsServing, Parts}
+use Rattle.hosted_heap.specs.Hosting.{Hosting, SameHeap, hosted_device}
+use Rattle.hosted_heap.specs.Rounds.{HasRound, KeepsSessions, MakesRound}
+use Rattle.hosted_heap.specs.declared.error.RoundError.TheVariants.{CallsLeft, Store}
+use Rattle.hosted_heap.specs.declared.room.TheConstants.{ROUND_SYNCS}
+
+-- there is no room for its syncs
+abbrev pub HasNoRoom : Hosting → Type 0
+HasNoRoom x = SYNCS < length (known_items x.calls.ring) + ROUND_SYNCS
+
+pub not_begun : (x y : Hosting) (room : Bool) → room ≡ false → (room ≡ false) ↔ HasNoRoom y → SameHeap x y → HasLooked x.calls y.calls → HasRound x y (Err CallsLeft)
+not_begun x y room none tells same looked = record {
+  calls_left = (λ is. tells.0 none, λ low. refl);
+  nothing = λ is. same;
+  rounds = tt;
+  kept = record { home = same.home; unused = same.unused; out = same.out; stop = same.stop; layout = ap (λ (h : Parts Deferred). h.store.known.layout) same.helper };
+  calls = looked;
+}
+
+module _ (x z w : Hosting) (room : Bool) (some : room ≡ true) (tells : (room ≡ false) ↔ HasNoRoom z) (same : SameHeap x z) (looked : HasLooked x.calls z.calls) (calls : w.calls ≡ z.calls) (kept : KeepsSessions z w) where
+  has_room : {T : Type 0} → HasNoRoom w → T
+  has_room low = absurd (let no : true ≡ false = sym some ∙ tells.1 (subst (λ (c : Host). SYNCS < length (known_items c.ring) + ROUND_SYNCS) calls low) in cc)
+
+  served : (answer : Result ℕ StoreError) → MakesRound z w answer → MakesRound x w answer
+  served answer serves p serving =
+      subst (λ (h : Home). Rounds hosted_device (plan h) p x.helper w.helper answer) same.home
+      (subst (λ (k : Parts Deferred). Rounds hosted_device (plan z.home) p k w.helper answer) same.helper
+      (serves p (subst (λ (h : Home). IsServing hosted_device z.helper (plan h) p) (sym same.home) (subst (λ (k : Parts Deferred). IsServing hosted_device k (plan x.home) p) (sym same.helper) serving))))
+
+  keeps : KeepsSessions x w
+  keeps = record {
+    home = kept.home ∙ same.home;
+    unused = kept.unused ∙ same.unused;
+    out = kept.out ∙ same.out;
+    stop = kept.stop ∙ same.stop;
+    layout = kept.layout ∙ ap (λ (h : Parts Deferred). h.store.known.layout) same.helper;
+  }
+
+  looks : HasLooked x.calls w.calls
+  looks = subst (λ (c : Host). HasLooked x.calls c) (sym calls) looked
+
+  pub begun_ok : (n : ℕ) → MakesRound z w (Ok n) → HasRound x w (Ok n)
+  begun_ok n serves = record { calls_left = (λ is. absurd cc, λ low. has_room low); nothing = λ is. absurd cc; rounds = served (Ok n) serves; kept = keeps; calls = looks }
+
+  pub begun_err : (e : StoreError) → MakesRound z w (Err e) → HasRound x w (Err (Store e))
+  begun_err e serves = record { calls_left = (λ is. absurd cc, λ low. has_room low); nothing = λ is. absurd cc; rounds = served (Err e) serves; kept = keeps; calls = looks }

@@ -1,0 +1,39 @@
+-- A pool's calls over a session's cells, as calls of the session.
+use Rattle.std.proofs.Common.{ℕ, ◌≡◌, Result, sym, ap, ◌∙◌, subst}
+use Rattle.monitor.specs.Seats.{Home}
+use Rattle.pool.specs.Calls.{TakeAnswers, GiveAnswers}
+use Rattle.pool.specs.FreeList.{Place}
+use Rattle.pool.specs.Knowledge.{Knowledge}
+use Rattle.pool.specs.declared.error.PoolError.{PoolError}
+use Rattle.pool_in_section.specs.Calls.{GivesSlot, TakesSlot, known_to}
+use Rattle.pool_in_section.specs.Knowing.{Keeps, TellsOfFields, home_of, known_by, knowledge_in, session_of}
+use Rattle.pool_in_section.specs.declared.in_section.InSection.{InSection}
+use Rattle.session.specs.Sessions.{view_of}
+use Rattle.session.specs.declared.error.SessionError.{SessionError}
+use Rattle.session.specs.declared.session.Session.{Session}
+use Rattle.steps.specs.Views.{plan}
+
+-- what the cells know is what the session knows
+known_is : (h : Home) (x : Session) (u : InSection) → session_of u ≡ x → home_of u ≡ h → known_by u ≡ known_to h x
+known_is h x u session home =
+    ap (λ (z : Session). knowledge_in (plan (home_of u)) (view_of z).events) session ∙ ap (λ (k : Home). knowledge_in (plan k) (view_of x).events) home
+
+told_is : (x y : Session) (u v : InSection) → session_of u ≡ x → session_of v ≡ y → Keeps u v → TellsOfFields (view_of x) (view_of y)
+told_is x y u v before after keeps =
+    subst (λ (z : Session). TellsOfFields (view_of x) (view_of z)) after (subst (λ (z : Session). TellsOfFields (view_of z) (view_of (session_of v))) before keeps.told)
+
+pub takes_slot : (h : Home) (x y : Session) (u v : InSection) (p : Place) (r : Result ℕ (PoolError SessionError))
+    → session_of u ≡ x → home_of u ≡ h → y ≡ session_of v → Keeps u v → TakeAnswers p (known_by u) (known_by v) r → TakesSlot h x y p r
+takes_slot h x y u v p r before home after keeps answer = record {
+  answer = subst (λ (l : Knowledge SessionError). TakeAnswers p (known_to h x) l r) (known_is h y v (sym after) (keeps.home ∙ home))
+      (subst (λ (k : Knowledge SessionError). TakeAnswers p k (known_by v) r) (known_is h x u before home) answer);
+  told = told_is x y u v before (sym after) keeps;
+}
+
+pub gives_slot : (h : Home) (x y : Session) (u v : InSection) (p : Place) (s : ℕ) (r : Result (Unit {0}) (PoolError SessionError))
+    → session_of u ≡ x → home_of u ≡ h → y ≡ session_of v → Keeps u v → GiveAnswers p (known_by u) (known_by v) s r → GivesSlot h x y p s r
+gives_slot h x y u v p s r before home after keeps answer = record {
+  answer = subst (λ (l : Knowledge SessionError). GiveAnswers p (known_to h x) l s r) (known_is h y v (sym after) (keeps.home ∙ home))
+      (subst (λ (k : Knowledge SessionError). GiveAnswers p k (known_by v) s r) (known_is h x u before home) answer);
+  told = told_is x y u v before (sym after) keeps;
+}

@@ -1,0 +1,65 @@
+-- What C is told of an opening beside the heap: which sections recovery kept and dropped, and why; or for which record it refused (this
+-- project's own).
+use Rattle.std.specs.Prelude.{ℕ, ◌≡◌, ◌<◌, List, [], length, replicate, slice_get, Option, Some, None}
+use Rattle.std.specs.List.{slice_index_or}
+use Rattle.heap_model.specs.declared.limits.TheConstants.{LANES}
+use Rattle.hosted_heap.specs.Hosting.{Hosting}
+use Rattle.hosted_heap.specs.Opening.{IsFound, RefusesOpening}
+use Rattle.hosted_heap.specs.declared.error.HostError.{HostError}
+use Rattle.hosted_heap.specs.declared.error.HostError.TheVariants as host
+use Rattle.image.specs.declared.layout.Layout.{Layout}
+use Rattle.recover.specs.declared.error.RecoverError.TheVariants as recover
+use Rattle.recover.specs.declared.report.Dropped.{Dropped as Section}
+use Rattle.recover.specs.declared.report.Report.{Report}
+use Rattle.recover.specs.declared.report.Why.{Why}
+use Rattle.recover.specs.declared.report.Why.TheVariants.{Unfinished, After, Unsettled}
+use Rattle.recover.specs.declared.versions.Versions.TheVariants.{Current}
+use Rattle.zelamiku.specs.Behind.{heap_behind, nothing_behind}
+use Rattle.zelamiku.specs.HeapDoors.{found_of, nothing_found}
+use Rattle.zelamiku.specs.HeapStatuses.{host_status}
+use Rattle.zelamiku.specs.Own.{Held}
+use Rattle.zelamiku.specs.declared.report_calls.TheConstants.{UNFINISHED, AFTER, UNSETTLED}
+use Rattle.zelamiku.specs.declared.session_calls.TheConstants.{NOBODY}
+use Rattle.zelamiku.specs.declared.status.TheConstants.{OK}
+use Rattle.zelamiku.specs.declared.words.Dropped.{Dropped}
+use Rattle.zelamiku.specs.declared.words.Told.{Told}
+
+-- nothing is told
+abbrev pub nothing_told : Told
+nothing_told = record { found = nothing_found; kept = replicate LANES 0; place = 0; lane = NOBODY }
+
+-- of a heap with this layout, of which recovery reports this
+abbrev pub told_of : Layout → Report → Told
+told_of l report = record { found = found_of l report; kept = report.kept.counts; place = 0; lane = NOBODY }
+
+-- the record for which it was refused
+abbrev pub blamed : (lane place : ℕ) → Told
+blamed lane place = record { found = nothing_found; kept = replicate LANES 0; place = place; lane = lane }
+
+-- of a heap that wasn't opened: the record that can't be read, or that no threads can have left
+abbrev pub told_of_refusal : HostError → Told
+told_of_refusal (host.Recover (recover.BadRecord lane place)) = blamed lane.0 place
+told_of_refusal (host.Recover (recover.IllegalLog lane place)) = blamed lane.0 place
+told_of_refusal _ = nothing_told
+
+-- a section that was dropped, by why it was
+abbrev pub told_why : (lane section : ℕ) → Why → Dropped
+told_why lane section Unfinished = record { section = section; after_section = 0; lane = lane; why = UNFINISHED; after_lane = NOBODY }
+told_why lane section (After other later) = record { section = section; after_section = later; lane = lane; why = AFTER; after_lane = other.0 }
+told_why lane section Unsettled = record { section = section; after_section = 0; lane = lane; why = UNSETTLED; after_lane = NOBODY }
+
+-- one of those that were dropped, or that there are no more
+abbrev pub told_at : Option Section → Dropped
+told_at (Some s) = told_why s.lane.0 s.section s.why
+told_at None = record { section = 0; after_section = 0; lane = NOBODY; why = 0; after_lane = NOBODY }
+
+-- each of these tells of the section of its place
+abbrev pub TellsEach : List Section → List Dropped → Type 0
+TellsEach sections told = (i : ℕ) (d : Dropped) → i < length told → slice_index_or told i d ≡ told_at (slice_get sections i)
+
+-- `zelamiku_open_telling`, where nothing was behind the handle: the heap that recovery finds in these bytes, and what it reports; or none, and why
+pub data OpensTelling (bytes : List ℕ) (told : Told) (dropped : List Dropped) (after : Held) (status : ℕ) : Type 0 where
+  IsOpenTold : (x : Hosting) (report : Report) → IsFound Current bytes x report → told ≡ told_of x.helper.store.known.layout report → TellsEach report.dropped.items dropped
+      → after ≡ heap_behind x → status ≡ OK → OpensTelling bytes told dropped after status
+  NotOpenTold : (why : HostError) → RefusesOpening Current bytes why → told ≡ told_of_refusal why → TellsEach [] dropped → after ≡ nothing_behind → status ≡ host_status why
+      → OpensTelling bytes told dropped after status

@@ -1,0 +1,61 @@
+//! What C calls of a pool: of the fields in which it is kept, and on what is behind a session's handle.
+ghost use Rattle.std.specs.Prelude.{◌≡◌, ◌≢◌};
+ghost use Rattle.zelamiku.specs.PoolDoors.{AreFreeAnywhere, GivesAt, LaysOutAt, TakesAt};
+ghost use Rattle.zelamiku.specs.SessionDoors.{AnswersAs};
+ghost use Rattle.zelamiku.specs.declared.pool_calls.TheConstants.{NO_SLOT};
+ghost use Rattle.zelamiku.specs.declared.status.TheConstants.{OK};
+
+use crate::slot::{Slot, put, take};
+use crate::words::Field;
+use crate::{pool_calls, status};
+use std::alloc::Global;
+
+/// Lays out the fields of a pool of this object, for a heap to be made: the head's, and one for each slot.
+#[unsafe(no_mangle)]
+pub extern "C" fn zelamiku_pool_fields(object: u32, fields: &mut [Field]) -> u32
+    ensures laid { LaysOutAt object fields.old fields.new result }
+    ensures free { result ≡ OK → AreFreeAnywhere fields.new }
+{
+    pool_calls::lay_out(object, fields)
+}
+
+/// Takes a slot of the pool.
+#[unsafe(no_mangle)]
+pub extern "C" fn zelamiku_pool_take(
+    alloc: Global,
+    place: &mut Slot,
+    head: u32,
+    slots: u32,
+    slot: &mut u32,
+) -> u32
+    ensures told { AnswersAs (TakesAt head slots slot.new) place.old.handle.state place.new.handle.state result }
+    ensures refused { result ≢ OK → slot.new ≡ NO_SLOT }
+{
+    *slot = pool_calls::NO_SLOT;
+    let Some(mut state) = take(alloc, place) else {
+        return status::NOTHING;
+    };
+    let (taken, answer) = pool_calls::take(&mut state, head, slots);
+    *slot = taken;
+    put(place, state);
+    answer
+}
+
+/// Gives a slot back to the pool.
+#[unsafe(no_mangle)]
+pub extern "C" fn zelamiku_pool_give(
+    alloc: Global,
+    place: &mut Slot,
+    head: u32,
+    slots: u32,
+    slot: u32,
+) -> u32
+    ensures told { AnswersAs (GivesAt head slots slot) place.old.handle.state place.new.handle.state result }
+{
+    let Some(mut state) = take(alloc, place) else {
+        return status::NOTHING;
+    };
+    let answer = pool_calls::give(&mut state, head, slots, slot);
+    put(place, state);
+    answer
+}

@@ -1,0 +1,44 @@
+//! What C calls to open a heap, and to be told what recovery did.
+ghost use Rattle.std.specs.Prelude.{◌≡◌};
+ghost use Rattle.zelamiku.specs.HeapDoors.{PutsNew};
+ghost use Rattle.zelamiku.specs.ReportDoors.{OpensTelling};
+
+use crate::slot::{Slot, put_new};
+use crate::state::Open;
+use crate::words::{Dropped, Told};
+use crate::{report_calls, status};
+use recover::Versions;
+use std::alloc::Global;
+
+/// Recovers a heap and opens it, and tells which sections it kept and dropped, or for which record it refused.
+#[unsafe(no_mangle)]
+pub extern "C" fn zelamiku_open_telling(
+    alloc: Global,
+    place: &mut Slot,
+    image: &[u8],
+    told: &mut Told,
+    dropped: &mut [Dropped],
+) -> u32
+    ensures told { PutsNew (OpensTelling image.now told.new dropped.new) place.old.handle.state place.new.handle.state result }
+{
+    *told = report_calls::nothing();
+    report_calls::tell_dropped(&[], dropped);
+    if place.is_open() {
+        return status::OPEN;
+    }
+    match hosted_heap::open(alloc, image, Versions::Current) {
+        Ok((heap, report)) => {
+            let found = report_calls::of_heap(&heap, &report);
+            let Ok(()) = put_new(alloc, place, Open::Heap(heap)) else {
+                return status::NO_MEMORY;
+            };
+            *told = found;
+            report_calls::tell_dropped(&report.dropped, dropped);
+            status::OK
+        }
+        Err(refusal) => {
+            *told = report_calls::of_refusal(refusal);
+            status::of_host(refusal)
+        }
+    }
+}
