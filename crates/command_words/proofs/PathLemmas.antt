@@ -11,8 +11,10 @@ one_file texts words.Run asks same = elim same [ ]
 one_file texts (words.Format image schema lanes capacity) (options, found, asks) same =
     record { options = options; found = found; same = sym asks.image_is ∙ same ∙ asks.schema_is }
 one_file texts (words.Show image) asks same = elim same [ ]
-one_file texts (words.Draw image) asks same = elim same [ ]
+one_file texts (words.Draw image last schema) asks same = elim same [ ]
+one_file texts (words.Dump image schema) asks same = elim same [ ]
 one_file texts (words.Recover image) asks same = elim same [ ]
+one_file texts (words.Upgrade image) asks same = elim same [ ]
 one_file texts (words.Drive workers rounds image) asks same = elim same [ ]
 
 -- the word that was met, and what stands behind it
@@ -52,8 +54,14 @@ not_show texts options is one = longer (length (word_in (subcommand_of program t
 not_recover : (texts : List Text) (options : List Row) → subcommand_of program texts ≡ Some (codes "recover", options) → NamesOneFile texts → ⊥
 not_recover texts options is one = shorter (length (word_in (subcommand_of program texts))) (ap (λ found. length (word_in found)) is) (ap (λ found. length (word_in found)) one.found)
 
+not_upgrade : (texts : List Text) (options : List Row) → subcommand_of program texts ≡ Some (codes "upgrade", options) → NamesOneFile texts → ⊥
+not_upgrade texts options is one = shorter (length (word_in (subcommand_of program texts))) (ap (λ found. length (word_in found)) is) (ap (λ found. length (word_in found)) one.found)
+
 not_drive : (texts : List Text) (options : List Row) → subcommand_of program texts ≡ Some (codes "drive", options) → NamesOneFile texts → ⊥
 not_drive texts options is one = five (length (word_in (subcommand_of program texts))) (ap (λ found. length (word_in found)) is) (ap (λ found. length (word_in found)) one.found)
+
+not_dump : (texts : List Text) (options : List Row) → subcommand_of program texts ≡ Some (codes "dump", options) → NamesOneFile texts → ⊥
+not_dump texts options is one = longer (length (word_in (subcommand_of program texts))) (ap (λ found. length (word_in found)) is) (ap (λ found. length (word_in found)) one.found)
 
 pub two_files : (texts : List Text) (asked : Words) → AsksFor (subcommand_of program texts) asked → (HasOnePath asked → ⊥) → NamesOneFile texts → ⊥
 two_files texts words.Run asks two one = (asks one.options).0 one.found
@@ -61,6 +69,8 @@ two_files texts (words.Format image schema lanes capacity) (options, found, asks
     let same : options ≡ one.options = ap rows_in (sym found ∙ one.found) in
     two (asks.image_is ∙ ap image_of same ∙ one.same ∙ ap schema_of (sym same) ∙ sym asks.schema_is)
 two_files texts (words.Show image) (options, found, path, rest) two one = not_show texts options found one
-two_files texts (words.Draw image) (options, found, path, rest) two one = not_show texts options found one
+two_files texts (words.Draw image last schema) (options, found, asks) two one = not_show texts options found one
+two_files texts (words.Dump image schema) (options, found, asks) two one = not_dump texts options found one
 two_files texts (words.Recover image) (options, found, path) two one = not_recover texts options found one
+two_files texts (words.Upgrade image) (options, found, path) two one = not_upgrade texts options found one
 two_files texts (words.Drive workers rounds image) (options, found, asks) two one = not_drive texts options found one

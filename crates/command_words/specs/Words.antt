@@ -57,6 +57,15 @@ rounds_option = record (new_rule (codes "rounds")) {
   parser = Some (Signed (pos 1) (pos 10000));
 }
 
+-- how many of a thread's sections are drawn, the last ones, and 50 where nothing is said
+abbrev pub last_option : Rule
+last_option = record (new_rule (codes "last")) {
+  long = Some (codes "last");
+  value_names = 1;
+  defaults = codes "50" ∷ [];
+  parser = Some (Signed (pos 1) (pos 1000000000));
+}
+
 -- the flag that asks for a graph
 abbrev pub dot_flag : Rule
 dot_flag = record (new_rule (codes "dot")) { long = Some (codes "dot"); action = Some SetTrue }
@@ -68,11 +77,19 @@ format_words = with_rule (with_rule (with_rule (with_rule (new_app (codes "forma
 
 -- the word `show` with its options
 abbrev pub show_words : App
-show_words = with_rule (with_rule (new_app (codes "show")) (path_option (codes "image"))) dot_flag
+show_words = with_rule (with_rule (with_rule (with_rule (new_app (codes "show")) (path_option (codes "image"))) dot_flag) last_option) (file_option (codes "schema"))
+
+-- the word `dump` with its options
+abbrev pub dump_words : App
+dump_words = with_rule (with_rule (new_app (codes "dump")) (path_option (codes "image"))) (file_option (codes "schema"))
 
 -- the word `recover` with its option
 abbrev pub recover_words : App
 recover_words = with_rule (new_app (codes "recover")) (path_option (codes "image"))
+
+-- the word `upgrade` with its option
+abbrev pub upgrade_words : App
+upgrade_words = with_rule (new_app (codes "upgrade")) (path_option (codes "image"))
 
 -- the word `drive` with its options
 abbrev pub drive_words : App
@@ -91,7 +108,7 @@ play_words = with_subcommand top (new_shape (codes "run"))
 
 -- with all its words
 abbrev pub program : App
-program = with_subcommand (with_subcommand (with_subcommand (with_subcommand play_words format_words.top) show_words.top) recover_words.top) drive_words.top
+program = with_subcommand (with_subcommand (with_subcommand (with_subcommand (with_subcommand (with_subcommand play_words format_words.top) show_words.top) recover_words.top) upgrade_words.top) drive_words.top) dump_words.top
 
 -- the number that an option's text spells, where it spells one that fits
 abbrev pub Reads : (bits : ℕ) → Option Text → ℕ → Type 0
@@ -118,6 +135,18 @@ pub record AsksToFormat (options : List Row) (image schema : Text) (lanes capaci
   pub lanes_are : Reads 8 (one_of (codes "lanes") options) lanes
   pub capacity_is : Reads 32 (one_of (codes "capacity") options) capacity
 
+-- sections are to be drawn, as the options behind the word say
+pub record AsksToDraw (options : List Row) (image : Text) (last : ℕ) (schema : Option Text) : Type 0 where
+  pub image_is : image ≡ image_of options
+  pub last_is : Reads 32 (one_of (codes "last") options) last
+  pub schema_is : schema ≡ first_of (codes "schema") options
+  pub dot : IsSet (codes "dot") options
+
+-- a heap is to be printed, as the options behind the word say
+pub record AsksToDump (options : List Row) (image : Text) (schema : Option Text) : Type 0 where
+  pub image_is : image ≡ image_of options
+  pub schema_is : schema ≡ first_of (codes "schema") options
+
 -- workers are to work, as the options behind the word say
 pub record AsksToDrive (options : List Row) (workers rounds : ℕ) (image : Option Text) : Type 0 where
   pub workers_are : Reads 8 (one_of (codes "workers") options) workers
@@ -127,15 +156,20 @@ pub record AsksToDrive (options : List Row) (workers rounds : ℕ) (image : Opti
 -- the word that was met with its options, if one was, asks for this
 abbrev pub AsksFor : Option (Text × List Row) → Words → Type 0
 AsksFor found words.Run = (options : List Row) → (found ≢ Some (codes "format", options))
-    × (found ≢ Some (codes "show", options)) × (found ≢ Some (codes "recover", options)) × (found ≢ Some (codes "drive", options))
+    × (found ≢ Some (codes "show", options)) × (found ≢ Some (codes "recover", options)) × (found ≢ Some (codes "upgrade", options))
+    × (found ≢ Some (codes "drive", options)) × (found ≢ Some (codes "dump", options))
 AsksFor found (words.Format image schema lanes capacity) =
     (options : List Row) × (found ≡ Some (codes "format", options)) × AsksToFormat options image.now schema.now lanes capacity
 AsksFor found (words.Show image) =
     (options : List Row) × (found ≡ Some (codes "show", options)) × (image.now ≡ image_of options) × (IsSet (codes "dot") options → ⊥)
-AsksFor found (words.Draw image) =
-    (options : List Row) × (found ≡ Some (codes "show", options)) × (image.now ≡ image_of options) × IsSet (codes "dot") options
+AsksFor found (words.Draw image last schema) =
+    (options : List Row) × (found ≡ Some (codes "show", options)) × AsksToDraw options image.now last (option_map (λ path. path.now) schema)
+AsksFor found (words.Dump image schema) =
+    (options : List Row) × (found ≡ Some (codes "dump", options)) × AsksToDump options image.now (option_map (λ path. path.now) schema)
 AsksFor found (words.Recover image) =
     (options : List Row) × (found ≡ Some (codes "recover", options)) × (image.now ≡ image_of options)
+AsksFor found (words.Upgrade image) =
+    (options : List Row) × (found ≡ Some (codes "upgrade", options)) × (image.now ≡ image_of options)
 AsksFor found (words.Drive workers rounds image) =
     (options : List Row) × (found ≡ Some (codes "drive", options)) × AsksToDrive options workers rounds (option_map (λ path. path.now) image)
 

@@ -5,7 +5,7 @@ ghost use Rattle.clap.specs.Values.{kind_of};
 ghost use Rattle.clap.specs.Walk.{first_of, one_of, rows_of, rule_of};
 ghost use Rattle.clap.specs.Matches.{found_of};
 ghost use Rattle.clap.specs.declared.error.kind.ErrorKind.TheVariants.{ArgumentConflict, OutOfMemory};
-ghost use Rattle.command_words.specs.Words.{AsksFor, HasOnePath, IsAnsweredBy, IsSet, Reads, capacity_option, dot_flag, drive_words, file_option, format_words, lanes_option, path_option, play_words, program, recover_words, rounds_option, show_words, workers_option};
+ghost use Rattle.command_words.specs.Words.{AsksFor, HasOnePath, IsAnsweredBy, IsSet, Reads, capacity_option, dot_flag, drive_words, dump_words, file_option, format_words, lanes_option, last_option, path_option, play_words, program, recover_words, rounds_option, show_words, upgrade_words, workers_option};
 
 use clap::error::ErrorKind;
 use clap::{Arg, ArgAction, ArgMatches, Command, Error, value_parser};
@@ -36,9 +36,25 @@ pub enum Words<'a> {
     Draw {
         /// The image file's path.
         image: &'a str,
+        /// How many of each thread's sections that have ended are drawn at most, the last ones; 1 or more.
+        last: u32,
+        /// The path of the schema file that gives the names; there are numbers where there is none.
+        schema: Option<&'a str>,
+    },
+    /// To print the heap of an image file as a schema file.
+    Dump {
+        /// The image file's path.
+        image: &'a str,
+        /// The path of the schema file that gives the names; there are numbers where there is none.
+        schema: Option<&'a str>,
     },
     /// To recover an image file after a crash.
     Recover {
+        /// The image file's path.
+        image: &'a str,
+    },
+    /// To make an image file of version 1 one of version 2, in place, and to recover it so.
+    Upgrade {
         /// The image file's path.
         image: &'a str,
     },
@@ -128,6 +144,18 @@ fn rounds<'a>(alloc: Global) -> Arg<'a>
         .default_value("1000")
 }
 
+fn last<'a>(alloc: Global) -> Arg<'a>
+    ensures rule { rule_of result ≡ last_option }
+    ensures own { result.global ≡ false }
+{
+    Arg::new(alloc, "last")
+        .long("last")
+        .value_name("N")
+        .help("With --dot: how many sections of each thread are drawn at most, the last ones")
+        .value_parser(value_parser!(u32).range(1..=1_000_000_000))
+        .default_value("50")
+}
+
 fn dot<'a>(alloc: Global) -> Arg<'a>
     ensures rule { rule_of result ≡ dot_flag }
     ensures own { result.global ≡ false }
@@ -161,7 +189,28 @@ fn show<'a>(alloc: Global) -> Result<Command<'a>, AllocError>
     Command::new(alloc, "show")
         .about("Prints what an image file holds, and leaves the file as it is")
         .arg(path(alloc, "image", "The image file to read"))?
-        .arg(dot(alloc))
+        .arg(dot(alloc))?
+        .arg(last(alloc))?
+        .arg(file(
+            alloc,
+            "schema",
+            "With --dot: the schema file of the image, for names. Numbers without this",
+        ))
+}
+
+fn dump<'a>(alloc: Global) -> Result<Command<'a>, AllocError>
+    ensures { IfOk result (λ command. app_of command ≡ dump_words) }
+{
+    Command::new(alloc, "dump")
+        .about(
+            "Prints a schema file whose first values are those that 'recover' gives, and leaves the image file as it is: 'format' of it, with more lines at its end or none, makes an image with the same heap",
+        )
+        .arg(path(alloc, "image", "The image file to read"))?
+        .arg(file(
+            alloc,
+            "schema",
+            "The schema file of the image, for names. Without this they are o0 and f0, and so on",
+        ))
 }
 
 fn recover<'a>(alloc: Global) -> Result<Command<'a>, AllocError>
@@ -172,6 +221,16 @@ fn recover<'a>(alloc: Global) -> Result<Command<'a>, AllocError>
             "Recovers an image file after a crash, and prints what was kept and dropped. Where the report must not be lost, run 'show' first",
         )
         .arg(path(alloc, "image", "The image file to recover"))
+}
+
+fn upgrade<'a>(alloc: Global) -> Result<Command<'a>, AllocError>
+    ensures { IfOk result (λ command. app_of command ≡ upgrade_words) }
+{
+    Command::new(alloc, "upgrade")
+        .about(
+            "Makes an image file that an older release left one of this release, in place: recovers it, and prints what was kept and dropped",
+        )
+        .arg(path(alloc, "image", "The image file to upgrade"))
 }
 
 fn drive<'a>(alloc: Global) -> Result<Command<'a>, AllocError>
@@ -212,11 +271,15 @@ fn command<'a>(alloc: Global) -> Result<Command<'a>, AllocError>
     let format = format(alloc)?;
     let show = show(alloc)?;
     let recover = recover(alloc)?;
+    let upgrade = upgrade(alloc)?;
     let drive = drive(alloc)?;
+    let dump = dump(alloc)?;
     play.subcommand(format)?
         .subcommand(show)?
         .subcommand(recover)?
-        .subcommand(drive)
+        .subcommand(upgrade)?
+        .subcommand(drive)?
+        .subcommand(dump)
 }
 
 /// Reads the words; the program's name comes first.
@@ -276,7 +339,11 @@ fn asked_by<'a>(matches: &ArgMatches<'a>) -> Words<'a>
         Some(("show", found)) => {
             let image = text_of(found, "image");
             if is_set(found, "dot") {
-                Words::Draw { image }
+                Words::Draw {
+                    image,
+                    last: number_of(found, "last"),
+                    schema: found_text(found, "schema"),
+                }
             } else {
                 Words::Show { image }
             }
@@ -284,10 +351,17 @@ fn asked_by<'a>(matches: &ArgMatches<'a>) -> Words<'a>
         Some(("recover", found)) => Words::Recover {
             image: text_of(found, "image"),
         },
+        Some(("upgrade", found)) => Words::Upgrade {
+            image: text_of(found, "image"),
+        },
         Some(("drive", found)) => Words::Drive {
             workers: byte_of(found, "workers"),
             rounds: number_of(found, "rounds"),
             image: found_text(found, "image"),
+        },
+        Some(("dump", found)) => Words::Dump {
+            image: text_of(found, "image"),
+            schema: found_text(found, "schema"),
         },
         // No words mean the only other word too.
         _ => Words::Run,

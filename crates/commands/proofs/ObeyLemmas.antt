@@ -8,8 +8,11 @@ use Rattle.image_file.specs.declared.error.FormatError.{FormatError}
 use Rattle.image_file.specs.Formatting.{PrintsImage, IsSilent}
 use Rattle.image_file.specs.declared.error.ImageFault.{ImageFault}
 use Rattle.recover.specs.declared.studied.Study.{Study}
+use Rattle.guards.specs.Schema.{Declarations}
+use Rattle.image_file.specs.declared.error.NamedFault.{NamedFault}
+use Rattle.image_file.specs.Naming.{TellsNamed, TellsLessNamed}
 use Rattle.image_file.specs.Telling.{Tells, TellsLess}
-use Rattle.commands.specs.Obeying.{Formats, PlaysScript, TellsOf, told_of_format, told_of_image, told_of_script}
+use Rattle.commands.specs.Obeying.{Formats, PlaysScript, TellsOf, TellsOfNamed, told_of_format, told_of_image, told_of_named, told_of_script}
 
 pub played : (r : Result (Unit {0}) ScriptError) (read unread written now : Option (List ℕ)) → OfScript read unread (λ lines ending. Ends lines ending r written now)
     → PlaysScript (told_of_script r) read unread written now
@@ -25,3 +28,8 @@ pub told : (text : Study → List ℕ) (r : Result (Unit {0}) ImageFault) (writt
     → OnErr r (TellsLess text written now) → TellsOf text (told_of_image r) written now
 told text (Ok done) written now all part = all
 told text (Err error) written now all part = part
+
+pub told_named : {P : Type 0} (text : Option Declarations → Study → List ℕ) (path : Option P) (r : Result (Unit {0}) NamedFault) (written now : Option (List ℕ))
+    → OnOk r (TellsNamed text path written now) → OnErr r (TellsLessNamed text written now) → TellsOfNamed text path (told_of_named r) written now
+told_named text path (Ok done) written now all part = all
+told_named text path (Err error) written now all part = part

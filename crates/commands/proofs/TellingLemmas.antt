@@ -9,7 +9,7 @@ use Rattle.commands.specs.DrivenText.{driven_text}
 use Rattle.commands.specs.Faults.{RefusedAt}
 use Rattle.commands.specs.Telling.{Drives, WorkedAt}
 use Rattle.commands.specs.declared.fault.WorkFault.{WorkFault}
-use Rattle.commands.specs.declared.fault.WorkFault.TheVariants.{Script, Format, Image, Drive, File, Write}
+use Rattle.commands.specs.declared.fault.WorkFault.TheVariants.{Script, Format, Image, Named, Drive, File, Write}
 
 -- they have worked, and it is told as far as the writer takes it
 pub told : (worked : Driven → Type 0) (refused : WorkFault → Type 0) (driven : Driven) (r : Result (Unit {0}) WorkFault) (old new : Option (List ℕ)) → worked driven
@@ -21,6 +21,7 @@ told worked refused driven (Err (File e)) old new so all write part = absurd cc
 told worked refused driven (Err (Script e)) old new so all write part = absurd cc
 told worked refused driven (Err (Format e)) old new so all write part = absurd cc
 told worked refused driven (Err (Image e)) old new so all write part = absurd cc
+told worked refused driven (Err (Named e)) old new so all write part = absurd cc
 
 -- they haven't, and nothing is told
 pub silent : {P : Type 0} (image : Option P) (workers : ℕ) (fault : WorkFault) (written : Option (List ℕ)) → RefusedAt image workers fault
@@ -31,6 +32,7 @@ silent None workers Write written refused = elim refused [ ]
 silent None workers (Script e) written refused = elim refused [ ]
 silent None workers (Format e) written refused = elim refused [ ]
 silent None workers (Image e) written refused = elim refused [ ]
+silent None workers (Named e) written refused = elim refused [ ]
 silent (Some path) workers (Drive e) written refused = (refused, Appends-nil written)
 silent (Some path) workers (File e) written refused = (refused, Appends-nil written)
 silent (Some path) workers (Format e) written refused = (refused, Appends-nil written)
@@ -43,3 +45,6 @@ silent (Some path) workers (Script e) written (file, inr (inr never)) = elim nev
 silent (Some path) workers (Image e) written (file, inl never) = elim never [ ]
 silent (Some path) workers (Image e) written (file, inr (inl (empty, never))) = elim never [ ]
 silent (Some path) workers (Image e) written (file, inr (inr never)) = elim never [ ]
+silent (Some path) workers (Named e) written (file, inl never) = elim never [ ]
+silent (Some path) workers (Named e) written (file, inr (inl (empty, never))) = elim never [ ]
+silent (Some path) workers (Named e) written (file, inr (inr never)) = elim never [ ]

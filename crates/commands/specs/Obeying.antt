@@ -4,12 +4,16 @@ use Rattle.std.specs.Io.KnownBytes.{Appends}
 use Rattle.script_lines.specs.Endings.{OfScript}
 use Rattle.scripts.specs.Runs.{Ends}
 use Rattle.inspect.specs.StudyText.{study_text}
-use Rattle.inspect.specs.WholeGraph.{graph_text}
+use Rattle.inspect.specs.WholeGraph.{picture_text}
 use Rattle.script_lines.specs.declared.error.ScriptError.{ScriptError}
 use Rattle.image_file.specs.declared.error.ImageFault.{ImageFault}
+use Rattle.image_file.specs.declared.error.NamedFault.{NamedFault}
 use Rattle.recover.specs.declared.studied.Study.{Study}
 use Rattle.image_file.specs.declared.error.FormatError.{FormatError}
 use Rattle.image_file.specs.Formatting.{PrintsImage, IsSilent}
+use Rattle.guards.specs.Schema.{Declarations}
+use Rattle.image_schema.specs.Dumping.{dump_text}
+use Rattle.image_file.specs.Naming.{TellsNamed, TellsLessNamed}
 use Rattle.image_file.specs.Telling.{Tells, TellsLess, report_of}
 use Rattle.commands.specs.declared.fault.WorkFault.{WorkFault}
 use Rattle.commands.specs.declared.fault.WorkFault.TheVariants as fault
@@ -33,6 +37,11 @@ abbrev pub told_of_image : Result (Unit {0}) ImageFault → Result (Unit {0}) Wo
 told_of_image (Ok done) = Ok done
 told_of_image (Err error) = Err (fault.Image error)
 
+-- how telling of an image file by the names of a schema file ended
+abbrev pub told_of_named : Result (Unit {0}) NamedFault → Result (Unit {0}) WorkFault
+told_of_named (Ok done) = Ok done
+told_of_named (Err error) = Err (fault.Named error)
+
 -- the script that was read is played, and stops where it says so
 abbrev pub PlaysScript : Result (Unit {0}) WorkFault → (read unread written now : Option (List ℕ)) → Type 0
 PlaysScript (Ok done) read unread written now = OfScript read unread (λ lines ending. Ends lines ending (Ok done) written now)
@@ -51,11 +60,19 @@ TellsOf text (Ok done) written now = Tells text written now
 TellsOf text (Err (fault.Image error)) written now = TellsLess text written now
 TellsOf text (Err _) written now = ⊥
 
+-- this text of a study of an image is written, by the names of the schema file where one is named
+abbrev pub TellsOfNamed : {P : Type 0} (text : Option Declarations → Study → List ℕ) (path : Option P) → Result (Unit {0}) WorkFault → (written now : Option (List ℕ)) → Type 0
+TellsOfNamed text path (Ok done) written now = TellsNamed text path written now
+TellsOfNamed text path (Err (fault.Named error)) written now = TellsLessNamed text written now
+TellsOfNamed text path (Err _) written now = ⊥
+
 -- what the words ask for is done, with this result: by what the reader had before and has now, and what was written before and is now
 abbrev pub Obeys : Words → Result (Unit {0}) WorkFault → (read unread written now : Option (List ℕ)) → Type 0
 Obeys words.Run result read unread written now = PlaysScript result read unread written now
 Obeys (words.Format image schema lanes capacity) result read unread written now = Formats lanes capacity result written now
 Obeys (words.Show image) result read unread written now = TellsOf study_text result written now
-Obeys (words.Draw image) result read unread written now = TellsOf graph_text result written now
+Obeys (words.Draw image last schema) result read unread written now = TellsOfNamed (λ given s. picture_text given last s) schema result written now
+Obeys (words.Dump image schema) result read unread written now = TellsOfNamed dump_text schema result written now
 Obeys (words.Recover image) result read unread written now = TellsOf report_of result written now
+Obeys (words.Upgrade image) result read unread written now = TellsOf report_of result written now
 Obeys (words.Drive workers rounds image) result read unread written now = Drives (WorkedAt image workers) (RefusedAt image workers) result written now

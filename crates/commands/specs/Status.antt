@@ -6,6 +6,8 @@ use Rattle.image_file.specs.declared.error.FileFault.{FileFault}
 use Rattle.image_file.specs.declared.error.FileFault.TheVariants as files
 use Rattle.image_file.specs.declared.error.ImageFault.{ImageFault}
 use Rattle.image_file.specs.declared.error.ImageFault.TheVariants as images
+use Rattle.image_file.specs.declared.error.NamedFault.{NamedFault}
+use Rattle.image_file.specs.declared.error.NamedFault.TheVariants as named
 use Rattle.commands.specs.declared.fault.WorkFault.{WorkFault}
 use Rattle.commands.specs.declared.fault.WorkFault.TheVariants as fault
 use Rattle.script_lines.specs.declared.error.ScriptErrorKind.{ScriptErrorKind}
@@ -26,10 +28,16 @@ status_for_format (Schema fault) = 2
 status_for_format InUse = 3
 status_for_format _ = 1
 
--- where an image isn't shown, drawn or recovered; that it is refused is no fault of the words
+-- where an image isn't shown or recovered; that it is refused is no fault of the words
 abbrev pub status_for_image : ImageFault → ℕ
 status_for_image images.InUse = 3
 status_for_image (images.Image error) = 1
+
+-- where it isn't drawn or dumped by the names of a schema file: 2 for what that file has
+abbrev pub status_for_named : NamedFault → ℕ
+status_for_named (named.Image fault) = status_for_image fault
+status_for_named (named.Schema fault) = 2
+status_for_named named.OtherSchema = 1
 
 -- where an image file isn't had
 abbrev pub status_for_file : FileFault → ℕ
@@ -41,6 +49,7 @@ abbrev pub status_for_fault : WorkFault → ℕ
 status_for_fault (fault.Script error) = status_for error.kind
 status_for_fault (fault.Format error) = status_for_format error
 status_for_fault (fault.Image error) = status_for_image error
+status_for_fault (fault.Named error) = status_for_named error
 status_for_fault (fault.File error) = status_for_file error
 status_for_fault (fault.Drive error) = 1
 status_for_fault fault.Write = 1

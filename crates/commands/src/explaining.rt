@@ -6,7 +6,8 @@ use crate::fault::WorkFault;
 use command_words::Words;
 use drive::DriveError;
 use file_disk::BackingFile;
-use image_file::{BESIDE, FileFault, FormatError, ImageFault, Place, Trouble};
+use image_file::{BESIDE, FileFault, FormatError, ImageFault, NamedFault, Place, Trouble};
+use recover::RecoverError;
 use std::io::{ErrorKind, Read};
 use std::rt::Files;
 use std::{fs, io};
@@ -28,8 +29,17 @@ where
 {
     let image = image_of(words);
     match fault {
-        WorkFault::Script(_) | WorkFault::Format(FormatError::Schema(_)) => {}
+        WorkFault::Script(_)
+        | WorkFault::Format(FormatError::Schema(_))
+        | WorkFault::Named(NamedFault::Schema(_)) => {}
+        WorkFault::Named(NamedFault::OtherSchema) => {
+            let schema = schema_of(words);
+            let _ = eprintln!(rt;
+                "heapctl: {image}: it hasn't the objects and fields of {schema}; name the schema file that it was made of, or none"
+            );
+        }
         WorkFault::Image(ImageFault::InUse)
+        | WorkFault::Named(NamedFault::Image(ImageFault::InUse))
         | WorkFault::Format(FormatError::InUse)
         | WorkFault::File(FileFault::InUse) => {
             let _ = eprintln!(rt; "heapctl: {image}: another process has it; wait until it ends");
@@ -44,6 +54,12 @@ where
                 "heapctl: {image}: it has bytes and doesn't begin as an image; if its making was cut off, remove it"
             );
         }
+        WorkFault::Image(ImageFault::Image(RecoverError::OldVersion))
+        | WorkFault::Drive(DriveError::Recover(RecoverError::OldVersion)) => {
+            let _ = eprintln!(rt;
+                "heapctl: {image}: it is of version 1; 'heapctl upgrade' makes it one of version 2, in place, and keeps its heap"
+            );
+        }
         WorkFault::Drive(DriveError::OtherSchema) => tell_other(rt, words, image),
         _ => tell_cause(rt, words, trouble),
     }
@@ -54,8 +70,10 @@ fn image_of<'a>(words: &Words<'a>) -> &'a str {
     match words {
         Words::Format { image, .. }
         | Words::Show { image }
-        | Words::Draw { image }
-        | Words::Recover { image } => *image,
+        | Words::Draw { image, .. }
+        | Words::Dump { image, .. }
+        | Words::Recover { image }
+        | Words::Upgrade { image } => *image,
         Words::Drive { image, .. } => image.unwrap_or("memory"),
         Words::Run => "memory",
     }
@@ -88,6 +106,7 @@ fn tell_cause<R: Eprint>(rt: &R, words: &Words<'_>, trouble: &Trouble) {
 fn schema_of<'a>(words: &Words<'a>) -> &'a str {
     match words {
         Words::Format { schema, .. } => *schema,
+        Words::Draw { schema, .. } | Words::Dump { schema, .. } => schema.unwrap_or(""),
         _ => "",
     }
 }

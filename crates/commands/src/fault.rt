@@ -1,6 +1,6 @@
 //! Why the program doesn't do what its words ask for.
 use drive::DriveError;
-use image_file::{FileFault, FormatError, ImageFault};
+use image_file::{FileFault, FormatError, ImageFault, NamedFault};
 use script_lines::ScriptError;
 use thiserror::Error;
 
@@ -13,9 +13,12 @@ pub enum WorkFault {
     /// No image file was made.
     #[error("{0}")]
     Format(FormatError),
-    /// An image file was not shown, drawn or recovered. That one is refused is no fault of the words.
+    /// An image file was not shown, recovered or upgraded. That one is refused is no fault of the words.
     #[error("{0}")]
     Image(ImageFault),
+    /// An image file was not drawn or dumped by the names of a schema file.
+    #[error("{0}")]
+    Named(NamedFault),
     /// Workers haven't worked to their end. An image file may be recovered, and gone on with.
     #[error("{0}")]
     Drive(DriveError),

@@ -1,6 +1,6 @@
 //! What the program's words do.
 ghost use Rattle.std.specs.Prelude.{◌≡◌};
-ghost use Rattle.commands.specs.Obeying.{Obeys, told_of_format, told_of_image, told_of_script};
+ghost use Rattle.commands.specs.Obeying.{Obeys, told_of_format, told_of_image, told_of_named, told_of_script};
 
 use crate::driving::drive;
 use crate::fault::WorkFault;
@@ -8,8 +8,10 @@ use crate::progress::Progress;
 use command_words::Words;
 use file_disk::BackingFile;
 use image_file::{
-    FormatError, ImageFault, Trouble, draw_file, format_file, recover_file, show_file,
+    FormatError, ImageFault, NamedFault, Trouble, draw_named_file, dump_file, format_file,
+    recover_file, show_file,
 };
+use recover::Versions;
 use script_lines::ScriptError;
 use scripts::run_script;
 use std::fs::OpenFile;
@@ -46,8 +48,20 @@ where
             capacity,
         } => on_format(format_file(rt, alloc, trouble, image, schema, lanes, capacity, writer)),
         Words::Show { image } => on_image(show_file(rt, alloc, trouble, image, writer)),
-        Words::Draw { image } => on_image(draw_file(rt, alloc, trouble, image, writer)),
-        Words::Recover { image } => on_image(recover_file(rt, alloc, trouble, image, writer)),
+        Words::Draw {
+            image,
+            last,
+            schema,
+        } => on_named(draw_named_file(rt, alloc, trouble, image, schema, last, writer)),
+        Words::Dump { image, schema } => on_named(dump_file(
+            rt, alloc, trouble, image, schema, writer,
+        )),
+        Words::Recover { image } => {
+            on_image(recover_file(rt, alloc, trouble, Versions::Current, image, writer))
+        }
+        Words::Upgrade { image } => {
+            on_image(recover_file(rt, alloc, trouble, Versions::Both, image, writer))
+        }
         Words::Drive {
             workers,
             rounds,
@@ -86,5 +100,15 @@ fn on_image(answer: Result<(), ImageFault>) -> Result<(), WorkFault>
     match answer {
         Ok(()) => Ok(()),
         Err(error) => Err(WorkFault::Image(error)),
+    }
+}
+
+// How telling of an image file by the names of a schema file ended.
+fn on_named(answer: Result<(), NamedFault>) -> Result<(), WorkFault>
+    ensures { result ≡ told_of_named answer }
+{
+    match answer {
+        Ok(()) => Ok(()),
+        Err(error) => Err(WorkFault::Named(error)),
     }
 }

@@ -1,9 +1,9 @@
 //! The program's exit statuses.
 ghost use Rattle.std.specs.Prelude.{◌≡◌};
-ghost use Rattle.commands.specs.Status.{status_for, status_for_fault, status_for_file, status_for_format, status_for_image};
+ghost use Rattle.commands.specs.Status.{status_for, status_for_fault, status_for_file, status_for_format, status_for_image, status_for_named};
 
 use crate::fault::WorkFault;
-use image_file::{FileFault, FormatError, ImageFault};
+use image_file::{FileFault, FormatError, ImageFault, NamedFault};
 use script_lines::ScriptErrorKind;
 
 /// Wrong words, a refused schema file, or a script that can't be played to its end.
@@ -41,13 +41,24 @@ pub fn status_of_format(error: &FormatError) -> u8
     }
 }
 
-/// The status where an image isn't shown, drawn or recovered.
+/// The status where an image isn't shown or recovered.
 pub fn status_of_image(fault: &ImageFault) -> u8
     ensures { result ≡ status_for_image fault.now }
 {
     match fault {
         ImageFault::InUse => IN_USE,
         ImageFault::Image(_) => FAULT,
+    }
+}
+
+/// The status where an image isn't drawn or dumped by the names of a schema file.
+pub fn status_of_named(fault: &NamedFault) -> u8
+    ensures { result ≡ status_for_named fault.now }
+{
+    match fault {
+        NamedFault::Image(fault) => status_of_image(fault),
+        NamedFault::Schema(_) => WRONG_INPUT,
+        NamedFault::OtherSchema => FAULT,
     }
 }
 
@@ -69,6 +80,7 @@ pub fn status_of_fault(fault: &WorkFault) -> u8
         WorkFault::Script(error) => status_of(error.kind),
         WorkFault::Format(error) => status_of_format(error),
         WorkFault::Image(error) => status_of_image(error),
+        WorkFault::Named(error) => status_of_named(error),
         WorkFault::File(error) => status_of_file(*error),
         WorkFault::Drive(_) | WorkFault::Write => FAULT,
     }

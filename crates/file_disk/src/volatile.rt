@@ -33,9 +33,15 @@ impl VolatileDisk {
     pub fn new(alloc: Global, size: u64) -> Result<VolatileDisk, AllocError>
         ensures { IfOk result (λ disk. disk ≡ new_device (replicate size 0)) }
     {
-        let bytes = vec![in alloc; 0u8; size as usize]?;
+        Ok(VolatileDisk::holding(vec![in alloc; 0u8; size as usize]?))
+    }
+
+    /// The disk of these bytes, which it takes for its own.
+    pub fn holding(bytes: Vec<u8>) -> VolatileDisk
+        ensures { result ≡ new_device bytes.items }
+    {
         let trace = Trace::of(&bytes);
-        Ok(VolatileDisk { bytes, trace })
+        VolatileDisk { bytes, trace }
     }
 }
 

@@ -150,15 +150,37 @@ fn words_on_an_image_ask_for_what_they_say(rt: HostRuntime) -> Result<(), AllocE
         ),
         (
             ["show", "--image", "i", "--dot"].as_slice(),
-            Words::Draw { image: "i" },
+            Words::Draw {
+                image: "i",
+                last: 50,
+                schema: None,
+            },
         ),
         (
-            ["show", "--dot", "--image", "i"].as_slice(),
-            Words::Draw { image: "i" },
+            [
+                "show", "--dot", "--image", "i", "--last", "7", "--schema", "s",
+            ]
+            .as_slice(),
+            Words::Draw {
+                image: "i",
+                last: 7,
+                schema: Some("s"),
+            },
+        ),
+        (
+            ["dump", "--image", "i", "--schema", "s"].as_slice(),
+            Words::Dump {
+                image: "i",
+                schema: Some("s"),
+            },
         ),
         (
             ["recover", "--image", "i"].as_slice(),
             Words::Recover { image: "i" },
+        ),
+        (
+            ["upgrade", "--image", "i"].as_slice(),
+            Words::Upgrade { image: "i" },
         ),
     ];
     for (words, asked) in cases {

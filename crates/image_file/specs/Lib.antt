@@ -3,3 +3,6 @@ pub mod Formatting
 pub mod Telling
 pub mod Recovering
 pub mod Showing
+pub mod Naming
+pub mod Drawing
+pub mod Dumping

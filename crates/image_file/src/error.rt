@@ -1,6 +1,7 @@
 //! Why there is no image, or no text of one.
 ghost use Rattle.std.specs.Prelude.{◌≡◌};
 ghost use Rattle.image_file.specs.Formatting.{told_of_disk, told_of_file, told_of_schema};
+ghost use Rattle.image_file.specs.Naming.{told_of_names};
 ghost use Rattle.image_file.specs.Showing.{told_of_attaching};
 
 use declarations::{SchemaFault, SchemaFaultKind};
@@ -84,7 +85,7 @@ impl From<FileFault> for FormatError {
     }
 }
 
-/// Why an image file isn't shown, drawn or recovered.
+/// Why an image file isn't shown, drawn, recovered or upgraded.
 #[derive(Clone, Copy, Debug, PartialEq, Eq, Error)]
 pub enum ImageFault {
     /// The image is refused; or it can't be read, be written, or its text be written, by `Fault`.
@@ -104,6 +105,32 @@ impl From<FileFault> for ImageFault {
             FileFault::NoMemory => ImageFault::Image(RecoverError::NoMemory),
             FileFault::InUse => ImageFault::InUse,
             FileFault::NotImage => ImageFault::Image(RecoverError::NotFormatted),
+        }
+    }
+}
+
+/// Why an image file isn't drawn or dumped by the names of a schema file.
+#[derive(Clone, Copy, Debug, PartialEq, Eq, Error)]
+pub enum NamedFault {
+    /// The image isn't had, or is refused, or the writer failed.
+    #[error("{0}")]
+    Image(ImageFault),
+    /// The schema file is refused, at this line.
+    #[error("{0}")]
+    Schema(SchemaFault),
+    /// It isn't the schema of the image.
+    #[error("other schema")]
+    OtherSchema,
+}
+
+impl From<SchemaFault> for NamedFault {
+    ghost from_gives = { λ fault error. error ≡ told_of_names fault };
+
+    fn from(fault: SchemaFault) -> NamedFault {
+        match fault.why {
+            SchemaFaultKind::Read => NamedFault::Image(ImageFault::Image(RecoverError::Fault)),
+            SchemaFaultKind::Memory => NamedFault::Image(ImageFault::Image(RecoverError::NoMemory)),
+            _ => NamedFault::Schema(fault),
         }
     }
 }

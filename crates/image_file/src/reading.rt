@@ -1,6 +1,6 @@
 //! Reading an image, and opening its file for that.
 ghost use Rattle.std.specs.Prelude.{IfErr, IfOk};
-ghost use Rattle.block_disk.specs.Memory.{device_of};
+ghost use Rattle.block_disk.specs.Device.{Device};
 ghost use Rattle.image_file.specs.Showing.{IsUnread, ReadsImage};
 
 use crate::claiming::begins_as_image;
@@ -8,8 +8,7 @@ use crate::error::FileFault;
 use crate::refusal::refusal_of_reading;
 use crate::trouble::{Place, Trouble};
 use crate::watched::Watched;
-use block_disk::MemDisk;
-use file_disk::{BackingFile, Claim};
+use file_disk::{BackingFile, Claim, VolatileDisk};
 use recover::RecoverError;
 use std::alloc::Global;
 use std::fs;
@@ -25,7 +24,7 @@ const MOST_BYTES: u64 = 2160 + 24 * 16_384 + 16 * 32 * 1_048_576;
 pub(crate) type ImageReader<'a, F> = Chain<Cursor<Vec<u8>>, Take<Watched<'a, F>>>;
 
 /// Opens the image file at this path to be read, as far as its header says that the image goes, and shares it with others that only
-/// read it.
+/// read it. Beside it stands for how many bytes room is made: as many as the file has, up to the image's end.
 ///
 /// `InUse`: another open has claimed it alone. `NotImage`: it doesn't begin as an image; no more than its header was read.
 pub(crate) fn open_to_read<'a, F, R>(
@@ -33,7 +32,7 @@ pub(crate) fn open_to_read<'a, F, R>(
     alloc: Global,
     path: &str,
     trouble: &'a Trouble,
-) -> Result<ImageReader<'a, F>, FileFault>
+) -> Result<(ImageReader<'a, F>, usize), FileFault>
 where
     F: BackingFile + Read + Drop,
     R: Files<File = F>,
@@ -57,8 +56,11 @@ where
     if !begins_as_image(&head) {
         return Err(FileFault::NotImage);
     }
-    let rest = size_in(&head).saturating_sub(HEADER_BYTES);
-    Ok(Cursor::new(head).chain(file.take(rest)))
+    let size = size_in(&head);
+    // Of a pipe no length is known: what is read of it makes room for itself.
+    let room = file.len().unwrap_or(0).min(size) as usize;
+    let rest = size.saturating_sub(HEADER_BYTES);
+    Ok((Cursor::new(head).chain(file.take(rest)), room))
 }
 
 fn fault_of_reading(error: &std::io::Error) -> FileFault {
@@ -82,19 +84,24 @@ fn size_in(head: &[u8]) -> u64 {
     }
 }
 
-/// Reads an image to its end, and gives a disk in memory that holds it, so that no call reaches what was read.
+/// Reads an image to its end, and gives a disk in memory that holds it, so that no call reaches what was read. The image is in memory
+/// once, where it has no more bytes than room was made for.
 ///
 /// `Fault` says that the reader failed, `NoMemory` that there was no memory.
-pub(crate) fn read_image<S: Read>(alloc: Global, reader: &mut S) -> Result<MemDisk, RecoverError>
-    ensures ok { IfOk result (λ disk. ReadsImage (S.remaining reader.old) (S.remaining reader.new) (device_of disk).now.bytes) }
+pub(crate) fn read_image<S: Read>(
+    alloc: Global,
+    reader: &mut S,
+    room: usize,
+) -> Result<VolatileDisk, RecoverError>
+    ensures ok { IfOk result (λ (disk : Device). ReadsImage (S.remaining reader.old) (S.remaining reader.new) disk.now.bytes) }
     ensures unread { IfErr result IsUnread }
 {
-    let mut image = Vec::new(alloc);
-    if let Err(error) = reader.read_to_end(&mut image) {
-        return Err(refusal_of_reading(&error));
-    }
-    match MemDisk::from_bytes(alloc, &image) {
-        Ok(disk) => Ok(disk),
-        Err(_) => Err(RecoverError::NoMemory),
+    // One byte more, so that the end is found without more room.
+    let Ok(mut image) = Vec::with_capacity(alloc, room.saturating_add(1)) else {
+        return Err(RecoverError::NoMemory);
+    };
+    match reader.read_to_end(&mut image) {
+        Ok(_) => Ok(VolatileDisk::holding(image)),
+        Err(error) => Err(refusal_of_reading(&error)),
     }
 }

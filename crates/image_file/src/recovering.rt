@@ -1,9 +1,9 @@
-//! Recovering an image, and telling what is kept and what is dropped.
+//! Recovering an image, or upgrading it, and telling what is kept and what is dropped.
 ghost use Rattle.std.specs.Prelude.{◌≡◌, ◌≢◌, ◌⊎◌, [], ℕ, List, IfErr, IfOk, OnErr, OnOk};
 ghost use Rattle.std.specs.Io.KnownBytes.{Appends};
 ghost use Rattle.block_disk.specs.Device.{SameMoments, synced};
 ghost use Rattle.block_disk.specs.Images.{LeavesOnly};
-ghost use Rattle.recover.specs.Recovery.{IsOnTheWay, LeavesOnTheWay};
+ghost use Rattle.recover.specs.Recovery.{IsOnTheWay, IsTooOld, LeavesOnTheWay};
 ghost use Rattle.recover.specs.Study.{IsStudyOf};
 ghost use Rattle.recover.specs.declared.error.RecoverError.TheVariants.{Fault};
 ghost use Rattle.recover.specs.declared.studied.Study.{Study};
@@ -20,30 +20,32 @@ use block_disk::Disk;
 use file_disk::{BackingFile, BufferedDisk};
 use image::Recovered;
 use inspect::{WriteError, write_report};
-use recover::{RecoverError, Report, recover};
+use recover::{RecoverError, Report, Versions, recover_of};
 use std::alloc::Global;
 use std::fs::OpenFile;
 use std::io::Write;
 use std::rt::Files;
 
-/// Recovers the image on the device, of which nothing has to be known, and writes the lines of the report: what is kept,
-/// what is dropped and why, and the heap.
+/// Recovers the image on the device, of which nothing has to be known, if it is of one of these versions, and writes the lines
+/// of the report: what is kept, what is dropped and why, and the heap.
 ///
 /// Refusals, in this order, each with the device:
-/// - those of [`recover`](recover::recover), with what they leave: nothing is written;
+/// - those of [`recover_of`](recover::recover_of), with what they leave: nothing is written;
 /// - `Fault`: the writer failed. A beginning of the report is written, and the image is recovered all the same.
 pub fn recover_image<D: Disk, W: Write>(
     alloc: Global,
     disk: D,
+    versions: Versions,
     writer: &mut W,
 ) -> Result<Recovered<D>, (D, RecoverError)>
     ensures ok { IfOk result (λ r. Recovers (D.device disk) (D.device r.disk) r (W.contents writer.old) (W.contents writer.new)) }
+    ensures taken { OnOk result (IsTooOld versions (D.device disk).now.bytes → ⊥) }
     ensures any_moment { IfOk result (λ r. (s : Study) → IsStudyOf (D.device disk).now.bytes s → LeavesOnly (synced (D.device disk)) (D.device r.disk) (IsOnTheWay s)) }
-    ensures refused { IfErr result (λ back. RefusesReport (D.device disk) (D.device back.0) back.1 (W.contents writer.old) (W.contents writer.new)) }
+    ensures refused { IfErr result (λ back. RefusesReport versions (D.device disk) (D.device back.0) back.1 (W.contents writer.old) (W.contents writer.new)) }
     ensures untouched { IfErr result (λ back. (back.1 ≡ Fault) ⊎ SameMoments (synced (D.device disk)) (D.device back.0)) }
     ensures interrupted { IfErr result (λ back. (s : Study) → IsStudyOf (D.device disk).now.bytes s → LeavesOnTheWay s (D.device disk) (D.device back.0)) }
 {
-    let (recovered, report) = match recover(alloc, disk) {
+    let (recovered, report) = match recover_of(alloc, disk, versions) {
         Ok(found) => found,
         Err(refusal) => return Err(refusal),
     };
@@ -70,10 +72,14 @@ struct Told {
 }
 
 // Recovers the image on the device, which is let go.
-fn recovered_of<D: Disk + Drop>(alloc: Global, disk: D) -> Result<Told, RecoverError>
+fn recovered_of<D: Disk + Drop>(
+    alloc: Global,
+    disk: D,
+    versions: Versions,
+) -> Result<Told, RecoverError>
     ensures { IfOk result (λ told. (s : Study) × IsStudyOf (D.device disk).now.bytes s × (report_text told.report told.heap.items told.lanes ≡ report_of s)) }
 {
-    let (recovered, report) = match recover(alloc, disk) {
+    let (recovered, report) = match recover_of(alloc, disk, versions) {
         Ok(found) => found,
         Err((_, refusal)) => return Err(refusal),
     };
@@ -85,17 +91,18 @@ fn recovered_of<D: Disk + Drop>(alloc: Global, disk: D) -> Result<Told, RecoverE
     })
 }
 
-/// Recovers the image in a file, and writes the lines of the report: what the program's word `recover` does. The file is claimed while
-/// it may be written, and closed before a line is.
+/// Recovers the image in a file, if it is of one of these versions, and writes the lines of the report: what the program's words
+/// `recover` and `upgrade` do. The file is claimed while it may be written, and closed before a line is.
 ///
 /// `InUse`: another process has the image. `Fault` says that the file isn't there or can't be opened for writing, that one of its calls
 /// failed, or the writer, and what the system says of it is noted as trouble; `NoMemory` that there was no memory. The other refusals
-/// are those of [`recover`](recover::recover): the file keeps every byte then, and of one that doesn't begin as an image no more than
+/// are those of [`recover_of`](recover::recover_of): the file keeps every byte then, and of one that doesn't begin as an image no more than
 /// its header is read. After a `Fault` the image may be recovered again.
 pub fn recover_file<F: BackingFile + OpenFile + Drop, R: Files<File = F>, W: Write>(
     rt: &R,
     alloc: Global,
     trouble: &Trouble,
+    versions: Versions,
     image_path: &str,
     writer: &mut W,
 ) -> Result<(), ImageFault>
@@ -103,7 +110,7 @@ pub fn recover_file<F: BackingFile + OpenFile + Drop, R: Files<File = F>, W: Wri
     ensures silent { IfErr result (λ error. error ≢ Image Fault → Appends (W.contents writer.old) (W.contents writer.new) []) }
     ensures part { OnErr result (TellsLess report_of (W.contents writer.old) (W.contents writer.new)) }
 {
-    let told = match recovered_at(rt, alloc, trouble, image_path) {
+    let told = match recovered_at(rt, alloc, trouble, versions, image_path) {
         Ok(told) => told,
         Err(fault) => return Err(fault),
     };
@@ -118,6 +125,7 @@ fn recovered_at<F: BackingFile + OpenFile + Drop, R: Files<File = F>>(
     rt: &R,
     alloc: Global,
     trouble: &Trouble,
+    versions: Versions,
     image_path: &str,
 ) -> Result<Told, ImageFault>
     ensures { IfOk result (λ told. (image : List ℕ) × (s : Study) × IsStudyOf image s × (report_text told.report told.heap.items told.lanes ≡ report_of s)) }
@@ -130,7 +138,7 @@ fn recovered_at<F: BackingFile + OpenFile + Drop, R: Files<File = F>>(
         Ok(disk) => disk,
         Err(error) => return Err(ImageFault::from(FileFault::from(error))),
     };
-    match recovered_of(alloc, disk) {
+    match recovered_of(alloc, disk, versions) {
         Ok(told) => Ok(told),
         Err(error) => Err(ImageFault::Image(error)),
     }

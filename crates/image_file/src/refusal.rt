@@ -2,8 +2,11 @@
 ghost use Rattle.std.specs.Prelude.{◌≡◌, ◌≢◌};
 ghost use Rattle.std.specs.IoError.{error_kind};
 ghost use Rattle.recover.specs.declared.error.RecoverError.TheVariants.{Fault, NoMemory};
+ghost use Rattle.image_file.specs.Naming.{told_of_naming};
 ghost use Rattle.image_file.specs.Showing.{IsUnread, told_of_inspection};
 
+use crate::error::{ImageFault, NamedFault};
+use image_schema::DumpError;
 use inspect::InspectError;
 use recover::RecoverError;
 use std::io::{Error, ErrorKind};
@@ -27,5 +30,16 @@ pub(crate) fn refusal_of_inspection(error: InspectError) -> RecoverError
     match error {
         InspectError::Study(error) => error,
         InspectError::Write => RecoverError::Fault,
+    }
+}
+
+/// The image isn't told by the names that were given, or the writer failed.
+pub(crate) fn fault_of_naming(error: DumpError) -> NamedFault
+    ensures { result ≡ told_of_naming error }
+{
+    match error {
+        DumpError::Study(error) => NamedFault::Image(ImageFault::Image(error)),
+        DumpError::OtherSchema => NamedFault::OtherSchema,
+        DumpError::Write => NamedFault::Image(ImageFault::Image(RecoverError::Fault)),
     }
 }

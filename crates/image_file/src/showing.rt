@@ -18,7 +18,8 @@ use std::alloc::Global;
 use std::io::{Read, Write};
 use std::rt::Files;
 
-/// Reads an image, of which nothing has to be known, and writes what it holds, line by line.
+/// Reads an image, of which nothing has to be known, and writes what it holds, line by line. Room is made for so many of its bytes
+/// before it is read, and for more where it has more.
 ///
 /// Refusals, in this order:
 /// - `Fault` and `NoMemory`: the image could not be read to its end. Nothing is written;
@@ -27,12 +28,13 @@ use std::rt::Files;
 pub fn show_image<S: Read, W: Write>(
     alloc: Global,
     reader: &mut S,
+    room: usize,
     writer: &mut W,
 ) -> Result<(), RecoverError>
     ensures ok { OnOk result (Shows study_text (S.remaining reader.old) (S.remaining reader.new) (W.contents writer.old) (W.contents writer.new)) }
     ensures refused { IfErr result (RefusesToShow study_text (S.remaining reader.old) (S.remaining reader.new) (W.contents writer.old) (W.contents writer.new)) }
 {
-    let mut disk = read_image(alloc, reader)?;
+    let mut disk = read_image(alloc, reader, room)?;
     match inspect(alloc, &mut disk, writer) {
         Ok(()) => Ok(()),
         Err(error) => Err(refusal_of_inspection(error)),
@@ -56,11 +58,11 @@ pub fn show_file<F: BackingFile + Read + Drop, R: Files<File = F>, W: Write>(
     ensures silent { IfErr result (λ error. error ≢ Image Fault → Appends (W.contents writer.old) (W.contents writer.new) []) }
     ensures part { OnErr result (TellsLess study_text (W.contents writer.old) (W.contents writer.new)) }
 {
-    let mut reader = match open_to_read(rt, alloc, image_path, trouble) {
-        Ok(reader) => reader,
+    let (mut reader, room) = match open_to_read(rt, alloc, image_path, trouble) {
+        Ok(opened) => opened,
         Err(fault) => return Err(ImageFault::from(fault)),
     };
-    match show_image(alloc, &mut reader, writer) {
+    match show_image(alloc, &mut reader, room, writer) {
         Ok(()) => Ok(()),
         Err(error) => Err(ImageFault::Image(error)),
     }

@@ -1,4 +1,5 @@
 mod WritingLemmas
 mod FitLemmas
 mod DumpLemmas
+mod DrawLemmas
 mod RoundTrip

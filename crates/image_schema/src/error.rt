@@ -1,4 +1,4 @@
-//! Why an image has no schema of these names, and why its heap was not written.
+//! Why an image has no schema of these names, and why its heap or its sections were not written.
 use recover::RecoverError;
 use thiserror::Error;
 
@@ -14,7 +14,7 @@ pub enum NamingError {
     NoMemory,
 }
 
-/// Why the heap of an image was not written as a schema file.
+/// Why the heap of an image was not written as a schema file, or its sections as a graph.
 #[derive(Clone, Copy, Debug, PartialEq, Eq, Error)]
 pub enum DumpError {
     /// The image is refused, or can't be read, or there was no memory. Nothing is written.
@@ -23,7 +23,7 @@ pub enum DumpError {
     /// The schema that was given isn't the image's. Nothing is written.
     #[error("other schema")]
     OtherSchema,
-    /// The writer failed. A beginning of the file is written, and not all.
+    /// The writer failed. A beginning of the text is written, and not all.
     #[error("write")]
     Write,
 }

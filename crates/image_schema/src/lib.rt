@@ -3,8 +3,10 @@
 //!
 //! [`schema_of`] finds the schema of a [`recover::Study`], [`write_schema`] writes the file of a schema, and [`dump`] that of
 //! the image on a device, whose first values are the heap that recovery gives: so the heap is carried over ([`dump_law`]).
+//! [`draw_named`] writes the image's sections as a graph.
 #![tactic(auto)]
 
+mod drawing;
 mod dumping;
 mod error;
 mod fitting;
@@ -12,6 +14,7 @@ mod laws;
 mod naming;
 mod writing;
 
+pub use drawing::draw_named;
 pub use dumping::dump;
 pub use error::{DumpError, NamingError};
 pub use fitting::fits;

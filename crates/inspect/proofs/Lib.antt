@@ -2,3 +2,5 @@ pub mod PartLemmas
 pub mod ToldLemmas
 pub mod LaneLemmas
 pub mod ReleaseLemmas
+pub mod RefusalLemmas
+pub mod OneLemmas

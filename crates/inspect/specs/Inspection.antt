@@ -6,17 +6,8 @@ use Rattle.recover.specs.Study.{IsStudyOf}
 use Rattle.recover.specs.declared.studied.Study.{Study}
 use Rattle.inspect.specs.declared.error.InspectError.{InspectError}
 use Rattle.inspect.specs.declared.error.InspectError.TheVariants as inspect_error
-use Rattle.inspect.specs.declared.form.Form.{Form}
-use Rattle.inspect.specs.declared.form.Form.TheVariants.{Lines, Graph}
 use Rattle.recover.specs.declared.error.RecoverError.TheVariants.{NoMemory}
-use Rattle.inspect.specs.StudyText.{study_text}
-use Rattle.inspect.specs.WholeGraph.{graph_text}
 use Rattle.inspect.specs.Written.{AppendsPart}
-
--- the text of a study, in one of the forms
-abbrev pub text_in : Form → Study → List ℕ
-text_in Lines = study_text
-text_in Graph = graph_text
 
 -- this text of a study of the image was written
 pub record Inspects (text : Study → List ℕ) (image : List ℕ) (old new : Option (List ℕ)) : Type 0 where

@@ -6,6 +6,7 @@ pub mod Sections
 pub mod Links
 pub mod SectionText
 pub mod TransientText
+pub mod Drawn
 pub mod GraphText
 pub mod StudyText
 pub mod WholeGraph

@@ -53,6 +53,11 @@ abbrev pub link_to : SectionId → ObjectId → ℕ → Option SectionId → Lis
 link_to taker o n None = []
 link_to taker o n (Some from) = record { taker = taker; releaser = from; object = o; number = n } ∷ []
 
+-- a link, if there is one
+abbrev pub one_or_none : Option Link → List Link
+one_or_none None = []
+one_or_none (Some k) = k ∷ []
+
 -- what the section takes from another lane's by the record
 abbrev pub link_from : (ℕ → ℕ → Option SectionId) → SectionId → UndoRecord → List Link
 link_from find taker (Acq o n) = link_to taker o n (taken_in find taker o.0 n)

@@ -1,5 +1,5 @@
 -- The lines of sections and of dependences (docs/SCRIPTS.md, "The inspector's lines").
-use Rattle.std.specs.Prelude.{ℕ, List, [], ◌∷◌, codes}
+use Rattle.std.specs.Prelude.{ℕ, List, [], ◌∷◌, codes, option_map}
 use Rattle.std.specs.Fmt.{decimal}
 use Rattle.inspect.specs.declared.form.Form.{Form}
 use Rattle.inspect.specs.declared.form.Form.TheVariants.{Lines, Graph}
@@ -22,10 +22,10 @@ link_line k = line (codes "depends t" ∷ decimal (thread_of k.taker.lane) ∷ c
 
 -- a section, in one of the forms
 abbrev pub section_text : Form → Numbering → Section → List ℕ
-section_text Lines n s = section_line s
-section_text Graph n s = node_text n s
+section_text Lines = λ n s. section_line s
+section_text (Graph p) = node_text p.firsts.now
 
 -- a dependence, in one of the forms
 abbrev pub link_text : Form → Link → List ℕ
-link_text Lines k = link_line k
-link_text Graph k = link_edge k
+link_text Lines = link_line
+link_text (Graph p) = link_edge (option_map (λ x. x.now) p.names) p.firsts.now

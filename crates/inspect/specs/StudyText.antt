@@ -11,8 +11,10 @@ use Rattle.image.specs.declared.slot.Slot.TheVariants.{A, B}
 use Rattle.undo_log.specs.StandsFor.{row_of}
 use Rattle.recover.specs.Logs.{records_of}
 use Rattle.recover.specs.declared.studied.Study.{Study}
-use Rattle.inspect.specs.declared.form.Form.{Form}
 use Rattle.inspect.specs.declared.form.Form.TheVariants.{Lines}
+use Rattle.inspect.specs.declared.numbering.Numbering.{Numbering}
+use Rattle.inspect.specs.declared.section.Link.{Link}
+use Rattle.inspect.specs.declared.section.Section.{Section}
 use Rattle.inspect.specs.Pieces.{line, list_line}
 use Rattle.inspect.specs.Sections.{by_lane, live_sections, numbering_of}
 use Rattle.inspect.specs.Links.{links_in}
@@ -44,17 +46,17 @@ lane_lines lanes rows = by_lane (λ l. lane_line l (row_of rows l)) lanes
 abbrev pub head_text : Study → List ℕ
 head_text s = concat (image_line s.layout ∷ control_line s.slot s.control ∷ transient_line s.guards.items ∷ lane_lines s.layout.lanes s.control.rows ∷ [])
 
--- the live sections of a lane, by number
-abbrev pub lane_sections : Form → Study → (lane : ℕ) → List ℕ
-lane_sections form s l = flat_map (section_text form (numbering_of s l)) (live_sections (numbering_of s l) (reverse (records_of s.records.items l)))
+-- a text of each live section of a lane, by number
+abbrev pub lane_sections : (Numbering → Section → List ℕ) → Study → (lane : ℕ) → List ℕ
+lane_sections text s l = flat_map (text (numbering_of s l)) (live_sections (numbering_of s l) (reverse (records_of s.records.items l)))
 
 -- the live sections, by lane and number
 abbrev pub sections_text : Study → List ℕ
-sections_text s = by_lane (lane_sections Lines s) s.layout.lanes
+sections_text s = by_lane (lane_sections (section_text Lines) s) s.layout.lanes
 
--- the dependences of live sections on those of other lanes, by section and place
-abbrev pub links_text : Form → Study → List ℕ
-links_text form s = by_lane (λ l. flat_map (link_text form) (links_in s l)) s.layout.lanes
+-- a text of each dependence of a live section on one of another lane, by section and place
+abbrev pub links_text : (Link → List ℕ) → Study → List ℕ
+links_text text s = by_lane (λ l. flat_map text (links_in s l)) s.layout.lanes
 
 -- the cut that is kept, and the heap that the image stands for
 abbrev pub end_text : Study → List ℕ
@@ -62,4 +64,4 @@ end_text s = concat (list_line (codes "cut") (take s.layout.lanes s.report.kept.
 
 -- what an image holds
 abbrev pub study_text : Study → List ℕ
-study_text s = concat (head_text s ∷ sections_text s ∷ links_text Lines s ∷ end_text s ∷ [])
+study_text s = concat (head_text s ∷ sections_text s ∷ links_text (link_text Lines) s ∷ end_text s ∷ [])

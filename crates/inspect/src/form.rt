@@ -1,10 +1,12 @@
 //! The two forms in which sections and their dependences are written.
 
+use crate::picture::Picture;
+
 /// How sections and their dependences are written.
-#[derive(Clone, Copy, Debug, PartialEq, Eq)]
-pub(crate) enum Form {
+#[derive(Clone, Copy)]
+pub(crate) enum Form<'a> {
     /// As lines of `show`.
     Lines,
     /// As nodes and edges of a graph.
-    Graph,
+    Graph(Picture<'a>),
 }

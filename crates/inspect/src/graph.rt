@@ -1,84 +1,175 @@
 //! The sections of a study as a graph, in Graphviz's DOT language.
-ghost use Rattle.std.specs.Prelude.{◌≡◌, ◌<◌, [], OnOk, OnErr, IfErr, length};
+ghost use Rattle.std.specs.Prelude.{◌≡◌, ◌<◌, [], OnOk, OnErr, IfErr, length, option_map};
 ghost use Rattle.std.specs.Io.KnownBytes.{Appends};
 ghost use Rattle.inspect.specs.Written.{AppendsPart};
 ghost use Rattle.recover.specs.Fits.{FitsNumbers};
 ghost use Rattle.inspect.specs.Links.{Tells, releases_of};
-ghost use Rattle.inspect.specs.WholeGraph.{graph_text, columns_text, column_text, column_head, column_edge};
+ghost use Rattle.inspect.specs.Sections.{numbering_of};
+ghost use Rattle.inspect.specs.WholeGraph.{picture_text, graph_of, graph_head, columns_text, column_text, column_head, whole_head, cut_head, column_edge, left_out_of};
 ghost use Rattle.inspect.specs.declared.error.ShowError.TheVariants as kinds;
 
 use crate::error::{ShowError, WriteError};
 use crate::form::Form;
+use crate::numbering::lane_numbering;
+use crate::picture::{Picture, bounds, first_drawn};
 use crate::pieces::{Piece, put_line};
+use crate::reasons::put_reasons;
 use crate::releases::{Releases, releases_in};
 use crate::report_lines::thread_number;
 use crate::study_lines::{put_all_links, put_lane_sections};
+use guards::Schema;
 use heap_model::Lane;
 use recover::Study;
 use std::alloc::Global;
 use std::io::Write;
 
-/// Writes the live sections of a study and their dependences as a graph in Graphviz's DOT language, which `dot` draws: a
+/// Writes live sections of a study and their dependences as a graph in Graphviz's DOT language, which `dot` draws, with a legend: a
 /// column for each lane, by number, with its thread as heading; in it a node for each section, from the top, filled where the
-/// section is acknowledged, and a dotted arrow to the lane's section before it; then an arrow for each dependence on a section
-/// of another lane. Arrows go from a section to what it depends on.
+/// section is acknowledged, and a dotted arrow to the lane's section before it; then why each section that is dropped is, and its
+/// colour; then an arrow for each dependence on a section of another lane, with the object that was taken, by the name that this
+/// schema has for it. Arrows go from a section to what it depends on.
+///
+/// Of each lane the section that it is in is drawn, and the last so many that have ended. The lane's heading says how many before
+/// them are left out.
 ///
 /// `NoMemory` comes first, where there are live releases and no room for their table: nothing is written then. After
 /// `Write` a beginning of the text is written.
-pub fn write_graph<W: Write>(alloc: Global, study: &Study, writer: &mut W) -> Result<(), ShowError>
+pub fn write_graph<W: Write>(
+    alloc: Global,
+    study: &Study,
+    names: Option<&Schema>,
+    last: u32,
+    writer: &mut W,
+) -> Result<(), ShowError>
     requires { FitsNumbers study.now }
-    ensures ok { OnOk result (Appends (W.contents writer.old) (W.contents writer.new) (graph_text study.now)) }
+    ensures ok { OnOk result (Appends (W.contents writer.old) (W.contents writer.new) (picture_text (option_map (λ x. x.now) names.entry) last study.now)) }
     ensures no_memory { IfErr result (λ e. e ≡ kinds.NoMemory → Appends (W.contents writer.old) (W.contents writer.new) []) }
     ensures needed { IfErr result (λ e. e ≡ kinds.NoMemory → 0 < length (releases_of study.now)) }
-    ensures part { IfErr result (λ e. e ≡ kinds.Write → AppendsPart (W.contents writer.old) (W.contents writer.new) (graph_text study.now)) }
+    ensures part { IfErr result (λ e. e ≡ kinds.Write → AppendsPart (W.contents writer.old) (W.contents writer.new) (picture_text (option_map (λ x. x.now) names.entry) last study.now)) }
 {
     let Ok(releases) = releases_in(alloc, study) else {
         return Err(ShowError::NoMemory);
     };
-    match put_graph(writer, study, &releases) {
+    match put_picture(writer, study, names, last, &releases) {
         Ok(()) => Ok(()),
         Err(WriteError) => Err(ShowError::Write),
     }
 }
 
-fn put_graph<W: Write>(writer: &mut W, study: &Study, releases: &Releases) -> Result<(), WriteError>
+fn put_picture<W: Write>(
+    writer: &mut W,
+    study: &Study,
+    names: Option<&Schema>,
+    last: u32,
+    releases: &Releases,
+) -> Result<(), WriteError>
     requires numbers { FitsNumbers study.now }
     requires releases { Tells releases.now (releases_of study.now) }
-    ensures ok { OnOk result (Appends (W.contents writer.old) (W.contents writer.new) (graph_text study.now)) }
-    ensures part { OnErr result (AppendsPart (W.contents writer.old) (W.contents writer.new) (graph_text study.now)) }
+    ensures ok { OnOk result (Appends (W.contents writer.old) (W.contents writer.new) (picture_text (option_map (λ x. x.now) names.entry) last study.now)) }
+    ensures part { OnErr result (AppendsPart (W.contents writer.old) (W.contents writer.new) (picture_text (option_map (λ x. x.now) names.entry) last study.now)) }
 {
-    put_line(writer, &[Piece::Words("digraph sections {\nrankdir=LR")])?;
-    put_columns(writer, study)?;
-    put_all_links(writer, Form::Graph, study, releases)?;
+    let firsts = bounds(study, last);
+    let picture = Picture {
+        firsts: &firsts[..usize::from(study.layout.lanes)],
+        names,
+    };
+    put_graph(writer, picture, study, releases)
+}
+
+fn put_graph<W: Write>(
+    writer: &mut W,
+    picture: Picture<'_>,
+    study: &Study,
+    releases: &Releases,
+) -> Result<(), WriteError>
+    requires numbers { FitsNumbers study.now }
+    requires releases { Tells releases.now (releases_of study.now) }
+    ensures ok { OnOk result (Appends (W.contents writer.old) (W.contents writer.new) (graph_of (option_map (λ x. x.now) picture.entry.names) picture.entry.firsts.now study.now)) }
+    ensures part { OnErr result (AppendsPart (W.contents writer.old) (W.contents writer.new) (graph_of (option_map (λ x. x.now) picture.entry.names) picture.entry.firsts.now study.now)) }
+{
+    put_head(writer)?;
+    put_columns(writer, picture, study)?;
+    put_reasons(writer, picture.firsts, &study.report.dropped)?;
+    put_all_links(writer, Form::Graph(picture), study, releases)?;
     put_line(writer, &[Piece::Words("}")])
 }
 
-fn put_columns<W: Write>(writer: &mut W, study: &Study) -> Result<(), WriteError>
+// Writes the beginning of the graph, with the legend.
+fn put_head<W: Write>(writer: &mut W) -> Result<(), WriteError>
+    ensures ok { OnOk result (Appends (W.contents writer.old) (W.contents writer.new) graph_head) }
+    ensures part { OnErr result (AppendsPart (W.contents writer.old) (W.contents writer.new) graph_head) }
+{
+    put_line(
+        writer,
+        &[
+            Piece::Words(
+                "digraph sections {\nrankdir=LR\nlabelloc=b\nlabeljust=l\nlabel=\"grey: acknowledged, and kept\\l",
+            ),
+            Piece::Words(
+                "dropped by recovery: pink, it has not ended; orange, it depends on one that is dropped; yellow, it was not settled\\l",
+            ),
+            Piece::Words(
+                "dotted: depends on the thread's section before it\\lplain: depends on the section that freed what it took\\l\"",
+            ),
+        ],
+    )
+}
+
+fn put_columns<W: Write>(
+    writer: &mut W,
+    picture: Picture<'_>,
+    study: &Study,
+) -> Result<(), WriteError>
     requires { FitsNumbers study.now }
-    ensures ok { OnOk result (Appends (W.contents writer.old) (W.contents writer.new) (columns_text study.now)) }
-    ensures part { OnErr result (AppendsPart (W.contents writer.old) (W.contents writer.new) (columns_text study.now)) }
+    ensures ok { OnOk result (Appends (W.contents writer.old) (W.contents writer.new) (columns_text picture.entry.firsts.now study.now)) }
+    ensures part { OnErr result (AppendsPart (W.contents writer.old) (W.contents writer.new) (columns_text picture.entry.firsts.now study.now)) }
 {
     for lane in 0..study.layout.lanes {
-        put_column(writer, study, Lane(lane))?;
+        put_column(writer, picture, study, Lane(lane))?;
     }
     Ok(())
 }
 
-fn put_column<W: Write>(writer: &mut W, study: &Study, lane: Lane) -> Result<(), WriteError>
+fn put_column<W: Write>(
+    writer: &mut W,
+    picture: Picture<'_>,
+    study: &Study,
+    lane: Lane,
+) -> Result<(), WriteError>
     requires lane { lane.0 < study.now.layout.lanes }
     requires numbers { FitsNumbers study.now }
-    ensures ok { OnOk result (Appends (W.contents writer.old) (W.contents writer.new) (column_text study.now lane.0)) }
-    ensures part { OnErr result (AppendsPart (W.contents writer.old) (W.contents writer.new) (column_text study.now lane.0)) }
+    ensures ok { OnOk result (Appends (W.contents writer.old) (W.contents writer.new) (column_text picture.entry.firsts.now study.now lane.0)) }
+    ensures part { OnErr result (AppendsPart (W.contents writer.old) (W.contents writer.new) (column_text picture.entry.firsts.now study.now lane.0)) }
 {
-    put_column_head(writer, lane)?;
-    put_lane_sections(writer, Form::Graph, study, lane)?;
+    put_column_head(writer, lane, left_out(picture.firsts, study, lane))?;
+    put_lane_sections(writer, Form::Graph(picture), study, lane)?;
     put_line(writer, &[Piece::Words("}")])?;
     put_column_edge(writer, lane)
 }
 
-fn put_column_head<W: Write>(writer: &mut W, lane: Lane) -> Result<(), WriteError>
-    ensures ok { OnOk result (Appends (W.contents writer.old) (W.contents writer.new) (column_head lane.0)) }
-    ensures part { OnErr result (AppendsPart (W.contents writer.old) (W.contents writer.new) (column_head lane.0)) }
+// How many of the lane's first live sections are left out.
+fn left_out(firsts: &[u64], study: &Study, lane: Lane) -> u64
+    requires lane { lane.0 < study.now.layout.lanes }
+    requires numbers { FitsNumbers study.now }
+    ensures { result ≡ left_out_of firsts.now study.now lane.0 }
+{
+    first_drawn(firsts, lane).saturating_sub(lane_numbering(study, lane).first)
+}
+
+fn put_column_head<W: Write>(writer: &mut W, lane: Lane, left_out: u64) -> Result<(), WriteError>
+    ensures ok { OnOk result (Appends (W.contents writer.old) (W.contents writer.new) (column_head lane.0 left_out)) }
+    ensures part { OnErr result (AppendsPart (W.contents writer.old) (W.contents writer.new) (column_head lane.0 left_out)) }
+{
+    if left_out == 0 {
+        put_whole_head(writer, lane)
+    } else {
+        put_cut_head(writer, lane, left_out)
+    }
+}
+
+fn put_whole_head<W: Write>(writer: &mut W, lane: Lane) -> Result<(), WriteError>
+    ensures ok { OnOk result (Appends (W.contents writer.old) (W.contents writer.new) (whole_head lane.0)) }
+    ensures part { OnErr result (AppendsPart (W.contents writer.old) (W.contents writer.new) (whole_head lane.0)) }
 {
     let thread = thread_number(lane);
     put_line(
@@ -89,6 +180,27 @@ fn put_column_head<W: Write>(writer: &mut W, lane: Lane) -> Result<(), WriteErro
             Piece::Words(" {\nrank=same\n\"t"),
             Piece::Number(thread),
             Piece::Words("\" [shape=plaintext]"),
+        ],
+    )
+}
+
+fn put_cut_head<W: Write>(writer: &mut W, lane: Lane, left_out: u64) -> Result<(), WriteError>
+    ensures ok { OnOk result (Appends (W.contents writer.old) (W.contents writer.new) (cut_head lane.0 left_out)) }
+    ensures part { OnErr result (AppendsPart (W.contents writer.old) (W.contents writer.new) (cut_head lane.0 left_out)) }
+{
+    let thread = thread_number(lane);
+    put_line(
+        writer,
+        &[
+            Piece::Words("subgraph t"),
+            Piece::Number(thread),
+            Piece::Words(" {\nrank=same\n\"t"),
+            Piece::Number(thread),
+            Piece::Words("\" [shape=plaintext, label=\"t"),
+            Piece::Number(thread),
+            Piece::Words("\\nleft out here: "),
+            Piece::Number(left_out),
+            Piece::Words(" before these\"]"),
         ],
     )
 }

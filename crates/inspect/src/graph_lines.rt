@@ -1,28 +1,48 @@
 //! The nodes and edges of a graph of sections, in Graphviz's DOT language.
-ghost use Rattle.std.specs.Prelude.{◌≡◌, ◌<◌, ◌≤◌, ◌↔◌, IsTrue, OnOk, OnErr};
+ghost use Rattle.std.specs.Prelude.{◌≡◌, ◌<◌, ◌≤◌, ◌↔◌, IsTrue, OnOk, OnErr, option_map};
 ghost use Rattle.std.specs.Io.KnownBytes.{Appends};
 ghost use Rattle.inspect.specs.Written.{AppendsPart};
-ghost use Rattle.inspect.specs.GraphText.{node_text, node_line, order_edge, heading_edge, before_edge, link_edge, style_text};
+ghost use Rattle.inspect.specs.GraphText.{node_text, whole_node, node_line, order_edge, heading_edge, before_edge, link_edge, whole_edge, edge_front, edge_end, object_text, name_in, style_text};
 
 use crate::error::WriteError;
 use crate::numbering::Numbering;
-use crate::pieces::{Piece, put_line};
+use crate::picture::{Picture, first_drawn, is_drawn};
+use crate::pieces::{Piece, put_line, put_pieces};
 use crate::report_lines::thread_number;
 use crate::section::{Link, Section};
 use crate::section_lines::state;
+use guards::Schema;
+use heap_model::ObjectId;
 use std::io::Write;
 
-/// Writes the node of a section, and the edge that puts it below the lane's live section before it, or below the heading.
+/// Writes the node of a section that is drawn, and the edge that puts it below the lane's section before it, or below the heading.
 pub(crate) fn put_node<W: Write>(
     writer: &mut W,
+    picture: Picture<'_>,
     numbering: Numbering,
     section: Section,
 ) -> Result<(), WriteError>
-    ensures ok { OnOk result (Appends (W.contents writer.old) (W.contents writer.new) (node_text numbering section)) }
-    ensures part { OnErr result (AppendsPart (W.contents writer.old) (W.contents writer.new) (node_text numbering section)) }
+    ensures ok { OnOk result (Appends (W.contents writer.old) (W.contents writer.new) (node_text picture.entry.firsts.now numbering section)) }
+    ensures part { OnErr result (AppendsPart (W.contents writer.old) (W.contents writer.new) (node_text picture.entry.firsts.now numbering section)) }
+{
+    if is_drawn(picture.firsts, section.id) {
+        put_whole_node(writer, picture.firsts, numbering, section)
+    } else {
+        Ok(())
+    }
+}
+
+fn put_whole_node<W: Write>(
+    writer: &mut W,
+    firsts: &[u64],
+    numbering: Numbering,
+    section: Section,
+) -> Result<(), WriteError>
+    ensures ok { OnOk result (Appends (W.contents writer.old) (W.contents writer.new) (whole_node firsts.now numbering section)) }
+    ensures part { OnErr result (AppendsPart (W.contents writer.old) (W.contents writer.new) (whole_node firsts.now numbering section)) }
 {
     put_node_line(writer, numbering, section)?;
-    put_order_edge(writer, numbering, section)
+    put_order_edge(writer, firsts, section)
 }
 
 fn put_node_line<W: Write>(
@@ -66,13 +86,13 @@ fn style(is_kept: bool) -> &'static str
 // Sections of a lane stand in its column by number.
 fn put_order_edge<W: Write>(
     writer: &mut W,
-    numbering: Numbering,
+    firsts: &[u64],
     section: Section,
 ) -> Result<(), WriteError>
-    ensures ok { OnOk result (Appends (W.contents writer.old) (W.contents writer.new) (order_edge numbering section)) }
-    ensures part { OnErr result (AppendsPart (W.contents writer.old) (W.contents writer.new) (order_edge numbering section)) }
+    ensures ok { OnOk result (Appends (W.contents writer.old) (W.contents writer.new) (order_edge firsts.now section)) }
+    ensures part { OnErr result (AppendsPart (W.contents writer.old) (W.contents writer.new) (order_edge firsts.now section)) }
 {
-    if section.id.number <= numbering.first {
+    if section.id.number <= first_drawn(firsts, section.id.lane) {
         put_heading_edge(writer, section)
     } else {
         put_before_edge(writer, section)
@@ -120,14 +140,42 @@ fn put_before_edge<W: Write>(writer: &mut W, section: Section) -> Result<(), Wri
     )
 }
 
-/// Writes the edge of a dependence.
-pub(crate) fn put_edge<W: Write>(writer: &mut W, link: Link) -> Result<(), WriteError>
-    ensures ok { OnOk result (Appends (W.contents writer.old) (W.contents writer.new) (link_edge link)) }
-    ensures part { OnErr result (AppendsPart (W.contents writer.old) (W.contents writer.new) (link_edge link)) }
+/// Writes the edge of a dependence of a section that is drawn on another one.
+pub(crate) fn put_edge<W: Write>(
+    writer: &mut W,
+    picture: Picture<'_>,
+    link: Link,
+) -> Result<(), WriteError>
+    ensures ok { OnOk result (Appends (W.contents writer.old) (W.contents writer.new) (link_edge (option_map (λ x. x.now) picture.entry.names) picture.entry.firsts.now link)) }
+    ensures part { OnErr result (AppendsPart (W.contents writer.old) (W.contents writer.new) (link_edge (option_map (λ x. x.now) picture.entry.names) picture.entry.firsts.now link)) }
+{
+    if is_drawn(picture.firsts, link.taker) && is_drawn(picture.firsts, link.releaser) {
+        put_whole_edge(writer, picture.names, link)
+    } else {
+        Ok(())
+    }
+}
+
+fn put_whole_edge<W: Write>(
+    writer: &mut W,
+    names: Option<&Schema>,
+    link: Link,
+) -> Result<(), WriteError>
+    ensures ok { OnOk result (Appends (W.contents writer.old) (W.contents writer.new) (whole_edge (option_map (λ x. x.now) names.entry) link)) }
+    ensures part { OnErr result (AppendsPart (W.contents writer.old) (W.contents writer.new) (whole_edge (option_map (λ x. x.now) names.entry) link)) }
+{
+    put_edge_front(writer, link)?;
+    put_object(writer, names, link.object)?;
+    put_edge_end(writer, link)
+}
+
+fn put_edge_front<W: Write>(writer: &mut W, link: Link) -> Result<(), WriteError>
+    ensures ok { OnOk result (Appends (W.contents writer.old) (W.contents writer.new) (edge_front link)) }
+    ensures part { OnErr result (AppendsPart (W.contents writer.old) (W.contents writer.new) (edge_front link)) }
 {
     let taker = thread_number(link.taker.lane);
     let releaser = thread_number(link.releaser.lane);
-    put_line(
+    put_pieces(
         writer,
         &[
             Piece::Words("\"t"),
@@ -138,8 +186,48 @@ pub(crate) fn put_edge<W: Write>(writer: &mut W, link: Link) -> Result<(), Write
             Piece::Number(releaser),
             Piece::Words("."),
             Piece::Number(link.releaser.number),
-            Piece::Words("\" [label=\"object "),
-            Piece::Number(u64::from(link.object.0)),
+            Piece::Words("\" [label=\""),
+        ],
+    )
+}
+
+// Writes an object by its name where there is one, and else by its number.
+fn put_object<W: Write>(
+    writer: &mut W,
+    names: Option<&Schema>,
+    object: ObjectId,
+) -> Result<(), WriteError>
+    ensures ok { OnOk result (Appends (W.contents writer.old) (W.contents writer.new) (object_text (option_map (λ x. x.now) names.entry) object.0)) }
+    ensures part { OnErr result (AppendsPart (W.contents writer.old) (W.contents writer.new) (object_text (option_map (λ x. x.now) names.entry) object.0)) }
+{
+    match name_of(names, object) {
+        Some(name) => put_pieces(writer, &[Piece::Words(name)]),
+        None => put_pieces(
+            writer,
+            &[Piece::Words("object "), Piece::Number(u64::from(object.0))],
+        ),
+    }
+}
+
+// The name that the schema has for the object, where there is a schema, and it has the object.
+fn name_of<'a>(names: Option<&'a Schema>, object: ObjectId) -> Option<&'a str>
+    ensures { option_map (λ x. x.now) result ≡ name_in (option_map (λ x. x.now) names.entry) object.0 }
+{
+    let schema = names?;
+    if object.0 < schema.objects() {
+        Some(schema.object_name(object))
+    } else {
+        None
+    }
+}
+
+fn put_edge_end<W: Write>(writer: &mut W, link: Link) -> Result<(), WriteError>
+    ensures ok { OnOk result (Appends (W.contents writer.old) (W.contents writer.new) (edge_end link)) }
+    ensures part { OnErr result (AppendsPart (W.contents writer.old) (W.contents writer.new) (edge_end link)) }
+{
+    put_line(
+        writer,
+        &[
             Piece::Words(" number "),
             Piece::Number(link.number),
             Piece::Words("\", constraint=false]"),

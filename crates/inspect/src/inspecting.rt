@@ -1,19 +1,16 @@
 //! Inspecting an image: its study, line by line or as a graph.
 ghost use Rattle.std.specs.Prelude.{◌≡◌, [], OnOk, IfErr};
 ghost use Rattle.block_disk.specs.Device.{HasCause, SameMoments};
-ghost use Rattle.inspect.specs.Inspection.{Inspects, IsNotShown, Refuses, text_in};
+ghost use Rattle.inspect.specs.Inspection.{Inspects, IsNotShown, Refuses};
 ghost use Rattle.recover.specs.Fits.{FitsNumbers};
 ghost use Rattle.inspect.specs.StudyText.{study_text};
 ghost use Rattle.inspect.specs.WholeGraph.{graph_text};
-ghost use Rattle.inspect.specs.Written.{AppendsPart};
 ghost use Rattle.image.specs.Layout.{IsLayout};
 ghost use Rattle.std.specs.Io.KnownBytes.{Appends};
 ghost use Rattle.inspect.specs.declared.error.InspectError.TheVariants as kinds;
-ghost use Rattle.inspect.specs.declared.error.ShowError.TheVariants as show_kinds;
 ghost use Rattle.recover.specs.declared.error.RecoverError.TheVariants.{Fault};
 
 use crate::error::{InspectError, ShowError};
-use crate::form::Form;
 use crate::graph::write_graph;
 use crate::study_lines::write_study;
 use block_disk::Disk;
@@ -36,11 +33,18 @@ pub fn inspect<D: Disk, W: Write>(
     ensures same { SameMoments (D.device disk.old) (D.device disk.new) }
     ensures cause { HasCause (D.device disk.old).failures (D.device disk.new).failures (kinds.Study Fault) result }
 {
-    show_image(alloc, Form::Lines, disk, writer)
+    match study(alloc, disk) {
+        Ok(study) => {
+            // The study of an image is within the limits that its lines need.
+            study_law();
+            show(alloc, &study, writer)
+        }
+        Err(error) => Err(InspectError::Study(error)),
+    }
 }
 
-/// Writes the live sections of the image on the device, of which nothing has to be known, and their dependences: the graph of
-/// [`write_graph`]. The device is left as it was.
+/// Writes live sections of the image on the device, of which nothing has to be known, and their dependences: the graph of
+/// [`write_graph`], by numbers, with the last fifty sections of each lane. The device is left as it was.
 ///
 /// `Study` hands on the refusal of the image, or want of memory: nothing is written then. After `Write` a beginning of the
 /// graph is written.
@@ -54,64 +58,39 @@ pub fn draw<D: Disk, W: Write>(
     ensures same { SameMoments (D.device disk.old) (D.device disk.new) }
     ensures cause { HasCause (D.device disk.old).failures (D.device disk.new).failures (kinds.Study Fault) result }
 {
-    show_image(alloc, Form::Graph, disk, writer)
-}
-
-// Studies the image on the device, and writes the study in this form.
-fn show_image<D: Disk, W: Write>(
-    alloc: Global,
-    form: Form,
-    disk: &mut D,
-    writer: &mut W,
-) -> Result<(), InspectError>
-    ensures ok { OnOk result (Inspects (text_in form) (D.device disk.old).now.bytes (W.contents writer.old) (W.contents writer.new)) }
-    ensures refused { IfErr result (Refuses (text_in form) (D.device disk.old).now.bytes (W.contents writer.old) (W.contents writer.new)) }
-    ensures same { SameMoments (D.device disk.old) (D.device disk.new) }
-    ensures cause { HasCause (D.device disk.old).failures (D.device disk.new).failures (kinds.Study Fault) result }
-{
     match study(alloc, disk) {
         Ok(study) => {
-            // The study of an image is within the limits that its texts need.
+            // The study of an image is within the limits that its graph needs.
             study_law();
-            show(alloc, form, &study, writer)
+            show_graph(alloc, &study, writer)
         }
-        Err(error) => Err(InspectError::Study(error)),
+        Err(why) => Err(InspectError::Study(why)),
     }
 }
 
-// Writes the study of an image.
-fn show<W: Write>(
-    alloc: Global,
-    form: Form,
-    study: &Study,
-    writer: &mut W,
-) -> Result<(), InspectError>
-    requires limits { IsLayout study.now.layout }
+// Writes the graph of an image's study.
+fn show_graph<W: Write>(alloc: Global, study: &Study, writer: &mut W) -> Result<(), InspectError>
     requires numbers { FitsNumbers study.now }
-    ensures ok { OnOk result (Appends (W.contents writer.old) (W.contents writer.new) (text_in form study.now)) }
-    ensures refused { IfErr result (IsNotShown (W.contents writer.old) (W.contents writer.new) (text_in form study.now)) }
+    ensures ok { OnOk result (Appends (W.contents writer.old) (W.contents writer.new) (graph_text study.now)) }
+    ensures refused { IfErr result (IsNotShown (W.contents writer.old) (W.contents writer.new) (graph_text study.now)) }
 {
-    match write_in(alloc, form, study, writer) {
+    match write_graph(alloc, study, None, 50, writer) {
         Ok(()) => Ok(()),
         Err(ShowError::NoMemory) => Err(InspectError::Study(RecoverError::NoMemory)),
         Err(ShowError::Write) => Err(InspectError::Write),
     }
 }
 
-fn write_in<W: Write>(
-    alloc: Global,
-    form: Form,
-    study: &Study,
-    writer: &mut W,
-) -> Result<(), ShowError>
+// Writes the study of an image.
+fn show<W: Write>(alloc: Global, study: &Study, writer: &mut W) -> Result<(), InspectError>
     requires limits { IsLayout study.now.layout }
     requires numbers { FitsNumbers study.now }
-    ensures ok { OnOk result (Appends (W.contents writer.old) (W.contents writer.new) (text_in form study.now)) }
-    ensures no_memory { IfErr result (λ e. e ≡ show_kinds.NoMemory → Appends (W.contents writer.old) (W.contents writer.new) []) }
-    ensures part { IfErr result (λ e. e ≡ show_kinds.Write → AppendsPart (W.contents writer.old) (W.contents writer.new) (text_in form study.now)) }
+    ensures ok { OnOk result (Appends (W.contents writer.old) (W.contents writer.new) (study_text study.now)) }
+    ensures refused { IfErr result (IsNotShown (W.contents writer.old) (W.contents writer.new) (study_text study.now)) }
 {
-    match form {
-        Form::Lines => write_study(alloc, study, writer),
-        Form::Graph => write_graph(alloc, study, writer),
+    match write_study(alloc, study, writer) {
+        Ok(()) => Ok(()),
+        Err(ShowError::NoMemory) => Err(InspectError::Study(RecoverError::NoMemory)),
+        Err(ShowError::Write) => Err(InspectError::Write),
     }
 }

@@ -4,7 +4,7 @@ ghost use Rattle.std.specs.Io.KnownBytes.{Appends};
 ghost use Rattle.std.specs.List.{flat_map};
 ghost use Rattle.inspect.specs.Written.{AppendsPart};
 ghost use Rattle.inspect.specs.Sections.{told};
-ghost use Rattle.inspect.specs.Links.{finds, linked_by, link_from, taken_in};
+ghost use Rattle.inspect.specs.Links.{finds, linked_by, link_from, one_or_none, taken_in};
 ghost use Rattle.inspect.specs.SectionText.{link_text};
 
 use crate::error::WriteError;
@@ -22,14 +22,14 @@ use std::io::Write;
 /// records have the oldest first.
 pub(crate) fn put_links<W: Write>(
     writer: &mut W,
-    form: Form,
+    form: Form<'_>,
     releases: &Releases,
     numbering: Numbering,
     records: &[UndoRecord],
 ) -> Result<(), WriteError>
     requires { numbering.first + length records.now < 2 ^ 64 }
-    ensures ok { OnOk result (Appends (W.contents writer.old) (W.contents writer.new) (flat_map (link_text form) (told (linked_by (finds releases.now) numbering) (reverse records.now)))) }
-    ensures part { OnErr result (AppendsPart (W.contents writer.old) (W.contents writer.new) (flat_map (link_text form) (told (linked_by (finds releases.now) numbering) (reverse records.now)))) }
+    ensures ok { OnOk result (Appends (W.contents writer.old) (W.contents writer.new) (flat_map (link_text form.entry) (told (linked_by (finds releases.now) numbering) (reverse records.now)))) }
+    ensures part { OnErr result (AppendsPart (W.contents writer.old) (W.contents writer.new) (flat_map (link_text form.entry) (told (linked_by (finds releases.now) numbering) (reverse records.now)))) }
 {
     let mut gone = LaneCount::new();
     for entry in records {
@@ -48,30 +48,34 @@ pub(crate) fn put_links<W: Write>(
 // Writes the dependence of the section by the record, if there is one.
 fn put_taken<W: Write>(
     writer: &mut W,
-    form: Form,
+    form: Form<'_>,
     releases: &Releases,
     taker: SectionId,
     entry: UndoRecord,
 ) -> Result<(), WriteError>
-    ensures ok { OnOk result (Appends (W.contents writer.old) (W.contents writer.new) (flat_map (link_text form) (link_from (finds releases.now) taker entry))) }
-    ensures part { OnErr result (AppendsPart (W.contents writer.old) (W.contents writer.new) (flat_map (link_text form) (link_from (finds releases.now) taker entry))) }
+    ensures ok { OnOk result (Appends (W.contents writer.old) (W.contents writer.new) (flat_map (link_text form.entry) (link_from (finds releases.now) taker entry))) }
+    ensures part { OnErr result (AppendsPart (W.contents writer.old) (W.contents writer.new) (flat_map (link_text form.entry) (link_from (finds releases.now) taker entry))) }
 {
-    let UndoRecord::Acq { object, number } = entry else {
-        return Ok(());
-    };
-    match taken_from(releases, taker, object, number) {
-        Some(releaser) => put_link(
-            writer,
-            form,
-            Link {
-                taker,
-                releaser,
-                object,
-                number,
-            },
-        ),
+    match link_by(releases, taker, entry) {
+        Some(link) => put_link(writer, form, link),
         None => Ok(()),
     }
+}
+
+// What the section takes from one of another lane by the record.
+fn link_by(releases: &Releases, taker: SectionId, entry: UndoRecord) -> Option<Link>
+    ensures { one_or_none result ≡ link_from (finds releases.now) taker entry }
+{
+    let UndoRecord::Acq { object, number } = entry else {
+        return None;
+    };
+    let releaser = taken_from(releases, taker, object, number)?;
+    Some(Link {
+        taker,
+        releaser,
+        object,
+        number,
+    })
 }
 
 // The section of another lane that released what the section acquires at this number.
@@ -94,12 +98,12 @@ fn taken_from(
     }
 }
 
-fn put_link<W: Write>(writer: &mut W, form: Form, link: Link) -> Result<(), WriteError>
-    ensures ok { OnOk result (Appends (W.contents writer.old) (W.contents writer.new) (link_text form link)) }
-    ensures part { OnErr result (AppendsPart (W.contents writer.old) (W.contents writer.new) (link_text form link)) }
+fn put_link<W: Write>(writer: &mut W, form: Form<'_>, link: Link) -> Result<(), WriteError>
+    ensures ok { OnOk result (Appends (W.contents writer.old) (W.contents writer.new) (link_text form.entry link)) }
+    ensures part { OnErr result (AppendsPart (W.contents writer.old) (W.contents writer.new) (link_text form.entry link)) }
 {
     match form {
         Form::Lines => put_link_line(writer, link),
-        Form::Graph => put_edge(writer, link),
+        Form::Graph(picture) => put_edge(writer, picture, link),
     }
 }

@@ -20,13 +20,13 @@ use std::io::Write;
 /// Writes each live section of the lane, by number. The lane's live records have the oldest first.
 pub(crate) fn put_sections<W: Write>(
     writer: &mut W,
-    form: Form,
+    form: Form<'_>,
     numbering: Numbering,
     records: &[UndoRecord],
 ) -> Result<(), WriteError>
     requires { numbering.first + length records.now < 2 ^ 64 }
-    ensures ok { OnOk result (Appends (W.contents writer.old) (W.contents writer.new) (flat_map (section_text form numbering) (live_sections numbering (reverse records.now)))) }
-    ensures part { OnErr result (AppendsPart (W.contents writer.old) (W.contents writer.new) (flat_map (section_text form numbering) (live_sections numbering (reverse records.now)))) }
+    ensures ok { OnOk result (Appends (W.contents writer.old) (W.contents writer.new) (flat_map (section_text form.entry numbering) (live_sections numbering (reverse records.now)))) }
+    ensures part { OnErr result (AppendsPart (W.contents writer.old) (W.contents writer.new) (flat_map (section_text form.entry numbering) (live_sections numbering (reverse records.now)))) }
 {
     let gone = put_whole_sections(writer, form, numbering, records)?;
     put_unfinished(writer, form, numbering, gone)
@@ -34,14 +34,14 @@ pub(crate) fn put_sections<W: Write>(
 
 fn put_whole_sections<W: Write>(
     writer: &mut W,
-    form: Form,
+    form: Form<'_>,
     numbering: Numbering,
     records: &[UndoRecord],
 ) -> Result<LaneCount, WriteError>
     requires { numbering.first + length records.now < 2 ^ 64 }
-    ensures ok { OnOk result (Appends (W.contents writer.old) (W.contents writer.new) (flat_map (section_text form numbering) (whole_sections numbering (reverse records.now)))) }
+    ensures ok { OnOk result (Appends (W.contents writer.old) (W.contents writer.new) (flat_map (section_text form.entry numbering) (whole_sections numbering (reverse records.now)))) }
     ensures count { IfOk result (λ gone. gone ≡ count_of (reverse records.now)) }
-    ensures part { OnErr result (AppendsPart (W.contents writer.old) (W.contents writer.new) (flat_map (section_text form numbering) (whole_sections numbering (reverse records.now)))) }
+    ensures part { OnErr result (AppendsPart (W.contents writer.old) (W.contents writer.new) (flat_map (section_text form.entry numbering) (whole_sections numbering (reverse records.now)))) }
 {
     let mut gone = LaneCount::new();
     for entry in records {
@@ -54,15 +54,15 @@ fn put_whole_sections<W: Write>(
 // Writes the section that the record ends, if it ends one.
 fn put_ended<W: Write>(
     writer: &mut W,
-    form: Form,
+    form: Form<'_>,
     numbering: Numbering,
     gone: LaneCount,
     entry: UndoRecord,
 ) -> Result<(), WriteError>
     requires number { numbering.first + gone.ended < 2 ^ 64 }
     requires records { gone.since + 1 < 2 ^ 64 }
-    ensures ok { OnOk result (Appends (W.contents writer.old) (W.contents writer.new) (flat_map (section_text form numbering) (ended_by numbering gone entry))) }
-    ensures part { OnErr result (AppendsPart (W.contents writer.old) (W.contents writer.new) (flat_map (section_text form numbering) (ended_by numbering gone entry))) }
+    ensures ok { OnOk result (Appends (W.contents writer.old) (W.contents writer.new) (flat_map (section_text form.entry numbering) (ended_by numbering gone entry))) }
+    ensures part { OnErr result (AppendsPart (W.contents writer.old) (W.contents writer.new) (flat_map (section_text form.entry numbering) (ended_by numbering gone entry))) }
 {
     if !gone.ends(entry) {
         return Ok(());
@@ -78,13 +78,13 @@ fn put_ended<W: Write>(
 // Writes the section that the lane is in, if it is in one.
 fn put_unfinished<W: Write>(
     writer: &mut W,
-    form: Form,
+    form: Form<'_>,
     numbering: Numbering,
     gone: LaneCount,
 ) -> Result<(), WriteError>
     requires number { numbering.first + gone.ended < 2 ^ 64 }
-    ensures ok { OnOk result (Appends (W.contents writer.old) (W.contents writer.new) (flat_map (section_text form numbering) (unfinished_section numbering gone))) }
-    ensures part { OnErr result (AppendsPart (W.contents writer.old) (W.contents writer.new) (flat_map (section_text form numbering) (unfinished_section numbering gone))) }
+    ensures ok { OnOk result (Appends (W.contents writer.old) (W.contents writer.new) (flat_map (section_text form.entry numbering) (unfinished_section numbering gone))) }
+    ensures part { OnErr result (AppendsPart (W.contents writer.old) (W.contents writer.new) (flat_map (section_text form.entry numbering) (unfinished_section numbering gone))) }
 {
     if gone.since == 0 {
         return Ok(());
@@ -99,15 +99,15 @@ fn put_unfinished<W: Write>(
 
 fn put_section<W: Write>(
     writer: &mut W,
-    form: Form,
+    form: Form<'_>,
     numbering: Numbering,
     section: Section,
 ) -> Result<(), WriteError>
-    ensures ok { OnOk result (Appends (W.contents writer.old) (W.contents writer.new) (section_text form numbering section)) }
-    ensures part { OnErr result (AppendsPart (W.contents writer.old) (W.contents writer.new) (section_text form numbering section)) }
+    ensures ok { OnOk result (Appends (W.contents writer.old) (W.contents writer.new) (section_text form.entry numbering section)) }
+    ensures part { OnErr result (AppendsPart (W.contents writer.old) (W.contents writer.new) (section_text form.entry numbering section)) }
 {
     match form {
         Form::Lines => put_section_line(writer, section),
-        Form::Graph => put_node(writer, numbering, section),
+        Form::Graph(picture) => put_node(writer, picture, numbering, section),
     }
 }

@@ -5,6 +5,7 @@ ghost use Rattle.image.specs.Layout.{IsLayout};
 ghost use Rattle.inspect.specs.Written.{AppendsPart};
 ghost use Rattle.recover.specs.Fits.{FitsNumbers};
 ghost use Rattle.inspect.specs.StudyText.{study_text, head_text, image_line, control_line, slot_text, lane_lines, lane_line, sections_text, lane_sections, links_text, end_text};
+ghost use Rattle.inspect.specs.SectionText.{section_text, link_text};
 ghost use Rattle.inspect.specs.Links.{finds, releases_of, Tells};
 ghost use Rattle.inspect.specs.declared.error.ShowError.TheVariants as kinds;
 ghost use Rattle.inspect.specs.declared.form.Form.TheVariants.{Lines};
@@ -167,14 +168,14 @@ fn put_all_sections<W: Write>(writer: &mut W, study: &Study) -> Result<(), Write
 /// Writes the live sections of one of the study's lanes, by number.
 pub(crate) fn put_lane_sections<W: Write>(
     writer: &mut W,
-    form: Form,
+    form: Form<'_>,
     study: &Study,
     lane: Lane,
 ) -> Result<(), WriteError>
     requires lane { lane.0 < study.now.layout.lanes }
     requires numbers { FitsNumbers study.now }
-    ensures ok { OnOk result (Appends (W.contents writer.old) (W.contents writer.new) (lane_sections form study.now lane.0)) }
-    ensures part { OnErr result (AppendsPart (W.contents writer.old) (W.contents writer.new) (lane_sections form study.now lane.0)) }
+    ensures ok { OnOk result (Appends (W.contents writer.old) (W.contents writer.new) (lane_sections (section_text form.entry) study.now lane.0)) }
+    ensures part { OnErr result (AppendsPart (W.contents writer.old) (W.contents writer.new) (lane_sections (section_text form.entry) study.now lane.0)) }
 {
     let numbering = lane_numbering(study, lane);
     put_sections(writer, form, numbering, records_in(&study.records, lane))
@@ -183,14 +184,14 @@ pub(crate) fn put_lane_sections<W: Write>(
 /// Writes the dependences of the live sections of all lanes on those of others, by section and place.
 pub(crate) fn put_all_links<W: Write>(
     writer: &mut W,
-    form: Form,
+    form: Form<'_>,
     study: &Study,
     releases: &Releases,
 ) -> Result<(), WriteError>
     requires numbers { FitsNumbers study.now }
     requires releases { Tells releases.now (releases_of study.now) }
-    ensures ok { OnOk result (Appends (W.contents writer.old) (W.contents writer.new) (links_text form study.now)) }
-    ensures part { OnErr result (AppendsPart (W.contents writer.old) (W.contents writer.new) (links_text form study.now)) }
+    ensures ok { OnOk result (Appends (W.contents writer.old) (W.contents writer.new) (links_text (link_text form.entry) study.now)) }
+    ensures part { OnErr result (AppendsPart (W.contents writer.old) (W.contents writer.new) (links_text (link_text form.entry) study.now)) }
 {
     for lane in 0..study.layout.lanes {
         let numbering = lane_numbering(study, Lane(lane));

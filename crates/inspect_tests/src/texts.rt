@@ -176,10 +176,22 @@ fn settled(alloc: Global) -> Result<Study, AllocError>
     let mut counts = [0; 32];
     counts[0] = 3;
     counts[1] = 1;
+    let dropped = [
+        Dropped {
+            lane: Lane(0),
+            section: 4,
+            why: Why::Unsettled,
+        },
+        Dropped {
+            lane: Lane(1),
+            section: 2,
+            why: Why::Unfinished,
+        },
+    ];
     let report = Report {
         kept: Cut { counts },
-        dropped: Vec::new(alloc),
-        undone: 0,
+        dropped: Vec::from_slice(alloc, &dropped)?,
+        undone: 1,
     };
     study_of(
         alloc,
@@ -241,11 +253,11 @@ heap 10 20
     assert!(rt; is_written(rt.alloc(), lines) == Some(true));
 }
 
-// Whether its graph is written so.
-fn is_drawn(alloc: Global, lines: &[u8]) -> Option<bool> {
+// Whether its graph is written so, by these names, with so many sections of each thread.
+fn is_drawn(alloc: Global, names: Option<&Schema>, last: u32, lines: &[u8]) -> Option<bool> {
     let study = settled(alloc).ok()?;
     let mut out = writer_failing(alloc, 0);
-    write_graph(alloc, &study, &mut out).ok()?;
+    write_graph(alloc, &study, names, last, &mut out).ok()?;
     Some(out.taken.as_slice() == lines)
 }
 
@@ -253,6 +265,9 @@ fn is_drawn(alloc: Global, lines: &[u8]) -> Option<bool> {
 fn a_graph_is_written(rt: HostRuntime) {
     let lines = b"digraph sections {
 rankdir=LR
+labelloc=b
+labeljust=l
+label=\"grey: acknowledged, and kept\\ldropped by recovery: pink, it has not ended; orange, it depends on one that is dropped; yellow, it was not settled\\ldotted: depends on the thread's section before it\\lplain: depends on the section that freed what it took\\l\"
 subgraph t1 {
 rank=same
 \"t1\" [shape=plaintext]
@@ -268,10 +283,46 @@ rank=same
 \"t2\" -> \"t2.2\" [style=invis]
 }
 \"t1\" -> \"t2\" [style=invis]
+\"t1.4\" [xlabel=\"unsettled\", style=filled, fillcolor=khaki]
+\"t2.2\" [xlabel=\"unfinished\", style=filled, fillcolor=lightpink]
 \"t2.2\" -> \"t1.4\" [label=\"object 0 number 6\", constraint=false]
 }
 ";
-    assert!(rt; is_drawn(rt.alloc(), lines) == Some(true));
+    assert!(rt; is_drawn(rt.alloc(), None, 50, lines) == Some(true));
+}
+
+// The same by the names of a schema, with the last section of each thread that has ended.
+fn is_drawn_in_part(alloc: Global, lines: &[u8]) -> Option<bool> {
+    let schema = schema_or_none(alloc)?;
+    is_drawn(alloc, Some(&schema), 1, lines)
+}
+
+#[test]
+fn a_graph_says_what_it_leaves_out(rt: HostRuntime) {
+    let lines = b"digraph sections {
+rankdir=LR
+labelloc=b
+labeljust=l
+label=\"grey: acknowledged, and kept\\ldropped by recovery: pink, it has not ended; orange, it depends on one that is dropped; yellow, it was not settled\\ldotted: depends on the thread's section before it\\lplain: depends on the section that freed what it took\\l\"
+subgraph t1 {
+rank=same
+\"t1\" [shape=plaintext, label=\"t1\\nleft out here: 1 before these\"]
+\"t1.4\" [label=\"t1 4\\nwhole, 2 records\"]
+\"t1\" -> \"t1.4\" [style=invis]
+}
+subgraph t2 {
+rank=same
+\"t2\" [shape=plaintext]
+\"t2.2\" [label=\"t2 2\\nunfinished, 2 records\"]
+\"t2\" -> \"t2.2\" [style=invis]
+}
+\"t1\" -> \"t2\" [style=invis]
+\"t1.4\" [xlabel=\"unsettled\", style=filled, fillcolor=khaki]
+\"t2.2\" [xlabel=\"unfinished\", style=filled, fillcolor=lightpink]
+\"t2.2\" -> \"t1.4\" [label=\"o0 number 6\", constraint=false]
+}
+";
+    assert!(rt; is_drawn_in_part(rt.alloc(), lines) == Some(true));
 }
 
 // Four objects, and a field of each of the first two, which guards it; none where memory is wanting.

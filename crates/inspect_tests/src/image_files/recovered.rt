@@ -1,12 +1,14 @@
-//! Image files recovered, shown and drawn. Lines and bytes follow from docs/SCRIPTS.md and docs/FORMAT.md.
+//! Image files recovered, shown, drawn and dumped. Lines and bytes follow from docs/SCRIPTS.md and docs/FORMAT.md.
 use super::{SCHEMA, format_there};
 use block_disk::{Fill, MemDisk};
-use declarations::read_schema;
+use declarations::{SchemaFault, SchemaFaultKind, read_schema};
 use durable::{Store, StoreCall};
 use guards::Schema;
 use heap_model::{FieldId, Lane, ObjectId, Record};
-use image_file::{FormatError, ImageFault, Trouble, draw_file, recover_file, show_file};
-use recover::RecoverError;
+use image_file::{
+    FormatError, ImageFault, NamedFault, Trouble, draw_file, dump_file, recover_file, show_file,
+};
+use recover::{RecoverError, Versions};
 use std::alloc::Global;
 use std::io::Write;
 use std::{fs, io};
@@ -19,10 +21,23 @@ heap 10 20
 // What a word of the program answers, and whether it writes these lines.
 type Answer = (Result<(), ImageFault>, bool);
 
-fn recover_there(rt: &HostRuntime, image: &str, lines: &[u8]) -> Answer {
+// The same of dumping an image.
+type Dumped = (Result<(), NamedFault>, bool);
+
+// Recovers the file, if its image is of one of these versions.
+fn recover_of(rt: &HostRuntime, versions: Versions, image: &str, lines: &[u8]) -> Answer {
     let mut writer = Vec::new(rt.alloc());
-    let answer = recover_file(rt, rt.alloc(), &Trouble::none(), image, &mut writer);
+    let trouble = Trouble::none();
+    let answer = recover_file(rt, rt.alloc(), &trouble, versions, image, &mut writer);
     (answer, writer.as_slice() == lines)
+}
+
+fn recover_there(rt: &HostRuntime, image: &str, lines: &[u8]) -> Answer {
+    recover_of(rt, Versions::Current, image, lines)
+}
+
+fn upgrade_there(rt: &HostRuntime, image: &str, lines: &[u8]) -> Answer {
+    recover_of(rt, Versions::Both, image, lines)
 }
 
 fn show_there(rt: &HostRuntime, image: &str, lines: &[u8]) -> Answer {
@@ -34,6 +49,12 @@ fn show_there(rt: &HostRuntime, image: &str, lines: &[u8]) -> Answer {
 fn draw_there(rt: &HostRuntime, image: &str, lines: &[u8]) -> Answer {
     let mut writer = Vec::new(rt.alloc());
     let answer = draw_file(rt, rt.alloc(), &Trouble::none(), image, &mut writer);
+    (answer, writer.as_slice() == lines)
+}
+
+fn dump_there(rt: &HostRuntime, image: &str, schema: Option<&str>, lines: &[u8]) -> Dumped {
+    let mut writer = Vec::new(rt.alloc());
+    let answer = dump_file(rt, rt.alloc(), &Trouble::none(), image, schema, &mut writer);
     (answer, writer.as_slice() == lines)
 }
 
@@ -176,6 +197,63 @@ heap 10 20
     assert!(rt; told_of_crashed(&rt, lines, report) == Some([(Ok(()), true); 3]));
 }
 
+// The same where its controls have version 1: what is answered to recovering it, and whether that leaves each byte; to showing it with
+// these lines; to upgrading it with that report; and then to showing and to recovering it.
+fn told_of_old(
+    rt: &HostRuntime,
+    lines: &[u8],
+    report: &[u8],
+    later: &[u8],
+) -> Option<([Answer; 5], bool)> {
+    let mut bytes = crashed(rt)?.bytes().to_vec(rt.alloc()).ok()?;
+    *bytes.get_mut(83)? = 1;
+    *bytes.get_mut(1131)? = 1;
+    fs::write(rt, "old", &bytes).ok()?;
+    let refused = recover_there(rt, "old", b"");
+    let is_left = has(rt, "old", &bytes);
+    let shown = show_there(rt, "old", lines);
+    let upgraded = upgrade_there(rt, "old", report);
+    let shown_later = show_there(rt, "old", later);
+    let recovered = recover_there(rt, "old", NOTHING_UNDONE);
+    Some(([refused, shown, upgraded, shown_later, recovered], is_left))
+}
+
+#[test]
+fn an_old_file_is_shown_and_upgraded(rt: HostRuntime) {
+    let lines = b"image lanes 2 capacity 4000 objects 4 fields 2 size 130208
+control a sequence 3 version 1
+lane t1 start 0 settled 0 logged 4 kept 0
+lane t2 start 0 settled 0 logged 3 kept 0
+section t1 1 unfinished records 4
+section t2 1 whole records 3
+depends t2 1 on t1 1 object 0 number 1
+cut 0 0
+heap 10 20
+";
+    let report = b"kept 0 0
+dropped t1 1 unfinished
+dropped t2 1 after t1 1
+undone 1
+heap 10 20
+";
+    let later = b"image lanes 2 capacity 4000 objects 4 fields 2 size 130208
+control b sequence 4 version 2
+lane t1 start 0 settled 0 logged 0 kept 0
+lane t2 start 0 settled 0 logged 0 kept 0
+cut 0 0
+heap 10 20
+";
+    let refused = (Err(ImageFault::Image(RecoverError::OldVersion)), true);
+    let wanted = [
+        refused,
+        (Ok(()), true),
+        (Ok(()), true),
+        (Ok(()), true),
+        (Ok(()), true),
+    ];
+    assert!(rt; told_of_old(&rt, lines, report, later) == Some((wanted, true)));
+}
+
 // Whether a file of these bytes is refused for this reason by all three words, which write nothing, and keeps its bytes.
 fn is_refused(rt: &HostRuntime, bytes: &[u8], why: RecoverError) -> bool {
     if fs::write(rt, "refused", bytes).is_err() {
@@ -237,7 +315,6 @@ fn a_refused_file_keeps_each_byte(rt: HostRuntime) {
         (8, 0, RecoverError::NotFormatted),
         (9, 33, RecoverError::BadHeader),
         (83, 3, RecoverError::BadControl),
-        (83, 1, RecoverError::OldVersion),
         (2164, 2, RecoverError::BadHeader),
         (2208, 9, bad_record),
     ];
@@ -289,7 +366,9 @@ fn told_of_half(rt: &HostRuntime) -> Option<([Result<(), ImageFault>; 2], bool, 
     };
     let shown = show_file(rt, rt.alloc(), &Trouble::none(), "half_told", &mut writer);
     writer.taken.clear();
-    let recovered = recover_file(rt, rt.alloc(), &Trouble::none(), "half_told", &mut writer);
+    let trouble = Trouble::none();
+    let versions = Versions::Current;
+    let recovered = recover_file(rt, rt.alloc(), &trouble, versions, "half_told", &mut writer);
     let is_first = writer.taken.as_slice() == b"kept 0 0\n".as_slice();
     let again = recover_there(rt, "half_told", NOTHING_UNDONE);
     Some(([shown, recovered], is_first, again))
@@ -300,4 +379,66 @@ fn told_of_half(rt: &HostRuntime) -> Option<([Result<(), ImageFault>; 2], bool, 
 fn a_writer_that_fails_is_a_fault(rt: HostRuntime) {
     let faults = [Err(ImageFault::Image(RecoverError::Fault)); 2];
     assert!(rt; told_of_half(&rt) == Some((faults, true, (Ok(()), true))));
+}
+
+// What is answered to dumping the crashed image with the names of this schema file, and to making an image of what is dumped, with
+// another line at its end, which is dumped in its turn.
+fn told_of_dumped(
+    rt: &HostRuntime,
+    lines: &[u8],
+    more: &[u8],
+) -> Option<([Dumped; 2], (Result<(), FormatError>, bool))> {
+    fs::write(rt, "dumped", crashed(rt)?.bytes()).ok()?;
+    let first = dump_there(rt, "dumped", Some("schema"), lines);
+    fs::write(rt, "larger_schema", more).ok()?;
+    let made = format_there(rt, "larger", "larger_schema", b"formatted 130232\n");
+    let again = dump_there(rt, "larger", Some("larger_schema"), more);
+    Some(([first, again], made))
+}
+
+#[test]
+fn a_heap_is_moved_to_a_larger_schema(rt: HostRuntime) {
+    let lines = b"object o0
+object o1
+object o2
+object o3
+field f0 o0 o0 10
+field f1 o1 o1 20
+";
+    let more = b"object o0
+object o1
+object o2
+object o3
+field f0 o0 o0 10
+field f1 o1 o1 20
+transient f2 o2 o2 30
+";
+    let wanted = ([(Ok(()), true); 2], (Ok(()), true));
+    assert!(rt; told_of_dumped(&rt, lines, more) == Some(wanted));
+}
+
+// What is answered to dumping an image by numbers, by the names of a schema file that isn't its own, and of one that is refused.
+fn told_of_names(rt: &HostRuntime, lines: &[u8]) -> Option<[Dumped; 3]> {
+    fs::write(rt, "named", crashed(rt)?.bytes()).ok()?;
+    fs::write(rt, "another_schema", "object a\nfield f a a 1\n").ok()?;
+    fs::write(rt, "no_schema", "object a\nobject a\n").ok()?;
+    Some([
+        dump_there(rt, "named", None, lines),
+        dump_there(rt, "named", Some("another_schema"), b""),
+        dump_there(rt, "named", Some("no_schema"), b""),
+    ])
+}
+
+#[test]
+fn names_are_those_of_the_image(rt: HostRuntime) {
+    let fault = SchemaFault {
+        line: 2,
+        why: SchemaFaultKind::DoubleName,
+    };
+    let wanted = [
+        (Ok(()), true),
+        (Err(NamedFault::OtherSchema), true),
+        (Err(NamedFault::Schema(fault)), true),
+    ];
+    assert!(rt; told_of_names(&rt, SCHEMA.as_bytes()) == Some(wanted));
 }

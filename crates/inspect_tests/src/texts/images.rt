@@ -157,9 +157,8 @@ fn is_format_shown(alloc: Global, lines: &[u8]) -> Option<bool> {
 fn is_refused(alloc: Global, bytes: &[u8], why: RecoverError) -> Option<[bool; 4]> {
     let mut disk = MemDisk::from_bytes(alloc, bytes).ok()?;
     let mut out = writer_failing(alloc, 0);
-    let refused = Err(InspectError::Study(why));
-    let is_not_shown = inspect(alloc, &mut disk, &mut out) == refused;
-    let is_not_drawn = draw(alloc, &mut disk, &mut out) == refused;
+    let is_not_shown = inspect(alloc, &mut disk, &mut out) == Err(InspectError::Study(why));
+    let is_not_drawn = draw(alloc, &mut disk, &mut out) == Err(InspectError::Study(why));
     Some([
         is_not_shown,
         is_not_drawn,
@@ -195,6 +194,9 @@ heap 10 20
 ";
     let graph = b"digraph sections {
 rankdir=LR
+labelloc=b
+labeljust=l
+label=\"grey: acknowledged, and kept\\ldropped by recovery: pink, it has not ended; orange, it depends on one that is dropped; yellow, it was not settled\\ldotted: depends on the thread's section before it\\lplain: depends on the section that freed what it took\\l\"
 subgraph t1 {
 rank=same
 \"t1\" [shape=plaintext]
@@ -208,6 +210,8 @@ rank=same
 \"t2\" -> \"t2.1\" [style=invis]
 }
 \"t1\" -> \"t2\" [style=invis]
+\"t1.1\" [xlabel=\"unfinished\", style=filled, fillcolor=lightpink]
+\"t2.1\" [xlabel=\"after t1 1\", style=filled, fillcolor=orange]
 \"t2.1\" -> \"t1.1\" [label=\"object 0 number 1\", constraint=false]
 }
 ";
@@ -224,6 +228,9 @@ fn a_circle_is_drawn(rt: HostRuntime) {
     let alloc = rt.alloc();
     let open = b"digraph sections {
 rankdir=LR
+labelloc=b
+labeljust=l
+label=\"grey: acknowledged, and kept\\ldropped by recovery: pink, it has not ended; orange, it depends on one that is dropped; yellow, it was not settled\\ldotted: depends on the thread's section before it\\lplain: depends on the section that freed what it took\\l\"
 subgraph t1 {
 rank=same
 \"t1\" [shape=plaintext]
@@ -237,12 +244,17 @@ rank=same
 \"t2\" -> \"t2.1\" [style=invis]
 }
 \"t1\" -> \"t2\" [style=invis]
+\"t1.1\" [xlabel=\"after t2 1\", style=filled, fillcolor=orange]
+\"t2.1\" [xlabel=\"unfinished\", style=filled, fillcolor=lightpink]
 \"t1.1\" -> \"t2.1\" [label=\"object 2 number 1\", constraint=false]
 \"t2.1\" -> \"t1.1\" [label=\"object 1 number 1\", constraint=false]
 }
 ";
     let ended = b"digraph sections {
 rankdir=LR
+labelloc=b
+labeljust=l
+label=\"grey: acknowledged, and kept\\ldropped by recovery: pink, it has not ended; orange, it depends on one that is dropped; yellow, it was not settled\\ldotted: depends on the thread's section before it\\lplain: depends on the section that freed what it took\\l\"
 subgraph t1 {
 rank=same
 \"t1\" [shape=plaintext]
@@ -289,6 +301,20 @@ heap 5 20
     assert!(rt; is_change_shown(rt.alloc(), &WORN, lines) == Some(true));
 }
 
+// The same of a control of version 1, from before there were transient fields.
+#[test]
+fn an_image_of_version_1_is_shown(rt: HostRuntime) {
+    let lines = b"image lanes 2 capacity 4000 objects 4 fields 2 size 130208
+control a sequence 3 version 1
+lane t1 start 0 settled 3 logged 3 kept 1
+lane t2 start 0 settled 0 logged 0 kept 0
+section t1 1 whole records 3
+cut 1 0
+heap 5 20
+";
+    assert!(rt; is_change_shown(rt.alloc(), &[(83, 1)], lines) == Some(true));
+}
+
 // Whether the image without its last byte is refused as too small.
 fn is_short_refused(alloc: Global, image: &MemDisk) -> Option<[bool; 4]> {
     is_refused(alloc, image.bytes().get(..130_207)?, RecoverError::TooSmall)
@@ -331,7 +357,6 @@ fn refused_images_are_not_shown(rt: HostRuntime) {
         ([(9, 33), (9, 33)], RecoverError::BadHeader),
         ([(64, 0), (1112, 0)], RecoverError::NoControl),
         ([(83, 3), (83, 3)], RecoverError::BadControl),
-        ([(83, 1), (83, 1)], RecoverError::OldVersion),
         ([(83, 1), (2164, 1)], RecoverError::BadControl),
         ([(2164, 2), (2164, 2)], RecoverError::BadHeader),
         ([(2165, 1), (2165, 1)], RecoverError::BadHeader),

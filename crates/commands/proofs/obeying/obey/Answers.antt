@@ -1,11 +1,14 @@
-use Rattle.std.proofs.Common.{Result, sym, subst}
+use Rattle.std.proofs.Common.{Option, Result, sym, subst}
+use Rattle.guards.specs.Schema.{Declarations}
+use Rattle.recover.specs.declared.studied.Study.{Study}
 use Rattle.inspect.specs.StudyText.{study_text}
-use Rattle.inspect.specs.WholeGraph.{graph_text}
+use Rattle.inspect.specs.WholeGraph.{picture_text}
+use Rattle.image_schema.specs.Dumping.{dump_text}
 use Rattle.image_file.specs.Telling.{report_of}
-use Rattle.commands.specs.Obeying.{Formats, Obeys, PlaysScript, TellsOf}
+use Rattle.commands.specs.Obeying.{Formats, Obeys, PlaysScript, TellsOf, TellsOfNamed}
 use Rattle.commands.specs.declared.fault.WorkFault.{WorkFault}
 use Rattle.command_words.specs.declared.words.Words.{Words}
-use Rattle.commands.proofs.ObeyLemmas.{made, played, told}
+use Rattle.commands.proofs.ObeyLemmas.{made, played, told, told_named}
 use Rattle.commands.proofs.obeying.obey.Goals as goal
 
 pub returns-in-Run : goal.returns-in-Run
@@ -39,10 +42,20 @@ pub returns-in-Draw : goal.returns-in-Draw
 returns-in-Draw o c =
     let read = o.S.Read.remaining c.args.reader.now in
     let written = o.W.Write.contents c.args.writer.now in
-    let now = o.W.Write.contents c.draw_file.new.writer in
-    subst (λ (w : Words). Obeys w c.on_image-in-Draw.result read read written now) (sym c.in-Draw.is)
-    (subst (λ (r : Result (Unit {0}) WorkFault). TellsOf graph_text r written now) (sym c.on_image-in-Draw.ensures)
-    (told graph_text c.draw_file.result written now c.draw_file.ensures.printed c.draw_file.ensures.part))
+    let now = o.W.Write.contents c.draw_named_file.new.writer in
+    let text = λ (given : Option Declarations) (s : Study). picture_text given c.in-Draw.last s in
+    subst (λ (w : Words). Obeys w c.on_named.result read read written now) (sym c.in-Draw.is)
+    (subst (λ (r : Result (Unit {0}) WorkFault). TellsOfNamed text c.in-Draw.schema r written now) (sym c.on_named.ensures)
+    (told_named text c.in-Draw.schema c.draw_named_file.result written now c.draw_named_file.ensures.printed c.draw_named_file.ensures.part))
+
+pub returns-in-Dump : goal.returns-in-Dump
+returns-in-Dump o c =
+    let read = o.S.Read.remaining c.args.reader.now in
+    let written = o.W.Write.contents c.args.writer.now in
+    let now = o.W.Write.contents c.dump_file.new.writer in
+    subst (λ (w : Words). Obeys w c.on_named-in-Dump.result read read written now) (sym c.in-Dump.is)
+    (subst (λ (r : Result (Unit {0}) WorkFault). TellsOfNamed dump_text c.in-Dump.schema r written now) (sym c.on_named-in-Dump.ensures)
+    (told_named dump_text c.in-Dump.schema c.dump_file.result written now c.dump_file.ensures.printed c.dump_file.ensures.part))
 
 pub returns-in-Recover : goal.returns-in-Recover
 returns-in-Recover o c =
@@ -52,6 +65,15 @@ returns-in-Recover o c =
     subst (λ (w : Words). Obeys w c.on_image-in-Recover.result read read written now) (sym c.in-Recover.is)
     (subst (λ (r : Result (Unit {0}) WorkFault). TellsOf report_of r written now) (sym c.on_image-in-Recover.ensures)
     (told report_of c.recover_file.result written now c.recover_file.ensures.printed c.recover_file.ensures.part))
+
+pub returns-in-Upgrade : goal.returns-in-Upgrade
+returns-in-Upgrade o c =
+    let read = o.S.Read.remaining c.args.reader.now in
+    let written = o.W.Write.contents c.args.writer.now in
+    let now = o.W.Write.contents c.recover_file-in-Upgrade.new.writer in
+    subst (λ (w : Words). Obeys w c.on_image-in-Upgrade.result read read written now) (sym c.in-Upgrade.is)
+    (subst (λ (r : Result (Unit {0}) WorkFault). TellsOf report_of r written now) (sym c.on_image-in-Upgrade.ensures)
+    (told report_of c.recover_file-in-Upgrade.result written now c.recover_file-in-Upgrade.ensures.printed c.recover_file-in-Upgrade.ensures.part))
 
 pub returns-in-Drive : goal.returns-in-Drive
 returns-in-Drive o c =

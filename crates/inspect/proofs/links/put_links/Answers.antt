@@ -8,6 +8,7 @@ use Rattle.log_state.specs.Lanes.{count_after, count_of}
 use Rattle.inspect.specs.Links.{finds, linked_by, link_from}
 use Rattle.inspect.specs.declared.section.SectionId.{SectionId}
 use Rattle.inspect.specs.SectionText.{link_text}
+use Rattle.std.proofs.KnownBytes.{Appends-nil}
 use Rattle.inspect.proofs.PartLemmas.{always}
 use Rattle.inspect.proofs.ToldLemmas.{Few, few, count_more, none, next_told, part_told}
 use Rattle.inspect.proofs.links.put_links.Goals as goal
@@ -58,3 +59,6 @@ returns-in_err-put_taken-clause-part g c =
     let next : AppendsPart w new (flat_map text (linked_by (finds c.args.releases.now) c.args.numbering (count_of (reverse (take i xs))) (get_or xs i none))) =
     subst (λ (p : LaneCount). AppendsPart w new (flat_map text (linked_by (finds c.args.releases.now) c.args.numbering p (get_or xs i none)))) c.loop-entry.invariant.gone named in
     always c.from_residual.result (part_told (linked_by (finds c.args.releases.now) c.args.numbering) text xs i lt (g.W.Write.contents c.args.writer.now) w new c.loop-entry.invariant.written next)
+
+pub loop-entry-init : goal.loop-entry-init
+loop-entry-init g c = record { gone = c.new-gone.ensures; written = Appends-nil (g.W.Write.contents c.args.writer.now) }

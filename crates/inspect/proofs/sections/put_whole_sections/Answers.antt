@@ -7,6 +7,7 @@ use Rattle.inspect.specs.Written.{AppendsPart}
 use Rattle.log_state.specs.Lanes.{count_after, count_of}
 use Rattle.inspect.specs.Sections.{ended_by}
 use Rattle.inspect.specs.SectionText.{section_text}
+use Rattle.std.proofs.KnownBytes.{Appends-nil}
 use Rattle.inspect.proofs.PartLemmas.{always}
 use Rattle.inspect.proofs.ToldLemmas.{Few, few, count_more, none, next_told, part_told}
 use Rattle.inspect.proofs.sections.put_whole_sections.Goals as goal
@@ -53,3 +54,6 @@ returns-in_err-put_ended-clause-part g c =
     let next : AppendsPart w new (flat_map text (ended_by c.args.numbering (count_of (reverse (take i xs))) (get_or xs i none))) =
     subst (λ (p : LaneCount). AppendsPart w new (flat_map text (ended_by c.args.numbering p (get_or xs i none)))) c.loop-entry.invariant.gone c.in_err-put_ended.ensures.part in
     always c.from_residual.result (part_told (ended_by c.args.numbering) text xs i lt (g.W.Write.contents c.args.writer.now) w new c.loop-entry.invariant.written next)
+
+pub loop-entry-init : goal.loop-entry-init
+loop-entry-init g c = record { gone = c.new-gone.ensures; written = Appends-nil (g.W.Write.contents c.args.writer.now) }

@@ -9,6 +9,7 @@ use Rattle.inspect.specs.Written.{AppendsPart}
 use Rattle.inspect.specs.Sections.{numbering_of, told}
 use Rattle.inspect.specs.Links.{links_in, linked_by, finds, releaser_in, releases_of}
 use Rattle.inspect.specs.SectionText.{link_text}
+use Rattle.std.proofs.KnownBytes.{Appends-nil}
 use Rattle.inspect.proofs.PartLemmas.{always}
 use Rattle.inspect.proofs.LaneLemmas.{next_lane, part_lane}
 use Rattle.inspect.proofs.study_lines.put_all_links.Goals as goal
@@ -42,3 +43,6 @@ loop-lane-preserved g c =
     subst (λ (xs : List UndoRecord). Appends mid new (flat_map (link_text c.args.form) (told (linked_by (releaser_in (releases_of s)) (numbering_of s l)) (reverse xs)))) records
     (subst (λ (n : Numbering). Appends mid new (flat_map (link_text c.args.form) (told (linked_by (releaser_in (releases_of s)) n) (reverse c.records_in.result.now)))) c.lane_numbering-numbering.ensures (subst (λ (find : ℕ → ℕ → Option SectionId). Appends mid new (flat_map (link_text c.args.form) (told (linked_by find c.lane_numbering-numbering.result) (reverse c.records_in.result.now)))) found c.in_ok-put_links.ensures.ok)) in
     next_lane tell l old mid new c.loop-lane.invariant next
+
+pub loop-lane-init : goal.loop-lane-init
+loop-lane-init g c = Appends-nil (g.W.Write.contents c.args.writer.now)

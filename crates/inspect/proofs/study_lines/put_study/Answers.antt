@@ -3,6 +3,7 @@ use Rattle.std.specs.Io.KnownBytes.{Appends}
 use Rattle.std.proofs.lemmas.Result.{on_ok_weaker, on_err_weaker}
 use Rattle.inspect.specs.declared.form.Form.TheVariants.{Lines}
 use Rattle.inspect.specs.Written.{AppendsPart}
+use Rattle.inspect.specs.SectionText.{link_text}
 use Rattle.inspect.specs.StudyText.{head_text, sections_text, links_text, end_text}
 use Rattle.inspect.proofs.PartLemmas.{always, all_later, all_last, part_here, part_later}
 use Rattle.inspect.proofs.study_lines.put_study.Goals as goal
@@ -12,7 +13,7 @@ returns-in_err-put_head-clause-part g c =
     let s = c.args.study.now in
     let head = head_text s in
     let sections = sections_text s in
-    let links = links_text Lines s in
+    let links = links_text (link_text Lines) s in
     let end = end_text s in
     let old = g.W.Write.contents c.args.writer.now in
     let one = g.W.Write.contents c.put_head.new.writer in
@@ -23,7 +24,7 @@ returns-in_err-put_all_sections-clause-part g c =
     let s = c.args.study.now in
     let head = head_text s in
     let sections = sections_text s in
-    let links = links_text Lines s in
+    let links = links_text (link_text Lines) s in
     let end = end_text s in
     let old = g.W.Write.contents c.args.writer.now in
     let one = g.W.Write.contents c.put_head.new.writer in
@@ -36,7 +37,7 @@ returns-in_err-put_all_links-clause-part g c =
     let s = c.args.study.now in
     let head = head_text s in
     let sections = sections_text s in
-    let links = links_text Lines s in
+    let links = links_text (link_text Lines) s in
     let end = end_text s in
     let old = g.W.Write.contents c.args.writer.now in
     let one = g.W.Write.contents c.put_head.new.writer in
@@ -50,7 +51,7 @@ returns-clause-ok g c =
     let s = c.args.study.now in
     let head = head_text s in
     let sections = sections_text s in
-    let links = links_text Lines s in
+    let links = links_text (link_text Lines) s in
     let end = end_text s in
     let old = g.W.Write.contents c.args.writer.now in
     let one = g.W.Write.contents c.put_head.new.writer in
@@ -65,7 +66,7 @@ returns-clause-part g c =
     let s = c.args.study.now in
     let head = head_text s in
     let sections = sections_text s in
-    let links = links_text Lines s in
+    let links = links_text (link_text Lines) s in
     let end = end_text s in
     let old = g.W.Write.contents c.args.writer.now in
     let one = g.W.Write.contents c.put_head.new.writer in

@@ -1,0 +1,31 @@
+use Rattle.std.proofs.Common.{◌≡◌, ◌∙◌, true, false, Option, sym, subst}
+use Rattle.std.specs.Io.KnownBytes.{Appends}
+use Rattle.std.proofs.KnownBytes.{Appends-nil}
+use Rattle.guards.specs.Schema.{Declarations}
+use Rattle.inspect.specs.WholeGraph.{picture_text}
+use Rattle.inspect.specs.Written.{AppendsPart}
+use Rattle.image_schema.proofs.drawing.draw_study.Goals as goal
+
+pub write_graph-requires : goal.write_graph-requires
+write_graph-requires g c = c.study_law.ensures.numbers c.requires.image c.args.study.now c.requires.of
+
+pub returns-then-not-fits_given-clause-refused : goal.returns-then-not-fits_given-clause-refused
+returns-then-not-fits_given-clause-refused g c = (
+  (λ fits. let both : true ≡ false = sym (c.fits_given.ensures.1 fits) ∙ c.if-not-fits_given.true in absurd cc),
+  Appends-nil (g.W.Write.contents c.args.writer.now),
+)
+
+pub returns-in-Ok-clause-ok : goal.returns-in-Ok-clause-ok
+returns-in-Ok-clause-ok g c =
+    let old = g.W.Write.contents c.args.writer.now in
+    let new = g.W.Write.contents c.write_graph.new.writer in
+    record {
+      fits = c.fits_given.ensures.0 c.if-not-fits_given.false;
+      written = subst (λ (names : Option Declarations). Appends old new (picture_text names c.args.last c.args.study.now)) c.as_ref.ensures.value c.in-Ok.ensures.ok;
+    }
+
+pub returns-clause-refused : goal.returns-clause-refused
+returns-clause-refused g c =
+    let old = g.W.Write.contents c.args.writer.now in
+    let new = g.W.Write.contents c.write_graph.new.writer in
+    subst (λ (names : Option Declarations). AppendsPart old new (picture_text names c.args.last c.args.study.now)) c.as_ref.ensures.value (c.in-Err-Write.ensures.part c.in-Err-Write.field-0-is)

@@ -1,0 +1,77 @@
+//! The sections of an image as a graph, by the names of a schema file.
+ghost use Rattle.std.specs.Prelude.{◌≡◌, ◌↔◌, IfErr, IsTrue, OnOk};
+ghost use Rattle.block_disk.specs.Device.{HasCause, SameMoments};
+ghost use Rattle.image_schema.specs.Drawing.{Draws, DrawsStudy, FitsGiven, RefusesDrawing, RefusesDrawnStudy};
+ghost use Rattle.image_schema.specs.OfImage.{IsStudied};
+ghost use Rattle.image_schema.specs.declared.error.DumpError.TheVariants as kinds;
+ghost use Rattle.recover.specs.declared.error.RecoverError.TheVariants.{Fault};
+
+use crate::error::DumpError;
+use crate::fitting::fits;
+use block_disk::Disk;
+use guards::Schema;
+use inspect::{ShowError, write_graph};
+use recover::{RecoverError, Study, study, study_law};
+use std::alloc::Global;
+use std::io::Write;
+
+/// Writes the live sections of the image on the device, of which nothing has to be known, and their dependences: the graph of
+/// [`write_graph`], of each lane the last so many sections. Objects have the names of the schema that is given, which has to be the
+/// image's, or else numbers. The device is left as it was.
+///
+/// Refusals, in this order:
+/// - `Study`: the image is refused, or there was no memory. Nothing is written;
+/// - `OtherSchema`: the schema that is given isn't the image's. Nothing is written;
+/// - `Study` by `NoMemory`: there was no memory for what is drawn. Nothing is written;
+/// - `Write`: a beginning of the graph is written.
+pub fn draw_named<D: Disk, W: Write>(
+    alloc: Global,
+    disk: &mut D,
+    given: Option<Schema>,
+    last: u32,
+    writer: &mut W,
+) -> Result<(), DumpError>
+    ensures ok { OnOk result (Draws given last (D.device disk.old).now.bytes (W.contents writer.old) (W.contents writer.new)) }
+    ensures refused { IfErr result (RefusesDrawing given last (D.device disk.old).now.bytes (W.contents writer.old) (W.contents writer.new)) }
+    ensures same { SameMoments (D.device disk.old) (D.device disk.new) }
+    ensures cause { HasCause (D.device disk.old).failures (D.device disk.new).failures (kinds.Study Fault) result }
+{
+    match study(alloc, disk) {
+        Ok(study) => draw_study(alloc, &study, given, last, writer),
+        Err(error) => Err(DumpError::Study(error)),
+    }
+}
+
+// Draws an image that was studied.
+fn draw_study<W: Write>(
+    alloc: Global,
+    study: &Study,
+    given: Option<Schema>,
+    last: u32,
+    writer: &mut W,
+) -> Result<(), DumpError>
+    requires { IsStudied study.now }
+    ensures ok { OnOk result (DrawsStudy given last study.now (W.contents writer.old) (W.contents writer.new)) }
+    ensures refused { IfErr result (RefusesDrawnStudy given last study.now (W.contents writer.old) (W.contents writer.new)) }
+{
+    if !fits_given(&given, study) {
+        return Err(DumpError::OtherSchema);
+    }
+    // The study of an image is within the limits that its graph needs.
+    study_law();
+    match write_graph(alloc, study, given.as_ref(), last, writer) {
+        Ok(()) => Ok(()),
+        Err(ShowError::NoMemory) => Err(DumpError::Study(RecoverError::NoMemory)),
+        Err(ShowError::Write) => Err(DumpError::Write),
+    }
+}
+
+// Whether the schema, if one was given, is the image's.
+fn fits_given(given: &Option<Schema>, study: &Study) -> bool
+    ensures { IsTrue result ↔ FitsGiven given.now study.now }
+{
+    match given {
+        Some(schema) => fits(schema, study),
+        None => true,
+    }
+}

@@ -1,0 +1,55 @@
+use Rattle.std.proofs.Common.{ℕ, List, [], ◌∷◌, codes, sym, subst, OnOk, OnErr}
+use Rattle.std.specs.Fmt.{decimal}
+use Rattle.std.specs.Io.KnownBytes.{Appends}
+use Rattle.heap_model.specs.declared.ids.Lane.{Lane}
+use Rattle.recover.specs.declared.report.Why.{Why}
+use Rattle.inspect.specs.GraphText.{reason_text}
+use Rattle.inspect.specs.Pieces.{line, thread_of}
+use Rattle.inspect.specs.Written.{AppendsPart}
+use Rattle.inspect.proofs.reasons.put_reason_line.Goals as goal
+
+-- the line, by the reason
+abbrev told_of : Lane → (section : ℕ) → Why → List ℕ
+told_of lane section why = line (codes "\"t" ∷ decimal (thread_of lane) ∷ codes "." ∷ decimal section ∷ reason_text why)
+
+pub returns-in-Unfinished-clause-ok : goal.returns-in-Unfinished-clause-ok
+returns-in-Unfinished-clause-ok g c =
+    let old = g.W.Write.contents c.args.writer.now in
+    let new = g.W.Write.contents c.put_line.new.writer in
+    subst (λ (why : Why). OnOk c.put_line.result (Appends old new (told_of c.args.dropped.lane c.args.dropped.section why))) (sym c.in-Unfinished.is)
+    (subst (λ (text : List ℕ). OnOk c.put_line.result (Appends old new text)) (λ i. line (codes "\"t" ∷ decimal (c.thread_number.ensures i) ∷ codes "." ∷ decimal c.args.dropped.section ∷ codes "\" [xlabel=\"unfinished\", style=filled, fillcolor=lightpink]" ∷ [])) c.put_line.ensures.ok)
+
+pub returns-in-Unfinished-clause-part : goal.returns-in-Unfinished-clause-part
+returns-in-Unfinished-clause-part g c =
+    let old = g.W.Write.contents c.args.writer.now in
+    let new = g.W.Write.contents c.put_line.new.writer in
+    subst (λ (why : Why). OnErr c.put_line.result (AppendsPart old new (told_of c.args.dropped.lane c.args.dropped.section why))) (sym c.in-Unfinished.is)
+    (subst (λ (text : List ℕ). OnErr c.put_line.result (AppendsPart old new text)) (λ i. line (codes "\"t" ∷ decimal (c.thread_number.ensures i) ∷ codes "." ∷ decimal c.args.dropped.section ∷ codes "\" [xlabel=\"unfinished\", style=filled, fillcolor=lightpink]" ∷ [])) c.put_line.ensures.part)
+
+pub returns-in-After-clause-ok : goal.returns-in-After-clause-ok
+returns-in-After-clause-ok g c =
+    let old = g.W.Write.contents c.args.writer.now in
+    let new = g.W.Write.contents c.put_line-in-After.new.writer in
+    subst (λ (why : Why). OnOk c.put_line-in-After.result (Appends old new (told_of c.args.dropped.lane c.args.dropped.section why))) (sym c.in-After.is)
+    (subst (λ (text : List ℕ). OnOk c.put_line-in-After.result (Appends old new text)) (λ i. line (codes "\"t" ∷ decimal (c.thread_number.ensures i) ∷ codes "." ∷ decimal c.args.dropped.section ∷ codes "\" [xlabel=\"after t" ∷ decimal (c.thread_number-in-After.ensures i) ∷ codes " " ∷ decimal c.in-After.other ∷ codes "\", style=filled, fillcolor=orange]" ∷ [])) c.put_line-in-After.ensures.ok)
+
+pub returns-in-After-clause-part : goal.returns-in-After-clause-part
+returns-in-After-clause-part g c =
+    let old = g.W.Write.contents c.args.writer.now in
+    let new = g.W.Write.contents c.put_line-in-After.new.writer in
+    subst (λ (why : Why). OnErr c.put_line-in-After.result (AppendsPart old new (told_of c.args.dropped.lane c.args.dropped.section why))) (sym c.in-After.is)
+    (subst (λ (text : List ℕ). OnErr c.put_line-in-After.result (AppendsPart old new text)) (λ i. line (codes "\"t" ∷ decimal (c.thread_number.ensures i) ∷ codes "." ∷ decimal c.args.dropped.section ∷ codes "\" [xlabel=\"after t" ∷ decimal (c.thread_number-in-After.ensures i) ∷ codes " " ∷ decimal c.in-After.other ∷ codes "\", style=filled, fillcolor=orange]" ∷ [])) c.put_line-in-After.ensures.part)
+
+pub returns-in-Unsettled-clause-ok : goal.returns-in-Unsettled-clause-ok
+returns-in-Unsettled-clause-ok g c =
+    let old = g.W.Write.contents c.args.writer.now in
+    let new = g.W.Write.contents c.put_line-in-Unsettled.new.writer in
+    subst (λ (why : Why). OnOk c.put_line-in-Unsettled.result (Appends old new (told_of c.args.dropped.lane c.args.dropped.section why))) (sym c.in-Unsettled.is)
+    (subst (λ (text : List ℕ). OnOk c.put_line-in-Unsettled.result (Appends old new text)) (λ i. line (codes "\"t" ∷ decimal (c.thread_number.ensures i) ∷ codes "." ∷ decimal c.args.dropped.section ∷ codes "\" [xlabel=\"unsettled\", style=filled, fillcolor=khaki]" ∷ [])) c.put_line-in-Unsettled.ensures.ok)
+
+pub returns-in-Unsettled-clause-part : goal.returns-in-Unsettled-clause-part
+returns-in-Unsettled-clause-part g c =
+    let old = g.W.Write.contents c.args.writer.now in
+    let new = g.W.Write.contents c.put_line-in-Unsettled.new.writer in
+    subst (λ (why : Why). OnErr c.put_line-in-Unsettled.result (AppendsPart old new (told_of c.args.dropped.lane c.args.dropped.section why))) (sym c.in-Unsettled.is)
+    (subst (λ (text : List ℕ). OnErr c.put_line-in-Unsettled.result (AppendsPart old new text)) (λ i. line (codes "\"t" ∷ decimal (c.thread_number.ensures i) ∷ codes "." ∷ decimal c.args.dropped.section ∷ codes "\" [xlabel=\"unsettled\", style=filled, fillcolor=khaki]" ∷ [])) c.put_line-in-Unsettled.ensures.part)
