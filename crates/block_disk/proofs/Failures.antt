@@ -23,4 +23,4 @@ cause_of a b fault r same s to cause = record { later = cause.later; failed = λ
 
 -- the same moments after two calls
 pub moments_trans : (old mid new : Device) → SameMoments old mid → SameMoments mid new → SameMoments old new
-moments_trans old mid new a b = record { now = b.now ∙ a.now; past = b.past ∙ a.past }
+moments_trans old mid new a b = record { name = b.name ∙ a.name; now = b.now ∙ a.now; past = b.past ∙ a.past }

@@ -72,11 +72,12 @@ survives_none P xs ys p same = subst P (sym (outside_none xs ys same)) p
 
 -- no call
 pub begin : BeginLaw
-begin d P = record { later = omega arith; grows = record { since = []; moments = refl }; each = λ t image le left. inl left; keeps = λ t image le left. left }
+begin d P = record { later = omega arith; grows = record { name = refl; since = []; moments = refl }; each = λ t image le left. inl left; keeps = λ t image le left. left }
 
 -- the moments of calls, and then of others
 pub grows_then : (old mid new : Device) → Continues old mid → Continues mid new → Continues old new
 grows_then old mid new a b = record {
+  name = b.name ∙ a.name;
   since = b.since ++ a.since;
   moments = b.moments ∙ ap (λ (ms : List Moment). b.since ++ ms) a.moments ∙ sym (append_assoc b.since a.since (old.now ∷ old.past));
 }
@@ -104,10 +105,10 @@ pub follows : FollowsLaw
 follows old mid new P rs a b to = and_then old mid new P a (weaker mid new (ImageBut mid rs) P to b)
 
 -- one moment more, each of whose images has P
-pub passes : (old new : Device) (P : List ℕ → Type 0) → new.past ≡ old.now ∷ old.past → Always new P → LeavesOnly old new P
-passes old new P is always = record {
+pub passes : (old new : Device) (P : List ℕ → Type 0) → new.name ≡ old.name → new.past ≡ old.now ∷ old.past → Always new P → LeavesOnly old new P
+passes old new P name is always = record {
   later = omega (arith, ap length is);
-  grows = record { since = new.now ∷ []; moments = λ i. new.now ∷ is i };
+  grows = record { name = name; since = new.now ∷ []; moments = λ i. new.now ∷ is i };
   each = λ t image le left. ⊎_elim (λ now. inr (always image now.1)) (λ was. inl (subst (λ (ms : List Moment). LeftIn t ms image) is was)) left;
   keeps = λ t image le left. inr (subst (λ (ms : List Moment). LeftIn t ms image) (sym is) left);
 }
@@ -116,7 +117,7 @@ passes old new P is always = record {
 pub stays : StaysLaw
 stays old new P same = record {
   later = omega (arith, ap length same.past);
-  grows = record { since = []; moments = λ i. same.now i ∷ same.past i };
+  grows = record { name = same.name; since = []; moments = λ i. same.now i ∷ same.past i };
   each = λ t image le left. inl (subst (λ (ms : List Moment). LeftIn t ms image) (λ i. same.now i ∷ same.past i) left);
   keeps = λ t image le left. subst (λ (ms : List Moment). LeftIn t ms image) (λ i. sym same.now i ∷ sym same.past i) left;
 }
@@ -155,7 +156,7 @@ survives old new rs P always keeps leaves =
 
 -- a write that succeeds tears nothing more than one that fails may
 pub torn_written : (at : ℕ) (bytes : List ℕ) (old : Device) → at + length bytes ≤ length old.now.bytes → TornWrite at (length bytes) old (written at bytes old)
-torn_written at bytes old fits = record { fits = fits; pending = refl; bytes = spliced_same old.now.bytes bytes at fits; past = refl }
+torn_written at bytes old fits = record { name = refl; fits = fits; pending = refl; bytes = spliced_same old.now.bytes bytes at fits; past = refl }
 
 torn_besides : (at n : ℕ) (old new : Device) → TornWrite at n old new → Always new (ImageBut old (record { start = at; len = n } ∷ []))
 torn_besides at n old new torn image left =
@@ -165,7 +166,7 @@ torn_besides at n old new torn image left =
 -- an image from before it, but for its range
 pub leaves_torn : (at n : ℕ) (old new : Device) → SameMoments old new ⊎ TornWrite at n old new → LeavesOnly old new (ImageBut old (record { start = at; len = n } ∷ []))
 leaves_torn at n old new (inl same) = stays old new (ImageBut old (record { start = at; len = n } ∷ [])) same
-leaves_torn at n old new (inr torn) = passes old new (ImageBut old (record { start = at; len = n } ∷ [])) torn.past (torn_besides at n old new torn)
+leaves_torn at n old new (inr torn) = passes old new (ImageBut old (record { start = at; len = n } ∷ [])) torn.name torn.past (torn_besides at n old new torn)
 
 -- each image that a crash may leave after a write that succeeds: one from before it, but for its range
 pub leaves_written : (at : ℕ) (bytes : List ℕ) (old new : Device) → at + length bytes ≤ length old.now.bytes → new ≡ written at bytes old
@@ -183,7 +184,7 @@ pub leaves_write : (at : ℕ) (bytes : List ℕ) (old new : Device) (r : Result 
 leaves_write at bytes old new (Ok u) fits ok refused failed = leaves_written at bytes old new fits ok
 leaves_write at bytes old new (Err Fault) fits ok refused failed = leaves_torn at (length bytes) old new (failed refl)
 leaves_write at bytes old new (Err OutOfRange) fits ok refused failed =
-    let is = (refused refl).1 in stays old new (ImageBut old (range_of at bytes ∷ [])) (record { now = λ i. (is i).now; past = λ i. (is i).past })
+    let is = (refused refl).1 in stays old new (ImageBut old (range_of at bytes ∷ [])) (record { name = λ i. (is i).name; now = λ i. (is i).now; past = λ i. (is i).past })
 
 -- all of these are possible
 pub written_possible : (at : ℕ) (bytes : List ℕ) (old : Device) (image : List ℕ) → at + length bytes ≤ length old.now.bytes
@@ -197,7 +198,7 @@ written_possible at bytes old image fits (before, was, torn) =
 pub leaves_synced : SyncLaw
 leaves_synced old new is =
     let always : Always (synced old) (ImageBut old []) = always_only (synced old) (ImageBut old []) refl (besides_none old [] old.now.bytes (image_now old)) in
-    passes old new (ImageBut old []) (λ i. (is i).past) (subst (λ (d : Device). Always d (ImageBut old [])) (sym is) always)
+    passes old new (ImageBut old []) (λ i. (is i).name) (λ i. (is i).past) (subst (λ (d : Device). Always d (ImageBut old [])) (sym is) always)
 
 -- what held of each image goes on to hold
 pub after_sync : (old new : Device) (P : List ℕ → Type 0) → Always old P → LeavesOnly old new (ImageBut old []) → LeavesOnly old new P × Always new P

@@ -17,8 +17,9 @@ pub record Moment : Type 0 where
   pub bytes : List ℕ
   pub pending : List Range
 
--- the device: this moment, those before it (the latest first), and how often it has failed
+-- the device: which one it is, this moment, those before it (the latest first), and how often it has failed
 pub record Device : Type 0 where
+  pub name : List ℕ
   pub now : Moment
   pub past : List Moment
   pub failures : ℕ
@@ -53,6 +54,7 @@ LeftSince t d image = LeftIn t (d.now ∷ d.past) image
 -- what a write that succeeds makes of the device
 abbrev pub written : ℕ → List ℕ → Device → Device
 written at bytes d = record {
+  name = d.name;
   now = record { bytes = spliced d.now.bytes at bytes; pending = range_of at bytes ∷ d.now.pending };
   past = d.now ∷ d.past;
   failures = d.failures;
@@ -71,6 +73,7 @@ unit_ranges (suc n) at = record { start = at; len = 16 } ∷ unit_ranges n (at +
 -- what a sync that succeeds makes of it
 abbrev pub synced : Device → Device
 synced d = record {
+  name = d.name;
   now = record { bytes = d.now.bytes; pending = [] };
   past = d.now ∷ d.past;
   failures = d.failures;
@@ -86,13 +89,15 @@ pub record HasCause {T E : Type 0} (before after : ℕ) (fault : E) (result : Re
   pub later : before ≤ after
   pub failed : IsErrOf result fault → HasFailed before after
 
--- the same moments; only the count of failures may differ
+-- the same moments of the same device; only the count of failures may differ
 pub record SameMoments (old new : Device) : Type 0 where
+  pub name : new.name ≡ old.name
   pub now : new.now ≡ old.now
   pub past : new.past ≡ old.past
 
 -- what a write of n bytes that fails makes of it, if it was begun: any bytes in its range
 pub record TornWrite (at n : ℕ) (old new : Device) : Type 0 where
+  pub name : new.name ≡ old.name
   pub fits : at + n ≤ length old.now.bytes
   pub pending : new.now.pending ≡ record { start = at; len = n } ∷ old.now.pending
   pub bytes : SameOutside (record { start = at; len = n } ∷ []) old.now.bytes new.now.bytes

@@ -2,8 +2,9 @@
 use Rattle.std.specs.Prelude.{◌≡◌, ◌⊎◌, ℕ, ◌+◌, ◌≤◌, List, [], ◌∷◌, ◌++◌, length}
 use Rattle.block_disk.specs.Device.{Range, Moment, Device, Image, LeftSince, SameOutside}
 
--- the moments of the one are those of the other, with these since
+-- the one is the other device later: its moments are those of the other, with these since
 pub record Continues (old new : Device) : Type 0 where
+  pub name : new.name ≡ old.name
   pub since : List Moment
   pub moments : new.now ∷ new.past ≡ since ++ (old.now ∷ old.past)
 

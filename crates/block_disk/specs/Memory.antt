@@ -57,9 +57,9 @@ moments_before first (WriteFailed at len ∷ older) = moment_after first older �
 moments_before first (Synced ∷ older) = moment_after first older ∷ moments_before first older
 moments_before first (SyncFailed ∷ older) = moments_before first older
 
--- the device that the disk is
+-- the device that the disk is; disks in memory have no names of their own
 abbrev pub device_of : Memory → Device
-device_of m = record { now = moment_after m.first m.stops; past = moments_before m.first m.stops; failures = m.failures }
+device_of m = record { name = []; now = moment_after m.first m.stops; past = moments_before m.first m.stops; failures = m.failures }
 
 -- the next call is the one to fail
 abbrev pub IsDue : Memory → Type 0

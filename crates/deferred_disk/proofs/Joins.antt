@@ -14,7 +14,7 @@ use Rattle.deferred_disk.specs.declared.call.Handed.{Handed}
 use Rattle.deferred_disk.specs.declared.call.TheConstants.{MOST_BYTES}
 
 -- a write is joined with the newest call, or is one of its own
-join_either : (at : ℕ) (more : List ℕ) (newest : Stop) (older : List Stop) (P : List Stop → Type 0) → (goes_on_with newest at (length more) ≡ true → P (longer newest more ∷ older))
+pub join_either : (at : ℕ) (more : List ℕ) (newest : Stop) (older : List Stop) (P : List Stop → Type 0) → (goes_on_with newest at (length more) ≡ true → P (longer newest more ∷ older))
     → P (Wrote at more ∷ newest ∷ older) → P (join_write at more (newest ∷ older))
 join_either at more newest older P one own = elim (cases_Bool (goes_on_with newest at (length more))) [
   | inl is ↦ subst (λ (b : Bool). P (if b then longer newest more ∷ older else Wrote at more ∷ newest ∷ older)) (sym is) (one is)
@@ -109,7 +109,7 @@ bytes_all first (Synced ∷ older) fits = bytes_all first older fits.1
 bytes_all first (SyncFailed ∷ older) fits = bytes_all first older fits.1
 
 -- what a crash after the calls may leave, one after the stops may
-image_all : (first : List ℕ) (stops : List Stop) (image : List ℕ) → AllFit (length first) stops → Image (moment_after first (joined stops)) image → Image (moment_after first stops) image
+pub image_all : (first : List ℕ) (stops : List Stop) (image : List ℕ) → AllFit (length first) stops → Image (moment_after first (joined stops)) image → Image (moment_after first stops) image
 image_all first stops image fits is =
     let same = bytes_all first stops fits in record {
       size = is.size ∙ ap (λ (xs : List ℕ). length xs) same;
@@ -125,7 +125,7 @@ left_later first Synced older image is = inr is
 left_later first SyncFailed older image is = is
 
 -- with one call or more fewer, a write is one of those before it
-fewer : (n at : ℕ) (more : List ℕ) (calls : List Stop) → (k : ℕ) × (drop (suc n) (join_write at more calls) ≡ drop k calls)
+pub fewer : (n at : ℕ) (more : List ℕ) (calls : List Stop) → (k : ℕ) × (drop (suc n) (join_write at more calls) ≡ drop k calls)
 fewer n at more [] = (n, refl)
 fewer n at more (newest ∷ older) = join_either at more newest older (λ xs. (k : ℕ) × (drop (suc n) xs ≡ drop k (newest ∷ older))) (λ is. (suc n, refl)) (n, refl)
 
@@ -197,6 +197,7 @@ wrote_more handed unsent calls bytes now stops later at more was within joins ma
     subst (λ (s : List Stop). IsDeferring handed calls now s) (sym is) record {
       reads = made ∙ ap (λ (xs : List ℕ). spliced xs at more) was.reads;
       told = ap (join_write at more) was.told ∙ sym joins;
+      handed_are = was.handed_are;
       synced = was.synced;
       fits = (omega (arith, same, within), was.fits);
       begun = was.begun;

@@ -1,2 +1,4 @@
 pub mod Onto
 pub mod Joins
+pub mod Names
+pub mod Moments

@@ -2,8 +2,10 @@
 use Rattle.std.specs.Prelude.{ℕ, ◌≡◌, ◌<◌, List, [], ◌∷◌, None, length, fold}
 use Rattle.std.specs.Global.{Global}
 use Rattle.rtrb.specs.declared.producer.Producer.{Producer}
-use Rattle.block_disk.specs.Memory.{Memory, Stop, Wrote, Synced, bytes_after}
-use Rattle.deferred_disk.specs.Joined.{AllFit, IsAtSync, joined}
+use Rattle.block_disk.specs.Device.{Device}
+use Rattle.block_disk.specs.Memory.{Memory, Stop, Wrote, Synced, bytes_after, device_of}
+use Rattle.deferred_disk.specs.Joined.{AllFit, IsAtSync, at_sync, joined}
+use Rattle.deferred_disk.specs.Names.{name_of}
 use Rattle.deferred_disk.specs.declared.call.DeviceCall.{DeviceCall}
 use Rattle.deferred_disk.specs.declared.call.DeviceCall.TheVariants.{Write, Sync}
 use Rattle.deferred_disk.specs.declared.call.Handed.{Handed}
@@ -39,15 +41,20 @@ pub record Deferred : Type 0 where
   pub memory : Memory
   pub ring : Producer Handed Global Handing
 
+-- the device that it is: that of its memory, by the name of its ring
+abbrev pub deferred_device : Deferred → Device
+deferred_device d = record (device_of d.memory) { name = name_of d.ring.end }
+
 -- the memory of the bytes that were handed over first, and of these stops since
 abbrev pub memory_of : List Handed → List Stop → ℕ → Memory
 memory_of handed stops failures = record { first = first_in handed; stops = stops; failures = failures; fails_in = None }
 
 -- The bytes are those that it reads; what was handed over, and then the calls that are yet to be, are what its stops are told as; what was
--- handed over ends with a sync; each stop lies within it; and it has begun.
+-- handed over is all up to the last sync, with which it ends; each stop lies within it; and it has begun.
 pub record IsDeferring (handed : List Handed) (unsent : List DeviceCall) (bytes : List ℕ) (stops : List Stop) : Type 0 where
   pub reads : bytes ≡ bytes_after (first_in handed) stops
   pub told : joined stops ≡ onto (stops_in handed) unsent
+  pub handed_are : joined (at_sync stops) ≡ stops_in handed
   pub synced : IsAtSync (stops_in handed)
   pub fits : AllFit (length (first_in handed)) stops
   pub begun : 0 < length handed

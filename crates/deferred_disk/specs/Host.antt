@@ -1,13 +1,17 @@
 -- The host's end: the calls that it has made, and those that it was handed and is yet to make (this project's own).
-use Rattle.std.specs.Prelude.{◌≡◌, ◌<◌, List, [], ◌∷◌, length, drop}
+use Rattle.std.specs.Prelude.{ℕ, suc, ◌≡◌, ◌<◌, List, [], ◌∷◌, ◌++◌, length, drop}
 use Rattle.std.specs.Global.{Global}
 use Rattle.rtrb.specs.declared.consumer.Consumer.{Consumer}
-use Rattle.rtrb.specs.Ring.{ConsumerLooked, IsPair, known_items}
-use Rattle.block_disk.specs.Memory.{Stop}
+use Rattle.rtrb.specs.Ring.{ConsumerLooked, known_items}
+use Rattle.block_disk.specs.Device.{Image, LeftSince}
+use Rattle.block_disk.specs.Memory.{Stop, moment_after}
 use Rattle.deferred_disk.specs.declared.call.DeviceCall.{DeviceCall}
 use Rattle.deferred_disk.specs.declared.call.Handed.{Handed}
 use Rattle.deferred_disk.specs.declared.handing.Handing.{Handing}
-use Rattle.deferred_disk.specs.Deferred.{Deferred, calls_in, onto, stops_in}
+use Rattle.deferred_disk.specs.Deferred.{Deferred, calls_in, deferred_device, onto, stops_in}
+use Rattle.deferred_disk.specs.Joined.{joined}
+use Rattle.deferred_disk.specs.Names.{name_of}
+use Rattle.deferred_disk.specs.Syncs.{LeftAt, durable_moments, moments_of, syncs_in}
 
 -- the host: the stops of the calls that it has made, the newest first, the calls that it has yet to make, the oldest first, and its end of the ring
 pub record Host : Type 0 where
@@ -15,9 +19,13 @@ pub record Host : Type 0 where
   pub left : List DeviceCall
   pub ring : Consumer Handed Global Handing
 
--- the two ends of one disk
+-- the name of the device whose calls these are
+abbrev pub host_name : Host → List ℕ
+host_name h = name_of h.ring.end
+
+-- the two ends of one disk: the calls are those of this device
 abbrev pub IsHostOf : Deferred → Host → Type 0
-IsHostOf d h = IsPair d.ring h.ring
+IsHostOf d h = (deferred_device d).name ≡ host_name h
 
 -- what the host knows of is what it made, and then what is left
 abbrev pub made_of : List Handed → List DeviceCall → List Stop
@@ -44,3 +52,16 @@ pub record Fetches (x y : Host) : Type 0 where
   pub left : ¬ (x.left ≡ []) → y ≡ x
   pub takes : (next : Handed) (more : List Handed) → x.left ≡ [] → known_items x.ring ≡ next ∷ more → y.left ≡ calls_in next
   pub empty : y.left ≡ [] → known_items y.ring ≡ []
+
+-- A disk and its host have met: the host has made the first of the calls that the disk's writes and syncs are told as, and those that are
+-- left come next.
+pub record HaveMet (d : Deferred) (h : Host) : Type 0 where
+  pub later : List DeviceCall
+  pub order : joined d.memory.stops ≡ onto (onto h.made h.left) later
+  -- what a crash of the host's device may leave with some more of them made, a crash of the disk might have left at some moment
+  pub earlier : (next more : List DeviceCall) (image : List ℕ) → h.left ≡ next ++ more → Image (moment_after d.memory.first (onto h.made next)) image → LeftSince 0 (deferred_device d) image
+  -- and that at the last moment of the disk before it was synced once more than the host's device is then
+  pub synced : (next more : List DeviceCall) (image : List ℕ) → h.left ≡ next ++ more → Image (moment_after d.memory.first (onto h.made next)) image
+      → LeftAt (suc (syncs_in (onto h.made next))) (moments_of (deferred_device d)) image
+  -- where the host has made all that was handed over, its device was synced as often as the disk was
+  pub all : h.left ≡ [] → known_items h.ring ≡ [] → durable_moments (moments_of (deferred_device d)) ≡ suc (syncs_in h.made)

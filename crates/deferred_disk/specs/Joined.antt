@@ -42,6 +42,14 @@ IsAtSync (WriteFailed at len ∷ older) = ⊥
 IsAtSync (Synced ∷ older) = Unit {0}
 IsAtSync (SyncFailed ∷ older) = ⊥
 
+-- these stops up to the last sync
+abbrev pub at_sync : List Stop → List Stop
+at_sync [] = []
+at_sync (Wrote at bytes ∷ older) = at_sync older
+at_sync (WriteFailed at len ∷ older) = at_sync older
+at_sync (Synced ∷ older) = Synced ∷ older
+at_sync (SyncFailed ∷ older) = at_sync older
+
 -- each of them lies within a device of this size
 abbrev pub AllFit : ℕ → List Stop → Type 0
 AllFit size [] = Unit {0}

@@ -1,6 +1,8 @@
 -- The promise: what public clauses state.
 pub mod Joined
+pub mod Names
 pub mod Deferred
+pub mod Syncs
 pub mod Host
 pub mod Handing
 -- Scaffold: what proofs need.

@@ -2,9 +2,9 @@
 ghost use Rattle.std.specs.Prelude.{◌≡◌, ◌⊎◌, ◌+◌, ◌<◌, ◌≤◌, List, [], ◌∷◌, ◌++◌, length, replicate, OnOk, OnErr, IfOk, IsErrOf, if◌then◌else◌};
 ghost use Rattle.block_disk.specs.Bytes.{part, spliced};
 ghost use Rattle.block_disk.specs.Device.{HasFailed, SameMoments, TornWrite, synced, written};
-ghost use Rattle.block_disk.specs.Memory.{Stop, Synced, Wrote, bytes_after, device_of, failed, fresh, stopped};
+ghost use Rattle.block_disk.specs.Memory.{Stop, Synced, Wrote, bytes_after, failed, fresh, stopped};
 ghost use Rattle.block_disk.specs.declared.error.DiskError.TheVariants.{Fault, OutOfRange};
-ghost use Rattle.deferred_disk.specs.Deferred.{onto, stop_of, stops_in, first_in};
+ghost use Rattle.deferred_disk.specs.Deferred.{deferred_device, onto, stop_of, stops_in, first_in};
 ghost use Rattle.deferred_disk.specs.Host.{IsHostOf};
 ghost use Rattle.deferred_disk.specs.Joined.{IsAtSync, join_write, joined};
 ghost use Rattle.deferred_disk.specs.declared.call.DeviceCall.TheVariants as calls;
@@ -94,7 +94,7 @@ impl DeferredDisk {
 }
 
 impl Disk for DeferredDisk {
-    ghost device = { λ d. device_of d.memory };
+    ghost device = { deferred_device };
 
     fn size(&self) -> u64 {
         self.bytes.len() as u64
@@ -102,13 +102,13 @@ impl Disk for DeferredDisk {
 
     /// Reads the memory, and never answers `Fault`.
     fn read_at(&mut self, at: u64, out: &mut [u8]) -> Result<(), DiskError>
-        ensures in_range { OnOk result (at + length out.old ≤ length (device_of self.old.memory).now.bytes) }
-        ensures ok { OnOk result (out.new ≡ part at (length out.old) (device_of self.old.memory).now.bytes) }
-        ensures same { OnOk result (device_of self.new.memory ≡ device_of self.old.memory) }
-        ensures out_of_range { IsErrOf result OutOfRange → (length (device_of self.old.memory).now.bytes < at + length out.old)
-            × (out.new ≡ out.old) × (device_of self.new.memory ≡ device_of self.old.memory) }
-        ensures fault { IsErrOf result Fault → SameMoments (device_of self.old.memory) (device_of self.new.memory) }
-        ensures cause { IsErrOf result Fault → HasFailed (device_of self.old.memory).failures (device_of self.new.memory).failures }
+        ensures in_range { OnOk result (at + length out.old ≤ length (deferred_device self.old).now.bytes) }
+        ensures ok { OnOk result (out.new ≡ part at (length out.old) (deferred_device self.old).now.bytes) }
+        ensures same { OnOk result (deferred_device self.new ≡ deferred_device self.old) }
+        ensures out_of_range { IsErrOf result OutOfRange → (length (deferred_device self.old).now.bytes < at + length out.old)
+            × (out.new ≡ out.old) × (deferred_device self.new ≡ deferred_device self.old) }
+        ensures fault { IsErrOf result Fault → SameMoments (deferred_device self.old) (deferred_device self.new) }
+        ensures cause { IsErrOf result Fault → HasFailed (deferred_device self.old).failures (deferred_device self.new).failures }
         ensures no_fault { ¬ IsErrOf result Fault }
         ensures untouched { self.new ≡ self.old }
     {
@@ -121,14 +121,14 @@ impl Disk for DeferredDisk {
 
     /// `Fault` is want of memory for the call; nothing is written then.
     fn write_at(&mut self, at: u64, bytes: &[u8]) -> Result<(), DiskError>
-        ensures in_range { OnOk result (at + length bytes.now ≤ length (device_of self.old.memory).now.bytes) }
-        ensures ok { OnOk result (device_of self.new.memory ≡ written at bytes.now (device_of self.old.memory)) }
-        ensures out_of_range { IsErrOf result OutOfRange → (length (device_of self.old.memory).now.bytes < at + length bytes.now)
-            × (device_of self.new.memory ≡ device_of self.old.memory) }
-        ensures fault { IsErrOf result Fault → SameMoments (device_of self.old.memory) (device_of self.new.memory)
-            ⊎ TornWrite at (length bytes.now) (device_of self.old.memory) (device_of self.new.memory) }
-        ensures cause { IsErrOf result Fault → HasFailed (device_of self.old.memory).failures (device_of self.new.memory).failures }
-        ensures beyond { length (device_of self.old.memory).now.bytes < at + length bytes.now → IsErrOf result OutOfRange }
+        ensures in_range { OnOk result (at + length bytes.now ≤ length (deferred_device self.old).now.bytes) }
+        ensures ok { OnOk result (deferred_device self.new ≡ written at bytes.now (deferred_device self.old)) }
+        ensures out_of_range { IsErrOf result OutOfRange → (length (deferred_device self.old).now.bytes < at + length bytes.now)
+            × (deferred_device self.new ≡ deferred_device self.old) }
+        ensures fault { IsErrOf result Fault → SameMoments (deferred_device self.old) (deferred_device self.new)
+            ⊎ TornWrite at (length bytes.now) (deferred_device self.old) (deferred_device self.new) }
+        ensures cause { IsErrOf result Fault → HasFailed (deferred_device self.old).failures (deferred_device self.new).failures }
+        ensures beyond { length (deferred_device self.old).now.bytes < at + length bytes.now → IsErrOf result OutOfRange }
         ensures stopped { OnOk result (self.new.memory ≡ stopped (Wrote at bytes.now) self.old.memory) }
         ensures failed { IsErrOf result Fault → self.new.memory ≡ failed self.old.memory }
         ensures untouched { IsErrOf result OutOfRange → self.new ≡ self.old }
@@ -148,10 +148,10 @@ impl Disk for DeferredDisk {
     /// Hands over the calls since the last sync, and the sync. `Fault` is want of memory, or of room in the ring; what was
     /// written then waits for the next sync.
     fn sync(&mut self) -> Result<(), DiskError>
-        ensures ok { OnOk result (device_of self.new.memory ≡ synced (device_of self.old.memory)) }
+        ensures ok { OnOk result (deferred_device self.new ≡ synced (deferred_device self.old)) }
         ensures in_range { ¬ IsErrOf result OutOfRange }
-        ensures fault { IsErrOf result Fault → SameMoments (device_of self.old.memory) (device_of self.new.memory) }
-        ensures cause { IsErrOf result Fault → HasFailed (device_of self.old.memory).failures (device_of self.new.memory).failures }
+        ensures fault { IsErrOf result Fault → SameMoments (deferred_device self.old) (deferred_device self.new) }
+        ensures cause { IsErrOf result Fault → HasFailed (deferred_device self.old).failures (deferred_device self.new).failures }
         ensures stopped { OnOk result (self.new.memory ≡ stopped Synced self.old.memory) }
         ensures failed { IsErrOf result Fault → self.new.memory ≡ failed self.old.memory }
         ensures handed { OnOk result (joined self.new.memory.stops ≡ stops_in (sent self.new.ring)) }

@@ -1,10 +1,7 @@
 //! The host's end of a deferred disk.
-ghost use Rattle.std.specs.Prelude.{◌≡◌, ◌<◌, [], ◌∷◌, ◌++◌, List, ℕ, true, false, length, IsSomeAnd, MatchOption};
-ghost use Rattle.block_disk.specs.Device.{Image, LeftSince};
-ghost use Rattle.block_disk.specs.Memory.{Stop, device_of, moment_after};
-ghost use Rattle.deferred_disk.specs.Deferred.{calls_in, onto, stop_of, stops_in};
-ghost use Rattle.deferred_disk.specs.Host.{Fetches, HasLooked, IsHostOf};
-ghost use Rattle.deferred_disk.specs.Joined.{joined};
+ghost use Rattle.std.specs.Prelude.{◌≡◌, ◌<◌, [], ◌∷◌, List, ℕ, true, false, length, IsSomeAnd, MatchOption};
+ghost use Rattle.deferred_disk.specs.Deferred.{calls_in, deferred_device, onto, stop_of, stops_in};
+ghost use Rattle.deferred_disk.specs.Host.{Fetches, HasLooked, HaveMet, IsHostOf};
 ghost use Rattle.deferred_disk.specs.declared.call.Handed.{Handed as Batch};
 ghost use Rattle.rtrb.specs.Ring.{SameConsumer, SameProducer, received, known_items};
 
@@ -93,12 +90,11 @@ impl HostCalls {
     /// come next. What a crash of the host's device may leave then, or while it makes any of those, a crash of the disk might have left.
     pub fn meet(&mut self, disk: &mut DeferredDisk)
         requires { IsHostOf disk.old self.old }
-        ensures made { (self.new.made ≡ self.old.made) × (self.new.left ≡ self.old.left) }
+        ensures looked { HasLooked self.old self.new }
         ensures disk { disk.new.memory ≡ disk.old.memory }
+        ensures device { deferred_device disk.new ≡ deferred_device disk.old }
         ensures pair { IsHostOf disk.new self.new }
-        ensures order { (later : List DeviceCall) × (joined disk.new.memory.stops ≡ onto (onto self.new.made self.new.left) later) }
-        ensures earlier { (next more : List DeviceCall) (image : List ℕ) → self.new.left ≡ next ++ more
-            → Image (moment_after disk.new.memory.first (onto self.new.made next)) image → LeftSince 0 (device_of disk.new.memory) image }
+        ensures met { HaveMet disk.new self.new }
     {
         self.ring.slots_beside(&mut disk.ring);
     }

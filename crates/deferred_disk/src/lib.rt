@@ -11,11 +11,14 @@ mod call;
 mod disk;
 mod handing;
 mod host;
+mod laws;
+mod meeting;
 mod told;
 
 pub use call::{DeviceCall, MOST_BYTES};
 pub use disk::{DeferredDisk, SYNCS};
 pub use host::HostCalls;
+pub use laws::since_law;
 
 #[cfg(test)]
 mod tests;

@@ -11,4 +11,4 @@ noted (a ∷ b ∷ more) bytes d = new_device bytes
 
 -- the device, with failures counted elsewhere
 abbrev pub failing : ℕ → Device → Device
-failing count d = record { now = d.now; past = d.past; failures = count }
+failing count d = record { name = d.name; now = d.now; past = d.past; failures = count }
