@@ -1,6 +1,6 @@
 -- Which slot counts.
 use Rattle.std.proofs.Common.{◌≡◌, ℕ, ◌+◌, ◌≤◌, List, Ok, Err, length, get_or, sym, ap, ◌∙◌, arith}
-use Rattle.std.specs.Int.{w64, from_be_bytes}
+use Rattle.std.specs.Int.{w64, from_be_bytes, to_be_bytes}
 use Rattle.std.proofs.Math.Dec.{eqb}
 use Rattle.std.proofs.lemmas.Bool.{eqb-true, eq-eqb}
 use Rattle.block_disk.proofs.Bytes.{get_or_part, part_part}
@@ -17,9 +17,9 @@ use Rattle.image.proofs.Commits.{sequence_spelled}
 use Rattle.image.specs.Choice.{Picks, HeadOf}
 
 pub head_is : (image out : List ℕ) (s : Slot) (at sequence : ℕ) → at ≡ slot_at s → out ≡ part at 16 image → sequence ≡ from_be_bytes w64 (part 8 8 out)
-    → HeadOf image s (record { is_open = eqb (get_or out 0 0) 165; sequence = sequence })
+    → to_be_bytes w64 sequence ≡ part 8 8 out → HeadOf image s (record { is_open = eqb (get_or out 0 0) 165; sequence = sequence })
 unfolding sequence_of
-head_is image out s at sequence at_is is number =
+head_is image out s at sequence at_is is number told =
     let here : get_or out 0 0 ≡ gate s image =
     ap (λ (l : List ℕ). get_or l 0 0) is ∙ get_or_part at 16 image 0 (omega arith) ∙ ap (λ (k : ℕ). get_or image k 0) (let z : at + 0 ≡ slot_at s = omega arith in z) in
     let inner : part 8 8 out ≡ part 0 8 (body s image) =
@@ -28,6 +28,7 @@ head_is image out s at sequence at_is is number =
     record {
       is_open = (λ holds. sym here ∙ eqb-true _ _ holds, λ same. eq-eqb _ _ (here ∙ same));
       sequence = number ∙ ap (from_be_bytes w64) inner;
+      spelled = told ∙ ap (part 8 8) is ∙ part_part 8 8 at 16 image (omega arith) ∙ ap (λ (k : ℕ). part k 8 image) (let z : at + 8 ≡ slot_at s + 8 = omega arith in z);
     }
 
 equal_none : (l : Layout) (image : List ℕ) → ((s : Slot) → gate s image ≡ 165) → sequence_of (body A image) ≡ sequence_of (body B image) → (s : Slot) (c : Control) → Shows l image s c → ⊥

@@ -58,11 +58,11 @@ room B n long = omega arith
 
 pub closes : (d0 d1 new : Device) (at : ℕ) → SameMoments d0 d1 → get_or d0.now.bytes at 0 ≡ 165 → LeavesOnly d1 new (ImageBut d1 (record { start = at; len = 1 } ∷ [])) → LeavesOnly d0 new (ClosedOrSame d0 at)
 closes d0 d1 new at same was_open leaves =
-    let d : Device = record { now = d0.now; past = d0.past; failures = d1.failures } in
-    let is : d1 ≡ d = λ i. record { now = same.now i; past = same.past i; failures = d1.failures } in
+    let d : Device = record { name = d0.name; now = d0.now; past = d0.past; failures = d1.failures } in
+    let is : d1 ≡ d = λ i. record { name = same.name i; now = same.now i; past = same.past i; failures = d1.failures } in
     let moved : LeavesOnly d0 new (ImageBut d0 (record { start = at; len = 1 } ∷ [])) =
     let m = subst (λ (e : Device). LeavesOnly e new (ImageBut e (record { start = at; len = 1 } ∷ []))) is leaves in
-    record { later = m.later; grows = record { since = m.grows.since; moments = m.grows.moments }; each = m.each; keeps = m.keeps } in
+    record { later = m.later; grows = record { name = m.grows.name; since = m.grows.since; moments = m.grows.moments }; each = m.each; keeps = m.keeps } in
     weaker d0 new (ImageBut d0 (record { start = at; len = 1 } ∷ [])) (ClosedOrSame d0 at)
     (λ image from. record { from = from; closed = ⊎_elim (λ here. inr (here ∙ sym was_open)) (λ shut. inl shut) (cases_eq (get_or image at 0) 165) })
     moved

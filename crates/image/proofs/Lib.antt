@@ -6,6 +6,7 @@ pub mod Spares
 pub mod Turning
 pub mod Opening
 pub mod Choices
+pub mod EitherGates
 pub mod GuardLemmas
 pub mod Puts
 pub mod Fresh

@@ -4,11 +4,12 @@ use Rattle.std.specs.Int.{w64, from_be_bytes}
 use Rattle.std.proofs.lemmas.Bool.{cases_eq}
 use Rattle.std.proofs.lemmas.List.{drop-drop, drop-take}
 use Rattle.block_disk.specs.Bytes.{part, spliced}
-use Rattle.block_disk.specs.Device.{Range, Device, SameOutside}
+use Rattle.block_disk.specs.Device.{Range, Device, SameOutside, written, synced}
 use Rattle.block_disk.specs.Images.{Always, ImageBut, LeavesOnly}
 use Rattle.block_disk.proofs.Bytes.{part_part, part_spliced, spliced_at}
 use Rattle.block_disk.proofs.Images.{and_then, besides_none, image_now, now_too, weaker}
 use Rattle.block_disk.proofs.Ranges.{outside_trans, outside_wider, part_same, spliced_same}
+use Rattle.image.specs.Calls.{Write, Sync, after}
 use Rattle.image.specs.Commit.{IsSteady, OldOrTurned, slots_range}
 use Rattle.image.specs.Control.{Spells}
 use Rattle.image.specs.Slots.{other, slot_at, body_at, slot_range, gate, body, sequence_of, Shows}
@@ -55,6 +56,13 @@ two_parts b xs =
     let first : part 0 8 bs ≡ part b 8 xs = part_part 0 8 b 1040 xs (omega arith) ∙ ap (λ (k : ℕ). part k 8 xs) (let z : b + 0 ≡ b = omega arith in z) in
     let last : drop 8 bs ≡ part (b + 8) 1032 xs = drop-take 8 1032 (drop b xs) ∙ ap (take 1032) (drop-drop 8 b xs) in
     cut 0 8 bs ∙ (λ i. first i ++ last i)
+
+-- two writes, each made durable
+pub two_made : (d d1 d2 : Device) (place p at a : ℕ) (bytes gate : List ℕ) → place ≡ p → at ≡ a → d1 ≡ synced (written place bytes d) → d2 ≡ synced (written at gate d1)
+    → d2 ≡ after (Write p bytes ∷ Sync ∷ Write a gate ∷ Sync ∷ []) d
+two_made d d1 d2 place p at a bytes gate place_is at_is one two =
+    two ∙ ap (λ (k : ℕ). synced (written k gate d1)) at_is
+    ∙ ap (λ (e : Device). synced (written a gate e)) (one ∙ ap (λ (k : ℕ). synced (written k bytes d)) place_is)
 
 module _ (l : Layout) (d : Device) (s : Slot) (old new : Control) (steady : IsSteady l d s old) (rest : List ℕ) (long : length rest ≡ 1032)
     (open_now : gate (other s) d.now.bytes ≡ 165) (spelled : Spells l (part (body_at (other s)) 8 d.now.bytes ++ rest) new)

@@ -1,6 +1,8 @@
 -- How the slot that counts is found, before its body is looked at.
 use Rattle.std.specs.Prelude.{◌<◌, ◌≡◌, ◌≢◌, ◌↔◌, ℕ, List, IsTrue, Result, Ok, Err}
-use Rattle.image.specs.Slots.{other, gate, body, sequence_of}
+use Rattle.std.specs.Int.{to_be_bytes, w64}
+use Rattle.block_disk.specs.Bytes.{part}
+use Rattle.image.specs.Slots.{other, body_at, gate, body, sequence_of}
 use Rattle.image.specs.declared.slot.Slot.{Slot}
 use Rattle.image.specs.declared.slot.Slot.TheVariants.{A, B}
 use Rattle.image.specs.declared.choice.Head.{Head}
@@ -11,6 +13,7 @@ use Rattle.image.specs.declared.error.ImageError.TheVariants.{Fault, NoControl, 
 pub record HeadOf (image : List ℕ) (s : Slot) (h : Head) : Type 0 where
   pub is_open : IsTrue h.is_open ↔ (gate s image ≡ 165)
   pub sequence : h.sequence ≡ sequence_of (body s image)
+  pub spelled : to_be_bytes w64 h.sequence ≡ part (body_at s) 8 image
 
 -- what each answer says of the image: of the open slots, the one with the greater sequence
 abbrev pub Picks : List ℕ → Result Slot ImageError → Type 0

@@ -1,9 +1,10 @@
 -- A commit of a control: it is written into the slot that isn't chosen, behind a closed gate (this project's own).
-use Rattle.std.specs.Prelude.{◌≡◌, ◌≢◌, ◌⊎◌, ◌==◌, ℕ, ◌≤◌, List, [], ◌∷◌, ◌++◌, length, slice_index, if◌then◌else◌}
+use Rattle.std.specs.Prelude.{◌≡◌, ◌≢◌, ◌⊎◌, ◌==◌, ℕ, ◌+◌, ◌≤◌, List, [], ◌∷◌, ◌++◌, length, slice_index, drop, if◌then◌else◌}
 use Rattle.block_disk.specs.Device.{Device, Range, SameOutside}
 use Rattle.block_disk.specs.Images.{ImageBut, Always}
 use Rattle.image.specs.Calls.{Call, Write, Sync}
-use Rattle.image.specs.Slots.{other, slot_at, body_at, slot_range, gate, Shows}
+use Rattle.image.specs.Control.{control_bytes}
+use Rattle.image.specs.Slots.{other, slot_at, body_at, slot_range, gate, body, sequence_of, Shows}
 use Rattle.image.specs.declared.layout.Layout.{Layout}
 use Rattle.image.specs.declared.control.Control.{Control}
 use Rattle.image.specs.declared.slot.Slot.{Slot}
@@ -64,3 +65,19 @@ slots_range = record { start = 64; len = 2096 }
 pub record OldOrTurned (l : Layout) (d : Device) (chosen : Slot) (old new : Control) (image : List ℕ) : Type 0 where
   pub from : ImageBut d (slots_range ∷ []) image
   pub shows : Shows l image chosen old ⊎ (Shows l image (other chosen) new × SameOutside (slots_range ∷ []) d.now.bytes image)
+
+-- a commit by closing the gate of the slot that is chosen, where the rest of a body is written behind the other slot's sequence
+abbrev pub turning_calls : Slot → List ℕ → List Call
+turning_calls chosen rest = Write (body_at (other chosen) + 8) rest ∷ Sync ∷ Write (slot_at chosen) (0 ∷ []) ∷ Sync ∷ []
+
+-- the sequence of the control that a commit by one gate makes: the one that stands behind the other slot's open gate, or else
+-- the next one. A sequence of 0 is no control's
+abbrev pub turned_sequence : Slot → ℕ → List ℕ → ℕ
+turned_sequence chosen sequence image =
+    if gate (other chosen) image == 165 then (if sequence_of (body (other chosen) image) == 0 then sequence + 1 else sequence_of (body (other chosen) image)) else sequence + 1
+
+-- the calls of a commit of this control by one gate, over a device that reads so: four, and up to six where sequence 0 stands
+-- behind the other slot's open gate
+abbrev pub turned_calls : Slot → List ℕ → Control → List Call
+turned_calls chosen image next =
+    if gate (other chosen) image == 165 then (if sequence_of (body (other chosen) image) == 0 then pending_calls chosen image (control_bytes next) else turning_calls chosen (drop 8 (control_bytes next))) else body_calls (other chosen) (control_bytes next)

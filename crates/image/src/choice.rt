@@ -1,5 +1,5 @@
 //! Which control of an image counts (`docs/FORMAT.md`, "Control").
-ghost use Rattle.std.specs.Prelude.{◌≡◌, ◌≤◌, length, IfErr, IfOk};
+ghost use Rattle.std.specs.Prelude.{◌≡◌, ◌≤◌, length, IfErr, IfOk, OnOk};
 ghost use Rattle.block_disk.specs.Device.{HasCause, SameMoments};
 ghost use Rattle.image.specs.Choice.{HeadOf, Picks};
 ghost use Rattle.image.specs.Layout.{IsLayout};
@@ -66,17 +66,21 @@ fn pick<D: Disk>(disk: &mut D) -> Result<Slot, ImageError>
     }
 }
 
-// What a slot begins with.
+/// What a slot begins with.
 #[derive(Clone, Copy)]
-struct Head {
-    is_open: bool,
-    sequence: u64,
+pub(crate) struct Head {
+    /// Whether the gate reads open.
+    pub(crate) is_open: bool,
+    /// The sequence with which the body begins, whether or not the rest is a control's.
+    pub(crate) sequence: u64,
 }
 
+/// What this slot begins with, in one read.
 #[tactic(auto, unfolding(crate::specs::Slots::sequence_of))]
-fn read_head<D: Disk>(disk: &mut D, slot: Slot) -> Result<Head, ImageError>
+pub(crate) fn read_head<D: Disk>(disk: &mut D, slot: Slot) -> Result<Head, ImageError>
     requires { 2160 ≤ length (D.device disk.old).now.bytes }
     ensures ok { IfOk result (HeadOf (D.device disk.old).now.bytes slot) }
+    ensures untouched { OnOk result (D.device disk.new ≡ D.device disk.old) }
     ensures only_fault { IfErr result (λ e. e ≡ Fault) }
     ensures same { SameMoments (D.device disk.old) (D.device disk.new) }
     ensures cause { HasCause (D.device disk.old).failures (D.device disk.new).failures Fault result }

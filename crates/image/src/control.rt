@@ -23,7 +23,7 @@ pub const OLD_VERSION: u32 = 1;
 /// What counts of the logs of an image.
 #[derive(Clone, Copy, Debug, PartialEq, Eq)]
 pub struct Control {
-    /// How often a control was committed, from 1. The control with the greater one counts.
+    /// From 1. Where the gates of both slots are open, the control with the greater one counts.
     pub sequence: u64,
     /// The version of the format: [`VERSION`], or [`OLD_VERSION`] in an image from before there were transient fields.
     pub version: u32,

@@ -3,8 +3,8 @@
 //! [`Layout`] says where each part lies. [`write_header`] makes an image; [`read_header`], [`read_guards`] and
 //! [`choose_control`] read one, whatever its bytes, and refuse it by the first thing that is wrong. [`commit_control`]
 //! replaces the control: at every moment a crash leaves the old one or the new one. So do [`commit_pending`],
-//! [`commit_by_opening`] and [`commit_by_closing`], with fewer syncs where other writes are still pending. What logs hold is
-//! no matter of this crate.
+//! [`commit_by_opening`], [`commit_by_closing`] and [`commit_by_turning`], which takes whichever of them has the fewest syncs,
+//! where other writes are still pending. What logs hold is no matter of this crate.
 #![tactic(auto)]
 
 mod bytes;
@@ -12,6 +12,7 @@ mod cells;
 mod choice;
 mod commit;
 mod control;
+mod either_gate;
 mod error;
 mod format;
 mod guard_row;
@@ -29,6 +30,7 @@ pub use cells::{get_cell, put_cell};
 pub use choice::choose_control;
 pub use commit::commit_control;
 pub use control::{Control, OLD_VERSION, VERSION};
+pub use either_gate::commit_by_turning;
 pub use error::ImageError;
 pub use format::write_header;
 pub use guard_row::GuardRow;

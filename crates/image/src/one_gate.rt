@@ -3,7 +3,8 @@ ghost use Rattle.std.specs.Prelude.{◌≡◌, ◌≢◌, ◌+◌, ◌++◌, ◌
 ghost use Rattle.block_disk.specs.Bytes.{part};
 ghost use Rattle.block_disk.specs.Device.{HasCause};
 ghost use Rattle.block_disk.specs.Images.{LeavesOnly};
-ghost use Rattle.image.specs.Commit.{IsSteady, OldOrTurned};
+ghost use Rattle.image.specs.Calls.{after};
+ghost use Rattle.image.specs.Commit.{IsSteady, OldOrTurned, body_calls, turning_calls};
 ghost use Rattle.image.specs.Control.{Spells};
 ghost use Rattle.image.specs.Slots.{body_at, other, slot_at};
 ghost use Rattle.image.specs.declared.control.Control.{Control as Content};
@@ -32,6 +33,7 @@ pub fn commit_by_opening<D: Disk>(
     ensures slot { IfOk result (λ slot. slot ≡ other chosen) }
     ensures ok { (new : Content) → Spells layout.now content.now new → OnOk result (IsSteady layout.now (D.device disk.new) (other chosen) new) }
     ensures durable { OnOk result ((D.device disk.new).now.pending ≡ []) }
+    ensures calls { OnOk result (D.device disk.new ≡ after (body_calls (other chosen) content.now) (D.device disk.old)) }
     ensures only_fault { IfErr result (λ e. e ≡ Fault) }
     ensures any_moment { (old new : Content) → IsSteady layout.now (D.device disk.old) chosen old → Spells layout.now content.now new → old.sequence < new.sequence
         → LeavesOnly (D.device disk.old) (D.device disk.new) (OldOrTurned layout.now (D.device disk.old) chosen old new) }
@@ -66,6 +68,7 @@ pub fn commit_by_closing<D: Disk>(
     ensures ok { (new : Content) → Spells layout.now (part (body_at (other chosen)) 8 (D.device disk.old).now.bytes ++ rest.now) new
         → OnOk result (IsSteady layout.now (D.device disk.new) (other chosen) new) }
     ensures durable { OnOk result ((D.device disk.new).now.pending ≡ []) }
+    ensures calls { OnOk result (D.device disk.new ≡ after (turning_calls chosen rest.now) (D.device disk.old)) }
     ensures only_fault { IfErr result (λ e. e ≡ Fault) }
     ensures any_moment { (old new : Content) → IsSteady layout.now (D.device disk.old) chosen old
         → Spells layout.now (part (body_at (other chosen)) 8 (D.device disk.old).now.bytes ++ rest.now) new

@@ -55,7 +55,7 @@ fn fresh(alloc: Global, schema: &Schema) -> Option<(MemDisk, Layout)>
 }
 
 // The same, for a test that asks nothing of the schema.
-fn steady(alloc: Global) -> Option<(MemDisk, Layout)>
+pub(crate) fn steady(alloc: Global) -> Option<(MemDisk, Layout)>
     ensures layout { IfSome result (λ made. IsLayout made.1) }
     ensures size { IfSome result (λ made. size_of made.1 ≤ length (device_of made.0).now.bytes) }
     ensures steady { IfSome result (λ made. IsSteady made.1 (device_of made.0) A (empty_control 1)) }
@@ -206,14 +206,14 @@ fn rows_with_other_bytes_are_refused(rt: HostRuntime) {
 }
 
 // What the readers say of the image, one after the other.
-fn study(alloc: Global, disk: &mut MemDisk) -> Result<(Slot, u64), ImageError> {
+pub(crate) fn study(alloc: Global, disk: &mut MemDisk) -> Result<(Slot, u64), ImageError> {
     let layout = read_header(disk)?;
     read_guards(alloc, disk, &layout)?;
     let (slot, control) = choose_control(disk, &layout)?;
     Ok((slot, control.sequence))
 }
 
-fn put(disk: &mut MemDisk, at: u64, bytes: &[u8]) -> Option<()> {
+pub(crate) fn put(disk: &mut MemDisk, at: u64, bytes: &[u8]) -> Option<()> {
     disk.write_at(at, bytes).ok()
 }
 

@@ -13,4 +13,6 @@ mod records;
 #[cfg(test)]
 mod schemas;
 #[cfg(test)]
+mod turns;
+#[cfg(test)]
 mod words;

@@ -11,9 +11,9 @@ use Rattle.block_disk.specs.Device.{Device, SameOutside}
 use Rattle.block_disk.specs.Images.{Always, LeavesOnly}
 use Rattle.block_disk.proofs.Images.{always_now, image_now, weaker}
 use Rattle.image.specs.Cells.{HasCell}
-use Rattle.image.specs.Commit.{IsSteady, OldOrDurable}
+use Rattle.image.specs.Commit.{IsSteady, OldOrTurned, slots_range}
 use Rattle.image.specs.Control.{AreRows, control_of}
-use Rattle.image.specs.Slots.{other, slot_range}
+use Rattle.image.specs.Slots.{other}
 use Rattle.image.specs.declared.control.Control.{Control}
 use Rattle.image.specs.declared.lane_row.LaneRow.{LaneRow}
 use Rattle.image.specs.declared.layout.Layout.{Layout}
@@ -105,9 +105,6 @@ module _ (l : Layout) (s : Setting) (p : Past) (c : Committed) (d : Device) (cut
   }
 
   module _ (rows : List LaneRow) (are : AreClosed rows) where
-    abbrev new : Control
-    new = control_of (c.sequence + 1) rows
-
     tells_new : TellsCut l q.logged q.base q.cut rows
     tells_new = record {
       start = λ k below. ap (λ (r : LaneRow). r.start) (are.lanes k below) ∙ may.behind k below;
@@ -129,7 +126,11 @@ module _ (l : Layout) (s : Setting) (p : Past) (c : Committed) (d : Device) (cut
         ))
         (λ k from. are.rest k from ∙ rest_is l c.rows old_rows k from)
 
-    module _ (e : Device) (committing : LeavesOnly d e (OldOrDurable l d c.slot old new)) where
+    -- a commit of them, with whatever sequence
+    module _ (sequence : ℕ) (e : Device) (committing : LeavesOnly d e (OldOrTurned l d c.slot old (control_of sequence rows))) where
+      abbrev new : Control
+      new = control_of sequence rows
+
       -- whatever the commit answers
       pub round_shows : LeavesOnly d e (ShowsEither l s p q)
       round_shows = pending_shows l s c.slot old new (refl, refl) d p may.consistent.tells may.consistent.parts q tells_new parts_next e committing
@@ -137,8 +138,8 @@ module _ (l : Layout) (s : Setting) (p : Past) (c : Committed) (d : Device) (cut
       pub round_leaves : LeavesOnly d e P
       round_leaves = weaker d e (ShowsEither l s p q) P to_heaps round_shows
 
-      pub round_done : e.now.pending ≡ [] → SameOutside (slot_range (other c.slot) ∷ []) d.now.bytes e.now.bytes → IsSteady l e (other c.slot) new
-          → IsConsistent l s q (record { slot = other c.slot; sequence = c.sequence + 1; rows = rows }) e
+      pub round_done : e.now.pending ≡ [] → SameOutside (slots_range ∷ []) d.now.bytes e.now.bytes → IsSteady l e (other c.slot) new
+          → IsConsistent l s q (record { slot = other c.slot; sequence = sequence; rows = rows }) e
       round_done rest same steady = record {
         limits = may.consistent.limits;
         room = omega (arith, may.consistent.room, same.size);

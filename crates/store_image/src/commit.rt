@@ -2,7 +2,7 @@
 ghost use Rattle.std.specs.Prelude.{◌≡◌, ◌+◌, ◌-◌, ◌<◌, ◌^◌, [], ◌∷◌, IfErr, OnErr, OnOk};
 ghost use Rattle.block_disk.specs.Device.{HasCause, SameOutside};
 ghost use Rattle.block_disk.specs.Images.{LeavesOnly};
-ghost use Rattle.image.specs.Commit.{IsSteady, OldOrDurable, OldOrNew};
+ghost use Rattle.image.specs.Commit.{IsSteady, OldOrNew, OldOrTurned, slots_range, turned_sequence};
 ghost use Rattle.image.specs.Control.{AreRows, control_of};
 ghost use Rattle.image.specs.Layout.{IsLayout};
 ghost use Rattle.image.specs.Slots.{other, slot_range};
@@ -10,7 +10,7 @@ ghost use Rattle.store_past.specs.declared.error.StoreError.TheVariants.{Fault};
 
 use crate::committed::Committed;
 use block_disk::Disk;
-use image::{LaneRow, Layout, commit_control, commit_pending};
+use image::{LaneRow, Layout, commit_by_turning, commit_control};
 use store_past::StoreError;
 
 /// How what was written and the control that counts it become durable, one before the other.
@@ -18,7 +18,7 @@ use store_past::StoreError;
 pub enum Syncs {
     /// What was written has a sync of its own, behind which a commit begins.
     Apart,
-    /// It shares the sync of the gate that a commit closes first.
+    /// It shares the first of a commit's two syncs.
     Joined,
 }
 
@@ -55,8 +55,11 @@ pub fn commit<D: Disk>(
     }
 }
 
-/// Makes all that was written durable, and then commits a control with these rows; both by three syncs. At every moment a
-/// crash leaves the old control, or the new one over all that was written before.
+/// Makes all that was written durable, and then commits a control with these rows by turning one gate; both by two syncs, or by
+/// three where a device that no store of ours left has sequence 0 behind the other slot's open gate. The sequence is the next
+/// one where that gate reads closed, and else the one behind it.
+///
+/// At every moment a crash leaves the old control, or the new one over all that was written before.
 pub fn commit_written<D: Disk>(
     disk: &mut D,
     layout: &Layout,
@@ -67,21 +70,22 @@ pub fn commit_written<D: Disk>(
     requires rows { AreRows layout.now rows.now }
     requires steady { IsSteady layout.now (D.device disk.old) committed.old.slot (control_of committed.old.sequence committed.old.rows) }
     requires sequence { committed.old.sequence < 2 ^ 64 - 1 }
-    ensures ok { OnOk result (committed.new ≡ record { slot = other committed.old.slot; sequence = committed.old.sequence + 1; rows = rows.now }) }
-    ensures steady { OnOk result (IsSteady layout.now (D.device disk.new) (other committed.old.slot) (control_of (committed.old.sequence + 1) rows.now)) }
+    ensures ok { OnOk result (committed.new ≡ record { slot = other committed.old.slot; sequence = turned_sequence committed.old.slot committed.old.sequence (D.device disk.old).now.bytes; rows = rows.now }) }
+    ensures steady { OnOk result (IsSteady layout.now (D.device disk.new) (other committed.old.slot) (control_of (turned_sequence committed.old.slot committed.old.sequence (D.device disk.old).now.bytes) rows.now)) }
     ensures durable { OnOk result ((D.device disk.new).now.pending ≡ []) }
-    ensures same { OnOk result (SameOutside (slot_range (other committed.old.slot) ∷ []) (D.device disk.old).now.bytes (D.device disk.new).now.bytes) }
+    ensures same { OnOk result (SameOutside (slots_range ∷ []) (D.device disk.old).now.bytes (D.device disk.new).now.bytes) }
     ensures only_fault { IfErr result (λ e. e ≡ Fault) }
     ensures err { OnErr result (committed.new ≡ committed.old) }
     ensures any_moment { LeavesOnly (D.device disk.old) (D.device disk.new)
-        (OldOrDurable layout.now (D.device disk.old) committed.old.slot (control_of committed.old.sequence committed.old.rows) (control_of (committed.old.sequence + 1) rows.now)) }
+        (OldOrTurned layout.now (D.device disk.old) committed.old.slot (control_of committed.old.sequence committed.old.rows)
+        (control_of (turned_sequence committed.old.slot committed.old.sequence (D.device disk.old).now.bytes) rows.now)) }
     ensures cause { HasCause (D.device disk.old).failures (D.device disk.new).failures Fault result }
 {
-    match commit_pending(disk, layout, committed.slot, committed.sequence, rows) {
-        Ok(slot) => {
+    match commit_by_turning(disk, layout, committed.slot, committed.sequence, rows) {
+        Ok((slot, sequence)) => {
             *committed = Committed {
                 slot,
-                sequence: committed.sequence + 1,
+                sequence,
                 rows: *rows,
             };
             Ok(())

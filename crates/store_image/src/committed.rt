@@ -9,7 +9,7 @@ use image::{LaneRow, Slot};
 pub struct Committed {
     /// The slot that counts.
     pub slot: Slot,
-    /// How often a control was committed since the image was made.
+    /// Its sequence: the greater one while both gates are open.
     pub sequence: u64,
     /// By lane.
     pub rows: [LaneRow; 32],

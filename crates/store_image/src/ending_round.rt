@@ -21,7 +21,7 @@ use store_past::StoreError;
 
 /// Makes the home cells durable, and then the control that acknowledges this cut and starts each lane behind it: what
 /// [`settle`](crate::settle) and then [`trim`](crate::trim) do. `places` has, by lane, the place behind the cut's last section.
-/// It takes three syncs.
+/// It takes two syncs (`commit_by_turning` of `image`).
 ///
 /// Refusals, in this order:
 /// - `Worn`: the control's sequence is at its last value, 2^64 - 1. The device isn't called;

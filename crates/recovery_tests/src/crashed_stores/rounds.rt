@@ -1,14 +1,16 @@
 //! A helper's rounds over one lane to three, cut off at each write and sync of the device.
 //!
-//! What each crash leaves keeps the cut that was acknowledged before the round until the round's last gate is open, and from
-//! then on the stable cut of all that was logged, with its heap.
-ghost use Rattle.std.specs.Prelude.{◌≡◌, ◌⊎◌};
+//! What each crash leaves keeps the cut that was acknowledged before the round until the round's last gate is turned, and from
+//! then on the stable cut of all that was logged, with its heap. Over an image just made, of whose slots one is closed, a round
+//! opens a gate first and closes one last; over one that recovery left, with both open, the other way round.
+ghost use Rattle.std.specs.Prelude.{◌≡◌, ◌⊎◌, ◌≤◌};
 
 use super::runs::{acq, one, put, rel, two};
 use crate::hand_made_logs::formatted_with;
 use block_disk::{Fill, MemDisk};
 use durable::{Home, Store, StoreCall};
 use heap_model::{Lane, Record};
+use image::Recovered;
 use recover::recover;
 use std::alloc::Global;
 
@@ -24,10 +26,11 @@ const FILLS: [Fill; 5] = [
 // How many sections of the first three lanes are kept, and the values of the two fields.
 type Kept = ([u64; 3], [u64; 2]);
 
-// What is applied before two rounds over so many lanes; what is kept before them, behind the first and behind the second; and
-// how many writes and syncs each takes.
+// What is applied before two rounds over so many lanes of an image, which recovery left or which was just made; what is kept
+// before them, behind the first and behind the second; and how many writes and syncs each takes.
 #[derive(Clone, Copy)]
 struct Case {
+    recovered: bool,
     lanes: u8,
     applied: [usize; 2],
     kept: [Kept; 3],
@@ -68,37 +71,62 @@ fn second_calls() -> [StoreCall; 4] {
 
 const FIRST: Kept = ([0, 0, 0], [10, 20]);
 
-// A round takes a write for each record and each dirty field; 2 for a control, twice; 1 for each gate that it closes, which
-// the first round finds closed once; and 6 syncs.
+// A round takes a write for each record and each dirty field; two for a control, twice: its body and a gate; and 4 syncs.
 const ONE_LANE: Case = Case {
+    recovered: false,
     lanes: 1,
     applied: [3, 3],
     kept: [FIRST, ([1, 0, 0], [1, 20]), ([2, 0, 0], [1, 21])],
-    stops: [3 + 1 + 4 + 1 + 6, 3 + 1 + 4 + 2 + 6],
+    stops: [3 + 1 + 4 + 4, 3 + 1 + 4 + 4],
 };
 
 const TWO_LANES: Case = Case {
+    recovered: false,
     lanes: 2,
     applied: [7, 4],
     kept: [FIRST, ([1, 0, 0], [1, 20]), ([2, 1, 0], [2, 21])],
-    stops: [7 + 1 + 4 + 1 + 6, 4 + 1 + 4 + 2 + 6],
+    stops: [7 + 1 + 4 + 4, 4 + 1 + 4 + 4],
 };
 
 const THREE_LANES: Case = Case {
+    recovered: false,
     lanes: 3,
     applied: [10, 4],
     kept: [FIRST, ([1, 0, 0], [1, 20]), ([2, 1, 1], [3, 21])],
-    stops: [10 + 1 + 4 + 1 + 6, 4 + 1 + 4 + 2 + 6],
+    stops: [10 + 1 + 4 + 4, 4 + 1 + 4 + 4],
 };
 
-// A store of the common schema, with so many lanes of 2,000 records.
-fn store_of(alloc: Global, lanes: u8) -> Option<Store<MemDisk>> {
+// An image of the common schema, with so many lanes of 2,000 records.
+fn image_of(alloc: Global, lanes: u8) -> Option<Recovered<MemDisk>> {
     let disk = MemDisk::new(alloc, 32_000 * u64::from(lanes) + 2_208).ok()?;
-    let made = formatted_with(alloc, disk, lanes, 2_000)?;
-    match Store::adopt(alloc, made, 9) {
+    formatted_with(alloc, disk, lanes, 2_000)
+}
+
+// The same as recovery leaves it.
+fn recovered_of(alloc: Global, lanes: u8) -> Option<Recovered<MemDisk>> {
+    let made = image_of(alloc, lanes)?;
+    match recover(alloc, made.into_disk()) {
+        Ok((recovered, _)) => Some(recovered),
+        Err(_) => None,
+    }
+}
+
+// A store over it.
+fn adopted(alloc: Global, image: Recovered<MemDisk>) -> Option<Store<MemDisk>> {
+    match Store::adopt(alloc, image, 9) {
         Ok(store) => Some(store),
         Err(_) => None,
     }
+}
+
+// The store of the case.
+fn store_of(alloc: Global, case: Case) -> Option<Store<MemDisk>> {
+    let image = if case.recovered {
+        recovered_of(alloc, case.lanes)?
+    } else {
+        image_of(alloc, case.lanes)?
+    };
+    adopted(alloc, image)
 }
 
 // Writes each dirty field home, of which there are two at most.
@@ -147,26 +175,33 @@ fn kept_at(alloc: Global, disk: &MemDisk, k: u64, fill: Fill) -> Option<Kept> {
     Some(([one, two, three], [*first, *second]))
 }
 
-// From which call on a crash behind it keeps the new cut, where the round's last gate is opened by `gate`. What fills the gate
-// with the byte of an open one opens it as soon as it is written; all else once it is durable.
-fn turn(fill: Fill, gate: u64) -> u64 {
-    match fill {
-        Fill::Kept | Fill::Byte(165) => gate,
-        _ => gate.saturating_add(2),
+// From which call on a crash behind it keeps the new cut, where `gate` is the write that turns the round's last gate, to open
+// or to closed. What fills the gate with a byte that reads so turns it as soon as it is written; all else once it is durable.
+fn turn(fill: Fill, gate: u64, opens: bool) -> u64 {
+    let at_once = match fill {
+        Fill::Lost => false,
+        Fill::Kept => true,
+        Fill::Byte(byte) => (byte == 165) == opens,
+    };
+    if at_once {
+        gate
+    } else {
+        gate.saturating_add(2)
     }
 }
 
 // Whether each crash of the round keeps the old cut up to its turn and then the new one. The round's calls are those behind
-// the first `from`, up to `end`.
+// the first `calls[0]`, up to `calls[1]`.
 fn is_atomic(
     alloc: Global,
     disk: &MemDisk,
-    from: u64,
-    end: u64,
+    calls: [u64; 2],
+    opens: bool,
     kept: [Kept; 2],
     fill: Fill,
 ) -> bool {
-    let since = turn(fill, end.saturating_sub(1));
+    let [from, end] = calls;
+    let since = turn(fill, end.saturating_sub(1), opens);
     for k in from.saturating_add(1)..end.saturating_add(2) {
         let wanted = if k < since { kept[0] } else { kept[1] };
         if kept_at(alloc, disk, k, fill) != Some(wanted) {
@@ -177,28 +212,40 @@ fn is_atomic(
 }
 
 // The same for each fill.
-fn is_atomic_by_fills(alloc: Global, disk: &MemDisk, from: u64, end: u64, kept: [Kept; 2]) -> bool {
+fn is_atomic_by_fills(
+    alloc: Global,
+    disk: &MemDisk,
+    calls: [u64; 2],
+    opens: bool,
+    kept: [Kept; 2],
+) -> bool {
     FILLS
         .iter()
-        .all(|fill| is_atomic(alloc, disk, from, end, kept, *fill))
+        .all(|fill| is_atomic(alloc, disk, calls, opens, kept, *fill))
 }
 
 // How many writes and syncs the two rounds took, and whether each crash of the first is as it is to be, and each of the second.
 fn told_of_rounds(alloc: Global, case: Case) -> Option<([u64; 2], [bool; 2])> {
-    let mut store = store_of(alloc, case.lanes)?;
+    let mut store = store_of(alloc, case)?;
     let [before, middle, end] = rounds(&mut store, case)?;
     let disk = store.into_disk();
+    let opens = case.recovered;
     let [old, between, new] = case.kept;
-    let first = is_atomic_by_fills(alloc, &disk, before, middle, [old, between]);
-    let second = is_atomic_by_fills(alloc, &disk, middle, end, [between, new]);
+    let first = is_atomic_by_fills(alloc, &disk, [before, middle], opens, [old, between]);
+    let second = is_atomic_by_fills(alloc, &disk, [middle, end], opens, [between, new]);
     let stops = [middle.saturating_sub(before), end.saturating_sub(middle)];
     Some((stops, [first, second]))
 }
 
-// Whether the case is as it is to be.
+// Whether the case is as it is to be, over an image just made and over one that recovery left.
 fn is_so(alloc: Global, case: Case) -> bool {
-    let stops = case.stops;
-    told_of_rounds(alloc, case) == Some((stops, [true; 2]))
+    let again = Case {
+        recovered: true,
+        ..case
+    };
+    let [first, second] = case.stops;
+    let told = Some(([first, second], [true, true]));
+    told_of_rounds(alloc, case) == told && told_of_rounds(alloc, again) == told
 }
 
 #[test]
@@ -214,4 +261,57 @@ fn a_round_is_atomic_over_two_lanes(rt: HostRuntime) {
 #[test]
 fn a_round_is_atomic_over_three_lanes(rt: HostRuntime) {
     assert!(rt; is_so(rt.alloc(), THREE_LANES));
+}
+
+// What a crash leaves with this fill of a store over three lanes, where its device's call of this number was a fault. None where
+// the fault was none of the calls of its first round.
+fn left_by_fault(alloc: Global, call: u64, fill: Fill) -> Option<Kept>
+    requires { 1 ≤ call }
+{
+    let mut disk = MemDisk::new(alloc, 98_208).ok()?;
+    disk.fail_call(call);
+    let made = formatted_with(alloc, disk, 3, 2_000)?;
+    let mut store = adopted(alloc, made)?;
+    if round(&mut store, &first_calls()).is_some() {
+        return None;
+    }
+    let disk = store.into_disk();
+    kept_at(alloc, &disk, disk.stops().saturating_add(1), fill)
+}
+
+// Whether it keeps the new cut then. Call 33 closes the last gate, and 34 is the sync behind it. A write that failed is not
+// kept.
+fn is_turned(call: u64, fill: Fill) -> bool {
+    match fill {
+        Fill::Lost => false,
+        Fill::Kept => call == 34,
+        Fill::Byte(byte) => call >= 33 && byte != 165,
+    }
+}
+
+// Whether each fill leaves the one cut or the other, as it is to be.
+fn is_left_by_fault(alloc: Global, call: u64) -> bool
+    requires { 1 ≤ call }
+{
+    for fill in FILLS {
+        let wanted = if is_turned(call, fill) {
+            THREE_LANES.kept[1]
+        } else {
+            THREE_LANES.kept[0]
+        };
+        if left_by_fault(alloc, call, fill) != Some(wanted) {
+            return false;
+        }
+    }
+    true
+}
+
+// The format takes 13 calls of the device. The round takes 21: a write for each of its 10 records and for its field, and for
+// each of two controls a read of the other slot's head, its body, a sync, a gate and a sync.
+#[test]
+fn a_fault_at_each_call_of_a_round_leaves_the_old_cut_or_the_new_one(rt: HostRuntime) {
+    for call in 14..35 {
+        assert!(rt; is_left_by_fault(rt.alloc(), call), "{call}");
+    }
+    assert!(rt; left_by_fault(rt.alloc(), 35, Fill::Lost).is_none());
 }

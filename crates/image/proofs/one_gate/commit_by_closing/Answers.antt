@@ -1,7 +1,7 @@
 use Rattle.std.proofs.Common.{◌≡◌, ◌+◌, ℕ, [], ◌∷◌, ap, ◌∙◌}
-use Rattle.image.specs.Slots.{other, body_at}
+use Rattle.image.specs.Slots.{other, body_at, slot_at}
 use Rattle.image.proofs.Commits.{now_whole}
-use Rattle.image.proofs.Turning.{after_rest, after_turn, steady_turned}
+use Rattle.image.proofs.Turning.{after_rest, after_turn, steady_turned, two_made}
 use Rattle.image.proofs.one_gate.commit_by_closing.Goals as goal
 
 pub returns-in_err-write_through-clause-any_moment : goal.returns-in_err-write_through-clause-any_moment
@@ -36,3 +36,10 @@ returns-clause-ok g c = λ new spelled.
     steady_turned c.args.layout.now d c.args.chosen r.0 new r.1 c.args.rest.now c.requires.long c.requires.open spelled (c.body.result + 8) place_is d1 c.write_through.ensures.any_moment
     (now_whole d d1 (c.body.result + 8) c.args.rest.now c.in_ok-write_through.ensures.ok) c.start.result c.start.ensures d2 c.write_through-2.ensures.any_moment
     (now_whole d1 d2 c.start.result (0 ∷ []) c.in_ok-write_through-2.ensures.ok)
+
+pub returns-clause-calls : goal.returns-clause-calls
+returns-clause-calls g c =
+    let place_is : c.body.result + 8 ≡ body_at (other c.args.chosen) + 8 = ap (λ (k : ℕ). k + 8) (c.body.ensures ∙ ap body_at c.other-slot.ensures) in
+    two_made (g.D.Disk.device c.args.disk.now) (g.D.Disk.device c.write_through.new.disk) (g.D.Disk.device c.write_through-2.new.disk)
+    (c.body.result + 8) (body_at (other c.args.chosen) + 8) c.start.result (slot_at c.args.chosen) c.args.rest.now (0 ∷ []) place_is c.start.ensures
+    c.in_ok-write_through.ensures.ok c.in_ok-write_through-2.ensures.ok

@@ -1,6 +1,7 @@
 use Rattle.std.proofs.Common.{sym, subst}
 use Rattle.block_disk.proofs.Images.{begin, now_too}
 use Rattle.heap_model.specs.Cuts.{counts_of}
+use Rattle.image.specs.Commit.{turned_sequence}
 use Rattle.store_past.specs.Past.{after_settle, after_trim}
 use Rattle.store_image.specs.Consistent.{IsConsistent, ShowsEither}
 use Rattle.store_image.specs.KeptHeap.{StandsForEither}
@@ -34,7 +35,7 @@ returns-clause-ok g c = λ s p may.
     (round_done c.args.layout.now s p c.args.committed.now (g.D.Disk.device c.args.disk.now) c.args.cut.now c.args.places.now may c.trimmed_rows-rows.result
     (closed_both c.args.layout.now s p c.args.committed.now (g.D.Disk.device c.args.disk.now) c.args.cut.now c.args.places.now may c.settled_rows-settled.result c.trimmed_rows-rows.result
     c.settled_rows-settled.ensures.size c.trimmed_rows-rows.ensures.size c.settled_rows-settled.ensures.lanes c.settled_rows-settled.ensures.rest c.trimmed_rows-rows.ensures.lanes c.trimmed_rows-rows.ensures.rest)
-    e c.commit_written.ensures.any_moment rest same steady))
+    (turned_sequence c.args.committed.now.slot c.args.committed.now.sequence (g.D.Disk.device c.args.disk.now).now.bytes) e c.commit_written.ensures.any_moment rest same steady))
     c.commit_written.ensures.ok c.commit_written.ensures.durable c.commit_written.ensures.same c.commit_written.ensures.steady
 
 pub returns-clause-any_moment : goal.returns-clause-any_moment
@@ -42,7 +43,7 @@ returns-clause-any_moment g c = λ s p may.
     round_leaves c.args.layout.now s p c.args.committed.now (g.D.Disk.device c.args.disk.now) c.args.cut.now c.args.places.now may c.trimmed_rows-rows.result
     (closed_both c.args.layout.now s p c.args.committed.now (g.D.Disk.device c.args.disk.now) c.args.cut.now c.args.places.now may c.settled_rows-settled.result c.trimmed_rows-rows.result
     c.settled_rows-settled.ensures.size c.trimmed_rows-rows.ensures.size c.settled_rows-settled.ensures.lanes c.settled_rows-settled.ensures.rest c.trimmed_rows-rows.ensures.lanes c.trimmed_rows-rows.ensures.rest)
-    (g.D.Disk.device c.commit_written.new.disk) c.commit_written.ensures.any_moment
+    (turned_sequence c.args.committed.now.slot c.args.committed.now.sequence (g.D.Disk.device c.args.disk.now).now.bytes) (g.D.Disk.device c.commit_written.new.disk) c.commit_written.ensures.any_moment
 
 pub returns-clause-crash : goal.returns-clause-crash
 returns-clause-crash g c = λ s p may.
@@ -53,11 +54,11 @@ returns-clause-crash g c = λ s p may.
     (round_leaves c.args.layout.now s p c.args.committed.now (g.D.Disk.device c.args.disk.now) c.args.cut.now c.args.places.now may c.trimmed_rows-rows.result
     (closed_both c.args.layout.now s p c.args.committed.now (g.D.Disk.device c.args.disk.now) c.args.cut.now c.args.places.now may c.settled_rows-settled.result c.trimmed_rows-rows.result
     c.settled_rows-settled.ensures.size c.trimmed_rows-rows.ensures.size c.settled_rows-settled.ensures.lanes c.settled_rows-settled.ensures.rest c.trimmed_rows-rows.ensures.lanes c.trimmed_rows-rows.ensures.rest)
-    e c.commit_written.ensures.any_moment)
+    (turned_sequence c.args.committed.now.slot c.args.committed.now.sequence (g.D.Disk.device c.args.disk.now).now.bytes) e c.commit_written.ensures.any_moment)
 
 pub returns-clause-shown : goal.returns-clause-shown
 returns-clause-shown g c = λ s p may.
     round_shows c.args.layout.now s p c.args.committed.now (g.D.Disk.device c.args.disk.now) c.args.cut.now c.args.places.now may c.trimmed_rows-rows.result
     (closed_both c.args.layout.now s p c.args.committed.now (g.D.Disk.device c.args.disk.now) c.args.cut.now c.args.places.now may c.settled_rows-settled.result c.trimmed_rows-rows.result
     c.settled_rows-settled.ensures.size c.trimmed_rows-rows.ensures.size c.settled_rows-settled.ensures.lanes c.settled_rows-settled.ensures.rest c.trimmed_rows-rows.ensures.lanes c.trimmed_rows-rows.ensures.rest)
-    (g.D.Disk.device c.commit_written.new.disk) c.commit_written.ensures.any_moment
+    (turned_sequence c.args.committed.now.slot c.args.committed.now.sequence (g.D.Disk.device c.args.disk.now).now.bytes) (g.D.Disk.device c.commit_written.new.disk) c.commit_written.ensures.any_moment

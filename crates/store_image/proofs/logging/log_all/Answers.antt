@@ -1,4 +1,5 @@
 use Rattle.std.proofs.Common.{sym, subst}
+use Rattle.image.specs.Commit.{turned_sequence}
 use Rattle.store_past.specs.Past.{after_log}
 use Rattle.store_image.specs.Consistent.{IsConsistent}
 use Rattle.store_image.specs.declared.committed.Committed.{Committed}
@@ -98,7 +99,7 @@ returns-in-Joined-clause-ok g c = λ s p may.
     (at_once_done c.args.layout.now s p c.args.committed.now (g.D.Disk.device c.args.disk.now) (g.F.NewRecords.fresh c.args.fresh.now) may
     (g.D.Disk.device c.append_lanes.new.disk) c.append_lanes.ensures.any_moment c.logged_rows-rows.result
     (record { size = c.logged_rows-rows.ensures.size; lanes = c.logged_rows-rows.ensures.lanes; rest = c.logged_rows-rows.ensures.rest })
-    c.in_ok-append_lanes.ensures.ok d3 c.commit_written.ensures.any_moment rest same steady))
+    c.in_ok-append_lanes.ensures.ok (turned_sequence c.args.committed.now.slot c.args.committed.now.sequence (g.D.Disk.device c.append_lanes.new.disk).now.bytes) d3 c.commit_written.ensures.any_moment rest same steady))
     c.commit_written.ensures.ok c.commit_written.ensures.durable c.commit_written.ensures.same c.commit_written.ensures.steady
 
 pub returns-in-Joined-clause-any_moment : goal.returns-in-Joined-clause-any_moment
@@ -106,11 +107,11 @@ returns-in-Joined-clause-any_moment g c = λ s p may.
     at_once_leaves c.args.layout.now s p c.args.committed.now (g.D.Disk.device c.args.disk.now) (g.F.NewRecords.fresh c.args.fresh.now) may
     (g.D.Disk.device c.append_lanes.new.disk) c.append_lanes.ensures.any_moment c.logged_rows-rows.result
     (record { size = c.logged_rows-rows.ensures.size; lanes = c.logged_rows-rows.ensures.lanes; rest = c.logged_rows-rows.ensures.rest })
-    c.in_ok-append_lanes.ensures.ok (g.D.Disk.device c.commit_written.new.disk) c.commit_written.ensures.any_moment
+    c.in_ok-append_lanes.ensures.ok (turned_sequence c.args.committed.now.slot c.args.committed.now.sequence (g.D.Disk.device c.append_lanes.new.disk).now.bytes) (g.D.Disk.device c.commit_written.new.disk) c.commit_written.ensures.any_moment
 
 pub returns-in-Joined-clause-shown : goal.returns-in-Joined-clause-shown
 returns-in-Joined-clause-shown g c = λ s p may.
     at_once_shows c.args.layout.now s p c.args.committed.now (g.D.Disk.device c.args.disk.now) (g.F.NewRecords.fresh c.args.fresh.now) may
     (g.D.Disk.device c.append_lanes.new.disk) c.append_lanes.ensures.any_moment c.logged_rows-rows.result
     (record { size = c.logged_rows-rows.ensures.size; lanes = c.logged_rows-rows.ensures.lanes; rest = c.logged_rows-rows.ensures.rest })
-    c.in_ok-append_lanes.ensures.ok (g.D.Disk.device c.commit_written.new.disk) c.commit_written.ensures.any_moment
+    c.in_ok-append_lanes.ensures.ok (turned_sequence c.args.committed.now.slot c.args.committed.now.sequence (g.D.Disk.device c.append_lanes.new.disk).now.bytes) (g.D.Disk.device c.commit_written.new.disk) c.commit_written.ensures.any_moment
