@@ -5,3 +5,4 @@ pub mod Moments
 pub mod Calls
 pub mod Closed
 pub mod Runs
+pub mod Steps

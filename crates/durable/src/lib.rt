@@ -11,6 +11,7 @@
 mod beginning;
 mod doubt;
 mod format;
+mod meeting;
 mod play;
 mod rounds;
 mod store;

@@ -1,29 +1,28 @@
 //! The store: a heap whose sections survive a crash whole or not at all (Atlas, OOPSLA 2014).
-ghost use Rattle.std.specs.Prelude.{◌≡◌, ◌≢◌, ◌⊎◌, ◌+◌, ◌-◌, ◌<◌, ◌≤◌, ◌^◌, ◌↔◌, ℕ, [], true, false, length, slice_index, Ok, Err, IfErr, IfOk, IsErrOf, OnErr, OnOk, MatchResult};
+ghost use Rattle.std.specs.Prelude.{◌≡◌, ◌≢◌, ◌⊎◌, ◌-◌, ◌<◌, ◌≤◌, ◌^◌, ℕ, [], true, false, length, slice_index, Ok, IfErr, IfOk, IsErrOf, OnErr, OnOk, MatchResult};
 ghost use Rattle.block_disk.specs.Device.{HasCause};
-ghost use Rattle.block_disk.specs.Images.{Always, LeavesOnly};
+ghost use Rattle.block_disk.specs.Images.{Always};
 ghost use Rattle.heap_model.specs.Setting.{Setting};
 ghost use Rattle.heap_model.specs.Log.{value as value_of};
-ghost use Rattle.heap_model.specs.Sections.{actions};
-ghost use Rattle.heap_model.specs.Cuts.{IsStable, counts_of};
+ghost use Rattle.heap_model.specs.Cuts.{counts_of};
 ghost use Rattle.image.specs.Cells.{HasCell};
 ghost use Rattle.image.specs.Layout.{IsLayout};
 ghost use Rattle.undo_log.specs.Dropped.{undo_logs, records_in};
 ghost use Rattle.undo_log.specs.StandsFor.{StandsFor, row_of};
 ghost use Rattle.store_memory.specs.Apply.{Answers};
 ghost use Rattle.durable.specs.Begin.{HasRows, IsSettingOf};
-ghost use Rattle.durable.specs.Calls.{AnswersHome, HasOpen, IsClean, IsWritten, RefusesApply, RefusesClose, RefusesHome, RefusesLog, RefusesSettle, RefusesTrim, after_home_step};
+ghost use Rattle.durable.specs.Calls.{HasOpen, IsWritten, RefusesApply, RefusesClose};
 ghost use Rattle.durable.specs.Closed.{applied_heap};
-ghost use Rattle.store_image.specs.Consistent.{ShowsPast};
-ghost use Rattle.store_image.specs.KeptHeap.{StandsForCut, StandsForEither};
+ghost use Rattle.store_image.specs.KeptHeap.{StandsForCut};
 ghost use Rattle.store_memory.specs.Memory.{lane_in};
-ghost use Rattle.store_past.specs.Past.{Past, IsTrimmed, applied, no_past, after_apply, after_log, after_settle, after_trim};
+ghost use Rattle.store_past.specs.Past.{Past, applied, no_past, after_apply};
 ghost use Rattle.store_memory.specs.Remembers.{Remembers};
 ghost use Rattle.store_memory.specs.Sections.{TellsSections};
 ghost use Rattle.durable.specs.Store.{HasPast, ShowsStep, StandsForStep};
-ghost use Rattle.store_past.specs.declared.error.StoreError.TheVariants.{Fault, Worn};
+ghost use Rattle.store_past.specs.declared.error.StoreError.TheVariants.{Fault};
 ghost use Rattle.store_image.specs.declared.home.Home.TheVariants.{Done};
 ghost use Rattle.durable.specs.declared.doubt.Doubt.TheVariants.{Nothing, Logging, Settling, Trimming};
+ghost use Rattle.durable.specs.Steps.{AnswersHomeStep, AnswersLog, AnswersSettle, AnswersTrim, GoesHome, GoesNowhere, IsPastOf, Keeps, Logs, LogsNone, Settles, ShowsMeanwhile, ShowsPastMeanwhile, StandsForOneOf, StandsMeanwhile, Trims, TrimsNone, WearsLog, WearsSettle, WearsTrim};
 
 use crate::beginning::fields_of;
 use crate::doubt::Doubt;
@@ -117,10 +116,10 @@ impl<D: Disk> Store<D> {
     /// Refusals, in this order: `Failed`; `BadLane`; `BadId` (also a store of a transient field, which no log keeps); `Worn` (the release number is the last or more, or a section would
     /// begin at place 2^62 or later); `NotNext`; `TooLong`; `LogFull`. A refusal changes nothing.
     pub fn apply(&mut self, lane: Lane, record: Record) -> Result<(), StoreError>
-        ensures answer { (s : Setting) (p : Past) → HasPast self.old.known s p (D.device self.old.disk)
+        ensures answer { (s : Setting) (p : Past) → IsPastOf D.device self.old s p
             → MatchResult result (λ done. Answers s self.old.known.memory p lane.0 «record» (Ok done)) (RefusesApply self.old.known s p lane.0 «record») }
-        ensures ok { (s : Setting) (p : Past) → HasPast self.old.known s p (D.device self.old.disk)
-            → OnOk result (HasPast self.new.known s (after_apply p lane.0 «record») (D.device self.new.disk)) }
+        ensures ok { (s : Setting) (p : Past) → IsPastOf D.device self.old s p
+            → OnOk result (IsPastOf D.device self.new s (after_apply p lane.0 «record»)) }
         ensures running { OnOk result ((self.old.known.has_failed ≡ false) × (self.new.known.has_failed ≡ false)) }
         ensures no_fault { IfErr result (λ e. e ≢ Fault) }
         ensures err { OnErr result (self.new ≡ self.old) }
@@ -139,24 +138,17 @@ impl<D: Disk> Store<D> {
     /// in the records. Refusals, in this order: `Failed`; `Worn`: there are records, and the control's sequence is at its last
     /// value; `Fault`. After the first two nothing has changed.
     pub fn log_step(&mut self) -> Result<u64, StoreError>
-        ensures ok { (s : Setting) (p : Past) → HasPast self.old.known s p (D.device self.old.disk)
-            → OnOk result (HasPast self.new.known s (after_log p) (D.device self.new.disk)) }
+        ensures ok { Logs D.device self.old self.new result }
         ensures running { OnOk result ((self.old.known.has_failed ≡ false) × (self.new.known.has_failed ≡ false)) }
-        ensures answer { (s : Setting) (p : Past) → HasPast self.old.known s p (D.device self.old.disk)
-            → MatchResult result (λ count. (self.old.known.has_failed ≡ false) × (count ≡ length p.fresh)) (RefusesLog self.old.known p) }
-        ensures none { (s : Setting) (p : Past) → HasPast self.old.known s p (D.device self.old.disk)
-            → p.fresh ≡ [] → D.device self.new.disk ≡ D.device self.old.disk }
-        ensures worn { (s : Setting) (p : Past) → HasPast self.old.known s p (D.device self.old.disk)
-            → self.old.known.has_failed ≡ false → p.fresh ≢ [] → self.old.known.committed.sequence ≡ 2 ^ 64 - 1 → IsErrOf result Worn }
-        ensures kept { (s : Setting) (p : Past) → HasPast self.old.known s p (D.device self.old.disk)
-            → OnErr result (HasPast self.new.known s p (D.device self.new.disk)) }
+        ensures answer { AnswersLog D.device self.old result }
+        ensures none { LogsNone D.device self.old self.new }
+        ensures worn { WearsLog D.device self.old result }
+        ensures kept { Keeps D.device self.old self.new result }
         ensures refused { IfErr result (λ e. (e ≡ Fault) ⊎ (self.new ≡ self.old)) }
         ensures failed { IsErrOf result Fault → self.new.known.has_failed ≡ true }
         ensures in_doubt { IsErrOf result Fault → self.new.known.doubt ≡ Logging }
-        ensures any_moment { (s : Setting) (p : Past) → HasPast self.old.known s p (D.device self.old.disk)
-            → LeavesOnly (D.device self.old.disk) (D.device self.new.disk) (StandsForCut self.old.known.layout s p.logged p.cut) }
-        ensures shown { (s : Setting) (p : Past) → HasPast self.old.known s p (D.device self.old.disk)
-            → LeavesOnly (D.device self.old.disk) (D.device self.new.disk) (ShowsStep self.old.known.layout s p Logging) }
+        ensures any_moment { StandsMeanwhile D.device self.old self.new }
+        ensures shown { ShowsMeanwhile D.device Logging self.old self.new }
         ensures cause { HasCause (D.device self.old.disk).failures (D.device self.new.disk).failures Fault result }
         ensures layout { self.new.known.layout ≡ self.old.known.layout }
     {
@@ -165,24 +157,17 @@ impl<D: Disk> Store<D> {
 
     // Makes all applied records durable, by these syncs.
     pub(crate) fn log_by(&mut self, syncs: Syncs) -> Result<u64, StoreError>
-        ensures ok { (s : Setting) (p : Past) → HasPast self.old.known s p (D.device self.old.disk)
-            → OnOk result (HasPast self.new.known s (after_log p) (D.device self.new.disk)) }
+        ensures ok { Logs D.device self.old self.new result }
         ensures running { OnOk result ((self.old.known.has_failed ≡ false) × (self.new.known.has_failed ≡ false)) }
-        ensures answer { (s : Setting) (p : Past) → HasPast self.old.known s p (D.device self.old.disk)
-            → MatchResult result (λ count. (self.old.known.has_failed ≡ false) × (count ≡ length p.fresh)) (RefusesLog self.old.known p) }
-        ensures none { (s : Setting) (p : Past) → HasPast self.old.known s p (D.device self.old.disk)
-            → p.fresh ≡ [] → D.device self.new.disk ≡ D.device self.old.disk }
-        ensures worn { (s : Setting) (p : Past) → HasPast self.old.known s p (D.device self.old.disk)
-            → self.old.known.has_failed ≡ false → p.fresh ≢ [] → self.old.known.committed.sequence ≡ 2 ^ 64 - 1 → IsErrOf result Worn }
-        ensures kept { (s : Setting) (p : Past) → HasPast self.old.known s p (D.device self.old.disk)
-            → OnErr result (HasPast self.new.known s p (D.device self.new.disk)) }
+        ensures answer { AnswersLog D.device self.old result }
+        ensures none { LogsNone D.device self.old self.new }
+        ensures worn { WearsLog D.device self.old result }
+        ensures kept { Keeps D.device self.old self.new result }
         ensures refused { IfErr result (λ e. (e ≡ Fault) ⊎ (self.new ≡ self.old)) }
         ensures failed { IsErrOf result Fault → self.new.known.has_failed ≡ true }
         ensures in_doubt { IsErrOf result Fault → self.new.known.doubt ≡ Logging }
-        ensures any_moment { (s : Setting) (p : Past) → HasPast self.old.known s p (D.device self.old.disk)
-            → LeavesOnly (D.device self.old.disk) (D.device self.new.disk) (StandsForCut self.old.known.layout s p.logged p.cut) }
-        ensures shown { (s : Setting) (p : Past) → HasPast self.old.known s p (D.device self.old.disk)
-            → LeavesOnly (D.device self.old.disk) (D.device self.new.disk) (ShowsStep self.old.known.layout s p Logging) }
+        ensures any_moment { StandsMeanwhile D.device self.old self.new }
+        ensures shown { ShowsMeanwhile D.device Logging self.old self.new }
         ensures cause { HasCause (D.device self.old.disk).failures (D.device self.new.disk).failures Fault result }
         ensures layout { self.new.known.layout ≡ self.old.known.layout }
     {
@@ -218,23 +203,17 @@ impl<D: Disk> Store<D> {
     /// With no dirty field it takes no call of the device. The time is amortized constant. Refusals, in this order: `Failed`,
     /// after which nothing has changed; `Fault`.
     pub fn home_step(&mut self) -> Result<Home, StoreError>
-        ensures ok { (s : Setting) (p : Past) → HasPast self.old.known s p (D.device self.old.disk)
-            → IfOk result (λ home. HasPast self.new.known s (after_home_step p home) (D.device self.new.disk)) }
+        ensures ok { GoesHome D.device self.old self.new result }
         ensures running { OnOk result ((self.old.known.has_failed ≡ false) × (self.new.known.has_failed ≡ false)) }
-        ensures answer { (s : Setting) (p : Past) → HasPast self.old.known s p (D.device self.old.disk)
-            → MatchResult result (λ home. (self.old.known.has_failed ≡ false) × AnswersHome s p home) (RefusesHome self.old.known) }
+        ensures answer { AnswersHomeStep D.device self.old result }
         ensures done { result ≡ Ok Done → self.new ≡ self.old }
-        ensures none { (s : Setting) (p : Past) → HasPast self.old.known s p (D.device self.old.disk)
-            → IsClean s p → self.new ≡ self.old }
-        ensures kept { (s : Setting) (p : Past) → HasPast self.old.known s p (D.device self.old.disk)
-            → OnErr result (HasPast self.new.known s p (D.device self.new.disk)) }
+        ensures none { GoesNowhere D.device self.old self.new }
+        ensures kept { Keeps D.device self.old self.new result }
         ensures refused { IfErr result (λ e. (e ≡ Fault) ⊎ (self.new ≡ self.old)) }
         ensures failed { IsErrOf result Fault → self.new.known.has_failed ≡ true }
         ensures in_doubt { IsErrOf result Fault → self.new.known.doubt ≡ Nothing }
-        ensures any_moment { (s : Setting) (p : Past) → HasPast self.old.known s p (D.device self.old.disk)
-            → LeavesOnly (D.device self.old.disk) (D.device self.new.disk) (StandsForCut self.old.known.layout s p.logged p.cut) }
-        ensures shown { (s : Setting) (p : Past) → HasPast self.old.known s p (D.device self.old.disk)
-            → LeavesOnly (D.device self.old.disk) (D.device self.new.disk) (ShowsPast self.old.known.layout s p) }
+        ensures any_moment { StandsMeanwhile D.device self.old self.new }
+        ensures shown { ShowsPastMeanwhile D.device self.old self.new }
         ensures cause { HasCause (D.device self.old.disk).failures (D.device self.new.disk).failures Fault result }
         ensures layout { self.new.known.layout ≡ self.old.known.layout }
     {
@@ -264,22 +243,16 @@ impl<D: Disk> Store<D> {
     /// order: `Failed`; `Unwritten`: a field is dirty; `Worn`: the control's sequence is at its last value; `Fault`. But for
     /// the last nothing has changed.
     pub fn settle(&mut self) -> Result<(), StoreError>
-        ensures ok { (s : Setting) (p : Past) (cut : ℕ → ℕ) → HasPast self.old.known s p (D.device self.old.disk) → IsStable (actions p.logged) cut
-            → OnOk result (HasPast self.new.known s (after_settle p cut) (D.device self.new.disk)) }
+        ensures ok { Settles D.device self.old self.new result }
         ensures running { OnOk result ((self.old.known.has_failed ≡ false) × (self.new.known.has_failed ≡ false)) }
-        ensures answer { (s : Setting) (p : Past) → HasPast self.old.known s p (D.device self.old.disk)
-            → MatchResult result (λ done. (self.old.known.has_failed ≡ false) × IsClean s p) (RefusesSettle self.old.known s p) }
-        ensures worn { (s : Setting) (p : Past) → HasPast self.old.known s p (D.device self.old.disk)
-            → self.old.known.has_failed ≡ false → IsClean s p → self.old.known.committed.sequence ≡ 2 ^ 64 - 1 → IsErrOf result Worn }
-        ensures kept { (s : Setting) (p : Past) → HasPast self.old.known s p (D.device self.old.disk)
-            → OnErr result (HasPast self.new.known s p (D.device self.new.disk)) }
+        ensures answer { AnswersSettle D.device self.old result }
+        ensures worn { WearsSettle D.device self.old result }
+        ensures kept { Keeps D.device self.old self.new result }
         ensures refused { IfErr result (λ e. (e ≡ Fault) ⊎ (self.new ≡ self.old)) }
         ensures failed { IsErrOf result Fault → self.new.known.has_failed ≡ true }
         ensures in_doubt { IsErrOf result Fault → self.new.known.doubt ≡ Settling }
-        ensures any_moment { (s : Setting) (p : Past) (cut : ℕ → ℕ) → HasPast self.old.known s p (D.device self.old.disk) → IsStable (actions p.logged) cut
-            → LeavesOnly (D.device self.old.disk) (D.device self.new.disk) (StandsForEither self.old.known.layout s p.logged p.cut cut) }
-        ensures shown { (s : Setting) (p : Past) → HasPast self.old.known s p (D.device self.old.disk)
-            → LeavesOnly (D.device self.old.disk) (D.device self.new.disk) (ShowsStep self.old.known.layout s p Settling) }
+        ensures any_moment { StandsForOneOf D.device self.old self.new }
+        ensures shown { ShowsMeanwhile D.device Settling self.old self.new }
         ensures cause { HasCause (D.device self.old.disk).failures (D.device self.new.disk).failures Fault result }
         ensures layout { self.new.known.layout ≡ self.old.known.layout }
     {
@@ -316,24 +289,17 @@ impl<D: Disk> Store<D> {
     /// forgotten, and in each in the number of lanes; no memory is taken. Refusals, in this order: `Failed`; `Worn`: there is
     /// something to move, and the control's sequence is at its last value; `Fault`. After the first two nothing has changed.
     pub fn trim(&mut self) -> Result<(), StoreError>
-        ensures ok { (s : Setting) (p : Past) → HasPast self.old.known s p (D.device self.old.disk)
-            → OnOk result (HasPast self.new.known s (after_trim p) (D.device self.new.disk)) }
+        ensures ok { Trims D.device self.old self.new result }
         ensures running { OnOk result ((self.old.known.has_failed ≡ false) × (self.new.known.has_failed ≡ false)) }
-        ensures answer { (s : Setting) (p : Past) → HasPast self.old.known s p (D.device self.old.disk)
-            → MatchResult result (λ done. self.old.known.has_failed ≡ false) (RefusesTrim self.old.known p) }
-        ensures none { (s : Setting) (p : Past) → HasPast self.old.known s p (D.device self.old.disk)
-            → IsTrimmed p → self.new ≡ self.old }
-        ensures worn { (s : Setting) (p : Past) → HasPast self.old.known s p (D.device self.old.disk)
-            → self.old.known.has_failed ≡ false → ¬ IsTrimmed p → self.old.known.committed.sequence ≡ 2 ^ 64 - 1 → IsErrOf result Worn }
-        ensures kept { (s : Setting) (p : Past) → HasPast self.old.known s p (D.device self.old.disk)
-            → OnErr result (HasPast self.new.known s p (D.device self.new.disk)) }
+        ensures answer { AnswersTrim D.device self.old result }
+        ensures none { TrimsNone D.device self.old self.new }
+        ensures worn { WearsTrim D.device self.old result }
+        ensures kept { Keeps D.device self.old self.new result }
         ensures refused { IfErr result (λ e. (e ≡ Fault) ⊎ (self.new ≡ self.old)) }
         ensures failed { IsErrOf result Fault → self.new.known.has_failed ≡ true }
         ensures in_doubt { IsErrOf result Fault → self.new.known.doubt ≡ Trimming }
-        ensures any_moment { (s : Setting) (p : Past) → HasPast self.old.known s p (D.device self.old.disk)
-            → LeavesOnly (D.device self.old.disk) (D.device self.new.disk) (StandsForCut self.old.known.layout s p.logged p.cut) }
-        ensures shown { (s : Setting) (p : Past) → HasPast self.old.known s p (D.device self.old.disk)
-            → LeavesOnly (D.device self.old.disk) (D.device self.new.disk) (ShowsStep self.old.known.layout s p Trimming) }
+        ensures any_moment { StandsMeanwhile D.device self.old self.new }
+        ensures shown { ShowsMeanwhile D.device Trimming self.old self.new }
         ensures cause { HasCause (D.device self.old.disk).failures (D.device self.new.disk).failures Fault result }
         ensures layout { self.new.known.layout ≡ self.old.known.layout }
     {
@@ -364,7 +330,7 @@ impl<D: Disk> Store<D> {
     /// How many sections of the lane are acknowledged.
     pub fn acknowledged(&self, lane: Lane) -> u64
         requires { lane.0 < self.now.known.layout.lanes }
-        ensures { (s : Setting) (p : Past) → HasPast self.now.known s p (D.device self.now.disk) → result ≡ p.cut lane.0 }
+        ensures { (s : Setting) (p : Past) → IsPastOf D.device self.now s p → result ≡ p.cut lane.0 }
     {
         self.committed.rows[usize::from(lane.0)].kept
     }
@@ -372,8 +338,8 @@ impl<D: Disk> Store<D> {
     /// The field's value after all applied stores. A transient field has its first one, since none of its stores is applied.
     pub fn heap_value(&self, field: FieldId) -> u64
         requires { field.0 < self.now.known.layout.fields }
-        ensures value { (s : Setting) (p : Past) → HasPast self.now.known s p (D.device self.now.disk) → result ≡ value_of s.first field.0 (applied p) }
-        ensures transient { (s : Setting) (p : Past) → HasPast self.now.known s p (D.device self.now.disk) → s.is_logged field.0 ≡ false → result ≡ s.first field.0 }
+        ensures value { (s : Setting) (p : Past) → IsPastOf D.device self.now s p → result ≡ value_of s.first field.0 (applied p) }
+        ensures transient { (s : Setting) (p : Past) → IsPastOf D.device self.now s p → s.is_logged field.0 ≡ false → result ≡ s.first field.0 }
     {
         self.applied.value(field)
     }
@@ -381,7 +347,7 @@ impl<D: Disk> Store<D> {
     /// The first place of the lane that wasn't trimmed: so many of its records are no longer needed.
     pub fn trimmed(&self, lane: Lane) -> u64
         requires { lane.0 < self.now.known.layout.lanes }
-        ensures { (s : Setting) (p : Past) → HasPast self.now.known s p (D.device self.now.disk) → result ≡ records_in (p.base lane.0) (undo_logs p.logged lane.0) }
+        ensures { (s : Setting) (p : Past) → IsPastOf D.device self.now s p → result ≡ records_in (p.base lane.0) (undo_logs p.logged lane.0) }
     {
         self.applied.start(lane)
     }
@@ -390,9 +356,9 @@ impl<D: Disk> Store<D> {
     /// sections, and for no other cut.
     pub fn disk(&self) -> &D
         ensures disk { result.now ≡ self.now.disk }
-        ensures at_rest { (s : Setting) (p : Past) → HasPast self.now.known s p (D.device self.now.disk)
+        ensures at_rest { (s : Setting) (p : Past) → IsPastOf D.device self.now s p
             → self.now.known.has_failed ≡ false → StandsForCut self.now.known.layout s p.logged p.cut (D.device result.now).now.bytes }
-        ensures crash { (s : Setting) (p : Past) → HasPast self.now.known s p (D.device self.now.disk)
+        ensures crash { (s : Setting) (p : Past) → IsPastOf D.device self.now s p
             → self.now.known.has_failed ≡ false → Always (D.device result.now) (StandsForCut self.now.known.layout s p.logged p.cut) }
     {
         &self.disk
@@ -411,13 +377,13 @@ impl<D: Disk> Store<D> {
     /// Refusals, in this order: `Failed`; `Unfinished`: a lane holds a monitor; `Unwritten`: a record isn't logged, a field is
     /// dirty, or a logged section that has ended isn't acknowledged. After a refusal the store is given back as it was.
     pub fn close(self) -> Result<D, (Store<D>, StoreError)>
-        ensures ok { (s : Setting) (p : Past) → HasPast self.known s p (D.device self.disk) → OnOk result ((self.known.has_failed ≡ false) × (¬ HasOpen p) × IsWritten s p) }
-        ensures home { (s : Setting) (p : Past) → HasPast self.known s p (D.device self.disk)
+        ensures ok { (s : Setting) (p : Past) → IsPastOf D.device self s p → OnOk result ((self.known.has_failed ≡ false) × (¬ HasOpen p) × IsWritten s p) }
+        ensures home { (s : Setting) (p : Past) → IsPastOf D.device self s p
             → IfOk result (λ disk. (f : ℕ) → f < self.known.layout.fields → s.is_logged f ≡ true → HasCell self.known.layout f (D.device disk).now.bytes (value_of s.first f (applied p))) }
-        ensures stands { (s : Setting) (p : Past) → HasPast self.known s p (D.device self.disk)
+        ensures stands { (s : Setting) (p : Past) → IsPastOf D.device self s p
             → IfOk result (λ disk. Always (D.device disk) (λ image. StandsFor self.known.layout image (applied_heap self.known.layout s p))) }
         ensures disk { IfOk result (λ disk. disk ≡ self.disk) }
-        ensures refused { (s : Setting) (p : Past) → HasPast self.known s p (D.device self.disk) → IfErr result (λ back. RefusesClose self.known s p back.1) }
+        ensures refused { (s : Setting) (p : Past) → IsPastOf D.device self s p → IfErr result (λ back. RefusesClose self.known s p back.1) }
         ensures back { IfErr result (λ back. back.0 ≡ self) }
     {
         match self.is_closable() {
@@ -428,7 +394,7 @@ impl<D: Disk> Store<D> {
 
     // Whether nothing is left to do, and else why not.
     fn is_closable(&self) -> Result<(), StoreError>
-        ensures { (s : Setting) (p : Past) → HasPast self.now.known s p (D.device self.now.disk)
+        ensures { (s : Setting) (p : Past) → IsPastOf D.device self.now s p
             → MatchResult result (λ done. (self.now.known.has_failed ≡ false) × (¬ HasOpen p) × IsWritten s p) (RefusesClose self.now.known s p) }
     {
         if self.has_failed {
@@ -450,9 +416,9 @@ impl<D: Disk> Store<D> {
     /// The device, as it is: as a stop leaves it.
     pub fn into_disk(self) -> D
         ensures disk { result ≡ self.disk }
-        ensures shown { (s : Setting) (p : Past) → HasPast self.known s p (D.device self.disk) → Always (D.device result) (ShowsStep self.known.layout s p self.known.doubt) }
-        ensures crash { (s : Setting) (p : Past) → HasPast self.known s p (D.device self.disk) → Always (D.device result) (StandsForStep self.known.layout s p self.known.doubt) }
-        ensures at_rest { (s : Setting) (p : Past) → HasPast self.known s p (D.device self.disk)
+        ensures shown { (s : Setting) (p : Past) → IsPastOf D.device self s p → Always (D.device result) (ShowsStep self.known.layout s p self.known.doubt) }
+        ensures crash { (s : Setting) (p : Past) → IsPastOf D.device self s p → Always (D.device result) (StandsForStep self.known.layout s p self.known.doubt) }
+        ensures at_rest { (s : Setting) (p : Past) → IsPastOf D.device self s p
             → self.known.has_failed ≡ false → Always (D.device result) (StandsForCut self.known.layout s p.logged p.cut) }
     {
         self.disk

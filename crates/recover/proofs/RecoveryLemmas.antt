@@ -197,10 +197,12 @@ taken_if (Err e) P p = tt
 
 one_same : (call : Call) (a b : Device) → SameMoments a b → SameMoments (after_one call a) (after_one call b)
 one_same (Write at bytes) a b same = record {
+  name = same.name;
   now = ap (λ (m : Moment). let w : Moment = record { bytes = spliced m.bytes at bytes; pending = range_of at bytes ∷ m.pending } in w) same.now;
   past = λ i. same.now i ∷ same.past i;
 }
 one_same Sync a b same = record {
+  name = same.name;
   now = ap (λ (m : Moment). let w : Moment = record { bytes = m.bytes; pending = [] } in w) same.now;
   past = λ i. same.now i ∷ same.past i;
 }
