@@ -36,15 +36,15 @@ fn found_beside_open(alloc: Global) -> Option<[(u64, bool); 2]> {
 
 #[test]
 fn a_crash_after_any_section_leaves_a_whole_list(rt: HostRuntime) {
-    assert!(rt; found_alone(rt.alloc()) == Some([(131, true); 2]));
+    assert!(rt; found_alone(rt.alloc()) == Some([(100, true); 2]));
 }
 
 #[test]
 fn so_does_one_while_two_take_turns(rt: HostRuntime) {
-    assert!(rt; found_by_turns(rt.alloc()) == Some([(164, true); 2]));
+    assert!(rt; found_by_turns(rt.alloc()) == Some([(133, true); 2]));
 }
 
 #[test]
 fn so_does_one_beside_an_open_section(rt: HostRuntime) {
-    assert!(rt; found_beside_open(rt.alloc()) == Some([(165, true); 2]));
+    assert!(rt; found_beside_open(rt.alloc()) == Some([(134, true); 2]));
 }

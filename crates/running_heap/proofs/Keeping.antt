@@ -10,10 +10,9 @@ use Rattle.session.specs.Sessions.{ring_of, view_of}
 use Rattle.monitor.specs.Seats.{Home}
 use Rattle.steps.specs.Views.{plan}
 use Rattle.store_past.specs.Past.{Past}
-use Rattle.trim_helper.specs.Helping.{count_published, place_published}
 use Rattle.trim_helper.specs.Moves.{IsEndOf}
-use Rattle.trim_helper.specs.Parts.{IsServing, Parts}
-use Rattle.trim_helper.proofs.Rounds.{drains_same, drains_served, goes_drained, moved_seat}
+use Rattle.trim_helper.specs.Parts.{IsServing, Parts, taking_of}
+use Rattle.trim_helper.proofs.Rounds.{drained_same, drained_serves, goes_drained}
 use Rattle.running_heap.specs.Joined.{HasGoneOn, IsHelping}
 use Rattle.running_heap.specs.Laws.{CallLaw, DrainLaw, EndedLaw, RingsLaw, RoundLaw, WaitLaw}
 
@@ -62,7 +61,6 @@ goes_on device h p x y answer was on round = helps_on device h x y round.now was
 
 pub drains_on : {D : Type 0} (device : D → Device) → DrainLaw device
 drains_on device h x y n was seat drained quiet =
-    let on : HasGoneOn h x y = goes_drained h x y was.seat seat (drains_same _ _ _ _ _ _ _ _ n drained) drained.advances.layout in
-    let served = moved_seat count_published place_published _ _ _ _ _ y.is_settled (plan h) was.past n x.seat y.seat seat
-    (drains_served _ _ _ _ _ _ _ _ n x.is_settled y.is_settled (count_published x.seat) (place_published x.seat) (plan h) was.past drained quiet was.serving) in
+    let on : HasGoneOn h x y = goes_drained h x y was.seat seat (drained_same device (taking_of x) (taking_of y) n drained) drained.advances.layout in
+    let served = drained_serves device x y n (plan h) was.past drained seat quiet was.serving in
     (on, helps_on device h x y served.now was on served.serves)

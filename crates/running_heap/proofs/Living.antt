@@ -1,14 +1,13 @@
 -- A heap's life since its opening.
-use Rattle.std.proofs.Common.{ℕ, ◌≡◌, Bool, true, false, List, refl, sym, ◌∙◌, subst}
+use Rattle.std.proofs.Common.{◌≡◌, Bool, false, refl, sym, ◌∙◌, subst}
 use Rattle.block_disk.specs.Device.{Device}
 use Rattle.durable.specs.Runs.{HasRun}
 use Rattle.durable.proofs.Running.{ran_none, ran_then}
 use Rattle.monitor.specs.Seats.{Home}
 use Rattle.steps.specs.Views.{plan}
 use Rattle.store_past.specs.Past.{Past, no_past}
-use Rattle.trim_helper.specs.Helping.{count_published, place_published}
 use Rattle.trim_helper.specs.Parts.{IsServing, Parts}
-use Rattle.trim_helper.proofs.Rounds.{drains_served, moved_seat}
+use Rattle.trim_helper.proofs.Rounds.{drained_serves}
 use Rattle.running_heap.specs.Life.{BirthLaw, ClosedLifeLaw, DrainLifeLaw, HasLived, LifeLaw}
 
 module _ {D : Type 0} (device : D → Device) where
@@ -42,8 +41,7 @@ module _ {D : Type 0} (device : D → Device) where
 
   pub lives_drained : DrainLifeLaw device
   lives_drained h opened x y p n was seat drained quiet =
-      let served = moved_seat count_published place_published _ _ _ _ _ y.is_settled (plan h) p n x.seat y.seat seat
-      (drains_served _ _ _ _ _ _ _ _ n x.is_settled y.is_settled (count_published x.seat) (place_published x.seat) (plan h) p drained quiet was.serving) in
+      let served = drained_serves device x y n (plan h) p drained seat quiet was.serving in
       (served.now, lives_by h opened x y p served.now was drained.advances.layout served.ran served.serves (drained.advances.running ∙ was.running))
 
   pub lives_closed : ClosedLifeLaw device

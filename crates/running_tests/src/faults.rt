@@ -162,9 +162,9 @@ fn is_whole<R: Wait>(rt: &R, alloc: Global) -> Option<bool> {
 }
 
 // What recovery gives where one of the calls behind the making of the image fails, for each in turn.
-fn kept_in_a_round<R: Wait>(rt: &R, alloc: Global) -> [Option<u64>; 20] {
-    let mut kept = [None; 20];
-    for place in 0..20 {
+fn kept_in_a_round<R: Wait>(rt: &R, alloc: Global) -> [Option<u64>; 15] {
+    let mut kept = [None; 15];
+    for place in 0..15 {
         kept[place] = kept_at(rt, alloc, place as u64 + CALLS_OF_FORMAT + 1);
     }
     kept
@@ -175,12 +175,12 @@ fn all_sections_are_kept_at_the_end(rt: HostRuntime) {
     assert!(rt; is_whole(&rt, rt.alloc()) == Some(true));
 }
 
-// A round makes 19 calls, three reads of a gate among them. Whatever was sent is kept where the last one fails, which is the
-// sync behind the gate of the control that acknowledges it.
+// A round makes 14 calls, two reads of a slot's head among them. Whatever was sent is kept where the last one fails, which is the
+// sync behind the gate that makes the control count which acknowledges it.
 #[test]
 fn a_device_fails_at_each_call_of_a_round(rt: HostRuntime) {
-    let mut expected = [Some(0); 20];
-    expected[18] = Some(1);
-    expected[19] = None;
+    let mut expected = [Some(0); 15];
+    expected[13] = Some(1);
+    expected[14] = None;
     assert!(rt; kept_in_a_round(&rt, rt.alloc()) == expected);
 }

@@ -67,10 +67,9 @@ fn counts<R: Wait>(rt: &R, alloc: Global, sections: u32, again: bool) -> Option<
 }
 
 // The making of the image takes 10 writes and 3 syncs. A round takes a write for each of the section's three records, one for
-// its field, two for each of two controls, and one for each gate that it closes, which the first finds closed once; and 6
-// syncs. One with nothing new takes none.
+// its field, and two for each of two controls; and 4 syncs. One with nothing new takes none.
 #[test]
-fn a_round_makes_six_syncs(rt: HostRuntime) {
+fn a_round_makes_four_syncs(rt: HostRuntime) {
     let alloc = rt.alloc();
     let found = [
         counts(&rt, alloc, 0, false),
@@ -78,7 +77,7 @@ fn a_round_makes_six_syncs(rt: HostRuntime) {
         counts(&rt, alloc, 2, false),
         counts(&rt, alloc, 2, true),
     ];
-    let two = Some((10 + 9 + 10, 3 + 6 + 6));
-    let expected = [Some((10, 3)), Some((10 + 9, 3 + 6)), two, two];
+    let two = Some((10 + 8 + 8, 3 + 4 + 4));
+    let expected = [Some((10, 3)), Some((10 + 8, 3 + 4)), two, two];
     assert!(rt; found == expected);
 }

@@ -1,5 +1,5 @@
 -- Records are applied, one after the other.
-use Rattle.std.proofs.Common.{ℕ, ◌≡◌, ◌≢◌, ◌+◌, ◌*◌, ◌^◌, ◌<◌, ◌≤◌, if◌then◌else◌, Bool, true, false, List, [], ◌∷◌, ◌++◌, length, Option, None, Some, MatchOption, refl, sym, ap, ◌∙◌, subst, inl, inr, arith}
+use Rattle.std.proofs.Common.{ℕ, ◌≡◌, ◌≢◌, ◌+◌, ◌*◌, ◌^◌, ◌<◌, ◌≤◌, if◌then◌else◌, Bool, true, false, List, [], ◌∷◌, ◌++◌, length, Ok, Err, Option, None, Some, MatchOption, refl, sym, ap, ◌∙◌, subst, inl, inr, arith}
 use Rattle.std.proofs.lemmas.Bool.{cases_eq}
 use Rattle.std.proofs.lemmas.Bool.Decides.{eqb_tells}
 use Rattle.std.proofs.lemmas.List.{append-nil, append_assoc, length-append}
@@ -9,155 +9,174 @@ use Rattle.heap_model.specs.Setting.{Setting}
 use Rattle.block_disk.specs.Device.{Device}
 use Rattle.store_past.specs.Past.{Past, applied, after_apply}
 use Rattle.durable.specs.Calls.{RefusesApply}
-use Rattle.durable.specs.Store.{Known, HasPast}
+use Rattle.durable.specs.Store as stores
+use Rattle.durable.specs.Store.{HasPast}
 use Rattle.store_past.specs.declared.error.StoreError.{StoreError}
 use Rattle.store_past.specs.declared.error.StoreError.TheVariants.{Failed}
 use Rattle.trim_helper.specs.Rings.{received_of, known_of, held_back, waiting_in, stream}
 use Rattle.trim_helper.specs.Moves.{Moves, most_room, known_sum, held_sum}
-use Rattle.trim_helper.specs.Taken.{HasTaken, Advances, IsLaneStuck, applied_more}
+use Rattle.trim_helper.specs.Taken.{Taking, HasTaken, Advances, IsLaneStuck, IsStuckAt, applied_more}
+use Rattle.trim_helper.specs.Draining.{Empties, GoesOn, HasAll, Rests, RunsOn, Takes, Turns}
 use Rattle.trim_helper.proofs.Progress.{stream_own, stream_other}
 use Rattle.trim_helper.proofs.RingMoves.{same_refl, same_then, known_most, held_most}
 
-module _ {A P : Type 0} where
+whole_all : {A P : Type 0} → (r0 r1 : List (Consumer Record A P)) (w0 w1 : List (Option Record)) (lane : ℕ) (gone : List Record) → Moves lane gone r0 w0 r1 w1 → (l : ℕ) → received_of r1 l ++ known_of r1 l ≡ received_of r0 l ++ known_of r0 l
+whole_all r0 r1 w0 w1 lane gone moves l = elim (eqb_tells lane l) [
+  | inl e ↦ subst (λ k. received_of r1 k ++ known_of r1 k ≡ received_of r0 k ++ known_of r0 k) e.1 moves.whole
+  | inr e ↦ let o = moves.others l e.1 in ap (λ (xs : List Record). xs ++ known_of r1 l) o.0 ∙ ap (λ (xs : List Record). received_of r0 l ++ xs) o.1
+]
+
+-- the record that was fetched was applied
+pub moves_then : {A P : Type 0} → (r0 r1 r2 : List (Consumer Record A P)) (w0 w1 w2 : List (Option Record)) (lane : ℕ) (gone : List Record) → Moves lane [] r0 w0 r1 w1 → Moves lane gone r1 w1 r2 w2 → Moves lane gone r0 w0 r2 w2
+moves_then r0 r1 r2 w0 w1 w2 lane gone one two = record {
+  taken = λ before is. two.taken before (one.taken before is ∙ ap (λ (xs : List Record). xs ++ held_back (waiting_in w1 lane)) (append-nil before));
+  whole = two.whole ∙ one.whole;
+  others = λ l other. let a = one.others l other in let b = two.others l other in (b.0 ∙ a.0, b.1 ∙ a.1, b.2 ∙ a.2);
+  left = let a = one.left in let b = two.left in omega arith;
+  same = same_then r0 r1 r2 one.same two.same;
+  slots = two.slots ∙ one.slots;
+}
+
+module _ {D : Type 0} (device : D → Device) where
   -- nothing was applied, and a record may be held back
-  pub moved_has : (x : Known) (d : Device) (r0 r1 : List (Consumer Record A P)) (w0 w1 : List (Option Record)) (lane : ℕ) (s : Setting) (p : Past) → Moves lane [] r0 w0 r1 w1 → HasTaken x d r0 w0 s p → HasTaken x d r1 w1 s p
-  moved_has x d r0 r1 w0 w1 lane s p moves was = record {
-    has = was.has;
+  pub moved_has : (x y : Taking D) (lane : ℕ) (s : Setting) (p : Past) → Moves lane [] x.rings x.waiting y.rings y.waiting → y.store ≡ x.store → HasTaken device x s p → HasTaken device y s p
+  moved_has x y lane s p moves same was = record {
+    has = subst (λ (z : stores.Parts D). HasPast z.known s p (device z.disk)) (sym same) was.has;
     taken = λ l. elim (eqb_tells lane l) [
-      | inl e ↦ subst (λ k. received_of r1 k ≡ stream k (applied p) ++ held_back (waiting_in w1 k)) e.1
-          (moves.taken (stream lane (applied p)) (was.taken lane) ∙ ap (λ (xs : List Record). xs ++ held_back (waiting_in w1 lane)) (append-nil (stream lane (applied p))))
+      | inl e ↦ subst (λ k. received_of y.rings k ≡ stream k (applied p) ++ held_back (waiting_in y.waiting k)) e.1
+          (moves.taken (stream lane (applied p)) (was.taken lane) ∙ ap (λ (xs : List Record). xs ++ held_back (waiting_in y.waiting lane)) (append-nil (stream lane (applied p))))
       | inr e ↦ let o = moves.others l e.1 in o.0 ∙ was.taken l ∙ ap (λ v. stream l (applied p) ++ held_back v) (sym o.2)
     ];
   }
 
   -- one was applied
-  pub applied_has : (x x' : Known) (d d' : Device) (r0 r1 : List (Consumer Record A P)) (w0 w1 : List (Option Record)) (lane : ℕ) (r : Record) (s : Setting) (p : Past) → Moves lane (r ∷ []) r0 w0 r1 w1 → HasTaken x d r0 w0 s p →
-      HasPast x' s (after_apply p lane r) d' → HasTaken x' d' r1 w1 s (after_apply p lane r)
-  applied_has x x' d d' r0 r1 w0 w1 lane r s p moves was has = record {
+  pub applied_has : (x y : Taking D) (lane : ℕ) (r : Record) (s : Setting) (p : Past) → Moves lane (r ∷ []) x.rings x.waiting y.rings y.waiting → HasTaken device x s p →
+      HasPast y.store.known s (after_apply p lane r) (device y.store.disk) → HasTaken device y s (after_apply p lane r)
+  applied_has x y lane r s p moves was has = record {
     has = has;
     taken = λ l. elim (eqb_tells lane l) [
-      | inl e ↦ subst (λ k. received_of r1 k ≡ stream k ((lane, r) ∷ applied p) ++ held_back (waiting_in w1 k)) e.1
-          (moves.taken (stream lane (applied p)) (was.taken lane) ∙ ap (λ (xs : List Record). xs ++ held_back (waiting_in w1 lane)) (sym (stream_own lane r (applied p))))
+      | inl e ↦ subst (λ k. received_of y.rings k ≡ stream k ((lane, r) ∷ applied p) ++ held_back (waiting_in y.waiting k)) e.1
+          (moves.taken (stream lane (applied p)) (was.taken lane) ∙ ap (λ (xs : List Record). xs ++ held_back (waiting_in y.waiting lane)) (sym (stream_own lane r (applied p))))
       | inr e ↦ let o = moves.others l e.1 in
-          o.0 ∙ was.taken l ∙ ap (λ v. stream l (applied p) ++ held_back v) (sym o.2) ∙ ap (λ (xs : List Record). xs ++ held_back (waiting_in w1 l)) (sym (stream_other l lane r (applied p) e.1))
+          o.0 ∙ was.taken l ∙ ap (λ v. stream l (applied p) ++ held_back v) (sym o.2) ∙ ap (λ (xs : List Record). xs ++ held_back (waiting_in y.waiting l)) (sym (stream_other l lane r (applied p) e.1))
     ];
   }
 
-  whole_all : (r0 r1 : List (Consumer Record A P)) (w0 w1 : List (Option Record)) (lane : ℕ) (gone : List Record) → Moves lane gone r0 w0 r1 w1 → (l : ℕ) → received_of r1 l ++ known_of r1 l ≡ received_of r0 l ++ known_of r0 l
-  whole_all r0 r1 w0 w1 lane gone moves l = elim (eqb_tells lane l) [
-    | inl e ↦ subst (λ k. received_of r1 k ++ known_of r1 k ≡ received_of r0 k ++ known_of r0 k) e.1 moves.whole
-    | inr e ↦ let o = moves.others l e.1 in ap (λ (xs : List Record). xs ++ known_of r1 l) o.0 ∙ ap (λ (xs : List Record). received_of r0 l ++ xs) o.1
-  ]
-
-  pub advances_none : (x x' : Known) (d d' : Device) (r0 r1 : List (Consumer Record A P)) (w0 w1 : List (Option Record)) (lane : ℕ) → Moves lane [] r0 w0 r1 w1 → x' ≡ x → d' ≡ d → Advances x d r0 w0 x' d' r1 w1 0
-  advances_none x x' d d' r0 r1 w0 w1 lane moves same still = record {
-    made = λ s p has. ([], refl, subst (λ z. HasTaken z d' r1 w1 s p) (sym same) (subst (λ z. HasTaken x z r1 w1 s p) (sym still) (moved_has x d r0 r1 w0 w1 lane s p moves has)));
-    whole = whole_all r0 r1 w0 w1 lane [] moves;
+  pub advances_none : (x y : Taking D) (lane : ℕ) → Moves lane [] x.rings x.waiting y.rings y.waiting → y.store ≡ x.store → Advances device x y 0
+  advances_none x y lane moves same = record {
+    made = λ s p has. ([], refl, moved_has x y lane s p moves same has);
+    whole = whole_all x.rings y.rings x.waiting y.waiting lane [] moves;
     left = moves.left;
     same = moves.same;
     slots = moves.slots;
-    layout = ap (λ (z : Known). z.layout) same;
-    running = ap (λ (z : Known). z.has_failed) same;
-    device = still;
+    layout = ap (λ (z : stores.Parts D). z.known.layout) same;
+    running = ap (λ (z : stores.Parts D). z.known.has_failed) same;
+    uncalled = ap (λ (z : stores.Parts D). device z.disk) same;
   }
 
-  pub advances_one : (x x' : Known) (d d' : Device) (r0 r1 : List (Consumer Record A P)) (w0 w1 : List (Option Record)) (lane : ℕ) (r : Record) → Moves lane (r ∷ []) r0 w0 r1 w1 →
-      ((s : Setting) (p : Past) → HasPast x s p d → HasPast x' s (after_apply p lane r) d') → x'.layout ≡ x.layout → x'.has_failed ≡ x.has_failed → d' ≡ d → Advances x d r0 w0 x' d' r1 w1 1
-  advances_one x x' d d' r0 r1 w0 w1 lane r moves makes layout running still = record {
-    made = λ s p has. ((lane, r) ∷ [], refl, applied_has x x' d d' r0 r1 w0 w1 lane r s p moves has (makes s p has.has));
-    whole = whole_all r0 r1 w0 w1 lane (r ∷ []) moves;
+  pub advances_one : (x y : Taking D) (lane : ℕ) (r : Record) → Moves lane (r ∷ []) x.rings x.waiting y.rings y.waiting →
+      ((s : Setting) (p : Past) → HasPast x.store.known s p (device x.store.disk) → HasPast y.store.known s (after_apply p lane r) (device y.store.disk)) → y.store.known.layout ≡ x.store.known.layout →
+      y.store.known.has_failed ≡ x.store.known.has_failed → y.store.disk ≡ x.store.disk → Advances device x y 1
+  advances_one x y lane r moves makes layout running same = record {
+    made = λ s p has. ((lane, r) ∷ [], refl, applied_has x y lane r s p moves has (makes s p has.has));
+    whole = whole_all x.rings y.rings x.waiting y.waiting lane (r ∷ []) moves;
     left = moves.left;
     same = moves.same;
     slots = moves.slots;
     layout = layout;
     running = running;
-    device = still;
+    uncalled = ap device same;
   }
 
-  pub advances_start : (x : Known) (d : Device) (r : List (Consumer Record A P)) (w : List (Option Record)) → Advances x d r w x d r w 0
-  advances_start x d r w = record { made = λ s p has. ([], refl, has); whole = λ l. refl; left = omega arith; same = same_refl r; slots = refl; layout = refl; running = refl; device = refl }
+  pub advances_start : (x : Taking D) → Advances device x x 0
+  advances_start x = record { made = λ s p has. ([], refl, has); whole = λ l. refl; left = omega arith; same = same_refl x.rings; slots = refl; layout = refl; running = refl; uncalled = refl }
 
-  pub advances_then : (x y z : Known) (d e f : Device) (r0 r1 r2 : List (Consumer Record A P)) (w0 w1 w2 : List (Option Record)) (n m : ℕ) → Advances x d r0 w0 y e r1 w1 n → Advances y e r1 w1 z f r2 w2 m → Advances x d r0 w0 z f r2 w2 (n + m)
-  advances_then x y z d e f r0 r1 r2 w0 w1 w2 n m one two = record {
+  pub advances_then : (x y z : Taking D) (n m : ℕ) → Advances device x y n → Advances device y z m → Advances device x z (n + m)
+  advances_then x y z n m one two = record {
     made = λ s p has.
         let first = one.made s p has in
         let after = two.made s (applied_more first.0 p) first.2 in (
           after.0 ++ first.0,
           length-append after.0 first.0 ∙ (let a = first.1 in let b = after.1 in omega arith),
-          subst (λ (xs : List (ℕ × Record)). HasTaken z f r2 w2 s (record p { fresh = xs })) (sym (append_assoc after.0 first.0 p.fresh)) after.2,
+          subst (λ (xs : List (ℕ × Record)). HasTaken device z s (record p { fresh = xs })) (sym (append_assoc after.0 first.0 p.fresh)) after.2,
         );
     whole = λ l. two.whole l ∙ one.whole l;
     left = let a = one.left in let b = two.left in omega arith;
-    same = same_then r0 r1 r2 one.same two.same;
+    same = same_then x.rings y.rings z.rings one.same two.same;
     slots = two.slots ∙ one.slots;
     layout = two.layout ∙ one.layout;
     running = two.running ∙ one.running;
-    device = two.device ∙ one.device;
+    uncalled = two.uncalled ∙ one.uncalled;
   }
 
-  -- the record is refused, so the lane doesn't go on
-  pub stuck_here : (x : Known) (d : Device) (r : List (Consumer Record A P)) (w : List (Option Record)) (lane : ℕ) (q : Record) (e : StoreError) → waiting_in w lane ≡ Some q → e ≢ Failed → ((s : Setting) (p : Past) → HasPast x s p d → RefusesApply x s p lane q e) →
-      (s : Setting) (p : Past) → HasPast x s p d → IsLaneStuck x r w s p lane
-  stuck_here x d r w lane q e is not why s p has = subst (λ (v : Option Record). MatchOption v (known_of r lane ≡ []) (λ k. (f : StoreError) × (f ≢ Failed) × RefusesApply x s p lane k f)) (sym is) (e, not, why s p has)
+  pub advances_done : (x y z : Taking D) (n m : ℕ) → Advances device x y n → Advances device y z m → m ≡ 0 → Advances device x z n
+  advances_done x y z n m one two none = subst (λ k. Advances device x z k) (omega arith) (advances_then x y z n m one two)
 
-  pub stuck_empty : (x : Known) (r : List (Consumer Record A P)) (w : List (Option Record)) (lane : ℕ) → waiting_in w lane ≡ None → known_of r lane ≡ [] → (s : Setting) (p : Past) → IsLaneStuck x r w s p lane
-  stuck_empty x r w lane is none s p = subst (λ (v : Option Record). MatchOption v (known_of r lane ≡ []) (λ k. (f : StoreError) × (f ≢ Failed) × RefusesApply x s p lane k f)) (sym is) none
+  -- what is known and not applied gets less
+  pub turn_less : (x y : Taking D) (m : ℕ) → Advances device x y m → m ≢ 0 → known_sum y.rings + held_sum y.waiting < known_sum x.rings + held_sum x.waiting
+  turn_less x y m one some = let left = one.left in omega arith
 
-  pub stuck_still : (x x' : Known) (r0 r1 : List (Consumer Record A P)) (w0 w1 : List (Option Record)) (lane l : ℕ) (s : Setting) (p : Past) → Moves lane [] r0 w0 r1 w1 → x' ≡ x → lane ≢ l → IsLaneStuck x r0 w0 s p l → IsLaneStuck x' r1 w1 s p l
-  stuck_still x x' r0 r1 w0 w1 lane l s p moves same other was =
-      let o = moves.others l other in
-      subst (λ (z : Known). IsLaneStuck z r1 w1 s p l) (sym same)
-      (subst (λ (v : Option Record). MatchOption v (known_of r1 l ≡ []) (λ k. (f : StoreError) × (f ≢ Failed) × RefusesApply x s p l k f)) (sym o.2)
-      (subst (λ (xs : List Record). MatchOption (waiting_in w0 l) (xs ≡ []) (λ k. (f : StoreError) × (f ≢ Failed) × RefusesApply x s p l k f)) (sym o.1) was))
-
-  -- the record that was fetched was applied
-  pub moves_then : (r0 r1 r2 : List (Consumer Record A P)) (w0 w1 w2 : List (Option Record)) (lane : ℕ) (gone : List Record) → Moves lane [] r0 w0 r1 w1 → Moves lane gone r1 w1 r2 w2 → Moves lane gone r0 w0 r2 w2
-  moves_then r0 r1 r2 w0 w1 w2 lane gone one two = record {
-    taken = λ before is. two.taken before (one.taken before is ∙ ap (λ (xs : List Record). xs ++ held_back (waiting_in w1 lane)) (append-nil before));
-    whole = two.whole ∙ one.whole;
-    others = λ l other. let a = one.others l other in let b = two.others l other in (b.0 ∙ a.0, b.1 ∙ a.1, b.2 ∙ a.2);
-    left = let a = one.left in let b = two.left in omega arith;
-    same = same_then r0 r1 r2 one.same two.same;
-    slots = two.slots ∙ one.slots;
-  }
-
--- The lanes below this one had their turn, and so many records were applied.
-pub record Turned {A P : Type 0} (x : Known) (d : Device) (r0 : List (Consumer Record A P)) (w0 : List (Option Record)) (x' : Known) (d' : Device) (r1 : List (Consumer Record A P)) (w1 : List (Option Record)) (went lane : ℕ) : Type 0 where
-  pub advances : Advances x d r0 w0 x' d' r1 w1 went
-  pub stuck : went ≡ 0 → (l : ℕ) (s : Setting) (p : Past) → l < lane → HasPast x' s p d' → IsLaneStuck x' r1 w1 s p l
-
-module _ {A P : Type 0} where
-  pub turned_none : (x : Known) (d : Device) (r : List (Consumer Record A P)) (w : List (Option Record)) → Turned x d r w x d r w 0 0
-  turned_none x d r w = record { advances = advances_start x d r w; stuck = λ none l s p lt has. absurd (omega arith) }
-
-  pub turned_more : (x y z : Known) (d e f : Device) (r0 r1 r2 : List (Consumer Record A P)) (w0 w1 w2 : List (Option Record)) (went n lane : ℕ) → Turned x d r0 w0 y e r1 w1 went lane →
-      Advances y e r1 w1 z f r2 w2 n → (n ≡ 0 → (y ≡ z) × (e ≡ f)) → ((s : Setting) (p : Past) → HasPast z s p f → IsLaneStuck z r2 w2 s p lane) →
-      ((l : ℕ) (s : Setting) (p : Past) → n ≡ 0 → lane ≢ l → IsLaneStuck y r1 w1 s p l → IsLaneStuck z r2 w2 s p l) → Turned x d r0 w0 z f r2 w2 (went + n) (lane + 1)
-  turned_more x y z d e f r0 r1 r2 w0 w1 w2 went n lane was on same here others = record {
-    advances = advances_then x y z d e f r0 r1 r2 w0 w1 w2 went n was.advances on;
-    stuck = λ none l s p lt has.
-        let not : n ≡ 0 = omega arith in
-        elim (cases_eq lane l) [
-          | inl at ↦ subst (λ k. IsLaneStuck z r2 w2 s p k) at (here s p has)
-          | inr other ↦ others l s p not other (was.stuck (omega arith) l s p (omega arith) (subst (λ k. HasPast y s p k) (sym (same not).1) (subst (λ k. HasPast k s p f) (sym (same not).0) has)))
-        ];
-  }
-
-module _ {A P : Type 0} where
-  pub advances_done : (x y z : Known) (d e f : Device) (r0 r1 r2 : List (Consumer Record A P)) (w0 w1 w2 : List (Option Record)) (n m : ℕ) → Advances x d r0 w0 y e r1 w1 n → Advances y e r1 w1 z f r2 w2 m → m ≡ 0 → Advances x d r0 w0 z f r2 w2 n
-  advances_done x y z d e f r0 r1 r2 w0 w1 w2 n m one two none = subst (λ k. Advances x d r0 w0 z f r2 w2 k) (omega arith) (advances_then x y z d e f r0 r1 r2 w0 w1 w2 n m one two)
-
-  pub turn_less : (x y : Known) (d e : Device) (r0 r1 : List (Consumer Record A P)) (w0 w1 : List (Option Record)) (m : ℕ) → Advances x d r0 w0 y e r1 w1 m → m ≢ 0 → known_sum r1 + held_sum w1 < known_sum r0 + held_sum w0
-  turn_less x y d e r0 r1 w0 w1 m one some = let left = one.left in omega arith
-
-  pub count_most : (x y z : Known) (d e f : Device) (r0 r1 r2 : List (Consumer Record A P)) (w0 w1 w2 : List (Option Record)) (n m : ℕ) → Advances x d r0 w0 y e r1 w1 n → Advances y e r1 w1 z f r2 w2 m →
-      most_room r0 ≤ 4096 → length r0 ≤ 32 → length w0 ≡ 32 → n + m < 2 ^ 64
-  count_most x y z d e f r0 r1 r2 w0 w1 w2 n m one two room few slots =
+  -- so the count stays small
+  pub count_most : (x y z : Taking D) (n m : ℕ) → Advances device x y n → Advances device y z m → most_room x.rings ≤ 4096 → length x.rings ≤ 32 → length x.waiting ≡ 32 → n + m < 2 ^ 64
+  count_most x y z n m one two room few slots =
       let a = one.left in
       let b = two.left in
-      let most : known_sum r0 ≤ length r0 * 4096 = known_most 4096 r0 room in
-      let held : held_sum w0 ≤ length w0 = held_most w0 in
+      let most : known_sum x.rings ≤ length x.rings * 4096 = known_most 4096 x.rings room in
+      let held : held_sum x.waiting ≤ length x.waiting = held_most x.waiting in
       omega arith
+
+  -- the record is refused, so the lane doesn't go on
+  pub stuck_here : (x y : Taking D) (lane : ℕ) (q : Record) (e : StoreError) → waiting_in y.waiting lane ≡ Some q → e ≢ Failed → y.store ≡ x.store →
+      ((s : Setting) (p : Past) → HasPast x.store.known s p (device x.store.disk) → RefusesApply x.store.known s p lane q e) → IsStuckAt device y lane
+  stuck_here x y lane q e is not same why s p has =
+      subst (λ (v : Option Record). MatchOption v (known_of y.rings lane ≡ []) (λ k. (f : StoreError) × (f ≢ Failed) × RefusesApply y.store.known s p lane k f)) (sym is)
+      (e, not, subst (λ (z : stores.Parts D). RefusesApply z.known s p lane q e) (sym same) (why s p (subst (λ (z : stores.Parts D). HasPast z.known s p (device z.disk)) same has)))
+
+  -- none waits, and none is known to be in the ring
+  pub stuck_empty : (y : Taking D) (lane : ℕ) → (w : Option Record) → waiting_in y.waiting lane ≡ w → ((q : Record) → w ≡ Some q → ⊥) → (waiting_in y.waiting lane ≡ None → known_of y.rings lane ≡ []) → IsStuckAt device y lane
+  stuck_empty y lane None is not none s p has =
+      subst (λ (v : Option Record). MatchOption v (known_of y.rings lane ≡ []) (λ k. (f : StoreError) × (f ≢ Failed) × RefusesApply y.store.known s p lane k f)) (sym is) (none is)
+  stuck_empty y lane (Some q) is not none s p has = absurd (not q refl)
+
+  -- so the lane rests
+  pub rests_so : (x y : Taking D) (lane : ℕ) → Moves lane [] x.rings x.waiting y.rings y.waiting → y.store ≡ x.store → IsStuckAt device y lane → Rests device lane x y
+  rests_so x y lane moves same stuck = record {
+    store = same;
+    stuck = stuck;
+    others = λ l s p other was.
+        let o = moves.others l other in
+        subst (λ (z : stores.Parts D). IsLaneStuck z.known y.rings y.waiting s p l) (sym same)
+        (subst (λ (v : Option Record). MatchOption v (known_of y.rings l ≡ []) (λ k. (f : StoreError) × (f ≢ Failed) × RefusesApply x.store.known s p l k f)) (sym o.2)
+        (subst (λ (xs : List Record). MatchOption (waiting_in x.waiting l) (xs ≡ []) (λ k. (f : StoreError) × (f ≢ Failed) × RefusesApply x.store.known s p l k f)) (sym o.1) was));
+  }
+
+  pub takes_done : (x y : Taking D) (n : ℕ) → Advances device x y n → Takes device x y (Ok n)
+  takes_done x y n on = record { ok = on; kept = tt; failed = tt; why = λ s p taken. tt }
+
+  -- what went before a refusal stands
+  pub takes_failed : (x y z : Taking D) (n : ℕ) (e : StoreError) → Advances device x y n → Takes device y z (Err e) → Takes device x z (Err e)
+  takes_failed x y z n e on last = record {
+    ok = tt;
+    kept = (n + last.kept.0, advances_then x y z n last.kept.0 on last.kept.1);
+    failed = last.failed;
+    why = λ s p taken. let made = on.made s p taken in sym on.running ∙ last.why s (applied_more made.0 p) made.2;
+  }
+
+  -- nothing went, and the lane rests
+  pub goes_not : (x y : Taking D) (lane : ℕ) → Moves lane [] x.rings x.waiting y.rings y.waiting → y.store ≡ x.store → IsStuckAt device y lane → GoesOn device lane x y (Ok false)
+  goes_not x y lane moves same stuck = record { takes = takes_done x y 0 (advances_none x y lane moves same); rests = λ none. rests_so x y lane moves same stuck }
+
+  -- one went
+  pub goes_one : (x y : Taking D) (lane : ℕ) → Advances device x y 1 → GoesOn device lane x y (Ok true)
+  goes_one x y lane on = record { takes = takes_done x y 1 on; rests = λ no. absurd (let not : true ≡ false = no in cc) }
+
+  -- the store has failed
+  pub goes_failed : (x y : Taking D) (lane : ℕ) (e : StoreError) → Moves lane [] x.rings x.waiting y.rings y.waiting → y.store ≡ x.store → e ≡ Failed →
+      ((s : Setting) (p : Past) → HasPast x.store.known s p (device x.store.disk) → x.store.known.has_failed ≡ true) → GoesOn device lane x y (Err e)
+  goes_failed x y lane e moves same is why = record {
+    takes = record { ok = tt; kept = (0, advances_none x y lane moves same); failed = is; why = λ s p taken. why s p taken.has };
+    rests = tt;
+  }
 
 -- how many records that is
 abbrev went_of : Bool → ℕ
@@ -171,17 +190,62 @@ none_is : (b : Bool) → b ≡ false → went_of b ≡ 0
 none_is true is = absurd (let no : true ≡ false = is in cc)
 none_is false is = refl
 
-module _ {A P : Type 0} where
-  -- one record more was applied, or none
-  pub advances_by_one : (x y z : Known) (d e f : Device) (r0 r1 r2 : List (Consumer Record A P)) (w0 w1 w2 : List (Option Record)) (n : ℕ) (b : Bool) → b ≡ true → Advances x d r0 w0 y e r1 w1 n → Advances y e r1 w1 z f r2 w2 (if b then 1 else 0) → Advances x d r0 w0 z f r2 w2 (n + 1)
-  advances_by_one x y z d e f r0 r1 r2 w0 w1 w2 n b is one two = subst (λ k. Advances x d r0 w0 z f r2 w2 (n + k)) (one_is b is) (advances_then x y z d e f r0 r1 r2 w0 w1 w2 n (if b then 1 else 0) one two)
+module _ {D : Type 0} (device : D → Device) where
+  -- one record more was applied
+  pub advances_by_one : (x y z : Taking D) (lane n : ℕ) (b : Bool) → b ≡ true → Advances device x y n → GoesOn device lane y z (Ok b) → Advances device x z (n + 1)
+  advances_by_one x y z lane n b is one go = subst (λ k. Advances device x z (n + k)) (one_is b is) (advances_then device x y z n (if b then 1 else 0) one go.takes.ok)
 
-  pub advances_by_none : (x y z : Known) (d e f : Device) (r0 r1 r2 : List (Consumer Record A P)) (w0 w1 w2 : List (Option Record)) (n : ℕ) (b : Bool) → b ≡ false → Advances x d r0 w0 y e r1 w1 n → Advances y e r1 w1 z f r2 w2 (if b then 1 else 0) → Advances x d r0 w0 z f r2 w2 n
-  advances_by_none x y z d e f r0 r1 r2 w0 w1 w2 n b is one two = advances_done x y z d e f r0 r1 r2 w0 w1 w2 n (if b then 1 else 0) one two (none_is b is)
+  pub count_one_more : (x y z : Taking D) (lane n : ℕ) (b : Bool) → b ≡ true → Advances device x y n → GoesOn device lane y z (Ok b) → most_room x.rings ≤ 4096 → length x.rings ≤ 32 → length x.waiting ≡ 32 → n + 1 < 2 ^ 64
+  count_one_more x y z lane n b is one go room few slots = subst (λ k. n + k < 2 ^ 64) (one_is b is) (count_most device x y z n (if b then 1 else 0) one go.takes.ok room few slots)
 
-  pub count_one_more : (x y z : Known) (d e f : Device) (r0 r1 r2 : List (Consumer Record A P)) (w0 w1 w2 : List (Option Record)) (n : ℕ) (b : Bool) → b ≡ true → Advances x d r0 w0 y e r1 w1 n → Advances y e r1 w1 z f r2 w2 (if b then 1 else 0) →
-      most_room r0 ≤ 4096 → length r0 ≤ 32 → length w0 ≡ 32 → n + 1 < 2 ^ 64
-  count_one_more x y z d e f r0 r1 r2 w0 w1 w2 n b is one two room few slots = subst (λ k. n + k < 2 ^ 64) (one_is b is) (count_most x y z d e f r0 r1 r2 w0 w1 w2 n (if b then 1 else 0) one two room few slots)
+  pub goes_less : (x y : Taking D) (lane : ℕ) (b : Bool) → b ≡ true → GoesOn device lane x y (Ok b) → known_sum y.rings + held_sum y.waiting < known_sum x.rings + held_sum x.waiting
+  goes_less x y lane b is go = turn_less device x y 1 (subst (λ k. Advances device x y k) (one_is b is) go.takes.ok) (λ no. absurd (omega arith))
+
+  -- the lane has run on as long as it could
+  pub runs_done : (x y z : Taking D) (lane n : ℕ) (b : Bool) → b ≡ false → Advances device x y n → (n ≡ 0 → y ≡ x) → GoesOn device lane y z (Ok b) → RunsOn device lane x z (Ok n)
+  runs_done x y z lane n b not one still go =
+      let rests = go.rests not in
+      record {
+        takes = takes_done device x z n (advances_done device x y z n (if b then 1 else 0) one go.takes.ok (none_is b not));
+        stuck = rests.stuck;
+        rests = λ none. subst (λ k. Rests device lane k z) (still none) rests;
+      }
+
+  pub runs_failed : (x y z : Taking D) (lane n : ℕ) (e : StoreError) → Advances device x y n → GoesOn device lane y z (Err e) → RunsOn device lane x z (Err e)
+  runs_failed x y z lane n e one go = record { takes = takes_failed device x y z n e one go.takes; stuck = tt; rests = tt }
+
+  -- The lanes below this one had their turn, and so many records were applied.
+  pub record Turned (x y : Taking D) (went lane : ℕ) : Type 0 where
+    pub advances : Advances device x y went
+    pub stuck : went ≡ 0 → (l : ℕ) → l < lane → IsStuckAt device y l
+
+  pub turned_none : (x : Taking D) → Turned x x 0 0
+  turned_none x = record { advances = advances_start device x; stuck = λ none l lt. absurd (omega arith) }
+
+  pub turned_more : (x y z : Taking D) (went n lane : ℕ) → Turned x y went lane → RunsOn device lane y z (Ok n) → Turned x z (went + n) (lane + 1)
+  turned_more x y z went n lane was ran = record {
+    advances = advances_then device x y z went n was.advances ran.takes.ok;
+    stuck = λ none l lt.
+        let rests : Rests device lane y z = ran.rests (omega arith) in
+        elim (cases_eq lane l) [
+          | inl at ↦ subst (λ k. IsStuckAt device z k) at ran.stuck
+          | inr other ↦ λ s p has. rests.others l s p other (was.stuck (omega arith) l (omega arith) s p (subst (λ (k : stores.Parts D). HasPast k.known s p (device k.disk)) rests.store has))
+        ];
+  }
+
+  -- each lane had its turn
+  pub turns_done : (x y : Taking D) (went lane : ℕ) → length y.rings ≤ lane → Turned x y went lane → Turns device x y (Ok went)
+  turns_done x y went lane all was = record { takes = takes_done device x y went was.advances; stuck = λ none l lt. was.stuck none l (omega arith) }
+
+  pub turns_failed : (x y z : Taking D) (went lane : ℕ) (e : StoreError) → Turned x y went lane → RunsOn device lane y z (Err e) → Turns device x z (Err e)
+  turns_failed x y z went lane e was ran = record { takes = takes_failed device x y z went e was.advances ran.takes; stuck = tt }
+
+  -- a turn in which none went was the last
+  pub empties_done : (x y z : Taking D) (n m : ℕ) → m ≡ 0 → Advances device x y n → Turns device y z (Ok m) → HasAll device z → Empties device x z (Ok n)
+  empties_done x y z n m none one last all = record { takes = takes_done device x z n (advances_done device x y z n m one last.takes.ok none); stuck = last.stuck none; whole = all }
+
+  pub empties_failed : (x y z : Taking D) (n : ℕ) (e : StoreError) → Advances device x y n → Turns device y z (Err e) → Empties device x z (Err e)
+  empties_failed x y z n e one last = record { takes = takes_failed device x y z n e one last.takes; stuck = tt; whole = tt }
 
 pub longer : (k n m : ℕ) → m ≡ n → k < n → k < m
 longer k n m e lt = omega arith

@@ -23,12 +23,14 @@ use Rattle.undo_log.specs.StandsFor.{StandsFor}
 use Rattle.store_image.specs.KeptHeap.{StandsForCut, values_below}
 use Rattle.store_past.specs.Past.{Past, applied}
 use Rattle.durable.specs.Runs.{HasRun}
+use Rattle.durable.specs.Store as stores
 use Rattle.durable.specs.Store.{Known, HasPast}
 use Rattle.durable.proofs.Running.{left_always}
 use Rattle.store_image.proofs.Stands.{same_heap, stands_always}
 use Rattle.trim_helper.specs.Rings.{received_of, known_of, stream}
 use Rattle.trim_helper.specs.Limits.{KeepsLimits}
-use Rattle.trim_helper.specs.Taken.{HasTaken, Advances, IsLaneStuck, applied_more, trimmed_of}
+use Rattle.trim_helper.specs.Endings.{Rings}
+use Rattle.trim_helper.specs.Taken.{Taking, HasTaken, Advances, AllStuck, applied_more, trimmed_of, with_rings}
 use Rattle.trim_helper.specs.Settled.{IsSettled, closed_value}
 use Rattle.trim_helper.specs.Serving.{Part, Among, IsOneHistory}
 use Rattle.trim_helper.specs.Meeting.{HasPart, HaveMet}
@@ -51,7 +53,7 @@ received_past [] l le = refl
 received_past (c ∷ cs) zero le = absurd (omega arith)
 received_past (c ∷ cs) (suc l) le = received_past cs l (omega arith)
 
-module _ {A P : Type 0} (s : Setting) (lanes capacity : ℕ) (place : ℕ → ℕ) (parts : List Part) (h : List (ℕ × Event)) (one : IsOneHistory s lanes parts h) (r1 : List (Consumer Record A P)) (met : HaveMet s r1 parts capacity)
+module _ (s : Setting) (lanes capacity : ℕ) (place : ℕ → ℕ) (parts : List Part) (h : List (ℕ × Event)) (one : IsOneHistory s lanes parts h) (r1 : Rings) (met : HaveMet s r1 parts capacity)
     (present : (l : ℕ) → l < lanes → HasPart parts l) (count : length r1 ≡ lanes) (log_law : LogLaw) (own_log_law : OwnLogLaw) where
   abbrev log : List (ℕ × Record)
   log = log_of s h
@@ -76,15 +78,16 @@ module _ {A P : Type 0} (s : Setting) (lanes capacity : ℕ) (place : ℕ → �
   ]
 
   -- All that was sent is applied.
-  pub all_applied : (x x' : Known) (d d' : Device) (r2 : List (Consumer Record A P)) (w1 w2 : List (Option Record)) (n : ℕ) (p : Past) → NextLaw → HasTaken x d r1 w1 s p → lanes ≡ x.layout.lanes → capacity ≡ x.layout.capacity →
-      ((x : Part) → Among parts x → x.place ≤ place x.lane) → ((l : ℕ) → l < lanes → place l ≤ trimmed_of p l) → Advances x d r1 w1 x' d' r2 w2 n → ((l : ℕ) (s : Setting) (p : Past) → l < length r2 → HasPast x' s p d' → IsLaneStuck x' r2 w2 s p l) →
-      (newer : List (ℕ × Record)) × HasTaken x' d' r2 w2 s (applied_more newer p) × ((l : ℕ) → lane l (applied (applied_more newer p)) ≡ lane l log)
-  all_applied x x' d d' r2 w1 w2 n p next taken same room read places on stuck =
+  pub all_applied : {D : Type 0} (device : D → Device) (store : stores.Parts D) (w1 : List (Option Record)) (y : Taking D) (n : ℕ) (p : Past) → NextLaw → HasTaken device (with_rings store r1 w1) s p → lanes ≡ store.known.layout.lanes →
+      capacity ≡ store.known.layout.capacity →
+      ((x : Part) → Among parts x → x.place ≤ place x.lane) → ((l : ℕ) → l < lanes → place l ≤ trimmed_of p l) → Advances device (with_rings store r1 w1) y n → AllStuck device y →
+      (newer : List (ℕ × Record)) × HasTaken device y s (applied_more newer p) × ((l : ℕ) → lane l (applied (applied_more newer p)) ≡ lane l log)
+  all_applied device store w1 y n p next taken same room read places on stuck =
       let made = on.made s p taken in
-      let lanes' : x'.layout.lanes ≡ lanes = ap (λ l. l.lanes) on.layout ∙ sym same in
-      let room' : x'.layout.capacity ≡ capacity = ap (λ l. l.capacity) on.layout ∙ sym room in
-      let count' : length r2 ≡ lanes = on.same.count ∙ count in
-      let limits : (l : ℕ) → l < x'.layout.lanes → KeepsLimits (trimmed_of (applied_more made.0 p) l) x'.layout.capacity (lane l log) = λ l lt.
+      let lanes' : y.store.known.layout.lanes ≡ lanes = ap (λ l. l.lanes) on.layout ∙ sym same in
+      let room' : y.store.known.layout.capacity ≡ capacity = ap (λ l. l.capacity) on.layout ∙ sym room in
+      let count' : length y.rings ≡ lanes = on.same.count ∙ count in
+      let limits : (l : ℕ) → l < y.store.known.layout.lanes → KeepsLimits (trimmed_of (applied_more made.0 p) l) y.store.known.layout.capacity (lane l log) = λ l lt.
       let low : l < lanes = omega arith in
       let here = present l low in
       subst (λ (k : ℕ). KeepsLimits (trimmed_of p l) k (lane l log)) (sym room')
@@ -92,7 +95,8 @@ module _ {A P : Type 0} (s : Setting) (lanes capacity : ℕ) (place : ℕ → �
       (limits_more here.0.place (trimmed_of p l) capacity (own_log s here.0.events) (let at : place here.0.lane ≡ place l = ap place here.2 in omega (arith, read here.0 here.1, places l low)) (met.limits here.0 here.1))) in (
         made.0,
         made.2,
-        drained x' d' r2 w2 s (applied_more made.0 p) made.2 log (log_law s h one.legal) next (λ l. streams l ∙ sym (on.whole l)) (λ l le. none_past l (omega arith)) limits (λ l lt. stuck l s (applied_more made.0 p) (omega arith) made.2.has),
+        drained device y s (applied_more made.0 p) made.2 log (log_law s h one.legal) next (λ l. streams l ∙ sym (on.whole l)) (λ l le. none_past l (omega arith)) limits
+            (λ l lt. stuck l (omega arith) s (applied_more made.0 p) made.2.has),
       )
 
 module _ (s : Setting) (lanes : ℕ) (parts : List Part) (h : List (ℕ × Event)) (one : IsOneHistory s lanes parts h) (log_law : LogLaw) (order_law : OrderLaw) (all_kept : AllKeptLaw) (one_stable : OneStableLaw) (unlogged : UnloggedLaw)

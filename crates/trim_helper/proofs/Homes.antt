@@ -1,9 +1,8 @@
 -- Logged values go home, and the stable cut is acknowledged.
-use Rattle.std.proofs.Common.{ℕ, ◌≡◌, ◌≢◌, ◌⊎◌, ◌+◌, ◌<◌, ◌≤◌, ◌==◌, [], if◌then◌else◌, Bool, true, false, List, Result, Ok, Err, OnOk, OnErr, IfErr, IsErrOf, MatchResult, refl, sym, ap, ◌∙◌, subst, inl, inr, ⊎_elim, arith}
+use Rattle.std.proofs.Common.{ℕ, ◌≡◌, ◌⊎◌, ◌+◌, ◌<◌, ◌≤◌, ◌==◌, [], if◌then◌else◌, Bool, true, false, Result, Ok, Err, OnOk, OnErr, IfErr, IsErrOf, MatchResult, refl, sym, ap, ◌∙◌, subst, inl, inr, ⊎_elim, arith}
 use Rattle.std.proofs.lemmas.Bool.{cases_lt}
 use Rattle.std.proofs.lemmas.Bool.Decides.{eqb_tells}
 use Rattle.heap_model.specs.Setting.{Setting}
-use Rattle.heap_model.specs.declared.record.Record.{Record}
 use Rattle.heap_model.specs.Sections.{actions}
 use Rattle.store_image.proofs.Growing.{places_grown}
 use Rattle.heap_model.specs.Cuts.{IsStable}
@@ -27,7 +26,7 @@ use Rattle.store_past.specs.declared.error.StoreError.TheVariants.{Failed, BadLa
 use Rattle.store_image.specs.declared.home.Home.{Home}
 use Rattle.store_image.specs.declared.home.Home.TheVariants.{Wrote, Done}
 use Rattle.heap_model.specs.declared.ids.FieldId.{FieldId}
-use Rattle.trim_helper.specs.Settled.{HasClean, HasSame, IsSettled, IsStop, RefusesRound, Settles, SettlesAndTrims}
+use Rattle.trim_helper.specs.Settled.{GoesHome, HasClean, HasSame, IsSettled, IsStop, RefusesRound, Settles, SettlesAndTrims}
 
 pub clean_none : (x : Known) (d : Device) (s : Setting) (p : Past) → HasPast x s p d → (h : HasClean d x d s p 0) × (h.ran.cut_off ≡ [])
 clean_none x d s p has = (record { dirty = p.is_dirty; has = has; clean = λ f lt. absurd (omega arith); ran = ran_none x.layout s p d x.has_failed }, refl)
@@ -270,3 +269,27 @@ if_err_more (Err e) P Q f h = f e h
 pub err_both : {T E : Type 0} (r : Result T E) (P : E → Type 0) (Q : Type 0) → IfErr r P → OnErr r Q → IfErr r (λ e. P e × Q)
 err_both (Ok t) P Q f h = tt
 err_both (Err e) P Q f h = (f, h)
+
+module _ {D : Type 0} (device : D → Device) (s : Setting) (p : Past) (x y : stores.Parts D) (has : HasPast x.known s p (device x.disk)) (layout : y.known.layout ≡ x.known.layout)
+    (shown : LeavesOnly (device x.disk) (device y.disk) (ShowsStep x.known.layout s p Logging)) where
+  -- what was applied could not be logged
+  pub not_logged : (r : Result ℕ StoreError) (e : StoreError) → r ≡ Err e → (e ≡ Fault) ⊎ (y ≡ x) → (IsErrOf r Fault → y.known.has_failed ≡ true) → HasPast y.known s p (device y.disk) → RefusesLog x.known p e →
+      Settles s p x.known (device x.disk) y.known (device y.disk) (Err e)
+  not_logged r e is refused failed kept answer = record {
+    same = same_stay x.known y.known (device x.disk) (device y.disk) s p kept (ran_refused x.known y.known s p _ _ layout has Log tt (failed_or_still device x y r e is refused failed) shown);
+    settled = tt;
+    failed = λ off. ap Err (failed_log x.known p e off answer);
+    refused = refused_log x.known y.known p e answer (⊎_elim (λ same. inl same) (λ same. inr (ap (λ z. z.known) same)) refused);
+  }
+
+  -- it was, and could not be written home
+  pub not_home : (z : stores.Parts D) (e : StoreError) → (x.known.has_failed ≡ false) × (y.known.has_failed ≡ false) → z.known.layout ≡ y.known.layout → GoesHome device s (after_log p) y z (Err e) →
+      Settles s p x.known (device x.disk) z.known (device z.disk) (Err e)
+  not_home z e ran on home =
+      let was = home.kept in
+      record {
+        same = same_dirtied x.known z.known (device x.disk) (device z.disk) s p was.dirty has.past was.has (logged_then x.known y.known z.known s p _ _ _ layout on has shown _ was.ran);
+        settled = tt;
+        failed = λ off. absurd (let no : false ≡ true = sym ran.0 ∙ off in cc);
+        refused = refused_home x.known y.known z.known e ran.0 ran.1 home.refused;
+      }

@@ -12,3 +12,5 @@ pub mod SeatLemmas
 pub mod SettingLemmas
 pub mod ClosingReasons
 pub mod Sent
+pub mod Completing
+pub mod Besides

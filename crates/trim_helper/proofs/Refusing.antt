@@ -3,7 +3,6 @@ use Rattle.std.proofs.Common.{ℕ, ◌≡◌, ◌≢◌, ◌+◌, ◌<◌, ◌�
 use Rattle.std.proofs.lemmas.Bool.{cases_lt}
 use Rattle.std.proofs.lemmas.Bool.Decides.{eqb_tells}
 use Rattle.std.proofs.lemmas.List.{append_assoc, reverse-append}
-use Rattle.rtrb.specs.declared.consumer.Consumer.{Consumer}
 use Rattle.heap_model.specs.declared.record.Record.{Record}
 use Rattle.heap_model.specs.declared.record.Record.TheVariants.{Acq, Rel, WaitRel, Put}
 use Rattle.heap_model.specs.Setting.{Setting}
@@ -22,7 +21,7 @@ use Rattle.store_memory.specs.Remembers as memory
 use Rattle.durable.specs.Store.{Known, HasPast}
 use Rattle.trim_helper.specs.Rings.{received_of, known_of, held_back, waiting_in, stream}
 use Rattle.trim_helper.specs.Limits.{FitsNext, KeepsLimits}
-use Rattle.trim_helper.specs.Taken.{HasTaken, IsRefused, IsStuck, trimmed_of}
+use Rattle.trim_helper.specs.Taken.{Taking, HasTaken, IsLaneStuck, IsRefused, trimmed_of}
 use Rattle.trim_helper.proofs.Progress.{longer_lane, all_done, nothing_left}
 
 -- who holds an object took it at a number below the last
@@ -95,15 +94,16 @@ pub fitted : (start capacity : ℕ) (newer older : List Record) (r : Record) →
 fitted start capacity [] older r keeps = keeps.1
 fitted start capacity (q ∷ newer) older r keeps = fitted start capacity newer older r keeps.0
 
-module _ {A P : Type 0} (x : Known) (d : Device) (rings : List (Consumer Record A P)) (waiting : List (Option Record)) (s : Setting) (p : Past) (taken : HasTaken x d rings waiting s p)
+module _ {D : Type 0} (device : D → Device) (t : Taking D) (s : Setting) (p : Past) (taken : HasTaken device t s p)
     (log : List (ℕ × Record)) (legal : IsLegal s log) (next : NextLaw)
-    (held : (l : ℕ) → stream l log ≡ received_of rings l ++ known_of rings l) (none : (l : ℕ) → x.layout.lanes ≤ l → lane l log ≡ [])
-    (limits : (l : ℕ) → l < x.layout.lanes → KeepsLimits (trimmed_of p l) x.layout.capacity (lane l log)) (stuck : IsStuck x rings waiting s p) where
+    (held : (l : ℕ) → stream l log ≡ received_of t.rings l ++ known_of t.rings l) (none : (l : ℕ) → t.store.known.layout.lanes ≤ l → lane l log ≡ [])
+    (limits : (l : ℕ) → l < t.store.known.layout.lanes → KeepsLimits (trimmed_of p l) t.store.known.layout.capacity (lane l log))
+    (stuck : (l : ℕ) → l < t.store.known.layout.lanes → IsLaneStuck t.store.known t.rings t.waiting s p l) where
   abbrev rest : ℕ → List Record
-  rest l = held_back (waiting_in waiting l) ++ known_of rings l
+  rest l = held_back (waiting_in t.waiting l) ++ known_of t.rings l
 
   all : (l : ℕ) → stream l log ≡ stream l (applied p) ++ rest l
-  all l = held l ∙ ap (λ (xs : List Record). xs ++ known_of rings l) (taken.taken l) ∙ append_assoc (stream l (applied p)) (held_back (waiting_in waiting l)) (known_of rings l)
+  all l = held l ∙ ap (λ (xs : List Record). xs ++ known_of t.rings l) (taken.taken l) ∙ append_assoc (stream l (applied p)) (held_back (waiting_in t.waiting l)) (known_of t.rings l)
 
   -- the lane's next record is the one that waits, since else none is known
   next_waits : (w : Option Record) (known : List Record) (Q : Record → Type 0) (r : Record) (more : List Record) → held_back w ++ known ≡ r ∷ more → MatchOption w (known ≡ []) Q → Q r
@@ -114,10 +114,10 @@ module _ {A P : Type 0} (x : Known) (d : Device) (rings : List (Consumer Record 
   contradicts l r more is may =
       let whole : stream l log ≡ stream l (applied p) ++ (r ∷ more) = all l ∙ ap (λ (xs : List Record). stream l (applied p) ++ xs) is in
       let log_is : lane l log ≡ reverse (r ∷ more) ++ lane l (applied p) = longer_of l whole in
-      elim (cases_lt l x.layout.lanes) [
-        | inl low ↦ not_refused x s p d l r taken.has low may
-            (fitted (trimmed_of p l) x.layout.capacity (reverse more) (lane l (applied p)) r (subst (KeepsLimits (trimmed_of p l) x.layout.capacity) (log_is ∙ split) (limits l low)))
-            (next_waits (waiting_in waiting l) (known_of rings l) (λ q. IsRefused x s p l q) r more is (stuck l low))
+      elim (cases_lt l t.store.known.layout.lanes) [
+        | inl low ↦ not_refused t.store.known s p (device t.store.disk) l r taken.has low may
+            (fitted (trimmed_of p l) t.store.known.layout.capacity (reverse more) (lane l (applied p)) r (subst (KeepsLimits (trimmed_of p l) t.store.known.layout.capacity) (log_is ∙ split) (limits l low)))
+            (next_waits (waiting_in t.waiting l) (known_of t.rings l) (λ q. IsRefused t.store.known s p l q) r more is (stuck l low))
         | inr high ↦ absurd (let no : [] ≡ stream l (applied p) ++ (r ∷ more) = ap (λ (xs : List Record). reverse xs) (sym (none l high)) ∙ whole in never (stream l (applied p)) no)
       ]
     where
@@ -135,5 +135,5 @@ module _ {A P : Type 0} (x : Known) (d : Device) (rings : List (Consumer Record 
   pub drained : (l : ℕ) → lane l (applied p) ≡ lane l log
   drained = all_done s log (applied p) rest next legal taken.has.past.legal all contradicts
 
-  pub none_waits : (l : ℕ) → held_back (waiting_in waiting l) ++ known_of rings l ≡ []
+  pub none_waits : (l : ℕ) → held_back (waiting_in t.waiting l) ++ known_of t.rings l ≡ []
   none_waits = nothing_left s log (applied p) rest next legal taken.has.past.legal all contradicts

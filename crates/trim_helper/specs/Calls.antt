@@ -1,5 +1,5 @@
 -- What each call of a helper makes of it, as one relation a call (this project's own).
-use Rattle.std.specs.Prelude.{ℕ, ◌≡◌, ◌+◌, ◌-◌, ◌<◌, ◌≤◌, ◌^◌, ◌++◌, true, false, List, [], Option, Result, Ok, length, IfOk, IfErr, OnOk, OnErr, IsErrOf, IsErrAnd, MatchResult}
+use Rattle.std.specs.Prelude.{ℕ, ◌≡◌, ◌+◌, ◌<◌, ◌≤◌, ◌++◌, true, false, List, [], Option, Result, Ok, length, IfOk, IfErr, OnOk, OnErr, IsErrOf, IsErrAnd, MatchResult}
 use Rattle.rtrb.specs.declared.consumer.Consumer.{Consumer}
 use Rattle.heap_model.specs.declared.limits.TheConstants.{RING_RECORDS}
 use Rattle.heap_model.specs.declared.record.Record.{Record}
@@ -12,16 +12,17 @@ use Rattle.store_past.specs.declared.error.StoreError.{StoreError}
 use Rattle.store_past.specs.declared.error.StoreError.TheVariants.{Failed, Fault}
 use Rattle.durable.specs.Runs.{HasRun, IsLeftBy}
 use Rattle.durable.specs.Store.{Known, HasPast}
-use Rattle.monitor.specs.Seats.{Home}
+use Rattle.monitor.specs.Seats.{Final, Helping, Home}
 use Rattle.monitor.specs.Words.{setting_of}
-use Rattle.trim_helper.specs.Closed.{IsClosedDown, Stood, disk_of}
-use Rattle.trim_helper.specs.Endings.{HoldNone, IsCloseWhy, IsComplete, IsOfSessions, RefusesClosing, parts_of}
-use Rattle.trim_helper.specs.Helping.{IsHelper, taken_in}
+use Rattle.trim_helper.specs.Closed.{HasSpelled, IsClosedDown, Stood, disk_of}
+use Rattle.trim_helper.specs.Draining.{DrainsRings}
+use Rattle.trim_helper.specs.Endings.{HoldNone, IsCloseStop, IsCloseWhy, IsComplete, IsOfSessions, RefusesClosing, parts_of}
+use Rattle.trim_helper.specs.Helping.{IsBehind, IsHelper, taken_in}
 use Rattle.trim_helper.specs.Moves.{SameRings}
-use Rattle.trim_helper.specs.Parts.{Parts, IsServing}
+use Rattle.trim_helper.specs.Parts.{Parts, IsServing, taking_of}
 use Rattle.trim_helper.specs.Rings.{received_of}
 use Rattle.trim_helper.specs.Settled.{RefusesRound}
-use Rattle.trim_helper.specs.Taken.{IsLaneStuck, applied_more, trimmed_of}
+use Rattle.trim_helper.specs.Taken.{Taking, HasTaken, IsLaneStuck, applied_more, trimmed_of}
 use Rattle.trim_helper.specs.declared.close_error.CloseError.{CloseError}
 use Rattle.trim_helper.specs.declared.close_error.CloseError.TheVariants as close
 use Rattle.trim_helper.specs.declared.ended.Ended.{Ended}
@@ -42,6 +43,18 @@ pub record AreStuck {A P : Type 0} (l : Layout) (d : Device) (rings : List (Cons
   pub stuck : (lane : ℕ) → lane < length rings → IsLaneStuck known rings waiting s p lane
 
 module _ {D : Type 0} (device : D → Device) where
+  -- A drain, in memory alone: the rings are looked at, and each lane goes on as far as it can. It is refused only where the store had
+  -- failed, and what was applied before stands.
+  pub record Drains (x y : Parts D) (answer : Result ℕ StoreError) : Type 0 where
+    pub rings : DrainsRings device (taking_of x) (taking_of y) answer
+    pub failed : IfErr answer (λ e. (e ≡ Failed) × (x.store.known.has_failed ≡ true))
+    -- all stays settled where it was and nothing came, and nowhere else
+    pub settled : IfOk answer (λ n. y.is_settled ≡ true → (x.is_settled ≡ true) × (n ≡ 0))
+    pub stays : IfOk answer (λ n. n ≡ 0 → x.is_settled ≡ true → y.is_settled ≡ true)
+    pub unsettled : OnErr answer (y.is_settled ≡ false)
+    pub seat : y.seat ≡ x.seat
+    pub layout : y.store.known.layout ≡ x.store.known.layout
+
   -- A round, of a helper that serves this past. Each lane goes on as far as it can; then store calls make durable what was applied,
   -- acknowledge its stable cut and trim that, and both are published. Whatever a crash leaves meanwhile shows what some of these calls
   -- make of the past, so that recovery takes it, with the stable cut only where a settling was running.
@@ -82,3 +95,17 @@ module _ {D : Type 0} (device : D → Device) where
     pub untouched : IfErr answer (λ back. IsOfSessions back.1 → back.0 ≡ x.store.disk)
     pub stood : Stood x.store.known.layout (setting_of h.plan) p ended (device x.store.disk) (device (disk_of answer))
     pub later : IfOk answer (λ disk. (device x.store.disk).failures ≤ (device disk).failures)
+
+  -- Sessions that are complete and hold nothing meet the rings of a helper of this past: what they sent is applied, made durable and
+  -- acknowledged, and the words at the end are those of its history; or the store stops that.
+  pub record HasFinished (h : Home) (seat : Helping) (ended : List Ended) (p : Past) (x : Taking D) (now : Device) (answer : Result Final CloseError) : Type 0 where
+    pub ok : IsBehind seat x.store.known.layout.lanes p → IfOk answer (HasSpelled (setting_of h.plan) h.plan.lanes x.store.known.layout (parts_of ended) p (device x.store.disk) now)
+    pub stop : IfErr answer IsCloseStop
+    pub why : IfErr answer (IsCloseWhy x.store.known (device x.store.disk) now)
+    pub failed : x.store.known.has_failed ≡ true → IsErrOf answer close.Failed
+    pub stood : Stood x.store.known.layout (setting_of h.plan) p ended (device x.store.disk) now
+    pub later : OnOk answer ((device x.store.disk).failures ≤ now.failures)
+
+  -- so it is, whatever past the store has
+  abbrev pub Finishes : Home → Helping → List Ended → Taking D → (now : Device) → Result Final CloseError → Type 0
+  Finishes h seat ended x now answer = (p : Past) → HasTaken device x (setting_of h.plan) p → HasFinished h seat ended p x now answer

@@ -55,6 +55,10 @@ AreEnded h capacity rings (e ∷ es) = IsEnded h capacity rings e × AreEnded h 
 abbrev pub parts_of : List Ended → List Part
 parts_of es = map (λ e. part_at e.seat) es
 
+-- their lanes
+abbrev pub lanes_ended : List Ended → List ℕ
+lanes_ended es = map (λ e. e.lane.0) es
+
 -- none of them holds a monitor
 abbrev pub HoldNone : List Ended → Type 0
 HoldNone [] = Unit {0}

@@ -1,12 +1,22 @@
 -- What the helper's seat knows: what it has published, by lane, and which lanes it took in.
 use Rattle.std.specs.Prelude.{ℕ, ◌≡◌, ◌+◌, ◌<◌, ◌≤◌, List, map}
+use Rattle.heap_model.specs.declared.event.Event.{Event}
+use Rattle.heap_model.specs.History.{state_after}
+use Rattle.heap_model.specs.Setting.{Setting}
 use Rattle.heap_model.specs.State.{State}
+use Rattle.block_disk.specs.Device.{Device}
+use Rattle.durable.specs.Store as stores
+use Rattle.durable.specs.Store.{HasPast}
+use Rattle.monitor.specs.declared.view.Plan.{Plan}
 use Rattle.monitor.specs.declared.view.Post.TheVariants.{Stable, Trimmed}
 use Rattle.monitor.specs.declared.view.Part as raw
 use Rattle.monitor.specs.Posts.{known_post}
 use Rattle.monitor.specs.Views.{noted}
+use Rattle.monitor.specs.Words.{setting_of}
 use Rattle.monitor.specs.Seats.{Home, Helping, Final, IsHelperOf, final_value}
-use Rattle.trim_helper.specs.Serving.{Part}
+use Rattle.store_past.specs.Past.{Past}
+use Rattle.trim_helper.specs.Serving.{Among, IsOneHistory, Part}
+use Rattle.trim_helper.specs.Taken.{trimmed_of}
 
 -- how many of the lane's sections are published as acknowledged, and the place up to which its log is published as trimmed
 abbrev pub count_published : Helping → (lane : ℕ) → ℕ
@@ -29,6 +39,31 @@ pub record IsHelper (h : Home) (s : Helping) : Type 0 where
   pub all : s.next ≡ h.plan.lanes
   pub few : h.plan.lanes ≤ 32
 
+-- by lane, what is published is at most what is acknowledged and trimmed
+abbrev pub IsBehind : Helping → (lanes : ℕ) → Past → Type 0
+IsBehind h lanes p = (l : ℕ) → l < lanes → (count_published h l ≤ p.cut l) × (place_published h l ≤ trimmed_of p l)
+
+-- it is just that
+abbrev pub IsPublished : Helping → (lanes : ℕ) → Past → Type 0
+IsPublished h lanes p = (l : ℕ) → l < lanes → (count_published h l ≡ p.cut l) × (place_published h l ≡ trimmed_of p l)
+
+module _ {D : Type 0} (device : D → Device) where
+  -- no more is published than what the store has acknowledged and trimmed
+  abbrev pub MayPublish : stores.Parts D → Helping → Type 0
+  MayPublish x h = (s : Setting) × (p : Past) × HasPast x.known s p (device x.disk) × IsBehind h x.known.layout.lanes p
+
+  -- all of that is published
+  abbrev pub HasPublished : stores.Parts D → Helping → Type 0
+  HasPublished x h = (s : Setting) (p : Past) → HasPast x.known s p (device x.disk) → IsPublished h x.known.layout.lanes p
+
+-- no lane that it took in has read more than it has published
+abbrev pub HaveRead : Helping → Type 0
+HaveRead h = (x : Part) → Among (taken_in h) x → (x.count ≤ count_published h x.lane) × (x.place ≤ place_published h x.lane)
+
 -- the words at the end spell the state
 abbrev pub Spells : Final → State → Type 0
 Spells w s = (f : ℕ) → f < w.fields → final_value w f ≡ s.value f
+
+-- the words at the end spell the state after one legal history, which has the lanes that it took in as its parts
+abbrev pub TellsHistory : Plan → Helping → Final → Type 0
+TellsHistory k h w = (history : List (ℕ × Event)) × IsOneHistory (setting_of k) k.lanes (taken_in h) history × Spells w (state_after (setting_of k) history)

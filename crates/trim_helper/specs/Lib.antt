@@ -2,6 +2,7 @@
 pub mod Parts
 pub mod Serving
 pub mod Taken
+pub mod Draining
 pub mod Settled
 pub mod Helping
 pub mod Rings
@@ -11,6 +12,6 @@ pub mod Opening
 pub mod Endings
 pub mod Closed
 pub mod Calls
--- The scaffold: a helper's parts in its own methods, and what is known while the sessions that have ended meet their rings.
-pub mod Whole
+pub mod Meets
+-- The scaffold: what is known while the sessions that have ended meet their rings.
 pub mod Meeting

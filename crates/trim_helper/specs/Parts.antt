@@ -1,5 +1,5 @@
--- A helper, as contracts see it, and what its calls make of it.
-use Rattle.std.specs.Prelude.{ℕ, ◌≡◌, ◌≤◌, Bool, List, Option, length}
+-- A helper, as contracts see it, and what it serves.
+use Rattle.std.specs.Prelude.{ℕ, ◌≡◌, ◌<◌, ◌≤◌, Bool, true, false, List, Option, length}
 use Rattle.rtrb.specs.declared.AnyItems.{AnyItems}
 use Rattle.std.specs.Global.{Global}
 use Rattle.rtrb.specs.declared.consumer.Consumer.{Consumer}
@@ -7,12 +7,14 @@ use Rattle.heap_model.specs.declared.record.Record.{Record}
 use Rattle.heap_model.specs.Setting.{Setting}
 use Rattle.block_disk.specs.Device.{Device}
 use Rattle.durable.specs.Store as stores
-use Rattle.store_past.specs.Past.{Past}
+use Rattle.store_past.specs.Past.{Past, IsTrimmed}
 use Rattle.monitor.specs.Seats.{Helping}
 use Rattle.heap_model.specs.declared.limits.TheConstants.{RING_RECORDS}
-use Rattle.trim_helper.specs.Helping.{count_published, place_published}
+use Rattle.trim_helper.specs.Draining.{Drained}
+use Rattle.trim_helper.specs.Helping.{IsPublished, count_published, place_published}
 use Rattle.trim_helper.specs.Moves.{most_room}
-use Rattle.trim_helper.specs.Serving.{Serves, Drains}
+use Rattle.trim_helper.specs.Settled.{IsSettled}
+use Rattle.trim_helper.specs.Taken.{Taking, HasTaken, trimmed_of}
 
 -- a helper over whatever device: its store, its ends of the rings and the record that waits to be next, by lane, whether nothing was
 -- applied since a round answered Ok, and its seat
@@ -23,14 +25,26 @@ pub record Parts (D : Type 0) : Type 0 where
   pub is_settled : Bool
   pub seat : Helping
 
-module _ {D : Type 0} (device : D → Device) where
-  -- the store has this past, by what was received and what is published
-  abbrev pub IsServing : Parts D → Setting → Past → Type 0
-  IsServing x s p = Serves x.store.known (device x.store.disk) x.rings x.waiting x.is_settled (count_published x.seat) (place_published x.seat) s p
+-- what takes records from the rings
+abbrev pub taking_of : {D : Type 0} → Parts D → Taking D
+taking_of x = record { store = x.store; rings = x.rings; waiting = x.waiting }
 
-  -- so many records were applied
+module _ {D : Type 0} (device : D → Device) where
+  -- The store has this past, by what was received. By lane, a published count is at most what is acknowledged, and a published place at
+  -- most what is trimmed. Where nothing was applied since all was settled, they are equal, all that is acknowledged is trimmed, and the
+  -- store hasn't failed.
+  pub record IsServing (x : Parts D) (s : Setting) (p : Past) : Type 0 where
+    pub taken : HasTaken device (taking_of x) s p
+    pub counts : (l : ℕ) → l < x.store.known.layout.lanes → count_published x.seat l ≤ p.cut l
+    pub places : (l : ℕ) → l < x.store.known.layout.lanes → place_published x.seat l ≤ trimmed_of p l
+    pub running : x.is_settled ≡ true → x.store.known.has_failed ≡ false
+    pub settled : x.is_settled ≡ true → IsSettled s p
+    pub trimmed : x.is_settled ≡ true → IsTrimmed p
+    pub published : x.is_settled ≡ true → IsPublished x.seat x.store.known.layout.lanes p
+
+  -- so many records were applied of what its rings held when they were looked at
   abbrev pub HasDrained : (old new : Parts D) → ℕ → Type 0
-  HasDrained x y n = Drains x.store.known (device x.store.disk) x.rings x.waiting y.store.known (device y.store.disk) y.rings y.waiting n
+  HasDrained x y n = Drained device (taking_of x) (taking_of y) n
 
   -- each lane has a ring, and the store has a past
   pub record IsWhole (x : Parts D) : Type 0 where

@@ -1,11 +1,13 @@
 -- What making records durable makes of a past.
-use Rattle.std.specs.Prelude.{ℕ, ◌≡◌, ◌<◌, ◌≤◌, ◌⊎◌, ◌-◌, ◌^◌, if◌then◌else◌, Bool, true, false, [], Result, OnOk, IfErr, IsErrOf}
+use Rattle.std.specs.Prelude.{ℕ, ◌≡◌, ◌<◌, ◌≤◌, ◌⊎◌, ◌-◌, ◌^◌, if◌then◌else◌, Bool, true, false, [], Result, OnOk, OnErr, IfErr, IsErrOf}
 use Rattle.heap_model.specs.Setting.{Setting}
 use Rattle.heap_model.specs.Sections.{actions}
 use Rattle.heap_model.specs.Cuts.{IsStable}
 use Rattle.block_disk.specs.Device.{Device}
 use Rattle.store_past.specs.Past.{Past, IsTrimmed, applied}
+use Rattle.durable.specs.Calls.{RefusesHome}
 use Rattle.durable.specs.Runs.{HasRun}
+use Rattle.durable.specs.Store as stores
 use Rattle.durable.specs.Store.{Known, HasPast}
 use Rattle.trim_helper.specs.Taken.{trimmed_of}
 use Rattle.store_past.specs.declared.error.StoreError.{StoreError}
@@ -56,6 +58,23 @@ pub record Settles (s : Setting) (p : Past) (old : Known) (before : Device) (new
 pub record SettlesAndTrims (s : Setting) (p : Past) (old : Known) (before : Device) (new : Known) (now : Device) (answer : Result (Unit {0}) StoreError) : Type 0 where
   pub settles : Settles s p old before new now answer
   pub trimmed : OnOk answer (IsTrimmed settles.same.now)
+
+module _ {D : Type 0} (device : D → Device) where
+  -- Home steps are made until no field is dirty.
+  pub record GoesHome (s : Setting) (p : Past) (x y : stores.Parts D) (answer : Result (Unit {0}) StoreError) : Type 0 where
+    pub clean : OnOk answer (HasClean (device x.disk) y.known (device y.disk) s p s.fields)
+    pub kept : OnErr answer (HasClean (device x.disk) y.known (device y.disk) s p 0)
+    pub refused : IfErr answer (RefusesHome x.known)
+
+  -- so each of these does, whatever past the store has
+  abbrev pub WritesHome : (x y : stores.Parts D) → Result (Unit {0}) StoreError → Type 0
+  WritesHome x y answer = (s : Setting) (p : Past) → HasPast x.known s p (device x.disk) → GoesHome s p x y answer
+
+  abbrev pub SettlesApplied : (x y : stores.Parts D) → Result (Unit {0}) StoreError → Type 0
+  SettlesApplied x y answer = (s : Setting) (p : Past) → HasPast x.known s p (device x.disk) → Settles s p x.known (device x.disk) y.known (device y.disk) answer
+
+  abbrev pub SettlesAndTrimsApplied : (x y : stores.Parts D) → Result (Unit {0}) StoreError → Type 0
+  SettlesAndTrimsApplied x y answer = (s : Setting) (p : Past) → HasPast x.known s p (device x.disk) → SettlesAndTrims s p x.known (device x.disk) y.known (device y.disk) answer
 
 -- the field's value once all is at home: a persistent one's last, and a transient one's first
 abbrev pub closed_value : Setting → (value : ℕ → ℕ) → (field : ℕ) → ℕ

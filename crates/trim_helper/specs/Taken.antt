@@ -1,5 +1,7 @@
--- What a helper has taken, and what became of it.
+-- What takes records from the rings: what it has taken, and what became of it.
 use Rattle.std.specs.Prelude.{ℕ, ◌≡◌, ◌≢◌, ◌+◌, ◌<◌, List, [], ◌++◌, length, Option, MatchOption}
+use Rattle.std.specs.Global.{Global}
+use Rattle.rtrb.specs.declared.AnyItems.{AnyItems}
 use Rattle.rtrb.specs.declared.consumer.Consumer.{Consumer}
 use Rattle.heap_model.specs.declared.record.Record.{Record}
 use Rattle.heap_model.specs.Setting.{Setting}
@@ -7,16 +9,22 @@ use Rattle.block_disk.specs.Device.{Device}
 use Rattle.undo_log.specs.Dropped.{undo_logs, records_in}
 use Rattle.store_past.specs.Past.{Past, applied}
 use Rattle.durable.specs.Calls.{RefusesApply}
+use Rattle.durable.specs.Store as stores
 use Rattle.durable.specs.Store.{Known, HasPast}
 use Rattle.store_past.specs.declared.error.StoreError.{StoreError}
 use Rattle.store_past.specs.declared.error.StoreError.TheVariants.{Failed}
 use Rattle.trim_helper.specs.Rings.{received_of, known_of, held_back, waiting_in, stream}
 use Rattle.trim_helper.specs.Moves.{known_sum, held_sum, SameRings}
 
--- The records applied of a lane are those that its consumer took, in order, but for at most one that waits to be next.
-pub record HasTaken {A P : Type 0} (x : Known) (d : Device) (rings : List (Consumer Record A P)) (waiting : List (Option Record)) (s : Setting) (p : Past) : Type 0 where
-  pub has : HasPast x s p d
-  pub taken : (l : ℕ) → received_of rings l ≡ stream l (applied p) ++ held_back (waiting_in waiting l)
+-- what takes records from the rings: the store, the rings' ends, and the record of each lane that was taken and waits to be next
+pub record Taking (D : Type 0) : Type 0 where
+  pub store : stores.Parts D
+  pub rings : List (Consumer Record Global AnyItems)
+  pub waiting : List (Option Record)
+
+-- these three
+abbrev pub with_rings : {D : Type 0} → stores.Parts D → List (Consumer Record Global AnyItems) → List (Option Record) → Taking D
+with_rings store rings waiting = record { store = store; rings = rings; waiting = waiting }
 
 -- the past in which these were applied too, the newest first
 abbrev pub applied_more : List (ℕ × Record) → Past → Past
@@ -30,22 +38,32 @@ trimmed_of p l = records_in (p.base l) (undo_logs p.logged l)
 abbrev pub IsRefused : Known → Setting → Past → (lane : ℕ) → Record → Type 0
 IsRefused x s p l r = (e : StoreError) × (e ≢ Failed) × RefusesApply x s p l r e
 
--- No lane goes on: the record that waits isn't next, or none waits and none is known to be in the ring.
-abbrev pub IsStuck : {A P : Type 0} → Known → List (Consumer Record A P) → List (Option Record) → Setting → Past → Type 0
-IsStuck x rings waiting s p = (l : ℕ) → l < x.layout.lanes → MatchOption (waiting_in waiting l) (known_of rings l ≡ []) (λ r. IsRefused x s p l r)
-
--- One lane doesn't go on.
+-- The lane doesn't go on: the record that waits isn't next, or none waits and none is known to be in the ring.
 abbrev pub IsLaneStuck : {A P : Type 0} → Known → List (Consumer Record A P) → List (Option Record) → Setting → Past → (lane : ℕ) → Type 0
 IsLaneStuck x rings waiting s p l = MatchOption (waiting_in waiting l) (known_of rings l ≡ []) (λ r. IsRefused x s p l r)
 
--- So many records were applied, those of each lane in the order in which they were sent, and nothing was read of the rings but what was known.
-pub record Advances {A P : Type 0} (x : Known) (d : Device) (rings : List (Consumer Record A P)) (waiting : List (Option Record))
-    (x' : Known) (d' : Device) (rings' : List (Consumer Record A P)) (waiting' : List (Option Record)) (n : ℕ) : Type 0 where
-  pub made : (s : Setting) (p : Past) → HasTaken x d rings waiting s p → (newer : List (ℕ × Record)) × (length newer ≡ n) × HasTaken x' d' rings' waiting' s (applied_more newer p)
-  pub whole : (l : ℕ) → received_of rings' l ++ known_of rings' l ≡ received_of rings l ++ known_of rings l
-  pub left : known_sum rings + held_sum waiting ≡ (known_sum rings' + held_sum waiting') + n
-  pub same : SameRings rings rings'
-  pub slots : length waiting' ≡ length waiting
-  pub layout : x'.layout ≡ x.layout
-  pub running : x'.has_failed ≡ x.has_failed
-  pub device : d' ≡ d
+module _ {D : Type 0} (device : D → Device) where
+  -- The records applied of a lane are those that its consumer took, in order, but for at most one that waits to be next.
+  pub record HasTaken (x : Taking D) (s : Setting) (p : Past) : Type 0 where
+    pub has : HasPast x.store.known s p (device x.store.disk)
+    pub taken : (l : ℕ) → received_of x.rings l ≡ stream l (applied p) ++ held_back (waiting_in x.waiting l)
+
+  -- So many records were applied, those of each lane in the order in which they were sent, and nothing was read of the rings but what was known.
+  pub record Advances (x y : Taking D) (n : ℕ) : Type 0 where
+    pub made : (s : Setting) (p : Past) → HasTaken x s p → (newer : List (ℕ × Record)) × (length newer ≡ n) × HasTaken y s (applied_more newer p)
+    pub whole : (l : ℕ) → received_of y.rings l ++ known_of y.rings l ≡ received_of x.rings l ++ known_of x.rings l
+    pub left : known_sum x.rings + held_sum x.waiting ≡ (known_sum y.rings + held_sum y.waiting) + n
+    pub same : SameRings x.rings y.rings
+    pub slots : length y.waiting ≡ length x.waiting
+    pub layout : y.store.known.layout ≡ x.store.known.layout
+    pub running : y.store.known.has_failed ≡ x.store.known.has_failed
+    -- the device wasn't called
+    pub uncalled : device y.store.disk ≡ device x.store.disk
+
+  -- whatever past the store has, the lane doesn't go on
+  abbrev pub IsStuckAt : Taking D → (lane : ℕ) → Type 0
+  IsStuckAt x lane = (s : Setting) (p : Past) → HasPast x.store.known s p (device x.store.disk) → IsLaneStuck x.store.known x.rings x.waiting s p lane
+
+  -- no lane does
+  abbrev pub AllStuck : Taking D → Type 0
+  AllStuck x = (lane : ℕ) → lane < length x.rings → IsStuckAt x lane

@@ -1,17 +1,14 @@
 //! Both ends meet.
-ghost use Rattle.std.specs.Prelude.{◌≡◌, ◌+◌, ◌<◌, ◌≤◌, ◌==◌, [], ℕ, if◌then◌else◌, ◌⊎◌, MatchOption, MatchResult, IfErr, IfOk, IsErrOf, OnOk, length, true};
+ghost use Rattle.std.specs.Prelude.{◌≡◌, ◌<◌, ◌≤◌, [], ℕ, ◌⊎◌, MatchOption, MatchResult, length};
 ghost use Rattle.store_past.specs.Past.{Past};
-ghost use Rattle.heap_model.specs.Setting.{Setting};
 ghost use Rattle.monitor.specs.Words.{setting_of};
-ghost use Rattle.trim_helper.specs.Calls.{Closes};
-ghost use Rattle.trim_helper.specs.Closed.{HasSpelled, Stood};
-ghost use Rattle.trim_helper.specs.Helping.{IsHelper, count_published, place_published, taken_in};
-ghost use Rattle.trim_helper.specs.Endings.{AreEnded, HasOpen, HoldNone, IsCloseStop, IsCloseWhy, IsComplete, RefusesEnded, count_lane, parts_of};
+ghost use Rattle.trim_helper.specs.Calls.{Closes, Finishes};
+ghost use Rattle.trim_helper.specs.Helping.{IsHelper, taken_in};
+ghost use Rattle.trim_helper.specs.Endings.{AreEnded, HasOpen, HoldNone, IsComplete, RefusesEnded, count_lane};
 ghost use Rattle.trim_helper.specs.Moves.{most_room};
 ghost use Rattle.heap_model.specs.declared.limits.TheConstants.{RING_RECORDS};
 ghost use Rattle.trim_helper.specs.Parts.{IsServing};
-ghost use Rattle.trim_helper.specs.Taken.{HasTaken, trimmed_of};
-ghost use Rattle.trim_helper.specs.Whole.{as_parts};
+ghost use Rattle.trim_helper.specs.Taken.{with_rings};
 
 use crate::close_error::{CloseError, close_error};
 use crate::draining::drain_known;
@@ -19,7 +16,6 @@ use crate::ended::Ended;
 use crate::helper::Helper;
 use crate::meeting::meet;
 use crate::published::close;
-use crate::serving::Serving;
 use crate::settling::settle_applied;
 use block_disk::Disk;
 use cut_laws::{stable_law, unlogged_law};
@@ -104,15 +100,7 @@ fn finish<D: Disk>(
     requires none { HoldNone ended.items }
     requires complete { IsComplete store.old.known.layout.lanes ended.items }
     requires nothing { taken_in seat ≡ [] }
-    ensures ok { (p : Past) → HasTaken store.old.known (D.device store.old.disk) rings.old waiting.old (setting_of shared.plan) p → ((l : ℕ) → l < store.old.known.layout.lanes → (count_published seat l ≤ p.cut l) × (place_published seat l ≤ trimmed_of p l))
-        → IfOk result (HasSpelled (setting_of shared.plan) shared.plan.lanes store.old.known.layout (parts_of ended.items) p (D.device store.old.disk) (D.device store.new.disk)) }
-    ensures stop { IfErr result IsCloseStop }
-    ensures later { OnOk result ((D.device store.old.disk).failures ≤ (D.device store.new.disk).failures) }
-    ensures why { (s : Setting) (p : Past) → HasTaken store.old.known (D.device store.old.disk) rings.old waiting.old s p
-        → IfErr result (λ e. IsCloseWhy store.old.known (D.device store.old.disk) (D.device store.new.disk) e) }
-    ensures failed { (s : Setting) (p : Past) → HasTaken store.old.known (D.device store.old.disk) rings.old waiting.old s p → store.old.known.has_failed ≡ true → IsErrOf result CloseError.Failed }
-    ensures stood { (s : Setting) (p : Past) → HasTaken store.old.known (D.device store.old.disk) rings.old waiting.old s p
-        → Stood store.old.known.layout s p ended.items (D.device store.old.disk) (D.device store.new.disk) }
+    ensures { Finishes D.device shared seat ended.items (with_rings store.old rings.old waiting.old) (D.device store.new.disk) result }
 {
     log_law();
     own_log_law();
@@ -152,23 +140,7 @@ pub fn close_down<D: Disk>(
     requires nothing { taken_in helper.seat ≡ [] }
     ensures closes { (p : Past) → IsServing D.device helper (setting_of shared.plan) p → Closes D.device shared ended.items p helper result }
 {
-    let Helper { serving } = helper;
-    close_serving(shared, ended, serving)
-}
-
-// The same, by the helper's parts.
-fn close_serving<D: Disk>(
-    shared: Shared,
-    ended: Vec<Ended>,
-    helper: Serving<D>,
-) -> Result<D, (D, CloseError)>
-    requires helper { IsHelper shared helper.seat }
-    requires lanes { shared.plan.lanes ≡ helper.store.known.layout.lanes }
-    requires ended { AreEnded shared helper.store.known.layout.capacity helper.rings.items ended.items }
-    requires nothing { taken_in helper.seat ≡ [] }
-    ensures closes { (p : Past) → IsServing D.device (as_parts helper) (setting_of shared.plan) p → Closes D.device shared ended.items p (as_parts helper) result }
-{
-    let Serving {
+    let Helper {
         mut store,
         mut rings,
         mut waiting,

@@ -1,16 +1,9 @@
 //! What is next in its lane is applied, until nothing is.
-ghost use Rattle.std.specs.Prelude.{◌≡◌, ◌≢◌, ◌+◌, ◌*◌, ◌<◌, ◌≤◌, ◌^◌, ℕ, List, length, IfErr, IfOk, OnErr, OnOk, true, false, if◌then◌else◌};
-ghost use Rattle.heap_model.specs.Setting.{Setting};
-ghost use Rattle.store_past.specs.Past.{Past, applied};
-ghost use Rattle.durable.specs.Store.{HasPast};
-ghost use Rattle.store_past.specs.declared.error.StoreError.TheVariants.{Failed};
-ghost use Rattle.trim_helper.specs.Moves.{most_room};
+ghost use Rattle.std.specs.Prelude.{◌≡◌, ◌<◌, ◌≤◌, length};
 ghost use Rattle.heap_model.specs.declared.limits.TheConstants.{RING_RECORDS};
-ghost use Rattle.heap_model.specs.declared.event.Event.{Event};
-ghost use Rattle.heap_model.specs.History.{log_of};
-ghost use Rattle.heap_model.specs.Log.{lane as lane_of};
-ghost use Rattle.trim_helper.specs.Serving.{Drains, HoldHistory};
-ghost use Rattle.trim_helper.specs.Taken.{Advances, HasTaken, IsLaneStuck};
+ghost use Rattle.trim_helper.specs.Draining.{DrainsRings, Empties, GoesOn, RunsOn, Turns};
+ghost use Rattle.trim_helper.specs.Moves.{most_room};
+ghost use Rattle.trim_helper.specs.Taken.{with_rings};
 
 use crate::rings::{fetch, let_go, look};
 use block_disk::Disk;
@@ -29,12 +22,7 @@ pub fn go_on<D: Disk>(
     requires ring { lane < length rings.old }
     requires slot { lane < length waiting.old }
     requires few { lane < 32 }
-    ensures went { IfOk result (λ b. Advances store.old.known (D.device store.old.disk) rings.old waiting.old store.new.known (D.device store.new.disk) rings.new waiting.new (if b then 1 else 0)) }
-    ensures failed { IfErr result (λ e. e ≡ Failed) }
-    ensures why { (s : Setting) (p : Past) → HasPast store.old.known s p (D.device store.old.disk) → OnErr result (store.old.known.has_failed ≡ true) }
-    ensures kept { OnErr result (Advances store.old.known (D.device store.old.disk) rings.old waiting.old store.new.known (D.device store.new.disk) rings.new waiting.new 0) }
-    ensures stuck { IfOk result (λ b. b ≡ false → (store.new ≡ store.old) × ((s : Setting) (p : Past) → HasPast store.new.known s p (D.device store.new.disk) → IsLaneStuck store.new.known rings.new waiting.new s p lane)) }
-    ensures others { IfOk result (λ b. (l : ℕ) (s : Setting) (p : Past) → b ≡ false → lane ≢ l → IsLaneStuck store.old.known rings.old waiting.old s p l → IsLaneStuck store.new.known rings.new waiting.new s p l) }
+    ensures { GoesOn D.device lane (with_rings store.old rings.old waiting.old) (with_rings store.new rings.new waiting.new) result }
 {
     fetch(rings, waiting, lane);
     let Some(next) = waiting[lane] else {
@@ -63,13 +51,7 @@ pub fn run_on<D: Disk>(
     requires slots { length waiting.old ≡ 32 }
     requires few { length rings.old ≤ 32 }
     requires room { most_room rings.old ≤ RING_RECORDS }
-    ensures went { IfOk result (λ n. Advances store.old.known (D.device store.old.disk) rings.old waiting.old store.new.known (D.device store.new.disk) rings.new waiting.new n) }
-    ensures failed { IfErr result (λ e. e ≡ Failed) }
-    ensures why { (s : Setting) (p : Past) → HasTaken store.old.known (D.device store.old.disk) rings.old waiting.old s p → OnErr result (store.old.known.has_failed ≡ true) }
-    ensures kept { OnErr result ((n : ℕ) × Advances store.old.known (D.device store.old.disk) rings.old waiting.old store.new.known (D.device store.new.disk) rings.new waiting.new n) }
-    ensures stuck { OnOk result ((s : Setting) (p : Past) → HasPast store.new.known s p (D.device store.new.disk) → IsLaneStuck store.new.known rings.new waiting.new s p lane) }
-    ensures still { IfOk result (λ n. n ≡ 0 → store.new ≡ store.old) }
-    ensures others { IfOk result (λ n. (l : ℕ) (s : Setting) (p : Past) → n ≡ 0 → lane ≢ l → IsLaneStuck store.old.known rings.old waiting.old s p l → IsLaneStuck store.new.known rings.new waiting.new s p l) }
+    ensures { RunsOn D.device lane (with_rings store.old rings.old waiting.old) (with_rings store.new rings.new waiting.new) result }
 {
     let mut count = 0u64;
     'records: loop {
@@ -94,11 +76,7 @@ pub fn turn<D: Disk>(
     requires slots { length waiting.old ≡ 32 }
     requires few { length rings.old ≤ 32 }
     requires room { most_room rings.old ≤ RING_RECORDS }
-    ensures advances { IfOk result (λ n. Advances store.old.known (D.device store.old.disk) rings.old waiting.old store.new.known (D.device store.new.disk) rings.new waiting.new n) }
-    ensures stuck { IfOk result (λ n. n ≡ 0 → (l : ℕ) (s : Setting) (p : Past) → l < length rings.new → HasPast store.new.known s p (D.device store.new.disk) → IsLaneStuck store.new.known rings.new waiting.new s p l) }
-    ensures failed { IfErr result (λ e. e ≡ Failed) }
-    ensures why { (s : Setting) (p : Past) → HasTaken store.old.known (D.device store.old.disk) rings.old waiting.old s p → OnErr result (store.old.known.has_failed ≡ true) }
-    ensures kept { OnErr result ((n : ℕ) × Advances store.old.known (D.device store.old.disk) rings.old waiting.old store.new.known (D.device store.new.disk) rings.new waiting.new n) }
+    ensures { Turns D.device (with_rings store.old rings.old waiting.old) (with_rings store.new rings.new waiting.new) result }
 {
     let mut went = 0u64;
     for lane in 0..rings.len() {
@@ -120,13 +98,7 @@ pub fn drain_known<D: Disk>(
     requires few { length rings.old ≤ 32 }
     requires room { most_room rings.old ≤ RING_RECORDS }
     requires lanes { length rings.old ≡ store.old.known.layout.lanes }
-    ensures drained { (s : Setting) (p : Past) (h : List (ℕ × Event)) → HasTaken store.new.known (D.device store.new.disk) rings.new waiting.new s p
-        → HoldHistory rings.new store.new.known.layout s p h → OnOk result ((l : ℕ) → lane_of l (applied p) ≡ lane_of l (log_of s h)) }
-    ensures advances { IfOk result (λ n. Advances store.old.known (D.device store.old.disk) rings.old waiting.old store.new.known (D.device store.new.disk) rings.new waiting.new n) }
-    ensures stuck { OnOk result ((l : ℕ) (s : Setting) (p : Past) → l < length rings.new → HasPast store.new.known s p (D.device store.new.disk) → IsLaneStuck store.new.known rings.new waiting.new s p l) }
-    ensures failed { IfErr result (λ e. e ≡ Failed) }
-    ensures why { (s : Setting) (p : Past) → HasTaken store.old.known (D.device store.old.disk) rings.old waiting.old s p → OnErr result (store.old.known.has_failed ≡ true) }
-    ensures kept { OnErr result ((n : ℕ) × Advances store.old.known (D.device store.old.disk) rings.old waiting.old store.new.known (D.device store.new.disk) rings.new waiting.new n) }
+    ensures { Empties D.device (with_rings store.old rings.old waiting.old) (with_rings store.new rings.new waiting.new) result }
 {
     next_law();
     log_law();
@@ -156,13 +128,7 @@ pub fn drain_rings<D: Disk>(
     requires few { length rings.old ≤ 32 }
     requires room { most_room rings.old ≤ RING_RECORDS }
     requires lanes { length rings.old ≡ store.old.known.layout.lanes }
-    ensures drained { (s : Setting) (p : Past) (h : List (ℕ × Event)) → HasTaken store.new.known (D.device store.new.disk) rings.new waiting.new s p
-        → HoldHistory rings.new store.new.known.layout s p h → OnOk result ((l : ℕ) → lane_of l (applied p) ≡ lane_of l (log_of s h)) }
-    ensures applied { IfOk result (λ n. Drains store.old.known (D.device store.old.disk) rings.old waiting.old store.new.known (D.device store.new.disk) rings.new waiting.new n) }
-    ensures stuck { OnOk result ((l : ℕ) (s : Setting) (p : Past) → l < length rings.new → HasPast store.new.known s p (D.device store.new.disk) → IsLaneStuck store.new.known rings.new waiting.new s p l) }
-    ensures failed { IfErr result (λ e. e ≡ Failed) }
-    ensures why { (s : Setting) (p : Past) → HasTaken store.old.known (D.device store.old.disk) rings.old waiting.old s p → OnErr result (store.old.known.has_failed ≡ true) }
-    ensures kept { OnErr result ((n : ℕ) × Drains store.old.known (D.device store.old.disk) rings.old waiting.old store.new.known (D.device store.new.disk) rings.new waiting.new n) }
+    ensures { DrainsRings D.device (with_rings store.old rings.old waiting.old) (with_rings store.new rings.new waiting.new) result }
 {
     look(rings);
     match drain_known(store, rings, waiting) {

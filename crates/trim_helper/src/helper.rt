@@ -1,25 +1,21 @@
 //! The helper.
-ghost use Rattle.std.specs.Prelude.{◌≡◌, ◌<◌, ◌≤◌, [], ℕ, List, true, false, vec_len, length, IfErr, IfOk, OnErr, OnOk};
+ghost use Rattle.std.specs.Prelude.{◌≡◌, ◌<◌, ◌≤◌, [], ℕ, true, vec_len};
 ghost use Rattle.durable.specs.Store.{HasPast};
-ghost use Rattle.heap_model.specs.declared.event.Event.{Event};
-ghost use Rattle.heap_model.specs.History.{log_of};
-ghost use Rattle.heap_model.specs.Log.{lane as lane_of};
 ghost use Rattle.heap_model.specs.Setting.{Setting};
-ghost use Rattle.store_past.specs.Past.{Past, applied, no_past};
-ghost use Rattle.store_past.specs.declared.error.StoreError.TheVariants.{Failed};
-ghost use Rattle.trim_helper.specs.Calls.{HasGoneOn, Rounds};
+ghost use Rattle.store_past.specs.Past.{Past, no_past};
+ghost use Rattle.trim_helper.specs.Calls.{Drains, HasGoneOn, Rounds};
 ghost use Rattle.trim_helper.specs.Helping.{IsHelper, count_published, place_published};
 ghost use Rattle.trim_helper.specs.Moves.{most_room};
-ghost use Rattle.trim_helper.specs.Parts.{HasDrained, IsServing};
+ghost use Rattle.trim_helper.specs.Parts.{IsServing};
 ghost use Rattle.trim_helper.specs.Rings.{received_of};
-ghost use Rattle.trim_helper.specs.Serving.{HoldHistory};
-ghost use Rattle.trim_helper.specs.Taken.{HasTaken, IsLaneStuck};
 ghost use Rattle.heap_model.specs.declared.limits.TheConstants.{RING_RECORDS};
 
-use crate::serving::Serving;
+use crate::draining::drain_rings;
+use crate::published::publish_all;
+use crate::settling::settle_and_trim;
 use block_disk::Disk;
 use durable::{Store, StoreError};
-use heap_model::{Lane, RING_RECORDS, Record};
+use heap_model::{LANES, Lane, RING_RECORDS, Record};
 use monitor::{HelperSeat, Shared};
 use rtrb::Consumer;
 use std::marker::Model;
@@ -31,18 +27,24 @@ use std::marker::Model;
 /// see it as its `Parts`.
 #[derive(Drop)]
 pub struct Helper<D: Disk> {
-    pub(crate) serving: Serving<D>,
+    pub(crate) store: Store<D>,
+    /// The rings' ends, by lane.
+    pub(crate) rings: Vec<Consumer<Record>>,
+    /// The record of each lane that was taken and waits to be next.
+    pub(crate) waiting: [Option<Record>; LANES],
+    /// Nothing was applied since a round answered Ok.
+    pub(crate) is_settled: bool,
+    pub(crate) seat: HelperSeat,
 }
 
 impl<D: Disk> Model for Helper<D> {
     ghost use Rattle.trim_helper.specs.Parts.{Parts, IsWhole};
-    ghost use Rattle.trim_helper.specs.Whole.{as_parts};
 
     ghost Value = { Parts D };
 
-    ghost view = { λ h. as_parts h.serving };
+    ghost view = { λ h. record { store = h.store; rings = h.rings.items; waiting = h.waiting; is_settled = h.is_settled; seat = h.seat } };
 
-    ghost invariant = { λ h. IsWhole D.device (as_parts h.serving) };
+    ghost invariant = { λ h. IsWhole D.device (record { store = h.store; rings = h.rings.items; waiting = h.waiting; is_settled = h.is_settled; seat = h.seat }) };
 }
 
 impl<D: Disk> Helper<D> {
@@ -58,7 +60,11 @@ impl<D: Disk> Helper<D> {
         ensures parts { (result.store ≡ store) × (result.rings ≡ rings.items) × (result.seat ≡ seat) }
     {
         Helper {
-            serving: Serving::new(store, rings, seat),
+            store,
+            rings,
+            waiting: [None; LANES],
+            is_settled: false,
+            seat,
         }
     }
 
@@ -67,7 +73,7 @@ impl<D: Disk> Helper<D> {
         requires { lane.0 < self.now.store.known.layout.lanes }
         ensures { (s : Setting) (p : Past) → IsServing D.device self.now s p → result ≡ p.cut lane.0 }
     {
-        self.serving.acknowledged(lane)
+        self.store.acknowledged(lane)
     }
 
     /// Applies records that are next in their lanes, in memory alone, until none is, and answers how many. It looks at each ring
@@ -75,19 +81,17 @@ impl<D: Disk> Helper<D> {
     ///
     /// It refuses with `Failed` alone; what it applied before stands.
     pub fn drain(&mut self) -> Result<u64, StoreError>
-        ensures ok { IfOk result (λ n. HasDrained D.device self.old self.new n) }
-        ensures stuck { OnOk result ((l : ℕ) (s : Setting) (p : Past) → l < length self.new.rings → HasPast self.new.store.known s p (D.device self.new.store.disk) → IsLaneStuck self.new.store.known self.new.rings self.new.waiting s p l) }
-        ensures drained { (s : Setting) (p : Past) (h : List (ℕ × Event)) → HasTaken self.new.store.known (D.device self.new.store.disk) self.new.rings self.new.waiting s p
-            → HoldHistory self.new.rings self.new.store.known.layout s p h → OnOk result ((l : ℕ) → lane_of l (applied p) ≡ lane_of l (log_of s h)) }
-        ensures failed { IfErr result (λ e. (e ≡ Failed) × (self.old.store.known.has_failed ≡ true)) }
-        ensures err { OnErr result ((n : ℕ) × HasDrained D.device self.old self.new n) }
-        ensures settled { IfOk result (λ n. self.new.is_settled ≡ true → (self.old.is_settled ≡ true) × (n ≡ 0)) }
-        ensures stays { IfOk result (λ n. n ≡ 0 → self.old.is_settled ≡ true → self.new.is_settled ≡ true) }
-        ensures unsettled { OnErr result (self.new.is_settled ≡ false) }
-        ensures seat { self.new.seat ≡ self.old.seat }
-        ensures layout { self.new.store.known.layout ≡ self.old.store.known.layout }
+        ensures { Drains D.device self.old self.new result }
     {
-        self.serving.drain()
+        let was_settled = self.is_settled;
+        self.is_settled = false;
+        match drain_rings(&mut self.store, &mut self.rings, &mut self.waiting) {
+            Ok(count) => {
+                self.is_settled = stays_settled(was_settled, count);
+                Ok(count)
+            }
+            Err(reason) => Err(reason),
+        }
     }
 
     /// Drains the rings, logs what was applied, writes it home, acknowledges its stable cut, forgets what is acknowledged, and
@@ -102,13 +106,34 @@ impl<D: Disk> Helper<D> {
         ensures rounds { (s : Setting) (p : Past) → IsServing D.device self.old s p → Rounds D.device s p self.old self.new result }
         ensures goes_on { HasGoneOn shared.now self.old self.new }
     {
-        self.serving.round(shared)
+        let count = match self.drain() {
+            Ok(count) => count,
+            Err(reason) => return Err(reason),
+        };
+        if self.is_settled {
+            return Ok(count);
+        }
+        if let Err(reason) = settle_and_trim(&mut self.store) {
+            return Err(reason);
+        }
+        publish_all(&self.store, shared, &mut self.seat);
+        self.is_settled = true;
+        Ok(count)
     }
 
     /// Its store, as it is. What waits and what is in the rings is dropped.
     pub fn into_store(self) -> Store<D>
         ensures { result ≡ self.store }
     {
-        self.serving.into_store()
+        let Helper { store, .. } = self;
+        store
     }
+}
+
+// Whether all is settled still: where it was, and nothing was applied.
+fn stays_settled(was_settled: bool, count: u64) -> bool
+    ensures settled { result ≡ true → (was_settled ≡ true) × (count ≡ 0) }
+    ensures stays { count ≡ 0 → was_settled ≡ true → result ≡ true }
+{
+    was_settled && count == 0
 }

@@ -12,11 +12,10 @@ mod draining;
 mod ended;
 mod helper;
 mod meeting;
+mod meets;
 mod opening;
 mod published;
 mod rings;
-mod round;
-mod serving;
 mod settling;
 
 pub use close_error::CloseError;

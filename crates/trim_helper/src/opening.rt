@@ -5,7 +5,7 @@ ghost use Rattle.monitor.specs.Seats.{IsSeatOf, fresh_views, helper_at};
 ghost use Rattle.monitor.specs.Words.{setting_of};
 ghost use Rattle.store_past.specs.Past.{no_past};
 ghost use Rattle.trim_helper.specs.Helping.{IsHelper};
-ghost use Rattle.trim_helper.specs.Opening.{FitsSchema};
+ghost use Rattle.trim_helper.specs.Opening.{FitsSchema, plan_of};
 
 use block_disk::Disk;
 use durable::Store;
@@ -37,7 +37,7 @@ pub fn open_heap<D: Disk>(
 ) -> Result<Opened<D>, (Recovered<D>, AllocError)>
     requires last { last < 2 ^ 40 }
     requires schema { FitsSchema schema recovered.layout recovered.guards }
-    ensures plan { IfOk result (λ o. o.shared.plan ≡ record { schema = schema; first = recovered.heap; last = last; lanes = recovered.layout.lanes }) }
+    ensures plan { IfOk result (λ o. o.shared.plan ≡ plan_of schema recovered.heap last recovered.layout.lanes) }
     ensures seats { IfOk result (λ o. All (IsSeatOf o.shared) o.seats.items) }
     ensures views { IfOk result (λ o. map (λ s. s.view) o.seats.items ≡ fresh_views o.shared.plan recovered.layout.lanes) }
     ensures helper { IfOk result (λ o. IsHelper o.shared o.seat) }

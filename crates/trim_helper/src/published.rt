@@ -1,18 +1,34 @@
 //! The shared words, as the helper uses them.
-ghost use Rattle.std.specs.Prelude.{◌≡◌, ◌==◌, ◌<◌, ◌≤◌, ◌∷◌, ℕ, List, if◌then◌else◌};
-ghost use Rattle.heap_model.specs.declared.event.Event.{Event};
-ghost use Rattle.heap_model.specs.History.{state_after};
-ghost use Rattle.monitor.specs.Words.{setting_of};
+ghost use Rattle.std.specs.Prelude.{◌≡◌, ◌==◌, ◌<◌, ◌≤◌, ◌∷◌, ℕ, if◌then◌else◌};
 ghost use Rattle.monitor.specs.Seats.{IsSeatOf};
 ghost use Rattle.trim_helper.specs.Endings.{part_at};
-ghost use Rattle.trim_helper.specs.Helping.{IsHelper, Spells, count_published, place_published, taken_in};
-ghost use Rattle.trim_helper.specs.Serving.{Among, IsOneHistory, Part};
+ghost use Rattle.trim_helper.specs.Helping.{HasPublished, HaveRead, IsHelper, MayPublish, TellsHistory, count_published, place_published, taken_in};
 
+use block_disk::Disk;
+use durable::Store;
 use heap_model::Lane;
 use monitor::{Finals, HelperSeat, Seat, Shared};
 
-/// Publishes of the lane how many sections are acknowledged, and the place up to which its log is trimmed.
-pub fn publish(shared: &Shared, seat: &mut HelperSeat, lane: Lane, acknowledged: u64, trimmed: u64)
+/// Publishes by lane what is acknowledged and trimmed.
+pub fn publish_all<D: Disk>(store: &Store<D>, shared: &Shared, seat: &mut HelperSeat)
+    requires seat { IsHelper shared.now seat.old }
+    requires lanes { shared.now.plan.lanes ≡ store.now.known.layout.lanes }
+    requires rises { MayPublish D.device store.now seat.old }
+    ensures published { HasPublished D.device store.now seat.new }
+    ensures seat { IsHelper shared.now seat.new }
+    ensures gathered { taken_in seat.new ≡ taken_in seat.old }
+{
+    let lanes = store.layout().lanes;
+    for lane in 0..lanes {
+        let lane = Lane(lane);
+        let acknowledged = store.acknowledged(lane);
+        let trimmed = store.trimmed(lane);
+        publish(shared, seat, lane, acknowledged, trimmed);
+    }
+}
+
+// Publishes of the lane how many sections are acknowledged, and the place up to which its log is trimmed.
+fn publish(shared: &Shared, seat: &mut HelperSeat, lane: Lane, acknowledged: u64, trimmed: u64)
     requires seat { IsHelper shared.now seat.old }
     requires lane { lane.0 < shared.now.plan.lanes }
     requires count { count_published seat.old lane.0 ≤ acknowledged }
@@ -41,8 +57,8 @@ pub fn gather(shared: &Shared, helper: &mut HelperSeat, seat: Seat)
 /// read more than was published.
 pub fn close(shared: Shared, helper: HelperSeat) -> Finals
     requires helper { IsHelper shared helper }
-    ensures history { (h : List (ℕ × Event)) × IsOneHistory (setting_of shared.plan) shared.plan.lanes (taken_in helper) h × Spells result (state_after (setting_of shared.plan) h) }
-    ensures read { (x : Part) → Among (taken_in helper) x → (x.count ≤ count_published helper x.lane) × (x.place ≤ place_published helper x.lane) }
+    ensures history { TellsHistory shared.plan helper result }
+    ensures read { HaveRead helper }
 {
     shared.close(helper)
 }

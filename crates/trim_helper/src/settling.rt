@@ -1,12 +1,8 @@
 //! What was applied is made durable, its stable cut is acknowledged, and what is acknowledged is forgotten.
-ghost use Rattle.std.specs.Prelude.{◌≡◌, ℕ, IfErr, OnErr, OnOk, false};
-ghost use Rattle.heap_model.specs.Setting.{Setting};
+ghost use Rattle.std.specs.Prelude.{◌≡◌, OnOk, false};
 ghost use Rattle.block_disk.specs.Device.{HasCause};
 ghost use Rattle.store_past.specs.declared.error.StoreError.TheVariants.{Fault};
-ghost use Rattle.store_past.specs.Past.{Past};
-ghost use Rattle.durable.specs.Calls.{RefusesHome};
-ghost use Rattle.durable.specs.Store.{HasPast};
-ghost use Rattle.trim_helper.specs.Settled.{HasClean, Settles, SettlesAndTrims};
+ghost use Rattle.trim_helper.specs.Settled.{SettlesAndTrimsApplied, SettlesApplied, WritesHome};
 
 use block_disk::Disk;
 use cut_laws::{stable_law, stay_law};
@@ -14,9 +10,7 @@ use durable::{Home, Store, StoreError};
 
 // Writes each dirty field's logged value home.
 fn write_home<D: Disk>(store: &mut Store<D>) -> Result<(), StoreError>
-    ensures clean { (s : Setting) (p : Past) → HasPast store.old.known s p (D.device store.old.disk) → OnOk result (HasClean (D.device store.old.disk) store.new.known (D.device store.new.disk) s p s.fields) }
-    ensures kept { (s : Setting) (p : Past) → HasPast store.old.known s p (D.device store.old.disk) → OnErr result (HasClean (D.device store.old.disk) store.new.known (D.device store.new.disk) s p 0) }
-    ensures refused { (s : Setting) (p : Past) → HasPast store.old.known s p (D.device store.old.disk) → IfErr result (RefusesHome store.old.known) }
+    ensures home { WritesHome D.device store.old store.new result }
     ensures running { OnOk result (store.new.known.has_failed ≡ store.old.known.has_failed) }
     ensures cause { HasCause (D.device store.old.disk).failures (D.device store.new.disk).failures Fault result }
     ensures layout { store.new.known.layout ≡ store.old.known.layout }
@@ -34,8 +28,7 @@ fn write_home<D: Disk>(store: &mut Store<D>) -> Result<(), StoreError>
 
 /// Logs what was applied, writes it home, and acknowledges its stable cut.
 pub fn settle_applied<D: Disk>(store: &mut Store<D>) -> Result<(), StoreError>
-    ensures settles { (s : Setting) (p : Past) → HasPast store.old.known s p (D.device store.old.disk)
-        → Settles s p store.old.known (D.device store.old.disk) store.new.known (D.device store.new.disk) result }
+    ensures settles { SettlesApplied D.device store.old store.new result }
     ensures running { OnOk result (store.new.known.has_failed ≡ false) }
     ensures cause { HasCause (D.device store.old.disk).failures (D.device store.new.disk).failures Fault result }
     ensures layout { store.new.known.layout ≡ store.old.known.layout }
@@ -51,11 +44,10 @@ pub fn settle_applied<D: Disk>(store: &mut Store<D>) -> Result<(), StoreError>
     store.settle()
 }
 
-/// Logs what was applied, writes it home, and then acknowledges its stable cut and forgets it, both at once. It takes six
+/// Logs what was applied, writes it home, and then acknowledges its stable cut and forgets it, both at once. It takes four
 /// syncs.
 pub fn settle_and_trim<D: Disk>(store: &mut Store<D>) -> Result<(), StoreError>
-    ensures settles { (s : Setting) (p : Past) → HasPast store.old.known s p (D.device store.old.disk)
-        → SettlesAndTrims s p store.old.known (D.device store.old.disk) store.new.known (D.device store.new.disk) result }
+    ensures settles { SettlesAndTrimsApplied D.device store.old store.new result }
     ensures running { OnOk result (store.new.known.has_failed ≡ false) }
     ensures cause { HasCause (D.device store.old.disk).failures (D.device store.new.disk).failures Fault result }
     ensures layout { store.new.known.layout ≡ store.old.known.layout }

@@ -1,12 +1,99 @@
-use Rattle.std.proofs.Common.{sym, subst}
+use Rattle.std.proofs.Common.{◌≡◌, ◌≤◌, [], Err, Ok, ap, sym, subst}
 use Rattle.monitor.specs.Words.{setting_of}
 use Rattle.trim_helper.specs.Calls.{Closes}
+use Rattle.trim_helper.specs.Closed.{IsClosedDown, Stood}
+use Rattle.trim_helper.specs.Endings.{AreEnded, HoldNone, IsCloseWhy, IsComplete, RefusesEnded, parts_of}
+use Rattle.trim_helper.specs.Helping.{IsHelper, taken_in}
 use Rattle.trim_helper.specs.Parts.{IsServing}
+use Rattle.trim_helper.specs.Taken.{HasTaken, with_rings}
+use Rattle.trim_helper.specs.declared.close_error.CloseError.TheVariants.{Failed as CloseFailed}
+use Rattle.trim_helper.proofs.ClosingReasons.{never_why, not_sessions}
+use Rattle.trim_helper.proofs.Gathering.{closing_refused, ended_refused}
+use Rattle.trim_helper.proofs.Rounds.{parts_from, stood_still}
+use Rattle.trim_helper.proofs.Sent.{never_refused}
 use Rattle.trim_helper.proofs.closing_down.close_down.Goals as goal
+
+pub finish-requires-clause-helper : goal.finish-requires-clause-helper
+finish-requires-clause-helper g c = subst (λ v. IsHelper c.args.shared v.seat) (sym c.helper.view_is) c.requires.helper
+
+pub finish-requires-clause-lanes : goal.finish-requires-clause-lanes
+finish-requires-clause-lanes g c = subst (λ v. c.args.shared.plan.lanes ≡ v.store.known.layout.lanes) (sym c.helper.view_is) c.requires.lanes
+
+pub finish-requires-clause-ended : goal.finish-requires-clause-ended
+finish-requires-clause-ended g c = subst (λ rings. AreEnded c.args.shared c.helper.inside.store.known.layout.capacity rings c.args.ended.items) (sym c.deref_mut.ensures.value)
+    (subst (λ v. AreEnded c.args.shared v.store.known.layout.capacity v.rings c.args.ended.items) (sym c.helper.view_is) c.requires.ended)
+
+pub finish-requires-clause-complete : goal.finish-requires-clause-complete
+finish-requires-clause-complete g c =
+    let lanes = ap (λ l. l.lanes) c.layout-lanes.ensures in
+    subst (λ n. IsComplete n c.args.ended.items) lanes (subst (λ es. IsComplete c.layout-lanes.result.lanes es) c.deref.ensures.value c.in_default.ensures.1)
+
+pub finish-requires-clause-nothing : goal.finish-requires-clause-nothing
+finish-requires-clause-nothing g c = subst (λ v. taken_in v.seat ≡ []) (sym c.helper.view_is) c.requires.nothing
+
+pub returns-in-Ok : goal.returns-in-Ok
+returns-in-Ok g c = record {
+  closes = λ p serving.
+      let inside = c.helper.inside in
+      let x = parts_from inside.store inside.rings.items inside.waiting inside.is_settled inside.seat in
+      let s = setting_of c.args.shared.plan in
+      let has = subst (λ v. IsServing g.D.Disk.device v s p) (sym c.helper.view_is) serving in
+      let lanes = ap (λ l. l.lanes) c.layout-lanes.ensures in
+      let taken = subst (λ rings. HasTaken g.D.Disk.device (with_rings x.store rings x.waiting) s p) (sym c.deref_mut.ensures.value) has.taken in
+      let finished = c.in-Ok.ensures p taken in
+      let disk = c.into_disk-in-Ok.ensures.disk in
+      subst (λ v. Closes g.D.Disk.device c.args.shared c.args.ended.items p v (Ok c.into_disk-in-Ok.result)) c.helper.view_is (record {
+        ok = subst (λ d. IsClosedDown s c.args.shared.plan.lanes x.store.known.layout (parts_of c.args.ended.items) p (g.D.Disk.device x.store.disk) (g.D.Disk.device d)) (sym disk) (finished.ok (λ l lt. (has.counts l lt, has.places l lt))).closed;
+        refused = (subst HoldNone c.deref.ensures.value c.in_default.ensures.0, subst (λ n. IsComplete n c.args.ended.items) lanes (subst (λ es. IsComplete c.layout-lanes.result.lanes es) c.deref.ensures.value c.in_default.ensures.1));
+        failed = λ off none complete. absurd (let no = finished.failed off in cc);
+        why = tt;
+        untouched = tt;
+        stood = subst (λ d. Stood x.store.known.layout s p c.args.ended.items (g.D.Disk.device x.store.disk) (g.D.Disk.device d)) (sym disk) finished.stood;
+        later = subst (λ d. (g.D.Disk.device x.store.disk).failures ≤ (g.D.Disk.device d).failures) (sym disk) finished.later;
+      });
+}
 
 pub returns : goal.returns
 returns g c = record {
-  closes = λ p has.
-      subst (λ x. Closes g.D.Disk.device c.args.shared c.args.ended.items p x c.close_serving.result) c.helper.view_is
-      (c.close_serving.ensures.closes p (subst (λ x. IsServing g.D.Disk.device x (setting_of c.args.shared.plan) p) (sym c.helper.view_is) has));
+  closes = λ p serving.
+      let inside = c.helper.inside in
+      let x = parts_from inside.store inside.rings.items inside.waiting inside.is_settled inside.seat in
+      let s = setting_of c.args.shared.plan in
+      let has = subst (λ v. IsServing g.D.Disk.device v s p) (sym c.helper.view_is) serving in
+      let lanes = ap (λ l. l.lanes) c.layout-lanes.ensures in
+      let taken = subst (λ rings. HasTaken g.D.Disk.device (with_rings x.store rings x.waiting) s p) (sym c.deref_mut.ensures.value) has.taken in
+      let finished = c.in-Err-finish.ensures p taken in
+      let disk = c.into_disk-in-Err-finish.ensures.disk in
+      subst (λ v. Closes g.D.Disk.device c.args.shared c.args.ended.items p v (Err (c.into_disk-in-Err-finish.result, c.in-Err-finish.reason))) c.helper.view_is (record {
+        ok = tt;
+        refused = closing_refused x.store.known.layout.lanes c.args.ended.items c.in-Err-finish.reason
+            (subst HoldNone c.deref.ensures.value c.in_default.ensures.0) (subst (λ n. IsComplete n c.args.ended.items) lanes (subst (λ es. IsComplete c.layout-lanes.result.lanes es) c.deref.ensures.value c.in_default.ensures.1))
+            finished.stop;
+        failed = λ off none complete. let is = finished.failed off in let same : Err c.in-Err-finish.reason ≡ Err CloseFailed = is in cc;
+        why = subst (λ d. IsCloseWhy x.store.known (g.D.Disk.device x.store.disk) (g.D.Disk.device d) c.in-Err-finish.reason) (sym disk) finished.why;
+        untouched = λ is. absurd (not_sessions c.in-Err-finish.reason finished.stop is);
+        stood = subst (λ d. Stood x.store.known.layout s p c.args.ended.items (g.D.Disk.device x.store.disk) (g.D.Disk.device d)) (sym disk) finished.stood;
+        later = tt;
+      });
+}
+
+pub returns-in-Err : goal.returns-in-Err
+returns-in-Err g c = record {
+  closes = λ p serving.
+      let inside = c.helper.inside in
+      let x = parts_from inside.store inside.rings.items inside.waiting inside.is_settled inside.seat in
+      let s = setting_of c.args.shared.plan in
+      let has = subst (λ v. IsServing g.D.Disk.device v s p) (sym c.helper.view_is) serving in
+      let lanes = ap (λ l. l.lanes) c.layout-lanes.ensures in
+      let told : RefusesEnded x.store.known.layout.lanes c.args.ended.items c.in-Err.reason =
+      subst (λ n. RefusesEnded n c.args.ended.items c.in-Err.reason) lanes (subst (λ es. RefusesEnded c.layout-lanes.result.lanes es c.in-Err.reason) c.deref.ensures.value c.in-Err.ensures) in
+      subst (λ v. Closes g.D.Disk.device c.args.shared c.args.ended.items p v (Err (c.into_disk.result, c.in-Err.reason))) c.helper.view_is (record {
+        ok = tt;
+        refused = ended_refused x.store.known.layout.lanes c.args.ended.items c.in-Err.reason told;
+        failed = λ off none complete. absurd (never_refused x.store.known.layout.lanes c.args.ended.items c.in-Err.reason told none complete);
+        why = never_why x.store.known.layout.lanes c.args.ended.items _ _ _ c.in-Err.reason told;
+        untouched = λ is. c.into_disk.ensures.disk;
+        stood = stood_still _ s p c.args.ended.items _ _ has.taken.has.past.legal (λ none complete. absurd (never_refused x.store.known.layout.lanes c.args.ended.items c.in-Err.reason told none complete)) (ap g.D.Disk.device c.into_disk.ensures.disk);
+        later = tt;
+      });
 }

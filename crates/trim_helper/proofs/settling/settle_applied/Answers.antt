@@ -1,11 +1,11 @@
-use Rattle.std.proofs.Common.{◌∙◌, ◌≡◌, Err, true, false, refl, sym, ap, inl, inr, ⊎_elim, arith}
+use Rattle.std.proofs.Common.{◌∙◌, refl, arith}
 use Rattle.heap_model.specs.Sections.{actions}
 use Rattle.store_past.specs.Past.{applied, after_log, after_settle}
 use Rattle.trim_helper.specs.Settled.{HasSame, IsSettled}
-use Rattle.trim_helper.proofs.Homes.{passed_on, logged_then, homes_then, refused_then, same_stay, same_dirtied, settled_now, dirtied, ok_weaker, failed_log, refused_home, refused_log, settle_refused, settles_by}
+use Rattle.trim_helper.proofs.Homes.{not_home, not_logged, passed_on, homes_then, refused_then, same_dirtied, settled_now, dirtied, ok_weaker, settle_refused, settles_by}
 use Rattle.block_disk.proofs.Failures.{cause_since}
-use Rattle.durable.proofs.Running.{failed_or_still, ran_one, ran_refused}
-use Rattle.durable.specs.declared.store_call.StoreCall.TheVariants.{Log, Settle}
+use Rattle.durable.proofs.Running.{ran_one, ran_refused}
+use Rattle.durable.specs.declared.store_call.StoreCall.TheVariants.{Settle}
 use Rattle.trim_helper.proofs.settling.settle_applied.Goals as goal
 
 pub returns-in-Err-clause-cause : goal.returns-in-Err-clause-cause
@@ -19,33 +19,17 @@ returns-clause-cause g c = cause_since _ _ _ _ c.settle.result (omega (arith, c.
 
 pub returns-in-Err-clause-settles : goal.returns-in-Err-clause-settles
 returns-in-Err-clause-settles g c = λ s p has.
-    let x = c.args.store.now in
-    let y = c.log_step.new.self in
-    let why = failed_or_still g.D.Disk.device x y c.log_step.result c.in-Err.reason c.in-Err.is c.in-Err.ensures.refused c.log_step.ensures.failed in
-    record {
-      same = same_stay x.known y.known (g.D.Disk.device x.disk) (g.D.Disk.device y.disk) s p (c.in-Err.ensures.kept s p has) (ran_refused x.known y.known s p _ _ c.log_step.ensures.layout has Log tt why (c.log_step.ensures.shown s p has));
-      settled = tt;
-      failed = λ off. ap Err (failed_log x.known p c.in-Err.reason off (c.in-Err.ensures.answer s p has));
-      refused = refused_log x.known y.known p c.in-Err.reason (c.in-Err.ensures.answer s p has) (⊎_elim (λ is. inl is) (λ same. inr (ap (λ z. z.known) same)) c.in-Err.ensures.refused);
-    }
+    not_logged g.D.Disk.device s p c.args.store.now c.log_step.new.self has c.log_step.ensures.layout (c.log_step.ensures.shown s p has) c.log_step.result c.in-Err.reason c.in-Err.is c.in-Err.ensures.refused c.log_step.ensures.failed
+    (c.in-Err.ensures.kept s p has) (c.in-Err.ensures.answer s p has)
 
 pub returns-in-Err-write_home-clause-settles : goal.returns-in-Err-write_home-clause-settles
 returns-in-Err-write_home-clause-settles g c = λ s p has.
-    let x = c.args.store.now in
-    let ran = c.in_default.ensures.running in
-    let had = c.in_default.ensures.ok s p has in
-    let was = c.in-Err-write_home.ensures.kept s (after_log p) had in
-    record {
-      same = same_dirtied x.known c.write_home.new.store.known (g.D.Disk.device x.disk) (g.D.Disk.device c.write_home.new.store.disk) s p was.dirty has.past was.has
-          (logged_then x.known c.log_step.new.self.known c.write_home.new.store.known s p _ _ _ c.log_step.ensures.layout c.write_home.ensures.layout has (c.log_step.ensures.shown s p has) _ was.ran);
-      settled = tt;
-      failed = λ off. absurd (let no : false ≡ true = sym ran.0 ∙ off in cc);
-      refused = refused_home x.known c.log_step.new.self.known c.write_home.new.store.known c.in-Err-write_home.reason ran.0 ran.1 (c.in-Err-write_home.ensures.refused s (after_log p) had);
-    }
+    not_home g.D.Disk.device s p c.args.store.now c.log_step.new.self has c.log_step.ensures.layout (c.log_step.ensures.shown s p has) c.write_home.new.store c.in-Err-write_home.reason c.in_default.ensures.running
+    c.write_home.ensures.layout (c.in-Err-write_home.ensures.home s (after_log p) (c.in_default.ensures.ok s p has))
 
 pub returns-clause-settles : goal.returns-clause-settles
 returns-clause-settles g c = λ s p has.
-    let was = c.in_default-write_home.ensures.clean s (after_log p) (c.in_default.ensures.ok s p has) in
+    let was = (c.in_default-write_home.ensures.home s (after_log p) (c.in_default.ensures.ok s p has)).clean in
     let cut = c.stable_law.ensures.exists (actions (applied p)) in
     let now = dirtied (after_log p) was.dirty in
     let x = c.args.store.now in

@@ -6,20 +6,29 @@ use Rattle.trim_helper.proofs.settling.write_home.Goals as goal
 pub loop-field-init : goal.loop-field-init
 loop-field-init g c = record { clean = λ s p has. clean_none _ _ s p has; later = omega arith; running = refl; layout = refl }
 
-pub returns-in-Ok-Done-clause-clean : goal.returns-in-Ok-Done-clause-clean
-returns-in-Ok-Done-clause-clean g c = λ s p has.
+pub returns-in-Ok-Done-clause-home : goal.returns-in-Ok-Done-clause-home
+returns-in-Ok-Done-clause-home g c = λ s p has.
     let was = (c.loop-field.invariant.clean s p has).0 in
-    clean_done _ _ _ _ _ s p _ was c.home_step.ensures.layout c.in-Ok-Done.ensures.running.0 (c.home_step.ensures.shown s (dirtied p was.dirty) was.has) c.in-Ok-Done.field-0 c.in-Ok-Done.field-0-is (c.in-Ok-Done.ensures.ok s (dirtied p was.dirty) was.has) (c.in-Ok-Done.ensures.answer s (dirtied p was.dirty) was.has).1
+    record {
+      clean = clean_done _ _ _ _ _ s p _ was c.home_step.ensures.layout c.in-Ok-Done.ensures.running.0 (c.home_step.ensures.shown s (dirtied p was.dirty) was.has) c.in-Ok-Done.field-0 c.in-Ok-Done.field-0-is
+          (c.in-Ok-Done.ensures.ok s (dirtied p was.dirty) was.has) (c.in-Ok-Done.ensures.answer s (dirtied p was.dirty) was.has).1;
+      kept = tt;
+      refused = tt;
+    }
 
 pub returns-in-Ok-Done-clause-layout : goal.returns-in-Ok-Done-clause-layout
 returns-in-Ok-Done-clause-layout g c = c.home_step.ensures.layout ∙ c.loop-field.invariant.layout
 
-pub returns-in-Err-clause-kept : goal.returns-in-Err-clause-kept
-returns-in-Err-clause-kept g c = λ s p has.
+pub returns-in-Err-clause-home : goal.returns-in-Err-clause-home
+returns-in-Err-clause-home g c = λ s p has.
     let all = c.loop-field.invariant.clean s p has in
     let was = all.0 in
-    clean_kept _ _ _ _ _ s p _ was c.home_step.ensures.layout all.1 (failed_or_still g.D.Disk.device c.loop-field.store c.home_step.new.self c.home_step.result c.in-Err.reason c.in-Err.is c.in-Err.ensures.refused c.home_step.ensures.failed)
-    (c.home_step.ensures.shown s (dirtied p was.dirty) was.has) (c.in-Err.ensures.kept s (dirtied p was.dirty) was.has)
+    record {
+      clean = tt;
+      kept = clean_kept _ _ _ _ _ s p _ was c.home_step.ensures.layout all.1 (failed_or_still g.D.Disk.device c.loop-field.store c.home_step.new.self c.home_step.result c.in-Err.reason c.in-Err.is c.in-Err.ensures.refused c.home_step.ensures.failed)
+          (c.home_step.ensures.shown s (dirtied p was.dirty) was.has) (c.in-Err.ensures.kept s (dirtied p was.dirty) was.has);
+      refused = home_moved c.args.store.now.known c.loop-field.store.known c.in-Err.reason c.loop-field.invariant.running (c.in-Err.ensures.answer s (dirtied p was.dirty) was.has);
+    }
 
 pub returns-in-Err-clause-layout : goal.returns-in-Err-clause-layout
 returns-in-Err-clause-layout g c = c.home_step.ensures.layout ∙ c.loop-field.invariant.layout
@@ -36,14 +45,14 @@ loop-field-preserved g c = record {
   layout = c.home_step.ensures.layout ∙ c.loop-field.invariant.layout;
 }
 
-pub returns-clause-clean : goal.returns-clause-clean
-returns-clause-clean g c = λ s p has.
+pub returns-clause-home : goal.returns-clause-home
+returns-clause-home g c = λ s p has.
     let was = (c.loop-field.invariant.clean s p has).0 in
     let fields : s.fields ≡ c.loop-field.store.known.layout.fields = was.has.setting.fields in
     let same = c.loop-field.invariant.layout in
     let at : c.layout-fields.result.fields ≡ c.args.store.now.known.layout.fields = ap (λ l. l.fields) c.layout-fields.ensures in
     let now : c.loop-field.store.known.layout.fields ≡ c.args.store.now.known.layout.fields = ap (λ l. l.fields) same in
-    clean_most _ _ _ s p _ (omega (arith, c.loop-field-test.false)) was
+    record { clean = clean_most _ _ _ s p _ (omega (arith, c.loop-field-test.false)) was; kept = tt; refused = tt }
 
 pub returns-clause-layout : goal.returns-clause-layout
 returns-clause-layout g c = c.loop-field.invariant.layout
@@ -62,8 +71,3 @@ returns-in-Ok-Done-clause-running g c = c.in-Ok-Done.ensures.running.1 ∙ sym c
 
 pub returns-clause-running : goal.returns-clause-running
 returns-clause-running g c = c.loop-field.invariant.running
-
-pub returns-in-Err-clause-refused : goal.returns-in-Err-clause-refused
-returns-in-Err-clause-refused g c = λ s p has.
-    let was = (c.loop-field.invariant.clean s p has).0 in
-    home_moved c.args.store.now.known c.loop-field.store.known c.in-Err.reason c.loop-field.invariant.running (c.in-Err.ensures.answer s (dirtied p was.dirty) was.has)

@@ -1,33 +1,58 @@
-use Rattle.std.proofs.Common.{ℕ, ◌≡◌, true, IfErr, OnErr, subst, arith}
-use Rattle.trim_helper.specs.Helping.{count_published, place_published}
-use Rattle.trim_helper.specs.Parts.{HasDrained}
-use Rattle.store_past.specs.declared.error.StoreError.TheVariants.{Failed}
-use Rattle.trim_helper.proofs.Homes.{err_both}
-use Rattle.trim_helper.proofs.Rounds.{drains_either, moved_seat}
+use Rattle.std.proofs.Common.{◌≡◌, Ok, Err, false, length, refl, sym, subst, arith}
+use Rattle.std.proofs.lemmas.List.{take_at}
+use Rattle.trim_helper.specs.Calls.{Drains}
+use Rattle.trim_helper.specs.Draining.{DrainsRings}
+use Rattle.trim_helper.specs.Parts.{IsWhole}
+use Rattle.trim_helper.specs.Taken.{with_rings}
+use Rattle.trim_helper.proofs.Rounds.{drained_same, helper_drains, parts_from, whole_drained}
 use Rattle.trim_helper.proofs.helper.Helper.drain.Goals as goal
+
+pub returns-in-Ok : goal.returns-in-Ok
+returns-in-Ok g c =
+    let x = c.self.inside in
+    let was = parts_from x.store x.rings.items x.waiting x.is_settled x.seat in
+    let now = with_rings c.drain_rings.new.store c.drain_rings.new.rings c.drain_rings.new.waiting in
+    let settled = c.stays_settled-self-inside in
+    let drains = subst (λ rings. DrainsRings g.D.Disk.device (with_rings x.store rings x.waiting) now (Ok c.in-Ok.count)) c.deref_mut.ensures.value c.in-Ok.ensures in
+    let same = drained_same g.D.Disk.device (with_rings x.store x.rings.items x.waiting) now c.in-Ok.count drains.ok in
+    let long : length now.rings ≡ x.rings.len = omega (arith, same.count, x.rings.ok) in
+    subst (λ rings. Drains g.D.Disk.device c.args.self.now (parts_from now.store rings now.waiting settled.result x.seat) (Ok c.in-Ok.count)) (sym (take_at now.rings _ x.rings.len long))
+    (subst (λ old. Drains g.D.Disk.device old (parts_from now.store now.rings now.waiting settled.result x.seat) (Ok c.in-Ok.count)) c.self.view_is
+    (helper_drains g.D.Disk.device was now settled.result (Ok c.in-Ok.count) c.self.invariant drains settled.ensures.settled settled.ensures.stays tt))
+
+pub returns-in-Err : goal.returns-in-Err
+returns-in-Err g c =
+    let x = c.self.inside in
+    let was = parts_from x.store x.rings.items x.waiting x.is_settled x.seat in
+    let now = with_rings c.drain_rings.new.store c.drain_rings.new.rings c.drain_rings.new.waiting in
+    let drains = subst (λ rings. DrainsRings g.D.Disk.device (with_rings x.store rings x.waiting) now (Err c.in-Err.reason)) c.deref_mut.ensures.value c.in-Err.ensures in
+    let same = drained_same g.D.Disk.device (with_rings x.store x.rings.items x.waiting) now drains.kept.0 drains.kept.1 in
+    let long : length now.rings ≡ x.rings.len = omega (arith, same.count, x.rings.ok) in
+    subst (λ rings. Drains g.D.Disk.device c.args.self.now (parts_from now.store rings now.waiting false x.seat) (Err c.in-Err.reason)) (sym (take_at now.rings _ x.rings.len long))
+    (subst (λ old. Drains g.D.Disk.device old (parts_from now.store now.rings now.waiting false x.seat) (Err c.in-Err.reason)) c.self.view_is
+    (helper_drains g.D.Disk.device was now false (Err c.in-Err.reason) c.self.invariant drains tt tt refl))
 
 pub invariant_of-self : goal.invariant_of-self
 invariant_of-self g c =
-    let was = c.self.invariant in
-    let made = c.drain.new.self in
-    let answer = c.drain.ensures in
-    let served = drains_either _ _ _ _ _ _ _ _ c.self.inside.serving.is_settled made.is_settled (count_published c.self.inside.serving.seat) (place_published c.self.inside.serving.seat) was.setting was.past c.drain.result answer.applied answer.kept answer.settled answer.unsettled was.serving in
-    let now = moved_seat count_published place_published _ _ _ _ _ made.is_settled was.setting was.past served.0 _ _ answer.seat served.1 in
-    record {
-      lanes = omega (arith, made.rings.ok, made.lanes);
-      few = omega (arith, made.rings.ok, made.few);
-      rooms = made.rooms;
-      setting = was.setting;
-      past = now.now;
-      serving = now.serves;
-    }
+    let x = c.self.inside in
+    let was = parts_from x.store x.rings.items x.waiting x.is_settled x.seat in
+    let now = with_rings c.drain_rings.new.store c.drain_rings.new.rings c.drain_rings.new.waiting in
+    let settled = c.stays_settled-self-inside in
+    let drains = subst (λ rings. DrainsRings g.D.Disk.device (with_rings x.store rings x.waiting) now (Ok c.in-Ok.count)) c.deref_mut.ensures.value c.in-Ok.ensures in
+    let same = drained_same g.D.Disk.device (with_rings x.store x.rings.items x.waiting) now c.in-Ok.count drains.ok in
+    let long : length now.rings ≡ x.rings.len = omega (arith, same.count, x.rings.ok) in
+    subst (λ rings. IsWhole g.D.Disk.device (parts_from now.store rings now.waiting settled.result x.seat)) (sym (take_at now.rings _ x.rings.len long))
+    (whole_drained g.D.Disk.device was (parts_from now.store now.rings now.waiting settled.result x.seat) (Ok c.in-Ok.count) c.self.invariant
+    (helper_drains g.D.Disk.device was now settled.result (Ok c.in-Ok.count) c.self.invariant drains settled.ensures.settled settled.ensures.stays tt))
 
-pub returns-clause-err : goal.returns-clause-err
-returns-clause-err g c =
-    let made = c.drain.new.self in
-    subst (λ x. OnErr c.drain.result ((n : ℕ) × HasDrained g.D.Disk.device x (record { store = made.store; rings = made.rings.items; waiting = made.waiting; is_settled = made.is_settled; seat = made.seat }) n)) c.self.view_is c.drain.ensures.kept
-
-pub returns-clause-failed : goal.returns-clause-failed
-returns-clause-failed g c =
-    let was = c.self.invariant in
-    subst (λ x. IfErr c.drain.result (λ e. (e ≡ Failed) × (x.store.known.has_failed ≡ true))) c.self.view_is (err_both c.drain.result _ _ c.drain.ensures.failed (c.drain.ensures.why was.setting was.past was.serving.taken))
+pub invariant_of-self-in-Err : goal.invariant_of-self-in-Err
+invariant_of-self-in-Err g c =
+    let x = c.self.inside in
+    let was = parts_from x.store x.rings.items x.waiting x.is_settled x.seat in
+    let now = with_rings c.drain_rings.new.store c.drain_rings.new.rings c.drain_rings.new.waiting in
+    let drains = subst (λ rings. DrainsRings g.D.Disk.device (with_rings x.store rings x.waiting) now (Err c.in-Err.reason)) c.deref_mut.ensures.value c.in-Err.ensures in
+    let same = drained_same g.D.Disk.device (with_rings x.store x.rings.items x.waiting) now drains.kept.0 drains.kept.1 in
+    let long : length now.rings ≡ x.rings.len = omega (arith, same.count, x.rings.ok) in
+    subst (λ rings. IsWhole g.D.Disk.device (parts_from now.store rings now.waiting false x.seat)) (sym (take_at now.rings _ x.rings.len long))
+    (whole_drained g.D.Disk.device was (parts_from now.store now.rings now.waiting false x.seat) (Err c.in-Err.reason) c.self.invariant
+    (helper_drains g.D.Disk.device was now false (Err c.in-Err.reason) c.self.invariant drains tt tt refl))

@@ -2,7 +2,7 @@ use Rattle.std.proofs.Common.{ℕ, ◌<◌, ◌+◌, ◌≢◌, ◌∙◌, refl,
 use Rattle.std.proofs.lemmas.Bool.Decides.{eqb_tells}
 use Rattle.trim_helper.specs.Taken.{trimmed_of}
 use Rattle.trim_helper.proofs.Rounds.{chosen, unchosen}
-use Rattle.trim_helper.proofs.serving.publish_all.Goals as goal
+use Rattle.trim_helper.proofs.published.publish_all.Goals as goal
 
 pub loop-lane-init : goal.loop-lane-init
 loop-lane-init g c = record { seat = c.requires.seat; done = λ s p has k lt. absurd (omega arith); rest = λ k le lt. (refl, refl); gathered = refl }

@@ -4,7 +4,7 @@ use Rattle.store_past.specs.Past.{Past}
 use Rattle.durable.specs.Store.{HasPast}
 use Rattle.trim_helper.specs.Helping.{IsHelper, count_published, place_published, taken_in}
 use Rattle.trim_helper.specs.Taken.{trimmed_of}
-use Rattle.trim_helper.proofs.serving.publish_all.Given as goal
+use Rattle.trim_helper.proofs.published.publish_all.Given as goal
 
 abbrev pub invariant-loop-lane : goal.invariant-loop-lane
 invariant-loop-lane g l = record {

@@ -1,0 +1,80 @@
+-- How rings are drained: each function's call as one relation (this project's own).
+use Rattle.std.specs.Prelude.{ℕ, ◌≡◌, ◌≢◌, ◌+◌, ◌≤◌, if◌then◌else◌, Bool, true, false, List, length, Result, Ok, Err, IfOk, IfErr, OnOk, OnErr}
+use Rattle.std.specs.Global.{Global}
+use Rattle.rtrb.specs.declared.AnyItems.{AnyItems}
+use Rattle.rtrb.specs.declared.consumer.Consumer.{Consumer}
+use Rattle.heap_model.specs.declared.event.Event.{Event}
+use Rattle.heap_model.specs.declared.limits.TheConstants.{RING_RECORDS}
+use Rattle.heap_model.specs.declared.record.Record.{Record}
+use Rattle.heap_model.specs.History.{log_of}
+use Rattle.heap_model.specs.Log.{lane as lane_of}
+use Rattle.heap_model.specs.Setting.{Setting}
+use Rattle.block_disk.specs.Device.{Device}
+use Rattle.store_past.specs.Past.{Past, applied}
+use Rattle.store_past.specs.declared.error.StoreError.{StoreError}
+use Rattle.store_past.specs.declared.error.StoreError.TheVariants.{Failed}
+use Rattle.trim_helper.specs.Moves.{Looks}
+use Rattle.trim_helper.specs.Rings.{received_of}
+use Rattle.trim_helper.specs.Serving.{HoldHistory}
+use Rattle.trim_helper.specs.Taken.{Taking, HasTaken, Advances, IsLaneStuck, IsStuckAt, AllStuck}
+
+-- how many records went, where it answers whether one did
+abbrev pub counted : Result Bool StoreError → Result ℕ StoreError
+counted (Ok gone) = Ok (if gone then 1 else 0)
+counted (Err e) = Err e
+
+module _ {D : Type 0} (device : D → Device) where
+  -- Records were applied, as many as it answers. It is refused only where the store had failed, and what was applied before stands.
+  pub record Takes (x y : Taking D) (answer : Result ℕ StoreError) : Type 0 where
+    pub ok : IfOk answer (λ n. Advances device x y n)
+    pub kept : OnErr answer ((n : ℕ) × Advances device x y n)
+    pub failed : IfErr answer (λ e. e ≡ Failed)
+    pub why : (s : Setting) (p : Past) → HasTaken device x s p → OnErr answer (x.store.known.has_failed ≡ true)
+
+  -- The lane doesn't go on: the store is as it was, and no other lane goes on that didn't before.
+  pub record Rests (lane : ℕ) (x y : Taking D) : Type 0 where
+    pub store : y.store ≡ x.store
+    pub stuck : IsStuckAt device y lane
+    pub others : (l : ℕ) (s : Setting) (p : Past) → lane ≢ l → IsLaneStuck x.store.known x.rings x.waiting s p l → IsLaneStuck y.store.known y.rings y.waiting s p l
+
+  -- One lane's next record is applied, if one is known and it is next: it answers whether.
+  pub record GoesOn (lane : ℕ) (x y : Taking D) (answer : Result Bool StoreError) : Type 0 where
+    pub takes : Takes x y (counted answer)
+    pub rests : IfOk answer (λ gone. gone ≡ false → Rests lane x y)
+
+  -- One lane goes on as long as it can.
+  pub record RunsOn (lane : ℕ) (x y : Taking D) (answer : Result ℕ StoreError) : Type 0 where
+    pub takes : Takes x y answer
+    pub stuck : OnOk answer (IsStuckAt device y lane)
+    pub rests : IfOk answer (λ n. n ≡ 0 → Rests lane x y)
+
+  -- Each lane in turn goes on as long as it can. Where none did, none can.
+  pub record Turns (x y : Taking D) (answer : Result ℕ StoreError) : Type 0 where
+    pub takes : Takes x y answer
+    pub stuck : IfOk answer (λ n. n ≡ 0 → AllStuck device y)
+
+  -- where the rings hold the logs of one legal history, all of it is applied
+  abbrev pub HasAll : Taking D → Type 0
+  HasAll y = (s : Setting) (p : Past) (h : List (ℕ × Event)) → HasTaken device y s p → HoldHistory y.rings y.store.known.layout s p h → (l : ℕ) → lane_of l (applied p) ≡ lane_of l (log_of s h)
+
+  -- The lanes go on until none can.
+  pub record Empties (x y : Taking D) (answer : Result ℕ StoreError) : Type 0 where
+    pub takes : Takes x y answer
+    pub stuck : OnOk answer (AllStuck device y)
+    pub whole : OnOk answer (HasAll y)
+
+  -- So many records were applied of what the rings held when they were looked at: of each lane at most a ring's.
+  pub record Drained (x y : Taking D) (n : ℕ) : Type 0 where
+    pub seen : List (Consumer Record Global AnyItems)
+    pub looks : Looks x.rings seen
+    pub advances : Advances device (record x { rings = seen }) y n
+    pub most : (l : ℕ) → length (received_of y.rings l) ≤ length (received_of x.rings l) + RING_RECORDS
+
+  -- The rings are looked at, and then the lanes go on until none can.
+  pub record DrainsRings (x y : Taking D) (answer : Result ℕ StoreError) : Type 0 where
+    pub ok : IfOk answer (λ n. Drained x y n)
+    pub kept : OnErr answer ((n : ℕ) × Drained x y n)
+    pub stuck : OnOk answer (AllStuck device y)
+    pub whole : OnOk answer (HasAll y)
+    pub failed : IfErr answer (λ e. e ≡ Failed)
+    pub why : (s : Setting) (p : Past) → HasTaken device x s p → OnErr answer (x.store.known.has_failed ≡ true)
