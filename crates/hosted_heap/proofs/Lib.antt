@@ -5,3 +5,5 @@ mod Fits
 mod Later
 mod Makings
 mod Orders
+mod Hosts
+mod Meetings

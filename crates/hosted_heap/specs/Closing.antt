@@ -1,5 +1,5 @@
 -- What is left of a heap that wasn't closed (this project's own).
-use Rattle.std.specs.Prelude.{ℕ, ◌≡◌, ◌+◌, ◌<◌, List, [], All, Any, length, map}
+use Rattle.std.specs.Prelude.{◌≡◌, ◌+◌, ◌<◌, List, [], All, Any, length}
 use Rattle.deferred_disk.specs.Deferred.{Deferred}
 use Rattle.deferred_disk.specs.Host.{HasLooked, Host}
 use Rattle.deferred_disk.specs.declared.disk.TheConstants.{SYNCS}
@@ -32,10 +32,6 @@ pub record GoesOnWithout (x y : Hosting) : Type 0 where
   pub helper : y.helper ≡ x.helper
   pub unused : y.unused ≡ []
   pub stop : y.stop ≡ x.stop
-
--- the lanes of these, in order
-abbrev pub lanes_ended : List Ended → List ℕ
-lanes_ended es = map (λ e. e.lane.0) es
 
 -- Sessions have ended, one a lane, and one of them holds a monitor, with the disk as it was; or the device is the reason.
 pub record StopsBy (h : Home) (x : Parts Deferred) (disk : Deferred) (e : CloseError) : Type 0 where

@@ -1,15 +1,15 @@
 -- A hosted heap, as contracts see it, and what its calls keep (this project's own).
 use Rattle.std.specs.Prelude.{ℕ, ◌≡◌, List, [], ◌∷◌, drop, fold, length}
 use Rattle.block_disk.specs.Device.{Device}
-use Rattle.block_disk.specs.Memory.{device_of}
-use Rattle.deferred_disk.specs.Deferred.{Deferred}
+use Rattle.deferred_disk.specs.Deferred.{Deferred, deferred_device}
 use Rattle.deferred_disk.specs.Host.{Host}
-use Rattle.image.specs.declared.layout.Layout.{Layout}
 use Rattle.monitor.specs.Seats.{Home}
-use Rattle.running_heap.specs.Closed.{IsClosed}
+use Rattle.running_heap.specs.Closed.{IsClosed, IsClosedFrom}
 use Rattle.session.specs.Sessions.{view_of}
+use Rattle.steps.specs.Views.{plan}
+use Rattle.store_past.specs.Past.{Past}
 use Rattle.trim_helper.specs.Endings.{HoldNone, IsComplete}
-use Rattle.trim_helper.specs.Parts.{Parts}
+use Rattle.trim_helper.specs.Parts.{IsServing, Parts}
 use Rattle.trim_helper.specs.declared.ended.Ended.{Ended}
 use Rattle.hosted_heap.specs.Sessions.{Seated}
 use Rattle.hosted_heap.specs.Stopping.{Stopping}
@@ -17,7 +17,7 @@ use Rattle.hosted_heap.specs.declared.lane_end.LaneEnd.{LaneEnd}
 
 -- the device that a deferred disk is
 abbrev pub hosted_device : Deferred → Device
-hosted_device d = device_of d.memory
+hosted_device d = deferred_device d
 
 -- Its words, its helper, and the calls that its host has made and is yet to make; the lanes whose session wasn't handed out, the next one
 -- first; where the sessions that were come back, the last one first; and the word by which they learn that it has stopped.
@@ -46,9 +46,11 @@ pub record SameHeap (x y : Hosting) : Type 0 where
   pub stop : y.stop ≡ x.stop
 
 -- Sessions have ended, one a lane, and none of them held a monitor. One legal history has what each was told as its part, and the
--- device stands for its heap.
-pub record IsClosedWith (h : Home) (l : Layout) (d : Device) : Type 0 where
+-- device stands for its heap. It is the helper's device, later: whatever a crash left since then shows what store calls made of what
+-- the helper served.
+pub record IsClosedWith (h : Home) (x : Parts Deferred) (d : Device) : Type 0 where
   pub ended : List Ended
   pub none : HoldNone ended
-  pub complete : IsComplete l.lanes ended
-  pub closed : IsClosed h l ended d
+  pub complete : IsComplete x.store.known.layout.lanes ended
+  pub closed : IsClosed h x.store.known.layout ended d
+  pub from : (p : Past) → IsServing hosted_device x (plan h) p → IsClosedFrom h x.store.known.layout ended p (hosted_device x.store.disk) d

@@ -2,6 +2,7 @@
 use Rattle.std.specs.Prelude.{ℕ, ◌≡◌, ◌≤◌, List, All, length}
 use Rattle.std.specs.List.{range_with_len}
 use Rattle.deferred_disk.specs.Deferred.{Deferred}
+use Rattle.deferred_disk.specs.Host.{Host, IsHostOf}
 use Rattle.image.specs.Layout.{IsLayout}
 use Rattle.image.specs.declared.layout.Layout.{Layout}
 use Rattle.monitor.specs.Seats.{Home}
@@ -12,10 +13,11 @@ use Rattle.hosted_heap.specs.Lanes.{AreNewHere, ArePaired, IsJoinedHere, IsLaneE
 use Rattle.hosted_heap.specs.Sessions.{Seated}
 use Rattle.hosted_heap.specs.declared.lane_end.LaneEnd.{LaneEnd}
 
--- The helper is of these words, the sessions that weren't handed out too, which learn of a stop by this word, and what comes back meets the helper. There is an end for each lane, the
+-- The helper is of these words, and the host's calls are those of its disk. The sessions that weren't handed out are of these words too, and learn of a stop by this word, and what comes back meets the helper. There is an end for each lane, the
 -- last lane's first, and the sessions that weren't handed out are of the first of these.
-pub record IsHosting (h : Home) (x : Parts Deferred) (l : Layout) (word : ℕ) (unused : List Seated) (lanes : List LaneEnd) : Type 0 where
+pub record IsHosting (h : Home) (x : Parts Deferred) (c : Host) (l : Layout) (word : ℕ) (unused : List Seated) (lanes : List LaneEnd) : Type 0 where
   pub helping : IsHelping hosted_device h x
+  pub host : IsHostOf x.store.disk c
   pub layout_is : l ≡ x.store.known.layout
   pub within : IsLayout l
   pub unused_are : AreNewHere h word unused

@@ -1,8 +1,9 @@
 -- Where sessions come back (this project's own).
-use Rattle.std.specs.Prelude.{ℕ, ◌≡◌, List, ◌∷◌, [], None, All, IfSome, IsSome, fold, length, take}
+use Rattle.std.specs.Prelude.{ℕ, ◌≡◌, ◌<◌, ◌⊎◌, List, ◌∷◌, [], Some, None, All, IfSome, IsSome, fold, length, take}
 use Rattle.monitor.specs.Seats.{Home}
 use Rattle.rtrb.specs.Ring.{known_items, received}
 use Rattle.running_heap.specs.Joined.{IsJoined}
+use Rattle.session.specs.Logs.{held_count}
 use Rattle.session.specs.Sessions.{view_of}
 use Rattle.session.specs.declared.session.Session.{Session}
 use Rattle.trim_helper.specs.Endings.{Rings}
@@ -49,6 +50,18 @@ HasCome l = IsSome l.came
 pub record IsAwaited (l : LaneEnd) : Type 0 where
   pub out : l.came ≡ None
   pub looked : known_items l.back ≡ []
+
+-- its session has come back, and holds no monitor
+abbrev pub IsIdle : LaneEnd → Type 0
+IsIdle l = (s : Session) × (l.came ≡ Some s) × (held_count (view_of s) ≡ 0)
+
+-- its session has come back, and holds one
+abbrev pub CameHolding : LaneEnd → Type 0
+CameHolding l = (s : Session) × (l.came ≡ Some s) × (0 < held_count (view_of s))
+
+-- after a look its session hasn't come back, or holds a monitor
+abbrev pub IsTaken : LaneEnd → Type 0
+IsTaken l = IsAwaited l ⊎ CameHolding l
 
 -- a session of these words that was told nothing, and learns of a stop by this word
 pub record IsNewHere (h : Home) (word : ℕ) (s : Seated) : Type 0 where

@@ -2,10 +2,12 @@
 pub mod Hosting
 pub mod Opening
 pub mod Closing
+pub mod Again
 pub mod Rounds
 pub mod Sessions
 pub mod Stopping
 pub mod Failing
+pub mod Meeting
 -- How sessions come back, and what is true between calls.
 pub mod Returning
 pub mod Lanes

@@ -1,12 +1,16 @@
 -- What a hosted heap begins with, and which refusal comes when (this project's own).
-use Rattle.std.specs.Prelude.{ℕ, ◌≡◌, ◌<◌, List, [], None, slice_index}
+use Rattle.std.specs.Prelude.{ℕ, ◌≡◌, ◌<◌, false, List, [], None, replicate, slice_index}
 use Rattle.std.specs.List.{range_with_len, slice_index_or}
 use Rattle.block_disk.specs.Device.{Device}
 use Rattle.block_disk.specs.Memory.{device_of, fresh}
 use Rattle.deferred_disk.specs.Deferred.{Deferred}
+use Rattle.deferred_disk.specs.Host.{Host, IsHostOf, host_name}
 use Rattle.guards.specs.Schema.{Declarations}
 use Rattle.guards.specs.declared.error.SchemaError.TheVariants as schemas
 use Rattle.heap_model.specs.declared.limits.TheConstants.{LAST_NUMBER}
+use Rattle.image.specs.Calls.{after}
+use Rattle.image.specs.Format.{format_calls}
+use Rattle.image.specs.Layout.{size_of}
 use Rattle.image.specs.Recovered.{Parts}
 use Rattle.image.specs.declared.error.ImageError.TheVariants as images
 use Rattle.image.specs.declared.guard_row.GuardRow.{GuardRow}
@@ -22,24 +26,32 @@ use Rattle.numbered_schema.specs.Rows.{RefusesRows, numbered}
 use Rattle.hosted_heap.specs.declared.error.HostError.{HostError}
 use Rattle.hosted_heap.specs.declared.error.HostError.TheVariants.{NoMemory, Schema, Image, Recover}
 
--- It runs with what was recovered: with its values, its lanes and its device, and nothing was told to it. Its host has made no call and has fetched
--- none, and no session was handed out: the lanes' sessions come by number.
+-- the device of the host that makes these calls, with these bytes, before it has made the first
+abbrev pub device_on : Host → List ℕ → Device
+device_on c bytes = record (device_of (fresh bytes)) { name = host_name c }
+
+-- It runs with what was recovered: with its values, its lanes and its device, and nothing was told to it. The calls of its host are that device's: it has made none and has
+-- fetched none, and no session was handed out: the lanes' sessions come by number.
 pub record HasBegun (schema : Declarations) (r : Parts Deferred) (x : Hosting) : Type 0 where
   pub plan_is : x.home.plan ≡ record { schema = schema; first = r.heap; last = LAST_NUMBER; lanes = r.layout.lanes }
   pub layout_is : x.helper.store.known.layout ≡ r.layout
   pub disk_is : x.helper.store.disk ≡ r.disk
+  pub host : IsHostOf x.helper.store.disk x.calls
   pub untold : IsServing hosted_device x.helper (plan x.home) no_past
+  pub running : x.helper.store.known.has_failed ≡ false
   pub unmade : x.calls.made ≡ []
   pub none_left : x.calls.left ≡ []
   pub unused : x.unused ≡ range_with_len 0 r.layout.lanes
   pub none_out : x.out ≡ []
   pub unstopped : x.stop.seen ≡ None
 
--- It was made of so many objects and of these fields, with so many lanes of so many records, and begins with their first values.
+-- It was made of so many objects and of these fields, with so many lanes of so many records, and begins with their first values. The calls
+-- made the image of a device of zeros.
 pub record IsMade (objects : ℕ) (rows : List GuardRow) (lanes capacity : ℕ) (x : Hosting) : Type 0 where
   pub limits : AreLimits lanes capacity
   pub made : Parts Deferred
   pub layout_is : made.layout ≡ layout_with (numbered objects rows) lanes capacity
+  pub formatted : hosted_device made.disk ≡ after (format_calls made.layout (numbered objects rows)) (device_on x.calls (replicate (size_of made.layout) 0))
   pub values : (f : ℕ) (d : GuardRow) → f < made.layout.fields → slice_index made.heap f ≡ (slice_index_or rows f d).first
   pub begun : HasBegun (numbered objects rows) made x
 
@@ -47,7 +59,7 @@ pub record IsMade (objects : ℕ) (rows : List GuardRow) (lanes capacity : ℕ) 
 pub record IsFound (versions : Versions) (bytes : List ℕ) (x : Hosting) (report : Report) : Type 0 where
   pub taken : IsTooOld versions bytes → ⊥
   pub found : Parts Deferred
-  pub recovery : IsRecovery (device_of (fresh bytes)) (hosted_device found.disk) found report
+  pub recovery : IsRecovery (device_on x.calls bytes) (hosted_device found.disk) found report
   pub begun : HasBegun (numbered found.layout.objects found.guards) found x
 
 -- why no heap is made

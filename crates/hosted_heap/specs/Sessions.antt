@@ -1,5 +1,5 @@
 -- A session with the words of its heap, as contracts see it (this project's own).
-use Rattle.std.specs.Prelude.{ℕ, ◌<◌, ◌≡◌, List, Result, Ok, Err, MatchResult}
+use Rattle.std.specs.Prelude.{ℕ, ◌<◌, ◌≡◌, List, Result, Ok, Err, IsSome, MatchResult}
 use Rattle.monitor.specs.Seats.{Home}
 use Rattle.session.specs.declared.session.Session.{Session}
 use Rattle.session.specs.declared.waiting.Waiting.{Waiting}
@@ -20,32 +20,33 @@ pub record SeatedWaiting : Type 0 where
   pub before : List Session
   pub stop : Stopping
 
--- the session is of the heap with these words, and learns of a stop by this word
-pub record IsOfHeap (h : Home) (word : ℕ) (s : Seated) : Type 0 where
+-- the session is of the heap with these words, and has seen this of its stop
+pub record IsOfHeap (h : Home) (stop : Stopping) (s : Seated) : Type 0 where
   pub home : s.home ≡ h
-  pub word_is : s.stop.word ≡ word
+  pub stop_is : s.stop ≡ stop
 
-pub record IsOfHeapWaiting (h : Home) (word : ℕ) (w : SeatedWaiting) : Type 0 where
+pub record IsOfHeapWaiting (h : Home) (stop : Stopping) (w : SeatedWaiting) : Type 0 where
   pub home : w.home ≡ h
-  pub word_is : w.stop.word ≡ word
+  pub stop_is : w.stop ≡ stop
 
--- after a call it is of the same heap
+-- after a call it is of the same heap, and has seen the same of its stop
 abbrev pub SamePlace : Seated → Seated → Type 0
-SamePlace s t = IsOfHeap s.home s.stop.word t
+SamePlace s t = IsOfHeap s.home s.stop t
 
--- what a call that begins or ends a wait answers is of the same heap
+-- so is what a call that begins or ends a wait answers
 abbrev pub SamePlaceWait : {E : Type 0} → Seated → Result SeatedWaiting (Seated × E) → Type 0
-SamePlaceWait s r = MatchResult r (IsOfHeapWaiting s.home s.stop.word) (λ e. IsOfHeap s.home s.stop.word e.0)
+SamePlaceWait s r = MatchResult r (IsOfHeapWaiting s.home s.stop) (λ e. IsOfHeap s.home s.stop e.0)
 
 abbrev pub SamePlaceResume : {E : Type 0} → SeatedWaiting → Result Seated (SeatedWaiting × E) → Type 0
-SamePlaceResume w r = MatchResult r (IsOfHeap w.home w.stop.word) (λ e. IsOfHeapWaiting w.home w.stop.word e.0)
+SamePlaceResume w r = MatchResult r (IsOfHeap w.home w.stop) (λ e. IsOfHeapWaiting w.home w.stop e.0)
 
--- A session has looked whether its heap has stopped, and nothing but what it has seen may be new.
+-- A session has looked whether its heap has stopped, and nothing but what it has seen may be new. A stop that it had seen it sees again.
 pub record HasLookedAt (s t : Seated) : Type 0 where
   pub home : t.home ≡ s.home
   pub session : t.session ≡ s.session
   pub before : t.before ≡ s.before
   pub word : t.stop.word ≡ s.stop.word
+  pub again : IsSome s.stop.seen → IsSome t.stop.seen
 
 -- And one that waits.
 pub record HasLookedWaiting (w v : SeatedWaiting) : Type 0 where
@@ -53,6 +54,7 @@ pub record HasLookedWaiting (w v : SeatedWaiting) : Type 0 where
   pub waiting : v.waiting ≡ w.waiting
   pub before : v.before ≡ w.before
   pub word : v.stop.word ≡ w.stop.word
+  pub again : IsSome w.stop.seen → IsSome v.stop.seen
 
 -- the session is of these words and may come back, and its ring has room for it
 pub record IsSeated (h : Home) (s : Session) (before : List Session) (free : ℕ) : Type 0 where

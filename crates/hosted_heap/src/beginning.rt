@@ -5,7 +5,7 @@ ghost use Rattle.std.specs.Arc.{arc_value};
 ghost use Rattle.hosted_heap.specs.Hosting.{lanes_of};
 ghost use Rattle.hosted_heap.specs.Lanes.{AreNewHere, IsJoinedHere, IsLaneEnd, lanes_at};
 ghost use Rattle.monitor.specs.Seats.{Home};
-ghost use Rattle.rtrb.specs.Ring.{received};
+ghost use Rattle.rtrb.specs.Ring.{IsPair, known_free, known_items, received, sent};
 ghost use Rattle.running_heap.specs.Joined.{AreNew, IsJoined};
 ghost use Rattle.session.specs.Sessions.{IsSessionOf};
 ghost use Rattle.trim_helper.specs.Endings.{Rings};
@@ -15,7 +15,7 @@ use crate::returning::Returning;
 use crate::seated::HostedSession;
 use crate::stop::{Stop, Stopper};
 use monitor::Shared;
-use rtrb::RingBuffer;
+use rtrb::{Consumer, Producer, RingBuffer};
 use session::Session;
 use std::alloc::{AllocError, Global};
 use std::sync::Arc;
@@ -60,7 +60,27 @@ fn begin(
     ensures session { IfOk result (λ r. (r.0.home ≡ arc_value shared) × (r.0.session ≡ session) × (r.0.stop ≡ stop)) }
     ensures end { IfOk result (λ r. (received r.1.back ≡ session ∷ []) × (r.1.came ≡ None)) }
 {
-    let (mut producer, mut back) = RingBuffer::with_protocol::<Global, Returning>(alloc, 2)?;
+    let (producer, back) = RingBuffer::with_protocol::<Global, Returning>(alloc, 2)?;
+    Ok(seat(shared, session, stop, producer, back))
+}
+
+/// A session with the words, and the end where it comes back, by a ring through which nothing went.
+pub fn seat(
+    shared: Arc<Shared>,
+    session: Session,
+    stop: Stop,
+    producer: Producer<Session, Global, Returning>,
+    back: Consumer<Session, Global, Returning>,
+) -> (HostedSession, LaneEnd)
+    requires of { IsSessionOf (arc_value shared) session }
+    requires pair { IsPair producer back }
+    requires unsent { (sent producer ≡ []) × (known_free producer ≡ 2) }
+    requires unread { (received back ≡ []) × (known_items back ≡ []) }
+    ensures session { (result.0.home ≡ arc_value shared) × (result.0.session ≡ session) × (result.0.stop ≡ stop) }
+    ensures end { (received result.1.back ≡ session ∷ []) × (result.1.came ≡ None) }
+{
+    let mut producer = producer;
+    let mut back = back;
     producer.push_reserved(session);
     back.slots_beside(&mut producer);
     let session = back.pop_known();
@@ -70,5 +90,5 @@ fn begin(
         back: producer,
         stop,
     };
-    Ok((session, LaneEnd { back, came: None }))
+    (session, LaneEnd { back, came: None })
 }

@@ -1,13 +1,13 @@
 //! A hosted heap is closed.
 ghost use Rattle.std.specs.Prelude.{◌≡◌, ◌<◌, ◌≤◌, [], ℕ, All, Any, IfErr, IfOk, Some, true, false, drop, length, set, slice_index_or};
 ghost use Rattle.std.specs.List.{range_with_len};
-ghost use Rattle.hosted_heap.specs.Closing.{HasStopped, lanes_ended};
+ghost use Rattle.hosted_heap.specs.Closing.{HasStopped};
 ghost use Rattle.hosted_heap.specs.Hosting.{IsClosedWith, hosted_device};
 ghost use Rattle.hosted_heap.specs.Lanes.{ArePaired, HasCome, IsAwaited, IsJoinedHere, IsLaneEnd, KeepsEnds, lanes_at};
 ghost use Rattle.hosted_heap.specs.declared.lane_end.LaneEnd.{LaneEnd as End};
 ghost use Rattle.monitor.specs.Seats.{Home};
 ghost use Rattle.running_heap.specs.Joined.{IsHelping};
-ghost use Rattle.trim_helper.specs.Endings.{IsEnded, Rings};
+ghost use Rattle.trim_helper.specs.Endings.{IsEnded, Rings, lanes_ended};
 
 use crate::error::{CloseRefusal, FailedCall};
 use crate::heap::HostedHeap;
@@ -73,7 +73,7 @@ impl HostedHeap {
     ///
     /// Refused in the order of [`NotClosed`].
     pub fn close(self) -> Result<Closed, NotClosed>
-        ensures ok { IfOk result (λ closed. IsClosedWith self.home self.helper.store.known.layout (hosted_device closed.disk)) }
+        ensures ok { IfOk result (λ closed. IsClosedWith self.home self.helper (hosted_device closed.disk)) }
         ensures calls { IfOk result (λ closed. HasLooked self.calls closed.calls) }
         ensures refused { IfErr result (IsNotClosed self) }
     {
@@ -111,7 +111,7 @@ impl HostedHeap {
     fn finish(self) -> Result<Closed, NotClosed>
         requires unused { self.unused ≡ [] }
         requires came { All HasCome self.out }
-        ensures ok { IfOk result (λ closed. IsClosedWith self.home self.helper.store.known.layout (hosted_device closed.disk)) }
+        ensures ok { IfOk result (λ closed. IsClosedWith self.home self.helper (hosted_device closed.disk)) }
         ensures calls { IfOk result (λ closed. closed.calls ≡ self.calls) }
         ensures refused { IfErr result (IsNotFinished self) }
     {
@@ -210,7 +210,7 @@ fn close_all(
     requires lanes { All (IsLaneEnd shared helper.store.known.layout.capacity helper.rings) lanes.items }
     requires order { lanes_at lanes.items ≡ range_with_len 0 helper.store.known.layout.lanes }
     requires came { All HasCome lanes.items }
-    ensures ok { IfOk result (λ closed. IsClosedWith shared helper.store.known.layout (hosted_device closed.disk)) }
+    ensures ok { IfOk result (λ closed. IsClosedWith shared helper (hosted_device closed.disk)) }
     ensures calls { IfOk result (λ closed. closed.calls ≡ calls) }
     ensures refused { IfErr result (HasStopped shared helper calls) }
 {

@@ -46,13 +46,14 @@ impl Model for HostedHeap {
 
     ghost view = { λ x. record { home = arc_value x.shared; helper = x.helper; calls = x.calls; unused = lanes_of x.unused.items; out = handed_out x.unused.items x.lanes.items; stop = x.stop } };
 
-    ghost invariant = { λ x. IsHosting (arc_value x.shared) x.helper x.layout x.stop.word x.unused.items x.lanes.items };
+    ghost invariant = { λ x. IsHosting (arc_value x.shared) x.helper x.calls x.layout x.stop.word x.unused.items x.lanes.items };
 }
 
 impl HostedHeap {
-    ghost use Rattle.std.specs.Prelude.{◌≡◌, ◌≢◌, ◌<◌, ◌≤◌, ◌+◌, ◌↔◌, [], ◌∷◌, List, None, Some, IsSome, Err, true, false, length, IfOk, IfSome, IsErrOf, OnOk, MatchOption};
+    ghost use Rattle.std.specs.Prelude.{◌≡◌, ◌≢◌, ◌<◌, ◌≤◌, ◌+◌, ◌↔◌, [], ◌∷◌, List, ℕ, None, Some, IsSome, Err, true, false, length, IfOk, IfSome, IsErrOf, OnOk, MatchOption};
     ghost use Rattle.deferred_disk.specs.Deferred.{stop_of};
-    ghost use Rattle.deferred_disk.specs.Host.{Fetches, HasLooked};
+    ghost use Rattle.block_disk.specs.Device.{Image};
+    ghost use Rattle.deferred_disk.specs.Host.{Fetches, HasLooked, HaveMet};
     ghost use Rattle.deferred_disk.specs.declared.call.DeviceCall.{DeviceCall};
     ghost use Rattle.deferred_disk.specs.declared.disk.TheConstants.{SYNCS};
     ghost use Rattle.rtrb.specs.Ring.{known_items};
@@ -66,6 +67,8 @@ impl HostedHeap {
     ghost use Rattle.image.specs.Layout.{size_of};
     ghost use Rattle.steps.specs.Views.{plan};
     ghost use Rattle.store_past.specs.Past.{Past};
+    ghost use Rattle.durable.specs.Store.{ShowsStep};
+    ghost use Rattle.hosted_heap.specs.Meeting.{AreAllMade, FetchesAll, SameButMet, host_moment};
     ghost use Rattle.trim_helper.specs.Parts.{IsServing};
 
     /// The layout of its image.
@@ -182,25 +185,58 @@ impl HostedHeap {
         self.helper.round(&self.shared)
     }
 
-    /// How many sections of the lane are acknowledged, where the host has made all calls that were handed over.
+    // Whether a call that was handed over isn't made. The disk and its host's calls have met then.
+    fn has_calls(&mut self) -> bool
+        ensures left { (result ≡ false) ↔ AreAllMade self.new.calls }
+        ensures fetches { FetchesAll self.old.calls self.new.calls }
+        ensures met { HaveMet self.new.helper.store.disk self.new.calls }
+        ensures heap { SameButMet self.old self.new }
+    {
+        self.fetch();
+        self.meet();
+        self.are_left()
+    }
+
+    // Lets the disk meet its host's calls.
+    fn meet(&mut self)
+        ensures calls { HasLooked self.old.calls self.new.calls }
+        ensures met { HaveMet self.new.helper.store.disk self.new.calls }
+        ensures heap { SameButMet self.old self.new }
+    {
+        self.helper.meet(&mut self.calls);
+    }
+
+    // Whether a call is left, of those that were fetched or of those that weren't.
+    fn are_left(&mut self) -> bool
+        ensures left { (result ≡ false) ↔ AreAllMade self.new.calls }
+        ensures calls { HasLooked self.old.calls self.new.calls }
+        ensures heap { SameHeap self.old self.new }
+    {
+        self.calls.waiting() > 0 || self.calls.next_call().is_some()
+    }
+
+    /// How many sections of the lane are acknowledged, where the host has made all calls that were handed over. Whatever a crash of its
+    /// device leaves then keeps them.
     ///
     /// Refused, in this order:
     /// - `BadLane`;
     /// - `CallsLeft`: a call that was handed over isn't made. The calls up to the next sync are fetched then.
     pub fn acknowledged(&mut self, lane: Lane) -> Result<u64, AcknowledgedError>
         ensures ok { (p : Past) → IsServing hosted_device self.old.helper (plan self.old.home) p → IfOk result (λ n. n ≡ p.cut lane.0) }
-        ensures all_made { OnOk result ((self.new.calls.left ≡ []) × (known_items self.new.calls.ring ≡ [])) }
+        ensures all_made { OnOk result (AreAllMade self.new.calls) }
+        ensures kept { OnOk result ((p : Past) (image : List ℕ) → IsServing hosted_device self.old.helper (plan self.old.home) p → Image (host_moment self.new) image
+            → ShowsStep self.old.helper.store.known.layout (plan self.old.home) p self.old.helper.store.known.doubt image) }
         ensures bad_lane { (result ≡ Err BadLane) ↔ (self.old.helper.store.known.layout.lanes ≤ lane.0) }
-        ensures calls_left { IsErrOf result CallsLeft ↔ (lane.0 < self.old.helper.store.known.layout.lanes) × (¬ (self.new.calls.left ≡ [])) }
-        ensures fetches { lane.0 < self.old.helper.store.known.layout.lanes → Fetches self.old.calls self.new.calls }
-        ensures untouched { self.old.helper.store.known.layout.lanes ≤ lane.0 → self.new.calls ≡ self.old.calls }
-        ensures heap { SameHeap self.old self.new }
+        ensures calls_left { IsErrOf result CallsLeft ↔ (lane.0 < self.old.helper.store.known.layout.lanes) × (¬ AreAllMade self.new.calls) }
+        ensures fetches { lane.0 < self.old.helper.store.known.layout.lanes → FetchesAll self.old.calls self.new.calls }
+        ensures met { lane.0 < self.old.helper.store.known.layout.lanes → HaveMet self.new.helper.store.disk self.new.calls }
+        ensures untouched { self.old.helper.store.known.layout.lanes ≤ lane.0 → self.new ≡ self.old }
+        ensures heap { SameButMet self.old self.new }
     {
         if lane.0 >= self.layout.lanes {
             return Err(AcknowledgedError::BadLane);
         }
-        self.fetch();
-        if self.calls.next_call().is_some() {
+        if self.has_calls() {
             return Err(AcknowledgedError::CallsLeft);
         }
         Ok(self.helper.acknowledged(lane))

@@ -1,6 +1,6 @@
 //! The heap's end of a lane.
-ghost use Rattle.std.specs.Prelude.{◌≡◌, ◌↔◌, ◌∷◌, [], ℕ, false, None, IfNone, IfSome, IsSome, IsTrue};
-ghost use Rattle.hosted_heap.specs.Lanes.{BeginsJoined, IsAwaited, IsBack, IsLaneEnd, lane_at, lane_in};
+ghost use Rattle.std.specs.Prelude.{◌≡◌, ◌↔◌, ◌∷◌, [], ℕ, true, false, None, IfNone, IfSome, IsSome, IsTrue};
+ghost use Rattle.hosted_heap.specs.Lanes.{BeginsJoined, IsAwaited, IsBack, IsIdle, IsLaneEnd, IsTaken, lane_at, lane_in};
 ghost use Rattle.monitor.specs.Seats.{Home};
 ghost use Rattle.rtrb.specs.Ring.{known_items, received};
 ghost use Rattle.trim_helper.specs.Endings.{Rings};
@@ -30,6 +30,21 @@ impl LaneEnd {
         }
         self.came = take_one(&mut self.back);
         self.came.is_some()
+    }
+
+    /// Whether it has come back and holds no monitor.
+    pub fn is_idle(&mut self) -> bool
+        ensures kept { (h : Home) (capacity : ℕ) (rings : Rings) → IsLaneEnd h capacity rings self.old → IsLaneEnd h capacity rings self.new × (lane_at self.new ≡ lane_at self.old) }
+        ensures idle { result ≡ true → IsIdle self.new }
+        ensures taken { result ≡ false → IsTaken self.new }
+    {
+        if !self.has_come() {
+            return false;
+        }
+        match &self.came {
+            Some(session) => session.holds() == 0,
+            None => false,
+        }
     }
 }
 

@@ -6,6 +6,7 @@
 //! belong to different heaps are ever passed to one call.
 #![tactic(auto)]
 
+mod again;
 mod beginning;
 mod closing;
 mod error;

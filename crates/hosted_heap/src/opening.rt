@@ -1,5 +1,6 @@
 //! A hosted heap is made, or opened.
 ghost use Rattle.std.specs.Prelude.{◌≡◌, [], IfErr, IfOk};
+ghost use Rattle.deferred_disk.specs.Host.{IsHostOf};
 ghost use Rattle.hosted_heap.specs.Opening.{HasBegun, IsFound, IsMade, RefusesMaking, RefusesOpening};
 ghost use Rattle.trim_helper.specs.Opening.{FitsSchema};
 
@@ -94,7 +95,9 @@ fn begin(
 ) -> Result<HostedHeap, AllocError>
     requires schema { FitsSchema schema recovered.layout recovered.guards }
     requires calls { (calls.made ≡ []) × (calls.left ≡ []) }
+    requires host { IsHostOf recovered.disk calls }
     ensures begun { IfOk result (HasBegun schema recovered) }
+    ensures calls { IfOk result (λ x. x.calls ≡ calls) }
 {
     let layout = recovered.layout();
     let heap = match running_heap::open(alloc, schema, recovered, LAST_NUMBER) {

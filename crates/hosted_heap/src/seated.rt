@@ -51,6 +51,22 @@ impl HostedSession {
     ghost use Rattle.std.specs.Option.{is_some};
     ghost use Rattle.hosted_heap.specs.Sessions.{HasLookedAt, SamePlace, SamePlaceWait, inner_wait};
     ghost use Rattle.session.specs.Calls.{AsksToWait, Enters, Exits, Loads, Looks, Notifies, NotifiesAll, ReadsStable, StoresAs};
+    ghost use Rattle.session.specs.Logs.{sections_ended};
+    ghost use Rattle.session.specs.Sessions.{view_of};
+
+    /// The lane that it is of ([`Session::lane`]).
+    pub fn lane(&self) -> Lane
+        ensures { result ≡ (view_of self.now.session).lane }
+    {
+        self.session.lane()
+    }
+
+    /// How many sections of its lane have ended since the heap was opened ([`Session::sections`]).
+    pub fn sections(&self) -> u64
+        ensures { result ≡ sections_ended (view_of self.now.session) }
+    {
+        self.session.sections()
+    }
 
     /// Looks whether the heap has stopped since its host couldn't make a sync
     /// ([`HostedHeap::call_failed`](crate::HostedHeap::call_failed)). Nothing that the session does from then on is made durable;

@@ -111,13 +111,14 @@ fn counted(alloc: Global) -> Option<(u64, Counts)> {
 }
 
 // By docs/FORMAT.md: 3,000 records of 16 bytes, the first 1,000 of them at the end of the lane's area and the others at its beginning,
-// 4 writes and 8 of 4,096 bytes at most; two cells, one behind the other; and two commits, each a gate, a body of 1,040 bytes and a gate.
+// 4 writes and 8 of 4,096 bytes at most; two cells, one behind the other; and two commits, the first a body of 1,040 bytes and a gate, the second such a body without its
+// sequence and a gate.
 #[test]
 fn a_round_makes_few_calls(rt: HostRuntime) {
     let counts = Counts {
-        writes: 19,
-        syncs: 6,
-        bytes: 50_100,
+        writes: 17,
+        syncs: 4,
+        bytes: 50_090,
         longest: 4_096,
     };
     assert!(rt; counted(rt.alloc()) == Some((3_000, counts)));

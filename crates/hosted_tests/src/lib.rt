@@ -1,7 +1,10 @@
 //! Tests of a hosted heap, by its public calls alone: what recovery keeps of its host's device, at the end of a life and
-//! where the host stops between two calls; how many calls a round makes; and what sessions learn of a call that failed.
+//! where the host stops between two calls; how many calls a round makes; what sessions learn of a call that failed; and lanes
+//! whose sessions come and go.
 #![tactic(auto)]
 
+#[cfg(test)]
+mod again;
 #[cfg(test)]
 mod counts;
 #[cfg(test)]

@@ -2,7 +2,7 @@
 
 use crate::error::SessionError;
 use crate::session::Session;
-use heap_model::ObjectId;
+use heap_model::{Lane, ObjectId};
 use lock_word::{FatWord, LockWord};
 use monitor::Shared;
 
@@ -19,6 +19,20 @@ impl Session {
         ensures { result ≡ sections_ended (view_of self.now) }
     {
         self.parts.sections
+    }
+
+    /// The lane that it is of, numbered from 0.
+    pub fn lane(&self) -> Lane
+        ensures { result ≡ (view_of self.now).lane }
+    {
+        self.parts.seat.lane()
+    }
+
+    /// How many monitors it holds.
+    pub fn holds(&self) -> u32
+        ensures { result ≡ held_count (view_of self.now) }
+    {
+        self.parts.held.len() as u32
     }
 
     /// What the session was told is its lane's part of one legal history (JLS 17.1, 17.2), and what it has sent is the log of

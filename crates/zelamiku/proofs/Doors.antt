@@ -8,5 +8,5 @@ use Rattle.zelamiku.specs.declared.state.Open.TheVariants as kind
 
 -- the session that was there is there again, by a call that is `p`
 pub stays : (p : Seated → Seated → ℕ → Type 0) (x : Open) (s t : Seated) (status : ℕ)
-    → x ≡ kind.Session s → t.home ≡ s.home → t.stop.word ≡ s.stop.word → p s t status → AnswersAs p (behind x) (session_behind t) status
-stays p x s t status is home word told = subst (λ (y : Open). AnswersAs p (behind y) (session_behind t) status) (sym is) (t, refl, record { home = home; word_is = word }, told)
+    → x ≡ kind.Session s → t.home ≡ s.home → t.stop ≡ s.stop → p s t status → AnswersAs p (behind x) (session_behind t) status
+stays p x s t status is home stop told = subst (λ (y : Open). AnswersAs p (behind y) (session_behind t) status) (sym is) (t, refl, record { home = home; stop_is = stop }, told)

@@ -2,12 +2,14 @@
 use Rattle.std.specs.Prelude.{ℕ, ◌≡◌, ◌<◌, ◌≤◌, ◌↔◌, List, [], ◌∷◌, ◌++◌, ◌+◌, ◌==◌, not, true, false, Option, Some, None, Result, Ok, Err, IfOk, IsErrOf, OnOk, drop, length, map, take}
 use Rattle.block_disk.specs.Device.{HasFailed}
 use Rattle.deferred_disk.specs.Deferred.{stop_of}
-use Rattle.deferred_disk.specs.Host.{Fetches, HasLooked, Host}
+use Rattle.deferred_disk.specs.Host.{Fetches, HasLooked, HaveMet, Host}
 use Rattle.deferred_disk.specs.declared.call.DeviceCall.{DeviceCall}
 use Rattle.deferred_disk.specs.declared.call.DeviceCall.TheVariants.{Write, Sync}
 use Rattle.deferred_disk.specs.declared.disk.TheConstants.{SYNCS}
+use Rattle.hosted_heap.specs.Again.{HandsAgain, HasNoneIdle}
 use Rattle.hosted_heap.specs.Closing.{IsNotClosed}
 use Rattle.hosted_heap.specs.Hosting.{Hosting, IsClosedWith, SameHeap, hosted_device}
+use Rattle.hosted_heap.specs.Meeting.{AreAllMade, FetchesAll, SameButMet}
 use Rattle.hosted_heap.specs.Opening.{IsFound, IsMade, RefusesMaking, RefusesOpening}
 use Rattle.hosted_heap.specs.Rounds.{HasRound}
 use Rattle.hosted_heap.specs.Sessions.{Seated}
@@ -21,12 +23,12 @@ use Rattle.hosted_heap.specs.declared.error.RoundError.{RoundError}
 use Rattle.hosted_heap.specs.declared.error.RoundError.TheVariants as rounds
 use Rattle.hosted_heap.specs.declared.lane_end.LaneEnd.{LaneEnd}
 use Rattle.hosted_heap.specs.declared.room.TheConstants.{ROUND_SYNCS}
+use Rattle.hosted_life.specs.Safe.{KeepsFrom, KeepsNow}
 use Rattle.image.specs.Layout.{size_of}
 use Rattle.image.specs.declared.guard_row.GuardRow.{GuardRow}
 use Rattle.image.specs.declared.layout.Layout.{Layout}
 use Rattle.recover.specs.declared.report.Report.{Report}
 use Rattle.recover.specs.declared.versions.Versions.{Versions}
-use Rattle.rtrb.specs.Ring.{known_items}
 use Rattle.session.specs.Sessions.{view_of}
 use Rattle.steps.specs.Views.{plan}
 use Rattle.store_past.specs.Past.{Past}
@@ -109,10 +111,11 @@ pub record IsNext (x y : Hosting) (s : Seated) : Type 0 where
   pub calls : y.calls ≡ x.calls
   pub stop : y.stop ≡ x.stop
 
--- a heap hands out that session, or none is left, or there is no memory
+-- a heap hands out that session; or once all were, one that has ended and holds no monitor; or none is left, or there is no memory
 pub data HandsOne (x : Hosting) (handed after : Held) (status : ℕ) : Type 0 where
   IsHanded : (y : Hosting) (s : Seated) → IsNext x y s → handed ≡ session_behind s → after ≡ heap_behind y → status ≡ OK → HandsOne x handed after status
-  NoneIsLeft : x.unused ≡ [] → after ≡ heap_behind x → status ≡ NONE_LEFT → HandsOne x handed after status
+  IsHandedAgain : (y : Hosting) (s : Seated) → x.unused ≡ [] → HandsAgain x y s → handed ≡ session_behind s → after ≡ heap_behind y → status ≡ OK → HandsOne x handed after status
+  NoneIsLeft : (y : Hosting) → x.unused ≡ [] → HasNoneIdle x y → after ≡ heap_behind y → status ≡ NONE_LEFT → HandsOne x handed after status
   NoRoomForOne : after ≡ heap_behind x → status ≡ NO_MEMORY → HandsOne x handed after status
 
 -- `zelamiku_session`, of what is behind the heap's handle
@@ -176,15 +179,19 @@ RoundsAt applied (kind.Closed x) after status = (status ≡ CLOSED) × (after �
 RoundsAt applied kind.Stopped after status = (status ≡ STOPPED) × (after ≡ stopped_behind)
 RoundsAt applied other after status = (status ≡ WRONG_KIND) × (after ≡ behind other)
 
--- how many sections of the lane are acknowledged, where each call was made, or why that isn't told
+-- How many sections of the lane are acknowledged, where each call was made, or why that isn't told. Recovery takes whatever a crash of the
+-- host's device leaves then, or after whatever calls since, and keeps so many sections.
 pub record HasAcknowledged (x y : Hosting) (lane : ℕ) (answer : Result ℕ AcknowledgedError) : Type 0 where
   pub acknowledged : (p : Past) → IsServing hosted_device x.helper (plan x.home) p → IfOk answer (λ n. n ≡ p.cut lane)
-  pub all_made : OnOk answer ((y.calls.left ≡ []) × (known_items y.calls.ring ≡ []))
+  pub safe : OnOk answer (KeepsNow x y)
+  pub kept : OnOk answer (KeepsFrom x y)
+  pub all_made : OnOk answer (AreAllMade y.calls)
   pub bad_lane : (answer ≡ Err BadLane) ↔ (x.helper.store.known.layout.lanes ≤ lane)
-  pub calls_left : IsErrOf answer CallsLeft ↔ (lane < x.helper.store.known.layout.lanes) × (¬ (y.calls.left ≡ []))
-  pub fetches : lane < x.helper.store.known.layout.lanes → Fetches x.calls y.calls
-  pub untouched : x.helper.store.known.layout.lanes ≤ lane → y.calls ≡ x.calls
-  pub heap : SameHeap x y
+  pub calls_left : IsErrOf answer CallsLeft ↔ (lane < x.helper.store.known.layout.lanes) × (¬ AreAllMade y.calls)
+  pub fetches : lane < x.helper.store.known.layout.lanes → FetchesAll x.calls y.calls
+  pub met : lane < x.helper.store.known.layout.lanes → HaveMet y.helper.store.disk y.calls
+  pub untouched : x.helper.store.known.layout.lanes ≤ lane → y ≡ x
+  pub heap : SameButMet x y
 
 -- `zelamiku_acknowledged`
 abbrev pub AcknowledgesAt : (lane sections : ℕ) → Open → (after : Held) → (status : ℕ) → Type 0
@@ -203,7 +210,7 @@ left_behind (unclosed.Stopped y e) = closed_behind y
 
 -- the heap is closed, as one history of what its sessions were told; or it isn't, for this reason
 pub data ClosesOne (x : Hosting) (after : Held) (status : ℕ) : Type 0 where
-  IsNowClosed : (y : Closed) → IsClosedWith x.home x.helper.store.known.layout (hosted_device y.disk) → HasLooked x.calls y.calls → after ≡ closed_behind y → status ≡ OK → ClosesOne x after status
+  IsNowClosed : (y : Closed) → IsClosedWith x.home x.helper (hosted_device y.disk) → HasLooked x.calls y.calls → after ≡ closed_behind y → status ≡ OK → ClosesOne x after status
   IsNotYetClosed : (why : NotClosed) → IsNotClosed x why → after ≡ left_behind why → status ≡ not_closed_status why → ClosesOne x after status
 
 -- `zelamiku_close`

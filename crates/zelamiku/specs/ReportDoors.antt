@@ -13,7 +13,7 @@ use Rattle.recover.specs.declared.report.Dropped.{Dropped as Section}
 use Rattle.recover.specs.declared.report.Report.{Report}
 use Rattle.recover.specs.declared.report.Why.{Why}
 use Rattle.recover.specs.declared.report.Why.TheVariants.{Unfinished, After, Unsettled}
-use Rattle.recover.specs.declared.versions.Versions.TheVariants.{Current}
+use Rattle.recover.specs.declared.versions.Versions.{Versions}
 use Rattle.zelamiku.specs.Behind.{heap_behind, nothing_behind}
 use Rattle.zelamiku.specs.HeapDoors.{found_of, nothing_found}
 use Rattle.zelamiku.specs.HeapStatuses.{host_status}
@@ -57,9 +57,10 @@ told_at None = record { section = 0; after_section = 0; lane = NOBODY; why = 0; 
 abbrev pub TellsEach : List Section → List Dropped → Type 0
 TellsEach sections told = (i : ℕ) (d : Dropped) → i < length told → slice_index_or told i d ≡ told_at (slice_get sections i)
 
--- `zelamiku_open_telling`, where nothing was behind the handle: the heap that recovery finds in these bytes, and what it reports; or none, and why
-pub data OpensTelling (bytes : List ℕ) (told : Told) (dropped : List Dropped) (after : Held) (status : ℕ) : Type 0 where
-  IsOpenTold : (x : Hosting) (report : Report) → IsFound Current bytes x report → told ≡ told_of x.helper.store.known.layout report → TellsEach report.dropped.items dropped
-      → after ≡ heap_behind x → status ≡ OK → OpensTelling bytes told dropped after status
-  NotOpenTold : (why : HostError) → RefusesOpening Current bytes why → told ≡ told_of_refusal why → TellsEach [] dropped → after ≡ nothing_behind → status ≡ host_status why
-      → OpensTelling bytes told dropped after status
+-- `zelamiku_open_telling` of the current version, and `zelamiku_upgrade_telling` of both, where nothing was behind the handle: the heap that
+-- recovery finds in these bytes, and what it reports; or none, and why
+pub data OpensTelling (versions : Versions) (bytes : List ℕ) (told : Told) (dropped : List Dropped) (after : Held) (status : ℕ) : Type 0 where
+  IsOpenTold : (x : Hosting) (report : Report) → IsFound versions bytes x report → told ≡ told_of x.helper.store.known.layout report → TellsEach report.dropped.items dropped
+      → after ≡ heap_behind x → status ≡ OK → OpensTelling versions bytes told dropped after status
+  NotOpenTold : (why : HostError) → RefusesOpening versions bytes why → told ≡ told_of_refusal why → TellsEach [] dropped → after ≡ nothing_behind → status ≡ host_status why
+      → OpensTelling versions bytes told dropped after status

@@ -15,6 +15,8 @@ use Rattle.lock_word.specs.Spelling.{sight_of}
 use Rattle.lock_word.specs.WaitMask.{bit_of}
 use Rattle.lock_word.specs.declared.fat_word.FatShape.{FatShape}
 use Rattle.lock_word.specs.declared.lock_word.Shape.{Shape}
+use Rattle.session.specs.Logs.{sections_ended}
+use Rattle.session.specs.Sessions.{view_of}
 use Rattle.session.specs.Calls.{AsksToResume, AsksToWait, Enters, Exits, Loads, Looks, Notifies, NotifiesAll, ReadsStable, StoresAs}
 use Rattle.session.specs.declared.error.SessionError.{SessionError}
 use Rattle.session.specs.declared.error.Still.{Still}
@@ -124,6 +126,13 @@ LooksAt object sight s t status = (answer : Result (Shape × Option FatShape) Se
 -- what the session learns of its lane's acknowledged sections
 abbrev pub ReadsStableAt : (sections : ℕ) → Seated → Seated → ℕ → Type 0
 ReadsStableAt sections s t status = (status ≡ OK) × ReadsStable s.session t.session sections
+
+-- the session's lane, and how many sections of it have ended; the session is as it was
+pub record TellsLaneAt (lane sections : ℕ) (s t : Seated) (status : ℕ) : Type 0 where
+  pub lane_is : lane ≡ (view_of s.session).lane.0
+  pub ended : sections ≡ sections_ended (view_of s.session)
+  pub same : t ≡ s
+  pub ok : status ≡ OK
 
 -- What a wait gave is there: a session that waits, or the session that was refused.
 abbrev pub IsThereAfterWait : Result SeatedWaiting (Seated × SessionError) → Held → ℕ → Type 0

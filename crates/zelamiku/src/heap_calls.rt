@@ -2,7 +2,7 @@
 ghost use Rattle.std.specs.Prelude.{◌≡◌, ◌≢◌, Some, None, IfErr, IfOk, if◌then◌else◌};
 ghost use Rattle.std.specs.Option.{option_copied};
 ghost use Rattle.hosted_heap.specs.Opening.{IsMade};
-ghost use Rattle.zelamiku.specs.Behind.{Answers, behind, heap_behind};
+ghost use Rattle.zelamiku.specs.Behind.{Answers, behind, heap_behind, session_behind};
 ghost use Rattle.zelamiku.specs.HeapDoors.{AcknowledgesAt, ClosesAt, HandsOne, HandsOutAt, HasAcknowledged, IsOpened, MakesCallAt, RefusesFormat, RefusesOpen, RoundsAt, TellsNextAt, filled_of, found_of, nothing_found, rows_of, told_of};
 ghost use Rattle.zelamiku.specs.HeapDoors as doors;
 ghost use Rattle.zelamiku.specs.declared.status.TheConstants.{NONE_LEFT, OK};
@@ -13,7 +13,8 @@ use crate::status;
 use crate::words::{Call, Field, Found};
 use deferred_disk::{DeviceCall, HostCalls};
 use heap_model::{Lane, ObjectId};
-use hosted_heap::{AcknowledgedError, HostedHeap, NotClosed};
+use hosted_heap::{AcknowledgedError, HostedHeap, HostedSession, NotClosed};
+use hosted_life::host_law;
 use image::GuardRow;
 use recover::{Report, Versions};
 use std::alloc::{AllocError, Global};
@@ -109,7 +110,7 @@ fn hand_out(alloc: Global, heap: &mut HostedHeap, place: &mut Slot) -> u32
     ensures handed { HandsOne heap.old place.new.handle.state (heap_behind heap.new) result }
     ensures refused { result ≢ OK → place.new.handle.state ≡ place.old.handle.state }
 {
-    let Ok(mut room) = Box::new(
+    let Ok(room) = Box::new(
         alloc,
         Inner {
             open: Open::Nothing,
@@ -117,9 +118,22 @@ fn hand_out(alloc: Global, heap: &mut HostedHeap, place: &mut Slot) -> u32
     ) else {
         return status::NO_MEMORY;
     };
-    let Some(session) = heap.session() else {
-        return status::NONE_LEFT;
-    };
+    if let Some(session) = heap.session() {
+        return put_session(place, room, session);
+    }
+    match heap.session_again() {
+        Ok(Some(session)) => put_session(place, room, session),
+        Ok(None) => status::NONE_LEFT,
+        Err(_) => status::NO_MEMORY,
+    }
+}
+
+// Puts a session into its box, and that behind the handle.
+fn put_session(place: &mut Slot, room: Box<Inner>, session: HostedSession) -> u32
+    ensures handed { place.new.handle.state ≡ session_behind session }
+    ensures ok { result ≡ OK }
+{
+    let mut room = room;
     room.open = Open::Session(session);
     put(place, room);
     status::OK
@@ -239,6 +253,7 @@ fn acknowledged_of(heap: &mut HostedHeap, lane: u32) -> Result<u64, Acknowledged
     if lane >= u32::from(heap.layout().lanes) {
         return Err(AcknowledgedError::BadLane);
     }
+    host_law();
     heap.acknowledged(Lane(lane as u8))
 }
 

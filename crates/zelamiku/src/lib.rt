@@ -28,9 +28,9 @@ pub use heap_exports::{
     zelamiku_upgrade,
 };
 pub use pool_exports::{zelamiku_pool_fields, zelamiku_pool_give, zelamiku_pool_take};
-pub use report_exports::zelamiku_open_telling;
+pub use report_exports::{zelamiku_open_telling, zelamiku_upgrade_telling};
 pub use session_exports::{
-    zelamiku_begin_wait, zelamiku_end, zelamiku_exit, zelamiku_load, zelamiku_look,
+    zelamiku_begin_wait, zelamiku_end, zelamiku_exit, zelamiku_lane, zelamiku_load, zelamiku_look,
     zelamiku_notify, zelamiku_notify_all, zelamiku_round_sections, zelamiku_store,
     zelamiku_try_enter, zelamiku_try_resume,
 };

@@ -1,5 +1,6 @@
 //! What C calls to open a heap, and to be told what recovery did.
 ghost use Rattle.std.specs.Prelude.{◌≡◌};
+ghost use Rattle.recover.specs.declared.versions.Versions.TheVariants.{Current, Both};
 ghost use Rattle.zelamiku.specs.HeapDoors.{PutsNew};
 ghost use Rattle.zelamiku.specs.ReportDoors.{OpensTelling};
 
@@ -19,14 +20,42 @@ pub extern "C" fn zelamiku_open_telling(
     told: &mut Told,
     dropped: &mut [Dropped],
 ) -> u32
-    ensures told { PutsNew (OpensTelling image.now told.new dropped.new) place.old.handle.state place.new.handle.state result }
+    ensures told { PutsNew (OpensTelling Current image.now told.new dropped.new) place.old.handle.state place.new.handle.state result }
+{
+    open_at(alloc, place, Versions::Current, image, told, dropped)
+}
+
+/// Upgrades a heap and opens it, and tells the same.
+#[unsafe(no_mangle)]
+pub extern "C" fn zelamiku_upgrade_telling(
+    alloc: Global,
+    place: &mut Slot,
+    image: &[u8],
+    told: &mut Told,
+    dropped: &mut [Dropped],
+) -> u32
+    ensures told { PutsNew (OpensTelling Both image.now told.new dropped.new) place.old.handle.state place.new.handle.state result }
+{
+    open_at(alloc, place, Versions::Both, image, told, dropped)
+}
+
+// Recovers a heap of one of these versions and opens it, and tells the same.
+fn open_at(
+    alloc: Global,
+    place: &mut Slot,
+    versions: Versions,
+    image: &[u8],
+    told: &mut Told,
+    dropped: &mut [Dropped],
+) -> u32
+    ensures told { PutsNew (OpensTelling versions image.now told.new dropped.new) place.old.handle.state place.new.handle.state result }
 {
     *told = report_calls::nothing();
     report_calls::tell_dropped(&[], dropped);
     if place.is_open() {
         return status::OPEN;
     }
-    match hosted_heap::open(alloc, image, Versions::Current) {
+    match hosted_heap::open(alloc, image, versions) {
         Ok((heap, report)) => {
             let found = report_calls::of_heap(&heap, &report);
             let Ok(()) = put_new(alloc, place, Open::Heap(heap)) else {

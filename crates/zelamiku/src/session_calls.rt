@@ -6,7 +6,7 @@ ghost use Rattle.std.specs.Result.{result_unwrap_or};
 ghost use Rattle.lock_word.specs.Spelling.{fat_sight, sight_of};
 ghost use Rattle.lock_word.specs.WaitMask.{bit_of};
 ghost use Rattle.zelamiku.specs.Behind.{Answers, behind};
-ghost use Rattle.zelamiku.specs.SessionDoors.{AnswersAs, AnswersUnlessStopped, EndsTo, EntersAt, ExitsAt, HasNoSession, LoadsAt, LooksAt, NotifiesAllAt, NotifiesAt, ReadsStableAt, Resumes, StoresAt, WaitsAt, free_sight, lane_told, sight_told};
+ghost use Rattle.zelamiku.specs.SessionDoors.{AnswersAs, AnswersUnlessStopped, EndsTo, EntersAt, ExitsAt, HasNoSession, LoadsAt, LooksAt, NotifiesAllAt, NotifiesAt, ReadsStableAt, Resumes, StoresAt, TellsLaneAt, WaitsAt, free_sight, lane_told, sight_told};
 ghost use Rattle.zelamiku.specs.SessionStatuses.{status_of};
 ghost use Rattle.zelamiku.specs.declared.status.TheConstants.{OK};
 
@@ -219,6 +219,17 @@ pub fn stable(state: &mut Inner) -> (u64, u32)
     match &mut state.open {
         Open::Session(session) => (session.stable(), status::OK),
         other => (0, no_session(other)),
+    }
+}
+
+/// The session's lane, or [`NOBODY`], how many sections of it have ended, or 0, and the status.
+pub fn lane(state: &mut Inner) -> (u32, u64, u32)
+    ensures told { AnswersAs (TellsLaneAt result.0 result.1) (Some state.old) (Some state.new) result.2 }
+    ensures refused { result.2 ≢ OK → (result.0 ≡ NOBODY) × (result.1 ≡ 0) }
+{
+    match &mut state.open {
+        Open::Session(session) => (u32::from(session.lane().0), session.sections(), status::OK),
+        other => (NOBODY, 0, no_session(other)),
     }
 }
 

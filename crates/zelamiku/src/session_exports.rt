@@ -1,7 +1,7 @@
 //! What C calls of a session. Each export is one call of `session_calls` on what is behind the handle.
 ghost use Rattle.std.specs.Prelude.{◌≡◌, ◌≢◌};
 ghost use Rattle.zelamiku.specs.Behind.{Answers};
-ghost use Rattle.zelamiku.specs.SessionDoors.{AnswersAs, AnswersUnlessStopped, Ends, EntersAt, ExitsAt, LoadsAt, LooksAt, NotifiesAllAt, NotifiesAt, ReadsStableAt, Resumes, StoresAt, WaitsAt, free_sight};
+ghost use Rattle.zelamiku.specs.SessionDoors.{AnswersAs, AnswersUnlessStopped, Ends, EntersAt, ExitsAt, LoadsAt, LooksAt, NotifiesAllAt, NotifiesAt, ReadsStableAt, Resumes, StoresAt, TellsLaneAt, WaitsAt, free_sight};
 ghost use Rattle.zelamiku.specs.declared.session_calls.TheConstants.{NOBODY};
 ghost use Rattle.zelamiku.specs.declared.status.TheConstants.{OK};
 
@@ -170,6 +170,29 @@ pub extern "C" fn zelamiku_round_sections(
     };
     let (found, answer) = session_calls::stable(&mut state);
     *sections = found;
+    put(place, state);
+    answer
+}
+
+/// The session's lane, and how many sections of it have ended.
+#[unsafe(no_mangle)]
+pub extern "C" fn zelamiku_lane(
+    alloc: Global,
+    place: &mut Slot,
+    lane: &mut u32,
+    sections: &mut u64,
+) -> u32
+    ensures told { AnswersAs (TellsLaneAt lane.new sections.new) place.old.handle.state place.new.handle.state result }
+    ensures refused { result ≢ OK → (lane.new ≡ NOBODY) × (sections.new ≡ 0) }
+{
+    *lane = session_calls::NOBODY;
+    *sections = 0;
+    let Some(mut state) = take(alloc, place) else {
+        return status::NOTHING;
+    };
+    let (number, count, answer) = session_calls::lane(&mut state);
+    *lane = number;
+    *sections = count;
     put(place, state);
     answer
 }

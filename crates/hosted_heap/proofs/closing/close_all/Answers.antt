@@ -1,6 +1,6 @@
 use Rattle.std.proofs.Common.{refl, ◌∙◌}
 use Rattle.hosted_heap.proofs.Closings.{stops_for}
-use Rattle.hosted_heap.proofs.Ends.{complete_of}
+use Rattle.trim_helper.proofs.Completing.{complete_of}
 use Rattle.hosted_heap.proofs.closing.close_all.Goals as goal
 
 pub close-requires-clause-ended : goal.close-requires-clause-ended
@@ -25,4 +25,4 @@ returns-in-Err-clause-refused c =
 pub returns-in-Ok-close-clause-ok : goal.returns-in-Ok-close-clause-ok
 returns-in-Ok-close-clause-ok c =
     let closes = c.in-Ok-close.ensures.closes c.requires.helping.past c.requires.helping.serving in
-    record { ended = c.in-Ok.ended.items; none = closes.refused.0; complete = closes.refused.1; closed = c.in-Ok-close.ensures.ok }
+    record { ended = c.in-Ok.ended.items; none = closes.refused.0; complete = closes.refused.1; closed = c.in-Ok-close.ensures.ok; from = c.in-Ok-close.ensures.from }

@@ -6,7 +6,7 @@ use Rattle.monitor.specs.Views.{lane_of}
 use Rattle.session.specs.declared.session.Session.{Session}
 use Rattle.trim_helper.specs.Endings.{IsEnded}
 use Rattle.trim_helper.specs.declared.ended.Ended.{Ended}
-use Rattle.hosted_heap.specs.Closing.{lanes_ended}
+use Rattle.trim_helper.specs.Endings.{lanes_ended}
 use Rattle.hosted_heap.specs.Lanes.{HasCome, IsBack, IsLaneEnd, lane_at, lanes_at}
 use Rattle.hosted_heap.specs.declared.lane_end.LaneEnd.{LaneEnd}
 use Rattle.hosted_heap.proofs.Ends.{ended_more, lanes_at_more}

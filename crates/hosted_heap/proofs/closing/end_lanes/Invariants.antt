@@ -1,7 +1,7 @@
 use Rattle.std.proofs.Common.{ℕ, ◌≡◌, ◌++◌, All, vec_len}
 use Rattle.monitor.specs.Seats.{Home}
 use Rattle.trim_helper.specs.Endings.{IsEnded, Rings}
-use Rattle.hosted_heap.specs.Closing.{lanes_ended}
+use Rattle.trim_helper.specs.Endings.{lanes_ended}
 use Rattle.hosted_heap.specs.Lanes.{HasCome, IsLaneEnd, lanes_at}
 use Rattle.hosted_heap.proofs.closing.end_lanes.Given as goal
 

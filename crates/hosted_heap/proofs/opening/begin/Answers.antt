@@ -1,6 +1,8 @@
-use Rattle.std.proofs.Common.{ℕ, All, List, length, take_all, ap, sym, ◌∙◌, subst, arith}
+use Rattle.std.proofs.Common.{ℕ, All, List, length, take_all, ap, refl, sym, ◌∙◌, subst, arith}
 use Rattle.std.proofs.lemmas.List.{drop_all}
 use Rattle.std.proofs.lemmas.List.Elements.{All-weaker}
+use Rattle.deferred_disk.specs.Deferred.{Deferred}
+use Rattle.deferred_disk.specs.Host.{IsHostOf}
 use Rattle.image.specs.declared.layout.Layout.{Layout}
 use Rattle.monitor.specs.Seats.{Home}
 use Rattle.running_heap.specs.Joined.{IsHelping, IsJoined}
@@ -37,6 +39,7 @@ invariant_of-result c =
     (subst (λ (l : Layout). All (IsJoined x.shared l.capacity x.helper.rings) x.sessions.items) (sym c.in-Ok.ensures.layout) c.in-Ok.ensures.joined)) in
     record {
       helping = subst (λ (h : Home). IsHelping hosted_device h x.helper) same c.in-Ok.ensures.helping;
+      host = subst (λ (d : Deferred). IsHostOf d c.args.calls) (sym c.in-Ok.ensures.disk) c.requires.host;
       layout_is = c.layout-layout.ensures.layout ∙ sym c.in-Ok.ensures.layout;
       within = c.layout-layout.ensures.recovered.image.header.limits;
       unused_are = subst (λ (s : Stopping). AreNewHere (arc_value c.in_ok-shared.shared) s.word unused) (sym c.in_ok-unused.ensures.stop) c.in_ok-unused.ensures.homes;
@@ -56,6 +59,8 @@ returns c =
         plan_is = ap (λ (h : Home). h.plan) same ∙ c.in-Ok.ensures.plan;
         layout_is = c.in-Ok.ensures.layout;
         disk_is = c.in-Ok.ensures.disk;
+        host = subst (λ (d : Deferred). IsHostOf d c.args.calls) (sym c.in-Ok.ensures.disk) c.requires.host;
+        running = c.in-Ok.ensures.running;
         untold = subst (λ (h : Home). IsServing hosted_device x.helper (plan h) no_past) (sym same) c.in-Ok.ensures.past;
         unmade = c.requires.calls.0;
         none_left = c.requires.calls.1;
@@ -63,4 +68,5 @@ returns c =
         unstopped = ap (λ (s : Stopping). s.seen) c.in_ok-unused.ensures.stop ∙ c.in_ok-stop.ensures;
         none_out = drop_all (length c.in_ok-unused.unused.items) c.in_ok-unused.lanes.items (let same = c.in_ok-unused.ensures.count in omega (arith, same));
       };
+      calls = refl;
     }

@@ -1,5 +1,7 @@
 use Rattle.std.proofs.Common.{ℕ, ◌≡◌, List, length, ap, sym, ◌∙◌, subst, arith}
+use Rattle.block_disk.specs.Device.{Device}
 use Rattle.block_disk.specs.Memory.{Memory, device_of}
+use Rattle.deferred_disk.specs.Host.{host_name}
 use Rattle.guards.specs.Schema.{Declarations}
 use Rattle.image.specs.Guards.{NamesObjects}
 use Rattle.image.specs.declared.guard_row.GuardRow.{GuardRow}
@@ -11,6 +13,7 @@ use Rattle.hosted_heap.specs.Hosting.{hosted_device}
 use Rattle.hosted_heap.specs.Opening.{HasBegun}
 use Rattle.numbered_schema.specs.Rows.{numbered}
 use Rattle.hosted_heap.proofs.Fits.{fits_numbered}
+use Rattle.hosted_heap.proofs.Hosts.{device_is, recovery_name}
 use Rattle.numbered_schema.proofs.Numbered.{only_memory}
 use Rattle.hosted_heap.proofs.opening.open.Goals as goal
 
@@ -36,7 +39,11 @@ begin-requires c =
     let schema : c.in-Ok-declare.schema ≡ numbered found.layout.objects found.guards =
     c.in-Ok-declare.ensures.ok ∙ ap (λ (l : Layout). numbered l.objects c.guards.result.now) c.layout.ensures.layout ∙ ap (λ (r : List GuardRow). numbered found.layout.objects r) c.guards.ensures.guards in
     let size : length found.guards ≡ found.layout.fields = c.layout.ensures.recovered.image.guards.size ∙ ap (λ (l : Layout). l.fields) c.layout.ensures.layout in
-    record { schema = subst (λ (s : Declarations). FitsSchema s found.layout found.guards) (sym schema) (fits_numbered found.layout found.guards size); calls = (c.in-Ok.ensures.host.0, c.in-Ok.ensures.host.1) }
+    record {
+      schema = subst (λ (s : Declarations). FitsSchema s found.layout found.guards) (sym schema) (fits_numbered found.layout found.guards size);
+      calls = (c.in-Ok.ensures.host.0, c.in-Ok.ensures.host.1);
+      host = recovery_name (hosted_device c.in-Ok.disk) (hosted_device found.disk) found c.in-Ok-recover_of.found.1 c.in-Ok-recover_of.ensures.ok ∙ c.in-Ok.ensures.host.2;
+    }
 
 pub returns-in-Ok-begin-clause-ok : goal.returns-in-Ok-begin-clause-ok
 returns-in-Ok-begin-clause-ok c =
@@ -46,6 +53,7 @@ returns-in-Ok-begin-clause-ok c =
     record {
       found = found;
       taken = subst (λ (m : Memory). IsTooOld c.args.versions (device_of m).now.bytes → ⊥) c.in-Ok.ensures.disk c.in-Ok-recover_of.ensures.taken;
-      recovery = subst (λ (m : Memory). IsRecovery (device_of m) (hosted_device found.disk) found c.in-Ok-recover_of.found.1) c.in-Ok.ensures.disk c.in-Ok-recover_of.ensures.ok;
+      recovery = subst (λ (d : Device). IsRecovery d (hosted_device found.disk) found c.in-Ok-recover_of.found.1)
+          (device_is c.in-Ok.disk c.in-Ok-begin.heap.calls c.args.bytes.now c.in-Ok.ensures.disk (c.in-Ok.ensures.host.2 ∙ ap host_name (sym c.in-Ok-begin.ensures.calls))) c.in-Ok-recover_of.ensures.ok;
       begun = subst (λ (s : Declarations). HasBegun s found c.in-Ok-begin.heap) schema c.in-Ok-begin.ensures.begun;
     }

@@ -5,10 +5,10 @@ use Rattle.zelamiku.specs.PoolDoors.{Gives, GivesNone, GivesToNone}
 use Rattle.zelamiku.proofs.pool_calls.give_by.Goals as goal
 
 pub returns-in_default : goal.returns-in_default
-returns-in_default c = (c.args.session, refl, record { home = refl; word_is = refl }, GivesToNone c.in_default.ensures refl refl)
+returns-in_default c = (c.args.session, refl, record { home = refl; stop_is = refl }, GivesToNone c.in_default.ensures refl refl)
 
 pub returns-then-slot-slots : goal.returns-then-slot-slots
-returns-then-slot-slots c = (c.args.session, refl, record { home = refl; word_is = refl }, GivesNone c.in-Some.ensures.0 c.if-slot-slots.true refl refl)
+returns-then-slot-slots c = (c.args.session, refl, record { home = refl; stop_is = refl }, GivesNone c.in-Some.ensures.0 c.if-slot-slots.true refl refl)
 
 pub returns : goal.returns
 returns c =

@@ -1,7 +1,14 @@
 use Rattle.std.proofs.Common.{ap, ◌∙◌, ◌∷◌}
 use Rattle.deferred_disk.specs.Deferred.{stop_of}
 use Rattle.hosted_heap.specs.Hosting.{Hosting}
+use Rattle.std.specs.Arc.{arc_value}
+use Rattle.hosted_heap.proofs.Hosts.{with_calls}
 use Rattle.hosted_heap.proofs.heap.HostedHeap.done.Goals as goal
+
+pub invariant_of-self : goal.invariant_of-self
+invariant_of-self c =
+    let x = c.self.inside in
+    with_calls (arc_value x.shared) x.helper x.calls x.layout x.stop.word x.unused.items x.lanes.items c.self.invariant c.done.new.self c.done.ensures.ring
 
 pub returns-clause-one : goal.returns-clause-one
 returns-clause-one c = λ call later is.

@@ -18,6 +18,7 @@ invariant_of-self c =
     let moved = c.bring_back.ensures.kept h x.store.known.layout.capacity x.rings was.paired was.joined was.lanes_are in
     record {
       helping = was.helping;
+      host = was.host;
       layout_is = was.layout_is;
       within = was.within;
       unused_are = subst (AreNewHere h c.self.inside.stop.word) none (All-nil (IsNewHere h c.self.inside.stop.word));

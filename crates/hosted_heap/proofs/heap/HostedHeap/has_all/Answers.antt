@@ -11,6 +11,7 @@ invariant_of-self c =
     let kept = c.have_come.ensures.kept (arc_value c.self.inside.shared) x.store.known.layout.capacity x.rings was.lanes_are in
     record {
       helping = was.helping;
+      host = was.host;
       layout_is = was.layout_is;
       within = was.within;
       unused_are = was.unused_are;

@@ -18,8 +18,10 @@ invariant_of-self c =
     let on : HasGoneOn h x y = subst (λ (k : Home). HasGoneOn k x y) c.deref.ensures c.round.ensures.goes_on in
     let past = was.helping.past in
     let capacity = ap (λ (l : Layout). l.capacity) on.layout in
+    let rounds = c.round.ensures.rounds (plan h) past was.helping.serving in
     record {
-      helping = c.helping_law.ensures.round h past x y c.round.result was.helping on (c.round.ensures.rounds (plan h) past was.helping.serving);
+      helping = c.helping_law.ensures.round h past x y c.round.result was.helping on rounds;
+      host = rounds.ran.shown.grows.name ∙ was.host;
       layout_is = was.layout_is ∙ sym on.layout;
       within = was.within;
       unused_are = was.unused_are;

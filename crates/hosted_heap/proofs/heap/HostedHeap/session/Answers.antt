@@ -25,6 +25,7 @@ invariant_of-self c =
     let count : length unused ≤ length lanes = was.count in
     record {
       helping = was.helping;
+      host = was.host;
       layout_is = was.layout_is;
       within = was.within;
       unused_are = (All-pop (IsNewHere h c.self.inside.stop.word) unused left c.pop.result popped was.unused_are).0;

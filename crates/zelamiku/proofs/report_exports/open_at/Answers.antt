@@ -3,7 +3,7 @@ use Rattle.hosted_heap.specs.declared.error.HostError.TheVariants.{NoMemory}
 use Rattle.recover.specs.declared.report.Dropped.{Dropped as Section}
 use Rattle.zelamiku.specs.ReportDoors.{IsOpenTold, NotOpenTold, TellsEach}
 use Rattle.zelamiku.proofs.Emptiness.{nothing_there}
-use Rattle.zelamiku.proofs.report_exports.zelamiku_open_telling.Goals as goal
+use Rattle.zelamiku.proofs.report_exports.open_at.Goals as goal
 
 pub returns-in_default : goal.returns-in_default
 returns-in_default c =

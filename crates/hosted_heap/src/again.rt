@@ -1,0 +1,131 @@
+//! A session that has ended is handed out again.
+ghost use Rattle.std.specs.Prelude.{◌≡◌, ◌<◌, ◌≤◌, [], ℕ, All, IfNone, IfOk, IfSome, None, Some, true, false, drop, length, set, slice_index_or};
+ghost use Rattle.std.specs.Arc.{arc_value};
+ghost use Rattle.hosted_heap.specs.Lanes.{IsIdle, IsLaneEnd, IsTaken, KeepsEnds};
+ghost use Rattle.hosted_heap.specs.declared.lane_end.LaneEnd.{LaneEnd as End};
+ghost use Rattle.rtrb.specs.Ring.{IsPair, known_free, known_items, received, sent};
+ghost use Rattle.trim_helper.specs.Endings.{Rings};
+
+use crate::beginning::seat;
+use crate::heap::HostedHeap;
+use crate::lane_end::LaneEnd;
+use crate::returning::Returning;
+use crate::seated::HostedSession;
+use crate::stop::{Stop, Stopper};
+use monitor::Shared;
+use rtrb::{Consumer, Producer, RingBuffer};
+use session::Session;
+use std::alloc::{AllocError, Global};
+use std::sync::Arc;
+
+impl HostedHeap {
+    ghost use Rattle.std.specs.Prelude.{◌≡◌, IfOk, MatchOption, OnErr};
+    ghost use Rattle.hosted_heap.specs.Again.{HandsAgain, HasNoneIdle};
+
+    /// Hands out again a session that was handed out before, has ended ([`HostedSession::end`]) and holds no monitor, whichever it is.
+    /// It goes on where it ended, so that its lane's sections are counted on. `None` where there is none.
+    ///
+    /// An error is want of memory: nothing was done.
+    pub fn session_again(&mut self) -> Result<Option<HostedSession>, AllocError>
+        ensures again { IfOk result (λ o. MatchOption o (HasNoneIdle self.old self.new) (HandsAgain self.old self.new)) }
+        ensures err { OnErr result (self.new ≡ self.old) }
+    {
+        let (shared, stop, producer, back) = outfit(self.alloc, &self.shared, &mut self.stop)?;
+        let first = self.unused.len();
+        let Some(place) = find_idle(&mut self.lanes, first) else {
+            return Ok(None);
+        };
+        let session = hand_out_at(&mut self.lanes, place, shared, stop, producer, back);
+        Ok(Some(session))
+    }
+}
+
+// What a session of this heap is handed out with: the words, what it learns of a stop by, and the ring by which it comes back.
+fn outfit(
+    alloc: Global,
+    shared: &Arc<Shared>,
+    stop: &mut Stopper,
+) -> Result<
+    (
+        Arc<Shared>,
+        Stop,
+        Producer<Session, Global, Returning>,
+        Consumer<Session, Global, Returning>,
+    ),
+    AllocError,
+>
+    ensures home { IfOk result (λ r. arc_value r.0 ≡ arc_value shared.now) }
+    ensures word { IfOk result (λ r. r.1 ≡ stop.old) }
+    ensures pair { IfOk result (λ r. IsPair r.2 r.3) }
+    ensures unsent { IfOk result (λ r. (sent r.2 ≡ []) × (known_free r.2 ≡ 2)) }
+    ensures unread { IfOk result (λ r. (received r.3 ≡ []) × (known_items r.3 ≡ [])) }
+    ensures same { stop.new ≡ stop.old }
+{
+    let word = stop.for_session()?;
+    let shared = Arc::try_clone(shared)?;
+    let (producer, back) = RingBuffer::with_protocol::<Global, Returning>(alloc, 2)?;
+    Ok((shared, word, producer, back))
+}
+
+// The place, from this one on, of an end whose session has come back and holds no monitor.
+fn find_idle(lanes: &mut Vec<LaneEnd>, first: usize) -> Option<usize>
+    ensures kept { KeepsEnds lanes.old.items lanes.new.items }
+    ensures count { length lanes.new.items ≡ length lanes.old.items }
+    ensures place { IfSome result (λ place. (first ≤ place) × (place < length lanes.new.items)) }
+    ensures idle { (d : End) → IfSome result (λ place. IsIdle (slice_index_or lanes.new.items place d)) }
+    ensures none { IfNone result (All IsTaken (drop first lanes.new.items)) }
+{
+    for place in first..lanes.len() {
+        if is_idle_at(lanes, place) {
+            return Some(place);
+        }
+    }
+    None
+}
+
+// Whether the session of the lane at this place has come back and holds no monitor.
+fn is_idle_at(lanes: &mut Vec<LaneEnd>, place: usize) -> bool
+    requires { place < length lanes.old.items }
+    ensures kept { KeepsEnds lanes.old.items lanes.new.items }
+    ensures taken { (end : End) × (lanes.new.items ≡ set lanes.old.items place end) × (result ≡ false → IsTaken end) }
+    ensures count { length lanes.new.items ≡ length lanes.old.items }
+    ensures idle { (d : End) → result ≡ true → IsIdle (slice_index_or lanes.new.items place d) }
+{
+    lanes[place].is_idle()
+}
+
+// Hands out the session that has come back at this place.
+fn hand_out_at(
+    lanes: &mut Vec<LaneEnd>,
+    place: usize,
+    shared: Arc<Shared>,
+    stop: Stop,
+    producer: Producer<Session, Global, Returning>,
+    back: Consumer<Session, Global, Returning>,
+) -> HostedSession
+    requires place { place < length lanes.old.items }
+    requires idle { (d : End) → IsIdle (slice_index_or lanes.old.items place d) }
+    requires ends { (capacity : ℕ) × (rings : Rings) × All (IsLaneEnd (arc_value shared) capacity rings) lanes.old.items }
+    requires pair { IsPair producer back }
+    requires unsent { (sent producer ≡ []) × (known_free producer ≡ 2) }
+    requires unread { (received back ≡ []) × (known_items back ≡ []) }
+    ensures home { result.home ≡ arc_value shared }
+    ensures stop { result.stop ≡ stop }
+    ensures session { (d : End) → (slice_index_or lanes.old.items place d).came ≡ Some result.session }
+    ensures kept { KeepsEnds lanes.old.items lanes.new.items }
+    ensures count { length lanes.new.items ≡ length lanes.old.items }
+{
+    let came = take_at(lanes, place);
+    let (session, end) = seat(shared, came.unwrap(), stop, producer, back);
+    lanes[place] = end;
+    session
+}
+
+// Takes the session that has come back at this place out of its end.
+fn take_at(lanes: &mut Vec<LaneEnd>, place: usize) -> Option<Session>
+    requires { place < length lanes.old.items }
+    ensures came { (d : End) → result ≡ (slice_index_or lanes.old.items place d).came }
+    ensures left { (d : End) → lanes.new.items ≡ set lanes.old.items place (record (slice_index_or lanes.old.items place d) { came = None }) }
+{
+    lanes[place].came.take()
+}

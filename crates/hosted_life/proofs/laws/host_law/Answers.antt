@@ -1,0 +1,17 @@
+use Rattle.hosted_life.proofs.Safe.{by_host, by_host_acknowledged, by_host_begun, by_host_now, lives_on}
+use Rattle.hosted_life.proofs.laws.host_law.Goals as goal
+
+pub returns-clause-any_moment : goal.returns-clause-any_moment
+returns-clause-any_moment c = by_host c.kept_law.ensures
+
+pub returns-clause-begun : goal.returns-clause-begun
+returns-clause-begun c = by_host_begun c.kept_law.ensures
+
+pub returns-clause-acknowledged : goal.returns-clause-acknowledged
+returns-clause-acknowledged c = by_host_acknowledged c.kept_law.ensures
+
+pub returns-clause-now : goal.returns-clause-now
+returns-clause-now c = by_host_now c.kept_law.ensures
+
+pub returns-clause-lives : goal.returns-clause-lives
+returns-clause-lives c = lives_on

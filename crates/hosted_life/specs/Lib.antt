@@ -1,0 +1,2 @@
+-- The promise: what a crash of a host's device keeps.
+pub mod Safe

@@ -1,0 +1,80 @@
+-- A crash of the device on which a host makes its heap's calls (this project's own).
+use Rattle.std.specs.Prelude.{ℕ, suc, ◌≡◌, ◌<◌, ◌≤◌, ◌++◌, Bool, false, List, Result}
+use Rattle.heap_model.specs.Cuts.{counts_of}
+use Rattle.heap_model.specs.Setting.{Setting}
+use Rattle.block_disk.specs.Device.{Device, Image}
+use Rattle.block_disk.specs.Memory.{moment_after}
+use Rattle.deferred_disk.specs.Deferred.{Deferred, deferred_device, onto}
+use Rattle.deferred_disk.specs.Host.{HaveMet, Host}
+use Rattle.deferred_disk.specs.Syncs.{durable_moments, moments_of, syncs_in}
+use Rattle.deferred_disk.specs.declared.call.DeviceCall.{DeviceCall}
+use Rattle.durable.specs.Runs.{HasRun}
+use Rattle.durable.specs.Store.{HasPast, Known}
+use Rattle.guards.specs.Schema.{Declarations}
+use Rattle.image.specs.Recovered.{Parts as Recovered}
+use Rattle.image.specs.declared.layout.Layout.{Layout}
+use Rattle.recover.specs.Recovery.{RefusesRecovery}
+use Rattle.recover.specs.Study.{IsStudyOf}
+use Rattle.recover.specs.declared.error.RecoverError.{RecoverError}
+use Rattle.recover.specs.declared.studied.Study.{Study}
+use Rattle.steps.specs.Views.{plan}
+use Rattle.store_past.specs.Past.{Past, no_past}
+use Rattle.store_past.specs.declared.error.StoreError.{StoreError}
+use Rattle.survival.specs.WholeRun.{CannotRecover, MayBeLeft}
+use Rattle.trim_helper.specs.Parts.{IsServing}
+use Rattle.hosted_heap.specs.Hosting.{Hosting, hosted_device}
+use Rattle.hosted_heap.specs.Meeting.{AreAllMade, SameButMet, host_moment}
+use Rattle.hosted_heap.specs.Opening.{HasBegun}
+use Rattle.hosted_heap.specs.Rounds.{KeepsSessions, MakesRound}
+
+-- Recovery takes the image, unless a call fails, memory is wanting, or the control's sequence is at its last value; and of each lane it keeps
+-- at least so many sections.
+pub record IsSafe (l : Layout) (least : ℕ → ℕ) (image : List ℕ) : Type 0 where
+  pub study : Study
+  pub of : IsStudyOf image study
+  pub taken : (e : RecoverError) → RefusesRecovery image e → CannotRecover image e
+  pub keeps : (lane : ℕ) → lane < l.lanes → least lane ≤ counts_of study.report.kept lane
+
+-- So is each image that a crash left at any moment of a run: all that was acknowledged before its first call is kept.
+abbrev pub KeptRunLaw : Type 0
+KeptRunLaw = (x : Known) (s : Setting) (p q : Past) (old new : Device) (has_failed : Bool) (image : List ℕ) → HasPast x s p old → HasRun x.layout s p old q new has_failed → MayBeLeft old new image → IsSafe x.layout p.cut image
+
+-- what a crash of the host's device may leave of a heap, where the host has made of the calls that are left these too
+abbrev pub HostLeaves : (d : Deferred) (c : Host) (next : List DeviceCall) → List ℕ → Type 0
+HostLeaves d c next image = Image (moment_after d.memory.first (onto c.made next)) image
+
+-- A store had this past, and has run since, over a disk that has met its host. The host has made all calls that had been handed over by then,
+-- and maybe more. Then whatever a crash of its device leaves is safe, now or when some of the calls that are left are made.
+abbrev pub HostLaw : Type 0
+HostLaw = (x : Known) (s : Setting) (p q : Past) (old : Device) (d : Deferred) (has_failed : Bool) (c : Host) (next more : List DeviceCall) (image : List ℕ) → HasPast x s p old →
+    HasRun x.layout s p old q (deferred_device d) has_failed → HaveMet d c → durable_moments (moments_of old) ≤ suc (syncs_in c.made) → c.left ≡ next ++ more → HostLeaves d c next image → IsSafe x.layout p.cut image
+
+-- So it is since the heap was opened, once the host has made the calls of that.
+abbrev pub BegunLaw : Type 0
+BegunLaw = (schema : Declarations) (r : Recovered Deferred) (x : Hosting) (q : Past) (d : Deferred) (has_failed : Bool) (c : Host) (next more : List DeviceCall) (image : List ℕ) → HasBegun schema r x →
+    HasRun r.layout (plan x.home) no_past (hosted_device r.disk) q (hosted_device d) has_failed → HaveMet d c → durable_moments (moments_of (hosted_device r.disk)) ≤ suc (syncs_in c.made) → c.left ≡ next ++ more →
+    HostLeaves d c next image → IsSafe r.layout no_past.cut image
+
+-- Whatever store calls are made since, and whichever of theirs the host makes: whatever a crash of its device leaves is safe, and keeps what
+-- was acknowledged then.
+abbrev pub KeepsFrom : (x y : Hosting) → Type 0
+KeepsFrom x y = (p q : Past) (d : Deferred) (has_failed : Bool) (c : Host) (next more : List DeviceCall) (image : List ℕ) → IsServing hosted_device x.helper (plan x.home) p →
+    HasRun x.helper.store.known.layout (plan x.home) p (hosted_device y.helper.store.disk) q (hosted_device d) has_failed → HaveMet d c → syncs_in y.calls.made ≤ syncs_in c.made → c.left ≡ next ++ more →
+    HostLeaves d c next image → IsSafe x.helper.store.known.layout p.cut image
+
+-- And so it is right then.
+abbrev pub KeepsNow : (x y : Hosting) → Type 0
+KeepsNow x y = (p : Past) (image : List ℕ) → IsServing hosted_device x.helper (plan x.home) p → Image (host_moment y) image → IsSafe x.helper.store.known.layout p.cut image
+
+-- So it is once the host has made all calls that were handed over.
+abbrev pub AcknowledgedLaw : Type 0
+AcknowledgedLaw = (x y : Hosting) → SameButMet x y → HaveMet y.helper.store.disk y.calls → AreAllMade y.calls → KeepsFrom x y
+
+abbrev pub NowLaw : Type 0
+NowLaw = (x y : Hosting) → SameButMet x y → HaveMet y.helper.store.disk y.calls → AreAllMade y.calls → KeepsNow x y
+
+-- A round of the heap goes on with the run, unless the store had failed before.
+abbrev pub LivesLaw : Type 0
+LivesLaw = (x y : Hosting) (answer : Result ℕ StoreError) (old : Device) (first p : Past) → IsServing hosted_device x.helper (plan x.home) p →
+    HasRun x.helper.store.known.layout (plan x.home) first old p (hosted_device x.helper.store.disk) false → MakesRound x y answer → KeepsSessions x y →
+    (q : Past) × IsServing hosted_device y.helper (plan y.home) q × HasRun y.helper.store.known.layout (plan y.home) first old q (hosted_device y.helper.store.disk) y.helper.store.known.has_failed

@@ -1,0 +1,24 @@
+//! Laws of a hosted heap's life, each the contract of a function that does nothing.
+ghost use Rattle.hosted_life.specs.Safe.{AcknowledgedLaw, BegunLaw, HostLaw, KeptRunLaw, LivesLaw, NowLaw};
+
+use survival::has_study_law;
+
+/// Recovery takes whatever a crash left at any moment of a run of store calls, and keeps all that was acknowledged before the first.
+pub fn kept_law()
+    ensures { KeptRunLaw }
+{
+    has_study_law();
+}
+
+/// What a crash of the host's device leaves, at whatever moment it comes: before the host has made a call, in it or behind it. Once the
+/// host has made the calls that were handed over when the heap was opened, recovery takes it; once it has made those that were handed
+/// over when a count of sections was told as acknowledged, it keeps so many. No later call takes that back.
+pub fn host_law()
+    ensures any_moment { HostLaw }
+    ensures begun { BegunLaw }
+    ensures acknowledged { AcknowledgedLaw }
+    ensures now { NowLaw }
+    ensures lives { LivesLaw }
+{
+    kept_law();
+}
