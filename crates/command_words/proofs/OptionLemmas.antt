@@ -1,10 +1,13 @@
 -- What the text of an option is read as.
-use Rattle.std.proofs.Common.{◌≡◌, ◌↔◌, ℕ, Bool, true, false, ◌&&◌, List, [], Option, None, Some, Result, Ok, Err, option_map, refl, sym, ap, ◌∙◌, arith, codes, length, subst}
+use Rattle.std.proofs.Common.{◌≡◌, ◌↔◌, ℕ, Bool, true, false, ◌&&◌, List, [], Option, None, Some, Result, Ok, Err, option_map, refl, sym, ap, ap₂, ◌∙◌, arith, codes, length, subst}
 use Rattle.std.specs.Prelude.{IsTrue, not, unwrap_or}
 use Rattle.std.specs.Borrow.{Bor}
 use Rattle.std.specs.Str.Parse.{ParsesBool, ParsesUnsigned, parse_bool_error}
 use Rattle.clap.specs.Matches.{ReadsOne}
-use Rattle.command_words.specs.Words.{Reads}
+use Rattle.clap.specs.Built.{AddsSubcommand}
+use Rattle.clap.specs.Simple.{App, app_of, with_subcommand}
+use Rattle.clap.specs.declared.builder.command.Command.{Command}
+use Rattle.command_words.specs.Words.{MayRead, Reads}
 
 -- a number
 pub reads_number : {E : Type 0} (gives : List ℕ → Result ℕ E → Type 0) (bits : ℕ) (o : Option (List ℕ)) (r : Option ℕ)
@@ -13,6 +16,14 @@ pub reads_number : {E : Type 0} (gives : List ℕ → Result ℕ E → Type 0) (
 reads_number gives bits None r by reads = tt
 reads_number gives bits (Some t) (Some n) by reads = λ numeral fits. (by t (Ok n) (reads t refl)).1
 reads_number gives bits (Some t) None by reads = λ numeral fits. let failed = reads t refl in absurd (by t (Err failed.0) failed.1 (numeral, fits))
+
+-- a number that may be missing
+pub may_read_number : {E : Type 0} (gives : List ℕ → Result ℕ E → Type 0) (bits : ℕ) (o : Option (List ℕ)) (r : Option ℕ)
+    → ((u : List ℕ) (x : Result ℕ E) → gives u x → ParsesUnsigned bits 10 u x) → (o ≡ None → r ≡ None) → ((t : List ℕ) → o ≡ Some t → ReadsOne gives t r)
+    → MayRead bits o r
+may_read_number gives bits None r by none reads = none refl
+may_read_number gives bits (Some t) (Some n) by none reads = λ numeral fits. ap Some (by t (Ok n) (reads t refl)).1
+may_read_number gives bits (Some t) None by none reads = λ numeral fits. let failed = reads t refl in absurd (by t (Err failed.0) failed.1 (numeral, fits))
 
 -- the type of a value
 abbrev pub type_of : {E : Type 0} → E → Type 0
@@ -52,3 +63,10 @@ third_is_off groups external false others e = refl
 third_is_off true false true others e = absurd cc
 third_is_off true true true others e = absurd cc
 third_is_off false external true others e = absurd cc
+
+-- a plain word more
+pub word_added : (old word new : Command) (before added : App) → app_of old ≡ before → app_of word ≡ added → added.top.is_plain ≡ true
+    → AddsSubcommand old word new → app_of new ≡ with_subcommand before added.top
+word_added old word new before added old_is word_is plain adds =
+    let local = third_is_off _ _ _ _ (ap (λ (a : App). a.top.is_plain) word_is ∙ plain) in
+    adds.shape local ∙ ap₂ with_subcommand old_is (ap (λ (a : App). a.top) word_is)

@@ -1,13 +1,13 @@
--- Whether `format` is asked for with one path for both of its files.
-use Rattle.std.proofs.Common.{◌≡◌, ℕ, List, [], Option, None, Some, sym, ◌∙◌, ap, arith, codes, length}
+-- Whether `format` is asked for with one path for both of its files, and `drive` with two lengths.
+use Rattle.std.proofs.Common.{◌≡◌, ◌≢◌, ℕ, List, [], Option, None, Some, inl, inr, sym, subst, ◌∙◌, ap, arith, codes, length}
 use Rattle.clap.specs.Simple.{subcommand_of}
 use Rattle.clap.specs.Walk.{Row, Text}
 use Rattle.command_words.specs.declared.words.Words.{Words}
 use Rattle.command_words.specs.declared.words.Words.TheVariants as words
-use Rattle.command_words.specs.Words.{AsksFor, HasOnePath, NamesOneFile, image_of, program, schema_of}
+use Rattle.command_words.specs.Words.{AsksFor, HasBothLengths, HasOnePath, MayRead, NamesOneFile, SaysBothLengths, image_of, program, schema_of}
 
 pub one_file : (texts : List Text) (asked : Words) → AsksFor (subcommand_of program texts) asked → HasOnePath asked → NamesOneFile texts
-one_file texts words.Run asks same = elim same [ ]
+one_file texts (words.Run image schema) asks same = elim same [ ]
 one_file texts (words.Format image schema lanes capacity) (options, found, asks) same =
     record { options = options; found = found; same = sym asks.image_is ∙ same ∙ asks.schema_is }
 one_file texts (words.Show image) asks same = elim same [ ]
@@ -15,7 +15,25 @@ one_file texts (words.Draw image last schema) asks same = elim same [ ]
 one_file texts (words.Dump image schema) asks same = elim same [ ]
 one_file texts (words.Recover image) asks same = elim same [ ]
 one_file texts (words.Upgrade image) asks same = elim same [ ]
-one_file texts (words.Drive workers rounds image) asks same = elim same [ ]
+one_file texts (words.Drive workers rounds seconds image) asks same = elim same [ ]
+
+-- an option whose number was read was met
+was_met : (bits number : ℕ) (text : Option Text) → MayRead bits text (Some number) → text ≢ None
+was_met bits number None reads none = absurd cc
+was_met bits number (Some t) reads none = absurd cc
+
+pub both_lengths : (texts : List Text) (asked : Words) → AsksFor (subcommand_of program texts) asked → HasBothLengths asked → SaysBothLengths texts
+both_lengths texts (words.Run image schema) asks both = elim both [ ]
+both_lengths texts (words.Format image schema lanes capacity) asks both = elim both [ ]
+both_lengths texts (words.Show image) asks both = elim both [ ]
+both_lengths texts (words.Draw image last schema) asks both = elim both [ ]
+both_lengths texts (words.Dump image schema) asks both = elim both [ ]
+both_lengths texts (words.Recover image) asks both = elim both [ ]
+both_lengths texts (words.Upgrade image) asks both = elim both [ ]
+both_lengths texts (words.Drive workers None seconds image) asks both = elim both [ ]
+both_lengths texts (words.Drive workers (Some rounds) None image) asks both = elim both [ ]
+both_lengths texts (words.Drive workers (Some rounds) (Some seconds) image) (options, found, asks) both =
+    record { options = options; found = found; rounds = was_met 32 rounds _ asks.rounds_are; seconds = was_met 32 seconds _ asks.seconds_are }
 
 -- the word that was met, and what stands behind it
 abbrev word_in : Option (Text × List Row) → Text
@@ -45,8 +63,8 @@ run n is lengths = omega (arith, is, lengths)
 pub not_none : (texts : List Text) → subcommand_of program texts ≡ None → NamesOneFile texts → ⊥
 not_none texts is one = none (length (word_in (subcommand_of program texts))) (ap (λ found. length (word_in found)) is) (ap (λ found. length (word_in found)) one.found)
 
-pub not_run : (texts : List Text) → subcommand_of program texts ≡ Some (codes "run", []) → NamesOneFile texts → ⊥
-not_run texts is one = run (length (word_in (subcommand_of program texts))) (ap (λ found. length (word_in found)) is) (ap (λ found. length (word_in found)) one.found)
+pub not_run : (texts : List Text) (options : List Row) → subcommand_of program texts ≡ Some (codes "run", options) → NamesOneFile texts → ⊥
+not_run texts options is one = run (length (word_in (subcommand_of program texts))) (ap (λ found. length (word_in found)) is) (ap (λ found. length (word_in found)) one.found)
 
 not_show : (texts : List Text) (options : List Row) → subcommand_of program texts ≡ Some (codes "show", options) → NamesOneFile texts → ⊥
 not_show texts options is one = longer (length (word_in (subcommand_of program texts))) (ap (λ found. length (word_in found)) is) (ap (λ found. length (word_in found)) one.found)
@@ -64,7 +82,8 @@ not_dump : (texts : List Text) (options : List Row) → subcommand_of program te
 not_dump texts options is one = longer (length (word_in (subcommand_of program texts))) (ap (λ found. length (word_in found)) is) (ap (λ found. length (word_in found)) one.found)
 
 pub two_files : (texts : List Text) (asked : Words) → AsksFor (subcommand_of program texts) asked → (HasOnePath asked → ⊥) → NamesOneFile texts → ⊥
-two_files texts words.Run asks two one = (asks one.options).0 one.found
+two_files texts (words.Run image schema) (inl none) two one = (none.others one.options).0 one.found
+two_files texts (words.Run image schema) (inr (options, found, asks)) two one = not_run texts options found one
 two_files texts (words.Format image schema lanes capacity) (options, found, asks) two one =
     let same : options ≡ one.options = ap rows_in (sym found ∙ one.found) in
     two (asks.image_is ∙ ap image_of same ∙ one.same ∙ ap schema_of (sym same) ∙ sym asks.schema_is)
@@ -73,4 +92,18 @@ two_files texts (words.Draw image last schema) (options, found, asks) two one = 
 two_files texts (words.Dump image schema) (options, found, asks) two one = not_dump texts options found one
 two_files texts (words.Recover image) (options, found, path) two one = not_recover texts options found one
 two_files texts (words.Upgrade image) (options, found, path) two one = not_upgrade texts options found one
-two_files texts (words.Drive workers rounds image) (options, found, asks) two one = not_drive texts options found one
+two_files texts (words.Drive workers rounds seconds image) (options, found, asks) two one = not_drive texts options found one
+
+-- no word is met, or another than `drive`
+
+no_word : (n : ℕ) → n ≡ 0 → n ≡ 5 → ⊥
+no_word n is lengths = omega (arith, is, lengths)
+
+other_word : (n : ℕ) → n ≡ 3 → n ≡ 5 → ⊥
+other_word n is lengths = omega (arith, is, lengths)
+
+pub none_says_both : (texts : List Text) → subcommand_of program texts ≡ None → SaysBothLengths texts → ⊥
+none_says_both texts is both = no_word (length (word_in (subcommand_of program texts))) (ap (λ found. length (word_in found)) is) (ap (λ found. length (word_in found)) both.found)
+
+pub run_says_both : (texts : List Text) (options : List Row) → subcommand_of program texts ≡ Some (codes "run", options) → SaysBothLengths texts → ⊥
+run_says_both texts options is both = other_word (length (word_in (subcommand_of program texts))) (ap (λ found. length (word_in found)) is) (ap (λ found. length (word_in found)) both.found)

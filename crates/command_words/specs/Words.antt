@@ -48,13 +48,20 @@ workers_option = record (new_rule (codes "workers")) {
   parser = Some (Signed (pos 1) (pos 32));
 }
 
--- the sections that each works, 1 to 10,000, and 1,000 where nothing is said
+-- the sections that each works, 1 to 10,000, which may be missing
 abbrev pub rounds_option : Rule
 rounds_option = record (new_rule (codes "rounds")) {
   long = Some (codes "rounds");
   value_names = 1;
-  defaults = codes "1000" ∷ [];
   parser = Some (Signed (pos 1) (pos 10000));
+}
+
+-- the seconds that all work, 1 to 3,600, which may be missing
+abbrev pub seconds_option : Rule
+seconds_option = record (new_rule (codes "seconds")) {
+  long = Some (codes "seconds");
+  value_names = 1;
+  parser = Some (Signed (pos 1) (pos 3600));
 }
 
 -- how many of a thread's sections are drawn, the last ones, and 50 where nothing is said
@@ -93,7 +100,11 @@ upgrade_words = with_rule (new_app (codes "upgrade")) (path_option (codes "image
 
 -- the word `drive` with its options
 abbrev pub drive_words : App
-drive_words = with_rule (with_rule (with_rule (new_app (codes "drive")) workers_option) rounds_option) (file_option (codes "image"))
+drive_words = with_rule (with_rule (with_rule (with_rule (new_app (codes "drive")) workers_option) rounds_option) seconds_option) (file_option (codes "image"))
+
+-- the word `run` with its options
+abbrev pub run_words : App
+run_words = with_rule (with_rule (new_app (codes "run")) (file_option (codes "image"))) (file_option (codes "schema"))
 
 -- `heapctl` alone, with a version, and with the word `help` that clap gives
 abbrev pub top : App
@@ -104,7 +115,7 @@ top = record {
 
 -- with the word `run`
 abbrev pub play_words : App
-play_words = with_subcommand top (new_shape (codes "run"))
+play_words = with_subcommand top run_words.top
 
 -- with all its words
 abbrev pub program : App
@@ -115,6 +126,12 @@ abbrev pub Reads : (bits : ℕ) → Option Text → ℕ → Type 0
 Reads bits None number = Unit {0}
 Reads bits (Some text) number = IsNumeral 10 (without_leading_plus text) → digits_value 10 (without_leading_plus text) < 2 ^ bits
     → number ≡ digits_value 10 (without_leading_plus text)
+
+-- the number of an option that may be missing: none where it is
+abbrev pub MayRead : (bits : ℕ) → Option Text → Option ℕ → Type 0
+MayRead bits None number = number ≡ None
+MayRead bits (Some text) number = IsNumeral 10 (without_leading_plus text) → digits_value 10 (without_leading_plus text) < 2 ^ bits
+    → number ≡ Some (digits_value 10 (without_leading_plus text))
 
 -- the flag was met: it reads as `true`
 abbrev pub IsSet : Text → List Row → Type 0
@@ -148,16 +165,29 @@ pub record AsksToDump (options : List Row) (image : Text) (schema : Option Text)
   pub schema_is : schema ≡ first_of (codes "schema") options
 
 -- workers are to work, as the options behind the word say
-pub record AsksToDrive (options : List Row) (workers rounds : ℕ) (image : Option Text) : Type 0 where
+pub record AsksToDrive (options : List Row) (workers : ℕ) (rounds seconds : Option ℕ) (image : Option Text) : Type 0 where
   pub workers_are : Reads 8 (one_of (codes "workers") options) workers
-  pub rounds_are : Reads 32 (one_of (codes "rounds") options) rounds
+  pub rounds_are : MayRead 32 (one_of (codes "rounds") options) rounds
+  pub seconds_are : MayRead 32 (one_of (codes "seconds") options) seconds
   pub image_is : image ≡ first_of (codes "image") options
+
+-- a script is to be played, as the options behind the word say: in memory, or over an image file
+pub record AsksToPlay (options : List Row) (image schema : Option Text) : Type 0 where
+  pub image_is : image ≡ first_of (codes "image") options
+  pub schema_is : schema ≡ first_of (codes "schema") options
+
+-- no word of the program's was met
+pub record IsNoWord (found : Option (Text × List Row)) (image schema : Option Text) : Type 0 where
+  pub others : (options : List Row) → (found ≢ Some (codes "format", options))
+      × (found ≢ Some (codes "show", options)) × (found ≢ Some (codes "recover", options)) × (found ≢ Some (codes "upgrade", options))
+      × (found ≢ Some (codes "drive", options)) × (found ≢ Some (codes "dump", options)) × (found ≢ Some (codes "run", options))
+  pub in_memory : image ≡ None
+  pub by_number : schema ≡ None
 
 -- the word that was met with its options, if one was, asks for this
 abbrev pub AsksFor : Option (Text × List Row) → Words → Type 0
-AsksFor found words.Run = (options : List Row) → (found ≢ Some (codes "format", options))
-    × (found ≢ Some (codes "show", options)) × (found ≢ Some (codes "recover", options)) × (found ≢ Some (codes "upgrade", options))
-    × (found ≢ Some (codes "drive", options)) × (found ≢ Some (codes "dump", options))
+AsksFor found (words.Run image schema) = IsNoWord found (option_map (λ path. path.now) image) (option_map (λ path. path.now) schema)
+    ⊎ ((options : List Row) × (found ≡ Some (codes "run", options)) × AsksToPlay options (option_map (λ path. path.now) image) (option_map (λ path. path.now) schema))
 AsksFor found (words.Format image schema lanes capacity) =
     (options : List Row) × (found ≡ Some (codes "format", options)) × AsksToFormat options image.now schema.now lanes capacity
 AsksFor found (words.Show image) =
@@ -170,13 +200,18 @@ AsksFor found (words.Recover image) =
     (options : List Row) × (found ≡ Some (codes "recover", options)) × (image.now ≡ image_of options)
 AsksFor found (words.Upgrade image) =
     (options : List Row) × (found ≡ Some (codes "upgrade", options)) × (image.now ≡ image_of options)
-AsksFor found (words.Drive workers rounds image) =
-    (options : List Row) × (found ≡ Some (codes "drive", options)) × AsksToDrive options workers rounds (option_map (λ path. path.now) image)
+AsksFor found (words.Drive workers rounds seconds image) =
+    (options : List Row) × (found ≡ Some (codes "drive", options)) × AsksToDrive options workers rounds seconds (option_map (λ path. path.now) image)
 
 -- an image file is to be made in the place of its own schema file
 abbrev pub HasOnePath : Words → Type 0
 HasOnePath (words.Format image schema lanes capacity) = image.now ≡ schema.now
 HasOnePath _ = ⊥
+
+-- it is said in two ways how long workers are to work
+abbrev pub HasBothLengths : Words → Type 0
+HasBothLengths (words.Drive workers (Some rounds) (Some seconds) image) = Unit {0}
+HasBothLengths _ = ⊥
 
 -- the words are those of `format`, with one path behind `--image` and `--schema`
 pub record NamesOneFile (texts : List Text) : Type 0 where
@@ -184,12 +219,20 @@ pub record NamesOneFile (texts : List Text) : Type 0 where
   pub found : subcommand_of program texts ≡ Some (codes "format", options)
   pub same : image_of options ≡ schema_of options
 
--- the answer's kind is one that clap gives to such words; or clap takes them, and they are one file's
+-- the words are those of `drive`, with both `--rounds` and `--seconds`
+pub record SaysBothLengths (texts : List Text) : Type 0 where
+  pub options : List Row
+  pub found : subcommand_of program texts ≡ Some (codes "drive", options)
+  pub rounds : one_of (codes "rounds") options ≢ None
+  pub seconds : one_of (codes "seconds") options ≢ None
+
+-- the answer's kind is one that clap gives to such words; or clap takes them, and they are one file's or say two lengths
 abbrev pub Refuses : List Text → Error → Type 0
 Refuses texts answer = HasKind (fault_of program texts) answer
-    ⊎ ((fault_of program texts ≡ []) × NamesOneFile texts × (kind_of answer ≡ ArgumentConflict))
+    ⊎ ((fault_of program texts ≡ []) × (NamesOneFile texts ⊎ SaysBothLengths texts) × (kind_of answer ≡ ArgumentConflict))
 
--- these words are taken where clap takes them and no file is named twice, and else they are refused; or memory was wanting
+-- these words are taken where clap takes them, no file is named twice and no run has two lengths, and else they are refused; or memory was
+-- wanting
 abbrev pub IsAnsweredBy : List Text → Result Words Error → Type 0
-IsAnsweredBy texts (Ok asked) = (fault_of program texts ≡ []) × (NamesOneFile texts → ⊥)
+IsAnsweredBy texts (Ok asked) = (fault_of program texts ≡ []) × (NamesOneFile texts → ⊥) × (HasBothLengths asked → ⊥)
 IsAnsweredBy texts (Err answer) = Refuses texts answer

@@ -5,7 +5,7 @@ ghost use Rattle.clap.specs.Values.{kind_of};
 ghost use Rattle.clap.specs.Walk.{first_of, one_of, rows_of, rule_of};
 ghost use Rattle.clap.specs.Matches.{found_of};
 ghost use Rattle.clap.specs.declared.error.kind.ErrorKind.TheVariants.{ArgumentConflict, OutOfMemory};
-ghost use Rattle.command_words.specs.Words.{AsksFor, HasOnePath, IsAnsweredBy, IsSet, Reads, capacity_option, dot_flag, drive_words, dump_words, file_option, format_words, lanes_option, last_option, path_option, play_words, program, recover_words, rounds_option, show_words, upgrade_words, workers_option};
+ghost use Rattle.command_words.specs.Words.{AsksFor, HasBothLengths, HasOnePath, IsAnsweredBy, IsSet, MayRead, Reads, capacity_option, dot_flag, drive_words, dump_words, file_option, format_words, lanes_option, last_option, path_option, play_words, program, recover_words, rounds_option, run_words, seconds_option, show_words, upgrade_words, workers_option};
 
 use clap::error::ErrorKind;
 use clap::{Arg, ArgAction, ArgMatches, Command, Error, value_parser};
@@ -15,7 +15,12 @@ use std::alloc::{AllocError, Global};
 #[derive(Clone, Copy, Debug, PartialEq, Eq)]
 pub enum Words<'a> {
     /// To play the script on standard input. No words ask for it too.
-    Run,
+    Run {
+        /// The path of the image file over which it is played; it makes an image in memory where there is none.
+        image: Option<&'a str>,
+        /// The path of the schema file that gives the names of the image's objects and fields; there are numbers where there is none.
+        schema: Option<&'a str>,
+    },
     /// To make an image file for the schema that a schema file declares.
     Format {
         /// The image file's path.
@@ -62,8 +67,10 @@ pub enum Words<'a> {
     Drive {
         /// The number of workers, each a thread of its own, 1 to 32.
         workers: u8,
-        /// How many sections each of them works, 1 to 10,000.
-        rounds: u32,
+        /// How many sections each of them works, 1 to 10,000; 1,000 where nothing is said of seconds either.
+        rounds: Option<u32>,
+        /// Or how many seconds they work, 1 to 3,600.
+        seconds: Option<u32>,
         /// The path of the image file on which they work; in memory where there is none.
         image: Option<&'a str>,
     },
@@ -72,6 +79,13 @@ pub enum Words<'a> {
 // What stands at the end of the program's help.
 const EXIT_STATUSES: &str =
     "Exit status: 0 where all is done; 2 for wrong words, or a schema file or script that is refused; 3 where another process has the image; 1 for every other fault, which standard error tells";
+
+// What is told of one path for two files, and of two lengths for one run.
+const ONE_PATH: &str =
+    "the image and the schema are two files, and '--image' and '--schema' name one";
+
+const BOTH_LENGTHS: &str =
+    "'--rounds' and '--seconds' both say how long the threads work: name one of them";
 
 // An option that takes the path of a file, and has to be there.
 fn path<'a>(alloc: Global, name: &'a str, about: &'a str) -> Arg<'a>
@@ -139,9 +153,23 @@ fn rounds<'a>(alloc: Global) -> Arg<'a>
     Arg::new(alloc, "rounds")
         .long("rounds")
         .value_name("N")
-        .help("The sections that each thread works, 1 to 10000")
+        .help(
+            "The sections that each thread works, 1 to 10000, in place of --seconds. 1000 without either",
+        )
         .value_parser(value_parser!(u32).range(1..=10_000))
-        .default_value("1000")
+}
+
+fn seconds<'a>(alloc: Global) -> Arg<'a>
+    ensures rule { rule_of result ≡ seconds_option }
+    ensures own { result.global ≡ false }
+{
+    Arg::new(alloc, "seconds")
+        .long("seconds")
+        .value_name("N")
+        .help(
+            "How long the threads work, 1 to 3600 seconds, in place of --rounds. In memory, what they write is kept",
+        )
+        .value_parser(value_parser!(u32).range(1..=3_600))
 }
 
 fn last<'a>(alloc: Global) -> Arg<'a>
@@ -242,6 +270,7 @@ fn drive<'a>(alloc: Global) -> Result<Command<'a>, AllocError>
         )
         .arg(workers(alloc))?
         .arg(rounds(alloc))?
+        .arg(seconds(alloc))?
         .arg(file(
             alloc,
             "image",
@@ -249,13 +278,30 @@ fn drive<'a>(alloc: Global) -> Result<Command<'a>, AllocError>
         ))
 }
 
+fn run<'a>(alloc: Global) -> Result<Command<'a>, AllocError>
+    ensures { IfOk result (λ command. app_of command ≡ run_words) }
+{
+    Command::new(alloc, "run")
+        .about(
+            "Plays the script on standard input, as no word at all does too. With --image it is played over an image file: the file is recovered, what the lines leave of it takes its place, and then the report and what they print is printed; where that can't be done, nothing is, and the file stays as it was",
+        )
+        .arg(file(
+            alloc,
+            "image",
+            "The image file to play the script over. In memory without this",
+        ))?
+        .arg(file(
+            alloc,
+            "schema",
+            "With --image: the schema file of the image, for names. Without this they are o0 and f0, and so on",
+        ))
+}
+
 // `heapctl` with the word that there was first.
 fn play<'a>(alloc: Global) -> Result<Command<'a>, AllocError>
     ensures { IfOk result (λ command. app_of command ≡ play_words) }
 {
-    let run = Command::new(alloc, "run").about(
-        "Plays the script on standard input, as no word at all does too",
-    );
+    let run = run(alloc)?;
     let top = Command::new(alloc, "heapctl")
         .version("0.1.0")
         .about("Plays threads on an object heap that survives crashes")
@@ -286,7 +332,7 @@ fn command<'a>(alloc: Global) -> Result<Command<'a>, AllocError>
 ///
 /// An `Err` holds the text to print: for wrong words what is wrong, for `--help` and `--version` what they ask for. Its
 /// kind is `OutOfMemory` where there was no memory. `format` with one path for the image and for the schema, which would
-/// be emptied, is an `ArgumentConflict`: paths are compared as they are written.
+/// be emptied, is an `ArgumentConflict`: paths are compared as they are written. `drive` with both `--rounds` and `--seconds` is one too.
 pub fn read_words<'a>(alloc: Global, words: &'a [String]) -> Result<Words<'a>, Error>
     ensures exact { IsAnsweredBy (map (λ s. string_bytes s) words.entry.now) result }
     ensures asked { IfOk result (λ asked. AsksFor (subcommand_of program (map (λ s. string_bytes s) words.entry.now)) asked) }
@@ -299,7 +345,10 @@ pub fn read_words<'a>(alloc: Global, words: &'a [String]) -> Result<Words<'a>, E
         Err(answer) => return Err(answer),
     };
     if has_one_path(&asked) {
-        return Err(one_path(alloc)?);
+        return Err(conflict(alloc, ONE_PATH)?);
+    }
+    if has_both_lengths(&asked) {
+        return Err(conflict(alloc, BOTH_LENGTHS)?);
     }
     Ok(asked)
 }
@@ -314,15 +363,26 @@ fn has_one_path(words: &Words<'_>) -> bool
     }
 }
 
-// What is answered to one path for both files.
-fn one_path(alloc: Global) -> Result<Error, AllocError>
+// The words say how long workers work in two ways.
+fn has_both_lengths(words: &Words<'_>) -> bool
+    ensures { IsTrue result ↔ HasBothLengths words.now }
+{
+    match words {
+        Words::Drive {
+            rounds: Some(_),
+            seconds: Some(_),
+            ..
+        } => true,
+        _ => false,
+    }
+}
+
+// What is answered to words of which each may stand alone.
+fn conflict(alloc: Global, why: &'static str) -> Result<Error, AllocError>
     ensures { IfOk result (λ answer. kind_of answer ≡ ArgumentConflict) }
 {
     let mut command = command(alloc)?;
-    command.error(
-        ErrorKind::ArgumentConflict,
-        "the image and the schema are two files, and '--image' and '--schema' name one",
-    )
+    command.error(ErrorKind::ArgumentConflict, why)
 }
 
 // What the words ask for in which this was found.
@@ -356,15 +416,23 @@ fn asked_by<'a>(matches: &ArgMatches<'a>) -> Words<'a>
         },
         Some(("drive", found)) => Words::Drive {
             workers: byte_of(found, "workers"),
-            rounds: number_of(found, "rounds"),
+            rounds: found_number(found, "rounds"),
+            seconds: found_number(found, "seconds"),
             image: found_text(found, "image"),
         },
         Some(("dump", found)) => Words::Dump {
             image: text_of(found, "image"),
             schema: found_text(found, "schema"),
         },
-        // No words mean the only other word too.
-        _ => Words::Run,
+        Some(("run", found)) => Words::Run {
+            image: found_text(found, "image"),
+            schema: found_text(found, "schema"),
+        },
+        // No words mean that too.
+        _ => Words::Run {
+            image: None,
+            schema: None,
+        },
     }
 }
 
@@ -397,6 +465,13 @@ fn number_of(found: &ArgMatches<'_>, name: &str) -> u32
     ensures { Reads 32 (one_of name.now (rows_of (found_of found.now))) result }
 {
     found.get_one::<u32>(name).unwrap_or(0)
+}
+
+// The option's number, where it was met.
+fn found_number(found: &ArgMatches<'_>, name: &str) -> Option<u32>
+    ensures { MayRead 32 (one_of name.now (rows_of (found_of found.now))) result }
+{
+    found.get_one::<u32>(name)
 }
 
 // The flag was met.

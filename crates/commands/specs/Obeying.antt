@@ -1,5 +1,5 @@
 -- What each of the program's words does (docs/SCRIPTS.md).
-use Rattle.std.specs.Prelude.{◌≡◌, ℕ, List, [], Option, Result, Ok, Err}
+use Rattle.std.specs.Prelude.{◌≡◌, ℕ, List, [], Option, None, Some, Result, Ok, Err}
 use Rattle.std.specs.Io.KnownBytes.{Appends}
 use Rattle.script_lines.specs.Endings.{OfScript}
 use Rattle.scripts.specs.Runs.{Ends}
@@ -15,6 +15,9 @@ use Rattle.guards.specs.Schema.{Declarations}
 use Rattle.image_schema.specs.Dumping.{dump_text}
 use Rattle.image_file.specs.Naming.{TellsNamed, TellsLessNamed}
 use Rattle.image_file.specs.Telling.{Tells, TellsLess, report_of}
+use Rattle.image_scripts.specs.Running.{RunsFile}
+use Rattle.image_scripts.specs.declared.error.RunFault.{RunFault}
+use Rattle.image_scripts.specs.declared.error.RunFault.TheVariants as runs
 use Rattle.commands.specs.declared.fault.WorkFault.{WorkFault}
 use Rattle.commands.specs.declared.fault.WorkFault.TheVariants as fault
 use Rattle.commands.specs.Faults.{RefusedAt}
@@ -26,6 +29,13 @@ use Rattle.command_words.specs.declared.words.Words.TheVariants as words
 abbrev pub told_of_script : Result (Unit {0}) ScriptError → Result (Unit {0}) WorkFault
 told_of_script (Ok done) = Ok done
 told_of_script (Err error) = Err (fault.Script error)
+
+-- how the run of a script over an image file ended
+abbrev pub told_of_run : Result (Unit {0}) RunFault → Result (Unit {0}) WorkFault
+told_of_run (Ok done) = Ok done
+told_of_run (Err (runs.Named error)) = Err (fault.Named error)
+told_of_run (Err (runs.Script error)) = Err (fault.Script error)
+told_of_run (Err runs.Write) = Err fault.Write
 
 -- how the making of an image file ended
 abbrev pub told_of_format : Result (Unit {0}) FormatError → Result (Unit {0}) WorkFault
@@ -48,6 +58,15 @@ PlaysScript (Ok done) read unread written now = OfScript read unread (λ lines e
 PlaysScript (Err (fault.Script error)) read unread written now = OfScript read unread (λ lines ending. Ends lines ending (Err error) written now)
 PlaysScript (Err _) read unread written now = ⊥
 
+-- it is played over an image file, by the names of the schema file where one is named
+abbrev pub PlaysOnFile : {P : Type 0} (schema : Option P) → Result (Unit {0}) WorkFault → (read unread written now : Option (List ℕ)) → Type 0
+PlaysOnFile schema result read unread written now = (r : Result (Unit {0}) RunFault) × (result ≡ told_of_run r) × RunsFile schema r read unread written now
+
+-- it is played over an image file where one is named, and else in memory
+abbrev pub PlaysAt : {P Q : Type 0} (image : Option P) (schema : Option Q) → Result (Unit {0}) WorkFault → (read unread written now : Option (List ℕ)) → Type 0
+PlaysAt None schema result read unread written now = PlaysScript result read unread written now
+PlaysAt (Some path) schema result read unread written now = PlaysOnFile schema result read unread written now
+
 -- an image with so many lanes of so many records is made, and its size is told
 abbrev pub Formats : (lanes capacity : ℕ) → Result (Unit {0}) WorkFault → (written now : Option (List ℕ)) → Type 0
 Formats lanes capacity (Ok done) written now = PrintsImage lanes capacity written now
@@ -68,11 +87,11 @@ TellsOfNamed text path (Err _) written now = ⊥
 
 -- what the words ask for is done, with this result: by what the reader had before and has now, and what was written before and is now
 abbrev pub Obeys : Words → Result (Unit {0}) WorkFault → (read unread written now : Option (List ℕ)) → Type 0
-Obeys words.Run result read unread written now = PlaysScript result read unread written now
+Obeys (words.Run image schema) result read unread written now = PlaysAt image schema result read unread written now
 Obeys (words.Format image schema lanes capacity) result read unread written now = Formats lanes capacity result written now
 Obeys (words.Show image) result read unread written now = TellsOf study_text result written now
 Obeys (words.Draw image last schema) result read unread written now = TellsOfNamed (λ given s. picture_text given last s) schema result written now
 Obeys (words.Dump image schema) result read unread written now = TellsOfNamed dump_text schema result written now
 Obeys (words.Recover image) result read unread written now = TellsOf report_of result written now
 Obeys (words.Upgrade image) result read unread written now = TellsOf report_of result written now
-Obeys (words.Drive workers rounds image) result read unread written now = Drives (WorkedAt image workers) (RefusedAt image workers) result written now
+Obeys (words.Drive workers rounds seconds image) result read unread written now = Drives (WorkedAt image workers) (RefusedAt image workers) result written now

@@ -1,12 +1,13 @@
 -- How a run of workers ends, and what is written of it.
-use Rattle.std.specs.Prelude.{ℕ, ◌⊎◌, List, [], Option, None, Some, Result, Ok, Err}
+use Rattle.std.specs.Prelude.{ℕ, ◌≡◌, ◌⊎◌, List, [], Option, None, Some, Result, Ok, Err}
 use Rattle.std.specs.Io.KnownBytes.{Appends}
 use Rattle.block_disk.specs.Device.{Device}
-use Rattle.block_disk.specs.Memory.{device_of}
+use Rattle.block_disk.specs.Memory.{Memory, device_of}
 use Rattle.drive.specs.Driven.{HasDriven, HasDrivenOn}
 use Rattle.drive.specs.declared.driven.Driven.{Driven}
 use Rattle.file_disk.specs.Backing.{Held, Reads}
 use Rattle.file_disk.specs.Mirror.{Mirror, new_device}
+use Rattle.image.specs.Recovered.{Parts}
 use Rattle.inspect.specs.Written.{AppendsPart}
 use Rattle.commands.specs.DrivenText.{driven_text}
 use Rattle.commands.specs.declared.fault.WorkFault.{WorkFault}
@@ -16,20 +17,27 @@ use Rattle.commands.specs.declared.fault.WorkFault.TheVariants.{Drive, File, For
 abbrev pub file_device : Mirror → Device
 file_device m = m.device
 
--- so many workers have gone on with the image that a file holds
-pub record HasDrivenImageOf (workers : ℕ) (file : Option Held) (driven : Driven) : Type 0 where
+-- so many workers have gone on with the image that a file holds, and this is what was left
+pub record HasDrivenImageOf (workers : ℕ) (file : Option Held) (now : Parts Mirror) (driven : Driven) : Type 0 where
   pub image : List ℕ
   pub reads : Reads image file
-  pub so : HasDrivenOn file_device workers (new_device image) driven
+  pub so : HasDrivenOn file_device workers (new_device image) now driven
 
 -- so many workers have worked on a file: from the beginning where it is empty, or on from the image that it holds
-abbrev pub HasDrivenFile : (workers : ℕ) (file : Option Held) (driven : Driven) → Type 0
-HasDrivenFile workers file driven = (Reads [] file × HasDriven file_device workers driven) ⊎ HasDrivenImageOf workers file driven
+abbrev pub HasDrivenFile : (workers : ℕ) (file : Option Held) (now : Parts Mirror) (driven : Driven) → Type 0
+HasDrivenFile workers file now driven = (Reads [] file × HasDriven file_device workers now driven) ⊎ HasDrivenImageOf workers file now driven
+
+-- this was left, on this disk, whose file reads it
+pub record HasLeft (so : Parts Mirror → Type 0) (disk : Mirror) : Type 0 where
+  pub now : Parts Mirror
+  pub there : now.disk ≡ disk
+  pub is : so now
+  pub reads : Reads disk.device.now.bytes disk.file
 
 -- so many workers have worked on an image file where one was named, and else in memory
 abbrev pub WorkedAt : {P : Type 0} (image : Option P) (workers : ℕ) → Driven → Type 0
-WorkedAt None workers driven = HasDriven device_of workers driven
-WorkedAt (Some path) workers driven = (file : Option Held) × HasDrivenFile workers file driven
+WorkedAt None workers driven = (now : Parts Memory) × HasDriven device_of workers now driven
+WorkedAt (Some path) workers driven = (file : Option Held) × (disk : Mirror) × HasLeft (λ now. HasDrivenFile workers file now driven) disk
 
 -- workers have worked so, and the lines that tell it are written
 pub record IsTold (worked : Driven → Type 0) (old new : Option (List ℕ)) : Type 0 where

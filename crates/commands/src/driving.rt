@@ -9,8 +9,9 @@ ghost use Rattle.inspect.specs.Written.{AppendsPart};
 
 use crate::fault::WorkFault;
 use crate::files::drive_at_path;
+use crate::progress::Watch;
 use crate::telling::write_driven;
-use drive::{Driven, Meet, drive_with};
+use drive::{Driven, drive_with};
 use file_disk::BackingFile;
 use image_file::Trouble;
 use std::alloc::Global;
@@ -20,8 +21,9 @@ use std::rt::Files;
 use std::sync::Wait;
 use std::thread::Threads;
 
-/// Lets so many workers work so many rounds each, on the image file at this path or, where none is named, in memory, and writes
-/// what they have done when all have ended: how many sections of each lane are acknowledged, and the values of the heap.
+/// Lets so many workers work so many rounds each, or as long as `meet` lets them, on the image file at this path or, where none is named,
+/// in memory, and writes what they have done when all have ended: how many sections of each lane are acknowledged, and the values of the
+/// heap. `meet` is told before that they have ended.
 ///
 /// Refusals, in this order. Nothing is written, but for the last:
 /// - `File`: the image file can't be had or read; `Format`: where there is none, or an empty one, none is made;
@@ -40,7 +42,7 @@ pub fn drive<F, R, M, W>(
 where
     F: BackingFile + OpenFile + Drop,
     R: Files<File = F> + AllocGlobal + Threads + Wait + Sync,
-    M: Meet + Sync,
+    M: Watch + Sync,
     W: Write,
     ensures { Drives (WorkedAt image.entry workers) (RefusedAt image.entry workers) result (W.contents writer.old) (W.contents writer.new) }
 {
@@ -50,7 +52,7 @@ where
     }
 }
 
-// Lets workers work on an image file, or in memory.
+// Lets workers work, and tells whoever watches them that they have ended.
 fn drive_there<F, R, M>(
     rt: &R,
     alloc: Global,
@@ -63,7 +65,29 @@ fn drive_there<F, R, M>(
 where
     F: BackingFile + OpenFile + Drop,
     R: Files<File = F> + Threads + Wait + Sync,
-    M: Meet + Sync,
+    M: Watch + Sync,
+    ensures ok { IfOk result (WorkedAt image.entry workers) }
+    ensures refused { IfErr result (RefusedAt image.entry workers) }
+{
+    let driven = work_there(rt, alloc, trouble, meet, workers, rounds, image);
+    meet.end();
+    driven
+}
+
+// Lets workers work on an image file, or in memory.
+fn work_there<F, R, M>(
+    rt: &R,
+    alloc: Global,
+    trouble: &Trouble,
+    meet: &M,
+    workers: u8,
+    rounds: u32,
+    image: Option<&str>,
+) -> Result<Driven, WorkFault>
+where
+    F: BackingFile + OpenFile + Drop,
+    R: Files<File = F> + Threads + Wait + Sync,
+    M: Watch + Sync,
     ensures ok { IfOk result (WorkedAt image.entry workers) }
     ensures refused { IfErr result (RefusedAt image.entry workers) }
 {

@@ -55,6 +55,7 @@ where
             );
         }
         WorkFault::Image(ImageFault::Image(RecoverError::OldVersion))
+        | WorkFault::Named(NamedFault::Image(ImageFault::Image(RecoverError::OldVersion)))
         | WorkFault::Drive(DriveError::Recover(RecoverError::OldVersion)) => {
             let _ = eprintln!(rt;
                 "heapctl: {image}: it is of version 1; 'heapctl upgrade' makes it one of version 2, in place, and keeps its heap"
@@ -74,8 +75,7 @@ fn image_of<'a>(words: &Words<'a>) -> &'a str {
         | Words::Dump { image, .. }
         | Words::Recover { image }
         | Words::Upgrade { image } => *image,
-        Words::Drive { image, .. } => image.unwrap_or("memory"),
-        Words::Run => "memory",
+        Words::Drive { image, .. } | Words::Run { image, .. } => image.unwrap_or("memory"),
     }
 }
 
@@ -106,7 +106,9 @@ fn tell_cause<R: Eprint>(rt: &R, words: &Words<'_>, trouble: &Trouble) {
 fn schema_of<'a>(words: &Words<'a>) -> &'a str {
     match words {
         Words::Format { schema, .. } => *schema,
-        Words::Draw { schema, .. } | Words::Dump { schema, .. } => schema.unwrap_or(""),
+        Words::Draw { schema, .. } | Words::Dump { schema, .. } | Words::Run { schema, .. } => {
+            schema.unwrap_or("")
+        }
         _ => "",
     }
 }

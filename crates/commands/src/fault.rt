@@ -7,7 +7,7 @@ use thiserror::Error;
 /// Why the program doesn't do what its words ask for, by the word.
 #[derive(Clone, Copy, Debug, PartialEq, Eq, Error)]
 pub enum WorkFault {
-    /// The script stopped.
+    /// The script stopped. An image file is as it was.
     #[error("{0}")]
     Script(ScriptError),
     /// No image file was made.
@@ -16,7 +16,7 @@ pub enum WorkFault {
     /// An image file was not shown, recovered or upgraded. That one is refused is no fault of the words.
     #[error("{0}")]
     Image(ImageFault),
-    /// An image file was not drawn or dumped by the names of a schema file.
+    /// An image file was not drawn or dumped, and no script played over it, by the names of a schema file.
     #[error("{0}")]
     Named(NamedFault),
     /// Workers haven't worked to their end. An image file may be recovered, and gone on with.
@@ -25,7 +25,8 @@ pub enum WorkFault {
     /// The image file for workers can't be had, or not be read.
     #[error("{0}")]
     File(FileFault),
-    /// Workers have worked, and the writer failed. A beginning of the text is written, and not all.
+    /// Workers have worked, or a script was played over an image file, and the writer failed. A beginning of the text is written, and not
+    /// all.
     #[error("fault")]
     Write,
 }

@@ -4,8 +4,9 @@ ghost use Rattle.block_disk.specs.Device.{Device};
 ghost use Rattle.drive.specs.Driven.{HasDriven};
 ghost use Rattle.drive.specs.Schemas.{HoldsWorkers};
 ghost use Rattle.commands.specs.Faults.{HasNoFile, RefusesFile, RefusesLeftFile, RefusesNewFile};
-ghost use Rattle.commands.specs.Telling.{HasDrivenFile, HasDrivenImageOf, file_device};
+ghost use Rattle.commands.specs.Telling.{HasDrivenFile, HasDrivenImageOf, HasLeft, file_device};
 ghost use Rattle.file_disk.specs.Backing.{Held, Reads};
+ghost use Rattle.file_disk.specs.Mirror.{Mirror};
 
 use crate::fault::WorkFault;
 use block_disk::Disk;
@@ -43,13 +44,16 @@ where
     F: BackingFile + OpenFile + Drop,
     R: Files<File = F> + Threads + Wait + Sync,
     M: Meet + Sync,
-    ensures ok { IfOk result (λ driven. (file : Option Held) × HasDrivenFile workers file driven) }
+    ensures ok { IfOk result (λ driven. (file : Option Held) × (disk : Mirror) × HasLeft (λ now. HasDrivenFile workers file now driven) disk) }
     ensures refused { IfErr result (λ fault. (file : Option Held) × RefusesFile workers file fault) }
 {
     match image_at(rt, alloc, trouble, path, workers) {
         Ok(file) => {
             let watched = Watched::new(file, Place::Image, trouble);
-            drive_in_file(rt, alloc, meet, watched, workers, rounds)
+            match drive_in_file(rt, alloc, meet, watched, workers, rounds) {
+                Ok(done) => Ok(driven_of(done)),
+                Err(fault) => Err(fault),
+            }
         }
         Err(fault) => Err(fault),
     }
@@ -122,7 +126,8 @@ where
 }
 
 /// Lets so many workers work so many rounds each on the image in this file, which is open: on a new one where the file is empty,
-/// and else on the one that is there, which has to be one of as many workers.
+/// and else on the one that is there, which has to be one of as many workers. The file is given back as a disk: it reads the image of
+/// what they have done.
 ///
 /// Refusals, in this order:
 /// - `File`: the file can't be measured, read or filled (`Fault`), or there was no memory for its bytes (`NoMemory`);
@@ -134,13 +139,13 @@ pub fn drive_in_file<F, R, M>(
     file: F,
     workers: u8,
     rounds: u32,
-) -> Result<Driven, WorkFault>
+) -> Result<(BufferedDisk<F>, Driven), WorkFault>
 where
     F: BackingFile + Drop,
     R: Threads + Wait + Sync,
     M: Meet + Sync,
-    ensures ok { IfOk result (HasDrivenFile workers (F.holds file)) }
-    ensures theirs { IfOk result (λ driven. IfSome (F.holds file) (λ h. (h.reads ≡ []) ⊎ HoldsWorkers workers h.reads)) }
+    ensures ok { IfOk result (λ r. HasLeft (λ now. HasDrivenFile workers (F.holds file) now r.1) r.0) }
+    ensures theirs { IfOk result (λ r. IfSome (F.holds file) (λ h. (h.reads ≡ []) ⊎ HoldsWorkers workers h.reads)) }
     ensures refused { IfErr result (RefusesFile workers (F.holds file)) }
 {
     match file.len() {
@@ -158,12 +163,12 @@ fn drive_new_file<F, R, M>(
     file: F,
     workers: u8,
     rounds: u32,
-) -> Result<Driven, WorkFault>
+) -> Result<(BufferedDisk<F>, Driven), WorkFault>
 where
     F: BackingFile + Drop,
     R: Threads + Wait + Sync,
     M: Meet + Sync,
-    ensures ok { IfOk result (HasDriven file_device workers) }
+    ensures ok { IfOk result (λ r. HasLeft (λ now. HasDriven file_device workers now r.1) r.0) }
     ensures refused { IfErr result (RefusesNewFile workers) }
 {
     let size = match image_size(alloc, workers) {
@@ -175,7 +180,7 @@ where
         Err(error) => return Err(WorkFault::File(FileFault::from(error))),
     };
     match drive_new(rt, alloc, meet, disk, workers, rounds) {
-        Ok(done) => Ok(driven_of(done)),
+        Ok(done) => Ok(left_of(done)),
         Err(back) => Err(WorkFault::Drive(refusal_of(back))),
     }
 }
@@ -188,13 +193,13 @@ fn drive_left_file<F, R, M>(
     file: F,
     workers: u8,
     rounds: u32,
-) -> Result<Driven, WorkFault>
+) -> Result<(BufferedDisk<F>, Driven), WorkFault>
 where
     F: BackingFile + Drop,
     R: Threads + Wait + Sync,
     M: Meet + Sync,
-    ensures ok { IfOk result (HasDrivenImageOf workers (F.holds file)) }
-    ensures theirs { IfOk result (λ driven. IfSome (F.holds file) (λ h. HoldsWorkers workers h.reads)) }
+    ensures ok { IfOk result (λ r. HasLeft (λ now. HasDrivenImageOf workers (F.holds file) now r.1) r.0) }
+    ensures theirs { IfOk result (λ r. IfSome (F.holds file) (λ h. HoldsWorkers workers h.reads)) }
     ensures refused { IfErr result (RefusesLeftFile workers (F.holds file)) }
 {
     let disk = match BufferedDisk::found(alloc, file) {
@@ -202,16 +207,30 @@ where
         Err(error) => return Err(WorkFault::File(FileFault::from(error))),
     };
     match drive_on(rt, alloc, meet, disk, workers, rounds) {
-        Ok(done) => Ok(driven_of(done)),
+        Ok(done) => Ok(left_of(done)),
         Err(back) => Err(WorkFault::Drive(refusal_of(back))),
     }
 }
 
-// What was driven, without the device.
-fn driven_of<D: Disk + Drop>(done: (Recovered<D>, Driven)) -> Driven
+// The disk and what was driven. Nothing is pending, so that the file reads what the disk reads.
+fn left_of<F: BackingFile + Drop>(
+    done: (Recovered<BufferedDisk<F>>, Driven),
+) -> (BufferedDisk<F>, Driven)
+    ensures disk { result.0 ≡ done.0.disk }
+    ensures driven { result.1 ≡ done.1 }
+    ensures reads { Reads result.0.device.now.bytes result.0.file }
+{
+    let (recovered, driven) = done;
+    let disk = recovered.into_disk();
+    disk.possible_law();
+    (disk, driven)
+}
+
+// What was driven, without the disk.
+fn driven_of<D: Drop>(done: (D, Driven)) -> Driven
     ensures { result ≡ done.1 }
 {
-    let (_recovered, driven) = done;
+    let (_disk, driven) = done;
     driven
 }
 

@@ -1,5 +1,5 @@
-//! What the program's words do: a script is played; an image file is made, shown, drawn or recovered; workers in threads of their
-//! own work on a heap in memory or in an image file (docs/SCRIPTS.md).
+//! What the program's words do: a script is played, in memory or over an image file; an image file is made, shown, drawn or recovered;
+//! workers in threads of their own work on a heap in memory or in an image file (docs/SCRIPTS.md).
 //!
 //! [`obey`] does what [`Words`](command_words::Words) ask for; [`status_of_fault`] is the exit status where it didn't, and [`explain`]
 //! tells which file is why. Under it, [`drive`] is the word of workers, [`drive_in_file`] lets them work on a file that is open, and [`write_driven`] writes what they
@@ -20,5 +20,6 @@ pub use explaining::{explain, is_left_by_reader};
 pub use fault::WorkFault;
 pub use files::drive_in_file;
 pub use obeying::obey;
+pub use progress::Watch;
 pub use status::{FAULT, IN_USE, WRONG_INPUT, status_of_fault};
 pub use telling::write_driven;

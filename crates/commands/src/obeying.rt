@@ -1,27 +1,28 @@
 //! What the program's words do.
 ghost use Rattle.std.specs.Prelude.{◌≡◌};
-ghost use Rattle.commands.specs.Obeying.{Obeys, told_of_format, told_of_image, told_of_named, told_of_script};
+ghost use Rattle.commands.specs.Obeying.{Obeys, PlaysAt, told_of_format, told_of_image, told_of_named, told_of_run, told_of_script};
 
 use crate::driving::drive;
 use crate::fault::WorkFault;
-use crate::progress::Progress;
+use crate::progress::{Progress, rounds_for};
 use command_words::Words;
 use file_disk::BackingFile;
 use image_file::{
     FormatError, ImageFault, NamedFault, Trouble, draw_named_file, dump_file, format_file,
     recover_file, show_file,
 };
+use image_scripts::{RunFault, run_file};
 use recover::Versions;
 use script_lines::ScriptError;
 use scripts::run_script;
 use std::fs::OpenFile;
 use std::io::{Read, Write};
-use std::rt::Files;
+use std::rt::{Clock, Files};
 use std::sync::Wait;
 use std::thread::Threads;
 
-/// Does what the words ask for: plays the script that `reader` has, works on an image file, or lets workers work, and writes what
-/// that prints. `is_telling`: how far workers are is told on standard error. What the system says of a call on a file that fails is
+/// Does what the words ask for: plays the script that `reader` has, in memory or over an image file, works on an image file, or lets
+/// workers work, and writes what that prints. `is_telling`: how far workers are is told on standard error, which is a terminal. What the system says of a call on a file that fails is
 /// noted as trouble.
 pub fn obey<F, R, S, W>(
     rt: &R,
@@ -33,14 +34,14 @@ pub fn obey<F, R, S, W>(
 ) -> Result<(), WorkFault>
 where
     F: BackingFile + OpenFile + Read + Drop,
-    R: Files<File = F> + AllocGlobal + Eprint + Threads + Wait + Sync,
+    R: Files<File = F> + AllocGlobal + Clock + Eprint + Threads + Wait + Sync,
     S: Read,
     W: Write,
     ensures { Obeys words.entry result (S.remaining reader.old) (S.remaining reader.new) (W.contents writer.old) (W.contents writer.new) }
 {
     let alloc = rt.alloc();
     match words {
-        Words::Run => on_script(run_script(alloc, reader, writer)),
+        Words::Run { image, schema } => play(rt, trouble, image, schema, reader, writer),
         Words::Format {
             image,
             schema,
@@ -65,11 +66,48 @@ where
         Words::Drive {
             workers,
             rounds,
+            seconds,
             image,
         } => {
-            let progress = Progress::new(rt, is_telling, workers, rounds);
+            let rounds = rounds_for(rounds, seconds);
+            let progress = Progress::new(rt, is_telling, workers, rounds, seconds);
             drive(rt, trouble, &progress, workers, rounds, image, writer)
         }
+    }
+}
+
+// Plays the script over the image file at this path, or, where none is named, in memory.
+fn play<F, R, S, W>(
+    rt: &R,
+    trouble: &Trouble,
+    image: Option<&str>,
+    schema: Option<&str>,
+    reader: &mut S,
+    writer: &mut W,
+) -> Result<(), WorkFault>
+where
+    F: BackingFile + OpenFile + Read + Drop,
+    R: Files<File = F> + AllocGlobal,
+    S: Read,
+    W: Write,
+    ensures { PlaysAt image.entry schema.entry result (S.remaining reader.old) (S.remaining reader.new) (W.contents writer.old) (W.contents writer.new) }
+{
+    let alloc = rt.alloc();
+    match image {
+        Some(path) => on_run(run_file(rt, alloc, trouble, path, schema, reader, writer)),
+        None => on_script(run_script(alloc, reader, writer)),
+    }
+}
+
+// How the run of a script over an image file ended.
+fn on_run(answer: Result<(), RunFault>) -> Result<(), WorkFault>
+    ensures { result ≡ told_of_run answer }
+{
+    match answer {
+        Ok(()) => Ok(()),
+        Err(RunFault::Named(fault)) => Err(WorkFault::Named(fault)),
+        Err(RunFault::Script(error)) => Err(WorkFault::Script(error)),
+        Err(RunFault::Write) => Err(WorkFault::Write),
     }
 }
 

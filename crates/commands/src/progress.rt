@@ -1,41 +1,124 @@
-//! How far workers are.
+//! How far workers are, and for how long they go on.
 
 use drive::Meet;
+use std::rt::Clock;
 use std::sync::atomic::{AtomicU64, Ordering};
+use std::time::Instant;
 
-// How many lines tell of a whole run.
-const LINES: u64 = 10;
+// How often a run of so many sections is told of.
+const TIMES: u64 = 10;
 
-/// Tells on standard error how many sections workers have begun, at each tenth of all, where it is to tell.
+// How many rounds each worker works, where nothing is said (docs/SCRIPTS.md, "The program's words").
+const ROUNDS: u32 = 1000;
+
+/// How many rounds each worker works at most, where so many rounds are asked for, or so many seconds: by those it is stopped long before.
+pub fn rounds_for(rounds: Option<u32>, seconds: Option<u32>) -> u32 {
+    match (rounds, seconds) {
+        (Some(rounds), _) => rounds,
+        (None, Some(_)) => u32::MAX,
+        (None, None) => ROUNDS,
+    }
+}
+
+/// Who watches workers until they have ended.
+pub trait Watch: Meet {
+    /// They have ended.
+    fn end(&self);
+}
+
+/// Tells how far workers are, on one line of standard error that each next text overwrites, where it is to tell: at each tenth of their
+/// sections; or at each second, where that is how long they work, and ends them then.
 #[derive(Drop)]
 pub struct Progress<'a, R> {
     rt: &'a R,
     is_told: bool,
-    // The sections of all workers, and how many of them were begun.
+    // The sections of all workers, how many of them were begun, and how many texts were told.
     all: u64,
     begun: AtomicU64,
+    told: AtomicU64,
+    // For how many seconds they work, where that is said; since when, unless the clock fails; and how many have passed.
+    seconds: Option<u32>,
+    since: Option<Instant>,
+    passed: AtomicU64,
 }
 
-impl<'a, R> Progress<'a, R> {
-    /// So many workers are to work so many rounds.
-    pub fn new(rt: &'a R, is_told: bool, workers: u8, rounds: u32) -> Progress<'a, R> {
+impl<'a, R: Clock> Progress<'a, R> {
+    /// So many workers begin to work: so many rounds, or so many seconds.
+    pub fn new(
+        rt: &'a R,
+        is_told: bool,
+        workers: u8,
+        rounds: u32,
+        seconds: Option<u32>,
+    ) -> Progress<'a, R> {
         Progress {
             rt,
             is_told,
             all: u64::from(workers).wrapping_mul(u64::from(rounds)),
             begun: AtomicU64::new(0),
+            told: AtomicU64::new(0),
+            seconds,
+            since: Instant::now(rt).ok(),
+            passed: AtomicU64::new(0),
+        }
+    }
+
+    // How many whole seconds they have worked; `None` where the clock fails.
+    fn whole_seconds(&self) -> Option<u64> {
+        let since = self.since?;
+        let passed = since.elapsed(self.rt).ok()?;
+        Some(passed.as_secs())
+    }
+}
+
+impl<R: Eprint + Clock> Progress<'_, R> {
+    // A text that can't be written is left out.
+    fn tell_rounds(&self, begun: u64) {
+        if self.is_told {
+            let _ = self.told.fetch_add(1, Ordering::SeqCst);
+            let _ = eprint!(self.rt; "\rheapctl: {begun} of {} sections", self.all);
+        }
+    }
+
+    fn tell_seconds(&self, passed: u64, seconds: u32) {
+        if self.is_told {
+            let begun = self.begun.load(Ordering::SeqCst);
+            let _ = self.told.fetch_add(1, Ordering::SeqCst);
+            let _ = eprint!(self.rt; "\rheapctl: {begun} sections, {passed} of {seconds} seconds");
         }
     }
 }
 
-impl<R: Eprint> Meet for Progress<'_, R> {
-    // A line that can't be written is left out.
+impl<R: Eprint + Clock> Meet for Progress<'_, R> {
     fn inside(&self, _worker: u8) -> bool {
         let begun = self.begun.fetch_add(1, Ordering::SeqCst).wrapping_add(1);
-        let step = (self.all / LINES).max(1);
-        if self.is_told && begun % step == 0 {
-            let _ = eprintln!(self.rt; "heapctl: {begun} of {} sections", self.all);
+        let step = (self.all / TIMES).max(1);
+        if self.seconds.is_none() && begun % step == 0 {
+            self.tell_rounds(begun);
         }
         true
+    }
+
+    // A clock that fails ends a run of seconds, which would else have no end.
+    fn goes_on(&self) -> bool {
+        let Some(seconds) = self.seconds else {
+            return true;
+        };
+        let Some(passed) = self.whole_seconds() else {
+            return false;
+        };
+        if self.passed.swap(passed, Ordering::SeqCst) < passed {
+            self.tell_seconds(passed, seconds);
+        }
+        passed < u64::from(seconds)
+    }
+}
+
+impl<R: Eprint + Clock> Watch for Progress<'_, R> {
+    // The line ends where there is one.
+    fn end(&self) {
+        if self.told.load(Ordering::SeqCst) > 0 {
+            let _ = eprintln!(self.rt; "");
+        }
     }
 }

@@ -16,10 +16,12 @@ use Rattle.drive.specs.declared.driven.Driven.{Driven}
 
 one_same : (call : Call) (a b : Device) → SameMoments a b → SameMoments (after_one call a) (after_one call b)
 one_same (Write at bytes) a b same = record {
+  name = same.name;
   now = ap (λ (m : Moment). let w : Moment = record { bytes = spliced m.bytes at bytes; pending = range_of at bytes ∷ m.pending } in w) same.now;
   past = λ i. same.now i ∷ same.past i;
 }
 one_same Sync a b same = record {
+  name = same.name;
   now = ap (λ (m : Moment). let w : Moment = record { bytes = m.bytes; pending = [] } in w) same.now;
   past = λ i. same.now i ∷ same.past i;
 }
@@ -54,10 +56,9 @@ recovery_alike old seen new r report same found = record {
 }
 
 -- workers who went on from what was found on a device that was only read went on from what was there before
-pub on_alike : {D : Type 0} (device : D → Device) (workers : ℕ) (old seen : Device) (driven : Driven) → SameMoments old seen → HasDrivenOn device workers seen driven → HasDrivenOn device workers old driven
-on_alike device workers old seen driven same on = record {
+pub on_alike : {D : Type 0} (device : D → Device) (workers : ℕ) (old seen : Device) (now : Parts D) (driven : Driven) → SameMoments old seen → HasDrivenOn device workers seen now driven → HasDrivenOn device workers old now driven
+on_alike device workers old seen now driven same on = record {
   was = on.was;
-  now = on.now;
   report = on.report;
   found = recovery_alike old seen (device on.was.disk) on.was on.report same on.found;
   theirs = on.theirs;

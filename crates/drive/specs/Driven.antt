@@ -38,18 +38,16 @@ module _ {D : Type 0} (device : D → Device) where
     pub plan : shared.plan ≡ record { schema = schema; first = was.heap; last = LAST_NUMBER; lanes = was.layout.lanes }
     pub run : IsRunBy shared was.layout now driven
 
-  -- A heap of so many workers ran from its beginning: each value was 0.
-  pub record HasDriven (workers : ℕ) (driven : Driven) : Type 0 where
+  -- A heap of so many workers ran from its beginning: each value was 0. This is what was left.
+  pub record HasDriven (workers : ℕ) (now : Parts D) (driven : Driven) : Type 0 where
     pub was : Parts D
-    pub now : Parts D
     pub theirs : IsOfWorkers workers was.layout was.guards
     pub first : (f : ℕ) → f < field_count (schema_of workers) → slice_index was.heap f ≡ 0
     pub driven_so : IsDriven (schema_of workers) was now driven
 
-  -- A heap of so many workers ran on: from what recovery found on this device.
-  pub record HasDrivenOn (workers : ℕ) (old : Device) (driven : Driven) : Type 0 where
+  -- A heap of so many workers ran on: from what recovery found on this device. This is what was left.
+  pub record HasDrivenOn (workers : ℕ) (old : Device) (now : Parts D) (driven : Driven) : Type 0 where
     pub was : Parts D
-    pub now : Parts D
     pub report : Report
     pub found : IsRecovery old (device was.disk) was report
     pub theirs : IsOfWorkers workers was.layout was.guards

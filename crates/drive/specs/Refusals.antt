@@ -55,7 +55,7 @@ IsOwnStop _ = Unit {0}
 
 -- zero bytes, of the size of so many workers' image, of which nothing was asked yet
 abbrev pub blank_device : (workers : ℕ) → Device
-blank_device workers = record { now = record { bytes = replicate (size_of (layout_with (schema_of workers) workers 4000)) 0; pending = [] }; past = []; failures = 0 }
+blank_device workers = record { name = []; now = record { bytes = replicate (size_of (layout_with (schema_of workers) workers 4000)) 0; pending = [] }; past = []; failures = 0 }
 
 module _ {D : Type 0} (device : D → Device) where
   -- A run of so many workers was stopped, on an image of theirs in this state. Until it began the device had failed no less often than at first.

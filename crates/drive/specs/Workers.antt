@@ -7,7 +7,6 @@ use Rattle.session.specs.Sessions.{IsSessionOf, view_of}
 use Rattle.session.specs.declared.session.Session.{Session}
 use Rattle.running_heap.specs.Joined.{IsJoined}
 use Rattle.trim_helper.specs.Endings.{IsEnded, Rings}
-use Rattle.trim_helper.specs.declared.ended.Ended.{Ended}
 use Rattle.drive.specs.Working.{HoldsJust, StopsWorker}
 use Rattle.drive.specs.declared.workers.Worker.{Worker}
 use Rattle.drive.specs.declared.workers.Worked.{Worked}
@@ -45,9 +44,6 @@ lanes_begun workers = map (λ w. (view_of w.session).lane.0) workers
 
 abbrev pub lanes_worked : List Worked → List ℕ
 lanes_worked worked = map (λ w. w.ended.lane.0) worked
-
-abbrev pub lanes_ended : List Ended → List ℕ
-lanes_ended ended = map (λ e. e.lane.0) ended
 
 -- What these workers answer: memory was wanting, or each has left what is ready to meet the helper that it was joined to, by its lane.
 pub record HaveWorked (h : Home) (workers : List Worker) (answer : Result (Vec Worked Global) AllocError) : Type 0 where

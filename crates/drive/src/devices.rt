@@ -1,13 +1,14 @@
 //! Workers on a device: one in memory, one on which an image is made, and one that has an image of theirs.
 ghost use Rattle.std.specs.Prelude.{ℕ, ◌≡◌, ◌<◌, ◌≤◌, ◌↔◌, IfErr, IfOk, IsTrue, OnOk, length, slice_index};
 ghost use Rattle.block_disk.specs.Device.{SameMoments};
-ghost use Rattle.block_disk.specs.Memory.{device_of};
+ghost use Rattle.block_disk.specs.Memory.{Memory, device_of};
 ghost use Rattle.drive.specs.Driven.{HasDriven, HasDrivenOn, IsDriven};
 ghost use Rattle.drive.specs.Refusals.{IsMakingRefused, IsOwnStop, RefusesFinding, RefusesGoingOn, RefusesLook, RefusesNew, RefusesOn, RefusesSize, RefusesWith};
 ghost use Rattle.drive.specs.Schemas.{HoldsWorkers, IsOfWorkers, MayHaveImage, schema_of};
 ghost use Rattle.drive.specs.Stops.{StopsRun};
 ghost use Rattle.guards.specs.Schema.{field_count, first_of};
 ghost use Rattle.image.specs.Layout.{size_of};
+ghost use Rattle.image.specs.Recovered.{Parts};
 ghost use Rattle.recover.specs.Recovery.{IsRecovery};
 ghost use Rattle.recover.specs.declared.report.Report.{Report};
 ghost use Rattle.store_image.specs.Formatting.{layout_with};
@@ -42,7 +43,7 @@ pub fn drive_with<M: Meet + Sync, R: Threads + Wait + Sync>(
     workers: u8,
     rounds: u32,
 ) -> Result<Driven, DriveError>
-    ensures ok { IfOk result (HasDriven device_of workers) }
+    ensures ok { IfOk result (λ d. (now : Parts Memory) × HasDriven device_of workers now d) }
     ensures workers { IfOk result (λ d. MayHaveImage workers) }
     ensures refused { IfErr result (RefusesWith device_of workers) }
 {
@@ -102,7 +103,7 @@ pub fn drive_new<D: Disk + Drop, M: Meet + Sync, R: Threads + Wait + Sync>(
     workers: u8,
     rounds: u32,
 ) -> Result<(Recovered<D>, Driven), (D, DriveError)>
-    ensures ok { IfOk result (λ r. HasDriven D.device workers r.1) }
+    ensures ok { IfOk result (λ r. HasDriven D.device workers r.0 r.1) }
     ensures workers { IfOk result (λ r. MayHaveImage workers) }
     ensures refused { IfErr result (λ back. RefusesNew D.device workers (D.device disk) (D.device back.0) back.1) }
 {
@@ -153,7 +154,7 @@ pub fn drive_on<D: Disk + Drop, M: Meet + Sync, R: Threads + Wait + Sync>(
     workers: u8,
     rounds: u32,
 ) -> Result<(Recovered<D>, Driven), (D, DriveError)>
-    ensures ok { IfOk result (λ r. HasDrivenOn D.device workers (D.device disk) r.1) }
+    ensures ok { IfOk result (λ r. HasDrivenOn D.device workers (D.device disk) r.0 r.1) }
     ensures theirs { IfOk result (λ r. HoldsWorkers workers (D.device disk).now.bytes) }
     ensures refused { IfErr result (λ back. RefusesOn D.device workers (D.device disk) (D.device back.0) back.1) }
 {
@@ -212,7 +213,7 @@ fn go_on<D: Disk + Drop, M: Meet + Sync, R: Threads + Wait + Sync>(
 ) -> Result<(Recovered<D>, Driven), (D, DriveError)>
     requires schema { schema ≡ schema_of workers }
     requires theirs { HoldsWorkers workers (D.device disk).now.bytes }
-    ensures ok { IfOk result (λ r. HasDrivenOn D.device workers (D.device disk) r.1) }
+    ensures ok { IfOk result (λ r. HasDrivenOn D.device workers (D.device disk) r.0 r.1) }
     ensures refused { IfErr result (λ back. RefusesGoingOn D.device workers (D.device disk) (D.device back.0) back.1) }
 {
     match find(alloc, disk, workers) {

@@ -27,8 +27,8 @@ use std::thread::Threads;
 use survival::accepted_law;
 use trim_helper::{Ended, Helper};
 
-/// Lets a worker for each lane work so many rounds on a heap of this schema that was recovered, closes the heap, and recovers the
-/// device: what is told is what recovery finds there.
+/// Lets a worker for each lane work so many rounds, or as many as [`Meet::goes_on`] lets it, on a heap of this schema that was recovered,
+/// closes the heap, and recovers the device: what is told is what recovery finds there.
 ///
 /// Refusals, in this order, each with the device as a stop leaves it; it may be recovered:
 /// - `NoMemory`: there was no room for what the threads share, or no thread could be made. No worker has worked then;

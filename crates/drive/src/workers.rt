@@ -1,11 +1,11 @@
 //! The workers, as they begin and as they end.
 ghost use Rattle.std.specs.Prelude.{ℕ, ◌≡◌, ◌<◌, ◌≤◌, All, IfOk, IfSome, MatchOption, length, reverse};
-ghost use Rattle.drive.specs.Workers.{AreJoined, AreReady, AreWorked, HaveWorked, IsReady, IsWorked, lanes_begun, lanes_ended, lanes_opened, lanes_worked};
+ghost use Rattle.drive.specs.Workers.{AreJoined, AreReady, AreWorked, HaveWorked, IsReady, IsWorked, lanes_begun, lanes_opened, lanes_worked};
 ghost use Rattle.drive.specs.Working.{StopsWorker};
 ghost use Rattle.monitor.specs.Seats.{Home};
 ghost use Rattle.running_heap.specs.Joined.{AreNew, IsJoined};
 ghost use Rattle.session.specs.Sessions.{view_of};
-ghost use Rattle.trim_helper.specs.Endings.{HoldNone, IsEnded, Rings};
+ghost use Rattle.trim_helper.specs.Endings.{HoldNone, IsEnded, Rings, lanes_ended};
 
 use crate::meet::Meet;
 use crate::signals::Signals;

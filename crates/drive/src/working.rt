@@ -18,10 +18,10 @@ const ALL: ObjectId = ObjectId(0);
 
 const TOTAL: FieldId = FieldId(0);
 
-/// Works so many rounds. In each of them a worker, in a section of its own, adds one to its own field, meets the others, and adds
-/// one to the field for all. After `Behind` it tries again, unless the helper has stopped.
+/// Works so many rounds, or as many as it goes on for. In each of them a worker, in a section of its own, adds one to its own field,
+/// meets the others, and adds one to the field for all. After `Behind` it tries again, unless the helper has stopped.
 ///
-/// `None` says that all rounds were worked; else it is the refusal after which the worker has ended. It holds no monitor then.
+/// `None` says that it has worked them; else it is the refusal after which the worker has ended. It holds no monitor then.
 pub fn work<R: Wait, M: Meet>(
     rt: &R,
     shared: &Shared,
@@ -40,6 +40,9 @@ pub fn work<R: Wait, M: Meet>(
     ensures refused { IfSome result (StopsWorker shared.now (capacity_of session.old)) }
 {
     for _ in 0..rounds {
+        if !meet.goes_on() {
+            return None;
+        }
         if let Err(refusal) = work_round(rt, shared, signals, meet, session, worker) {
             return Some(refusal);
         }

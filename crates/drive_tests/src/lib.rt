@@ -5,6 +5,8 @@
 #[cfg(test)]
 mod apart;
 #[cfg(test)]
+mod ending;
+#[cfg(test)]
 mod faults;
 #[cfg(test)]
 mod going_on;

@@ -1,5 +1,5 @@
-//! `heapctl`: plays a script of threads, crashes and recoveries; makes, shows and recovers image files; lets real threads work on a
-//! heap (`docs/SCRIPTS.md`).
+//! `heapctl`: plays a script of threads, crashes and recoveries, in memory or over an image file; makes, shows and recovers image files;
+//! lets real threads work on a heap (`docs/SCRIPTS.md`).
 //!
 //! Reads the program's words, does what they ask for, and tells the caller by the exit status how it went. Faults go to
 //! standard error, and all else to standard output.
@@ -18,7 +18,7 @@ use std::fs::OpenFile;
 use std::io::{IsTerminal, Read};
 use std::os::fd::AsFd;
 use std::process::ExitCode;
-use std::rt::{Env, Files};
+use std::rt::{Clock, Env, Files};
 use std::sync::Wait;
 use std::thread::Threads;
 use std::{env, io};
@@ -39,9 +39,9 @@ const NOT_OPEN: i32 = 9;
 fn work<F, R>(rt: &R, terminals: Terminals, words: Words<'_>) -> ExitCode
 where
     F: BackingFile + OpenFile + Read + Drop,
-    R: Files<File = F> + Input + Print + Eprint + AllocGlobal + Threads + Wait + Sync,
+    R: Files<File = F> + Input + Print + Eprint + AllocGlobal + Clock + Threads + Wait + Sync,
 {
-    if terminals.is_typed && words == Words::Run {
+    if terminals.is_typed && matches!(&words, Words::Run { .. }) {
         let _ = eprintln!(rt;
             "heapctl: a script is read from the terminal, up to Ctrl-D, and then played; 'heapctl --help' tells of other words"
         );
@@ -107,7 +107,7 @@ fn no_words<R: Eprint>(rt: &R, error: &io::Error) -> ExitCode {
 fn run<F, R>(rt: &R, terminals: Terminals) -> ExitCode
 where
     F: BackingFile + OpenFile + Read + Drop,
-    R: Env + Files<File = F> + Input + Print + Eprint + AllocGlobal + Threads + Wait + Sync,
+    R: Env + Files<File = F> + Input + Print + Eprint + AllocGlobal + Clock + Threads + Wait + Sync,
 {
     let alloc = rt.alloc();
     let arguments = match env::args(rt) {

@@ -133,6 +133,16 @@ fn words_on_an_image_are_as_documented(rt: HostRuntime) -> Result<(), AllocError
             ["recover", "--image", "i", "--dot"].as_slice(),
             Some(ErrorKind::UnknownArgument),
         ),
+        (["run", "--image"].as_slice(), Some(ErrorKind::InvalidValue)),
+        (
+            ["drive", "--seconds", "3601"].as_slice(),
+            Some(ErrorKind::ValueValidation),
+        ),
+        (
+            ["drive", "--seconds", "2", "--rounds", "2"].as_slice(),
+            Some(ErrorKind::ArgumentConflict),
+        ),
+        (["drive", "--seconds", "2"].as_slice(), None),
     ];
     for (words, kind) in cases {
         assert!(rt; answer_to(rt.alloc(), words)? == kind, "{words:?}");
@@ -181,6 +191,39 @@ fn words_on_an_image_ask_for_what_they_say(rt: HostRuntime) -> Result<(), AllocE
         (
             ["upgrade", "--image", "i"].as_slice(),
             Words::Upgrade { image: "i" },
+        ),
+    ];
+    for (words, asked) in cases {
+        let texts = with_name(alloc, words)?;
+        expect_words(&rt, texts.as_slice(), alloc, asked);
+    }
+    Ok(())
+}
+
+#[test]
+fn run_and_drive_ask_for_what_they_say(rt: HostRuntime) -> Result<(), AllocError> {
+    let alloc = rt.alloc();
+    let in_memory = Words::Run {
+        image: None,
+        schema: None,
+    };
+    let over = Words::Run {
+        image: Some("i"),
+        schema: Some("s"),
+    };
+    let timed = Words::Drive {
+        workers: 2,
+        rounds: None,
+        seconds: Some(5),
+        image: Some("i"),
+    };
+    let cases = [
+        ([].as_slice(), in_memory),
+        (["run"].as_slice(), in_memory),
+        (["run", "--image", "i", "--schema", "s"].as_slice(), over),
+        (
+            ["drive", "--seconds", "5", "--image", "i"].as_slice(),
+            timed,
         ),
     ];
     for (words, asked) in cases {

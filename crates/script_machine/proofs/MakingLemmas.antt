@@ -146,7 +146,7 @@ opening schema l d durable enough fresh =
     let each = weaker d open_now (ImageBut d (range_of 8 (165 ∷ []) ∷ [])) (IsNoOther schema l) reads leaves in
     let ends : Always (synced open_now) (IsNoOther schema l) = always_only (synced open_now) (IsNoOther schema l) refl (fresh_reads schema l made fresh) in
     record {
-      each = and_then d open_now (synced open_now) (IsNoOther schema l) each (passes open_now (synced open_now) (IsNoOther schema l) refl ends);
+      each = and_then d open_now (synced open_now) (IsNoOther schema l) each (passes open_now (synced open_now) (IsNoOther schema l) refl refl ends);
       now = ends;
     }
 

@@ -9,7 +9,8 @@ use Rattle.std.specs.Prelude.{slice_get}
 use Rattle.script_lines.specs.Lines.{lines_of, IsFit}
 use Rattle.scripts.proofs.FrontLemmas.{drop_one, take_one, one_fewer, found_at, no_rest, all_taken, played_count}
 use Rattle.script_machine.specs.Machine.{MachineState, IsStart}
-use Rattle.scripts.specs.Runs.{PlaysLine, Plays, AreFit, Prints, PrintsPart, PlaysAndPrints, PlaysInPart, MayStop, StopsAt}
+use Rattle.script_lines.specs.declared.reader.Ending.{Ending}
+use Rattle.scripts.specs.Runs.{PlaysLine, Plays, AreFit, Ends, EndsOn, Prints, PrintsFrom, PrintsOn, PrintsPart, PrintsPartFrom, PlaysAndPrints, PlaysInPart, MayStop, StopsAt}
 use Rattle.script_lines.specs.declared.error.ScriptError.{ScriptError}
 
 -- what has been played is fit
@@ -78,47 +79,41 @@ played-more start text state rest played before now line others new after h e sh
     }
 
 -- what was printed before the line at the front
-pub printed_before : (start : MachineState) (text : List ℕ) (state : MachineState) (rest : List ℕ) (played : ℕ) (before now after : Option (List ℕ)) → IsStart start
-    → IsPlayed start text state rest played before now → Appends now after [] → Prints (take (played + 1 - 1) (lines_of text)) before after
-printed_before start text state rest played before now after s h none =
-    let same : played ≡ played + 1 - 1 = omega arith in
-    record {
-      start = start;
-      outputs = h.outputs;
-      end = state;
-      is_start = s;
-      plays = subst (λ n. Plays start (take n (lines_of text)) h.outputs state) same h.plays;
-      written = subst (Appends before after) (append-nil (concat h.outputs)) (Appends-trans before now after _ _ h.written none);
-    }
+pub printed_before : (start : MachineState) (text : List ℕ) (state : MachineState) (rest : List ℕ) (played : ℕ) (before now after : Option (List ℕ))
+    → IsPlayed start text state rest played before now → Appends now after [] → PrintsFrom start (take (played + 1 - 1) (lines_of text)) before after
+printed_before start text state rest played before now after h none =
+    let same : played ≡ played + 1 - 1 = omega arith in (
+      state,
+      record {
+        outputs = h.outputs;
+        plays = subst (λ n. Plays start (take n (lines_of text)) h.outputs state) same h.plays;
+        written = subst (Appends before after) (append-nil (concat h.outputs)) (Appends-trans before now after _ _ h.written none);
+      },
+    )
 
 -- a line of which a part was printed
-pub printed_part : (start : MachineState) (text : List ℕ) (state : MachineState) (rest : List ℕ) (played : ℕ) (before now : Option (List ℕ)) (line others : List ℕ) (new : MachineState) (after : Option (List ℕ)) → IsStart start
+pub printed_part : (start : MachineState) (text : List ℕ) (state : MachineState) (rest : List ℕ) (played : ℕ) (before now : Option (List ℕ)) (line others : List ℕ) (new : MachineState) (after : Option (List ℕ))
     → IsPlayed start text state rest played before now → lines_of rest ≡ line ∷ lines_of others → PlaysInPart state line new now after
-    → PrintsPart (played + 1) (lines_of text) before after
-printed_part start text state rest played before now line others new after s h e p =
+    → PrintsPartFrom start (played + 1) (lines_of text) before after
+printed_part start text state rest played before now line others new after h e p =
     let next : drop played (lines_of text) ≡ line ∷ lines_of others = next_line start text state rest played before now line others h e in
     let more : Plays start (take played (lines_of text) ++ line ∷ []) (h.outputs ++ p.output ∷ []) new = plays-more start _ h.outputs state line p.output new h.plays p.plays in
     record {
-      start = start;
       outputs = h.outputs;
       last = p.output;
       end = new;
       count = p.part.0;
-      is_start = s;
       plays = subst (λ l. Plays start l (h.outputs ++ p.output ∷ []) new) (sym (take_one (lines_of text) played line _ next)) more;
       short = p.part.1;
       written = Appends-trans before now after _ _ h.written p.part.2;
     }
 
-pub printed_all : (start : MachineState) (text : List ℕ) (state : MachineState) (rest : List ℕ) (played : ℕ) (before now : Option (List ℕ)) → IsStart start
-    → IsPlayed start text state rest played before now → (length rest == 0) ≡ true → Prints (lines_of text) before now
-printed_all start text state rest played before now s h none =
+pub printed_all : (start : MachineState) (text : List ℕ) (state : MachineState) (rest : List ℕ) (played : ℕ) (before now : Option (List ℕ))
+    → IsPlayed start text state rest played before now → (length rest == 0) ≡ true → PrintsOn start (lines_of text) state before now
+printed_all start text state rest played before now h none =
     let gone : drop played (lines_of text) ≡ [] = h.left ∙ ap lines_of (no_rest rest none) in
     record {
-      start = start;
       outputs = h.outputs;
-      end = state;
-      is_start = s;
       plays = subst (λ l. Plays start l h.outputs state) (all_taken (lines_of text) played gone) h.plays;
       written = h.written;
     }
@@ -149,14 +144,32 @@ pub played_all : (start : MachineState) (text : List ℕ) (state : MachineState)
 played_all start text state rest played before now h none = played_count (lines_of text) played (h.left ∙ ap lines_of (no_rest rest none)) h.few
 
 -- all lines were played
-pub prints-fit : (lines : List (List ℕ)) (old new : Option (List ℕ)) → Prints lines old new → AreFit lines
-prints-fit lines old new p = plays-fit p.start lines p.outputs p.end p.plays
+pub prints-fit : (start : MachineState) (lines : List (List ℕ)) (end : MachineState) (old new : Option (List ℕ)) → PrintsOn start lines end old new → AreFit lines
+prints-fit start lines end old new p = plays-fit start lines p.outputs end p.plays
 
-pub prints-front : (text same : List ℕ) (played : ℕ) (old new : Option (List ℕ)) → text ≡ same → played ≡ length (lines_of text) → Prints (lines_of text) old new
-    → Prints (take (played + 1 - 1) (lines_of same)) old new
-prints-front text same played old new e count p =
-    let enough : length (lines_of text) ≤ played + 1 - 1 = omega arith in
-    subst (λ l. Prints (take (played + 1 - 1) (lines_of l)) old new) e (subst (λ l. Prints l old new) (sym (take_all (played + 1 - 1) (lines_of text) enough)) p)
+pub prints-front : (start : MachineState) (lines : List (List ℕ)) (end : MachineState) (played : ℕ) (old new : Option (List ℕ)) → played ≡ length lines → PrintsOn start lines end old new
+    → PrintsFrom start (take (played + 1 - 1) lines) old new
+prints-front start lines end played old new count p =
+    let enough : length lines ≤ played + 1 - 1 = omega (arith, count) in
+    (end, subst (λ l. PrintsOn start l end old new) (sym (take_all (played + 1 - 1) lines enough)) p)
+
+-- on a machine with nothing declared
+
+from_start : (start : MachineState) (lines : List (List ℕ)) (end : MachineState) (old new : Option (List ℕ)) → IsStart start → PrintsOn start lines end old new → Prints lines old new
+from_start start lines end old new s p = record { start = start; outputs = p.outputs; end = end; is_start = s; plays = p.plays; written = p.written }
+
+part_from_start : (start : MachineState) (line : ℕ) (lines : List (List ℕ)) (old new : Option (List ℕ)) → IsStart start → PrintsPartFrom start line lines old new → PrintsPart line lines old new
+part_from_start start line lines old new s p =
+    record { start = start; outputs = p.outputs; last = p.last; end = p.end; count = p.count; is_start = s; plays = p.plays; short = p.short; written = p.written }
+
+pub ends_from_start : (start : MachineState) (lines : List (List ℕ)) (ending : Ending) (r : Result (Unit {0}) ScriptError) (end : MachineState) (old new : Option (List ℕ)) → IsStart start
+    → EndsOn start lines ending r end old new → Ends lines ending r old new
+ends_from_start start lines ending (Ok done) end old new s h = (h.0, h.1, from_start start lines end old new s h.2)
+ends_from_start start lines ending (Err e) end old new s h = (
+  h.0,
+  (λ other. let p = h.1 other in from_start start (take (e.line - 1) lines) p.0 old new s p.1),
+  (λ write. part_from_start start e.line lines old new s (h.2 write)),
+)
 
 -- what an error means, where it leaves this
 pub IfErr_from : {A E : Type 0} {P : Type 0} {Q : E → Type 0} (r : Result A E) → OnErr r P → (P → (e : E) → Q e) → IfErr r Q

@@ -365,7 +365,7 @@ pub record Ran (l : Layout) (first : ℕ → ℕ) (s : Setting) (events : Events
 runs : (l : Layout) (first : ℕ → ℕ) (s : Setting) (events : Events) (p : Past) (lines outputs : List (List ℕ)) (m now : Live) → Standing first s events p m
     → m.store.known.layout ≡ l → PlaysOn m lines outputs now → Ran l first s events p lines m now
 runs l first s events p [] outputs m now was layout plays = subst (Ran l first s events p [] m) (sym plays.1)
-    (record { after = events; then = p; story = (refl, refl, refl); stands = was; layout = layout; schema = refl; grows = record { since = []; moments = refl } })
+    (record { after = events; then = p; story = (refl, refl, refl); stands = was; layout = layout; schema = refl; grows = record { name = refl; since = []; moments = refl } })
 runs l first s events p (line ∷ lines) [] m now was layout plays = absurd plays
 runs l first s events p (line ∷ lines) (output ∷ outputs) m now was layout (middle, line_plays, plays) =
     let w = went first s events p line m was middle output line_plays in

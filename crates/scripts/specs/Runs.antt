@@ -46,6 +46,26 @@ Plays old (line ∷ lines) (output ∷ outputs) new = (middle : MachineState) ×
 abbrev pub AppendsPart : Option (List ℕ) → Option (List ℕ) → List ℕ → Type 0
 AppendsPart old new text = (count : ℕ) × (count < length text) × Appends old new (take count text)
 
+-- from this state the lines are played, which leaves the machine in that one, and what they print was written
+pub record PrintsOn (start : MachineState) (lines : List (List ℕ)) (end : MachineState) (old new : Option (List ℕ)) : Type 0 where
+  pub outputs : List (List ℕ)
+  pub plays : Plays start lines outputs end
+  pub written : Appends old new (concat outputs)
+
+-- so it is, whichever state it leaves
+abbrev pub PrintsFrom : MachineState → List (List ℕ) → Option (List ℕ) → Option (List ℕ) → Type 0
+PrintsFrom start lines old new = (end : MachineState) × PrintsOn start lines end old new
+
+-- from this state the lines up to this one are played, and of what they print a part of the last is not written
+pub record PrintsPartFrom (start : MachineState) (line : ℕ) (lines : List (List ℕ)) (old new : Option (List ℕ)) : Type 0 where
+  pub outputs : List (List ℕ)
+  pub last : List ℕ
+  pub end : MachineState
+  pub count : ℕ
+  pub plays : Plays start (take line lines) (outputs ++ last ∷ []) end
+  pub short : count < length last
+  pub written : Appends old new (concat outputs ++ take count last)
+
 -- a machine plays these lines from the start, and what they print was written
 pub record Prints (lines : List (List ℕ)) (old new : Option (List ℕ)) : Type 0 where
   pub start : MachineState
@@ -107,6 +127,13 @@ Ends lines ending (Ok done) old new = IsWhole ending × AreFit lines × Prints l
 Ends lines ending (Err e) old new = Stops lines ending e
     × (e.kind ≢ kinds.Write → Prints (take (e.line - 1) lines) old new)
     × (e.kind ≡ kinds.Write → PrintsPart e.line lines old new)
+
+-- the run of these lines on a machine in this state ends so: the same, from that state, and where all are played the machine is in that one then
+abbrev pub EndsOn : MachineState → List (List ℕ) → Ending → Result (Unit {0}) ScriptError → (end : MachineState) → (old new : Option (List ℕ)) → Type 0
+EndsOn start lines ending (Ok done) end old new = IsWhole ending × AreFit lines × PrintsOn start lines end old new
+EndsOn start lines ending (Err e) end old new = Stops lines ending e
+    × (e.kind ≢ kinds.Write → PrintsFrom start (take (e.line - 1) lines) old new)
+    × (e.kind ≡ kinds.Write → PrintsPartFrom start e.line lines old new)
 
 -- of one line
 

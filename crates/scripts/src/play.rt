@@ -2,7 +2,7 @@
 ghost use Rattle.std.specs.Prelude.{◌≡◌, ◌≢◌, ◌-◌, ◌≤◌, take, length, OnOk, IfOk, IfErr};
 ghost use Rattle.script_lines.specs.Lines.{lines_of};
 ghost use Rattle.script_lines.specs.Endings.{OfScript};
-ghost use Rattle.scripts.specs.Runs.{Ends, Prints, PrintsPart, StopsAt, PlaysAndPrints, PrintsNothing, PlaysInPart, MayStop};
+ghost use Rattle.scripts.specs.Runs.{Ends, EndsOn, PrintsFrom, PrintsOn, PrintsPartFrom, StopsAt, PlaysAndPrints, PrintsNothing, PlaysInPart, MayStop};
 ghost use Rattle.script_lines.specs.declared.error.ScriptErrorKind.TheVariants as kinds;
 
 use crate::texts::text;
@@ -25,7 +25,22 @@ pub fn run_script<R: Read, W: Write>(
         (λ lines ending. Ends lines ending result (W.contents writer.old) (W.contents writer.new)) }
 {
     let (lines, ending) = read_lines(alloc, reader);
-    let played = play(alloc, &lines, writer)?;
+    let mut machine = Machine::new(alloc);
+    run_on(alloc, &mut machine, &lines, ending, writer)
+}
+
+/// Plays lines that [`read_lines`] gave, with how the text ended, on a machine in any state, as [`run_script`] does on one with
+/// nothing declared. Where all are played the machine is as they leave it.
+pub fn run_on<W: Write>(
+    alloc: Global,
+    machine: &mut Machine,
+    lines: &[u8],
+    ending: Ending,
+    writer: &mut W,
+) -> Result<(), ScriptError>
+    ensures { EndsOn machine.old (lines_of lines.now) ending result machine.new (W.contents writer.old) (W.contents writer.new) }
+{
+    let played = play(alloc, machine, lines, writer)?;
     let kind = match ending {
         Ending::Whole => return Ok(()),
         Ending::TooLong => ScriptErrorKind::TooLong,
@@ -39,22 +54,26 @@ pub fn run_script<R: Read, W: Write>(
 }
 
 // Plays the lines, and says how many there were.
-fn play<W: Write>(alloc: Global, lines: &[u8], writer: &mut W) -> Result<u64, ScriptError>
-    ensures written { OnOk result (Prints (lines_of lines.now) (W.contents writer.old) (W.contents writer.new)) }
+fn play<W: Write>(
+    alloc: Global,
+    machine: &mut Machine,
+    lines: &[u8],
+    writer: &mut W,
+) -> Result<u64, ScriptError>
+    ensures written { OnOk result (PrintsOn machine.old (lines_of lines.now) machine.new (W.contents writer.old) (W.contents writer.new)) }
     ensures count { IfOk result (λ played. played ≡ length (lines_of lines.now)) }
     ensures bound { IfOk result (λ played. played ≤ length lines.now) }
     ensures fault { IfErr result (λ e. StopsAt (lines_of lines.now) e) }
     ensures before { IfErr result (λ e. e.kind ≢ kinds.Write
-        → Prints (take (e.line - 1) (lines_of lines.now)) (W.contents writer.old) (W.contents writer.new)) }
+        → PrintsFrom machine.old (take (e.line - 1) (lines_of lines.now)) (W.contents writer.old) (W.contents writer.new)) }
     ensures part { IfErr result (λ e. e.kind ≡ kinds.Write
-        → PrintsPart e.line (lines_of lines.now) (W.contents writer.old) (W.contents writer.new)) }
+        → PrintsPartFrom machine.old e.line (lines_of lines.now) (W.contents writer.old) (W.contents writer.new)) }
 {
-    let mut machine = Machine::new(alloc);
     let mut rest = lines;
     let mut played = 0u64;
     while !rest.is_empty() {
         let (line, others) = cut_line(rest);
-        if let Err(kind) = play_line(alloc, &mut machine, line, writer) {
+        if let Err(kind) = play_line(alloc, machine, line, writer) {
             return Err(ScriptError {
                 line: played + 1,
                 kind,

@@ -8,7 +8,7 @@ use script_lines::ScriptErrorKind;
 use std::io::Write;
 
 /// Writes all of the text. An interruption and a write of no bytes are faults; a part of the text is written then.
-pub(crate) fn put<W: Write>(writer: &mut W, text: &[u8]) -> Result<(), ScriptErrorKind>
+pub fn put<W: Write>(writer: &mut W, text: &[u8]) -> Result<(), ScriptErrorKind>
     ensures ok { OnOk result (Appends (W.contents writer.old) (W.contents writer.new) text.now) }
     ensures part { OnErr result (AppendsPart (W.contents writer.old) (W.contents writer.new) text.now) }
     ensures kind { IfErr result (λ kind. kind ≡ kinds.Write) }

@@ -11,6 +11,16 @@ fn workers_count_in_memory(rt: HostRuntime) -> Result<(), Fail> {
     Ok(())
 }
 
+// As long as a second: the total is the sum of what each counted.
+#[test]
+fn workers_work_for_a_second(rt: HostRuntime) -> Result<(), Fail> {
+    let words = ["drive", "--seconds", "1", "--image", "timed"];
+    assert!(rt; play(&rt, &words, "")?.is_some());
+    let words = ["drive", "--rounds", "1", "--image", "timed"];
+    assert!(rt; play(&rt, &words, "")?.is_some());
+    Ok(())
+}
+
 // The first make the image, and the others go on with it.
 #[test]
 fn workers_go_on_with_a_file(rt: HostRuntime) -> Result<(), Fail> {

@@ -71,3 +71,43 @@ fn recover_writes_and_reports(rt: HostRuntime) -> Result<(), Fail> {
     assert!(rt; !is_as_before(&rt, "recovered", &image)?);
     Ok(())
 }
+
+// The heap of an image that was only made is its schema file's.
+#[test]
+fn dump_writes_the_schema_file(rt: HostRuntime) -> Result<(), Fail> {
+    assert!(rt; is_made(&rt, "dumped", "dumped_of")?);
+    let image = fs::read(&rt, "dumped")?;
+    let words = ["dump", "--image", "dumped", "--schema", "dumped_of"];
+    assert!(rt; writes(&rt, &words, SCHEMA.as_bytes())?);
+    assert!(rt; writes(&rt, &["dump", "--image", "dumped"], SCHEMA.as_bytes())?);
+    assert!(rt; is_as_before(&rt, "dumped", &image)?);
+    Ok(())
+}
+
+// Where the version stands in the first control (docs/FORMAT.md, "Control").
+const VERSION: usize = 83;
+
+// Makes the image one of version 1, as an older release leaves it.
+fn make_old<R: Files + AllocGlobal>(rt: &R, path: &str) -> Result<bool, Fail> {
+    let mut image = fs::read(rt, path)?;
+    let Some(version) = image.get_mut(VERSION) else {
+        return Ok(false);
+    };
+    let was = *version;
+    *version = 1;
+    fs::write(rt, path, image.as_slice())?;
+    Ok(was == 2)
+}
+
+#[test]
+fn an_old_image_is_upgraded_where_it_is_asked_for(rt: HostRuntime) -> Result<(), Fail> {
+    assert!(rt; is_made(&rt, "old", "old_of")?);
+    assert!(rt; make_old(&rt, "old")?);
+    let image = fs::read(&rt, "old")?;
+    assert!(rt; play(&rt, &["recover", "--image", "old"], "")?.is_none());
+    assert!(rt; play(&rt, &["run", "--image", "old"], "")?.is_none());
+    assert!(rt; is_as_before(&rt, "old", &image)?);
+    assert!(rt; writes(&rt, &["upgrade", "--image", "old"], REPORT)?);
+    assert!(rt; writes(&rt, &["recover", "--image", "old"], REPORT)?);
+    Ok(())
+}

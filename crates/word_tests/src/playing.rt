@@ -8,6 +8,7 @@ use std::alloc::{AllocError, Global};
 use std::fs;
 use std::fs::{Files, OpenFile};
 use std::io::Read;
+use std::rt::Clock;
 use std::sync::Wait;
 use std::test::Fail;
 use std::thread::Threads;
@@ -35,7 +36,7 @@ fn with_name(alloc: Global, words: &[&str]) -> Result<Vec<String>, AllocError> {
 pub fn play<F, R>(rt: &R, words: &[&str], script: &str) -> Result<Option<Vec<u8>>, Fail>
 where
     F: BackingFile + OpenFile + Read + Drop,
-    R: Files<File = F> + AllocGlobal + Eprint + Threads + Wait + Sync,
+    R: Files<File = F> + AllocGlobal + Clock + Eprint + Threads + Wait + Sync,
 {
     let alloc = rt.alloc();
     let texts = with_name(alloc, words)?;
@@ -51,7 +52,7 @@ where
 fn is_done<F, R>(rt: &R, asked: Words<'_>, script: &str, written: &mut Vec<u8>) -> bool
 where
     F: BackingFile + OpenFile + Read + Drop,
-    R: Files<File = F> + AllocGlobal + Eprint + Threads + Wait + Sync,
+    R: Files<File = F> + AllocGlobal + Clock + Eprint + Threads + Wait + Sync,
 {
     let mut reader = script.as_bytes();
     obey(rt, false, &Trouble::none(), asked, &mut reader, written).is_ok()
@@ -61,9 +62,18 @@ where
 pub fn writes<F, R>(rt: &R, words: &[&str], text: &[u8]) -> Result<bool, Fail>
 where
     F: BackingFile + OpenFile + Read + Drop,
-    R: Files<File = F> + AllocGlobal + Eprint + Threads + Wait + Sync,
+    R: Files<File = F> + AllocGlobal + Clock + Eprint + Threads + Wait + Sync,
 {
-    let written = play(rt, words, "")?;
+    plays(rt, words, "", text)
+}
+
+/// Whether the words write this, with this script on standard input, and end well.
+pub fn plays<F, R>(rt: &R, words: &[&str], script: &str, text: &[u8]) -> Result<bool, Fail>
+where
+    F: BackingFile + OpenFile + Read + Drop,
+    R: Files<File = F> + AllocGlobal + Clock + Eprint + Threads + Wait + Sync,
+{
+    let written = play(rt, words, script)?;
     Ok(match &written {
         Some(written) => written.as_slice() == text,
         None => false,
@@ -74,7 +84,7 @@ where
 pub fn is_made<F, R>(rt: &R, image: &str, schema: &str) -> Result<bool, Fail>
 where
     F: BackingFile + OpenFile + Read + Drop,
-    R: Files<File = F> + AllocGlobal + Eprint + Threads + Wait + Sync,
+    R: Files<File = F> + AllocGlobal + Clock + Eprint + Threads + Wait + Sync,
 {
     fs::write(rt, schema, SCHEMA)?;
     let words = [

@@ -1,17 +1,7 @@
-use Rattle.std.proofs.Common.{◌≡◌, true, ap, ap₂, refl, ◌∙◌}
+use Rattle.std.proofs.Common.{refl}
 use Rattle.std.proofs.lemmas.Result.{IfOk-weaker}
-use Rattle.clap.specs.Built.{AddsSubcommand}
-use Rattle.clap.specs.Simple.{App, app_of, with_subcommand}
-use Rattle.clap.specs.declared.builder.command.Command.{Command}
-use Rattle.command_words.proofs.OptionLemmas.{third_is_off}
+use Rattle.command_words.proofs.OptionLemmas.{word_added}
 use Rattle.command_words.proofs.words.command.Goals as goal
-
--- a plain word more
-word_added : (old word new : Command) (before added : App) → app_of old ≡ before → app_of word ≡ added → added.top.is_plain ≡ true
-    → AddsSubcommand old word new → app_of new ≡ with_subcommand before added.top
-word_added old word new before added old_is word_is plain adds =
-    let local = third_is_off _ _ _ _ (ap (λ (a : App). a.top.is_plain) word_is ∙ plain) in
-    adds.shape local ∙ ap₂ with_subcommand old_is (ap (λ (a : App). a.top) word_is)
 
 pub returns : goal.returns
 returns c =

@@ -12,11 +12,16 @@ use Rattle.commands.proofs.files.drive_left_file.Goals as goal
 pub returns-in-Ok-drive_on-clause-ok : goal.returns-in-Ok-drive_on-clause-ok
 returns-in-Ok-drive_on-clause-ok g c =
     let image = c.in-Ok.disk.device.now.bytes in
-    record {
-      image = image;
-      reads = reads_image image (g.F.BackingFile.holds c.args.file) c.in-Ok.ensures.given;
-      so = subst (λ (d : Driven). HasDrivenOn file_device c.args.workers (new_device image) d) (sym c.driven_of.ensures)
-          (subst (λ (d : Device). HasDrivenOn file_device c.args.workers d c.in-Ok-drive_on.done.1) c.in-Ok.ensures.ok c.in-Ok-drive_on.ensures.ok);
+    let now = c.in-Ok-drive_on.done.0 in record {
+      now = now;
+      there = sym c.left_of.ensures.disk;
+      is = record {
+        image = image;
+        reads = reads_image image (g.F.BackingFile.holds c.args.file) c.in-Ok.ensures.given;
+        so = subst (λ (d : Driven). HasDrivenOn file_device c.args.workers (new_device image) now d) (sym c.left_of.ensures.driven)
+            (subst (λ (d : Device). HasDrivenOn file_device c.args.workers d now c.in-Ok-drive_on.done.1) c.in-Ok.ensures.ok c.in-Ok-drive_on.ensures.ok);
+      };
+      reads = c.left_of.ensures.reads;
     }
 
 pub returns-in-Ok-drive_on-clause-theirs : goal.returns-in-Ok-drive_on-clause-theirs

@@ -5,20 +5,19 @@ use Rattle.inspect.specs.StudyText.{study_text}
 use Rattle.inspect.specs.WholeGraph.{picture_text}
 use Rattle.image_schema.specs.Dumping.{dump_text}
 use Rattle.image_file.specs.Telling.{report_of}
-use Rattle.commands.specs.Obeying.{Formats, Obeys, PlaysScript, TellsOf, TellsOfNamed}
+use Rattle.commands.specs.Obeying.{Formats, Obeys, TellsOf, TellsOfNamed}
 use Rattle.commands.specs.declared.fault.WorkFault.{WorkFault}
 use Rattle.command_words.specs.declared.words.Words.{Words}
-use Rattle.commands.proofs.ObeyLemmas.{made, played, told, told_named}
+use Rattle.commands.proofs.ObeyLemmas.{made, told, told_named}
 use Rattle.commands.proofs.obeying.obey.Goals as goal
 
 pub returns-in-Run : goal.returns-in-Run
 returns-in-Run o c =
     let read = o.S.Read.remaining c.args.reader.now in
-    let unread = o.S.Read.remaining c.run_script.new.reader in
+    let unread = o.S.Read.remaining c.play.new.reader in
     let written = o.W.Write.contents c.args.writer.now in
-    let now = o.W.Write.contents c.run_script.new.writer in
-    subst (λ (w : Words). Obeys w c.on_script.result read unread written now) (sym c.in-Run.is)
-    (subst (λ (r : Result (Unit {0}) WorkFault). PlaysScript r read unread written now) (sym c.on_script.ensures) (played c.run_script.result read unread written now c.run_script.ensures))
+    let now = o.W.Write.contents c.play.new.writer in
+    subst (λ (w : Words). Obeys w c.play.result read unread written now) (sym c.in-Run.is) c.play.ensures
 
 pub returns-in-Format : goal.returns-in-Format
 returns-in-Format o c =

@@ -16,7 +16,6 @@ returns-in-Ok-make-clause-ok g c =
     IfOk-weaker c.drive_made.result _ _
     (λ r so. record {
       was = made;
-      now = r.0;
       theirs = record { lanes_are = c.in-Ok-make.ensures.lanes; fits = subst (λ (s : Declarations). FitsSchema s made.layout made.guards) is c.in-Ok-make.ensures.fits };
       first = λ f below. c.in-Ok-make.ensures.first f (subst (λ (s : Declarations). f < field_count s) (sym is) below) ∙ ap (λ (s : Declarations). first_of s f) is ∙ first_is_zero c.args.workers f;
       driven_so = so;

@@ -13,7 +13,7 @@ go_on-requires-clause-theirs g c κs within = subst (λ (m : Moment). HoldsWorke
 pub returns-in-Ok-look-clause-ok : goal.returns-in-Ok-look-clause-ok
 returns-in-Ok-look-clause-ok g c =
     let device = g.D.Disk.device in
-    IfOk-weaker c.go_on.result _ _ (λ r on. on_alike device c.args.workers (device c.args.disk) (device c.look.new.disk) r.1 c.look.ensures.same on) c.go_on.ensures.ok
+    IfOk-weaker c.go_on.result _ _ (λ r on. on_alike device c.args.workers (device c.args.disk) (device c.look.new.disk) r.0 r.1 c.look.ensures.same on) c.go_on.ensures.ok
 
 pub returns-in-Ok-look-clause-theirs : goal.returns-in-Ok-look-clause-theirs
 returns-in-Ok-look-clause-theirs g c = anyway c.go_on.result c.in-Ok-look.ensures.ok

@@ -11,7 +11,6 @@ returns-in-Ok-clause-ok g c =
     IfOk-weaker c.drive_made.result _ _
     (λ r so. record {
       was = c.in-Ok.found;
-      now = r.0;
       report = c.in-Ok.ensures.found.0;
       found = c.in-Ok.ensures.found.1;
       theirs = c.in-Ok.ensures.theirs;

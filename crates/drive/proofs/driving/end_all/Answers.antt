@@ -1,7 +1,7 @@
 use Rattle.std.proofs.Common.{IfSome, Option, ◌∙◌, subst}
 use Rattle.session.specs.declared.error.SessionError.{SessionError}
 use Rattle.drive.specs.Working.{StopsWorker}
-use Rattle.drive.proofs.Lanes.{complete_of}
+use Rattle.trim_helper.proofs.Completing.{complete_of}
 use Rattle.drive.proofs.driving.end_all.Goals as goal
 
 pub close_all-requires-clause-ended : goal.close_all-requires-clause-ended

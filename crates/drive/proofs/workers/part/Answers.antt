@@ -2,7 +2,8 @@ use Rattle.std.proofs.Common.{◌≡◌, List, ◌++◌, ◌∷◌, [], Some, Al
 use Rattle.std.proofs.lemmas.List.Elements.{All-nil, All-pop, All-push}
 use Rattle.trim_helper.specs.Endings.{IsEnded}
 use Rattle.trim_helper.specs.declared.ended.Ended.{Ended}
-use Rattle.drive.specs.Workers.{IsWorked, lanes_ended, lanes_worked}
+use Rattle.drive.specs.Workers.{IsWorked, lanes_worked}
+use Rattle.trim_helper.specs.Endings.{lanes_ended}
 use Rattle.drive.specs.Working.{StopsWorker}
 use Rattle.drive.specs.declared.workers.Worked.{Worked}
 use Rattle.drive.proofs.Ending.{first_stops, none_hold}

@@ -1,7 +1,8 @@
 use Rattle.std.proofs.Common.{ℕ, ◌≡◌, ◌++◌, All, IfSome, reverse, vec_len}
 use Rattle.monitor.specs.Seats.{Home}
 use Rattle.trim_helper.specs.Endings.{IsEnded, Rings}
-use Rattle.drive.specs.Workers.{AreWorked, lanes_ended, lanes_worked}
+use Rattle.drive.specs.Workers.{AreWorked, lanes_worked}
+use Rattle.trim_helper.specs.Endings.{lanes_ended}
 use Rattle.drive.specs.Working.{StopsWorker}
 use Rattle.drive.proofs.workers.part.Given as goal
 

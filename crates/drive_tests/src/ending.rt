@@ -1,0 +1,45 @@
+//! Workers that are ended before their rounds are.
+
+use drive::{Meet, drive_with};
+use std::alloc::Global;
+use std::sync::Wait;
+use std::sync::atomic::{AtomicU64, Ordering};
+use std::thread::Threads;
+
+// Lets so many sections begin, and no more.
+#[derive(Drop)]
+struct Few {
+    left: AtomicU64,
+}
+
+impl Meet for Few {
+    fn inside(&self, _worker: u8) -> bool {
+        true
+    }
+
+    fn goes_on(&self) -> bool {
+        let left = self.left.load(Ordering::SeqCst);
+        self.left.store(left.saturating_sub(1), Ordering::SeqCst);
+        left > 0
+    }
+}
+
+// Whether a worker that may begin so many sections has them acknowledged, and no other.
+fn works<R: Threads + Wait + Sync>(rt: &R, alloc: Global, sections: u64) -> bool {
+    let few = Few {
+        left: AtomicU64::new(sections),
+    };
+    match drive_with(rt, alloc, &few, 1, 100) {
+        Ok(driven) => {
+            driven.acknowledged.as_slice() == [sections].as_slice()
+                && driven.heap.as_slice() == [sections, sections].as_slice()
+        }
+        Err(_) => false,
+    }
+}
+
+#[test]
+fn workers_end_where_they_are_told_to(rt: HostRuntime) {
+    assert!(rt; works(&rt, rt.alloc(), 3));
+    assert!(rt; works(&rt, rt.alloc(), 0));
+}

@@ -1,0 +1,5 @@
+mod FirstLemmas
+mod OpeningLemmas
+mod StopLemmas
+mod ReasonLemmas
+mod RunLemmas

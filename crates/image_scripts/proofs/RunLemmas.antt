@@ -1,0 +1,112 @@
+-- From the play to the run, and from what is there to what is written.
+use Rattle.std.proofs.Common.{ℕ, ◌≡◌, ◌⊎◌, ◌++◌, Option, None, Some, List, [], Result, Ok, Err, IfErr, IfOk, OnErr, OnOk, inl, inr, refl, sym, subst, ap, ◌∙◌}
+use Rattle.std.specs.Io.KnownBytes.{Appends}
+use Rattle.std.proofs.KnownBytes.{Appends-nil}
+use Rattle.block_disk.specs.Memory.{Memory, device_of, fresh}
+use Rattle.guards.specs.Schema.{Declarations}
+use Rattle.image_file.specs.Naming.{IsNamedBy}
+use Rattle.image_file.specs.Showing.{told_of_attaching}
+use Rattle.image_file.specs.declared.error.FileFault.{FileFault}
+use Rattle.image_file.specs.declared.error.ImageFault.TheVariants as images
+use Rattle.image_file.specs.declared.error.NamedFault.{NamedFault}
+use Rattle.image_file.specs.declared.error.NamedFault.TheVariants as named
+use Rattle.recover.specs.Recovery.{RefusesOf}
+use Rattle.recover.specs.Reading.{RefusesImage}
+use Rattle.recover.specs.declared.error.RecoverError.TheVariants as recover
+use Rattle.recover.specs.declared.versions.Versions.TheVariants.{Current}
+use Rattle.script_lines.specs.Endings.{OfScript, Reads}
+use Rattle.script_lines.specs.Lines.{lines_of}
+use Rattle.script_lines.specs.declared.error.ScriptError.{ScriptError}
+use Rattle.script_lines.specs.declared.reader.Ending.{Ending}
+use Rattle.script_machine.specs.Machine.{MachineState, Down}
+use Rattle.script_machine.specs.States.{Wreck}
+use Rattle.scripts.specs.Runs.{AppendsPart, EndsOn}
+use Rattle.image_scripts.specs.Playing.{IsDown, IsNotRecovered, IsOver, IsRecovered, IsStopped, PlaysDown, PlaysOver, RefusesDown, RefusesNamed, RefusesOver, RefusesToPlay, shown_by}
+use Rattle.image_scripts.specs.Running.{IsPrinted, IsPrintedInPart, IsThere, PlaysHeld, RunsFile, RunsHeld}
+use Rattle.image_scripts.specs.declared.error.RunFault.{RunFault}
+use Rattle.image_scripts.specs.declared.error.RunFault.TheVariants.{Named, Script, Write}
+
+-- a machine over an image is down
+pub over_down : (given : Option Declarations) (image : List ℕ) (over : MachineState) → IsOver given image over → IsDown over
+over_down given image over is = (record { schema = is.schema; disk = is.disk }, is.down)
+
+-- what a refusal to make the machine says of the image
+over_refused : (given : Option Declarations) (image : List ℕ) (fault : NamedFault) → RefusesOver given image fault → RefusesNamed given image fault
+over_refused given image (named.Image (images.Image why)) refused = inl refused
+over_refused given image (named.Image images.InUse) refused = refused
+over_refused given image (named.Schema fault) refused = refused
+over_refused given image named.OtherSchema refused = refused
+
+pub not_over : (given : Option Declarations) (lines : List (List ℕ)) (ending : Ending) (image : List ℕ) (fault : NamedFault) → RefusesOver given image fault → RefusesToPlay given lines ending image (Named fault)
+not_over given lines ending image fault refused = over_refused given image fault refused
+
+-- its device reads the image
+reads : (given : Option Declarations) (image : List ℕ) (over : MachineState) (is : IsOver given image over) → (device_of is.disk).now.bytes ≡ image
+reads given image over is = ap (λ m. m.bytes) is.same.now
+
+down_refused : (given : Option Declarations) (image : List ℕ) (w : Wreck) → (device_of w.disk).now.bytes ≡ image → (fault : NamedFault) → IsNotRecovered (Down w) fault → RefusesNamed given image fault
+down_refused given image w is (named.Image (images.Image why)) (inl memory) = inl (subst (RefusesImage image) (sym memory) tt)
+down_refused given image w is (named.Image (images.Image why)) (inr refused) = inr (subst (λ (bytes : List ℕ). RefusesOf Current bytes why) is refused)
+down_refused given image w is (named.Image images.InUse) refused = absurd refused
+down_refused given image w is (named.Schema fault) refused = absurd refused
+down_refused given image w is named.OtherSchema refused = absurd refused
+
+module _ (given : Option Declarations) (lines : List (List ℕ)) (ending : Ending) (image : List ℕ) (over : MachineState) (is : IsOver given image over) where
+  -- the lines were played over the image
+  pub plays : (left text : List ℕ) → PlaysDown over lines ending left text → PlaysOver given lines ending image left text
+  plays left text played = record { over = over; is_over = is; played = played }
+
+  refuses : (fault : RunFault) → RefusesDown over lines ending fault → RefusesToPlay given lines ending image fault
+  refuses (Named fault) refused =
+      down_refused given image (record { schema = is.schema; disk = is.disk }) (reads given image over is) fault (subst (λ (m : MachineState). IsNotRecovered m fault) is.down refused)
+  refuses (Script error) refused = refused
+  refuses Write refused = refused
+
+  pub all_refused : {T : Type 0} (r : Result T RunFault) → IfErr r (RefusesDown over lines ending) → IfErr r (RefusesToPlay given lines ending image)
+  all_refused (Ok x) refused = tt
+  all_refused (Err fault) refused = refuses fault refused
+
+-- the image isn't replaced
+pub not_put : (given : Option Declarations) (lines : List (List ℕ)) (ending : Ending) (had mid has old : Option (List ℕ)) (left text wrote : List ℕ) (why : FileFault) (fault : RunFault)
+    → fault ≡ Named (named.Image (told_of_attaching why)) → PlaysHeld given lines ending had left text → mid ≡ had → wrote ≡ left → (has ≡ mid) ⊎ IsThere wrote has
+    → RunsHeld given lines ending (Err fault) had has old old
+not_put given lines ending had mid has old left text wrote why fault is played same all stays =
+    let still : (has ≡ had) ⊎ IsThere left has = elim stays [ inl kept ↦ inl (kept ∙ same) | inr there ↦ inr (subst (λ (l : List ℕ). IsThere l has) all there) ] in
+    let so : RunsHeld given lines ending (Err (Named (named.Image (told_of_attaching why)))) had has old old =
+    (inr (record { left = left; text = text; played = played; unput = (why, refl); stays = still }), Appends-nil old) in
+    subst (λ (f : RunFault). RunsHeld given lines ending (Err f) had has old old) (sym is) so
+
+module _ {P : Type 0} (path : Option P) (given : Option Declarations) (is_named : IsNamedBy path given) (read unread : Option (List ℕ)) (script : List ℕ) (ending : Ending) (taken : Reads read unread script ending) (had has old new : Option (List ℕ)) where
+  -- a run over an image that was claimed is one over an image file
+  pub of_held : (r : Result (Unit {0}) RunFault) → RunsHeld given (lines_of script) ending r had has old new → RunsFile path r read unread old new
+  of_held (Ok done) h = (
+    script,
+    ending,
+    taken,
+    record {
+      given = given;
+      is_named = is_named;
+      image = h.played.image;
+      left = h.left;
+      text = h.text;
+      plays = h.played.plays;
+      written = h.written;
+    },
+  )
+  of_held (Err Write) h = (
+    script,
+    ending,
+    taken,
+    record {
+      given = given;
+      is_named = is_named;
+      image = h.played.image;
+      left = h.left;
+      text = h.text;
+      plays = h.played.plays;
+      part = h.part;
+    },
+  )
+  of_held (Err (Script error)) (inl (why, told), same, silent) = absurd cc
+  of_held (Err (Script error)) (inr refused, same, silent) = ((script, ending, taken, refused.refused), silent)
+  of_held (Err (Named fault)) h = h.1

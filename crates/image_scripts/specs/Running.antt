@@ -1,0 +1,100 @@
+-- How a run over an image that is kept somewhere ends (docs/SCRIPTS.md, "A script over an image file").
+use Rattle.std.specs.Prelude.{ℕ, ◌≡◌, ◌⊎◌, Option, IfSome, List, [], Result, Ok, Err}
+use Rattle.std.specs.Io.KnownBytes.{Appends}
+use Rattle.guards.specs.Schema.{Declarations}
+use Rattle.image_file.specs.Naming.{IsNamedBy}
+use Rattle.image_file.specs.Showing.{told_of_attaching}
+use Rattle.image_file.specs.declared.error.FileFault.{FileFault}
+use Rattle.image_file.specs.declared.error.NamedFault.{NamedFault}
+use Rattle.image_file.specs.declared.error.NamedFault.TheVariants.{Image}
+use Rattle.script_lines.specs.Endings.{OfScript}
+use Rattle.script_lines.specs.declared.reader.Ending.{Ending}
+use Rattle.scripts.specs.Runs.{AppendsPart}
+use Rattle.image_scripts.specs.Playing.{IsStopped, PlaysOver, RefusesToPlay}
+use Rattle.image_scripts.specs.declared.error.RunFault.{RunFault}
+use Rattle.image_scripts.specs.declared.error.RunFault.TheVariants.{Named, Script, Write}
+
+-- this image is there, where it is known which one is
+abbrev pub IsThere : List ℕ → Option (List ℕ) → Type 0
+IsThere image held = IfSome held (λ there. there ≡ image)
+
+module _ (given : Option Declarations) (lines : List (List ℕ)) (ending : Ending) where
+  -- the image that was there was read, and the lines played over it
+  pub record PlaysHeld (had : Option (List ℕ)) (left text : List ℕ) : Type 0 where
+    pub image : List ℕ
+    pub was : IsThere image had
+    pub plays : PlaysOver given lines ending image left text
+
+  -- the image that was there isn't had
+  abbrev pub IsNotRead : RunFault → Type 0
+  IsNotRead fault = (why : FileFault) × (fault ≡ Named (Image (told_of_attaching why)))
+
+  -- it was read, and the lines aren't played over it
+  pub record IsNotPlayed (had : Option (List ℕ)) (fault : RunFault) : Type 0 where
+    pub image : List ℕ
+    pub was : IsThere image had
+    pub refused : RefusesToPlay given lines ending image fault
+
+  abbrev pub RefusesHeld : (had : Option (List ℕ)) → RunFault → Type 0
+  RefusesHeld had fault = IsNotRead fault ⊎ IsNotPlayed had fault
+
+  -- what the lines left of it was not put in its place: the old one is there still, or the whole new one, which may not be durable
+  pub record IsNotPut (had has : Option (List ℕ)) (fault : RunFault) : Type 0 where
+    pub left : List ℕ
+    pub text : List ℕ
+    pub played : PlaysHeld had left text
+    pub unput : IsNotRead fault
+    pub stays : (has ≡ had) ⊎ IsThere left has
+
+  -- what they left of it was, and what they print was written
+  pub record IsDone (had has old new : Option (List ℕ)) : Type 0 where
+    pub left : List ℕ
+    pub text : List ℕ
+    pub played : PlaysHeld had left text
+    pub is_there : IsThere left has
+    pub written : Appends old new text
+
+  -- it was, and a beginning of what they print was written, and not all
+  pub record IsHalfTold (had has old new : Option (List ℕ)) : Type 0 where
+    pub left : List ℕ
+    pub text : List ℕ
+    pub played : PlaysHeld had left text
+    pub is_there : IsThere left has
+    pub part : AppendsPart old new text
+
+  -- how the run ends, by the image that was there before and is now, where it is known, and by what was written before and is now. But
+  -- where the image was replaced, nothing is written
+  abbrev pub RunsHeld : Result (Unit {0}) RunFault → (had has old new : Option (List ℕ)) → Type 0
+  RunsHeld (Ok done) had has old new = IsDone had has old new
+  RunsHeld (Err Write) had has old new = IsHalfTold had has old new
+  RunsHeld (Err (Script error)) had has old new = RefusesHeld had (Script error) × (has ≡ had) × Appends old new []
+  RunsHeld (Err (Named fault)) had has old new = ((RefusesHeld had (Named fault) × (has ≡ had)) ⊎ IsNotPut had has (Named fault)) × Appends old new []
+
+-- over an image file, whose bytes aren't known
+
+-- the lines were played over some image, by the names of the schema file where one is named, and what they print was written
+pub record IsPrinted {P : Type 0} (path : Option P) (lines : List (List ℕ)) (ending : Ending) (old new : Option (List ℕ)) : Type 0 where
+  pub given : Option Declarations
+  pub is_named : IsNamedBy path given
+  pub image : List ℕ
+  pub left : List ℕ
+  pub text : List ℕ
+  pub plays : PlaysOver given lines ending image left text
+  pub written : Appends old new text
+
+-- a beginning of it was, and not all
+pub record IsPrintedInPart {P : Type 0} (path : Option P) (lines : List (List ℕ)) (ending : Ending) (old new : Option (List ℕ)) : Type 0 where
+  pub given : Option Declarations
+  pub is_named : IsNamedBy path given
+  pub image : List ℕ
+  pub left : List ℕ
+  pub text : List ℕ
+  pub plays : PlaysOver given lines ending image left text
+  pub part : AppendsPart old new text
+
+-- how the run over an image file ends, by what was read of the script and what was written
+abbrev pub RunsFile : {P : Type 0} (path : Option P) → Result (Unit {0}) RunFault → (read unread old new : Option (List ℕ)) → Type 0
+RunsFile path (Ok done) read unread old new = OfScript read unread (λ lines ending. IsPrinted path lines ending old new)
+RunsFile path (Err Write) read unread old new = OfScript read unread (λ lines ending. IsPrintedInPart path lines ending old new)
+RunsFile path (Err (Script error)) read unread old new = OfScript read unread (λ lines ending. IsStopped lines ending error) × Appends old new []
+RunsFile path (Err (Named fault)) read unread old new = Appends old new []

@@ -1,0 +1,8 @@
+//! A law of stops: a contract of a function that does nothing.
+ghost use Rattle.image_scripts.specs.Playing.{StopLaw};
+
+/// A machine that runs leaves at a stop what the line `crash kept` leaves: its device with each write done. So what is
+/// acknowledged by then is kept by the next recovery ([`crash_law`](scripts::crash_law), [`play_law`](scripts::play_law)).
+pub fn stop_law()
+    ensures { StopLaw }
+{}

@@ -1,0 +1,41 @@
+//! The names that a schema file gives.
+ghost use Rattle.std.specs.Prelude.{IfOk};
+ghost use Rattle.image_file.specs.Naming.{IsNamedBy};
+
+use crate::opening::refused;
+use declarations::read_schema;
+use guards::Schema;
+use image_file::{NamedFault, Place, Trouble, Watched};
+use recover::RecoverError;
+use std::alloc::Global;
+use std::fs;
+use std::io::Read;
+use std::rt::Files;
+
+/// The schema that the file at this path declares; `None` where none is named.
+///
+/// `Schema`: the file is refused. `Fault` says that it isn't there or can't be read, which is noted as trouble; `NoMemory` that there
+/// was no memory.
+pub(crate) fn schema_at<F: Read + Drop, R: Files<File = F>>(
+    rt: &R,
+    alloc: Global,
+    trouble: &Trouble,
+    path: Option<&str>,
+) -> Result<Option<Schema>, NamedFault>
+    ensures { IfOk result (IsNamedBy path.entry) }
+{
+    let Some(path) = path else {
+        return Ok(None);
+    };
+    let mut file = match fs::open(rt, path) {
+        Ok(file) => Watched::new(file, Place::Schema, trouble),
+        Err(error) => {
+            trouble.note(Place::Schema, &error);
+            return Err(refused(RecoverError::Fault));
+        }
+    };
+    match read_schema(alloc, &mut file) {
+        Ok(schema) => Ok(Some(schema)),
+        Err(fault) => Err(NamedFault::from(fault)),
+    }
+}

@@ -1,0 +1,72 @@
+//! What a script makes of an image.
+ghost use Rattle.std.specs.Prelude.{IfErr, IfOk};
+ghost use Rattle.script_lines.specs.Lines.{lines_of};
+ghost use Rattle.image_scripts.specs.Playing.{IsDown, PlaysDown, PlaysOver, RefusesDown, RefusesToPlay};
+
+use crate::error::RunFault;
+use crate::opening::{machine_over, recovered, refused};
+use crate::reasons::told_in_memory;
+use crate::stopping::image_left;
+use guards::Schema;
+use recover::RecoverError;
+use script_lines::Ending;
+use script_machine::Machine;
+use scripts::run_on;
+use std::alloc::Global;
+
+/// What a script leaves of an image, and what it prints.
+#[derive(Drop)]
+pub struct Played {
+    /// The bytes of the image that takes the old one's place.
+    pub image: Vec<u8>,
+    /// What is printed: the report on the recovery, and then what the lines print.
+    pub text: Vec<u8>,
+}
+
+/// Recovers this image in memory, and plays lines over it that [`read_lines`](script_lines::read_lines) gave, with how the text
+/// ended. Their names are those of the schema that is given, which has to be the image's, or else numbers: `o0`, `f0` and so on.
+///
+/// Refusals, in this order:
+/// - `Named`: the image is refused by [`study`](recover::study); the schema that is given isn't the image's (`OtherSchema`); the image is
+///   refused by recovery, as `OldVersion` or `Worn`. `NoMemory` comes at any time;
+/// - `Script`: the run stopped at a line, as [`run_on`] says. What can't be printed to memory is want of memory.
+pub fn play_over(
+    alloc: Global,
+    image: &[u8],
+    given: Option<Schema>,
+    script: &[u8],
+    ending: Ending,
+) -> Result<Played, RunFault>
+    ensures ok { IfOk result (λ played. PlaysOver given (lines_of script.now) ending image.now played.image.items played.text.items) }
+    ensures refused { IfErr result (RefusesToPlay given (lines_of script.now) ending image.now) }
+{
+    let mut machine = match machine_over(alloc, image, given) {
+        Ok(machine) => machine,
+        Err(fault) => return Err(RunFault::Named(fault)),
+    };
+    play_down(alloc, &mut machine, script, ending)
+}
+
+// Recovers a machine that is down, and plays the lines on it.
+fn play_down(
+    alloc: Global,
+    machine: &mut Machine,
+    script: &[u8],
+    ending: Ending,
+) -> Result<Played, RunFault>
+    requires { IsDown machine.old }
+    ensures ok { IfOk result (λ played. PlaysDown machine.old (lines_of script.now) ending played.image.items played.text.items) }
+    ensures refused { IfErr result (RefusesDown machine.old (lines_of script.now) ending) }
+{
+    let mut text = match recovered(alloc, machine) {
+        Ok(text) => text,
+        Err(fault) => return Err(RunFault::Named(fault)),
+    };
+    if let Err(error) = run_on(alloc, machine, script, ending, &mut text) {
+        return Err(RunFault::Script(told_in_memory(error)));
+    }
+    match image_left(alloc, machine) {
+        Ok(image) => Ok(Played { image, text }),
+        Err(_) => Err(RunFault::Named(refused(RecoverError::NoMemory))),
+    }
+}
