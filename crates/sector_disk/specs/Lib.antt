@@ -1,0 +1,6 @@
+-- The promise: what public clauses state.
+pub mod Size
+pub mod Readable
+pub mod Memory
+-- Scaffold: the device that no memory holds.
+pub mod Trace
