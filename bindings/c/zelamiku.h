@@ -314,8 +314,13 @@ ZELAMIKU_MUST_USE zelamiku_status zelamiku_open_telling(zelamiku_handle *heap, c
  * As zelamiku_open, but for OLD_VERSION. */
 ZELAMIKU_MUST_USE zelamiku_status zelamiku_upgrade(zelamiku_handle *heap, const uint8_t *image, size_t size, zelamiku_found *found);
 
-/* Hands out the session of the next lane, from 0 on.
- * OPEN: `session` has something behind it. NONE_LEFT: each lane's was handed out. CLOSED. NO_MEMORY: none was handed out, and it may be
+/* The same as zelamiku_upgrade, and tells what recovery did, as zelamiku_open_telling does. */
+ZELAMIKU_MUST_USE zelamiku_status zelamiku_upgrade_telling(zelamiku_handle *heap, const uint8_t *image, size_t size, zelamiku_told *told,
+                                                           zelamiku_dropped *dropped, size_t count);
+
+/* Hands out the session of the next lane, from 0 on; once each was, that of a lane whose session has ended (zelamiku_end) and held no
+ * monitor then, whichever it is: so threads may come and go. zelamiku_lane tells which lane it has.
+ * OPEN: `session` has something behind it. NONE_LEFT: each lane has a session. CLOSED. NO_MEMORY: none was handed out, and it may be
  * asked for again. The handles are as they were. */
 ZELAMIKU_MUST_USE zelamiku_status zelamiku_session(zelamiku_handle *heap, zelamiku_handle *session);
 
@@ -411,6 +416,11 @@ ZELAMIKU_MUST_USE zelamiku_status zelamiku_look(zelamiku_handle *session, uint32
  * zelamiku_acknowledged tells only of such. */
 ZELAMIKU_MUST_USE zelamiku_status zelamiku_round_sections(zelamiku_handle *session, uint64_t *sections);
 
+/* Tells the session's lane, and how many sections of it have ended since the heap was opened, also those of the sessions that had the lane
+ * before. What the session has done by then is durable once zelamiku_acknowledged tells as many of that lane.
+ * After a refusal `lane` is ZELAMIKU_NOBODY and `sections` 0. */
+ZELAMIKU_MUST_USE zelamiku_status zelamiku_lane(zelamiku_handle *session, uint32_t *lane, uint64_t *sections);
+
 /* ---- a pool, by a session: slots that are taken and given back ---- */
 
 /* A pool has slots, numbered from 0. It lies in persistent fields of one object, which guards them: the head, and behind it a field for
@@ -435,7 +445,8 @@ ZELAMIKU_MUST_USE zelamiku_status zelamiku_pool_give(zelamiku_handle *session, u
 
 /* ---- the end of a session ---- */
 
-/* Ends the session. Its handle has nothing behind it then. Exit all monitors first: else its heap can't be closed.
+/* Ends the session. Its handle has nothing behind it then, and its lane may be handed out again. Exit all monitors first: else it isn't, and
+ * its heap can't be closed.
  * WAITING, WRONG_KIND: the handle is as it was. */
 ZELAMIKU_MUST_USE zelamiku_status zelamiku_end(zelamiku_handle *session);
 

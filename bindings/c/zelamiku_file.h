@@ -189,20 +189,18 @@ ZELAMIKU_MUST_USE static inline zelamiku_status zelamiku_open_file_telling(zelam
     return zelamiku_file_open(heap, descriptor, told, dropped, count, zelamiku_open_telling);
 }
 
-/* zelamiku_upgrade as such an opening, which tells `found` alone. */
-static inline zelamiku_status zelamiku_file_upgrading(zelamiku_handle *heap, const uint8_t *image, size_t size, zelamiku_told *told,
-                                                      zelamiku_dropped *dropped, size_t count) {
-    (void)dropped;
-    (void)count;
-    return zelamiku_upgrade(heap, image, size, &told->found);
+/* The same, as zelamiku_upgrade_telling does: the file's image has version 2 once zelamiku_make_calls has made the calls that are left to
+ * it. */
+ZELAMIKU_MUST_USE static inline zelamiku_status zelamiku_upgrade_file_telling(zelamiku_handle *heap, int descriptor, zelamiku_told *told,
+                                                                              zelamiku_dropped *dropped, size_t count) {
+    return zelamiku_file_open(heap, descriptor, told, dropped, count, zelamiku_upgrade_telling);
 }
 
-/* The same, as zelamiku_upgrade does: the file's image has version 2 once zelamiku_make_calls has made the calls that are left to it.
- * `found` alone is told. */
+/* The same: `found` alone is told. */
 ZELAMIKU_MUST_USE static inline zelamiku_status zelamiku_upgrade_file(zelamiku_handle *heap, int descriptor, zelamiku_found *found) {
     zelamiku_told told;
     zelamiku_dropped none = {0, 0, 0, 0, 0};
-    zelamiku_status status = zelamiku_file_open(heap, descriptor, &told, &none, 0, zelamiku_file_upgrading);
+    zelamiku_status status = zelamiku_upgrade_file_telling(heap, descriptor, &told, &none, 0);
     *found = told.found;
     return status;
 }

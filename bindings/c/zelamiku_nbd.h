@@ -320,7 +320,7 @@ ZELAMIKU_MUST_USE static inline zelamiku_status zelamiku_open_nbd(zelamiku_handl
 ZELAMIKU_MUST_USE static inline zelamiku_status zelamiku_upgrade_nbd(zelamiku_handle *heap, zelamiku_nbd *host, zelamiku_found *found) {
     zelamiku_told told;
     zelamiku_dropped none = {0, 0, 0, 0, 0};
-    zelamiku_status status = zelamiku_nbd_open(heap, host, &told, &none, 0, zelamiku_file_upgrading);
+    zelamiku_status status = zelamiku_nbd_open(heap, host, &told, &none, 0, zelamiku_upgrade_telling);
     *found = told.found;
     return status;
 }

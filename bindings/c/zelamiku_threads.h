@@ -54,7 +54,6 @@ enum {
 /* What others tell the thread that has a lane, and what it keeps of itself. The words that say "atomic" are read and written by __atomic
  * builtins, those that say "mutex" under that of the heap, and the others by the thread that has the lane. */
 typedef struct {
-    zelamiku_handle session;
     pthread_mutex_t mutex; /* of the bell, on which this thread sleeps alone, so that a wake wakes one */
     pthread_cond_t bell;
     bool is_rung;
@@ -63,14 +62,15 @@ typedef struct {
     uint64_t turn;         /* mutex: who waits for it longest has the least */
     uint32_t awaits;       /* atomic: it sleeps until `ended` sections are acknowledged */
     uint32_t is_behind;    /* atomic: it sleeps until a round has ended */
-    uint32_t is_busy;      /* atomic: a section is open, or it waits */
+    uint64_t acknowledged; /* atomic: how many sections of the lane are durable */
+    char apart[64];        /* what others write lies on other cache lines than what follows */
+    zelamiku_handle session;
     uint64_t ended;        /* atomic: how many sections the lane has ended */
-    uint64_t acknowledged; /* atomic: how many of them are durable */
-    uint32_t records;      /* about how many it has sent since it last asked for a round */
-    uint32_t held_count;
-    struct {
-        uint32_t object, locks;
-    } held[ZELAMIKU_MOST_HELD];
+    uint64_t records;      /* about how many it has sent since it last asked for a round */
+    uint32_t is_busy;      /* atomic: a section is open, or it waits */
+    uint32_t lane;
+    uint32_t locks;        /* by how many monitors are held, all together: the library counts each one's */
+    char apart_too[64];
 } zelamiku_seat;
 
 /* Makes the calls of the device that are left, as zelamiku_make_calls does on a file, and with its answers. */
@@ -86,14 +86,16 @@ typedef struct {
     pthread_mutex_t mutex;
     pthread_cond_t bell; /* the helper's */
     pthread_cond_t told; /* of whom stops */
+    char apart[64];      /* each call looks at what stands next, which is seldom written */
     uint32_t over;       /* atomic: the status that all calls answer; 0 while the heap goes on */
     uint32_t has_work;   /* atomic: a section has ended since the last round began */
+    uint32_t waiting[ZELAMIKU_THREADS_BUCKETS]; /* atomic: how many wait for monitors, by the object modulo the buckets */
+    char apart_too[64];
     uint32_t awaiting;   /* atomic: how many threads wait for a round */
     uint64_t rounds;     /* atomic: how many have ended */
     uint64_t troubles;   /* atomic: of how many a write has failed */
     int error;           /* atomic: the errno of the last of these */
-    uint32_t waiting[ZELAMIKU_THREADS_BUCKETS]; /* atomic: how many wait for monitors, by the object modulo the buckets */
-    uint64_t turns;                             /* mutex: how many turns were given */
+    uint64_t turns;      /* mutex: how many turns were given */
     bool is_urgent, is_ending, is_troubled, is_asleep; /* mutex: of the helper */
     zelamiku_seat seats[ZELAMIKU_MOST_LANES];
 } zelamiku_threads;
@@ -101,24 +103,34 @@ typedef struct {
 /* One thread's use of the heap: a lane of it. */
 typedef struct {
     zelamiku_threads *all;
-    uint32_t lane;
+    zelamiku_seat *seat;
     uint64_t before; /* the sections that the lane had ended when it was handed out */
 } zelamiku_thread;
 
 /* ---- what the calls below are made of ---- */
 
-static inline zelamiku_seat *zelamiku_seat_of(const zelamiku_thread *thread) {
-    return &thread->all->seats[thread->lane];
-}
+/* What is seldom done stands apart from what each section does, which the compiler writes out where it is called. */
+#if defined(__GNUC__)
+#define ZELAMIKU_SELDOM __attribute__((noinline, cold, unused)) static
+#define ZELAMIKU_IS_SELDOM(is_so) __builtin_expect((is_so), 0)
+#else
+#define ZELAMIKU_SELDOM static inline
+#define ZELAMIKU_IS_SELDOM(is_so) (is_so)
+#endif
 
-/* The status with which the heap has ended, 0 where it goes on. While a stop looks, the answer is awaited. */
-static inline zelamiku_status zelamiku_threads_over(zelamiku_threads *all) {
-    uint32_t over = __atomic_load_n(&all->over, __ATOMIC_SEQ_CST);
+/* The status with which the heap has ended. While a stop looks, the answer is awaited. */
+ZELAMIKU_SELDOM zelamiku_status zelamiku_threads_ended(zelamiku_threads *all, uint32_t over) {
     if (over != ZELAMIKU_THREADS_CLOSING) return (zelamiku_status)over;
     pthread_mutex_lock(&all->mutex);
     over = __atomic_load_n(&all->over, __ATOMIC_SEQ_CST);
     pthread_mutex_unlock(&all->mutex);
     return (zelamiku_status)over;
+}
+
+/* The same, 0 where it goes on. */
+static inline zelamiku_status zelamiku_threads_over(zelamiku_threads *all) {
+    uint32_t over = __atomic_load_n(&all->over, __ATOMIC_SEQ_CST);
+    return ZELAMIKU_IS_SELDOM(over != 0) ? zelamiku_threads_ended(all, over) : ZELAMIKU_OK;
 }
 
 /* Sleeps until somebody rings, or has since the last sleep; whether that was before the deadline, where there is one. It may have been for
@@ -147,7 +159,7 @@ static inline void zelamiku_seat_ring(zelamiku_seat *seat) {
 }
 
 /* Tells the helper, of work, or that somebody waits for a round. */
-static inline void zelamiku_threads_call(zelamiku_threads *all, bool is_urgent) {
+ZELAMIKU_SELDOM void zelamiku_threads_call(zelamiku_threads *all, bool is_urgent) {
     pthread_mutex_lock(&all->mutex);
     all->is_urgent |= is_urgent;
     if (all->is_asleep) pthread_cond_signal(&all->bell);
@@ -156,7 +168,7 @@ static inline void zelamiku_threads_call(zelamiku_threads *all, bool is_urgent) 
 
 /* Wakes the one that waits longest for the object's monitor. It stays where it waits until it has the monitor, so it may be woken twice,
  * and another one not at all: whoever has the monitor then wakes it. */
-static inline void zelamiku_threads_wake(zelamiku_threads *all, uint32_t object) {
+ZELAMIKU_SELDOM void zelamiku_threads_wake(zelamiku_threads *all, uint32_t object) {
     zelamiku_seat *first = NULL;
     pthread_mutex_lock(&all->mutex);
     for (uint32_t lane = 0; lane < all->lanes; lane++) {
@@ -168,7 +180,7 @@ static inline void zelamiku_threads_wake(zelamiku_threads *all, uint32_t object)
 }
 
 /* The lane waits for the object's monitor from now on; whether it didn't before. A try comes after it, so that whoever frees the monitor
- * behind that try finds the lane here. */
+ * behind that try finds the lane here: the count and each step of the library on a monitor are sequentially consistent. */
 static inline bool zelamiku_threads_want(zelamiku_threads *all, zelamiku_seat *seat, uint32_t object) {
     pthread_mutex_lock(&all->mutex);
     bool is_new = seat->wanted == 0;
@@ -178,7 +190,6 @@ static inline bool zelamiku_threads_want(zelamiku_threads *all, zelamiku_seat *s
         __atomic_add_fetch(&all->waiting[object % ZELAMIKU_THREADS_BUCKETS], 1, __ATOMIC_SEQ_CST);
     }
     pthread_mutex_unlock(&all->mutex);
-    __atomic_thread_fence(__ATOMIC_SEQ_CST);
     return is_new;
 }
 
@@ -192,19 +203,39 @@ static inline void zelamiku_threads_want_no_more(zelamiku_threads *all, zelamiku
     if (wanted != 0 && !has_taken) zelamiku_threads_wake(all, wanted - 1);
 }
 
-/* A monitor was freed, and with it a section may have ended, after which the thread has nothing open unless it waits. The fence orders
- * these before the looks at who waits for the monitor and at whether the helper knows of work. */
-static inline void zelamiku_threads_freed(zelamiku_threads *all, zelamiku_seat *seat, uint32_t object, bool waits) {
-    bool has_ended = seat->held_count == 0;
-    if (has_ended) __atomic_store_n(&seat->ended, seat->ended + 1, __ATOMIC_SEQ_CST);
-    bool is_urgent = has_ended && seat->records >= ZELAMIKU_THREADS_RECORDS;
+/* By how many locks the lane holds the monitor. */
+static inline uint32_t zelamiku_seat_locks(zelamiku_seat *seat, uint32_t object) {
+    zelamiku_sight sight = {ZELAMIKU_NOBODY, 0, 0};
+    bool is_ours = zelamiku_look(&seat->session, object, &sight) == ZELAMIKU_OK && sight.owner == seat->lane;
+    return is_ours ? sight.locks : 0;
+}
+
+/* Somebody waits for a monitor of which a lock was given back: wakes the first, unless another lock of it is left. */
+ZELAMIKU_SELDOM void zelamiku_threads_hand_on(zelamiku_threads *all, zelamiku_seat *seat, uint32_t object) {
+    if (seat->locks == 0 || zelamiku_seat_locks(seat, object) == 0) zelamiku_threads_wake(all, object);
+}
+
+/* A section has ended that the helper may not know of. */
+ZELAMIKU_SELDOM void zelamiku_threads_tell_of_work(zelamiku_threads *all, zelamiku_seat *seat) {
+    bool is_urgent = seat->records >= ZELAMIKU_THREADS_RECORDS;
     if (is_urgent) seat->records = 0;
-    __atomic_thread_fence(__ATOMIC_SEQ_CST);
-    if (__atomic_load_n(&all->waiting[object % ZELAMIKU_THREADS_BUCKETS], __ATOMIC_RELAXED) > 0) zelamiku_threads_wake(all, object);
-    if (is_urgent || (has_ended && __atomic_load_n(&all->has_work, __ATOMIC_RELAXED) == 0 &&
-                      __atomic_exchange_n(&all->has_work, 1, __ATOMIC_SEQ_CST) == 0))
-        zelamiku_threads_call(all, is_urgent);
-    if (has_ended && !waits) __atomic_store_n(&seat->is_busy, 0, __ATOMIC_SEQ_CST);
+    if (is_urgent || __atomic_exchange_n(&all->has_work, 1, __ATOMIC_SEQ_CST) == 0) zelamiku_threads_call(all, is_urgent);
+}
+
+/* Locks of a monitor were given back. With the last lock of all a section has ended, after which the thread has nothing open unless it
+ * waits. What is looked at here, and what is written before, is sequentially consistent, as the library's step that has freed the monitor
+ * is. So one that waits for the monitor was put down before, or finds it free; and the helper learns of the section by the count, which it
+ * reads when it takes all work to be known, or by the word. */
+static inline void zelamiku_threads_freed(zelamiku_threads *all, zelamiku_seat *seat, uint32_t object, bool waits) {
+    seat->records += 2; /* it was taken before */
+    if (seat->locks == 0) {
+        __atomic_store_n(&seat->ended, seat->ended + 1, __ATOMIC_SEQ_CST);
+        if (ZELAMIKU_IS_SELDOM(__atomic_load_n(&all->has_work, __ATOMIC_SEQ_CST) == 0 || seat->records >= ZELAMIKU_THREADS_RECORDS))
+            zelamiku_threads_tell_of_work(all, seat);
+        if (!waits) __atomic_store_n(&seat->is_busy, 0, __ATOMIC_RELEASE);
+    }
+    if (ZELAMIKU_IS_SELDOM(__atomic_load_n(&all->waiting[object % ZELAMIKU_THREADS_BUCKETS], __ATOMIC_SEQ_CST) > 0))
+        zelamiku_threads_hand_on(all, seat, object);
 }
 
 /* DEVICE, and the cause in errno, where a write has failed since there were so many troubles. */
@@ -237,8 +268,9 @@ static inline zelamiku_status zelamiku_threads_sleep(zelamiku_threads *all, zela
 /* Makes the calls that a failed write left, a round, and its calls. */
 static inline zelamiku_status zelamiku_threads_round(zelamiku_threads *all) {
     uint64_t count = 0;
+    /* No section that has ended before is unknown to this round: one of whose end nothing is learned here finds the word 0, and tells. */
     __atomic_store_n(&all->has_work, 0, __ATOMIC_SEQ_CST);
-    __atomic_thread_fence(__ATOMIC_SEQ_CST);
+    for (uint32_t lane = 0; lane < all->lanes; lane++) (void)__atomic_load_n(&all->seats[lane].ended, __ATOMIC_SEQ_CST);
     zelamiku_status status = all->make_calls(&all->heap, all->device, &count);
     if (status == ZELAMIKU_OK) status = zelamiku_round(&all->heap, &count);
     if (status == ZELAMIKU_OK) status = all->make_calls(&all->heap, all->device, &count);
@@ -370,6 +402,7 @@ ZELAMIKU_MUST_USE static inline zelamiku_status zelamiku_threads_start_over(zela
     ZELAMIKU_IS_ATOMIC(all->waiting);
     for (uint32_t lane = 0; lane < all->lanes; lane++) {
         zelamiku_seat *seat = &all->seats[lane];
+        seat->lane = lane;
         (void)pthread_mutex_init(&seat->mutex, NULL);
         (void)pthread_cond_init(&seat->bell, &monotonic);
         ZELAMIKU_IS_ATOMIC(seat->awaits);
@@ -465,7 +498,7 @@ ZELAMIKU_MUST_USE static inline zelamiku_status zelamiku_thread_begin(zelamiku_t
         if (seat->is_lent) continue;
         seat->is_lent = true;
         thread->all = all;
-        thread->lane = lane;
+        thread->seat = seat;
         thread->before = __atomic_load_n(&seat->ended, __ATOMIC_SEQ_CST);
         status = ZELAMIKU_OK;
     }
@@ -476,10 +509,10 @@ ZELAMIKU_MUST_USE static inline zelamiku_status zelamiku_thread_begin(zelamiku_t
 /* Gives the lane back, which may be handed out again. UNFINISHED: it holds a monitor: nothing was done. */
 ZELAMIKU_MUST_USE static inline zelamiku_status zelamiku_thread_end(zelamiku_thread *thread) {
     zelamiku_threads *all = thread->all;
-    zelamiku_seat *seat = zelamiku_seat_of(thread);
+    zelamiku_seat *seat = thread->seat;
     zelamiku_status over = zelamiku_threads_over(all);
     if (over != ZELAMIKU_OK) return over;
-    if (seat->held_count > 0) return ZELAMIKU_UNFINISHED;
+    if (seat->locks > 0) return ZELAMIKU_UNFINISHED;
     pthread_mutex_lock(&all->mutex);
     seat->is_lent = false;
     pthread_mutex_unlock(&all->mutex);
@@ -493,7 +526,7 @@ static inline zelamiku_status zelamiku_thread_told(zelamiku_status status) {
 }
 
 /* Sleeps until the monitor can be taken. */
-static inline zelamiku_status zelamiku_thread_enter_slowly(zelamiku_threads *all, zelamiku_seat *seat, uint32_t object) {
+static inline zelamiku_status zelamiku_thread_enter_asleep(zelamiku_threads *all, zelamiku_seat *seat, uint32_t object) {
     unsigned demands = 0;
     zelamiku_status status;
     for (;;) {
@@ -514,6 +547,17 @@ static inline zelamiku_status zelamiku_thread_enter_slowly(zelamiku_threads *all
     return status;
 }
 
+/* The first try, or the look before it, has answered this. */
+ZELAMIKU_SELDOM zelamiku_status zelamiku_thread_enter_slowly(zelamiku_threads *all, zelamiku_seat *seat, uint32_t object,
+                                                             zelamiku_status status) {
+    for (unsigned tries = 1; status == ZELAMIKU_HELD && tries < ZELAMIKU_THREADS_TRIES; tries++)
+        status = zelamiku_try_enter(&seat->session, object);
+    status = zelamiku_thread_told(status);
+    if (status == ZELAMIKU_HELD || status == ZELAMIKU_BEHIND) status = zelamiku_thread_enter_asleep(all, seat, object);
+    if (status != ZELAMIKU_OK && seat->locks == 0) __atomic_store_n(&seat->is_busy, 0, __ATOMIC_SEQ_CST);
+    return status;
+}
+
 /* Takes the object's monitor, or one lock more of it, and sleeps while another thread has it or the lane has no room before a round.
  * Threads that sleep for one monitor get it in the order in which they came; one that comes while it is free takes it before them. Take
  * monitors in one order everywhere: two threads that wait for each other's wait for ever.
@@ -521,51 +565,28 @@ static inline zelamiku_status zelamiku_thread_enter_slowly(zelamiku_threads *all
  * stays as it was. */
 ZELAMIKU_MUST_USE static inline zelamiku_status zelamiku_thread_enter(zelamiku_thread *thread, uint32_t object) {
     zelamiku_threads *all = thread->all;
-    zelamiku_seat *seat = zelamiku_seat_of(thread);
-    bool begins = seat->held_count == 0;
-    if (begins) __atomic_store_n(&seat->is_busy, 1, __ATOMIC_SEQ_CST);
+    zelamiku_seat *seat = thread->seat;
+    /* Before the look at whether the heap has ended: a stop sees it, or is seen. */
+    if (seat->locks == 0) __atomic_store_n(&seat->is_busy, 1, __ATOMIC_SEQ_CST);
     zelamiku_status status = zelamiku_threads_over(all);
-    bool goes_on = status == ZELAMIKU_OK;
-    for (unsigned tries = 0; goes_on && tries < ZELAMIKU_THREADS_TRIES; tries++) {
-        status = zelamiku_thread_told(zelamiku_try_enter(&seat->session, object));
-        if (status != ZELAMIKU_HELD) break;
+    if (status == ZELAMIKU_OK) status = zelamiku_try_enter(&seat->session, object);
+    if (ZELAMIKU_IS_SELDOM(status != ZELAMIKU_OK)) {
+        status = zelamiku_thread_enter_slowly(all, seat, object, status);
+        if (status != ZELAMIKU_OK) return status;
     }
-    if (goes_on && (status == ZELAMIKU_HELD || status == ZELAMIKU_BEHIND)) status = zelamiku_thread_enter_slowly(all, seat, object);
-    if (status != ZELAMIKU_OK) {
-        if (begins) __atomic_store_n(&seat->is_busy, 0, __ATOMIC_SEQ_CST);
-        return status;
-    }
-    uint32_t place = 0;
-    while (place < seat->held_count && seat->held[place].object != object) place++;
-    if (place == seat->held_count) {
-        seat->held[place].object = object;
-        seat->held[place].locks = 0;
-        seat->held_count++;
-        seat->records++;
-    }
-    seat->held[place].locks++;
+    seat->locks++;
     return ZELAMIKU_OK;
-}
-
-/* The lane has freed the monitor, by all its locks. */
-static inline void zelamiku_thread_forget(zelamiku_seat *seat, uint32_t place) {
-    seat->held[place] = seat->held[--seat->held_count];
-    seat->records++;
 }
 
 /* Gives one lock back, and with the last one the monitor. With the last monitor the section ends.
  * UNKNOWN_OBJECT, NOT_HELD: nothing was done. */
 ZELAMIKU_MUST_USE static inline zelamiku_status zelamiku_thread_exit(zelamiku_thread *thread, uint32_t object) {
     zelamiku_threads *all = thread->all;
-    zelamiku_seat *seat = zelamiku_seat_of(thread);
+    zelamiku_seat *seat = thread->seat;
     zelamiku_status status = zelamiku_exit(&seat->session, object);
     if (status == ZELAMIKU_OK) {
-        uint32_t place = 0;
-        while (seat->held[place].object != object) place++;
-        if (--seat->held[place].locks == 0) {
-            zelamiku_thread_forget(seat, place);
-            zelamiku_threads_freed(all, seat, object, false);
-        }
+        seat->locks--;
+        zelamiku_threads_freed(all, seat, object, false);
     }
     zelamiku_status over = zelamiku_threads_over(all);
     return over != ZELAMIKU_OK ? over : status;
@@ -574,15 +595,16 @@ ZELAMIKU_MUST_USE static inline zelamiku_status zelamiku_thread_exit(zelamiku_th
 /* Loads a field whose guard is held.
  * UNKNOWN_FIELD, NOT_HELD: `value` is 0. */
 ZELAMIKU_MUST_USE static inline zelamiku_status zelamiku_thread_load(zelamiku_thread *thread, uint32_t field, uint64_t *value) {
-    *value = 0;
     zelamiku_status over = zelamiku_threads_over(thread->all);
-    return over != ZELAMIKU_OK ? over : zelamiku_load(&zelamiku_seat_of(thread)->session, field, value);
+    if (over == ZELAMIKU_OK) return zelamiku_load(&thread->seat->session, field, value);
+    *value = 0;
+    return over;
 }
 
 /* Stores a field whose guard is held.
  * UNKNOWN_FIELD, NOT_HELD, SECTION_FULL: nothing was stored. */
 ZELAMIKU_MUST_USE static inline zelamiku_status zelamiku_thread_store(zelamiku_thread *thread, uint32_t field, uint64_t value) {
-    zelamiku_seat *seat = zelamiku_seat_of(thread);
+    zelamiku_seat *seat = thread->seat;
     zelamiku_status over = zelamiku_threads_over(thread->all);
     if (over != ZELAMIKU_OK) return over;
     seat->records++;
@@ -594,16 +616,16 @@ ZELAMIKU_MUST_USE static inline zelamiku_status zelamiku_thread_take(zelamiku_th
     *slot = ZELAMIKU_NO_SLOT;
     zelamiku_status over = zelamiku_threads_over(thread->all);
     if (over != ZELAMIKU_OK) return over;
-    zelamiku_seat_of(thread)->records += 2;
-    return zelamiku_pool_take(&zelamiku_seat_of(thread)->session, head, slots, slot);
+    thread->seat->records += 2;
+    return zelamiku_pool_take(&thread->seat->session, head, slots, slot);
 }
 
 /* Gives a slot back to the pool, as zelamiku_pool_give. */
 ZELAMIKU_MUST_USE static inline zelamiku_status zelamiku_thread_give(zelamiku_thread *thread, uint32_t head, uint32_t slots, uint32_t slot) {
     zelamiku_status over = zelamiku_threads_over(thread->all);
     if (over != ZELAMIKU_OK) return over;
-    zelamiku_seat_of(thread)->records += 2;
-    return zelamiku_pool_give(&zelamiku_seat_of(thread)->session, head, slots, slot);
+    thread->seat->records += 2;
+    return zelamiku_pool_give(&thread->seat->session, head, slots, slot);
 }
 
 /* Sleeps until the session was notified and has taken the monitor again. */
@@ -638,19 +660,15 @@ static inline zelamiku_status zelamiku_thread_begin_wait(zelamiku_threads *all, 
  * UNKNOWN_OBJECT, NOT_HELD, BEHIND, SECTION_FULL, NO_FAT, WORN, DEVICE: the monitor is held as before. */
 ZELAMIKU_MUST_USE static inline zelamiku_status zelamiku_thread_wait(zelamiku_thread *thread, uint32_t object) {
     zelamiku_threads *all = thread->all;
-    zelamiku_seat *seat = zelamiku_seat_of(thread);
+    zelamiku_seat *seat = thread->seat;
+    uint32_t locks = zelamiku_seat_locks(seat, object);
     zelamiku_status status = zelamiku_thread_begin_wait(all, seat, object);
     if (status != ZELAMIKU_OK) return status;
-    uint32_t place = 0;
-    while (seat->held[place].object != object) place++;
-    uint32_t locks = seat->held[place].locks;
-    zelamiku_thread_forget(seat, place);
+    seat->locks -= locks;
     zelamiku_threads_freed(all, seat, object, true);
     status = zelamiku_thread_resume(all, seat, object);
     if (status != ZELAMIKU_OK) return status;
-    seat->held[seat->held_count].object = object;
-    seat->held[seat->held_count++].locks = locks;
-    seat->records++;
+    seat->locks += locks;
     return ZELAMIKU_OK;
 }
 
@@ -667,7 +685,7 @@ ZELAMIKU_MUST_USE static inline zelamiku_status zelamiku_thread_notify(zelamiku_
     uint32_t lane = ZELAMIKU_NOBODY;
     *is_woken = false;
     zelamiku_status status = zelamiku_threads_over(thread->all);
-    if (status == ZELAMIKU_OK) status = zelamiku_notify(&zelamiku_seat_of(thread)->session, object, &lane);
+    if (status == ZELAMIKU_OK) status = zelamiku_notify(&thread->seat->session, object, &lane);
     if (status != ZELAMIKU_OK || lane == ZELAMIKU_NOBODY) return status;
     *is_woken = true;
     zelamiku_thread_put(thread->all, (uint64_t)1 << lane, object);
@@ -679,19 +697,19 @@ ZELAMIKU_MUST_USE static inline zelamiku_status zelamiku_thread_notify(zelamiku_
 ZELAMIKU_MUST_USE static inline zelamiku_status zelamiku_thread_notify_all(zelamiku_thread *thread, uint32_t object) {
     uint64_t lanes = 0;
     zelamiku_status status = zelamiku_threads_over(thread->all);
-    if (status == ZELAMIKU_OK) status = zelamiku_notify_all(&zelamiku_seat_of(thread)->session, object, &lanes);
+    if (status == ZELAMIKU_OK) status = zelamiku_notify_all(&thread->seat->session, object, &lanes);
     zelamiku_thread_put(thread->all, lanes, object);
     return status;
 }
 
 /* How many sections the thread has ended since zelamiku_thread_begin. Any thread may ask, until zelamiku_thread_end. */
 static inline uint64_t zelamiku_thread_sections(const zelamiku_thread *thread) {
-    return __atomic_load_n(&zelamiku_seat_of(thread)->ended, __ATOMIC_SEQ_CST) - thread->before;
+    return __atomic_load_n(&thread->seat->ended, __ATOMIC_SEQ_CST) - thread->before;
 }
 
 /* How many of these are durable, from the first on: no crash loses them. Any thread may ask, until zelamiku_thread_end. */
 static inline uint64_t zelamiku_thread_durable(const zelamiku_thread *thread) {
-    uint64_t acknowledged = __atomic_load_n(&zelamiku_seat_of(thread)->acknowledged, __ATOMIC_SEQ_CST);
+    uint64_t acknowledged = __atomic_load_n(&thread->seat->acknowledged, __ATOMIC_SEQ_CST);
     return acknowledged > thread->before ? acknowledged - thread->before : 0;
 }
 
@@ -702,7 +720,7 @@ static inline uint64_t zelamiku_thread_durable(const zelamiku_thread *thread) {
 ZELAMIKU_MUST_USE static inline zelamiku_status zelamiku_thread_await_until(zelamiku_thread *thread, const struct timespec *deadline,
                                                                             bool *is_durable) {
     zelamiku_threads *all = thread->all;
-    zelamiku_seat *seat = zelamiku_seat_of(thread);
+    zelamiku_seat *seat = thread->seat;
     zelamiku_status status = ZELAMIKU_OK;
     *is_durable = zelamiku_seat_is_durable(seat);
     if (*is_durable) return ZELAMIKU_OK;

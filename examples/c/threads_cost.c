@@ -2,8 +2,14 @@
  *
  *     threads_cost FILE [THREADS [SECONDS]]
  * makes a heap in the file, which it replaces, and prints how many sections so many threads (32) do in a second, over so many seconds (2),
- * and the processor time of a section, of all threads and the helper. */
+ * and the processor time of a section, of all threads and the helper.
+ *
+ *     threads_cost FILE handles | threads GROUPS SECTIONS
+ * lets one thread work, in so many groups of so many sections, that are made durable one after the other: by the bare handles the same
+ * thread makes the round and its calls. Under valgrind --tool=callgrind --toggle-collect='by_handles*', or 'by_threads*', it counts the
+ * instructions of the sections alone. */
 #define _GNU_SOURCE
+#include <sched.h>
 #include <stdatomic.h>
 #include <stdio.h>
 #include <stdlib.h>
@@ -15,17 +21,51 @@ enum { MOST = 32, SHARED = 0 };
 static zelamiku_threads heap;
 static atomic_bool stopping;
 
-static void must(zelamiku_status status, const char *what) {
+static inline void must(zelamiku_status status, const char *what) {
     char text[256];
     if (status == ZELAMIKU_OK) return;
     fprintf(stderr, "%s: %s\n", what, zelamiku_file_text(status, text, sizeof text));
     exit(2);
 }
 
-static void add_one(zelamiku_thread *own, uint32_t field) {
+static inline void add_one(zelamiku_thread *own, uint32_t field) {
     uint64_t value;
     must(zelamiku_thread_load(own, field, &value), "load");
     must(zelamiku_thread_store(own, field, value + 1), "store");
+}
+
+/* A section over zelamiku_threads.h. */
+__attribute__((noinline)) static void by_threads(zelamiku_thread *own, uint32_t object) {
+    must(zelamiku_thread_enter(own, object), "enter");
+    add_one(own, object);
+    must(zelamiku_thread_enter(own, SHARED), "enter");
+    add_one(own, SHARED);
+    must(zelamiku_thread_exit(own, SHARED), "exit");
+    must(zelamiku_thread_exit(own, object), "exit");
+}
+
+/* The header's own loop of one that waits. */
+static inline void enter(zelamiku_handle *session, uint32_t object) {
+    zelamiku_status answer;
+    for (unsigned spins = 0; (answer = zelamiku_try_enter(session, object)) == ZELAMIKU_HELD || answer == ZELAMIKU_BEHIND; spins++)
+        if (spins > 100) sched_yield();
+    must(answer, "enter");
+}
+
+static inline void add_one_barely(zelamiku_handle *session, uint32_t field) {
+    uint64_t value;
+    must(zelamiku_load(session, field, &value), "load");
+    must(zelamiku_store(session, field, value + 1), "store");
+}
+
+/* The same section by the bare handles. */
+__attribute__((noinline)) static void by_handles(zelamiku_handle *session, uint32_t object) {
+    enter(session, object);
+    add_one_barely(session, object);
+    enter(session, SHARED);
+    add_one_barely(session, SHARED);
+    must(zelamiku_exit(session, SHARED), "exit");
+    must(zelamiku_exit(session, object), "exit");
 }
 
 static void *work(void *data) {
@@ -34,12 +74,7 @@ static void *work(void *data) {
     must(zelamiku_thread_begin(&own, &heap), "begin");
     uint64_t count = 0;
     while (!atomic_load(&stopping)) {
-        must(zelamiku_thread_enter(&own, object), "enter");
-        add_one(&own, object);
-        must(zelamiku_thread_enter(&own, SHARED), "enter");
-        add_one(&own, SHARED);
-        must(zelamiku_thread_exit(&own, SHARED), "exit");
-        must(zelamiku_thread_exit(&own, object), "exit");
+        by_threads(&own, object);
         must(zelamiku_thread_await(&own), "await");
         count++;
     }
@@ -57,22 +92,54 @@ static double processor_time(void) {
     return 1e6 * (double)(used.ru_utime.tv_sec + used.ru_stime.tv_sec) + (double)(used.ru_utime.tv_usec + used.ru_stime.tv_usec);
 }
 
-int main(int count, char **words) {
-    if (count < 2) {
-        fprintf(stderr, "threads_cost FILE [THREADS [SECONDS]]\n");
-        return 2;
-    }
-    int threads = count > 2 ? atoi(words[2]) : MOST, seconds = count > 3 ? atoi(words[3]) : 2;
-    if (threads < 1 || threads > MOST || seconds < 1) return 2;
-    int file = open(words[1], O_RDWR | O_CREAT | O_TRUNC, 0644);
+/* A heap of so many lanes in a file that is replaced. */
+static int make(zelamiku_handle *handle, const char *path, uint32_t lanes) {
+    int file = open(path, O_RDWR | O_CREAT | O_TRUNC, 0644);
     zelamiku_field fields[MOST + 1];
-    uint32_t objects[MOST + 1];
-    for (uint32_t i = 0; i <= MOST; i++) {
-        objects[i] = i;
-        fields[i] = (zelamiku_field){.owner = i, .guard = i};
+    for (uint32_t i = 0; i <= MOST; i++) fields[i] = (zelamiku_field){.owner = i, .guard = i};
+    must(zelamiku_format_file(handle, file, MOST + 1, fields, MOST + 1, lanes, 4096), path);
+    return file;
+}
+
+static int groups_by_handles(const char *path, unsigned groups, unsigned sections) {
+    zelamiku_handle handle = ZELAMIKU_NONE, session = ZELAMIKU_NONE;
+    int file = make(&handle, path, 1);
+    uint64_t count = 0;
+    must(zelamiku_make_calls(&handle, file, &count), "calls");
+    must(zelamiku_session(&handle, &session), "session");
+    for (unsigned group = 1; group <= groups; group++) {
+        for (unsigned i = 0; i < sections; i++) by_handles(&session, 1);
+        must(zelamiku_round(&handle, &count), "round");
+        must(zelamiku_make_calls(&handle, file, &count), "calls");
+        must(zelamiku_acknowledged(&handle, 0, &count), "acknowledged");
+        if (count != (uint64_t)group * sections) return 2;
     }
+    zelamiku_free(&session);
+    zelamiku_free(&handle);
+    return close(file);
+}
+
+static int groups_by_threads(const char *path, unsigned groups, unsigned sections) {
     zelamiku_handle handle = ZELAMIKU_NONE;
-    must(zelamiku_format_file(&handle, file, MOST + 1, fields, MOST + 1, (uint32_t)threads, 4096), words[1]);
+    zelamiku_thread own;
+    int file = make(&handle, path, 1);
+    /* No round but those that are waited for. */
+    must(zelamiku_threads_start(&heap, &handle, file, UINT32_MAX), "start");
+    must(zelamiku_thread_begin(&own, &heap), "begin");
+    for (unsigned group = 1; group <= groups; group++) {
+        for (unsigned i = 0; i < sections; i++) by_threads(&own, 1);
+        must(zelamiku_thread_await(&own), "await");
+    }
+    must(zelamiku_thread_end(&own), "end");
+    must(zelamiku_threads_stop(&heap), "stop");
+    return close(file);
+}
+
+static int rate(const char *path, int threads, int seconds) {
+    uint32_t objects[MOST + 1];
+    for (uint32_t i = 0; i <= MOST; i++) objects[i] = i;
+    zelamiku_handle handle = ZELAMIKU_NONE;
+    int file = make(&handle, path, (uint32_t)threads);
     must(zelamiku_threads_start(&heap, &handle, file, 5000), "start");
     pthread_t workers[MOST];
     double before = processor_time();
@@ -92,4 +159,18 @@ int main(int count, char **words) {
            (double)sections / seconds, time / (double)sections);
     must(zelamiku_threads_stop(&heap), "stop");
     return close(file);
+}
+
+int main(int count, char **words) {
+    if (count < 2) {
+        fprintf(stderr, "threads_cost FILE [THREADS [SECONDS]], or threads_cost FILE handles | threads GROUPS SECTIONS\n");
+        return 2;
+    }
+    if (count == 5) {
+        unsigned groups = (unsigned)atoi(words[3]), sections = (unsigned)atoi(words[4]);
+        return strcmp(words[2], "handles") == 0 ? groups_by_handles(words[1], groups, sections) : groups_by_threads(words[1], groups, sections);
+    }
+    int threads = count > 2 ? atoi(words[2]) : MOST, seconds = count > 3 ? atoi(words[3]) : 2;
+    if (threads < 1 || threads > MOST || seconds < 1) return 2;
+    return rate(words[1], threads, seconds);
 }

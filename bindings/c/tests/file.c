@@ -195,9 +195,37 @@ static void old(void) {
     zelamiku_free(&heap);
     MUST(found() == 7);
     /* One of version 2 is opened. */
-    MUST(zelamiku_upgrade_file(&heap, file, &what) == ZELAMIKU_OK && zelamiku_make_calls(&heap, file, &made) == ZELAMIKU_OK);
+    zelamiku_told told;
+    zelamiku_dropped dropped[1];
+    MUST(zelamiku_upgrade_file_telling(&heap, file, &told, dropped, 1) == ZELAMIKU_OK && told.found.lanes == 2 && told.found.dropped == 0);
+    MUST(dropped[0].why == ZELAMIKU_NOT_DROPPED && zelamiku_make_calls(&heap, file, &made) == ZELAMIKU_OK);
     MUST(load(&heap) == 7);
     zelamiku_free(&heap);
+}
+
+/* A lane is handed out again once its session has ended, and held no monitor then. */
+static void lanes(void) {
+    zelamiku_handle heap = ZELAMIKU_NONE, first = ZELAMIKU_NONE, second = ZELAMIKU_NONE, third = ZELAMIKU_NONE;
+    uint32_t lane = 7;
+    uint64_t sections = 7, made = 0;
+    make_heap(&heap);
+    MUST(zelamiku_lane(&first, &lane, &sections) == ZELAMIKU_NOTHING && lane == ZELAMIKU_NOBODY && sections == 0);
+    MUST(zelamiku_lane(&heap, &lane, &sections) == ZELAMIKU_WRONG_KIND && lane == ZELAMIKU_NOBODY && sections == 0);
+    MUST(zelamiku_session(&heap, &first) == ZELAMIKU_OK && zelamiku_session(&heap, &second) == ZELAMIKU_OK);
+    for (uint64_t i = 0; i < 20; i++) {
+        MUST(zelamiku_session(&heap, &third) == ZELAMIKU_NONE_LEFT && !third.is_open);
+        MUST(zelamiku_lane(&first, &lane, &sections) == ZELAMIKU_OK && lane == 0 && sections == i);
+        MUST(zelamiku_try_enter(&first, 0) == ZELAMIKU_OK && zelamiku_store(&first, 0, i) == ZELAMIKU_OK);
+        MUST(zelamiku_exit(&first, 0) == ZELAMIKU_OK && zelamiku_end(&first) == ZELAMIKU_OK);
+        MUST(zelamiku_session(&heap, &first) == ZELAMIKU_OK);
+    }
+    MUST(zelamiku_try_enter(&second, 0) == ZELAMIKU_OK && zelamiku_end(&second) == ZELAMIKU_OK);
+    MUST(zelamiku_session(&heap, &second) == ZELAMIKU_NONE_LEFT);
+    MUST(zelamiku_round(&heap, &made) == ZELAMIKU_OK && zelamiku_make_calls(&heap, file, &made) == ZELAMIKU_OK);
+    MUST(zelamiku_acknowledged(&heap, 0, &sections) == ZELAMIKU_OK && sections == 20);
+    zelamiku_free(&first);
+    zelamiku_free(&heap);
+    MUST(found() == 19);
 }
 
 /* What is no heap, and a heap that isn't made, leave the file as it was. */
@@ -419,6 +447,7 @@ int main(int argc, char **argv) {
     MUST(file >= 0);
     life();
     old();
+    lanes();
     refusals();
     others();
     sizes();

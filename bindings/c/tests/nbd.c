@@ -431,9 +431,9 @@ static void patience(void) {
     make_heap(&heap, &host);
     end(&heap, &host);
     more[0] = "--filter=delay";
-    more[1] = "delay-write=1500ms";
+    more[1] = "delay-write=3000ms";
     zelamiku_found what = {0};
-    MUST(zelamiku_begin_nbd(&host, connected(), 0, 100) == ZELAMIKU_OK);
+    MUST(zelamiku_begin_nbd(&host, connected(), 0, 800) == ZELAMIKU_OK);
     MUST(zelamiku_open_nbd(&heap, &host, &what) == ZELAMIKU_OK);
     MUST(zelamiku_make_calls_nbd(&heap, &host, &made) == ZELAMIKU_LOST && errno == ETIMEDOUT && host.nbd == NULL);
     end(&heap, &host);

@@ -131,23 +131,22 @@ impl Heap {
     /// The same as [`upgrade`](Heap::upgrade) does: the file's image has version 2 once [`make_calls`](Heap::make_calls) has made the calls
     /// that are left to it.
     pub fn upgrade_file(file: &File) -> Result<(Heap, Found), FileError> {
-        Heap::of_file(file, Heap::upgrade, |refusal| *refusal == Refusal::TooSmall)
+        let (heap, report) = Heap::upgrade_file_telling(file)?;
+        Ok((heap, report.found))
+    }
+
+    /// The same, and tells what [`open_file_telling`](Heap::open_file_telling) tells.
+    pub fn upgrade_file_telling(file: &File) -> Result<(Heap, Report), FileError> {
+        Heap::of_file(file, Heap::upgrade_telling)
     }
 
     /// Opens the heap of a file as [`open_file`](Heap::open_file) does, and tells which sections recovery kept and dropped, and why.
     pub fn open_file_telling(file: &File) -> Result<(Heap, Report), FileError> {
-        Heap::of_file(file, Heap::open_telling, |it| it.refusal == Refusal::TooSmall)
+        Heap::of_file(file, Heap::open_telling)
     }
 
     // Locks a file, syncs it, and opens the heap of its bytes so.
-    fn of_file<T, E>(
-        file: &File,
-        open: fn(&[u8]) -> Result<T, E>,
-        is_too_small: fn(&E) -> bool,
-    ) -> Result<T, FileError>
-    where
-        FileError: From<E>,
-    {
+    fn of_file(file: &File, open: fn(&[u8]) -> Result<(Heap, Report), NotOpened>) -> Result<(Heap, Report), FileError> {
         lock(file)?;
         // What a process before this one wrote may be in the system's cache alone.
         file.sync_all()?;
@@ -155,7 +154,7 @@ impl Heap {
         let header = first_bytes(file, size.min(HEADER_BYTES))?;
         // No image is so small: of an image's header alone it is told, and what isn't one is refused by it.
         match open(&header) {
-            Err(refusal) if is_too_small(&refusal) => {}
+            Err(why) if why.refusal == Refusal::TooSmall => {}
             other => return Ok(other?),
         }
         let image = first_bytes(file, image_size(&header, size))?;

@@ -84,6 +84,16 @@ pub struct Sight {
     pub number: u64,
 }
 
+impl From<raw::Sight> for Sight {
+    fn from(sight: raw::Sight) -> Sight {
+        Sight {
+            owner: lane(sight.owner),
+            locks: sight.locks,
+            number: sight.number,
+        }
+    }
+}
+
 // The lane of this number, or none where it is `ZELAMIKU_NOBODY`.
 fn lane(number: u32) -> Option<u32> {
     (number < raw::NOBODY).then_some(number)
@@ -243,7 +253,14 @@ impl Heap {
         Ok((Heap::of(handle), report))
     }
 
-    /// Hands out the session of the next lane, from 0 on; [`Refusal::NoneLeft`] once all were.
+    /// Recovers the heap of these bytes as [`upgrade`](Heap::upgrade) does, and tells what [`open_telling`](Heap::open_telling) tells.
+    pub fn upgrade_telling(image: &[u8]) -> Result<(Heap, Report), NotOpened> {
+        let (handle, report) = report::upgrade(image)?;
+        Ok((Heap::of(handle), report))
+    }
+
+    /// Hands out the session of the next lane, from 0 on; once each was, that of a lane whose session has [ended](Session::end) and held
+    /// no monitor then, whichever it is. [`Refusal::NoneLeft`] where each lane has a session.
     pub fn session(&mut self) -> Result<Session, Refusal> {
         let mut handle = Owned::none();
         answer(self.hosted.handle.session(&mut handle))?;
@@ -383,11 +400,7 @@ impl Session {
     pub fn look(&mut self, object: u32) -> Result<Sight, Refusal> {
         let mut sight = raw::Sight::default();
         answer(self.handle.look(object, &mut sight))?;
-        Ok(Sight {
-            owner: lane(sight.owner),
-            locks: sight.locks,
-            number: sight.number,
-        })
+        Ok(Sight::from(sight))
     }
 
     /// How many sections of the lane the last round acknowledged. They are durable once that round's calls are made.
@@ -395,6 +408,14 @@ impl Session {
         let mut sections = 0;
         answer(self.handle.round_sections(&mut sections))?;
         Ok(sections)
+    }
+
+    /// Its lane, and how many sections of it have ended since the heap was opened, also those of the sessions that had the lane before.
+    /// What the session has done by then is durable once [`Heap::acknowledged`] tells as many of that lane.
+    pub fn lane(&mut self) -> Result<(u32, u64), Refusal> {
+        let (mut lane, mut sections) = (raw::NOBODY, 0);
+        answer(self.handle.lane(&mut lane, &mut sections))?;
+        Ok((lane, sections))
     }
 
     /// Takes a slot of the pool, whose object's monitor is held: two records of the section.
@@ -413,7 +434,8 @@ impl Session {
         answer(self.handle.pool_give(pool.head, pool.slots, slot))
     }
 
-    /// Ends the session. Exit all monitors first: else its heap can't be closed. One that is dropped doesn't end.
+    /// Ends the session, whose lane may be handed out again then. Exit all monitors first: else it isn't, and its heap can't be closed.
+    /// One that is dropped doesn't end.
     pub fn end(mut self) -> Result<(), Refusal> {
         answer(self.handle.end())
     }

@@ -1,6 +1,10 @@
 //! The functions of `zelamiku.h`, and calls of them that keep the header's rules: all that is unsafe is here.
 use std::ffi::c_void;
 
+/// Of the statuses, which are named in `Refusal`: the call was made; and nothing is behind the handle.
+pub const OK: u32 = 0;
+pub const NOTHING: u32 = 1;
+
 pub const NO_CALL: u32 = 0;
 pub const WRITE: u32 = 1;
 /// No call writes more bytes than this.
@@ -128,6 +132,14 @@ extern "C" {
         dropped: *mut Dropped,
         count: usize,
     ) -> u32;
+    fn zelamiku_upgrade_telling(
+        heap: *mut Handle,
+        image: *const u8,
+        size: usize,
+        told: *mut Told,
+        dropped: *mut Dropped,
+        count: usize,
+    ) -> u32;
     fn zelamiku_session(heap: *mut Handle, session: *mut Handle) -> u32;
     fn zelamiku_next_call(heap: *mut Handle, call: *mut Call, bytes: *mut u8, size: usize) -> u32;
     fn zelamiku_call_done(heap: *mut Handle) -> u32;
@@ -146,6 +158,7 @@ extern "C" {
     fn zelamiku_notify_all(session: *mut Handle, object: u32, lanes: *mut u64) -> u32;
     fn zelamiku_look(session: *mut Handle, object: u32, sight: *mut Sight) -> u32;
     fn zelamiku_round_sections(session: *mut Handle, sections: *mut u64) -> u32;
+    fn zelamiku_lane(session: *mut Handle, lane: *mut u32, sections: *mut u64) -> u32;
     fn zelamiku_pool_fields(object: u32, fields: *mut Field, count: usize) -> u32;
     fn zelamiku_pool_take(session: *mut Handle, head: u32, slots: u32, slot: *mut u32) -> u32;
     fn zelamiku_pool_give(session: *mut Handle, head: u32, slots: u32, slot: u32) -> u32;
@@ -195,6 +208,7 @@ calls! {
     notify_all(object: u32, lanes: &mut u64) = zelamiku_notify_all;
     look(object: u32, sight: &mut Sight) = zelamiku_look;
     round_sections(sections: &mut u64) = zelamiku_round_sections;
+    lane(lane: &mut u32, sections: &mut u64) = zelamiku_lane;
     pool_take(head: u32, slots: u32, slot: &mut u32) = zelamiku_pool_take;
     pool_give(head: u32, slots: u32, slot: u32) = zelamiku_pool_give;
     end() = zelamiku_end;
@@ -220,6 +234,11 @@ impl Owned {
     pub fn open_telling(&mut self, image: &[u8], told: &mut Told, dropped: &mut [Dropped]) -> u32 {
         let (at, count) = (dropped.as_mut_ptr(), dropped.len());
         unsafe { zelamiku_open_telling(&mut self.0, image.as_ptr(), image.len(), told, at, count) }
+    }
+
+    pub fn upgrade_telling(&mut self, image: &[u8], told: &mut Told, dropped: &mut [Dropped]) -> u32 {
+        let (at, count) = (dropped.as_mut_ptr(), dropped.len());
+        unsafe { zelamiku_upgrade_telling(&mut self.0, image.as_ptr(), image.len(), told, at, count) }
     }
 
     pub fn session(&mut self, session: &mut Owned) -> u32 {

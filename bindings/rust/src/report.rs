@@ -71,14 +71,25 @@ impl From<&raw::Dropped> for Dropped {
 // Of a process that has died few sections are dropped.
 const FEW: usize = 256;
 
-// Opens the heap of these bytes. Where more sections were dropped than there was room for, it opens it again: nothing was asked of the
-// device by then.
+// Each opens the heap of these bytes. Where more sections were dropped than there was room for, it opens it again: nothing was asked of
+// the device by then.
 pub(crate) fn open(image: &[u8]) -> Result<(Owned, Report), NotOpened> {
+    open_by(image, Owned::open_telling)
+}
+
+pub(crate) fn upgrade(image: &[u8]) -> Result<(Owned, Report), NotOpened> {
+    open_by(image, Owned::upgrade_telling)
+}
+
+fn open_by(
+    image: &[u8],
+    open: fn(&mut Owned, &[u8], &mut raw::Told, &mut [raw::Dropped]) -> u32,
+) -> Result<(Owned, Report), NotOpened> {
     let mut dropped = vec![raw::Dropped::default(); FEW];
     loop {
         let mut handle = Owned::none();
         let mut told = raw::Told::default();
-        let status = handle.open_telling(image, &mut told, &mut dropped);
+        let status = open(&mut handle, image, &mut told, &mut dropped);
         if status != 0 {
             return Err(NotOpened {
                 refusal: Refusal::from(status),

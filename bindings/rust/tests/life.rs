@@ -86,6 +86,33 @@ fn threads_count_and_the_heap_is_closed() {
 }
 
 #[test]
+fn sessions_of_a_lane_come_and_go() {
+    let (mut heap, mut device) = make(2);
+    let mut first = heap.session().unwrap();
+    let mut second = heap.session().unwrap();
+    assert_eq!((first.lane(), second.lane()), (Ok((0, 0)), Ok((1, 0))));
+    for section in 1..=50 {
+        assert_eq!(heap.session().err(), Some(Refusal::NoneLeft));
+        first.enter(0).unwrap();
+        first.store(0, section).unwrap();
+        first.exit(0).unwrap();
+        first.end().unwrap();
+        first = heap.session().unwrap();
+        assert_eq!(first.lane(), Ok((0, section)));
+    }
+    // One that ended while it held a monitor isn't handed out again.
+    second.enter(1).unwrap();
+    second.end().unwrap();
+    assert_eq!(heap.session().err(), Some(Refusal::NoneLeft));
+    heap.round().unwrap();
+    heap.make_calls(&mut device).unwrap();
+    assert_eq!((heap.acknowledged(0), heap.acknowledged(1)), (Ok(50), Ok(0)));
+    drop((heap, first));
+    let (_, found) = Heap::open(&device.0).unwrap();
+    assert_eq!(found.dropped, 1);
+}
+
+#[test]
 fn a_session_waits_and_is_notified() {
     let (mut heap, _device) = make(2);
     let mut first = heap.session().unwrap();

@@ -3,7 +3,7 @@ use super::error::{Error, ErrorKind};
 use super::seat::lock;
 use super::shared::{Order, Shared};
 use crate as handles;
-use crate::{Device, Refusal};
+use crate::{answer, Device, Refusal};
 use std::io;
 use std::sync::atomic::Ordering;
 use std::sync::Arc;
@@ -50,7 +50,8 @@ impl Helper {
                 Order::Close(reply) => match self.prepare_to_close() {
                     Ok(()) => {
                         self.shared.stop(Error::bare(ErrorKind::Closed, &self.shared.path));
-                        let answer = close(self.heap, self.device, &self.shared);
+                        let answer = self.make_late_sections_durable();
+                        let answer = answer.and_then(|()| close(self.heap, self.device, &self.shared));
                         // Whoever asked may be gone.
                         let _ = reply.send(answer);
                         return;
@@ -111,7 +112,9 @@ impl Helper {
     fn tell_acknowledged(&mut self) -> Result<(), Refusal> {
         for (lane, seat) in (0..).zip(self.shared.seats.iter()) {
             let sections = self.heap.acknowledged(lane)?;
-            seat.acknowledged.store(sections, Ordering::SeqCst);
+            if seat.acknowledged.load(Ordering::Relaxed) != sections {
+                seat.acknowledged.store(sections, Ordering::SeqCst);
+            }
             let wanted = seat.wanted.load(Ordering::SeqCst);
             if wanted > 0 && wanted <= sections {
                 seat.ring();
@@ -139,6 +142,18 @@ impl Helper {
         }
         Ok(())
     }
+
+    // A section may have begun and ended since that look, before the heap was stopped: one whose end was told as good is among those that
+    // have ended here. It isn't acknowledged where it depends on one that is cut off by the stop.
+    fn make_late_sections_durable(&mut self) -> Result<(), Error> {
+        if self.shared.has_acknowledged_all() {
+            return Ok(());
+        }
+        match self.round()? {
+            Round::Made if self.shared.has_acknowledged_all() => Ok(()),
+            _ => Err(self.shared.why()),
+        }
+    }
 }
 
 // The library closes a heap all of whose sessions have come back. Without it the heap is let go: nothing is lost by that, since all
@@ -149,7 +164,8 @@ fn close(heap: handles::Heap, mut device: Box<dyn Device + Send>, shared: &Share
         return Ok(());
     }
     for spare in spares {
-        spare.session.end().map_err(|refusal| stopped(shared, refusal))?;
+        let mut handle = spare.handle;
+        answer(handle.end()).map_err(|refusal| stopped(shared, refusal))?;
     }
     let mut closed = heap.close().map_err(|(_, refusal)| stopped(shared, refusal))?;
     if let Err(error) = closed.make_calls(device.as_mut()) {

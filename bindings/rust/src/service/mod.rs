@@ -252,7 +252,7 @@ pub struct Heap {
     shared: Arc<Shared>,
     helper: Mutex<Option<JoinHandle<()>>>,
     report: Option<Report>,
-    most_records: u32,
+    most_records: u64,
 }
 
 impl fmt::Debug for Heap {
@@ -290,7 +290,7 @@ impl Heap {
         }
     }
 
-    // The library hands out the session of each lane once an opening: all of them are taken here, and lent out.
+    // The sessions of all lanes are taken here, and lent out.
     fn start(path: Arc<Path>, opened: Opened, plan: &Plan, linger: Duration) -> Result<Heap, Error> {
         let Opened {
             mut heap,
@@ -306,7 +306,7 @@ impl Heap {
                 .map_err(|refusal| Error::refused(ErrorKind::Opening, &path, refusal))?;
             free.push(Spare {
                 lane,
-                session,
+                handle: session.handle,
                 ended: 0,
             });
         }
@@ -327,7 +327,7 @@ impl Heap {
             shared,
             helper: Mutex::new(Some(thread)),
             report,
-            most_records: capacity.min(RING) / 4,
+            most_records: u64::from(capacity.min(RING) / 4),
         })
     }
 
@@ -409,7 +409,8 @@ impl Heap {
     /// [`ErrorKind::Closed`] from then on.
     ///
     /// [`ErrorKind::Running`] where a section is open, a session waits, or a section that has ended depends on such a one;
-    /// [`ErrorKind::Write`] where a write failed: the heap goes on, and may be closed later. Each final kind.
+    /// [`ErrorKind::Write`] where a write failed: the heap goes on, and may be closed later. Each final kind:
+    /// [`Closed`](ErrorKind::Closed) also where a section that ended meanwhile couldn't be made durable.
     ///
     /// ```
     /// # use zelamiku::service::{ErrorKind, Heap};

@@ -1,14 +1,14 @@
 //! Who waits for which monitor, first come first.
 use super::seat::lock;
 use std::collections::VecDeque;
-use std::sync::atomic::{fence, AtomicU32, Ordering};
+use std::sync::atomic::{AtomicU32, Ordering};
 use std::sync::Mutex;
 
 /// The lanes that wait for monitors. The library's `try_enter` answers `Held` and doesn't wait; here a lane is put down before it tries
 /// for the last time, and whoever frees the monitor afterwards finds it.
 ///
-/// A lane stands in the queue once at most. The fences order a lane that is put down and then tries, and a monitor that is freed and
-/// then looked up here: one of the two sees the other.
+/// A lane stands in the queue once at most. A lane is put down and then tries; a monitor is freed and then looked up here. All four are
+/// sequentially consistent, as each step of the library on a monitor's word is: so one of the two sees the other.
 pub struct Queue {
     waiting: Mutex<VecDeque<(u32, usize)>>,
     // How many wait for each object, so that an exit that nobody waits for takes no mutex.
@@ -23,6 +23,7 @@ impl Queue {
         }
     }
 
+    #[inline]
     fn count(&self, object: u32) -> Option<&AtomicU32> {
         self.counts.get(object as usize)
     }
@@ -40,8 +41,6 @@ impl Queue {
             waiting.push_back((object, lane));
         }
         count.fetch_add(1, Ordering::SeqCst);
-        drop(waiting);
-        fence(Ordering::SeqCst);
     }
 
     /// Takes the lane out, which waits no more; whether it was still there.
@@ -56,10 +55,11 @@ impl Queue {
         true
     }
 
-    /// Whether somebody may wait for the object's monitor. A fence comes before it, and before that the monitor was freed.
+    /// Whether somebody may wait for the object's monitor, which was freed before.
+    #[inline]
     pub fn has(&self, object: u32) -> bool {
         self.count(object)
-            .is_some_and(|count| count.load(Ordering::Relaxed) > 0)
+            .is_some_and(|count| count.load(Ordering::SeqCst) > 0)
     }
 
     /// Takes out the first lane that waits for the object's monitor.

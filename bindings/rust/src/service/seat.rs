@@ -12,7 +12,8 @@ enum State {
     Rung,
 }
 
-/// What others tell the thread that has the lane.
+/// What others tell the thread that has the lane, and what it tells them. No other lane's is on its cache lines.
+#[repr(align(64))]
 pub struct Seat {
     state: Mutex<State>,
     bell: Condvar,

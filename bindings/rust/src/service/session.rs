@@ -2,10 +2,11 @@
 use super::error::{Error, ErrorKind};
 use super::seat::{lock, Seat};
 use super::shared::{Shared, Spare};
-use crate as handles;
-use crate::{Pool, Refusal, Sight};
+use crate::raw::{self, Owned};
+use crate::{answer, lane, Pool, Refusal, Sight};
 use std::fmt;
 use std::hint::spin_loop;
+use std::mem::ManuallyDrop;
 use std::sync::atomic::Ordering;
 use std::sync::Arc;
 use std::time::Instant;
@@ -41,18 +42,20 @@ const DEMANDS: u32 = 3;
 /// ```
 pub struct Session {
     shared: Arc<Shared>,
-    // None once it is lost to a heap that has stopped.
-    inner: Option<handles::Session>,
+    seat: Arc<Seat>,
+    handle: Owned,
     lane: usize,
-    // The objects of the monitors that are held, each as often as it was entered.
-    held: Vec<u32>,
+    // By how many locks monitors are held, all of them together: the library counts each one's.
+    locks: u32,
+    // A wait of it was cut off by the end of the heap: its handle can do nothing more.
+    is_lost: bool,
     // The sections of the lane that have ended, and those that had when the lane was handed out.
     ended: u64,
     before: u64,
     // About how many records were sent since that round, and after how many the next is asked for.
-    records: u32,
+    records: u64,
     rounds: u64,
-    most_records: u32,
+    most_records: u64,
 }
 
 impl fmt::Debug for Session {
@@ -65,12 +68,14 @@ impl fmt::Debug for Session {
 }
 
 impl Session {
-    pub(super) fn new(shared: Arc<Shared>, spare: Spare, most_records: u32) -> Session {
+    pub(super) fn new(shared: Arc<Shared>, spare: Spare, most_records: u64) -> Session {
         Session {
+            seat: Arc::clone(&shared.seats[spare.lane]),
             shared,
-            inner: Some(spare.session),
+            handle: spare.handle,
             lane: spare.lane,
-            held: Vec::new(),
+            locks: 0,
+            is_lost: false,
             ended: spare.ended,
             before: spare.ended,
             records: 0,
@@ -79,19 +84,25 @@ impl Session {
         }
     }
 
-    fn seat(&self) -> &Seat {
-        &self.shared.seats[self.lane]
-    }
-
+    // A call of the library, unless the heap is at its end. What is called here stands in the program's own code, and is short: a
+    // status other than OK is looked into elsewhere.
     #[inline]
-    fn handle(&mut self) -> Result<&mut handles::Session, Error> {
-        self.shared.must_go_on()?;
-        let shared = &self.shared;
-        self.inner.as_mut().ok_or_else(|| shared.why())
+    fn call(&mut self, call: impl FnOnce(&mut Owned) -> u32) -> u32 {
+        if self.shared.is_over() {
+            return raw::NOTHING;
+        }
+        call(&mut self.handle)
     }
 
-    // The library may tell a session that a sync has failed before the helper has told why the heap has ended.
-    fn refused(&self, refusal: Refusal) -> Error {
+    // Why such a call wasn't answered OK.
+    #[cold]
+    #[inline(never)]
+    fn refused(&self, status: u32) -> Error {
+        if self.is_lost || self.shared.is_over() {
+            return self.shared.why();
+        }
+        let refusal = Refusal::from(status);
+        // The library may tell a session that a sync has failed before the helper has told why the heap has ended.
         let kind = match refusal {
             Refusal::Stopped => ErrorKind::Sync,
             _ => ErrorKind::Refused,
@@ -118,19 +129,9 @@ impl Session {
     /// # std::fs::remove_file(path)?;
     /// # Ok::<(), Box<dyn std::error::Error>>(())
     /// ```
+    #[inline]
     pub fn enter(&mut self, object: u32) -> Result<Held<'_>, Error> {
-        let begins = self.held.is_empty();
-        if begins {
-            self.seat().is_busy.store(true, Ordering::SeqCst);
-        }
-        if let Err(error) = self.await_monitor(object) {
-            if begins {
-                self.seat().is_busy.store(false, Ordering::SeqCst);
-            }
-            return Err(error);
-        }
-        self.held.push(object);
-        self.records += 1;
+        self.take_monitor(object)?;
         Ok(Held {
             session: self,
             object,
@@ -162,14 +163,23 @@ impl Session {
     /// # std::fs::remove_file(path)?;
     /// # Ok::<(), Box<dyn std::error::Error>>(())
     /// ```
+    #[inline]
     pub fn synchronized<T>(
         &mut self,
         object: u32,
         work: impl FnOnce(&mut Held<'_>) -> Result<T, Error>,
     ) -> Result<T, Error> {
-        let mut held = self.enter(object)?;
-        let answer = work(&mut held)?;
-        held.exit()?;
+        self.take_monitor(object)?;
+        // Nothing but a panic of the work drops it.
+        let mut held = Held {
+            session: self,
+            object,
+            was_panicking: false,
+        };
+        let answer = work(&mut held);
+        let left = ManuallyDrop::new(held).session.leave(object);
+        let answer = answer?;
+        left?;
         Ok(answer)
     }
 
@@ -209,7 +219,7 @@ impl Session {
     /// ```
     #[must_use]
     pub fn is_durable(&self, number: u64) -> bool {
-        let acknowledged = self.seat().acknowledged.load(Ordering::SeqCst);
+        let acknowledged = self.seat.acknowledged.load(Ordering::SeqCst);
         number <= self.sections() && self.before + number <= acknowledged
     }
 
@@ -261,7 +271,7 @@ impl Session {
     }
 
     fn await_round(&mut self, deadline: Option<Instant>) -> Result<bool, Error> {
-        let seat = self.seat();
+        let seat = &self.seat;
         if seat.acknowledged.load(Ordering::SeqCst) >= self.ended {
             return Ok(true);
         }
@@ -276,7 +286,7 @@ impl Session {
     }
 
     fn sleep_until_durable(&self, troubles: u64, deadline: Option<Instant>) -> Result<bool, Error> {
-        let seat = self.seat();
+        let seat = &self.seat;
         let mut is_early = true;
         loop {
             // Before the sections are looked at, since the helper's last round comes before it says so.
@@ -310,20 +320,45 @@ impl Session {
     /// # Ok::<(), Box<dyn std::error::Error>>(())
     /// ```
     pub fn look(&mut self, object: u32) -> Result<Sight, Error> {
-        match self.handle()?.look(object) {
-            Ok(sight) => Ok(sight),
-            Err(refusal) => Err(self.refused(refusal)),
+        let mut sight = raw::Sight::default();
+        match self.call(|handle| handle.look(object, &mut sight)) {
+            raw::OK => Ok(Sight::from(sight)),
+            status => Err(self.refused(status)),
         }
     }
 
+    // Takes the monitor, at once where it can.
+    #[inline]
+    fn take_monitor(&mut self, object: u32) -> Result<(), Error> {
+        if self.locks == 0 {
+            self.seat.is_busy.store(true, Ordering::Release);
+        }
+        if self.call(|handle| handle.try_enter(object)) != raw::OK {
+            self.await_monitor(object)?;
+        }
+        self.locks += 1;
+        Ok(())
+    }
+
     // Takes the monitor, or sleeps until it can.
+    #[cold]
+    #[inline(never)]
     fn await_monitor(&mut self, object: u32) -> Result<(), Error> {
-        for _ in 0..TRIES {
-            match self.handle()?.try_enter(object) {
+        let answer = self.await_monitor_once(object);
+        if answer.is_err() && self.locks == 0 {
+            self.seat.is_busy.store(false, Ordering::Release);
+        }
+        answer
+    }
+
+    fn await_monitor_once(&mut self, object: u32) -> Result<(), Error> {
+        for _ in 1..TRIES {
+            let status = self.call(|handle| handle.try_enter(object));
+            match answer(status) {
                 Ok(()) => return Ok(()),
                 Err(Refusal::Held) => spin_loop(),
                 Err(Refusal::Behind) => break,
-                Err(refusal) => return Err(self.refused(refusal)),
+                Err(_) => return Err(self.refused(status)),
             }
         }
         let answer = self.sleep_for_monitor(object);
@@ -339,10 +374,11 @@ impl Session {
         let (mut is_down, mut was_woken, mut demands) = (false, false, 0);
         loop {
             let rounds = self.shared.rounds.load(Ordering::SeqCst);
-            match self.handle()?.try_enter(object) {
+            let status = self.call(|handle| handle.try_enter(object));
+            match answer(status) {
                 Ok(()) => return Ok(()),
                 Err(Refusal::Held) if is_down => {
-                    self.seat().sleep();
+                    self.seat.sleep();
                     (is_down, was_woken) = (false, true);
                 }
                 // It is put down before the next try, so that whoever has the monitor then finds it there.
@@ -357,7 +393,7 @@ impl Session {
                     (is_down, was_woken) = (false, false);
                     self.sleep_for_round(rounds, &mut demands)?;
                 }
-                Err(refusal) => return Err(self.refused(refusal)),
+                Err(_) => return Err(self.refused(status)),
             }
         }
     }
@@ -365,7 +401,7 @@ impl Session {
     // Sleeps until a round has ended after that one. It asks for the first few: what a round of one's own can't give, only the end of
     // another section can, after which there is a round.
     fn sleep_for_round(&self, rounds: u64, demands: &mut u32) -> Result<(), Error> {
-        let (shared, seat) = (&self.shared, self.seat());
+        let (shared, seat) = (&self.shared, &self.seat);
         let troubles = shared.troubles.load(Ordering::SeqCst);
         shared.awaiting.fetch_add(1, Ordering::SeqCst);
         seat.is_behind.store(true, Ordering::SeqCst);
@@ -390,114 +426,119 @@ impl Session {
         answer
     }
 
-    // Where the object's last lock stands among those that are held: mostly it was the last to be taken.
+    // Gives one lock back. One that a wait has lost with its heap isn't there any more, and is refused.
     #[inline]
-    fn place_of(&self, object: u32) -> Option<usize> {
-        match self.held.last() {
-            Some(last) if *last == object => Some(self.held.len() - 1),
-            _ => self.held.iter().rposition(|other| *other == object),
-        }
-    }
-
-    // Gives one lock back. One that a wait has lost with its heap isn't there any more.
     fn leave(&mut self, object: u32) -> Result<(), Error> {
-        let Some(place) = self.place_of(object) else {
-            return self.shared.must_go_on();
-        };
-        if let Some(session) = self.inner.as_mut() {
-            if let Err(refusal) = session.exit(object) {
-                return Err(self.refused(refusal));
-            }
+        let status = self.handle.exit(object);
+        if status != raw::OK {
+            return Err(self.refused(status));
         }
-        self.held.remove(place);
-        if !self.held.contains(&object) {
-            self.records += 1;
-            self.tell_freed(object, false);
+        self.locks -= 1;
+        // It was taken before.
+        self.records += 2;
+        if self.locks == 0 {
+            self.end_section(false);
+        }
+        if self.shared.queue.has(object) {
+            self.hand_on(object);
         }
         self.shared.must_go_on()
     }
 
-    // Of a monitor that was freed, and of the section that ended with it, after which nothing is open unless the session waits.
-    fn tell_freed(&mut self, object: u32, waits: bool) {
-        let has_ended = self.held.is_empty();
-        if has_ended {
-            self.ended += 1;
-            self.seat().ended.store(self.ended, Ordering::SeqCst);
-            self.seat().is_busy.store(waits, Ordering::SeqCst);
-        }
-        let is_urgent = has_ended && self.is_half_full();
-        self.shared.tell_freed(object, has_ended, is_urgent);
-    }
-
-    // Whether a round should come before the lane has no room.
-    fn is_half_full(&mut self) -> bool {
+    // Nothing is held any more: a section has ended, after which nothing is open unless the session waits.
+    #[inline]
+    fn end_section(&mut self, waits: bool) {
+        self.ended += 1;
+        // Sequentially consistent, as the look behind it at whether the helper knows of work, and as that this was told before the
+        // helper took all work to be known: so the helper learns of this section by one or by the other.
+        self.seat.ended.store(self.ended, Ordering::SeqCst);
+        self.seat.is_busy.store(waits, Ordering::Release);
         let rounds = self.shared.rounds.load(Ordering::Relaxed);
         if rounds != self.rounds {
             (self.rounds, self.records) = (rounds, 0);
         }
-        let is_half_full = self.records >= self.most_records;
-        if is_half_full {
+        if self.records >= self.most_records {
+            // A round should come before the lane has no room.
             self.records = 0;
+            self.shared.demand();
+        } else if !self.shared.knows_of_work() {
+            self.shared.tell_of_work();
         }
-        is_half_full
+    }
+
+    // Wakes the first that waits for the monitor, unless it is held still, by another lock.
+    #[cold]
+    #[inline(never)]
+    fn hand_on(&mut self, object: u32) {
+        if self.locks == 0 || self.locks_of(object) == 0 {
+            self.shared.wake_first(object);
+        }
+    }
+
+    // By how many locks the monitor is held.
+    fn locks_of(&mut self, object: u32) -> u32 {
+        let mut sight = raw::Sight::default();
+        let is_ours = self.handle.look(object, &mut sight) == raw::OK && lane(sight.owner) == Some(self.lane as u32);
+        if is_ours {
+            sight.locks
+        } else {
+            0
+        }
     }
 
     // Frees the monitor, sleeps until the session is notified, and takes the monitor again by as many locks.
     fn wait_for(&mut self, object: u32) -> Result<(), Error> {
-        let waiting = self.begin_wait(object)?;
-        let locks = self.held.iter().filter(|other| **other == object).count();
-        self.held.retain(|other| *other != object);
+        let locks = self.locks_of(object);
+        self.begin_wait(object)?;
+        self.locks -= locks;
         self.records += 2;
-        self.tell_freed(object, true);
-        let answer = self.sleep_for_notice(waiting, object);
+        if self.locks == 0 {
+            self.end_section(true);
+        }
+        if self.shared.queue.has(object) {
+            self.shared.wake_first(object);
+        }
+        let answer = self.sleep_for_notice(object);
         self.shared.queue.remove(self.lane);
         if answer.is_err() {
+            self.is_lost = true;
             self.shared.wake_first(object);
-            self.seat().is_busy.store(!self.held.is_empty(), Ordering::SeqCst);
+            self.seat.is_busy.store(self.locks > 0, Ordering::Release);
+        } else {
+            self.locks += locks;
         }
-        self.inner = Some(answer?);
-        self.held.extend(std::iter::repeat(object).take(locks));
-        Ok(())
+        answer
     }
 
-    fn begin_wait(&mut self, object: u32) -> Result<handles::Waiting, Error> {
+    fn begin_wait(&mut self, object: u32) -> Result<(), Error> {
         let mut demands = 0;
         loop {
-            self.shared.must_go_on()?;
             let rounds = self.shared.rounds.load(Ordering::SeqCst);
-            let session = self.inner.take().ok_or_else(|| self.shared.why())?;
-            let (session, refusal) = match session.begin_wait(object) {
-                Ok(waiting) => return Ok(waiting),
-                Err(refused) => refused,
-            };
-            self.inner = Some(session);
-            // What holds the monitor may be what the room waits for.
-            if refusal != Refusal::Behind || demands == DEMANDS {
-                return Err(self.refused(refusal));
+            let status = self.call(|handle| handle.begin_wait(object));
+            match answer(status) {
+                Ok(()) => return Ok(()),
+                // What holds the monitor may be what the room waits for.
+                Err(Refusal::Behind) if demands < DEMANDS => self.sleep_for_round(rounds, &mut demands)?,
+                Err(_) => return Err(self.refused(status)),
             }
-            self.sleep_for_round(rounds, &mut demands)?;
         }
     }
 
-    fn sleep_for_notice(&mut self, mut waiting: handles::Waiting, object: u32) -> Result<handles::Session, Error> {
+    fn sleep_for_notice(&mut self, object: u32) -> Result<(), Error> {
         let (mut is_down, mut was_woken) = (false, false);
         loop {
-            let refusal;
-            (waiting, refusal) = match waiting.try_resume() {
-                Ok(session) => return Ok(session),
-                Err(refused) => refused,
-            };
-            self.shared.must_go_on()?;
-            match refusal {
-                Refusal::Held if !is_down => {
+            let status = self.call(Owned::try_resume);
+            let refusal = match answer(status) {
+                Ok(()) => return Ok(()),
+                Err(Refusal::Held) if !is_down => {
                     self.shared.queue.put(object, self.lane, was_woken);
                     is_down = true;
                     continue;
                 }
-                Refusal::Held | Refusal::InSet => {}
-                other => return Err(self.refused(other)),
-            }
-            self.seat().sleep();
+                Err(refusal @ (Refusal::Held | Refusal::InSet)) => refusal,
+                Err(_) => return Err(self.refused(status)),
+            };
+            self.seat.sleep();
             (is_down, was_woken) = (false, refusal == Refusal::Held);
         }
     }
@@ -505,16 +546,18 @@ impl Session {
 
 impl Drop for Session {
     fn drop(&mut self) {
-        if !self.held.is_empty() {
-            // A guard was forgotten: nobody will give its monitor back.
-            self.shared.stop(Error::bare(ErrorKind::Panicked, &self.shared.path));
-        } else if let Some(session) = self.inner.take() {
-            lock(&self.shared.free).push(Spare {
-                lane: self.lane,
-                session,
-                ended: self.ended,
-            });
+        if self.is_lost {
+            return;
         }
+        if self.locks > 0 {
+            // A guard was forgotten: nobody will give its monitor back.
+            return self.shared.stop(Error::bare(ErrorKind::Panicked, &self.shared.path));
+        }
+        lock(&self.shared.free).push(Spare {
+            lane: self.lane,
+            handle: std::mem::replace(&mut self.handle, Owned::none()),
+            ended: self.ended,
+        });
     }
 }
 
@@ -573,9 +616,10 @@ impl Held<'_> {
     /// ```
     #[inline]
     pub fn load(&mut self, field: u32) -> Result<u64, Error> {
-        match self.session.handle()?.load(field) {
-            Ok(value) => Ok(value),
-            Err(refusal) => Err(self.session.refused(refusal)),
+        let mut value = 0;
+        match self.session.call(|handle| handle.load(field, &mut value)) {
+            raw::OK => Ok(value),
+            status => Err(self.session.refused(status)),
         }
     }
 
@@ -596,12 +640,12 @@ impl Held<'_> {
     /// ```
     #[inline]
     pub fn store(&mut self, field: u32, value: u64) -> Result<(), Error> {
-        match self.session.handle()?.store(field, value) {
-            Ok(()) => {
+        match self.session.call(|handle| handle.store(field, value)) {
+            raw::OK => {
                 self.session.records += 1;
                 Ok(())
             }
-            Err(refusal) => Err(self.session.refused(refusal)),
+            status => Err(self.session.refused(status)),
         }
     }
 
@@ -623,13 +667,17 @@ impl Held<'_> {
     /// # Ok::<(), Box<dyn std::error::Error>>(())
     /// ```
     pub fn take(&mut self, pool: Pool) -> Result<Option<u32>, Error> {
-        match self.session.handle()?.take(pool) {
-            Ok(slot) => {
+        let mut slot = raw::NO_SLOT;
+        let status = self
+            .session
+            .call(|handle| handle.pool_take(pool.head, pool.slots, &mut slot));
+        match answer(status) {
+            Ok(()) => {
                 self.session.records += 2;
                 Ok(Some(slot))
             }
             Err(Refusal::PoolEmpty) => Ok(None),
-            Err(refusal) => Err(self.session.refused(refusal)),
+            Err(_) => Err(self.session.refused(status)),
         }
     }
 
@@ -654,12 +702,15 @@ impl Held<'_> {
     /// # Ok::<(), Box<dyn std::error::Error>>(())
     /// ```
     pub fn give(&mut self, pool: Pool, slot: u32) -> Result<(), Error> {
-        match self.session.handle()?.give(pool, slot) {
-            Ok(()) => {
+        let status = self
+            .session
+            .call(|handle| handle.pool_give(pool.head, pool.slots, slot));
+        match status {
+            raw::OK => {
                 self.session.records += 2;
                 Ok(())
             }
-            Err(refusal) => Err(self.session.refused(refusal)),
+            status => Err(self.session.refused(status)),
         }
     }
 
@@ -682,6 +733,7 @@ impl Held<'_> {
     /// # std::fs::remove_file(path)?;
     /// # Ok::<(), Box<dyn std::error::Error>>(())
     /// ```
+    #[inline]
     pub fn enter(&mut self, object: u32) -> Result<Held<'_>, Error> {
         self.session.enter(object)
     }
@@ -699,6 +751,7 @@ impl Held<'_> {
     /// # std::fs::remove_file(path)?;
     /// # Ok::<(), Box<dyn std::error::Error>>(())
     /// ```
+    #[inline]
     pub fn synchronized<T>(
         &mut self,
         object: u32,
@@ -753,12 +806,13 @@ impl Held<'_> {
     /// # Ok::<(), Box<dyn std::error::Error>>(())
     /// ```
     pub fn notify(&mut self) -> Result<bool, Error> {
-        match self.session.handle()?.notify(self.object) {
-            Ok(lane) => {
-                self.put_notified(lane);
-                Ok(lane.is_some())
+        let (object, mut woken) = (self.object, raw::NOBODY);
+        match self.session.call(|handle| handle.notify(object, &mut woken)) {
+            raw::OK => {
+                self.put_notified(lane(woken));
+                Ok(lane(woken).is_some())
             }
-            Err(refusal) => Err(self.session.refused(refusal)),
+            status => Err(self.session.refused(status)),
         }
     }
 
@@ -775,12 +829,13 @@ impl Held<'_> {
     /// # Ok::<(), Box<dyn std::error::Error>>(())
     /// ```
     pub fn notify_all(&mut self) -> Result<u32, Error> {
-        match self.session.handle()?.notify_all(self.object) {
-            Ok(lanes) => {
+        let (object, mut lanes) = (self.object, 0);
+        match self.session.call(|handle| handle.notify_all(object, &mut lanes)) {
+            raw::OK => {
                 self.put_notified((0..64).filter(|lane| lanes >> lane & 1 == 1));
                 Ok(lanes.count_ones())
             }
-            Err(refusal) => Err(self.session.refused(refusal)),
+            status => Err(self.session.refused(status)),
         }
     }
 
@@ -804,8 +859,9 @@ impl Held<'_> {
     /// # std::fs::remove_file(path)?;
     /// # Ok::<(), Box<dyn std::error::Error>>(())
     /// ```
+    #[inline]
     pub fn exit(self) -> Result<(), Error> {
-        let mut held = std::mem::ManuallyDrop::new(self);
+        let mut held = ManuallyDrop::new(self);
         let object = held.object;
         held.session.leave(object)
     }

@@ -2,18 +2,31 @@
 use super::error::{Error, ErrorKind};
 use super::queue::Queue;
 use super::seat::{lock, Seat};
-use crate as handles;
+use crate::raw::Owned;
+use std::ops::Deref;
 use std::path::Path;
-use std::sync::atomic::{fence, AtomicBool, AtomicU32, AtomicU64, Ordering};
+use std::sync::atomic::{AtomicBool, AtomicU32, AtomicU64, Ordering};
 use std::sync::mpsc::Sender;
 use std::sync::{Arc, Condvar, Mutex, OnceLock, PoisonError};
 use std::time::{Duration, Instant};
 
-/// A lane that nobody uses: its session, which the library hands out once an opening, and how many of its sections have ended.
+/// A lane that nobody uses: its session, and how many of its sections have ended.
 pub struct Spare {
     pub lane: usize,
-    pub session: handles::Session,
+    pub handle: Owned,
     pub ended: u64,
+}
+
+/// A word that has its cache line alone, so that who reads it again and again isn't kept from it by who writes its neighbours.
+#[repr(align(64))]
+pub struct Apart<T>(T);
+
+impl<T> Deref for Apart<T> {
+    type Target = T;
+
+    fn deref(&self) -> &T {
+        &self.0
+    }
 }
 
 /// What the helper is to do next.
@@ -28,11 +41,11 @@ type Reply = Sender<Result<(), Error>>;
 
 pub struct Shared {
     pub path: Arc<Path>,
-    pub seats: Box<[Seat]>,
+    pub seats: Box<[Arc<Seat>]>,
     pub queue: Queue,
     pub free: Mutex<Vec<Spare>>,
-    /// Calls are refused from now on.
-    pub is_over: AtomicBool,
+    // Calls are refused from now on.
+    is_over: Apart<AtomicBool>,
     /// Nothing more will be acknowledged.
     pub is_settled: AtomicBool,
     /// The rounds that have ended, also those whose calls failed.
@@ -43,7 +56,8 @@ pub struct Shared {
     pub awaiting: AtomicU32,
     why: OnceLock<Error>,
     trouble: Mutex<Option<Error>>,
-    has_work: AtomicBool,
+    // A section has ended since the last round began, as far as is known.
+    has_work: Apart<AtomicBool>,
     // Somebody waits for a round.
     is_urgent: AtomicBool,
     // The helper sleeps, or is about to and looks once more.
@@ -57,17 +71,17 @@ impl Shared {
     pub fn new(path: Arc<Path>, objects: u32, free: Vec<Spare>) -> Shared {
         Shared {
             path,
-            seats: free.iter().map(|_| Seat::new()).collect(),
+            seats: free.iter().map(|_| Arc::new(Seat::new())).collect(),
             queue: Queue::new(objects),
             free: Mutex::new(free),
-            is_over: AtomicBool::new(false),
+            is_over: Apart(AtomicBool::new(false)),
             is_settled: AtomicBool::new(false),
             rounds: AtomicU64::new(0),
             troubles: AtomicU64::new(0),
             awaiting: AtomicU32::new(0),
             why: OnceLock::new(),
             trouble: Mutex::new(None),
-            has_work: AtomicBool::new(false),
+            has_work: Apart(AtomicBool::new(false)),
             is_urgent: AtomicBool::new(false),
             is_asleep: AtomicBool::new(false),
             closing: Mutex::new(Vec::new()),
@@ -76,14 +90,21 @@ impl Shared {
     }
 
     /// Why calls are refused.
+    #[cold]
     pub fn why(&self) -> Error {
         let closed = || Error::bare(ErrorKind::Closed, &self.path);
         self.why.get().cloned().unwrap_or_else(closed)
     }
 
+    /// Whether calls are refused.
+    #[inline]
+    pub fn is_over(&self) -> bool {
+        self.is_over.load(Ordering::SeqCst)
+    }
+
     #[inline]
     pub fn must_go_on(&self) -> Result<(), Error> {
-        if self.is_over.load(Ordering::Acquire) {
+        if self.is_over() {
             return Err(self.why());
         }
         Ok(())
@@ -98,7 +119,7 @@ impl Shared {
     }
 
     pub fn ring_all(&self) {
-        self.seats.iter().for_each(Seat::ring);
+        self.seats.iter().for_each(|seat| seat.ring());
     }
 
     pub fn trouble(&self) -> Error {
@@ -113,27 +134,29 @@ impl Shared {
     }
 
     /// Wakes the first that waits for the object's monitor, which was freed.
+    #[cold]
     pub fn wake_first(&self, object: u32) {
         if let Some(seat) = self.queue.take_first(object).and_then(|lane| self.seats.get(lane)) {
             seat.ring();
         }
     }
 
-    /// The object's monitor was freed, and with it a section may have ended. The fence orders these before the looks at who waits for
-    /// the monitor and at whether the helper knows of work.
-    pub fn tell_freed(&self, object: u32, has_ended: bool, is_urgent: bool) {
-        fence(Ordering::SeqCst);
-        if self.queue.has(object) {
-            self.wake_first(object);
-        }
-        if has_ended && is_urgent {
-            self.demand();
-        } else if has_ended && !self.has_work.load(Ordering::Relaxed) && !self.has_work.swap(true, Ordering::SeqCst) {
+    /// Whether the helper knows that a section has ended. Before it the lane's count of ended sections was written.
+    #[inline]
+    pub fn knows_of_work(&self) -> bool {
+        self.has_work.load(Ordering::SeqCst)
+    }
+
+    /// Tells the helper that a section has ended.
+    #[cold]
+    pub fn tell_of_work(&self) {
+        if !self.has_work.swap(true, Ordering::SeqCst) {
             self.wake_helper();
         }
     }
 
     /// Asks for a round, now.
+    #[cold]
     pub fn demand(&self) {
         self.is_urgent.store(true, Ordering::SeqCst);
         self.wake_helper();
@@ -167,11 +190,18 @@ impl Shared {
         self.ring_all();
     }
 
-    /// No section that has ended before is unknown to the round that comes now. The fence orders this before the round's looks at what
-    /// the sessions have sent.
+    /// No section that has ended before is unknown to the round that comes now: one of whose end this thread doesn't learn here finds
+    /// the word false, and tells of itself.
     pub fn begin_round(&self) {
         self.has_work.store(false, Ordering::SeqCst);
-        fence(Ordering::SeqCst);
+        for seat in self.seats.iter() {
+            let _ = seat.ended.load(Ordering::SeqCst);
+        }
+    }
+
+    /// Whether all sections that have ended are acknowledged.
+    pub fn has_acknowledged_all(&self) -> bool {
+        self.seats.iter().all(|seat| seat.acknowledged.load(Ordering::SeqCst) >= seat.ended.load(Ordering::SeqCst))
     }
 
     pub fn end_round(&self) {

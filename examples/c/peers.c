@@ -1,0 +1,373 @@
+/* The same counting by other stores, to be measured beside: tools/peers builds and runs it.
+ *
+ *     peers ENGINE FILE THREADS GROUP SECONDS
+ * Each thread counts in a counter of its own and in the total, and is durable behind every GROUP sections (1: each one waits until no crash
+ * loses it). It prints how many sections a second were durable, and the processor time of each, of all threads, in microseconds.
+ *
+ * zelamiku: a section of two monitors over zelamiku_threads.h, which awaits after the group.
+ * sqlite:   two UPDATEs a section, a transaction a group, in WAL mode with synchronous=FULL; threads take turns by a mutex.
+ * lmdb:     two gets and two puts a section, a transaction a group, synced; its writers take turns by its own lock.
+ * pmemobj:  two words a section, a transaction a group, on a file that isn't persistent memory (so by msync); threads take turns by a mutex.
+ * Those that a build leaves out (-DWITH_SQLITE, -DWITH_LMDB, -DWITH_PMEMOBJ) are no engines. */
+#define _GNU_SOURCE
+#include <fcntl.h>
+#include <inttypes.h>
+#include <stdatomic.h>
+#include <stdio.h>
+#include <stdlib.h>
+#include <string.h>
+#include <sys/resource.h>
+#include <time.h>
+#include "zelamiku_threads.h"
+#ifdef WITH_SQLITE
+#include <sqlite3.h>
+#endif
+#ifdef WITH_LMDB
+#include <lmdb.h>
+#endif
+#ifdef WITH_PMEMOBJ
+#include <libpmemobj.h>
+#endif
+
+enum { MOST = 32, TOTAL = 0 };
+
+static const char *path;
+static int threads;
+static uint64_t group;
+static atomic_bool stopping;
+static pthread_barrier_t start;
+static pthread_mutex_t turn = PTHREAD_MUTEX_INITIALIZER;
+
+static void must(bool is_done, const char *what) {
+    if (!is_done) {
+        perror(what);
+        exit(2);
+    }
+}
+
+/* An engine: opens the store, gives each thread its own use of it, makes so many sections durable, and closes it. */
+typedef struct {
+    const char *name;
+    void (*open)(void);
+    void *(*begin)(uint32_t own);
+    void (*count)(void *use, uint32_t own, uint64_t sections);
+    void (*end)(void *use);
+    void (*close)(void);
+} engine;
+
+/* ---- zelamiku ---- */
+
+static zelamiku_threads heap;
+static int file;
+
+static void z(zelamiku_status status, const char *what) {
+    if (status != ZELAMIKU_OK) {
+        char text[256];
+        fprintf(stderr, "%s: %s\n", what, zelamiku_file_text(status, text, sizeof text));
+        exit(2);
+    }
+}
+
+static void z_open(void) {
+    zelamiku_handle handle = ZELAMIKU_NONE;
+    zelamiku_field fields[MOST + 1];
+    for (uint32_t i = 0; i <= (uint32_t)threads; i++) fields[i] = (zelamiku_field){.owner = i, .guard = i};
+    file = open(path, O_RDWR | O_CREAT, 0644);
+    must(file >= 0, path);
+    z(zelamiku_format_file(&handle, file, threads + 1, fields, threads + 1, threads, 4096), "format");
+    z(zelamiku_threads_start(&heap, &handle, file, 5000), "start");
+}
+
+static void *z_begin(uint32_t own) {
+    (void)own;
+    zelamiku_thread *thread = malloc(sizeof *thread);
+    must(thread != NULL, "thread");
+    z(zelamiku_thread_begin(thread, &heap), "begin");
+    return thread;
+}
+
+static void z_add(zelamiku_thread *thread, uint32_t field) {
+    uint64_t value = 0;
+    z(zelamiku_thread_load(thread, field, &value), "load");
+    z(zelamiku_thread_store(thread, field, value + 1), "store");
+}
+
+static void z_count(void *use, uint32_t own, uint64_t sections) {
+    zelamiku_thread *thread = use;
+    for (uint64_t i = 0; i < sections; i++) {
+        z(zelamiku_thread_enter(thread, own), "enter");
+        z(zelamiku_thread_enter(thread, TOTAL), "enter");
+        z_add(thread, own);
+        z_add(thread, TOTAL);
+        z(zelamiku_thread_exit(thread, TOTAL), "exit");
+        z(zelamiku_thread_exit(thread, own), "exit");
+    }
+    z(zelamiku_thread_await(thread), "await");
+}
+
+static void z_end(void *use) {
+    z(zelamiku_thread_end(use), "end");
+    free(use);
+}
+
+static void z_close(void) {
+    z(zelamiku_threads_stop(&heap), "stop");
+    close(file);
+}
+
+/* ---- SQLite ---- */
+
+#ifdef WITH_SQLITE
+typedef struct {
+    sqlite3 *base;
+    sqlite3_stmt *begin, *add, *commit;
+} connection;
+
+static void q(connection *use, int answer, const char *what) {
+    if (answer != SQLITE_OK && answer != SQLITE_DONE && answer != SQLITE_ROW) {
+        fprintf(stderr, "%s: %s\n", what, sqlite3_errmsg(use->base));
+        exit(2);
+    }
+}
+
+static void *q_begin(uint32_t own) {
+    (void)own;
+    connection *use = calloc(1, sizeof *use);
+    must(use != NULL, "connection");
+    q(use, sqlite3_open(path, &use->base), "open");
+    q(use, sqlite3_exec(use->base, "PRAGMA busy_timeout=60000; PRAGMA journal_mode=WAL; PRAGMA synchronous=FULL", NULL, NULL, NULL), "pragma");
+    q(use, sqlite3_prepare_v2(use->base, "BEGIN IMMEDIATE", -1, &use->begin, NULL), "prepare");
+    q(use, sqlite3_prepare_v2(use->base, "UPDATE counters SET value = value + 1 WHERE id = ?", -1, &use->add, NULL), "prepare");
+    q(use, sqlite3_prepare_v2(use->base, "COMMIT", -1, &use->commit, NULL), "prepare");
+    return use;
+}
+
+static void q_step(connection *use, sqlite3_stmt *statement, const char *what) {
+    q(use, sqlite3_step(statement), what);
+    q(use, sqlite3_reset(statement), what);
+}
+
+static void q_add(connection *use, uint32_t id) {
+    q(use, sqlite3_bind_int(use->add, 1, (int)id), "bind");
+    q_step(use, use->add, "update");
+}
+
+static void q_count(void *data, uint32_t own, uint64_t sections) {
+    connection *use = data;
+    pthread_mutex_lock(&turn);
+    q_step(use, use->begin, "begin");
+    for (uint64_t i = 0; i < sections; i++) {
+        q_add(use, own);
+        q_add(use, TOTAL);
+    }
+    q_step(use, use->commit, "commit");
+    pthread_mutex_unlock(&turn);
+}
+
+static void q_end(void *data) {
+    connection *use = data;
+    sqlite3_finalize(use->begin);
+    sqlite3_finalize(use->add);
+    sqlite3_finalize(use->commit);
+    sqlite3_close(use->base);
+    free(use);
+}
+
+static void q_open(void) {
+    connection first = {0};
+    q(&first, sqlite3_open(path, &first.base), "open");
+    q(&first, sqlite3_exec(first.base, "PRAGMA journal_mode=WAL; CREATE TABLE counters(id INTEGER PRIMARY KEY, value INTEGER)", NULL, NULL, NULL), "create");
+    for (int i = 0; i <= threads; i++) {
+        char text[80];
+        snprintf(text, sizeof text, "INSERT INTO counters VALUES(%d, 0)", i);
+        q(&first, sqlite3_exec(first.base, text, NULL, NULL, NULL), "insert");
+    }
+    sqlite3_close(first.base);
+}
+
+static void q_close(void) {}
+#endif
+
+/* ---- LMDB ---- */
+
+#ifdef WITH_LMDB
+static MDB_env *env;
+static MDB_dbi base;
+
+static void l(int answer, const char *what) {
+    if (answer != 0) {
+        fprintf(stderr, "%s: %s\n", what, mdb_strerror(answer));
+        exit(2);
+    }
+}
+
+static void l_put(MDB_txn *txn, uint32_t id, uint64_t number) {
+    MDB_val key = {sizeof id, &id}, value = {sizeof number, &number};
+    l(mdb_put(txn, base, &key, &value, 0), "put");
+}
+
+static void l_open(void) {
+    MDB_txn *txn;
+    l(mdb_env_create(&env), "env");
+    l(mdb_env_set_mapsize(env, 1 << 20), "size");
+    l(mdb_env_open(env, path, MDB_NOSUBDIR, 0644), "open");
+    l(mdb_txn_begin(env, NULL, 0, &txn), "begin");
+    l(mdb_dbi_open(txn, NULL, MDB_INTEGERKEY, &base), "base");
+    for (uint32_t i = 0; i <= (uint32_t)threads; i++) l_put(txn, i, 0);
+    l(mdb_txn_commit(txn), "commit");
+}
+
+static void l_add(MDB_txn *txn, uint32_t id) {
+    MDB_val key = {sizeof id, &id}, value;
+    uint64_t number;
+    l(mdb_get(txn, base, &key, &value), "get");
+    memcpy(&number, value.mv_data, sizeof number);
+    l_put(txn, id, number + 1);
+}
+
+static void l_count(void *use, uint32_t own, uint64_t sections) {
+    MDB_txn *txn;
+    (void)use;
+    l(mdb_txn_begin(env, NULL, 0, &txn), "begin");
+    for (uint64_t i = 0; i < sections; i++) {
+        l_add(txn, own);
+        l_add(txn, TOTAL);
+    }
+    l(mdb_txn_commit(txn), "commit");
+}
+
+static void l_close(void) {
+    mdb_env_close(env);
+}
+#endif
+
+/* ---- libpmemobj ---- */
+
+#ifdef WITH_PMEMOBJ
+static PMEMobjpool *pool;
+static uint64_t *words;
+
+static void p_open(void) {
+    pool = pmemobj_create(path, "counters", PMEMOBJ_MIN_POOL, 0644);
+    if (pool == NULL) {
+        fprintf(stderr, "%s: %s\n", path, pmemobj_errormsg());
+        exit(2);
+    }
+    words = pmemobj_direct(pmemobj_root(pool, sizeof(uint64_t) * (MOST + 1)));
+}
+
+static void p_count(void *use, uint32_t own, uint64_t sections) {
+    (void)use;
+    pthread_mutex_lock(&turn);
+    TX_BEGIN(pool) {
+        for (uint64_t i = 0; i < sections; i++) {
+            pmemobj_tx_add_range_direct(&words[own], sizeof words[own]);
+            pmemobj_tx_add_range_direct(&words[TOTAL], sizeof words[TOTAL]);
+            words[own]++;
+            words[TOTAL]++;
+        }
+    }
+    TX_ONABORT {
+        must(false, "transaction");
+    }
+    TX_END
+    pthread_mutex_unlock(&turn);
+}
+
+static void p_close(void) {
+    pmemobj_close(pool);
+}
+#endif
+
+#if defined(WITH_LMDB) || defined(WITH_PMEMOBJ)
+static void *no_begin(uint32_t own) {
+    (void)own;
+    return NULL;
+}
+
+static void no_end(void *use) {
+    (void)use;
+}
+#endif
+
+static const engine engines[] = {
+    {"zelamiku", z_open, z_begin, z_count, z_end, z_close},
+#ifdef WITH_SQLITE
+    {"sqlite", q_open, q_begin, q_count, q_end, q_close},
+#endif
+#ifdef WITH_LMDB
+    {"lmdb", l_open, no_begin, l_count, no_end, l_close},
+#endif
+#ifdef WITH_PMEMOBJ
+    {"pmemobj", p_open, no_begin, p_count, no_end, p_close},
+#endif
+};
+
+typedef struct {
+    const engine *by;
+    uint32_t own;
+    uint64_t sections;
+    pthread_t thread;
+} worker;
+
+static void *work(void *data) {
+    worker *w = data;
+    void *use = w->by->begin(w->own);
+    pthread_barrier_wait(&start);
+    while (!stopping) {
+        w->by->count(use, w->own, group);
+        w->sections += group;
+    }
+    w->by->end(use);
+    return NULL;
+}
+
+static double now(void) {
+    struct timespec t;
+    clock_gettime(CLOCK_MONOTONIC, &t);
+    return (double)t.tv_sec + (double)t.tv_nsec / 1e9;
+}
+
+static double processor(void) {
+    struct rusage used;
+    getrusage(RUSAGE_SELF, &used);
+    return (double)(used.ru_utime.tv_sec + used.ru_stime.tv_sec) + (double)(used.ru_utime.tv_usec + used.ru_stime.tv_usec) / 1e6;
+}
+
+int main(int count, char **words_of) {
+    const engine *by = NULL;
+    for (size_t i = 0; count == 6 && i < sizeof engines / sizeof *engines; i++)
+        if (strcmp(engines[i].name, words_of[1]) == 0) by = &engines[i];
+    if (by == NULL) {
+        fprintf(stderr, "peers ENGINE FILE THREADS GROUP SECONDS, with one of");
+        for (size_t i = 0; i < sizeof engines / sizeof *engines; i++) fprintf(stderr, " %s", engines[i].name);
+        fprintf(stderr, "\n");
+        return 2;
+    }
+    path = words_of[2];
+    threads = atoi(words_of[3]);
+    group = strtoull(words_of[4], NULL, 10);
+    if (threads < 1 || threads > MOST || group < 1) return 2;
+    static worker workers[MOST];
+    by->open();
+    pthread_barrier_init(&start, NULL, (unsigned)threads + 1);
+    for (int i = 0; i < threads; i++) {
+        workers[i] = (worker){.by = by, .own = (uint32_t)i + 1};
+        must(pthread_create(&workers[i].thread, NULL, work, &workers[i]) == 0, "thread");
+    }
+    pthread_barrier_wait(&start);
+    double began = now(), used = processor();
+    struct timespec rest = {.tv_sec = atoi(words_of[5])};
+    nanosleep(&rest, NULL);
+    stopping = true;
+    uint64_t sections = 0;
+    for (int i = 0; i < threads; i++) {
+        pthread_join(workers[i].thread, NULL);
+        sections += workers[i].sections;
+    }
+    double took = now() - began;
+    used = processor() - used;
+    by->close();
+    printf("%.0f %.2f\n", (double)sections / took, used * 1e6 / (double)sections);
+    return 0;
+}
