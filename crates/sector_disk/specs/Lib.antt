@@ -2,5 +2,7 @@
 pub mod Size
 pub mod Readable
 pub mod Memory
+pub mod Disks
+pub mod Places
 -- Scaffold: the device that no memory holds.
 pub mod Trace

@@ -13,3 +13,7 @@ noted [] bytes d = synced d
 noted (at ∷ []) bytes d = written at bytes d
 noted (at ∷ n ∷ []) bytes d = written at (replicate n 256) d
 noted (a ∷ b ∷ c ∷ more) bytes d = new_device bytes
+
+-- the device, with failures counted elsewhere
+abbrev pub failing : ℕ → Device → Device
+failing count d = record { name = d.name; now = d.now; past = d.past; failures = count }

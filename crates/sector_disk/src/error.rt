@@ -11,3 +11,17 @@ pub enum SectorError {
     #[error("unreadable")]
     Unreadable,
 }
+
+/// Why a disk isn't opened on a device of sectors, or made there.
+#[derive(Clone, Copy, Debug, PartialEq, Eq, Error)]
+pub enum PlacesError {
+    /// The device has failed, or a sector can't be read that no crash has torn.
+    #[error("fault")]
+    Fault,
+    /// There is no memory for the disk's bytes.
+    #[error("no memory")]
+    NoMemory,
+    /// The device has too few sectors.
+    #[error("too small")]
+    TooSmall,
+}

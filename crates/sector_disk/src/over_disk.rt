@@ -25,6 +25,13 @@ impl<D: Disk + Drop> SectorsOf<D> {
     {
         SectorsOf { disk, size }
     }
+
+    /// The disk whose sectors they are.
+    pub fn disk(&self) -> &D
+        ensures { result.now ≡ self.now.disk }
+    {
+        &self.disk
+    }
 }
 
 impl<D: Disk + Drop> Sectors for SectorsOf<D> {

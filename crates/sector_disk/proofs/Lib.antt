@@ -1,0 +1,5 @@
+pub mod Beginnings
+pub mod Calls
+pub mod Filling
+pub mod Sizes
+pub mod TwoAreas

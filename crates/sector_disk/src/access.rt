@@ -1,0 +1,66 @@
+//! Calls of a device of sectors, by what a crash at any moment of them leaves.
+ghost use Rattle.std.specs.Prelude.{◌≡◌, ◌+◌, ◌*◌, ◌≤◌, [], ◌∷◌, length, IsErrOf, OnOk};
+ghost use Rattle.block_disk.specs.Device.{SameMoments, SameOutside, synced, written};
+ghost use Rattle.block_disk.specs.Images.{ImageBut, LeavesOnly};
+ghost use Rattle.sector_disk.specs.Places.{one_sector};
+ghost use Rattle.sector_disk.specs.Readable.{IsLost};
+ghost use Rattle.sector_disk.specs.Size.{bytes_in, place_of, sector};
+ghost use Rattle.sector_disk.specs.declared.error.SectorError.TheVariants.{Unreadable};
+
+use crate::error::SectorError;
+use crate::sectors::Sectors;
+use crate::size::SectorSize;
+use block_disk::Fault;
+
+/// Writes a sector. Whatever it answers, a crash may leave any bytes in it, and no others.
+pub(crate) fn put_sector<S: Sectors>(
+    sectors: &mut S,
+    size: SectorSize,
+    number: u64,
+    bytes: &[u8],
+) -> Result<(), Fault>
+    requires size { S.of_size sectors.old ≡ size }
+    requires whole { length bytes.now ≡ bytes_in size }
+    requires fits { place_of size number + bytes_in size ≤ length (S.device sectors.old).now.bytes }
+    ensures ok { OnOk result (S.device sectors.new ≡ written (place_of size number) bytes.now (S.device sectors.old)) }
+    ensures same { SameOutside (one_sector size number ∷ []) (S.device sectors.old).now.bytes (S.device sectors.new).now.bytes }
+    ensures any_moment { LeavesOnly (S.device sectors.old) (S.device sectors.new)
+        (ImageBut (S.device sectors.old) (one_sector size number ∷ [])) }
+    ensures size { S.of_size sectors.new ≡ size }
+{
+    match sectors.write_sector(number, bytes) {
+        Ok(()) => Ok(()),
+        Err(_) => Err(Fault),
+    }
+}
+
+/// Makes what was written durable. A fault fixes nothing.
+pub(crate) fn settle<S: Sectors>(sectors: &mut S) -> Result<(), Fault>
+    ensures ok { OnOk result (S.device sectors.new ≡ synced (S.device sectors.old)) }
+    ensures same { (S.device sectors.new).now.bytes ≡ (S.device sectors.old).now.bytes }
+    ensures any_moment { LeavesOnly (S.device sectors.old) (S.device sectors.new) (ImageBut (S.device sectors.old) []) }
+    ensures size { S.of_size sectors.new ≡ S.of_size sectors.old }
+{
+    match sectors.flush() {
+        Ok(()) => Ok(()),
+        Err(_) => Err(Fault),
+    }
+}
+
+/// Reads a sector into `out`, whole.
+pub(crate) fn get_sector<S: Sectors>(
+    sectors: &mut S,
+    size: SectorSize,
+    number: u64,
+    out: &mut [u8],
+) -> Result<(), SectorError>
+    requires size { S.of_size sectors.old ≡ size }
+    requires whole { length out.old ≡ bytes_in size }
+    requires fits { place_of size number + bytes_in size ≤ length (S.device sectors.old).now.bytes }
+    ensures ok { OnOk result (out.new ≡ sector size number (S.device sectors.old).now.bytes) }
+    ensures unreadable { IsErrOf result Unreadable → IsLost (sector size number (S.device sectors.old).now.bytes) }
+    ensures same { SameMoments (S.device sectors.old) (S.device sectors.new) }
+    ensures size { S.of_size sectors.new ≡ size }
+{
+    sectors.read_sector(number, out)
+}

@@ -1,0 +1,135 @@
+//! The gate, which says whose turn it is of two areas.
+ghost use Rattle.std.specs.Prelude.{◌≡◌, ◌+◌, ◌*◌, ◌<◌, ◌≤◌, ℕ, List, [], ◌∷◌, true, false, length, nat_eq, slice_index, OnErr, OnOk};
+ghost use Rattle.block_disk.specs.Device.{Moment, SameOutside};
+ghost use Rattle.block_disk.specs.Images.{Always, ImageBut, LeavesOnly};
+ghost use Rattle.sector_disk.specs.Places.{Holds, Shows, one_sector, turn_of};
+ghost use Rattle.sector_disk.specs.Size.{bytes_in, place_of};
+
+use crate::access::{put_sector, settle};
+use crate::sectors::Sectors;
+use crate::size::SectorSize;
+use block_disk::Fault;
+
+// The number of the gate's sector.
+const GATE: u64 = 1;
+
+/// Whose turn it is of two areas: the second's, if `turn` is true. Where it isn't firm, the gate on the device may say either.
+#[derive(Clone, Copy)]
+pub(crate) struct Gate {
+    pub(crate) turn: bool,
+    pub(crate) is_firm: bool,
+}
+
+/// Makes the gate say whose turn it is, durably, unless it is known to.
+pub(crate) fn confirm<S: Sectors>(
+    sectors: &mut S,
+    size: SectorSize,
+    gate: &mut Gate,
+) -> Result<(), Fault>
+    requires size { S.of_size sectors.old ≡ size }
+    requires fits { place_of size 2 ≤ length (S.device sectors.old).now.bytes }
+    ensures ok { OnOk result (gate.new.is_firm ≡ true) }
+    ensures turn { gate.new.turn ≡ gate.old.turn }
+    ensures same { SameOutside (one_sector size 1 ∷ []) (S.device sectors.old).now.bytes (S.device sectors.new).now.bytes }
+    ensures crash { (count : ℕ) (label : List ℕ) (m : Moment) → Always (S.device sectors.old) (Holds size count gate.old.is_firm gate.old.turn label m)
+        → Always (S.device sectors.new) (Holds size count gate.new.is_firm gate.new.turn label m) }
+    ensures any_moment { (count : ℕ) (label : List ℕ) (m : Moment) → Always (S.device sectors.old) (Holds size count gate.old.is_firm gate.old.turn label m)
+        → LeavesOnly (S.device sectors.old) (S.device sectors.new) (Shows size count label m) }
+    ensures size { S.of_size sectors.new ≡ size }
+{
+    let is_firm = gate.is_firm;
+    if is_firm {
+        return Ok(());
+    }
+    turn_gate(sectors, size, gate)
+}
+
+/// Makes the gate say whose turn it is, durably. Until then either may be: both areas have to be right.
+pub(crate) fn turn_gate<S: Sectors>(
+    sectors: &mut S,
+    size: SectorSize,
+    gate: &mut Gate,
+) -> Result<(), Fault>
+    requires size { S.of_size sectors.old ≡ size }
+    requires fits { place_of size 2 ≤ length (S.device sectors.old).now.bytes }
+    requires waits { gate.old.is_firm ≡ false }
+    ensures ok { OnOk result (gate.new.is_firm ≡ true) }
+    ensures err { OnErr result (gate.new.is_firm ≡ false) }
+    ensures turn { gate.new.turn ≡ gate.old.turn }
+    ensures durable { OnOk result ((S.device sectors.new).now.pending ≡ []) }
+    ensures same { SameOutside (one_sector size 1 ∷ []) (S.device sectors.old).now.bytes (S.device sectors.new).now.bytes }
+    ensures crash { (count : ℕ) (label : List ℕ) (m : Moment) → Always (S.device sectors.old) (Holds size count false gate.old.turn label m)
+        → Always (S.device sectors.new) (Holds size count gate.new.is_firm gate.new.turn label m) }
+    ensures any_moment { (count : ℕ) (label : List ℕ) (m : Moment) → Always (S.device sectors.old) (Holds size count false gate.old.turn label m)
+        → LeavesOnly (S.device sectors.old) (S.device sectors.new) (Shows size count label m) }
+    ensures size { S.of_size sectors.new ≡ size }
+{
+    put_gate(sectors, size, gate.turn)?;
+    gate.is_firm = true;
+    Ok(())
+}
+
+/// Makes the gate say so, durably. Until then it may say either.
+pub(crate) fn put_gate<S: Sectors>(
+    sectors: &mut S,
+    size: SectorSize,
+    turn: bool,
+) -> Result<(), Fault>
+    requires size { S.of_size sectors.old ≡ size }
+    requires fits { place_of size 2 ≤ length (S.device sectors.old).now.bytes }
+    ensures durable { OnOk result ((S.device sectors.new).now.pending ≡ []) }
+    ensures turned { OnOk result (turn_of size (S.device sectors.new).now.bytes ≡ turn) }
+    ensures same { SameOutside (one_sector size 1 ∷ []) (S.device sectors.old).now.bytes (S.device sectors.new).now.bytes }
+    ensures any_moment { LeavesOnly (S.device sectors.old) (S.device sectors.new)
+        (ImageBut (S.device sectors.old) (one_sector size 1 ∷ [])) }
+    ensures size { S.of_size sectors.new ≡ size }
+{
+    say_gate(sectors, size, turn)?;
+    // The gate has to be durable before an area is written that it may show.
+    settle(sectors)
+}
+
+// Writes the gate, a whole sector of which the first byte counts.
+fn say_gate<S: Sectors>(sectors: &mut S, size: SectorSize, turn: bool) -> Result<(), Fault>
+    requires size { S.of_size sectors.old ≡ size }
+    requires fits { place_of size 2 ≤ length (S.device sectors.old).now.bytes }
+    ensures turned { OnOk result (turn_of size (S.device sectors.new).now.bytes ≡ turn) }
+    ensures same { SameOutside (one_sector size 1 ∷ []) (S.device sectors.old).now.bytes (S.device sectors.new).now.bytes }
+    ensures any_moment { LeavesOnly (S.device sectors.old) (S.device sectors.new)
+        (ImageBut (S.device sectors.old) (one_sector size 1 ∷ [])) }
+    ensures size { S.of_size sectors.new ≡ size }
+{
+    let mut room = [0u8; 4096];
+    match size {
+        SectorSize::Bytes512 => say_in(sectors, size, turn, &mut room[..512]),
+        SectorSize::Bytes4096 => say_in(sectors, size, turn, &mut room),
+    }
+}
+
+// Writes the gate, by way of these bytes.
+fn say_in<S: Sectors>(
+    sectors: &mut S,
+    size: SectorSize,
+    turn: bool,
+    bytes: &mut [u8],
+) -> Result<(), Fault>
+    requires size { S.of_size sectors.old ≡ size }
+    requires whole { length bytes.old ≡ bytes_in size }
+    requires fits { place_of size 2 ≤ length (S.device sectors.old).now.bytes }
+    ensures turned { OnOk result (turn_of size (S.device sectors.new).now.bytes ≡ turn) }
+    ensures same { SameOutside (one_sector size 1 ∷ []) (S.device sectors.old).now.bytes (S.device sectors.new).now.bytes }
+    ensures any_moment { LeavesOnly (S.device sectors.old) (S.device sectors.new)
+        (ImageBut (S.device sectors.old) (one_sector size 1 ∷ [])) }
+    ensures size { S.of_size sectors.new ≡ size }
+{
+    say_turn(turn, bytes);
+    put_sector(sectors, size, GATE, bytes)
+}
+
+// Says so in the gate's bytes.
+fn say_turn(turn: bool, bytes: &mut [u8])
+    requires { 0 < length bytes.old }
+    ensures { nat_eq (slice_index bytes.new 0) 1 ≡ turn }
+{
+    bytes[0] = u8::from(turn);
+}

@@ -1,0 +1,199 @@
+//! A disk in two places on a device of sectors.
+ghost use Rattle.std.specs.Prelude.{◌≡◌, ◌⊎◌, ◌+◌, ◌*◌, ◌^◌, ◌<◌, ◌≤◌, ℕ, List, IfOk, IsErrOf, OnErr, OnOk, [], length, replicate};
+ghost use Rattle.block_disk.specs.Bytes.{part, spliced};
+ghost use Rattle.block_disk.specs.Device.{HasFailed, SameMoments, TornWrite, synced, written};
+ghost use Rattle.block_disk.specs.Images.{Always, LeavesOnly};
+ghost use Rattle.block_disk.specs.declared.error.DiskError.TheVariants.{Fault, OutOfRange};
+ghost use Rattle.sector_disk.specs.Places.{IsKept, Shows, shown};
+ghost use Rattle.sector_disk.specs.Size.{place_of, sector};
+ghost use Rattle.sector_disk.specs.Trace.{new_device};
+
+use crate::error::PlacesError;
+use crate::gate::Gate;
+use crate::marks::Marks;
+use crate::opening::{Found, find_places, make_places};
+use crate::places::{sync_places, write_image};
+use crate::sectors::Sectors;
+use crate::size::SectorSize;
+use crate::trace::Trace;
+use block_disk::{Disk, DiskError, copy_out, fail, lies_within};
+use std::alloc::Global;
+use std::marker::Model;
+
+/// A disk whose bytes lie in two areas of a device of sectors by turns, so that no sector is written that a crash has to leave:
+/// it is right too where a sector that was being written holds any bytes after a crash, or can't be read. No number and no sum
+/// tells which area is whole, but the order of flushes alone (docs/FORMAT.md, "Sectors in two places").
+///
+/// Its bytes are in memory, and reach the device at each sync, by two flushes. A `Fault` is one of the device in a sync; the
+/// next one writes again what was written since the last that succeeded.
+#[derive(Drop)]
+pub struct TwoPlaces<S: Sectors + Drop> {
+    sectors: S,
+    size: SectorSize,
+    image: Vec<u8>,
+    // Of each sector: whether the area whose turn it is may hold something else.
+    fresh: Marks,
+    // The same of the other area.
+    stale: Marks,
+    gate: Gate,
+    failures: u64,
+    trace: Trace,
+}
+
+impl<S: Sectors + Drop> Model for TwoPlaces<S> {
+    ghost use Rattle.std.specs.Prelude.{◌≡◌, length};
+    ghost use Rattle.sector_disk.specs.Disks.{Layered};
+    ghost use Rattle.sector_disk.specs.Places.{IsKept};
+    ghost use Rattle.sector_disk.specs.Trace.{failing};
+
+    ghost Value = { Layered };
+
+    ghost view = { λ d. record { device = failing d.failures d.trace.device; sectors = S.device d.sectors; size = d.size; count = length d.fresh } };
+
+    ghost invariant = { λ d. (S.of_size d.sectors ≡ d.size) × IsKept d.size d.gate.is_firm d.gate.turn d.fresh d.stale d.image.items d.trace.device.now (S.device d.sectors) };
+}
+
+impl<S: Sectors + Drop> TwoPlaces<S> {
+    /// The disk of so many sectors that these stand for. They are flushed first, so that what is read is what a crash leaves.
+    ///
+    /// `TooSmall` is tried first; then `Fault` and `NoMemory`, as they come.
+    pub fn open(alloc: Global, mut sectors: S, count: usize) -> Result<TwoPlaces<S>, PlacesError>
+        ensures ok { IfOk result (λ disk. disk.device ≡ new_device (shown (S.of_size sectors) count (S.device sectors).now.bytes)) }
+        ensures size { IfOk result (λ disk. (disk.size ≡ S.of_size sectors) × (disk.count ≡ count)) }
+    {
+        let size = sectors.sector_size();
+        let found = find_places(alloc, &mut sectors, size, count)?;
+        Ok(TwoPlaces::holding(sectors, size, found))
+    }
+
+    /// A disk of so many sectors of zeros, durably. Refused as of [`open`](TwoPlaces::open).
+    pub fn create(alloc: Global, mut sectors: S, count: usize) -> Result<TwoPlaces<S>, PlacesError>
+        ensures ok { IfOk result (λ disk. disk.device ≡ new_device (replicate (place_of (S.of_size sectors) count) 0)) }
+        ensures size { IfOk result (λ disk. (disk.size ≡ S.of_size sectors) × (disk.count ≡ count)) }
+    {
+        let size = sectors.sector_size();
+        let found = make_places(alloc, &mut sectors, size, count)?;
+        Ok(TwoPlaces::holding(sectors, size, found))
+    }
+
+    // The disk of these bytes, which lie on the device as is said.
+    fn holding(sectors: S, size: SectorSize, found: Found) -> TwoPlaces<S>
+        requires size { S.of_size sectors ≡ size }
+        requires kept { IsKept size found.gate.is_firm found.gate.turn found.fresh found.stale found.image.items
+            (record { bytes = found.image.items; pending = [] }) (S.device sectors) }
+        ensures device { result.device ≡ new_device found.image.items }
+        ensures size { (result.size ≡ size) × (result.count ≡ length found.fresh) }
+    {
+        let trace = Trace::of(&found.image);
+        TwoPlaces {
+            sectors,
+            size,
+            image: found.image,
+            fresh: found.fresh,
+            stale: found.stale,
+            gate: found.gate,
+            failures: 0,
+            trace,
+        }
+    }
+
+    /// The sectors that it lies on.
+    pub fn sectors(&self) -> &S
+        ensures { S.device result.now ≡ self.now.sectors }
+    {
+        &self.sectors
+    }
+
+    /// Whatever a crash may leave of the device now stands for what it may leave of the disk, and has the same first sector.
+    pub fn possible_law(&self)
+        ensures { Always self.now.sectors (Shows self.now.size self.now.count (sector self.now.size 0 self.now.sectors.now.bytes) self.now.device.now) }
+    {
+        let _ = &self.image;
+    }
+}
+
+impl<S: Sectors + Drop> Disk for TwoPlaces<S> {
+    ghost device = { λ d. d.device };
+
+    fn size(&self) -> u64 {
+        self.image.len() as u64
+    }
+
+    /// Reads the memory, and never answers `Fault`.
+    fn read_at(&mut self, at: u64, out: &mut [u8]) -> Result<(), DiskError>
+        ensures in_range { OnOk result (at + length out.old ≤ length self.old.device.now.bytes) }
+        ensures ok { OnOk result (out.new ≡ part at (length out.old) self.old.device.now.bytes) }
+        ensures same { OnOk result (self.new.device ≡ self.old.device) }
+        ensures out_of_range { IsErrOf result OutOfRange → (length self.old.device.now.bytes < at + length out.old)
+            × (out.new ≡ out.old) × (self.new.device ≡ self.old.device) }
+        ensures fault { IsErrOf result Fault → SameMoments self.old.device self.new.device }
+        ensures cause { IsErrOf result Fault → HasFailed self.old.device.failures self.new.device.failures }
+        ensures no_fault { ¬ IsErrOf result Fault }
+        ensures sectors { self.new.sectors ≡ self.old.sectors }
+        ensures count { (self.new.size ≡ self.old.size) × (self.new.count ≡ self.old.count) }
+    {
+        if !lies_within(at, out.len(), self.image.len()) {
+            return Err(DiskError::OutOfRange);
+        }
+        copy_out(&self.image, at, out);
+        Ok(())
+    }
+
+    /// Writes the memory, and leaves the device as it is. It never answers `Fault`.
+    fn write_at(&mut self, at: u64, bytes: &[u8]) -> Result<(), DiskError>
+        ensures in_range { OnOk result (at + length bytes.now ≤ length self.old.device.now.bytes) }
+        ensures ok { OnOk result (self.new.device ≡ written at bytes.now self.old.device) }
+        ensures out_of_range { IsErrOf result OutOfRange → (length self.old.device.now.bytes < at + length bytes.now)
+            × (self.new.device ≡ self.old.device) }
+        ensures fault { IsErrOf result Fault → SameMoments self.old.device self.new.device
+            ⊎ TornWrite at (length bytes.now) self.old.device self.new.device }
+        ensures cause { IsErrOf result Fault → HasFailed self.old.device.failures self.new.device.failures }
+        ensures no_fault { ¬ IsErrOf result Fault }
+        ensures sectors { self.new.sectors ≡ self.old.sectors }
+        ensures count { (self.new.size ≡ self.old.size) × (self.new.count ≡ self.old.count) }
+    {
+        if !lies_within(at, bytes.len(), self.image.len()) {
+            return Err(DiskError::OutOfRange);
+        }
+        write_image(
+            &mut self.fresh,
+            &mut self.stale,
+            self.size,
+            &mut self.image,
+            at,
+            bytes,
+        );
+        self.trace.write(at, bytes);
+        Ok(())
+    }
+
+    /// Writes to the area whose turn it isn't what it lacks, flushes, turns the gate, and flushes. A crash at any moment of it leaves what
+    /// stands for what a crash of the disk may leave that comes before the sync.
+    fn sync(&mut self) -> Result<(), DiskError>
+        ensures ok { OnOk result (self.new.device ≡ synced self.old.device) }
+        ensures in_range { ¬ IsErrOf result OutOfRange }
+        ensures fault { IsErrOf result Fault → SameMoments self.old.device self.new.device }
+        ensures cause { IsErrOf result Fault → HasFailed self.old.device.failures self.new.device.failures }
+        ensures any_moment { LeavesOnly self.old.sectors self.new.sectors
+            (Shows self.old.size self.old.count (sector self.old.size 0 self.old.sectors.now.bytes) self.old.device.now) }
+        ensures count { (self.new.size ≡ self.old.size) × (self.new.count ≡ self.old.count) }
+    {
+        match sync_places(
+            &mut self.sectors,
+            self.size,
+            &mut self.gate,
+            &mut self.fresh,
+            &mut self.stale,
+            &self.image,
+        ) {
+            Ok(()) => {}
+            Err(_) => return Err(fail(&mut self.failures)),
+        }
+        self.trace.sync();
+        Ok(())
+    }
+
+    fn failures(&self) -> u64 {
+        self.failures
+    }
+}

@@ -1,0 +1,125 @@
+//! What a crash makes of the sectors that were in flight.
+use crate::chance::Chance;
+use block_disk::{Fill, MemDisk};
+use sector_disk::{MemSectors, SectorSize};
+use std::alloc::Global;
+
+/// What becomes of a sector in flight that is neither as it was nor as it was to be.
+#[derive(Clone, Copy, Debug, PartialEq, Eq)]
+pub(crate) enum Damage {
+    /// Nothing: it is one or the other.
+    OldOrNew,
+    /// Its beginning is new, and the rest old.
+    Torn,
+    /// Any bytes stand behind a place.
+    AnyBytes,
+    /// It can't be read.
+    Unreadable,
+}
+
+/// The sectors that a crash leaves in this stop of the disk.
+pub(crate) fn crashed(
+    alloc: Global,
+    disk: &MemDisk,
+    stop: u64,
+    size: SectorSize,
+    damage: Damage,
+    chance: &mut Chance,
+) -> Option<MemSectors> {
+    let mut bytes = image(alloc, disk, stop, Fill::Lost)?;
+    let new = image(alloc, disk, stop, Fill::Kept)?;
+    let zeros = image(alloc, disk, stop, Fill::Byte(0))?;
+    let ones = image(alloc, disk, stop, Fill::Byte(1))?;
+    let count = bytes.len() / size.bytes();
+    let mut lost = vec![in alloc; false; count].ok()?;
+    for i in 0..count {
+        let is_in_flight = part(&zeros, i, size) != part(&ones, i, size);
+        if is_in_flight {
+            let is_lost = hurt(
+                part_mut(&mut bytes, i, size),
+                part(&new, i, size),
+                damage,
+                chance,
+            );
+            if is_lost && i < lost.len() {
+                lost[i] = true;
+            }
+        }
+    }
+    let mut sectors = MemSectors::from_bytes(alloc, size, &bytes).ok()?;
+    lose_each(&mut sectors, &lost);
+    Some(sectors)
+}
+
+fn lose_each(sectors: &mut MemSectors, lost: &[bool]) {
+    for i in 0..lost.len() {
+        if lost[i] {
+            sectors.lose(i as u64);
+        }
+    }
+}
+
+fn image(alloc: Global, disk: &MemDisk, stop: u64, fill: Fill) -> Option<Vec<u8>> {
+    match disk.crash_image(stop, fill) {
+        Ok(Some(left)) => left.bytes().to_vec(alloc).ok(),
+        _ => None,
+    }
+}
+
+// A sector's bytes; none where there is no such sector.
+pub(crate) fn part(bytes: &[u8], i: usize, size: SectorSize) -> &[u8] {
+    let len = size.bytes();
+    if i < bytes.len() / len {
+        &bytes[i * len..i * len + len]
+    } else {
+        &bytes[..0]
+    }
+}
+
+pub(crate) fn part_mut(bytes: &mut [u8], i: usize, size: SectorSize) -> &mut [u8] {
+    let len = size.bytes();
+    if i < bytes.len() / len {
+        &mut bytes[i * len..i * len + len]
+    } else {
+        &mut bytes[..0]
+    }
+}
+
+// Makes of a sector's old bytes what the crash leaves; whether it can't be read.
+fn hurt(bytes: &mut [u8], new: &[u8], damage: Damage, chance: &mut Chance) -> bool {
+    match chance.below(3) {
+        0 => false,
+        1 => {
+            begin(bytes, new, new.len());
+            false
+        }
+        _ => worst(bytes, new, damage, chance),
+    }
+}
+
+fn worst(bytes: &mut [u8], new: &[u8], damage: Damage, chance: &mut Chance) -> bool {
+    let len = bytes.len();
+    if len == 0 {
+        return false;
+    }
+    let cut = chance.below(len as u64) as usize;
+    match damage {
+        Damage::OldOrNew => begin(bytes, new, new.len()),
+        Damage::Torn => begin(bytes, new, cut),
+        Damage::AnyBytes => garble(bytes, cut, chance),
+        Damage::Unreadable => return true,
+    }
+    false
+}
+
+// So many of the new bytes.
+fn begin(bytes: &mut [u8], new: &[u8], len: usize) {
+    let len = len.min(bytes.len()).min(new.len());
+    bytes[..len].copy_from_slice(&new[..len]);
+}
+
+fn garble(bytes: &mut [u8], from: usize, chance: &mut Chance) {
+    for i in from..bytes.len() {
+        bytes[i] = chance.below(256) as u8;
+    }
+}

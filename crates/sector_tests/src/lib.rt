@@ -1,0 +1,16 @@
+//! Crashes of disks on a device of sectors, by public calls.
+//!
+//! A disk is written by chance and synced; a crash comes in the sync or behind it, and what was in flight becomes what one of
+//! four models says. Then the disk is opened of what is left: each byte that wasn't written since the last sync must be there.
+#![tactic(auto)]
+
+#[cfg(test)]
+mod chance;
+#[cfg(test)]
+mod damage;
+#[cfg(test)]
+mod in_place;
+#[cfg(test)]
+mod truth;
+#[cfg(test)]
+mod two_places;
