@@ -50,10 +50,10 @@ round_since first old new store.Fault low stops = failed_since first.failures ol
 round_since first old new store.Unfinished low stops = absurd stops
 
 -- a round of a helper whose store hadn't failed
-pub round_stops : (old new : Device) (x y : Known) (r : Result ℕ StoreError) → x.has_failed ≡ false → IfErr r (RefusesRound x y) → HasCause old.failures new.failures store.Fault r → (y.committed.sequence ≡ 2 ^ 64 - 1 → IsWornOut new) → IfErr r (λ e. StopsRound old new e)
+pub round_stops : (old new : Device) (x y : Known) (r : Result ℕ StoreError) → x.has_failed ≡ false → IfErr r (RefusesRound x y) → HasCause old.failures new.failures store.Fault r → (y.has_failed ≡ false → y.committed.sequence ≡ 2 ^ 64 - 1 → IsWornOut new) → IfErr r (λ e. StopsRound old new e)
 round_stops old new x y (Ok n) running refused cause worn = tt
-round_stops old new x y (Err store.Failed) running refused cause worn = absurd (let both : true ≡ false = sym refused ∙ running in cc)
-round_stops old new x y (Err store.Worn) running refused cause worn = worn refused.1
+round_stops old new x y (Err store.Failed) running refused cause worn = absurd (let both : true ≡ false = sym refused.0 ∙ running in cc)
+round_stops old new x y (Err store.Worn) running refused cause worn = worn refused.1 refused.2
 round_stops old new x y (Err store.Fault) running refused cause worn = cause.failed refl
 round_stops old new x y (Err store.BadLane) running refused cause worn = absurd refused
 round_stops old new x y (Err store.BadId) running refused cause worn = absurd refused
@@ -64,8 +64,8 @@ round_stops old new x y (Err store.Unwritten) running refused cause worn = absur
 round_stops old new x y (Err store.Unfinished) running refused cause worn = absurd refused
 
 -- a helper's device, where its store's control has the last sequence
-pub worn_out : {D : Type 0} (device : D → Device) (h : Home) (x : Parts D) → IsHelping device h x → x.store.known.committed.sequence ≡ 2 ^ 64 - 1 → IsWornOut (device x.store.disk)
-worn_out device h x helping last = record { known = x.store.known; setting = plan h; past = helping.past; has = helping.serving.taken.has; last = last }
+pub worn_out : {D : Type 0} (device : D → Device) (h : Home) (x : Parts D) → IsHelping device h x → x.store.known.has_failed ≡ false → x.store.known.committed.sequence ≡ 2 ^ 64 - 1 → IsWornOut (device x.store.disk)
+worn_out device h x helping runs last = record { known = x.store.known; setting = plan h; past = helping.past; has = helping.serving.taken.has; runs = runs; last = last }
 
 none_open : (lane : ℕ) (es : List Ended) → HoldNone es → HasOpen lane es → ⊥
 none_open lane [] none has = absurd has

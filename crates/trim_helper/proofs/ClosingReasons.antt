@@ -24,8 +24,8 @@ module _ (old : Known) (before now : Device) (reason : StoreError) (e : CloseErr
   -- what was applied could not be made durable
   pub why_settled : (mid new : Known) (s : Setting) (p : Past) → mid.has_failed ≡ old.has_failed → RefusesRound mid new reason → HasPast new s p now → (reason ≡ Fault → HasFailed before.failures now.failures) → IsCloseWhy old before now e
   why_settled mid new s p same why has broke = record {
-    failed = λ is. let told : RefusesRound mid new Failed = subst (RefusesRound mid new) (failed is) why in sym same ∙ told;
-    worn = λ is. let told : RefusesRound mid new Worn = subst (RefusesRound mid new) (worn is) why in record { known = new; setting = s; past = p; has = has; last = told.1 };
+    failed = λ is. let told : RefusesRound mid new Failed = subst (RefusesRound mid new) (failed is) why in sym same ∙ told.0;
+    worn = λ is. let told : RefusesRound mid new Worn = subst (RefusesRound mid new) (worn is) why in record { known = new; setting = s; past = p; has = has; runs = told.1; last = told.2 };
     fault = λ is. broke (fault stop is);
   }
 

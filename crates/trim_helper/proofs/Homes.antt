@@ -102,48 +102,48 @@ home_moved x y Unwritten same h = elim h [ ]
 home_moved x y Unfinished same h = elim h [ ]
 
 -- nothing could be logged
-pub refused_log : (x y : Known) (p : Past) (e : StoreError) → RefusesLog x p e → (e ≡ Fault) ⊎ (y ≡ x) → RefusesRound x y e
-refused_log x y p Failed h same = h
-refused_log x y p Fault h same = h
-refused_log x y p Worn h same = (h.0, ⊎_elim (λ no. absurd cc) (λ as_was. ap (λ (z : Known). z.committed.sequence) as_was ∙ h.1) same)
-refused_log x y p BadLane h same = elim h [ ]
-refused_log x y p BadId h same = elim h [ ]
-refused_log x y p NotNext h same = elim h [ ]
-refused_log x y p TooLong h same = elim h [ ]
-refused_log x y p LogFull h same = elim h [ ]
-refused_log x y p Unwritten h same = elim h [ ]
-refused_log x y p Unfinished h same = elim h [ ]
+pub refused_log : (x y : Known) (p : Past) (e : StoreError) → RefusesLog x p e → (e ≡ Fault) ⊎ (y ≡ x) → (e ≡ Fault → y.has_failed ≡ true) → RefusesRound x y e
+refused_log x y p Failed h same off = (h, ⊎_elim (λ no. absurd cc) (λ as_was. ap (λ (z : Known). z.has_failed) as_was ∙ h) same)
+refused_log x y p Fault h same off = (h, off refl)
+refused_log x y p Worn h same off = (h.0, ⊎_elim (λ no. absurd cc) (λ as_was. ap (λ (z : Known). z.has_failed) as_was ∙ h.0) same, ⊎_elim (λ no. absurd cc) (λ as_was. ap (λ (z : Known). z.committed.sequence) as_was ∙ h.1) same)
+refused_log x y p BadLane h same off = elim h [ ]
+refused_log x y p BadId h same off = elim h [ ]
+refused_log x y p NotNext h same off = elim h [ ]
+refused_log x y p TooLong h same off = elim h [ ]
+refused_log x y p LogFull h same off = elim h [ ]
+refused_log x y p Unwritten h same off = elim h [ ]
+refused_log x y p Unfinished h same off = elim h [ ]
 
 -- nothing could be written home
-pub refused_home : (x y z : Known) (e : StoreError) → x.has_failed ≡ false → y.has_failed ≡ false → RefusesHome y e → RefusesRound x z e
-refused_home x y z Failed ran runs h = absurd (let no : false ≡ true = sym runs ∙ h in cc)
-refused_home x y z Fault ran runs h = ran
-refused_home x y z Worn ran runs h = elim h [ ]
-refused_home x y z BadLane ran runs h = elim h [ ]
-refused_home x y z BadId ran runs h = elim h [ ]
-refused_home x y z NotNext ran runs h = elim h [ ]
-refused_home x y z TooLong ran runs h = elim h [ ]
-refused_home x y z LogFull ran runs h = elim h [ ]
-refused_home x y z Unwritten ran runs h = elim h [ ]
-refused_home x y z Unfinished ran runs h = elim h [ ]
+pub refused_home : (x y z : Known) (e : StoreError) → x.has_failed ≡ false → y.has_failed ≡ false → RefusesHome y e → (e ≡ Fault → z.has_failed ≡ true) → RefusesRound x z e
+refused_home x y z Failed ran runs h off = absurd (let no : false ≡ true = sym runs ∙ h in cc)
+refused_home x y z Fault ran runs h off = (ran, off refl)
+refused_home x y z Worn ran runs h off = elim h [ ]
+refused_home x y z BadLane ran runs h off = elim h [ ]
+refused_home x y z BadId ran runs h off = elim h [ ]
+refused_home x y z NotNext ran runs h off = elim h [ ]
+refused_home x y z TooLong ran runs h off = elim h [ ]
+refused_home x y z LogFull ran runs h off = elim h [ ]
+refused_home x y z Unwritten ran runs h off = elim h [ ]
+refused_home x y z Unfinished ran runs h off = elim h [ ]
 
 -- nothing could be acknowledged
-refused_settle : (x y z : Known) (s : Setting) (p : Past) (e : StoreError) → x.has_failed ≡ false → y.has_failed ≡ false → IsClean s p → RefusesSettle y s p e → (e ≡ Fault) ⊎ (z ≡ y) → RefusesRound x z e
-refused_settle x y z s p Failed ran runs clean h same = absurd (let no : false ≡ true = sym runs ∙ h in cc)
-refused_settle x y z s p Fault ran runs clean h same = ran
-refused_settle x y z s p Worn ran runs clean h same = (ran, ⊎_elim (λ no. absurd cc) (λ as_was. ap (λ (k : Known). k.committed.sequence) as_was ∙ h.2) same)
-refused_settle x y z s p Unwritten ran runs clean h same = absurd (let no : true ≡ false = sym h.1.2 ∙ clean h.1.0 h.1.1 in cc)
-refused_settle x y z s p BadLane ran runs clean h same = elim h [ ]
-refused_settle x y z s p BadId ran runs clean h same = elim h [ ]
-refused_settle x y z s p NotNext ran runs clean h same = elim h [ ]
-refused_settle x y z s p TooLong ran runs clean h same = elim h [ ]
-refused_settle x y z s p LogFull ran runs clean h same = elim h [ ]
-refused_settle x y z s p Unfinished ran runs clean h same = elim h [ ]
+refused_settle : (x y z : Known) (s : Setting) (p : Past) (e : StoreError) → x.has_failed ≡ false → y.has_failed ≡ false → IsClean s p → RefusesSettle y s p e → (e ≡ Fault) ⊎ (z ≡ y) → (e ≡ Fault → z.has_failed ≡ true) → RefusesRound x z e
+refused_settle x y z s p Failed ran runs clean h same off = absurd (let no : false ≡ true = sym runs ∙ h in cc)
+refused_settle x y z s p Fault ran runs clean h same off = (ran, off refl)
+refused_settle x y z s p Worn ran runs clean h same off = (ran, ⊎_elim (λ no. absurd cc) (λ as_was. ap (λ (k : Known). k.has_failed) as_was ∙ runs) same, ⊎_elim (λ no. absurd cc) (λ as_was. ap (λ (k : Known). k.committed.sequence) as_was ∙ h.2) same)
+refused_settle x y z s p Unwritten ran runs clean h same off = absurd (let no : true ≡ false = sym h.1.2 ∙ clean h.1.0 h.1.1 in cc)
+refused_settle x y z s p BadLane ran runs clean h same off = elim h [ ]
+refused_settle x y z s p BadId ran runs clean h same off = elim h [ ]
+refused_settle x y z s p NotNext ran runs clean h same off = elim h [ ]
+refused_settle x y z s p TooLong ran runs clean h same off = elim h [ ]
+refused_settle x y z s p LogFull ran runs clean h same off = elim h [ ]
+refused_settle x y z s p Unfinished ran runs clean h same off = elim h [ ]
 
 pub settle_refused : {D T : Type 0} (x : Known) (y z : stores.Parts D) (s : Setting) (p : Past) (r : Result T StoreError) → x.has_failed ≡ false → y.known.has_failed ≡ false → IsClean s p →
-    MatchResult r (λ done. (y.known.has_failed ≡ false) × IsClean s p) (RefusesSettle y.known s p) → IfErr r (λ e. (e ≡ Fault) ⊎ (z ≡ y)) → IfErr r (RefusesRound x z.known)
-settle_refused x y z s p (Ok t) ran runs clean h same = tt
-settle_refused x y z s p (Err e) ran runs clean h same = refused_settle x y.known z.known s p e ran runs clean h (⊎_elim (λ is. inl is) (λ as_was. inr (ap (λ k. k.known) as_was)) same)
+    MatchResult r (λ done. (y.known.has_failed ≡ false) × IsClean s p) (RefusesSettle y.known s p) → IfErr r (λ e. (e ≡ Fault) ⊎ (z ≡ y)) → (IsErrOf r Fault → z.known.has_failed ≡ true) → IfErr r (RefusesRound x z.known)
+settle_refused x y z s p (Ok t) ran runs clean h same off = tt
+settle_refused x y z s p (Err e) ran runs clean h same off = refused_settle x y.known z.known s p e ran runs clean h (⊎_elim (λ is. inl is) (λ as_was. inr (ap (λ k. k.known) as_was)) same) (λ is. off (ap Err is))
 
 -- a round's refusal is one of three
 pub stops_round : (x y : Known) (e : StoreError) → RefusesRound x y e → IsStop e
@@ -279,7 +279,7 @@ module _ {D : Type 0} (device : D → Device) (s : Setting) (p : Past) (x y : st
     same = same_stay x.known y.known (device x.disk) (device y.disk) s p kept (ran_refused x.known y.known s p _ _ layout has Log tt (failed_or_still device x y r e is refused failed) shown);
     settled = tt;
     failed = λ off. ap Err (failed_log x.known p e off answer);
-    refused = refused_log x.known y.known p e answer (⊎_elim (λ same. inl same) (λ same. inr (ap (λ z. z.known) same)) refused);
+    refused = refused_log x.known y.known p e answer (⊎_elim (λ same. inl same) (λ same. inr (ap (λ z. z.known) same)) refused) (λ same. failed (is ∙ ap Err same));
   }
 
   -- it was, and could not be written home
@@ -291,5 +291,5 @@ module _ {D : Type 0} (device : D → Device) (s : Setting) (p : Past) (x y : st
         same = same_dirtied x.known z.known (device x.disk) (device z.disk) s p was.dirty has.past was.has (logged_then x.known y.known z.known s p _ _ _ layout on has shown _ was.ran);
         settled = tt;
         failed = λ off. absurd (let no : false ≡ true = sym ran.0 ∙ off in cc);
-        refused = refused_home x.known y.known z.known e ran.0 ran.1 home.refused;
+        refused = refused_home x.known y.known z.known e ran.0 ran.1 home.refused (λ is. home.failed (ap Err is));
       }

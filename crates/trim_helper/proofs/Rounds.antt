@@ -279,9 +279,9 @@ pub left_by : (x : Known) (d : Device) (s : Setting) (p : Past) → HasPast x s 
 left_by x d s p has runs = left_always x.layout s p x.committed d (has.agrees runs)
 
 refused_moved : (x x' y : Known) (e : StoreError) → x'.has_failed ≡ x.has_failed → RefusesRound x' y e → RefusesRound x y e
-refused_moved x x' y Failed same h = sym same ∙ h
-refused_moved x x' y Worn same h = (sym same ∙ h.0, h.1)
-refused_moved x x' y Fault same h = sym same ∙ h
+refused_moved x x' y Failed same h = (sym same ∙ h.0, h.1)
+refused_moved x x' y Worn same h = (sym same ∙ h.0, h.1, h.2)
+refused_moved x x' y Fault same h = (sym same ∙ h.0, h.1)
 refused_moved x x' y BadLane same h = elim h [ ]
 refused_moved x x' y BadId same h = elim h [ ]
 refused_moved x x' y NotNext same h = elim h [ ]
@@ -331,7 +331,7 @@ module _ {D : Type 0} (device : D → Device) (s : Setting) (p : Past) (x : Part
         left = tt;
         quiet = λ settled none. absurd (let no : false ≡ true = sym (serving.running settled) ∙ off in cc);
         failed = λ was_off. ap Err is;
-        refused = subst (λ k. RefusesRound x.store.known z.store.known k) (sym is) off;
+        refused = subst (λ k. RefusesRound x.store.known z.store.known k) (sym is) (off, kept.1.advances.running ∙ off);
         unsettled = unsettled;
         unpublished = drains.seat;
         cause = no_fault_of _ _ _ (omega (arith, same_failures)) (λ fault. absurd (let no : Failed ≡ Fault = sym is ∙ err_same (refusal e) e Fault refl fault in cc));

@@ -1,5 +1,5 @@
 -- The sessions that meet the helper.
-use Rattle.std.specs.Prelude.{ℕ, ◌≡◌, ◌≢◌, ◌⊎◌, true, ◌+◌, ◌-◌, ◌^◌, ◌<◌, ◌≤◌, ◌==◌, if◌then◌else◌, List, [], ◌∷◌, map, length}
+use Rattle.std.specs.Prelude.{ℕ, ◌≡◌, ◌≢◌, ◌⊎◌, true, false, ◌+◌, ◌-◌, ◌^◌, ◌<◌, ◌≤◌, ◌==◌, if◌then◌else◌, List, [], ◌∷◌, map, length}
 use Rattle.std.specs.Global.{Global}
 use Rattle.rtrb.specs.Ring.{sent}
 use Rattle.rtrb.specs.declared.AnyItems.{AnyItems}
@@ -84,12 +84,13 @@ RefusesEnded lanes es (Missing l) = (l.0 < lanes) × (count_lane l.0 es ≢ 1) �
 RefusesEnded lanes es (Unfinished l) = IsComplete lanes es × HasOpen l.0 es × ((k : ℕ) → HasOpen k es → l.0 ≤ k)
 RefusesEnded lanes es _ = ⊥
 
--- the device is that of a store whose control has the last sequence
+-- The device is that of a store whose control has the last sequence. The store runs: of one that has failed the device's control isn't known.
 pub record IsWornOut (d : Device) : Type 0 where
   pub known : Known
   pub setting : Setting
   pub past : Past
   pub has : HasPast known setting past d
+  pub runs : known.has_failed ≡ false
   pub last : known.committed.sequence ≡ 2 ^ 64 - 1
 
 -- what of a store stops the closing

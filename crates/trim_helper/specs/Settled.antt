@@ -39,12 +39,12 @@ pub record IsSettled (s : Setting) (p : Past) : Type 0 where
 abbrev pub IsStop : StoreError → Type 0
 IsStop e = (e ≡ Failed) ⊎ ((e ≡ Worn) ⊎ (e ≡ Fault))
 
--- Why a round is refused: the device had failed before; the control has to be written, and its sequence is at its last value; or a call of
--- the device failed now.
+-- Why a round is refused, and whether the store runs on: the device had failed before, so that it doesn't; the control has to be written,
+-- and its sequence is at its last value, so that it does; or a call of the device failed now, so that from now on it doesn't.
 abbrev pub RefusesRound : (old new : Known) → StoreError → Type 0
-RefusesRound old new Failed = old.has_failed ≡ true
-RefusesRound old new Worn = (old.has_failed ≡ false) × (new.committed.sequence ≡ 2 ^ 64 - 1)
-RefusesRound old new Fault = old.has_failed ≡ false
+RefusesRound old new Failed = (old.has_failed ≡ true) × (new.has_failed ≡ true)
+RefusesRound old new Worn = (old.has_failed ≡ false) × (new.has_failed ≡ false) × (new.committed.sequence ≡ 2 ^ 64 - 1)
+RefusesRound old new Fault = (old.has_failed ≡ false) × (new.has_failed ≡ true)
 RefusesRound old new _ = ⊥
 
 -- What was applied is made durable and its stable cut acknowledged, or that is refused.
@@ -65,6 +65,7 @@ module _ {D : Type 0} (device : D → Device) where
     pub clean : OnOk answer (HasClean (device x.disk) y.known (device y.disk) s p s.fields)
     pub kept : OnErr answer (HasClean (device x.disk) y.known (device y.disk) s p 0)
     pub refused : IfErr answer (RefusesHome x.known)
+    pub failed : IsErrOf answer Fault → y.known.has_failed ≡ true
 
   -- so each of these does, whatever past the store has
   abbrev pub WritesHome : (x y : stores.Parts D) → Result (Unit {0}) StoreError → Type 0

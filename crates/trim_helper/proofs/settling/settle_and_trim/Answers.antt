@@ -55,4 +55,4 @@ returns-clause-settles g c = λ s p has.
     (c.in_default-write_home.ensures.running ∙ c.in_default.ensures.running.1) now
     (ran_both_refused z w s now f e c.settle_and_trim.ensures.layout was.has why (c.settle_and_trim.ensures.shown s now was.has))))
     (c.settle_and_trim.ensures.kept s now was.has))
-    (settle_refused x.known c.write_home.new.store c.settle_and_trim.new.self s now c.settle_and_trim.result c.in_default.ensures.running.0 runs was.clean (c.settle_and_trim.ensures.answer s now was.has) c.settle_and_trim.ensures.refused)
+    (settle_refused x.known c.write_home.new.store c.settle_and_trim.new.self s now c.settle_and_trim.result c.in_default.ensures.running.0 runs was.clean (c.settle_and_trim.ensures.answer s now was.has) c.settle_and_trim.ensures.refused c.settle_and_trim.ensures.failed)

@@ -51,4 +51,4 @@ returns-clause-settles g c = λ s p has.
     (c.in_default-write_home.ensures.running ∙ c.in_default.ensures.running.1) now
     (ran_refused z w s now f e c.settle.ensures.layout was.has Settle tt why (c.settle.ensures.shown s now was.has))))
     (c.settle.ensures.kept s now was.has))
-    (settle_refused x.known c.write_home.new.store c.settle.new.self s now c.settle.result c.in_default.ensures.running.0 runs was.clean (c.settle.ensures.answer s now was.has) c.settle.ensures.refused)
+    (settle_refused x.known c.write_home.new.store c.settle.new.self s now c.settle.result c.in_default.ensures.running.0 runs was.clean (c.settle.ensures.answer s now was.has) c.settle.ensures.refused c.settle.ensures.failed)

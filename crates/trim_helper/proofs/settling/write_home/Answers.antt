@@ -1,6 +1,7 @@
-use Rattle.std.proofs.Common.{◌∙◌, ◌≡◌, ap, refl, sym, arith}
+use Rattle.std.proofs.Common.{◌∙◌, ◌≡◌, Err, ap, refl, sym, arith}
+use Rattle.store_past.specs.declared.error.StoreError.TheVariants.{Fault}
 use Rattle.durable.proofs.Running.{failed_or_still}
-use Rattle.trim_helper.proofs.Homes.{no_fault, passed_on, clean_none, clean_most, clean_done, clean_more, clean_kept, dirtied, home_moved}
+use Rattle.trim_helper.proofs.Homes.{no_fault, err_same, passed_on, clean_none, clean_most, clean_done, clean_more, clean_kept, dirtied, home_moved}
 use Rattle.trim_helper.proofs.settling.write_home.Goals as goal
 
 pub loop-field-init : goal.loop-field-init
@@ -14,6 +15,7 @@ returns-in-Ok-Done-clause-home g c = λ s p has.
           (c.in-Ok-Done.ensures.ok s (dirtied p was.dirty) was.has) (c.in-Ok-Done.ensures.answer s (dirtied p was.dirty) was.has).1;
       kept = tt;
       refused = tt;
+      failed = λ is. absurd cc;
     }
 
 pub returns-in-Ok-Done-clause-layout : goal.returns-in-Ok-Done-clause-layout
@@ -28,6 +30,7 @@ returns-in-Err-clause-home g c = λ s p has.
       kept = clean_kept _ _ _ _ _ s p _ was c.home_step.ensures.layout all.1 (failed_or_still g.D.Disk.device c.loop-field.store c.home_step.new.self c.home_step.result c.in-Err.reason c.in-Err.is c.in-Err.ensures.refused c.home_step.ensures.failed)
           (c.home_step.ensures.shown s (dirtied p was.dirty) was.has) (c.in-Err.ensures.kept s (dirtied p was.dirty) was.has);
       refused = home_moved c.args.store.now.known c.loop-field.store.known c.in-Err.reason c.loop-field.invariant.running (c.in-Err.ensures.answer s (dirtied p was.dirty) was.has);
+      failed = λ is. c.home_step.ensures.failed (c.in-Err.is ∙ ap Err (err_same (Err c.in-Err.reason) c.in-Err.reason Fault refl is));
     }
 
 pub returns-in-Err-clause-layout : goal.returns-in-Err-clause-layout
@@ -52,7 +55,7 @@ returns-clause-home g c = λ s p has.
     let same = c.loop-field.invariant.layout in
     let at : c.layout-fields.result.fields ≡ c.args.store.now.known.layout.fields = ap (λ l. l.fields) c.layout-fields.ensures in
     let now : c.loop-field.store.known.layout.fields ≡ c.args.store.now.known.layout.fields = ap (λ l. l.fields) same in
-    record { clean = clean_most _ _ _ s p _ (omega (arith, c.loop-field-test.false)) was; kept = tt; refused = tt }
+    record { clean = clean_most _ _ _ s p _ (omega (arith, c.loop-field-test.false)) was; kept = tt; refused = tt; failed = λ is. absurd cc }
 
 pub returns-clause-layout : goal.returns-clause-layout
 returns-clause-layout g c = c.loop-field.invariant.layout
