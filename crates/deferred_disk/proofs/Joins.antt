@@ -22,7 +22,7 @@ join_either at more newest older P one own = elim (cases_Bool (goes_on_with newe
 ]
 
 -- a write with which another goes on ends where that begins
-ends_at : (from : ℕ) (bytes : List ℕ) (at more : ℕ) → goes_on_with (Wrote from bytes) at more ≡ true → from + length bytes ≡ at
+pub ends_at : (from : ℕ) (bytes : List ℕ) (at more : ℕ) → goes_on_with (Wrote from bytes) at more ≡ true → from + length bytes ≡ at
 ends_at from bytes at more is = let parts : ((from + length bytes == at) ≡ true) × (nat_le (length bytes + more) MOST_BYTES ≡ true) = and_parts _ _ is in eqb-true _ _ parts.0
 
 -- outside of both is outside of the joined one
@@ -167,11 +167,11 @@ onto_set before (c ∷ e ∷ cs) zero other last = absurd (omega (arith, last))
 onto_set before (c ∷ e ∷ cs) (suc k) other last = onto_set (stop_of c ∷ before) (e ∷ cs) k other (omega (arith, last))
 
 -- a write that goes on with the newest call
-join_on : (at : ℕ) (more : List ℕ) (newest : Stop) (older : List Stop) → goes_on_with newest at (length more) ≡ true → join_write at more (newest ∷ older) ≡ longer newest more ∷ older
+pub join_on : (at : ℕ) (more : List ℕ) (newest : Stop) (older : List Stop) → goes_on_with newest at (length more) ≡ true → join_write at more (newest ∷ older) ≡ longer newest more ∷ older
 join_on at more newest older is = ap (λ (b : Bool). if b then longer newest more ∷ older else Wrote at more ∷ newest ∷ older) is
 
 -- the call at the last place
-last_is : (before : List Stop) (cs : List DeviceCall) (k : ℕ) (c : DeviceCall) → k + 1 ≡ length cs → c ≡ get_or cs k c → onto before cs ≡ stop_of c ∷ drop 1 (onto before cs)
+pub last_is : (before : List Stop) (cs : List DeviceCall) (k : ℕ) (c : DeviceCall) → k + 1 ≡ length cs → c ≡ get_or cs k c → onto before cs ≡ stop_of c ∷ drop 1 (onto before cs)
 last_is before cs k c last is = onto_last before cs k c last ∙ ap (λ (e : DeviceCall). stop_of e ∷ drop 1 (onto before cs)) (sym is)
 
 -- a write that goes on with the last call makes that longer, where there is memory

@@ -2,3 +2,4 @@ pub mod Onto
 pub mod Joins
 pub mod Names
 pub mod Moments
+pub mod Units

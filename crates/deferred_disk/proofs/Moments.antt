@@ -1,12 +1,11 @@
 -- At which moment of a disk its host's device is.
-use Rattle.std.proofs.Common.{◌≡◌, inl, inr, ℕ, zero, suc, ◌+◌, ◌<◌, ◌≤◌, List, [], ◌∷◌, ◌++◌, length, drop, refl, sym, ◌∙◌, ap, subst, arith, length-append}
+use Rattle.std.proofs.Common.{◌≡◌, inl, inr, ℕ, zero, suc, ◌≤◌, List, [], ◌∷◌, ◌++◌, length, drop, refl, sym, ◌∙◌, ap, subst, arith, length-append}
 use Rattle.block_disk.specs.Bytes.{spliced}
-use Rattle.block_disk.specs.Device.{Device, Image, LeftIn, LeftSince, Moment, range_of}
-use Rattle.block_disk.specs.Images.{Continues}
+use Rattle.block_disk.specs.Device.{Image, LeftIn, Moment, range_of}
 use Rattle.block_disk.specs.Memory.{Stop, Wrote, WriteFailed, Synced, SyncFailed, bytes_after, moment_after, moments_before, pending_after}
 use Rattle.block_disk.proofs.Ranges.{outside_first, outside_rest, outside_sym, outside_trans, spliced_same}
 use Rattle.deferred_disk.specs.Joined.{AllFit, at_sync, join_write, joined, longer}
-use Rattle.deferred_disk.specs.Syncs.{LeftAt, SinceLaw, durable_moments, moments_of, one_if_none, syncs_in}
+use Rattle.deferred_disk.specs.Syncs.{LeftAt, SinceLaw, durable_moments, syncs_in}
 use Rattle.deferred_disk.proofs.Joins.{fewer, image_all, join_either, length_after}
 
 -- the moments of these stops

@@ -7,8 +7,8 @@ use Rattle.rtrb.specs.Ring.{IsPair, SameConsumer, SameProducer}
 use Rattle.rtrb.specs.declared.consumer.Consumer.{Consumer}
 use Rattle.rtrb.specs.declared.end.End.{End}
 use Rattle.rtrb.specs.declared.producer.Producer.{Producer}
-use Rattle.block_disk.specs.Device.{Device, synced}
-use Rattle.block_disk.specs.Memory.{Memory, Synced, device_of, stopped}
+use Rattle.block_disk.specs.Device.{synced}
+use Rattle.block_disk.specs.Memory.{Synced, device_of, stopped}
 use Rattle.deferred_disk.specs.Deferred.{Deferred, deferred_device, first_in}
 use Rattle.deferred_disk.specs.declared.call.Handed.{Handed}
 use Rattle.deferred_disk.specs.declared.call.Handed.TheVariants.{Begun, Calls}

@@ -1,5 +1,5 @@
 -- How the writes of a disk are told to its host: one that goes on where the last one ended is told with it (this project's own).
-use Rattle.std.specs.Prelude.{ℕ, ◌+◌, ◌==◌, ◌&&◌, nat_le, if◌then◌else◌, Bool, false, List, [], ◌∷◌, ◌++◌, length}
+use Rattle.std.specs.Prelude.{ℕ, zero, suc, ◌+◌, ◌*◌, ◌==◌, ◌≡◌, ◌⊎◌, ◌&&◌, nat_le, if◌then◌else◌, Bool, true, false, List, [], ◌∷◌, ◌++◌, length, take, drop}
 use Rattle.block_disk.specs.Memory.{Stop, Wrote, WriteFailed, Synced, SyncFailed, Fits}
 use Rattle.deferred_disk.specs.declared.call.TheConstants.{MOST_BYTES}
 
@@ -22,6 +22,16 @@ abbrev pub join_write : (at : ℕ) → List ℕ → List Stop → List Stop
 join_write at more [] = Wrote at more ∷ []
 join_write at more (newest ∷ older) = if goes_on_with newest at (length more) then longer newest more ∷ older else Wrote at more ∷ newest ∷ older
 
+-- these calls, and n more writes of 16 bytes each, one right behind the other
+abbrev pub join_units : (n at : ℕ) → List ℕ → List Stop → List Stop
+join_units zero at bytes calls = calls
+join_units (suc n) at bytes calls = join_units n (at + 16) (drop 16 bytes) (join_write at (take 16 bytes) calls)
+
+-- the newest call takes n writes of 16 bytes here, or not even one
+abbrev pub TakesAllOrNone : (n at : ℕ) → List Stop → Type 0
+TakesAllOrNone n at [] = Unit {0}
+TakesAllOrNone n at (newest ∷ older) = (goes_on_with newest at (n * 16) ≡ true) ⊎ (goes_on_with newest at 16 ≡ false)
+
 -- these calls, and one more
 abbrev pub join : Stop → List Stop → List Stop
 join (Wrote at more) calls = join_write at more calls
@@ -33,6 +43,11 @@ join SyncFailed calls = SyncFailed ∷ calls
 abbrev pub joined : List Stop → List Stop
 joined [] = []
 joined (stop ∷ older) = join stop (joined older)
+
+-- these stops, and n more writes of 16 bytes each, one right behind the other
+abbrev pub units_onto : (n at : ℕ) → List ℕ → List Stop → List Stop
+units_onto zero at bytes stops = stops
+units_onto (suc n) at bytes stops = units_onto n (at + 16) (drop 16 bytes) (Wrote at (take 16 bytes) ∷ stops)
 
 -- the newest call is a sync, if there is one
 abbrev pub IsAtSync : List Stop → Type 0

@@ -1,5 +1,5 @@
 //! A call of the device, and what a disk hands over at once.
-ghost use Rattle.std.specs.Prelude.{◌≡◌, ◌+◌, ◌==◌, nat_le};
+ghost use Rattle.std.specs.Prelude.{◌≡◌, ◌+◌, ◌*◌, ◌<◌, ◌==◌, ◌&&◌, true, false, nat_le};
 ghost use Rattle.deferred_disk.specs.declared.call.TheConstants.{MOST_BYTES};
 
 /// Writes that are joined to one call have so many bytes at most.
@@ -24,7 +24,7 @@ pub(crate) enum Handed {
 }
 
 impl DeviceCall {
-    ghost use Rattle.std.specs.Prelude.{◌≡◌, length, if◌then◌else◌};
+    ghost use Rattle.std.specs.Prelude.{◌≡◌, ◌<◌, ◌*◌, true, false, length, if◌then◌else◌};
     ghost use Rattle.deferred_disk.specs.Deferred.{stop_of};
     ghost use Rattle.deferred_disk.specs.Joined.{goes_on_with, longer};
 
@@ -40,6 +40,18 @@ impl DeviceCall {
         }
     }
 
+    /// How many writes of 16 bytes each, one right behind the other, go on where this one ended, if they begin at `at`: all
+    /// together have [`MOST_BYTES`] at most.
+    pub(crate) fn room_at(&self, at: u64) -> usize
+        ensures some { 0 < result → goes_on_with (stop_of self.now) at (result * 16) ≡ true }
+        ensures none { result ≡ 0 → goes_on_with (stop_of self.now) at 16 ≡ false }
+    {
+        match self {
+            DeviceCall::Write { at: from, bytes } => room_behind(*from, bytes.len(), at),
+            DeviceCall::Sync => 0,
+        }
+    }
+
     /// Writes these bytes too, behind its own, if there is memory for them.
     pub(crate) fn lengthen(&mut self, more: &[u8]) -> bool
         ensures { stop_of self.new ≡ (if result then longer (stop_of self.old) more.now else stop_of self.old) }
@@ -49,6 +61,17 @@ impl DeviceCall {
             DeviceCall::Sync => false,
         }
     }
+}
+
+// How many writes of 16 bytes each, from `at` on, so many bytes from `from` on take.
+fn room_behind(from: u64, size: usize, at: u64) -> usize
+    ensures some { 0 < result → ((from + size == at) && nat_le (size + result * 16) MOST_BYTES) ≡ true }
+    ensures none { result ≡ 0 → ((from + size == at) && nat_le (size + 16) MOST_BYTES) ≡ false }
+{
+    if size <= MOST_BYTES && is_end(from, size, at) {
+        return (MOST_BYTES - size) / 16;
+    }
+    0
 }
 
 // Whether so many bytes from `from` on end at `at`.

@@ -1,17 +1,18 @@
 //! A disk in memory that hands its calls over.
-ghost use Rattle.std.specs.Prelude.{◌≡◌, ◌⊎◌, ◌+◌, ◌<◌, ◌≤◌, List, [], ◌∷◌, ◌++◌, length, replicate, OnOk, OnErr, IfOk, IsErrOf, if◌then◌else◌};
+ghost use Rattle.std.specs.Prelude.{◌≡◌, ◌⊎◌, ◌+◌, ◌*◌, ◌^◌, ◌<◌, ◌≤◌, List, [], ◌∷◌, ◌++◌, length, replicate, OnOk, OnErr, IfOk, IsErrOf, if◌then◌else◌};
 ghost use Rattle.block_disk.specs.Bytes.{part, spliced};
-ghost use Rattle.block_disk.specs.Device.{HasFailed, SameMoments, TornWrite, synced, written};
+ghost use Rattle.block_disk.specs.Device.{HasFailed, SameMoments, TornWrite, synced, unit_ranges, written, written_units};
+ghost use Rattle.block_disk.specs.Images.{ImageBut, LeavesOnly};
 ghost use Rattle.block_disk.specs.Memory.{Stop, Synced, Wrote, bytes_after, failed, fresh, stopped};
 ghost use Rattle.block_disk.specs.declared.error.DiskError.TheVariants.{Fault, OutOfRange};
 ghost use Rattle.deferred_disk.specs.Deferred.{deferred_device, onto, stop_of, stops_in, first_in};
 ghost use Rattle.deferred_disk.specs.Host.{IsHostOf};
-ghost use Rattle.deferred_disk.specs.Joined.{IsAtSync, join_write, joined};
+ghost use Rattle.deferred_disk.specs.Joined.{IsAtSync, TakesAllOrNone, join_units, join_write, joined};
 ghost use Rattle.deferred_disk.specs.declared.call.DeviceCall.TheVariants as calls;
 ghost use Rattle.deferred_disk.specs.declared.call.Handed.TheVariants as handed;
 ghost use Rattle.rtrb.specs.Ring.{SameProducer, known_free, sent};
 
-use crate::call::{DeviceCall, Handed};
+use crate::call::{DeviceCall, Handed, MOST_BYTES};
 use crate::handing::Handing;
 use crate::host::HostCalls;
 use crate::told::Told;
@@ -145,6 +146,29 @@ impl Disk for DeferredDisk {
         Ok(())
     }
 
+    /// Writes the memory at once, and keeps the units as calls of [`MOST_BYTES`](crate::MOST_BYTES) at most. `Fault` is want of memory
+    /// for one of these; the units behind it aren't written then.
+    fn write_units(&mut self, at: u64, units: &[u8], count: usize) -> Result<(), block_disk::Fault>
+        requires some { 0 < count }
+        requires whole { length units.now ≡ count * 16 }
+        requires fits { at + length units.now ≤ length (deferred_device self.old).now.bytes }
+        ensures ok { OnOk result (deferred_device self.new ≡ written_units count at units.now (deferred_device self.old)) }
+        ensures any_moment { LeavesOnly (deferred_device self.old) (deferred_device self.new) (ImageBut (deferred_device self.old) (unit_ranges count at)) }
+        ensures cause { OnErr result (HasFailed (deferred_device self.old).failures (deferred_device self.new).failures) }
+        ensures ring { SameProducer self.old.ring self.new.ring }
+    {
+        let _size = self.bytes.len();
+        let kept = keep_units(self.alloc, &mut self.unsent, at, units, count);
+        let done = &units[..kept * 16];
+        put(&mut self.bytes, at, done);
+        self.told.write_units(at, done, kept);
+        if kept < count {
+            fail(&mut self.failures);
+            return Err(block_disk::Fault);
+        }
+        Ok(())
+    }
+
     /// Hands over the calls since the last sync, and the sync. `Fault` is want of memory, or of room in the ring; what was
     /// written then waits for the next sync.
     fn sync(&mut self) -> Result<(), DiskError>
@@ -194,6 +218,70 @@ fn keep_write(alloc: Global, calls: &mut Vec<DeviceCall>, at: u64, bytes: &[u8])
         return calls[count - 1].lengthen(bytes);
     }
     keep_new_write(alloc, calls, at, bytes)
+}
+
+// Keeps these units, each a write of its own, as long as there is memory for them. How many it keeps.
+fn keep_units(
+    alloc: Global,
+    calls: &mut Vec<DeviceCall>,
+    at: u64,
+    units: &[u8],
+    count: usize,
+) -> usize
+    requires whole { length units.now ≡ count * 16 }
+    requires fits { at + length units.now < 2 ^ 64 }
+    ensures few { result ≤ count }
+    ensures kept { (before : List Stop) → IsAtSync before → onto before calls.new.items ≡ join_units result at units.now (onto before calls.old.items) }
+{
+    let mut done = 0;
+    while done < count {
+        let from = done * 16;
+        let kept = keep_run(alloc, calls, at + from as u64, &units[from..], count - done);
+        if kept == 0 {
+            return done;
+        }
+        done += kept;
+    }
+    done
+}
+
+// Keeps the first of these units, which are some, if there is memory for them: as many as the last call takes, or one of their own. How
+// many it keeps.
+fn keep_run(
+    alloc: Global,
+    calls: &mut Vec<DeviceCall>,
+    at: u64,
+    units: &[u8],
+    count: usize,
+) -> usize
+    requires some { 0 < count }
+    requires whole { length units.now ≡ count * 16 }
+    ensures few { result ≤ count }
+    ensures kept { (before : List Stop) → IsAtSync before → onto before calls.new.items ≡ join_units result at units.now (onto before calls.old.items) }
+{
+    let run = run_length(calls, at, count);
+    if keep_write(alloc, calls, at, &units[..run * 16]) {
+        return run;
+    }
+    0
+}
+
+// How many of so many units one call takes: the last one, where they go on with it, or one of their own.
+fn run_length(calls: &Vec<DeviceCall>, at: u64, count: usize) -> usize
+    requires some { 0 < count }
+    ensures some { 0 < result }
+    ensures few { result ≤ count }
+    ensures one { result * 16 ≤ 4096 }
+    ensures fits { (before : List Stop) → IsAtSync before → TakesAllOrNone result at (onto before calls.now.items) }
+{
+    let len = calls.len();
+    if len > 0 {
+        let room = calls[len - 1].room_at(at);
+        if room > 0 {
+            return room.min(count);
+        }
+    }
+    count.min(MOST_BYTES / 16)
 }
 
 // Keeps a write of these bytes as a call of its own, if there is memory for it.

@@ -2,6 +2,7 @@
 ghost use Rattle.std.specs.Prelude.{◌≡◌, List, [], ◌∷◌};
 ghost use Rattle.std.specs.Borrow.{ftrue};
 ghost use Rattle.block_disk.specs.Memory.{Stop, Synced, Wrote};
+ghost use Rattle.deferred_disk.specs.Joined.{units_onto};
 ghost use Rattle.deferred_disk.specs.Told.{noted};
 
 use std::marker::{Model, PhantomData};
@@ -33,7 +34,7 @@ impl Told {
         }
     }
 
-    // Proved by hand. One number is the place of a write of these bytes, none a sync.
+    // Proved by hand. One number is the place of a write of these bytes, none a sync; a second one says of how many writes of 16 bytes each.
     fn note(&mut self, _numbers: &[u64], _bytes: &[u8])
         ensures { self.new.stops ≡ noted _numbers.now _bytes.now self.old.stops }
     {}
@@ -43,6 +44,13 @@ impl Told {
         ensures { self.new.stops ≡ Wrote at bytes.now ∷ self.old.stops }
     {
         self.note(&[at], bytes);
+    }
+
+    /// So many writes of 16 bytes each, one right behind the other, from `at` on.
+    pub(crate) fn write_units(&mut self, at: u64, bytes: &[u8], count: usize)
+        ensures { self.new.stops ≡ units_onto count at bytes.now self.old.stops }
+    {
+        self.note(&[at, count as u64], bytes);
     }
 
     /// A sync.

@@ -1,6 +1,6 @@
 use Rattle.std.proofs.Common.{◌≡◌, ◌∷◌, ◌++◌, ◌∙◌, [], List, None, ap, subst}
 use Rattle.block_disk.specs.Device.{synced}
-use Rattle.block_disk.specs.Memory.{Memory, Synced, stopped}
+use Rattle.block_disk.specs.Memory.{Synced, stopped}
 use Rattle.deferred_disk.specs.Deferred.{Deferred, deferred_device, first_in, memory_of}
 use Rattle.deferred_disk.specs.declared.call.Handed.{Handed}
 use Rattle.deferred_disk.specs.declared.call.Handed.TheVariants.{Calls}
