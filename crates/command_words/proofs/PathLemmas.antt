@@ -1,14 +1,14 @@
--- Whether `format` is asked for with one path for both of its files, and `drive` with two lengths.
+-- Whether `format` is asked for with one path for both of its files or with other sectors, and `drive` with two lengths.
 use Rattle.std.proofs.Common.{◌≡◌, ◌≢◌, ℕ, List, [], Option, None, Some, inl, inr, sym, subst, ◌∙◌, ap, arith, codes, length}
 use Rattle.clap.specs.Simple.{subcommand_of}
 use Rattle.clap.specs.Walk.{Row, Text}
 use Rattle.command_words.specs.declared.words.Words.{Words}
 use Rattle.command_words.specs.declared.words.Words.TheVariants as words
-use Rattle.command_words.specs.Words.{AsksFor, HasBothLengths, HasOnePath, MayRead, NamesOneFile, SaysBothLengths, image_of, program, schema_of}
+use Rattle.command_words.specs.Words.{AsksFor, HasBothLengths, HasOnePath, HasOtherSectors, MayRead, NamesOneFile, SaysBothLengths, SaysOtherSectors, image_of, program, schema_of}
 
 pub one_file : (texts : List Text) (asked : Words) → AsksFor (subcommand_of program texts) asked → HasOnePath asked → NamesOneFile texts
 one_file texts (words.Run image schema) asks same = elim same [ ]
-one_file texts (words.Format image schema lanes capacity) (options, found, asks) same =
+one_file texts (words.Format image schema lanes capacity sectors) (options, found, asks) same =
     record { options = options; found = found; same = sym asks.image_is ∙ same ∙ asks.schema_is }
 one_file texts (words.Show image) asks same = elim same [ ]
 one_file texts (words.Draw image last schema) asks same = elim same [ ]
@@ -24,7 +24,7 @@ was_met bits number (Some t) reads none = absurd cc
 
 pub both_lengths : (texts : List Text) (asked : Words) → AsksFor (subcommand_of program texts) asked → HasBothLengths asked → SaysBothLengths texts
 both_lengths texts (words.Run image schema) asks both = elim both [ ]
-both_lengths texts (words.Format image schema lanes capacity) asks both = elim both [ ]
+both_lengths texts (words.Format image schema lanes capacity sectors) asks both = elim both [ ]
 both_lengths texts (words.Show image) asks both = elim both [ ]
 both_lengths texts (words.Draw image last schema) asks both = elim both [ ]
 both_lengths texts (words.Dump image schema) asks both = elim both [ ]
@@ -34,6 +34,18 @@ both_lengths texts (words.Drive workers None seconds image) asks both = elim bot
 both_lengths texts (words.Drive workers (Some rounds) None image) asks both = elim both [ ]
 both_lengths texts (words.Drive workers (Some rounds) (Some seconds) image) (options, found, asks) both =
     record { options = options; found = found; rounds = was_met 32 rounds _ asks.rounds_are; seconds = was_met 32 seconds _ asks.seconds_are }
+
+pub other_sectors : (texts : List Text) (asked : Words) → AsksFor (subcommand_of program texts) asked → HasOtherSectors asked → SaysOtherSectors texts
+other_sectors texts (words.Run image schema) asks other = elim other [ ]
+other_sectors texts (words.Format image schema lanes capacity None) asks other = elim other [ ]
+other_sectors texts (words.Format image schema lanes capacity (Some bytes)) (options, found, asks) other =
+    record { options = options; found = found; bytes = bytes; reads = asks.sectors_are; other = other }
+other_sectors texts (words.Show image) asks other = elim other [ ]
+other_sectors texts (words.Draw image last schema) asks other = elim other [ ]
+other_sectors texts (words.Dump image schema) asks other = elim other [ ]
+other_sectors texts (words.Recover image) asks other = elim other [ ]
+other_sectors texts (words.Upgrade image) asks other = elim other [ ]
+other_sectors texts (words.Drive workers rounds seconds image) asks other = elim other [ ]
 
 -- the word that was met, and what stands behind it
 abbrev word_in : Option (Text × List Row) → Text
@@ -84,7 +96,7 @@ not_dump texts options is one = longer (length (word_in (subcommand_of program t
 pub two_files : (texts : List Text) (asked : Words) → AsksFor (subcommand_of program texts) asked → (HasOnePath asked → ⊥) → NamesOneFile texts → ⊥
 two_files texts (words.Run image schema) (inl none) two one = (none.others one.options).0 one.found
 two_files texts (words.Run image schema) (inr (options, found, asks)) two one = not_run texts options found one
-two_files texts (words.Format image schema lanes capacity) (options, found, asks) two one =
+two_files texts (words.Format image schema lanes capacity sectors) (options, found, asks) two one =
     let same : options ≡ one.options = ap rows_in (sym found ∙ one.found) in
     two (asks.image_is ∙ ap image_of same ∙ one.same ∙ ap schema_of (sym same) ∙ sym asks.schema_is)
 two_files texts (words.Show image) (options, found, path, rest) two one = not_show texts options found one
@@ -93,6 +105,12 @@ two_files texts (words.Dump image schema) (options, found, asks) two one = not_d
 two_files texts (words.Recover image) (options, found, path) two one = not_recover texts options found one
 two_files texts (words.Upgrade image) (options, found, path) two one = not_upgrade texts options found one
 two_files texts (words.Drive workers rounds seconds image) (options, found, asks) two one = not_drive texts options found one
+
+pub none_says_other : (texts : List Text) → subcommand_of program texts ≡ None → SaysOtherSectors texts → ⊥
+none_says_other texts is other = none (length (word_in (subcommand_of program texts))) (ap (λ found. length (word_in found)) is) (ap (λ found. length (word_in found)) other.found)
+
+pub run_says_other : (texts : List Text) (options : List Row) → subcommand_of program texts ≡ Some (codes "run", options) → SaysOtherSectors texts → ⊥
+run_says_other texts options is other = run (length (word_in (subcommand_of program texts))) (ap (λ found. length (word_in found)) is) (ap (λ found. length (word_in found)) other.found)
 
 -- no word is met, or another than `drive`
 

@@ -64,6 +64,14 @@ seconds_option = record (new_rule (codes "seconds")) {
   parser = Some (Signed (pos 1) (pos 3600));
 }
 
+-- the bytes of a sector, which may be missing; 512 to 4,096, of which only these two are taken
+abbrev pub sectors_option : Rule
+sectors_option = record (new_rule (codes "sectors")) {
+  long = Some (codes "sectors");
+  value_names = 1;
+  parser = Some (Signed (pos 512) (pos 4096));
+}
+
 -- how many of a thread's sections are drawn, the last ones, and 50 where nothing is said
 abbrev pub last_option : Rule
 last_option = record (new_rule (codes "last")) {
@@ -77,10 +85,14 @@ last_option = record (new_rule (codes "last")) {
 abbrev pub dot_flag : Rule
 dot_flag = record (new_rule (codes "dot")) { long = Some (codes "dot"); action = Some SetTrue }
 
--- the word `format` with its options
-abbrev pub format_words : App
-format_words = with_rule (with_rule (with_rule (with_rule (new_app (codes "format"))
+-- the word `format` with its options, without the last
+abbrev pub plain_format_words : App
+plain_format_words = with_rule (with_rule (with_rule (with_rule (new_app (codes "format"))
     (path_option (codes "image"))) (path_option (codes "schema"))) lanes_option) capacity_option
+
+-- and with it
+abbrev pub format_words : App
+format_words = with_rule plain_format_words sectors_option
 
 -- the word `show` with its options
 abbrev pub show_words : App
@@ -146,11 +158,12 @@ abbrev pub schema_of : List Row → Text
 schema_of options = unwrap_or (first_of (codes "schema") options) []
 
 -- an image file is to be made, as the options behind the word say
-pub record AsksToFormat (options : List Row) (image schema : Text) (lanes capacity : ℕ) : Type 0 where
+pub record AsksToFormat (options : List Row) (image schema : Text) (lanes capacity : ℕ) (sectors : Option ℕ) : Type 0 where
   pub image_is : image ≡ image_of options
   pub schema_is : schema ≡ schema_of options
   pub lanes_are : Reads 8 (one_of (codes "lanes") options) lanes
   pub capacity_is : Reads 32 (one_of (codes "capacity") options) capacity
+  pub sectors_are : MayRead 32 (one_of (codes "sectors") options) sectors
 
 -- sections are to be drawn, as the options behind the word say
 pub record AsksToDraw (options : List Row) (image : Text) (last : ℕ) (schema : Option Text) : Type 0 where
@@ -188,8 +201,8 @@ pub record IsNoWord (found : Option (Text × List Row)) (image schema : Option T
 abbrev pub AsksFor : Option (Text × List Row) → Words → Type 0
 AsksFor found (words.Run image schema) = IsNoWord found (option_map (λ path. path.now) image) (option_map (λ path. path.now) schema)
     ⊎ ((options : List Row) × (found ≡ Some (codes "run", options)) × AsksToPlay options (option_map (λ path. path.now) image) (option_map (λ path. path.now) schema))
-AsksFor found (words.Format image schema lanes capacity) =
-    (options : List Row) × (found ≡ Some (codes "format", options)) × AsksToFormat options image.now schema.now lanes capacity
+AsksFor found (words.Format image schema lanes capacity sectors) =
+    (options : List Row) × (found ≡ Some (codes "format", options)) × AsksToFormat options image.now schema.now lanes capacity sectors
 AsksFor found (words.Show image) =
     (options : List Row) × (found ≡ Some (codes "show", options)) × (image.now ≡ image_of options) × (IsSet (codes "dot") options → ⊥)
 AsksFor found (words.Draw image last schema) =
@@ -205,13 +218,18 @@ AsksFor found (words.Drive workers rounds seconds image) =
 
 -- an image file is to be made in the place of its own schema file
 abbrev pub HasOnePath : Words → Type 0
-HasOnePath (words.Format image schema lanes capacity) = image.now ≡ schema.now
+HasOnePath (words.Format image schema lanes capacity sectors) = image.now ≡ schema.now
 HasOnePath _ = ⊥
 
 -- it is said in two ways how long workers are to work
 abbrev pub HasBothLengths : Words → Type 0
 HasBothLengths (words.Drive workers (Some rounds) (Some seconds) image) = Unit {0}
 HasBothLengths _ = ⊥
+
+-- an image is to lie on sectors of other than 512 or 4,096 bytes
+abbrev pub HasOtherSectors : Words → Type 0
+HasOtherSectors (words.Format image schema lanes capacity (Some bytes)) = (bytes ≢ 512) × (bytes ≢ 4096)
+HasOtherSectors _ = ⊥
 
 -- the words are those of `format`, with one path behind `--image` and `--schema`
 pub record NamesOneFile (texts : List Text) : Type 0 where
@@ -226,13 +244,21 @@ pub record SaysBothLengths (texts : List Text) : Type 0 where
   pub rounds : one_of (codes "rounds") options ≢ None
   pub seconds : one_of (codes "seconds") options ≢ None
 
--- the answer's kind is one that clap gives to such words; or clap takes them, and they are one file's or say two lengths
+-- the words are those of `format`, with such a number behind `--sectors`
+pub record SaysOtherSectors (texts : List Text) : Type 0 where
+  pub options : List Row
+  pub found : subcommand_of program texts ≡ Some (codes "format", options)
+  pub bytes : ℕ
+  pub reads : MayRead 32 (one_of (codes "sectors") options) (Some bytes)
+  pub other : (bytes ≢ 512) × (bytes ≢ 4096)
+
+-- the answer's kind is one that clap gives to such words; or clap takes them, and they are one file's, say two lengths or other sectors
 abbrev pub Refuses : List Text → Error → Type 0
 Refuses texts answer = HasKind (fault_of program texts) answer
-    ⊎ ((fault_of program texts ≡ []) × (NamesOneFile texts ⊎ SaysBothLengths texts) × (kind_of answer ≡ ArgumentConflict))
+    ⊎ ((fault_of program texts ≡ []) × (NamesOneFile texts ⊎ SaysBothLengths texts ⊎ SaysOtherSectors texts) × (kind_of answer ≡ ArgumentConflict))
 
--- these words are taken where clap takes them, no file is named twice and no run has two lengths, and else they are refused; or memory was
--- wanting
+-- these words are taken where clap takes them, no file is named twice, no run has two lengths and no sector another size, and else they are refused;
+-- or memory was wanting
 abbrev pub IsAnsweredBy : List Text → Result Words Error → Type 0
-IsAnsweredBy texts (Ok asked) = (fault_of program texts ≡ []) × (NamesOneFile texts → ⊥) × (HasBothLengths asked → ⊥)
+IsAnsweredBy texts (Ok asked) = (fault_of program texts ≡ []) × (NamesOneFile texts → ⊥) × (HasBothLengths asked → ⊥) × (HasOtherSectors asked → ⊥)
 IsAnsweredBy texts (Err answer) = Refuses texts answer

@@ -5,7 +5,7 @@ ghost use Rattle.clap.specs.Values.{kind_of};
 ghost use Rattle.clap.specs.Walk.{first_of, one_of, rows_of, rule_of};
 ghost use Rattle.clap.specs.Matches.{found_of};
 ghost use Rattle.clap.specs.declared.error.kind.ErrorKind.TheVariants.{ArgumentConflict, OutOfMemory};
-ghost use Rattle.command_words.specs.Words.{AsksFor, HasBothLengths, HasOnePath, IsAnsweredBy, IsSet, MayRead, Reads, capacity_option, dot_flag, drive_words, dump_words, file_option, format_words, lanes_option, last_option, path_option, play_words, program, recover_words, rounds_option, run_words, seconds_option, show_words, upgrade_words, workers_option};
+ghost use Rattle.command_words.specs.Words.{AsksFor, HasBothLengths, HasOnePath, HasOtherSectors, IsAnsweredBy, IsSet, MayRead, Reads, capacity_option, dot_flag, drive_words, dump_words, file_option, format_words, lanes_option, last_option, path_option, plain_format_words, play_words, program, recover_words, rounds_option, run_words, seconds_option, sectors_option, show_words, upgrade_words, workers_option};
 
 use clap::error::ErrorKind;
 use clap::{Arg, ArgAction, ArgMatches, Command, Error, value_parser};
@@ -31,6 +31,8 @@ pub enum Words<'a> {
         lanes: u8,
         /// The records that a lane's area holds, 2,000 to 1,048,576.
         capacity: u32,
+        /// The bytes of a sector, 512 or 4,096, where the image is to lie in two places.
+        sectors: Option<u32>,
     },
     /// To print what an image file holds.
     Show {
@@ -80,12 +82,14 @@ pub enum Words<'a> {
 const EXIT_STATUSES: &str =
     "Exit status: 0 where all is done; 2 for wrong words, or a schema file or script that is refused; 3 where another process has the image; 1 for every other fault, which standard error tells";
 
-// What is told of one path for two files, and of two lengths for one run.
+// What is told of one path for two files, of two lengths for one run, and of other sectors.
 const ONE_PATH: &str =
     "the image and the schema are two files, and '--image' and '--schema' name one";
 
 const BOTH_LENGTHS: &str =
     "'--rounds' and '--seconds' both say how long the threads work: name one of them";
+
+const OTHER_SECTORS: &str = "'--sectors' names the bytes of a sector, which has 512 or 4096";
 
 // An option that takes the path of a file, and has to be there.
 fn path<'a>(alloc: Global, name: &'a str, about: &'a str) -> Arg<'a>
@@ -194,8 +198,22 @@ fn dot<'a>(alloc: Global) -> Arg<'a>
         .action(ArgAction::SetTrue)
 }
 
-fn format<'a>(alloc: Global) -> Result<Command<'a>, AllocError>
-    ensures { IfOk result (λ command. app_of command ≡ format_words) }
+fn sectors<'a>(alloc: Global) -> Arg<'a>
+    ensures rule { rule_of result ≡ sectors_option }
+    ensures own { result.global ≡ false }
+{
+    Arg::new(alloc, "sectors")
+        .long("sectors")
+        .value_name("BYTES")
+        .help(
+            "Keeps the image in two places, for a disk that may lose a sector that it was writing at a power failure: the bytes of a sector, 512 or 4096. In one place without this",
+        )
+        .value_parser(value_parser!(u32).range(512..=4096))
+}
+
+// `format` without the option of an image in two places.
+fn plain_format<'a>(alloc: Global) -> Result<Command<'a>, AllocError>
+    ensures { IfOk result (λ command. app_of command ≡ plain_format_words) }
 {
     Command::new(alloc, "format")
         .about(
@@ -209,6 +227,13 @@ fn format<'a>(alloc: Global) -> Result<Command<'a>, AllocError>
         .arg(path(alloc, "schema", "The schema file"))?
         .arg(lanes(alloc))?
         .arg(capacity(alloc))
+}
+
+fn format<'a>(alloc: Global) -> Result<Command<'a>, AllocError>
+    ensures { IfOk result (λ command. app_of command ≡ format_words) }
+{
+    let plain = plain_format(alloc)?;
+    plain.arg(sectors(alloc))
 }
 
 fn show<'a>(alloc: Global) -> Result<Command<'a>, AllocError>
@@ -332,7 +357,8 @@ fn command<'a>(alloc: Global) -> Result<Command<'a>, AllocError>
 ///
 /// An `Err` holds the text to print: for wrong words what is wrong, for `--help` and `--version` what they ask for. Its
 /// kind is `OutOfMemory` where there was no memory. `format` with one path for the image and for the schema, which would
-/// be emptied, is an `ArgumentConflict`: paths are compared as they are written. `drive` with both `--rounds` and `--seconds` is one too.
+/// be emptied, is an `ArgumentConflict`: paths are compared as they are written. `drive` with both `--rounds` and `--seconds` is one too,
+/// and `format` with sectors of other than 512 or 4,096 bytes.
 pub fn read_words<'a>(alloc: Global, words: &'a [String]) -> Result<Words<'a>, Error>
     ensures exact { IsAnsweredBy (map (λ s. string_bytes s) words.entry.now) result }
     ensures asked { IfOk result (λ asked. AsksFor (subcommand_of program (map (λ s. string_bytes s) words.entry.now)) asked) }
@@ -349,6 +375,9 @@ pub fn read_words<'a>(alloc: Global, words: &'a [String]) -> Result<Words<'a>, E
     }
     if has_both_lengths(&asked) {
         return Err(conflict(alloc, BOTH_LENGTHS)?);
+    }
+    if has_other_sectors(&asked) {
+        return Err(conflict(alloc, OTHER_SECTORS)?);
     }
     Ok(asked)
 }
@@ -377,6 +406,19 @@ fn has_both_lengths(words: &Words<'_>) -> bool
     }
 }
 
+// The words name sectors that aren't there.
+fn has_other_sectors(words: &Words<'_>) -> bool
+    ensures { IsTrue result ↔ HasOtherSectors words.now }
+{
+    match words {
+        Words::Format {
+            sectors: Some(bytes),
+            ..
+        } => *bytes != 512 && *bytes != 4096,
+        _ => false,
+    }
+}
+
 // What is answered to words of which each may stand alone.
 fn conflict(alloc: Global, why: &'static str) -> Result<Error, AllocError>
     ensures { IfOk result (λ answer. kind_of answer ≡ ArgumentConflict) }
@@ -395,6 +437,7 @@ fn asked_by<'a>(matches: &ArgMatches<'a>) -> Words<'a>
             schema: text_of(found, "schema"),
             lanes: byte_of(found, "lanes"),
             capacity: number_of(found, "capacity"),
+            sectors: found_number(found, "sectors"),
         },
         Some(("show", found)) => {
             let image = text_of(found, "image");

@@ -88,7 +88,7 @@ TellsOfNamed text path (Err _) written now = ⊥
 -- what the words ask for is done, with this result: by what the reader had before and has now, and what was written before and is now
 abbrev pub Obeys : Words → Result (Unit {0}) WorkFault → (read unread written now : Option (List ℕ)) → Type 0
 Obeys (words.Run image schema) result read unread written now = PlaysAt image schema result read unread written now
-Obeys (words.Format image schema lanes capacity) result read unread written now = Formats lanes capacity result written now
+Obeys (words.Format image schema lanes capacity sectors) result read unread written now = Formats lanes capacity result written now
 Obeys (words.Show image) result read unread written now = TellsOf study_text result written now
 Obeys (words.Draw image last schema) result read unread written now = TellsOfNamed (λ given s. picture_text given last s) schema result written now
 Obeys (words.Dump image schema) result read unread written now = TellsOfNamed dump_text schema result written now

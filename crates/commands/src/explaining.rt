@@ -8,6 +8,7 @@ use drive::DriveError;
 use file_disk::BackingFile;
 use image_file::{BESIDE, FileFault, FormatError, ImageFault, NamedFault, Place, Trouble};
 use recover::RecoverError;
+use sector_file::read_head;
 use std::io::{ErrorKind, Read};
 use std::rt::Files;
 use std::{fs, io};
@@ -130,12 +131,12 @@ fn cure_of(error: &io::Error, place: Place) -> &'static str {
 // The lanes, objects and fields in the header of an image file.
 fn counts_of<F, R>(rt: &R, image: &str) -> Option<(u8, u32, u32)>
 where
-    F: Read + Drop,
+    F: BackingFile + Read + Drop,
     R: Files<File = F>,
 {
     let mut file = fs::open(rt, image).ok()?;
     let mut head = [0; 64];
-    file.read_exact(&mut head).ok()?;
+    read_head(&mut file, &mut head).ok()?;
     let objects = u32::from_be_bytes([head[12], head[13], head[14], head[15]]);
     let fields = u32::from_be_bytes([head[16], head[17], head[18], head[19]]);
     Some((head[9], objects, fields))
@@ -144,7 +145,7 @@ where
 // Tells of an image that isn't one of so many workers whose it is.
 fn tell_other<F, R>(rt: &R, words: &Words<'_>, image: &str)
 where
-    F: Read + Drop,
+    F: BackingFile + Read + Drop,
     R: Files<File = F> + Eprint,
 {
     let Words::Drive { workers, .. } = words else {

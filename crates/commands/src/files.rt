@@ -17,6 +17,7 @@ use image_file::{
     Content, FileFault, FormatError, NewFile, Place, Trouble, Watched, claim_at, content_of,
     make_image,
 };
+use sector_file::ImageBytes;
 use std::alloc::Global;
 use std::fs::{Files, OpenFile};
 use std::sync::Wait;
@@ -50,7 +51,11 @@ where
     match image_at(rt, alloc, trouble, path, workers) {
         Ok(file) => {
             let watched = Watched::new(file, Place::Image, trouble);
-            match drive_in_file(rt, alloc, meet, watched, workers, rounds) {
+            let bytes = match ImageBytes::found(alloc, watched) {
+                Ok(bytes) => bytes,
+                Err(error) => return Err(WorkFault::File(FileFault::from(error))),
+            };
+            match drive_in_file(rt, alloc, meet, bytes, workers, rounds) {
                 Ok(done) => Ok(driven_of(done)),
                 Err(fault) => Err(fault),
             }

@@ -15,6 +15,7 @@ use image_scripts::{RunFault, run_file};
 use recover::Versions;
 use script_lines::ScriptError;
 use scripts::run_script;
+use sector_disk::SectorSize;
 use std::fs::OpenFile;
 use std::io::{Read, Write};
 use std::rt::{Clock, Files};
@@ -47,7 +48,13 @@ where
             schema,
             lanes,
             capacity,
-        } => on_format(format_file(rt, alloc, trouble, image, schema, lanes, capacity, writer)),
+            sectors,
+        } => {
+            let size = size_of(sectors);
+            on_format(format_file(
+                rt, alloc, trouble, image, schema, lanes, capacity, size, writer,
+            ))
+        }
         Words::Show { image } => on_image(show_file(rt, alloc, trouble, image, writer)),
         Words::Draw {
             image,
@@ -73,6 +80,15 @@ where
             let progress = Progress::new(rt, is_telling, workers, rounds, seconds);
             drive(rt, trouble, &progress, workers, rounds, image, writer)
         }
+    }
+}
+
+// How many bytes each sector has that the words name.
+fn size_of(sectors: Option<u32>) -> Option<SectorSize> {
+    match sectors {
+        Some(4096) => Some(SectorSize::Bytes4096),
+        Some(_) => Some(SectorSize::Bytes512),
+        None => None,
     }
 }
 

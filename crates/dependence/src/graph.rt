@@ -123,7 +123,7 @@ impl Graph {
     /// answer changes by it. Where the cut counts less than was forgotten already, that stays forgotten.
     /// The room of what is forgotten is free again. What is forgotten counts as answered.
     ///
-    /// The time is linear in the records that were not forgotten before, and in the number of objects.
+    /// The time is linear in the records that were not forgotten before.
     pub fn forget_to(&mut self, cut: &Cut)
         requires at_most { (c : ℕ → ℕ) → IsStable self.old.log c → (l : ℕ) → beyond self.old cut.now l ≤ c l }
         ensures log { self.new.log ≡ since (beyond self.old cut.now) self.old.log }
@@ -190,6 +190,15 @@ impl Graph {
         ensures { result ≡ self.now.looks }
     {
         self.looks
+    }
+
+    /// How many sections of the lane have ended, what was forgotten included.
+    #[inline(always)]
+    pub fn sections(&self, lane: Lane) -> u64
+        requires { lane.0 < self.now.lanes }
+        ensures { result ≡ sections_of self.now lane.0 }
+    {
+        self.ended[lane.0 as usize]
     }
 
     /// For how many more records there is room.

@@ -68,6 +68,8 @@ impl Links {
     }
 
     /// Links the steps anew.
+    ///
+    /// What was noted of objects stays: a release counts only where a step at its place frees what is taken.
     pub fn again(&mut self, steps: &[Step])
         requires objects { length self.old.freed.items ≡ 4096 }
         requires room { length steps.now ≤ vec_capacity self.old.before }
@@ -82,7 +84,6 @@ impl Links {
         self.newest = [0; 32];
         self.before.clear();
         self.partner.clear();
-        self.freed.fill(0);
         for (place, step) in steps.iter().enumerate() {
             self.add(&steps[..place], *step);
         }

@@ -5,6 +5,7 @@ pub mod Pasts
 pub mod Showing
 pub mod Loggable
 pub mod Storing
+pub mod Settling
 pub mod Early
 pub mod Playing
 pub mod Ending

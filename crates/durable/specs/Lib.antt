@@ -6,3 +6,5 @@ pub mod Calls
 pub mod Closed
 pub mod Runs
 pub mod Steps
+pub mod Stops
+pub mod Plays

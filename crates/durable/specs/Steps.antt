@@ -1,20 +1,22 @@
 -- What each call that writes makes of a store, whatever past it has: each fact once, over whole stores, for all the calls that share it
 -- (this project's own).
-use Rattle.std.specs.Prelude.{ℕ, ◌≡◌, ◌≢◌, ◌-◌, ◌^◌, false, [], length, Result, IfOk, IsErrOf, OnErr, OnOk, MatchResult}
+use Rattle.std.specs.Prelude.{ℕ, ◌≡◌, ◌≢◌, ◌-◌, ◌^◌, false, [], length, Result, Ok, IfOk, IsErrOf, OnErr, OnOk, MatchResult}
+use Rattle.heap_model.specs.declared.record.Record.{Record}
 use Rattle.heap_model.specs.Setting.{Setting}
 use Rattle.heap_model.specs.Sections.{actions}
 use Rattle.heap_model.specs.Cuts.{IsStable}
-use Rattle.block_disk.specs.Device.{Device}
+use Rattle.block_disk.specs.Device.{Device, HasCause}
 use Rattle.block_disk.specs.Images.{LeavesOnly}
-use Rattle.durable.specs.Calls.{AnswersHome, IsClean, RefusesHome, RefusesLog, RefusesSettle, RefusesTrim, after_home_step}
+use Rattle.durable.specs.Calls.{AnswersHome, IsClean, RefusesApply, RefusesHome, RefusesLog, RefusesSettle, RefusesTrim, after_home_step}
 use Rattle.durable.specs.Store.{Parts, HasPast, ShowsStep}
 use Rattle.durable.specs.declared.doubt.Doubt.{Doubt}
 use Rattle.store_image.specs.Consistent.{ShowsPast}
 use Rattle.store_image.specs.KeptHeap.{StandsForCut, StandsForEither}
 use Rattle.store_image.specs.declared.home.Home.{Home}
-use Rattle.store_past.specs.Past.{Past, IsTrimmed, after_log, after_settle, after_trim}
+use Rattle.store_memory.specs.Apply.{Answers}
+use Rattle.store_past.specs.Past.{Past, IsTrimmed, after_apply, after_log, after_settle, after_trim}
 use Rattle.store_past.specs.declared.error.StoreError.{StoreError}
-use Rattle.store_past.specs.declared.error.StoreError.TheVariants.{Worn}
+use Rattle.store_past.specs.declared.error.StoreError.TheVariants.{Worn, Fault}
 
 module _ {D : Type 0} (device : D → Device) where
   -- the store has this past
@@ -29,6 +31,10 @@ module _ {D : Type 0} (device : D → Device) where
   abbrev pub ShowsMeanwhile : Doubt → (x y : Parts D) → Type 0
   ShowsMeanwhile call x y = (s : Setting) (p : Past) → IsPastOf x s p → LeavesOnly (device x.disk) (device y.disk) (ShowsStep x.known.layout s p call)
 
+  -- what it answers of the device is only the device's own: a fault only where one call of it has failed since
+  abbrev pub OnlyDeviceFaults : {A : Type 0} → (x y : Parts D) → Result A StoreError → Type 0
+  OnlyDeviceFaults x y answer = HasCause (device x.disk).failures (device y.disk).failures Fault answer
+
   -- it stands for the heap that was acknowledged
   abbrev pub StandsMeanwhile : (x y : Parts D) → Type 0
   StandsMeanwhile x y = (s : Setting) (p : Past) → IsPastOf x s p → LeavesOnly (device x.disk) (device y.disk) (StandsForCut x.known.layout s p.logged p.cut)
@@ -36,6 +42,14 @@ module _ {D : Type 0} (device : D → Device) where
   -- or for that of the stable cut
   abbrev pub StandsForOneOf : (x y : Parts D) → Type 0
   StandsForOneOf x y = (s : Setting) (p : Past) (cut : ℕ → ℕ) → IsPastOf x s p → IsStable (actions p.logged) cut → LeavesOnly (device x.disk) (device y.disk) (StandsForEither x.known.layout s p.logged p.cut cut)
+
+  -- the lane's record is applied
+  abbrev pub Applies : (x y : Parts D) → (lane : ℕ) → Record → Result (Unit {0}) StoreError → Type 0
+  Applies x y l r answer = (s : Setting) (p : Past) → IsPastOf x s p → OnOk answer (IsPastOf y s (after_apply p l r))
+
+  -- the record may be applied, or why not
+  abbrev pub AnswersApply : Parts D → (lane : ℕ) → Record → Result (Unit {0}) StoreError → Type 0
+  AnswersApply x l r answer = (s : Setting) (p : Past) → IsPastOf x s p → MatchResult answer (λ done. Answers s x.known.memory p l r (Ok done)) (RefusesApply x.known s p l r)
 
   -- what was applied is logged
   abbrev pub Logs : {A : Type 0} → (x y : Parts D) → Result A StoreError → Type 0

@@ -1,7 +1,7 @@
 //! The fields before any record.
 
-ghost use Rattle.std.specs.Prelude.{◌≡◌, ◌<◌, ◌≤◌, ℕ, not, length, slice_index, slice_index_or, IfOk};
-ghost use Rattle.image.specs.declared.guard_row.GuardRow.{GuardRow as Row};
+ghost use Rattle.std.specs.Prelude.{◌≡◌, ◌<◌, ℕ, length, slice_index, IfOk};
+ghost use Rattle.durable.specs.Begin.{HaveGuards, HaveMarks};
 ghost use Rattle.store_memory.specs.Memory.{field_in};
 
 use image::GuardRow;
@@ -16,8 +16,8 @@ pub fn fields_of(
 ) -> Result<Vec<FieldState>, AllocError>
     requires { length heap.now ≡ length guards.now }
     ensures size { IfOk result (λ fields. length fields.items ≡ length guards.now) }
-    ensures guards { IfOk result (λ fields. (f : ℕ) (d : Row) → f < length guards.now → (field_in fields.items f).guard ≡ (slice_index_or guards.now f d).guard) }
-    ensures marks { IfOk result (λ fields. (f : ℕ) (d : Row) → f < length guards.now → (field_in fields.items f).is_logged ≡ not (slice_index_or guards.now f d).transient) }
+    ensures guards { IfOk result (λ fields. HaveGuards fields.items guards.now) }
+    ensures marks { IfOk result (λ fields. HaveMarks fields.items guards.now) }
     ensures values { IfOk result (λ fields. (f : ℕ) → f < length guards.now → (field_in fields.items f).value ≡ slice_index heap.now f) }
     ensures logged { IfOk result (λ fields. (f : ℕ) → f < length guards.now → (field_in fields.items f).logged ≡ slice_index heap.now f) }
 {

@@ -35,9 +35,10 @@ impl<D: Disk> Store<D> {
         ensures limits { IfOk result (λ made. AreLimits lanes capacity) }
         ensures layout { IfOk result (λ made. made.layout ≡ layout_with schema.now lanes capacity) }
         ensures control { IfOk result (λ made. (made.slot ≡ A) × (made.sequence ≡ 1)) }
-        ensures guards { IfOk result (λ made. (f : ℕ) (d : Row) → f < field_count schema.now → slice_index_or made.guards f d ≡ guard_row_of schema.now f) }
+        ensures guards { IfOk result (λ made. (f : ℕ) (d : Row) → f < field_count schema.now
+            → slice_index_or made.guards f d ≡ guard_row_of schema.now f) }
         ensures heap { IfOk result (λ made. (f : ℕ) → f < field_count schema.now → slice_index made.heap f ≡ first_of schema.now f) }
-        ensures recovered { IfOk result (λ made. IsRecovered (D.device made.disk) made.layout made.guards made.slot made.sequence made.heap) }
+        ensures recovered { IfOk result (λ r. IsRecovered (D.device r.disk) r.layout r.guards r.slot r.sequence r.heap) }
         ensures calls { IfOk result (λ made. D.device made.disk ≡ after (format_calls made.layout schema.now) (D.device disk)) }
         ensures refused { IfErr result (λ back. RefusesFormat schema.now lanes capacity (D.device disk) (D.device back.0) back.1) }
     {

@@ -1,13 +1,10 @@
 //! A list of calls, and what each image stands for while they run.
-ghost use Rattle.std.specs.Prelude.{◌≡◌, ◌⊎◌, ◌≤◌, ℕ, true, false, Some, slice_get, IfErr, IsErrOf, OnOk};
-ghost use Rattle.block_disk.specs.Device.{HasCause, HasFailed};
-ghost use Rattle.block_disk.specs.Images.{LeavesOnly};
-ghost use Rattle.heap_model.specs.Setting.{Setting};
-ghost use Rattle.durable.specs.Calls.{AreQuiet, IsQuiet, MakeAll, Makes, Reached, RefusesCall, ShowsAfterSome, StandsAfterSome, StoppedAt, made_of};
-ghost use Rattle.store_past.specs.Past.{Past};
+ghost use Rattle.std.specs.Prelude.{◌≡◌, ◌⊎◌, true, false, Some, slice_get, IfErr, IsErrOf, OnOk};
+ghost use Rattle.block_disk.specs.Device.{HasFailed};
+ghost use Rattle.durable.specs.Plays.{CallsNone, MakesCall, PlaysAll, PlaysQuietly, ReachesEach, RefusesThe, ShowsSomeMeanwhile, StandsForSomeMeanwhile, StopsAt};
 ghost use Rattle.durable.specs.Store.{doubt_in};
 ghost use Rattle.store_past.specs.declared.error.StoreError.TheVariants.{Fault};
-ghost use Rattle.durable.specs.Steps.{IsPastOf, Keeps, ShowsMeanwhile};
+ghost use Rattle.durable.specs.Steps.{Keeps, OnlyDeviceFaults, ShowsMeanwhile};
 
 use crate::store::Store;
 use crate::store_call::StoreCall;
@@ -22,19 +19,13 @@ impl<D: Disk> Store<D> {
     /// next settling acknowledges. At the moment when a call had been made that changes sides: from then on it is of that call
     /// and later ones alone, and up to then of that call and earlier ones alone.
     pub fn play(&mut self, calls: &[StoreCall]) -> Result<(), (usize, StoreError)>
-        ensures ok { (s : Setting) (p : Past) → IsPastOf D.device self.old s p
-            → OnOk result ((q : Past) × MakeAll s p calls.now q × IsPastOf D.device self.new s q) }
-        ensures stopped { (s : Setting) (p : Past) → IsPastOf D.device self.old s p
-            → IfErr result (λ e. StoppedAt s p calls.now self.old.known self.new.known (D.device self.new.disk) e.0 e.1) }
+        ensures ok { PlaysAll D.device self.old self.new calls.now result }
+        ensures stopped { StopsAt D.device self.old self.new calls.now result }
         ensures running { OnOk result (self.new.known.has_failed ≡ self.old.known.has_failed) }
-        ensures moments { (s : Setting) (p : Past) → IsPastOf D.device self.old s p
-            → (n : ℕ) → n ≤ made_of calls.now result → Reached s p calls.now self.old.known (D.device self.old.disk) (D.device self.new.disk) n }
-        ensures quiet { (s : Setting) (p : Past) → IsPastOf D.device self.old s p
-            → AreQuiet s p calls.now → D.device self.new.disk ≡ D.device self.old.disk }
-        ensures shown { (s : Setting) (p : Past) → IsPastOf D.device self.old s p
-            → LeavesOnly (D.device self.old.disk) (D.device self.new.disk) (ShowsAfterSome self.old.known.layout s p calls.now) }
-        ensures any_moment { (s : Setting) (p : Past) → IsPastOf D.device self.old s p
-            → LeavesOnly (D.device self.old.disk) (D.device self.new.disk) (StandsAfterSome self.old.known.layout s p calls.now) }
+        ensures moments { ReachesEach D.device self.old self.new calls.now result }
+        ensures quiet { PlaysQuietly D.device self.old self.new calls.now }
+        ensures shown { ShowsSomeMeanwhile D.device self.old self.new calls.now }
+        ensures any_moment { StandsForSomeMeanwhile D.device self.old self.new calls.now }
         ensures failed { IfErr result (λ e. e.1 ≡ Fault → self.new.known.has_failed ≡ true) }
         ensures in_doubt { IfErr result (λ e. e.1 ≡ Fault → self.new.known.doubt ≡ doubt_in (slice_get calls.now e.0)) }
         ensures cause { IfErr result (λ e. e.1 ≡ Fault → HasFailed (D.device self.old.disk).failures (D.device self.new.disk).failures) }
@@ -50,19 +41,16 @@ impl<D: Disk> Store<D> {
 
     // Makes this call.
     fn make(&mut self, call: StoreCall) -> Result<(), StoreError>
-        ensures ok { (s : Setting) (p : Past) → IsPastOf D.device self.old s p
-            → OnOk result ((q : Past) × Makes s p call q × IsPastOf D.device self.new s q) }
-        ensures refused { (s : Setting) (p : Past) → IsPastOf D.device self.old s p
-            → IfErr result (λ e. RefusesCall self.old.known s p call e) }
+        ensures ok { MakesCall D.device self.old self.new call result }
+        ensures refused { RefusesThe D.device self.old call result }
         ensures kept { Keeps D.device self.old self.new result }
         ensures running { OnOk result ((self.old.known.has_failed ≡ false) × (self.new.known.has_failed ≡ false)) }
-        ensures quiet { (s : Setting) (p : Past) → IsPastOf D.device self.old s p
-            → IsQuiet s p call → D.device self.new.disk ≡ D.device self.old.disk }
+        ensures quiet { CallsNone D.device self.old self.new call }
         ensures unchanged { IfErr result (λ e. (e ≡ Fault) ⊎ (self.new ≡ self.old)) }
         ensures failed { IsErrOf result Fault → self.new.known.has_failed ≡ true }
         ensures in_doubt { IsErrOf result Fault → self.new.known.doubt ≡ doubt_in (Some call) }
         ensures shown { ShowsMeanwhile D.device (doubt_in (Some call)) self.old self.new }
-        ensures cause { HasCause (D.device self.old.disk).failures (D.device self.new.disk).failures Fault result }
+        ensures cause { OnlyDeviceFaults D.device self.old self.new result }
         ensures layout { self.new.known.layout ≡ self.old.known.layout }
     {
         match call {

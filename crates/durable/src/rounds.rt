@@ -1,9 +1,8 @@
 //! The two halves of a helper's round, with three syncs each.
 ghost use Rattle.std.specs.Prelude.{◌≡◌, ◌⊎◌, true, false, IfErr, IsErrOf, OnOk};
-ghost use Rattle.block_disk.specs.Device.{HasCause};
 ghost use Rattle.store_past.specs.declared.error.StoreError.TheVariants.{Fault};
 ghost use Rattle.durable.specs.declared.doubt.Doubt.TheVariants.{Logging, Acknowledging};
-ghost use Rattle.durable.specs.Steps.{AnswersLog, AnswersSettle, Keeps, Logs, LogsNone, SettlesAndTrims, ShowsMeanwhile, StandsForOneOf, StandsMeanwhile, WearsLog, WearsSettle};
+ghost use Rattle.durable.specs.Steps.{AnswersLog, AnswersSettle, Keeps, Logs, LogsNone, OnlyDeviceFaults, SettlesAndTrims, ShowsMeanwhile, StandsForOneOf, StandsMeanwhile, WearsLog, WearsSettle};
 
 use crate::doubt::Doubt;
 use crate::store::{Store, kept_cut, starts};
@@ -29,7 +28,7 @@ impl<D: Disk> Store<D> {
         ensures in_doubt { IsErrOf result Fault → self.new.known.doubt ≡ Logging }
         ensures any_moment { StandsMeanwhile D.device self.old self.new }
         ensures shown { ShowsMeanwhile D.device Logging self.old self.new }
-        ensures cause { HasCause (D.device self.old.disk).failures (D.device self.new.disk).failures Fault result }
+        ensures cause { OnlyDeviceFaults D.device self.old self.new result }
         ensures layout { self.new.known.layout ≡ self.old.known.layout }
     {
         self.log_by(Syncs::Joined)
@@ -52,7 +51,7 @@ impl<D: Disk> Store<D> {
         ensures in_doubt { IsErrOf result Fault → self.new.known.doubt ≡ Acknowledging }
         ensures any_moment { StandsForOneOf D.device self.old self.new }
         ensures shown { ShowsMeanwhile D.device Acknowledging self.old self.new }
-        ensures cause { HasCause (D.device self.old.disk).failures (D.device self.new.disk).failures Fault result }
+        ensures cause { OnlyDeviceFaults D.device self.old self.new result }
         ensures layout { self.new.known.layout ≡ self.old.known.layout }
     {
         if self.has_failed {

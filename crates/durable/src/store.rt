@@ -1,28 +1,20 @@
 //! The store: a heap whose sections survive a crash whole or not at all (Atlas, OOPSLA 2014).
-ghost use Rattle.std.specs.Prelude.{◌≡◌, ◌≢◌, ◌⊎◌, ◌-◌, ◌<◌, ◌≤◌, ◌^◌, ℕ, [], true, false, length, slice_index, Ok, IfErr, IfOk, IsErrOf, OnErr, OnOk, MatchResult};
-ghost use Rattle.block_disk.specs.Device.{HasCause};
-ghost use Rattle.block_disk.specs.Images.{Always};
+ghost use Rattle.std.specs.Prelude.{◌≡◌, ◌≢◌, ◌⊎◌, ◌-◌, ◌<◌, ◌≤◌, ◌^◌, ℕ, [], true, false, length, slice_index, Ok, IfErr, IfOk, IsErrOf, OnErr, OnOk};
 ghost use Rattle.heap_model.specs.Setting.{Setting};
-ghost use Rattle.heap_model.specs.Log.{value as value_of};
 ghost use Rattle.heap_model.specs.Cuts.{counts_of};
-ghost use Rattle.image.specs.Cells.{HasCell};
 ghost use Rattle.image.specs.Layout.{IsLayout};
-ghost use Rattle.undo_log.specs.Dropped.{undo_logs, records_in};
-ghost use Rattle.undo_log.specs.StandsFor.{StandsFor, row_of};
-ghost use Rattle.store_memory.specs.Apply.{Answers};
+ghost use Rattle.undo_log.specs.StandsFor.{row_of};
 ghost use Rattle.durable.specs.Begin.{HasRows, IsSettingOf};
-ghost use Rattle.durable.specs.Calls.{HasOpen, IsWritten, RefusesApply, RefusesClose};
-ghost use Rattle.durable.specs.Closed.{applied_heap};
-ghost use Rattle.store_image.specs.KeptHeap.{StandsForCut};
 ghost use Rattle.store_memory.specs.Memory.{lane_in};
-ghost use Rattle.store_past.specs.Past.{Past, applied, no_past, after_apply};
+ghost use Rattle.store_past.specs.Past.{Past, applied, no_past};
 ghost use Rattle.store_memory.specs.Remembers.{Remembers};
 ghost use Rattle.store_memory.specs.Sections.{TellsSections};
-ghost use Rattle.durable.specs.Store.{HasPast, ShowsStep, StandsForStep};
+ghost use Rattle.durable.specs.Store.{HasPast};
 ghost use Rattle.store_past.specs.declared.error.StoreError.TheVariants.{Fault};
 ghost use Rattle.store_image.specs.declared.home.Home.TheVariants.{Done};
 ghost use Rattle.durable.specs.declared.doubt.Doubt.TheVariants.{Nothing, Logging, Settling, Trimming};
-ghost use Rattle.durable.specs.Steps.{AnswersHomeStep, AnswersLog, AnswersSettle, AnswersTrim, GoesHome, GoesNowhere, IsPastOf, Keeps, Logs, LogsNone, Settles, ShowsMeanwhile, ShowsPastMeanwhile, StandsForOneOf, StandsMeanwhile, Trims, TrimsNone, WearsLog, WearsSettle, WearsTrim};
+ghost use Rattle.durable.specs.Steps.{Applies, AnswersApply, AnswersHomeStep, AnswersLog, AnswersSettle, AnswersTrim, GoesHome, GoesNowhere, Keeps, Logs, LogsNone, OnlyDeviceFaults, Settles, ShowsMeanwhile, ShowsPastMeanwhile, StandsForOneOf, StandsMeanwhile, Trims, TrimsNone, WearsLog, WearsSettle, WearsTrim};
+ghost use Rattle.durable.specs.Stops.{AnswersClose, BeginsWith, ClosesAtHome, ClosesForGood, ClosesWritten, HasAcknowledged, HasFirstValue, HasTrimmed, HasValue, ReadsAcknowledged, RefusesToClose, RestsAcknowledged, ShowsAtStop, StandsAtStop};
 
 use crate::beginning::fields_of;
 use crate::doubt::Doubt;
@@ -80,7 +72,7 @@ impl<D: Disk> Store<D> {
         last: u64,
     ) -> Result<Store<D>, (Recovered<D>, AllocError)>
         requires last { last ≤ 2 ^ 40 - 1 }
-        ensures past { (s : Setting) → IsSettingOf recovered.layout recovered.guards recovered.heap last s → IfOk result (λ x. HasPast x.known s no_past (D.device x.disk)) }
+        ensures past { BeginsWith D.device recovered.layout recovered.guards recovered.heap last result }
         ensures running { IfOk result (λ x. x.known.has_failed ≡ false) }
         ensures disk { IfOk result (λ x. x.disk ≡ recovered.disk) }
         ensures layout { IfOk result (λ x. x.known.layout ≡ recovered.layout) }
@@ -115,11 +107,10 @@ impl<D: Disk> Store<D> {
     ///
     /// Refusals, in this order: `Failed`; `BadLane`; `BadId` (also a store of a transient field, which no log keeps); `Worn` (the release number is the last or more, or a section would
     /// begin at place 2^62 or later); `NotNext`; `TooLong`; `LogFull`. A refusal changes nothing.
+    #[inline(always)]
     pub fn apply(&mut self, lane: Lane, record: Record) -> Result<(), StoreError>
-        ensures answer { (s : Setting) (p : Past) → IsPastOf D.device self.old s p
-            → MatchResult result (λ done. Answers s self.old.known.memory p lane.0 «record» (Ok done)) (RefusesApply self.old.known s p lane.0 «record») }
-        ensures ok { (s : Setting) (p : Past) → IsPastOf D.device self.old s p
-            → OnOk result (IsPastOf D.device self.new s (after_apply p lane.0 «record»)) }
+        ensures answer { AnswersApply D.device self.old lane.0 «record» result }
+        ensures ok { Applies D.device self.old self.new lane.0 «record» result }
         ensures running { OnOk result ((self.old.known.has_failed ≡ false) × (self.new.known.has_failed ≡ false)) }
         ensures no_fault { IfErr result (λ e. e ≢ Fault) }
         ensures err { OnErr result (self.new ≡ self.old) }
@@ -149,7 +140,7 @@ impl<D: Disk> Store<D> {
         ensures in_doubt { IsErrOf result Fault → self.new.known.doubt ≡ Logging }
         ensures any_moment { StandsMeanwhile D.device self.old self.new }
         ensures shown { ShowsMeanwhile D.device Logging self.old self.new }
-        ensures cause { HasCause (D.device self.old.disk).failures (D.device self.new.disk).failures Fault result }
+        ensures cause { OnlyDeviceFaults D.device self.old self.new result }
         ensures layout { self.new.known.layout ≡ self.old.known.layout }
     {
         self.log_by(Syncs::Apart)
@@ -168,7 +159,7 @@ impl<D: Disk> Store<D> {
         ensures in_doubt { IsErrOf result Fault → self.new.known.doubt ≡ Logging }
         ensures any_moment { StandsMeanwhile D.device self.old self.new }
         ensures shown { ShowsMeanwhile D.device Logging self.old self.new }
-        ensures cause { HasCause (D.device self.old.disk).failures (D.device self.new.disk).failures Fault result }
+        ensures cause { OnlyDeviceFaults D.device self.old self.new result }
         ensures layout { self.new.known.layout ≡ self.old.known.layout }
     {
         if self.has_failed {
@@ -214,7 +205,7 @@ impl<D: Disk> Store<D> {
         ensures in_doubt { IsErrOf result Fault → self.new.known.doubt ≡ Nothing }
         ensures any_moment { StandsMeanwhile D.device self.old self.new }
         ensures shown { ShowsPastMeanwhile D.device self.old self.new }
-        ensures cause { HasCause (D.device self.old.disk).failures (D.device self.new.disk).failures Fault result }
+        ensures cause { OnlyDeviceFaults D.device self.old self.new result }
         ensures layout { self.new.known.layout ≡ self.old.known.layout }
     {
         if self.has_failed {
@@ -253,7 +244,7 @@ impl<D: Disk> Store<D> {
         ensures in_doubt { IsErrOf result Fault → self.new.known.doubt ≡ Settling }
         ensures any_moment { StandsForOneOf D.device self.old self.new }
         ensures shown { ShowsMeanwhile D.device Settling self.old self.new }
-        ensures cause { HasCause (D.device self.old.disk).failures (D.device self.new.disk).failures Fault result }
+        ensures cause { OnlyDeviceFaults D.device self.old self.new result }
         ensures layout { self.new.known.layout ≡ self.old.known.layout }
     {
         if self.has_failed {
@@ -300,7 +291,7 @@ impl<D: Disk> Store<D> {
         ensures in_doubt { IsErrOf result Fault → self.new.known.doubt ≡ Trimming }
         ensures any_moment { StandsMeanwhile D.device self.old self.new }
         ensures shown { ShowsMeanwhile D.device Trimming self.old self.new }
-        ensures cause { HasCause (D.device self.old.disk).failures (D.device self.new.disk).failures Fault result }
+        ensures cause { OnlyDeviceFaults D.device self.old self.new result }
         ensures layout { self.new.known.layout ≡ self.old.known.layout }
     {
         if self.has_failed {
@@ -330,7 +321,7 @@ impl<D: Disk> Store<D> {
     /// How many sections of the lane are acknowledged.
     pub fn acknowledged(&self, lane: Lane) -> u64
         requires { lane.0 < self.now.known.layout.lanes }
-        ensures { (s : Setting) (p : Past) → IsPastOf D.device self.now s p → result ≡ p.cut lane.0 }
+        ensures { HasAcknowledged D.device self.now lane.0 result }
     {
         self.committed.rows[usize::from(lane.0)].kept
     }
@@ -338,8 +329,8 @@ impl<D: Disk> Store<D> {
     /// The field's value after all applied stores. A transient field has its first one, since none of its stores is applied.
     pub fn heap_value(&self, field: FieldId) -> u64
         requires { field.0 < self.now.known.layout.fields }
-        ensures value { (s : Setting) (p : Past) → IsPastOf D.device self.now s p → result ≡ value_of s.first field.0 (applied p) }
-        ensures transient { (s : Setting) (p : Past) → IsPastOf D.device self.now s p → s.is_logged field.0 ≡ false → result ≡ s.first field.0 }
+        ensures value { HasValue D.device self.now field.0 result }
+        ensures transient { HasFirstValue D.device self.now field.0 result }
     {
         self.applied.value(field)
     }
@@ -347,7 +338,7 @@ impl<D: Disk> Store<D> {
     /// The first place of the lane that wasn't trimmed: so many of its records are no longer needed.
     pub fn trimmed(&self, lane: Lane) -> u64
         requires { lane.0 < self.now.known.layout.lanes }
-        ensures { (s : Setting) (p : Past) → IsPastOf D.device self.now s p → result ≡ records_in (p.base lane.0) (undo_logs p.logged lane.0) }
+        ensures { HasTrimmed D.device self.now lane.0 result }
     {
         self.applied.start(lane)
     }
@@ -356,10 +347,8 @@ impl<D: Disk> Store<D> {
     /// sections, and for no other cut.
     pub fn disk(&self) -> &D
         ensures disk { result.now ≡ self.now.disk }
-        ensures at_rest { (s : Setting) (p : Past) → IsPastOf D.device self.now s p
-            → self.now.known.has_failed ≡ false → StandsForCut self.now.known.layout s p.logged p.cut (D.device result.now).now.bytes }
-        ensures crash { (s : Setting) (p : Past) → IsPastOf D.device self.now s p
-            → self.now.known.has_failed ≡ false → Always (D.device result.now) (StandsForCut self.now.known.layout s p.logged p.cut) }
+        ensures at_rest { ReadsAcknowledged D.device self.now result.now }
+        ensures crash { RestsAcknowledged D.device self.now result.now }
     {
         &self.disk
     }
@@ -377,13 +366,11 @@ impl<D: Disk> Store<D> {
     /// Refusals, in this order: `Failed`; `Unfinished`: a lane holds a monitor; `Unwritten`: a record isn't logged, a field is
     /// dirty, or a logged section that has ended isn't acknowledged. After a refusal the store is given back as it was.
     pub fn close(self) -> Result<D, (Store<D>, StoreError)>
-        ensures ok { (s : Setting) (p : Past) → IsPastOf D.device self s p → OnOk result ((self.known.has_failed ≡ false) × (¬ HasOpen p) × IsWritten s p) }
-        ensures home { (s : Setting) (p : Past) → IsPastOf D.device self s p
-            → IfOk result (λ disk. (f : ℕ) → f < self.known.layout.fields → s.is_logged f ≡ true → HasCell self.known.layout f (D.device disk).now.bytes (value_of s.first f (applied p))) }
-        ensures stands { (s : Setting) (p : Past) → IsPastOf D.device self s p
-            → IfOk result (λ disk. Always (D.device disk) (λ image. StandsFor self.known.layout image (applied_heap self.known.layout s p))) }
+        ensures ok { ClosesWritten D.device self result }
+        ensures home { ClosesAtHome D.device self result }
+        ensures stands { ClosesForGood D.device self result }
         ensures disk { IfOk result (λ disk. disk ≡ self.disk) }
-        ensures refused { (s : Setting) (p : Past) → IsPastOf D.device self s p → IfErr result (λ back. RefusesClose self.known s p back.1) }
+        ensures refused { RefusesToClose D.device self result }
         ensures back { IfErr result (λ back. back.0 ≡ self) }
     {
         match self.is_closable() {
@@ -394,8 +381,7 @@ impl<D: Disk> Store<D> {
 
     // Whether nothing is left to do, and else why not.
     fn is_closable(&self) -> Result<(), StoreError>
-        ensures { (s : Setting) (p : Past) → IsPastOf D.device self.now s p
-            → MatchResult result (λ done. (self.now.known.has_failed ≡ false) × (¬ HasOpen p) × IsWritten s p) (RefusesClose self.now.known s p) }
+        ensures { AnswersClose D.device self.now result }
     {
         if self.has_failed {
             return Err(StoreError::Failed);
@@ -416,10 +402,9 @@ impl<D: Disk> Store<D> {
     /// The device, as it is: as a stop leaves it.
     pub fn into_disk(self) -> D
         ensures disk { result ≡ self.disk }
-        ensures shown { (s : Setting) (p : Past) → IsPastOf D.device self s p → Always (D.device result) (ShowsStep self.known.layout s p self.known.doubt) }
-        ensures crash { (s : Setting) (p : Past) → IsPastOf D.device self s p → Always (D.device result) (StandsForStep self.known.layout s p self.known.doubt) }
-        ensures at_rest { (s : Setting) (p : Past) → IsPastOf D.device self s p
-            → self.known.has_failed ≡ false → Always (D.device result) (StandsForCut self.known.layout s p.logged p.cut) }
+        ensures shown { ShowsAtStop D.device self result }
+        ensures crash { StandsAtStop D.device self result }
+        ensures at_rest { RestsAcknowledged D.device self result }
     {
         self.disk
     }

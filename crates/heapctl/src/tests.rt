@@ -109,6 +109,7 @@ fn words_of_format_have_their_defaults(rt: HostRuntime) -> Result<(), AllocError
         schema: "s",
         lanes: 2,
         capacity: 4000,
+        sectors: None,
     };
     expect_words(&rt, texts.as_slice(), alloc, asked);
     Ok(())

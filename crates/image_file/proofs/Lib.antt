@@ -1,3 +1,4 @@
 mod FormatLemmas
 mod ReportLemmas
+mod ShowingLemmas
 mod NamingLemmas

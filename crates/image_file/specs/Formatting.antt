@@ -6,6 +6,8 @@ use Rattle.block_disk.specs.Device.{Device}
 use Rattle.file_disk.specs.Mirror.{new_device}
 use Rattle.file_disk.specs.declared.error.FileError.{FileError}
 use Rattle.file_disk.specs.declared.error.FileError.TheVariants as disks
+use Rattle.sector_disk.specs.declared.error.PlacesError.{PlacesError}
+use Rattle.sector_disk.specs.declared.error.PlacesError.TheVariants as places
 use Rattle.guards.specs.Schema.{Declarations}
 use Rattle.image.specs.Calls.{after}
 use Rattle.image.specs.Format.{format_calls}
@@ -34,6 +36,12 @@ told_of_schema fault = told_by_kind fault.why fault
 abbrev pub told_of_disk : FileError → FileFault
 told_of_disk disks.Fault = files.Fault
 told_of_disk disks.NoMemory = files.NoMemory
+
+-- that there is no disk in two places on a file
+abbrev pub told_of_places : PlacesError → FileFault
+told_of_places places.Fault = files.Fault
+told_of_places places.NoMemory = files.NoMemory
+told_of_places places.TooSmall = files.NotImage
 
 -- how a refusal of the image file is told
 abbrev pub told_of_file : FileFault → FormatError

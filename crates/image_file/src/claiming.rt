@@ -3,6 +3,7 @@
 use crate::error::FileFault;
 use crate::trouble::{Place, Trouble};
 use file_disk::{BackingFile, Claim};
+use sector_file::label_of;
 use std::fs::{OpenFile, OpenOptions};
 use std::io;
 use std::io::ErrorKind;
@@ -14,7 +15,7 @@ use std::rt::Files;
 pub enum Content {
     /// No bytes.
     Nothing,
-    /// What an image begins with: its name and an open gate.
+    /// What an image begins with: its name and an open gate; or the label of one in two places, whose sectors are all there.
     Image,
     /// Other bytes; or it is no regular file.
     Other,
@@ -60,7 +61,7 @@ fn read_content<F: BackingFile + OpenFile>(file: &mut F) -> io::Result<Content> 
         return Ok(Content::Other);
     }
     file.read_from(0, &mut head)?;
-    if begins_as_image(&head) {
+    if begins_as_image(&head) || label_of(file)?.is_some() {
         Ok(Content::Image)
     } else {
         Ok(Content::Other)

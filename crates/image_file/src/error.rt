@@ -1,12 +1,13 @@
 //! Why there is no image, or no text of one.
 ghost use Rattle.std.specs.Prelude.{◌≡◌};
-ghost use Rattle.image_file.specs.Formatting.{told_of_disk, told_of_file, told_of_schema};
+ghost use Rattle.image_file.specs.Formatting.{told_of_disk, told_of_file, told_of_places, told_of_schema};
 ghost use Rattle.image_file.specs.Naming.{told_of_names};
 ghost use Rattle.image_file.specs.Showing.{told_of_attaching};
 
 use declarations::{SchemaFault, SchemaFaultKind};
 use file_disk::FileError;
 use recover::RecoverError;
+use sector_disk::PlacesError;
 use thiserror::Error;
 
 /// Why an image file isn't had. Each leaves every byte that it had.
@@ -33,6 +34,19 @@ impl From<FileError> for FileFault {
         match error {
             FileError::Fault => FileFault::Fault,
             FileError::NoMemory => FileFault::NoMemory,
+        }
+    }
+}
+
+impl From<PlacesError> for FileFault {
+    ghost from_gives = { λ error fault. fault ≡ told_of_places error };
+
+    fn from(error: PlacesError) -> FileFault {
+        match error {
+            PlacesError::Fault => FileFault::Fault,
+            PlacesError::NoMemory => FileFault::NoMemory,
+            // Its sectors were there when its label was read: another process has shortened it.
+            PlacesError::TooSmall => FileFault::NotImage,
         }
     }
 }

@@ -17,6 +17,7 @@ use durable::Store;
 use file_disk::BackingFile;
 use guards::Schema;
 use image::{ImageError, Layout, Recovered};
+use sector_disk::SectorSize;
 use std::alloc::Global;
 use std::fs;
 use std::fs::OpenFile;
@@ -128,7 +129,7 @@ fn print_size<W: Write>(alloc: Global, size: u64, writer: &mut W) -> Result<(), 
 /// program's word `format` does.
 ///
 /// The schema file is read first, and the image file is touched only where it isn't refused. An image that is there is replaced by the
-/// whole new one or stays, whatever stops this. Refused as [`format_image`] says:
+/// whole new one or stays, whatever stops this. Where `sectors` are named, the new one lies in two places on them. Refused as [`format_image`] says:
 /// - `InUse`: another process has the image that is there;
 /// - `NotImage`: what is there has bytes and is no image, the schema file for one.
 ///
@@ -141,6 +142,7 @@ pub fn format_file<F: BackingFile + OpenFile + Read + Drop, R: Files<File = F>, 
     schema_path: &str,
     lanes: u8,
     capacity: u32,
+    sectors: Option<SectorSize>,
     writer: &mut W,
 ) -> Result<(), FormatError>
     ensures printed { OnOk result (PrintsImage lanes capacity (W.contents writer.old) (W.contents writer.new)) }
@@ -153,7 +155,7 @@ pub fn format_file<F: BackingFile + OpenFile + Read + Drop, R: Files<File = F>, 
             return Err(FormatError::Fault);
         }
     };
-    let mut file = NewFile::at(rt, image_path, trouble);
+    let mut file = NewFile::at(rt, image_path, trouble).on(sectors);
     match format_image(alloc, &mut schema, &mut file, lanes, capacity, writer) {
         Ok(_) => Ok(()),
         Err(error) => {

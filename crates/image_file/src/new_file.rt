@@ -8,6 +8,8 @@ use crate::error::FileFault;
 use crate::trouble::{Place, Trouble};
 use crate::watched::Watched;
 use file_disk::{BackingFile, BufferedDisk};
+use sector_disk::SectorSize;
+use sector_file::ImageBytes;
 use std::alloc::Global;
 use std::fs::{OpenFile, OpenOptions};
 use std::io;
@@ -27,6 +29,8 @@ pub struct NewFile<'a, F: Drop, R> {
     rt: &'a R,
     path: &'a str,
     trouble: &'a Trouble,
+    // How many bytes each sector has, where the image is to lie in two places.
+    sectors: Option<SectorSize>,
     is_used: bool,
     place: Option<Taken<F>>,
 }
@@ -56,8 +60,23 @@ where
             rt,
             path,
             trouble,
+            sectors: None,
             is_used: false,
             place: None,
+        }
+    }
+
+    /// The same, for an image in two places on such sectors, or in one where none are named.
+    pub fn on(self, sectors: Option<SectorSize>) -> NewFile<'a, F, R>
+        ensures { result.is_used ≡ self.entry.is_used }
+    {
+        NewFile {
+            rt: self.rt,
+            path: self.path,
+            trouble: self.trouble,
+            sectors,
+            is_used: self.is_used,
+            place: self.place,
         }
     }
 
@@ -85,7 +104,7 @@ where
     }
 }
 
-impl<'a, F, R> DiskMaker<BufferedDisk<Watched<'a, F>>> for NewFile<'a, F, R>
+impl<'a, F, R> DiskMaker<BufferedDisk<ImageBytes<Watched<'a, F>>>> for NewFile<'a, F, R>
 where
     F: BackingFile + OpenFile + Drop,
     R: Files<File = F>,
@@ -96,13 +115,13 @@ where
         &mut self,
         alloc: Global,
         size: u64,
-    ) -> Result<BufferedDisk<Watched<'a, F>>, FileFault> {
+    ) -> Result<BufferedDisk<ImageBytes<Watched<'a, F>>>, FileFault> {
         self.is_used = true;
         let taken = take(self.rt, alloc, self.path, self.trouble)?;
         let again = taken.new.try_clone();
         self.place = Some(taken);
         match again {
-            Ok(file) => filled(alloc, file, size, self.trouble),
+            Ok(file) => filled(alloc, file, self.sectors, size, self.trouble),
             Err(error) => Err(noted(Place::Beside, &error, self.trouble)),
         }
     }
@@ -127,13 +146,18 @@ fn noted(place: Place, error: &io::Error, trouble: &Trouble) -> FileFault {
 fn filled<'a, F: BackingFile + Drop>(
     alloc: Global,
     file: F,
+    sectors: Option<SectorSize>,
     size: u64,
     trouble: &'a Trouble,
-) -> Result<BufferedDisk<Watched<'a, F>>, FileFault>
+) -> Result<BufferedDisk<ImageBytes<Watched<'a, F>>>, FileFault>
     ensures { IfOk result (λ disk. disk.device ≡ new_device (replicate size 0)) }
 {
     let watched = Watched::new(file, Place::Image, trouble);
-    match BufferedDisk::filled(alloc, watched, size) {
+    let bytes = match ImageBytes::blank(alloc, watched, sectors, size) {
+        Ok(bytes) => bytes,
+        Err(error) => return Err(FileFault::from(error)),
+    };
+    match BufferedDisk::filled(alloc, bytes, size) {
         Ok(disk) => Ok(disk),
         Err(error) => Err(FileFault::from(error)),
     }

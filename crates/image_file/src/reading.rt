@@ -10,6 +10,8 @@ use crate::trouble::{Place, Trouble};
 use crate::watched::Watched;
 use file_disk::{BackingFile, Claim, VolatileDisk};
 use recover::RecoverError;
+use sector_disk::Label;
+use sector_file::ImageBytes;
 use std::alloc::Global;
 use std::fs;
 use std::io::{Chain, Cursor, Read, Take};
@@ -21,7 +23,7 @@ const HEADER_BYTES: u64 = 64;
 const MOST_BYTES: u64 = 2160 + 24 * 16_384 + 16 * 32 * 1_048_576;
 
 /// An image file that is to be read: its header, which was read first, and what is behind it.
-pub(crate) type ImageReader<'a, F> = Chain<Cursor<Vec<u8>>, Take<Watched<'a, F>>>;
+pub(crate) type ImageReader<'a, F> = Chain<Cursor<Vec<u8>>, Take<ImageBytes<Watched<'a, F>>>>;
 
 /// Opens the image file at this path to be read, as far as its header says that the image goes, and shares it with others that only
 /// read it. Beside it stands for how many bytes room is made: as many as the file has, up to the image's end.
@@ -53,14 +55,39 @@ where
     if let Err(error) = file.by_ref().take(HEADER_BYTES).read_to_end(&mut head) {
         return Err(fault_of_reading(&error));
     }
-    if !begins_as_image(&head) {
-        return Err(FileFault::NotImage);
-    }
+    let mut file = if begins_as_image(&head) {
+        ImageBytes::Plain(file)
+    } else {
+        let mut placed = placed_in(alloc, file, &head)?;
+        head = Vec::new(alloc);
+        if let Err(error) = placed.by_ref().take(HEADER_BYTES).read_to_end(&mut head) {
+            return Err(fault_of_reading(&error));
+        }
+        if !begins_as_image(&head) {
+            return Err(FileFault::NotImage);
+        }
+        placed
+    };
     let size = size_in(&head);
     // Of a pipe no length is known: what is read of it makes room for itself.
     let room = file.len().unwrap_or(0).min(size) as usize;
     let rest = size.saturating_sub(HEADER_BYTES);
     Ok((Cursor::new(head).chain(file.take(rest)), room))
+}
+
+// The bytes of the disk in two places that this file is, which begins so.
+fn placed_in<F: BackingFile + Drop>(
+    alloc: Global,
+    file: F,
+    head: &[u8],
+) -> Result<ImageBytes<F>, FileFault> {
+    if Label::read(head).is_none() {
+        return Err(FileFault::NotImage);
+    }
+    match ImageBytes::found(alloc, file) {
+        Ok(bytes) => Ok(bytes),
+        Err(error) => Err(FileFault::from(error)),
+    }
 }
 
 fn fault_of_reading(error: &std::io::Error) -> FileFault {

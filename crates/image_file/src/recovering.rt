@@ -21,6 +21,7 @@ use file_disk::{BackingFile, BufferedDisk};
 use image::Recovered;
 use inspect::{WriteError, write_report};
 use recover::{RecoverError, Report, Versions, recover_of};
+use sector_file::ImageBytes;
 use std::alloc::Global;
 use std::fs::OpenFile;
 use std::io::Write;
@@ -134,7 +135,11 @@ fn recovered_at<F: BackingFile + OpenFile + Drop, R: Files<File = F>>(
         Ok(file) => Watched::new(file, Place::Image, trouble),
         Err(fault) => return Err(ImageFault::from(fault)),
     };
-    let disk = match BufferedDisk::found(alloc, file) {
+    let bytes = match ImageBytes::found(alloc, file) {
+        Ok(bytes) => bytes,
+        Err(error) => return Err(ImageFault::from(FileFault::from(error))),
+    };
+    let disk = match BufferedDisk::found(alloc, bytes) {
         Ok(disk) => disk,
         Err(error) => return Err(ImageFault::from(FileFault::from(error))),
     };

@@ -6,6 +6,8 @@ use crate::image_holder::ImageHolder;
 use block_disk::{Disk, DiskError};
 use file_disk::{BackingFile, BufferedDisk};
 use image_file::{DiskMaker, FileFault, NewFile, Place, Trouble, Watched};
+use sector_disk::SectorSize;
+use sector_file::{ImageBytes, label_of};
 use std::alloc::Global;
 use std::fs::OpenFile;
 use std::io::{ErrorKind, Read};
@@ -20,8 +22,8 @@ use std::{fs, io};
 pub struct ImageAt<'a, F: BackingFile + Drop, R> {
     // Who has claimed both files; the disk that the one beside is; and what reads the image.
     place: NewFile<'a, F, R>,
-    beside: BufferedDisk<Watched<'a, F>>,
-    reader: Watched<'a, F>,
+    beside: BufferedDisk<ImageBytes<Watched<'a, F>>>,
+    reader: ImageBytes<Watched<'a, F>>,
     size: u64,
 }
 
@@ -40,12 +42,12 @@ where
         path: &'a str,
         trouble: &'a Trouble,
     ) -> Result<ImageAt<'a, F, R>, FileFault> {
-        let size = match size_at(rt, path, trouble) {
-            Ok(size) => size,
+        let (size, sectors) = match shape_at(rt, path, trouble) {
+            Ok(shape) => shape,
             Err(fault) => return Err(fault),
         };
-        let mut place = NewFile::at(rt, path, trouble);
-        match claimed(rt, alloc, &mut place, path, size, trouble) {
+        let mut place = NewFile::at(rt, path, trouble).on(sectors);
+        match claimed(rt, alloc, &mut place, path, size, sectors, trouble) {
             Ok((beside, reader)) => Ok(ImageAt {
                 place,
                 beside,
@@ -82,6 +84,37 @@ where
     }
 }
 
+// How many bytes the image in the regular file at this path has, and where it lies in two places how many a sector has.
+fn shape_at<F, R>(
+    rt: &R,
+    path: &str,
+    trouble: &Trouble,
+) -> Result<(u64, Option<SectorSize>), FileFault>
+where
+    F: BackingFile + Drop,
+    R: Files<File = F>,
+{
+    let size = match size_at(rt, path, trouble) {
+        Ok(size) => size,
+        Err(fault) => return Err(fault),
+    };
+    let mut file = match fs::open(rt, path) {
+        Ok(file) => Watched::new(file, Place::Image, trouble),
+        Err(error) => {
+            trouble.note(Place::Image, &error);
+            return Err(FileFault::Fault);
+        }
+    };
+    match label_of(&mut file) {
+        Ok(Some(label)) => {
+            let len = label.count.saturating_mul(label.size.bytes() as u64);
+            Ok((len, Some(label.size)))
+        }
+        Ok(None) => Ok((size, None)),
+        Err(_) => Err(FileFault::Fault),
+    }
+}
+
 // How many bytes the regular file at this path has.
 fn size_at<R: Files>(rt: &R, path: &str, trouble: &Trouble) -> Result<u64, FileFault> {
     match rt.metadata(path) {
@@ -99,6 +132,12 @@ fn size_at<R: Files>(rt: &R, path: &str, trouble: &Trouble) -> Result<u64, FileF
     }
 }
 
+// The disk in the file beside, and what reads the image.
+type Claimed<'a, F> = (
+    BufferedDisk<ImageBytes<Watched<'a, F>>>,
+    ImageBytes<Watched<'a, F>>,
+);
+
 // Claims both files, and opens the image for reading, which nobody replaces from then on.
 fn claimed<'a, F, R>(
     rt: &'a R,
@@ -106,8 +145,9 @@ fn claimed<'a, F, R>(
     place: &mut NewFile<'a, F, R>,
     path: &'a str,
     size: u64,
+    sectors: Option<SectorSize>,
     trouble: &'a Trouble,
-) -> Result<(BufferedDisk<Watched<'a, F>>, Watched<'a, F>), FileFault>
+) -> Result<Claimed<'a, F>, FileFault>
 where
     F: BackingFile + OpenFile + Read + Drop,
     R: Files<File = F>,
@@ -116,19 +156,36 @@ where
         Ok(beside) => beside,
         Err(fault) => return Err(fault),
     };
-    match open_sized(rt, path, size, trouble) {
+    match open_sized(rt, alloc, path, size, sectors, trouble) {
         Ok(reader) => Ok((beside, reader)),
         Err(fault) => Err(fault),
     }
 }
 
-// Opens a file for reading that is to have so many bytes.
+// The bytes of a file that is read from its beginning, or of the disk in two places that it is to be.
+fn bytes_in<F: BackingFile + Drop>(
+    alloc: Global,
+    file: F,
+    sectors: Option<SectorSize>,
+) -> Result<ImageBytes<F>, FileFault> {
+    if sectors.is_none() {
+        return Ok(ImageBytes::Plain(file));
+    }
+    match ImageBytes::found(alloc, file) {
+        Ok(bytes) => Ok(bytes),
+        Err(error) => Err(FileFault::from(error)),
+    }
+}
+
+// Opens a file for reading whose image is to have so many bytes.
 fn open_sized<'a, F, R>(
     rt: &R,
+    alloc: Global,
     path: &str,
     size: u64,
+    sectors: Option<SectorSize>,
     trouble: &'a Trouble,
-) -> Result<Watched<'a, F>, FileFault>
+) -> Result<ImageBytes<Watched<'a, F>>, FileFault>
 where
     F: BackingFile + Drop,
     R: Files<File = F>,
@@ -140,10 +197,14 @@ where
             return Err(FileFault::Fault);
         }
     };
-    match file.len() {
+    let bytes = match bytes_in(alloc, file, sectors) {
+        Ok(bytes) => bytes,
+        Err(fault) => return Err(fault),
+    };
+    match bytes.len() {
         Ok(len) => {
             if len == size {
-                Ok(file)
+                Ok(bytes)
             } else {
                 Err(FileFault::InUse)
             }

@@ -36,6 +36,7 @@ fn format_there(
         schema,
         2,
         4000,
+        None,
         &mut writer,
     );
     (made, writer.as_slice() == lines)

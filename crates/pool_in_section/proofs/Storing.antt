@@ -1,8 +1,9 @@
 -- A session's store to two fields, as that to two cells.
-use Rattle.std.proofs.Common.{ℕ, ◌≡◌, ◌+◌, ◌<◌, ◌≤◌, ◌⊎◌, nat_lt, if◌then◌else◌, inl, inr, Option, Some, None, Result, Ok, Err, MatchResult, OnOk, IfErr, refl, sym, ap, ◌∙◌, subst}
+use Rattle.std.proofs.Common.{ℕ, ◌≡◌, ◌+◌, ◌<◌, ◌≤◌, ◌⊎◌, nat_lt, if◌then◌else◌, inl, inr, [], ◌∷◌, Option, Some, None, Result, Ok, Err, MatchResult, OnOk, IfErr, refl, sym, ap, ◌∙◌, subst}
 use Rattle.std.proofs.lemmas.Bool.{cases_lt, lt-ltb, le-ltb}
 use Rattle.heap_model.specs.declared.limits.TheConstants.{SECTION_RECORDS}
 use Rattle.heap_model.specs.declared.ids.FieldId.{FieldId}
+use Rattle.heap_model.specs.declared.event.Event.TheVariants.{Store}
 use Rattle.heap_model.specs.Setting.{Setting}
 use Rattle.heap_model.specs.Own.{Hold}
 use Rattle.steps.specs.Views.{View, hold, IsHeld}
@@ -12,7 +13,7 @@ use Rattle.session.specs.Logs.{section_records, held_count}
 use Rattle.session.specs.Calls.{IsQuiet, LacksRoom}
 use Rattle.session.specs.TwoStores.{StoresTwo}
 use Rattle.pool.specs.Knowledge.{Stores, FailsToStore}
-use Rattle.pool_in_section.specs.Knowing.{where_held, full_fault_in, records_of_two, store_fault_in, knowledge_in}
+use Rattle.pool_in_section.specs.Knowing.{TellsOfFields, where_held, full_fault_in, records_of_two, store_fault_in, knowledge_in}
 use Rattle.pool_in_section.proofs.Loading.{where_true, where_false}
 
 -- what a store to two answers
@@ -92,3 +93,33 @@ pub when_err : (g : Setting) (v w : View) (f : FieldId) (x : ℕ) (h : FieldId) 
     IfErr r (λ e. FailsToStore (knowledge_in g v.events) f.0 h.0 e (knowledge_in g w.events))
 when_err g v w f x h y (Ok done) a = tt
 when_err g v w f x h y (Err e) a = a
+
+-- and it tells of fields alone
+
+quiet_tells : (v w : View) → IsQuiet v w → TellsOfFields v w
+quiet_tells v w quiet = ([], tt, quiet)
+
+tells_held : (v w : View) (f : FieldId) (x : ℕ) (h : FieldId) (y : ℕ) (r : Result (Unit {0}) SessionError) → StoresTwo v w f x h y r → TellsOfFields v w
+tells_held v w f x h y (Ok done) s = (Store h s.2 y ∷ Store f s.1 x ∷ [], tt, s.3)
+tells_held v w f x h y (Err SectionFull) s = quiet_tells v w s.1
+tells_held v w f x h y (Err _) s = absurd s
+
+tells_by_holds : (v w : View) (f : FieldId) (x : ℕ) (h : FieldId) (y : ℕ) (r : Result (Unit {0}) SessionError) →
+    ((hold v (v.plan.guard f.0) ≡ None) ⊎ (hold v (v.plan.guard h.0) ≡ None) → (r ≡ Err NotHeld) × IsQuiet v w) →
+    (IsHeld v (v.plan.guard f.0) → IsHeld v (v.plan.guard h.0) → StoresTwo v w f x h y r) →
+    (a b : Option Hold) → hold v (v.plan.guard f.0) ≡ a → hold v (v.plan.guard h.0) ≡ b → TellsOfFields v w
+tells_by_holds v w f x h y r not_held held None b is_a is_b = quiet_tells v w (not_held (inl is_a)).1
+tells_by_holds v w f x h y r not_held held (Some k) None is_a is_b = quiet_tells v w (not_held (inr is_b)).1
+tells_by_holds v w f x h y r not_held held (Some k) (Some m) is_a is_b = tells_held v w f x h y r (held (k, is_a) (m, is_b))
+
+tells_own : (v w : View) (f : FieldId) (x : ℕ) (h : FieldId) (y : ℕ) (r : Result (Unit {0}) SessionError) → Clauses v.plan v w f x h y r → TellsOfFields v w
+tells_own v w f x h y r c = elim (cases_lt f.0 v.plan.fields) [
+  | inl low ↦ elim (cases_lt h.0 v.plan.fields) [
+    | inl low_too ↦ tells_by_holds v w f x h y r (c.not_held low low_too) (c.held low low_too) (hold v (v.plan.guard f.0)) (hold v (v.plan.guard h.0)) refl refl
+    | inr high ↦ quiet_tells v w (c.unknown (inr high)).1
+  ]
+  | inr high ↦ quiet_tells v w (c.unknown (inl high)).1
+]
+
+pub tells_two : (g : Setting) (v w : View) (f : FieldId) (x : ℕ) (h : FieldId) (y : ℕ) (r : Result (Unit {0}) SessionError) → v.plan ≡ g → Clauses g v w f x h y r → TellsOfFields v w
+tells_two g v w f x h y r e = subst (λ (p : Setting). Clauses p v w f x h y r → TellsOfFields v w) e (tells_own v w f x h y r)

@@ -6,11 +6,10 @@ ghost use Rattle.pool_in_section.specs.Knowing.{home_of};
 ghost use Rattle.session.specs.Sessions.{IsSessionOf};
 
 use crate::heap::{GUARD, PoolHeap, empty, open_pool, open_small, take_last};
-use heap_model::Record;
+use lane_rings::Receiver;
 use monitor::Shared;
 use pool::{MOST_SLOTS, Pool, PoolError};
 use pool_in_section::InSection;
-use rtrb::Consumer;
 use session::{Session, SessionError};
 use std::alloc::Global;
 
@@ -85,7 +84,7 @@ fn takes(shared: &Shared, pool: &Pool, session: Session, slot: u32) -> (Session,
 }
 
 // Takes all slots, each in a section of its own, and tells whether they come in their order.
-fn take_all(shared: &Shared, pool: &Pool, session: Session, ring: &mut Consumer<Record>) -> bool
+fn take_all(shared: &Shared, pool: &Pool, session: Session, ring: &mut Receiver) -> bool
     requires seat { IsSessionOf shared.now session }
 {
     let mut session = session;

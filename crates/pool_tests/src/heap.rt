@@ -6,10 +6,10 @@ ghost use Rattle.pool.specs.declared.pool.TheConstants.{MOST_SLOTS};
 ghost use Rattle.session.specs.Sessions.{IsSessionOf};
 
 use guards::{Schema, SchemaBuilder};
-use heap_model::{FieldId, ObjectId, Record};
+use heap_model::{FieldId, ObjectId};
+use lane_rings::Receiver;
 use monitor::Shared;
 use pool::{MOST_SLOTS, Pool};
-use rtrb::Consumer;
 use session::{Session, open_sessions};
 use std::alloc::{AllocError, Global};
 
@@ -60,7 +60,7 @@ pub struct PoolHeap {
     /// The session of each lane.
     pub sessions: Vec<Session>,
     /// The other ends of their rings.
-    pub rings: Vec<Consumer<Record>>,
+    pub rings: Vec<Receiver>,
 }
 
 /// A heap with a pool of so many slots, and so many lanes. `None` is want of memory.
@@ -118,7 +118,7 @@ pub fn take_last(shared: &Shared, sessions: &mut Vec<Session>) -> Option<Session
 }
 
 /// Takes all records that wait in the ring.
-pub fn empty(ring: &mut Consumer<Record>) {
+pub fn empty(ring: &mut Receiver) {
     for _ in 0..ring.slots() {
         let _ = ring.pop();
     }

@@ -4,11 +4,11 @@ ghost use Rattle.std.specs.Prelude.{◌≡◌, ◌<◌, IfSome, All};
 ghost use Rattle.session.specs.Sessions.{IsSessionOf};
 
 use crate::heap::{GUARD, HEAD, PoolHeap, empty, open_pool, take_last, value_in};
-use heap_model::{FieldId, Record};
+use heap_model::FieldId;
+use lane_rings::Receiver;
 use monitor::Shared;
 use pool::Pool;
 use pool_in_section::InSection;
-use rtrb::Consumer;
 use session::Session;
 use std::alloc::Global;
 use std::sync::Wait;
@@ -102,7 +102,7 @@ fn pass_often<R: Wait>(
     shared: &Shared,
     pool: &Pool,
     session: Session,
-    ring: Consumer<Record>,
+    ring: Receiver,
     times: u32,
 ) -> Option<u64>
     requires seat { IsSessionOf shared.now session }
@@ -124,8 +124,8 @@ fn race<R: Threads + Wait + Sync>(
     rt: &R,
     shared: &Shared,
     pool: &Pool,
-    a: (Session, Consumer<Record>),
-    b: (Session, Consumer<Record>),
+    a: (Session, Receiver),
+    b: (Session, Receiver),
     times: u32,
 ) -> (Option<u64>, Option<u64>)
     requires seats { IsSessionOf shared.now a.0 × IsSessionOf shared.now b.0 }

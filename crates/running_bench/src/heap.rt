@@ -8,10 +8,10 @@ ghost use Rattle.session.specs.Sessions.{IsSessionOf};
 use block_disk::Disk;
 use durable::Store;
 use guards::{Schema, SchemaBuilder};
-use heap_model::{MOST_CAPACITY, Record};
+use heap_model::MOST_CAPACITY;
 use image::Layout;
+use lane_rings::Receiver;
 use monitor::Shared;
-use rtrb::Consumer;
 use running_heap::{RunningHeap, open};
 use session::{Session, open_sessions};
 use std::alloc::Global;
@@ -63,7 +63,7 @@ pub struct Unserved {
     /// The session of each worker.
     pub sessions: Vec<Session>,
     /// The other ends of their rings.
-    pub rings: Vec<Consumer<Record>>,
+    pub rings: Vec<Receiver>,
 }
 
 /// The same without a disk, and so without a helper. `None` is a refusal.

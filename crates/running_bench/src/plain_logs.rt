@@ -3,7 +3,7 @@
 use crate::clock::read_processor;
 use crate::signals::Signals;
 use heap_model::Record;
-use rtrb::Consumer;
+use lane_rings::Receiver;
 use std::alloc::{AllocError, Global};
 use std::sync::Wait;
 use std::thread;
@@ -50,28 +50,23 @@ fn open_logs(alloc: Global, lanes: usize) -> Option<Vec<PlainLog>> {
 }
 
 // Writes all records that wait in the ring.
-fn write_all(ring: &mut Consumer<Record>, log: &mut PlainLog) {
+fn write_all(ring: &mut Receiver, log: &mut PlainLog) {
     for _ in 0..ring.slots() {
-        if let Ok(record) = ring.pop() {
+        if let Some(record) = ring.pop() {
             log.write(record);
         }
     }
 }
 
 // Writes all records that wait.
-fn write_each(rings: &mut [Consumer<Record>], logs: &mut [PlainLog]) {
+fn write_each(rings: &mut [Receiver], logs: &mut [PlainLog]) {
     for (ring, log) in rings.iter_mut().zip(logs.iter_mut()) {
         write_all(ring, log);
     }
 }
 
 // Writes records until the workers have ended.
-fn write_until_end<R: Wait>(
-    rt: &R,
-    signals: &Signals,
-    rings: Vec<Consumer<Record>>,
-    logs: Vec<PlainLog>,
-) {
+fn write_until_end<R: Wait>(rt: &R, signals: &Signals, rings: Vec<Receiver>, logs: Vec<PlainLog>) {
     let mut rings = rings;
     let mut logs = logs;
     for _ in rt.forever() {
@@ -89,7 +84,7 @@ pub fn log_plainly<R: Wait + CpuClock>(
     rt: &R,
     alloc: Global,
     signals: &Signals,
-    rings: Vec<Consumer<Record>>,
+    rings: Vec<Receiver>,
 ) -> Option<u64> {
     let Some(logs) = open_logs(alloc, rings.len()) else {
         signals.stop();

@@ -12,9 +12,8 @@ use crate::throwing::throw_away;
 use crate::took::Took;
 use crate::workers::work_all;
 use block_disk::Disk;
-use heap_model::Record;
+use lane_rings::Receiver;
 use monitor::Shared;
-use rtrb::Consumer;
 use running_heap::RunningHeap;
 use session::Session;
 use std::alloc::Global;
@@ -86,7 +85,7 @@ fn beside_thrower<R: Threads + Wait + Sync + Clock + CpuClock>(
     rt: &R,
     shared: &Shared,
     sessions: Vec<Session>,
-    rings: Vec<Consumer<Record>>,
+    rings: Vec<Receiver>,
 ) -> Option<Took>
     requires of { All (IsSessionOf shared.now) sessions.items }
 {
@@ -127,7 +126,7 @@ fn beside_logger<R: Threads + Wait + Sync + Clock + CpuClock>(
     alloc: Global,
     shared: &Shared,
     sessions: Vec<Session>,
-    rings: Vec<Consumer<Record>>,
+    rings: Vec<Receiver>,
 ) -> Option<Took>
     requires of { All (IsSessionOf shared.now) sessions.items }
 {

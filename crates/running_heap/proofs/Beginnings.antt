@@ -1,23 +1,25 @@
 -- The sessions of a heap that begins to run.
-use Rattle.std.proofs.Common.{ℕ, zero, suc, ◌≡◌, ◌+◌, ◌≤◌, List, [], ◌∷◌, ◌++◌, map, length, All, refl, sym, ap, ◌∙◌, subst, arith}
+use Rattle.std.proofs.Common.{ℕ, zero, suc, ◌≡◌, ◌+◌, ◌≤◌, List, [], ◌∷◌, ◌++◌, map, length, All, Some, refl, sym, ap, ◌∙◌, subst, arith}
 use Rattle.std.proofs.lemmas.List.{append_assoc, length-append}
 use Rattle.std.proofs.lemmas.List.Elements.{All-nil, All-cons, All-head, All-tail}
-use Rattle.std.specs.Global.{Global}
-use Rattle.rtrb.specs.Ring.{IsPair}
-use Rattle.rtrb.specs.declared.AnyItems.{AnyItems}
-use Rattle.rtrb.specs.declared.consumer.Consumer.{Consumer}
-use Rattle.rtrb.specs.declared.producer.Producer.{Producer}
+use Rattle.heap_model.specs.Log as logs
+use Rattle.heap_model.specs.Own.{sent_of}
 use Rattle.heap_model.specs.declared.record.Record.{Record}
+use Rattle.lane_rings.specs.Following.{Whose, to_release}
+use Rattle.lane_rings.specs.Rings.{IsPair, Receiving, Sending}
 use Rattle.monitor.specs.declared.view.Plan.{Plan}
 use Rattle.monitor.specs.declared.view.View as raw
 use Rattle.monitor.specs.Views.{lane_of}
-use Rattle.monitor.specs.Seats.{Home, Sitting, fresh_view, fresh_views}
+use Rattle.monitor.specs.Seats as seats
+use Rattle.monitor.specs.Seats.{Helping, Home, Sitting, fresh_view, fresh_views}
+use Rattle.monitor.specs.Words.{setting_of}
 use Rattle.session.specs.Opened.{IsOpened, AreOpened}
 use Rattle.session.specs.Sessions.{IsSessionOf, ring_of, view_of}
 use Rattle.session.specs.declared.session.Session.{Session}
 use Rattle.trim_helper.specs.Endings.{Rings}
 use Rattle.trim_helper.specs.Moves.{IsEndOf, most_room}
 use Rattle.trim_helper.specs.Rings.{received_of}
+use Rattle.trim_helper.specs.Seen.{BeginsLog, SeesFrom}
 use Rattle.heap_model.specs.declared.limits.TheConstants.{RING_RECORDS}
 use Rattle.running_heap.specs.Joined.{IsJoined, AreNew}
 
@@ -41,7 +43,7 @@ count_from k l zero = refl
 count_from k l (suc n) = ap suc (count_from k (suc l) n)
 
 -- the ring behind those before it
-end_at : (before cs : Rings) (p : Producer Record Global AnyItems) (c : Consumer Record Global AnyItems) → IsPair p c → IsEndOf p (before ++ c ∷ cs) (length before)
+end_at : (before cs : Rings) (p : Sending) (c : Receiving) → IsPair p c → IsEndOf p (before ++ c ∷ cs) (length before)
 end_at [] cs p c pair = pair
 end_at (b ∷ before) cs p c pair = end_at before cs p c pair
 
@@ -54,8 +56,8 @@ first_view k l zero s ss is = absurd cc
 first_view k l (suc n) s ss is = (n, refl, (let a : s.view ∷ map (λ z. z.view) ss ≡ fresh_view k l ∷ views_from k (suc l) n = is in cc), (let a : s.view ∷ map (λ z. z.view) ss ≡ fresh_view k l ∷ views_from k (suc l) n = is in cc))
 
 module _ (capacity : ℕ) (k : Plan) where
-  lane_is : (l : ℕ) (s : Sitting) (x : Session) (c : Consumer Record Global AnyItems) → IsOpened capacity s x c → s.view ≡ fresh_view k l → (view_of x).lane.0 ≡ l
-  lane_is l s x c one is = ap (λ (z : Sitting). (lane_of z.view).0) one.seat ∙ ap (λ (v : raw.View). (lane_of v).0) is
+  lane_is : (l : ℕ) (s : Sitting) (x : Session) (c : Receiving) → IsOpened capacity s x c → s.view ≡ fresh_view k l → (view_of x).lane.0 ≡ l
+  lane_is l s x c one is = ap (λ (v : raw.View). (lane_of v).0) one.seat.1 ∙ ap (λ (v : raw.View). (lane_of v).0) is
 
   -- each session is joined to the ring of its lane
   are_joined : (h : Home) (before : Rings) (l n : ℕ) (ss : List Sitting) (xs : List Session) (cs : Rings) → length before ≡ l → AreFrom k l n ss → AreOpened capacity ss xs cs → All (IsSessionOf h) xs → All (IsJoined h capacity (before ++ cs)) xs
@@ -82,7 +84,7 @@ module _ (capacity : ℕ) (k : Plan) where
   are_new l n [] [] [] from opened = tt
   are_new l n (s ∷ ss) (x ∷ xs) (c ∷ cs) from opened =
       let first = first_view k l n s ss from in
-      (lane_is l s x c opened.0 first.2, ap (λ (z : Sitting). z.view.events) opened.0.seat ∙ ap (λ (v : raw.View). v.events) first.2, are_new (suc l) first.0 ss xs cs first.3 opened.1)
+      (lane_is l s x c opened.0 first.2, ap (λ (v : raw.View). v.events) opened.0.seat.1 ∙ ap (λ (v : raw.View). v.events) first.2, are_new (suc l) first.0 ss xs cs first.3 opened.1)
   are_new l n [] [] (c ∷ cs) from opened = absurd opened
   are_new l n [] (x ∷ xs) [] from opened = absurd opened
   are_new l n [] (x ∷ xs) (c ∷ cs) from opened = absurd opened
@@ -102,6 +104,27 @@ module _ (capacity : ℕ) (k : Plan) where
   counts l n (s ∷ ss) [] [] from opened = absurd opened
   counts l n (s ∷ ss) [] (c ∷ cs) from opened = absurd opened
   counts l n (s ∷ ss) (x ∷ xs) [] from opened = absurd opened
+
+  -- of what was taken of them the helper has seen all: nothing was taken
+  pub sees_opened : (h : Home) (helper : Helping) (l n : ℕ) (ss : List Sitting) (xs : List Session) (cs : Rings) → helper.table ≡ h.table → helper.view.plan ≡ k → All (seats.IsSeatOf h) ss → AreFrom k l n ss → AreOpened capacity ss xs cs → SeesFrom helper l cs
+  sees_opened h helper l n [] [] [] table plan of from opened = tt
+  sees_opened h helper l n (s ∷ ss) (x ∷ xs) (c ∷ cs) table plan of from opened =
+      let first = first_view k l n s ss from in
+      let at : s.table ≡ helper.table = (All-head (seats.IsSeatOf h) s ss of).0 ∙ sym table in
+      let same : s.view.plan ≡ helper.view.plan = ap (λ (v : raw.View). v.plan) first.2 ∙ sym plan in
+      let lane : lane_of s.view ≡ record { 0 = l } = ap (λ (v : raw.View). lane_of v) first.2 in (
+        record {
+          whose = opened.0.whose ∙ ap (λ (w : Whose). Some w) (λ i. record { table = at i; plan = same i; lane = lane i });
+          seen = λ none. subst (λ (log : List Record). BeginsLog helper.view.plan l helper.view.history (to_release log)) (sym opened.0.none) (sent_of (setting_of helper.view.plan) (logs.lane l helper.view.history), refl);
+        },
+        sees_opened h helper (suc l) first.0 ss xs cs table plan (All-tail (seats.IsSeatOf h) s ss of) first.3 opened.1,
+      )
+  sees_opened h helper l n [] [] (c ∷ cs) table plan of from opened = absurd opened
+  sees_opened h helper l n [] (x ∷ xs) [] table plan of from opened = absurd opened
+  sees_opened h helper l n [] (x ∷ xs) (c ∷ cs) table plan of from opened = absurd opened
+  sees_opened h helper l n (s ∷ ss) [] [] table plan of from opened = absurd opened
+  sees_opened h helper l n (s ∷ ss) [] (c ∷ cs) table plan of from opened = absurd opened
+  sees_opened h helper l n (s ∷ ss) (x ∷ xs) [] table plan of from opened = absurd opened
 
   -- the rings are empty, and have their room
   pub rooms : (ss : List Sitting) (xs : List Session) (cs : Rings) → AreOpened capacity ss xs cs → most_room cs ≤ RING_RECORDS
@@ -138,6 +161,9 @@ module _ (h : Home) (capacity n : ℕ) (ss : List Sitting) (xs : List Session) (
 
   pub session_count : length xs ≡ n
   session_count = (counts capacity h.plan 0 n ss xs cs from opened).0
+
+  pub all_seen : (helper : Helping) → helper.table ≡ h.table → helper.view.plan ≡ h.plan → All (seats.IsSeatOf h) ss → SeesFrom helper 0 cs
+  all_seen helper table plan of = sees_opened capacity h.plan h helper 0 n ss xs cs table plan of from opened
 
   pub ring_count : length cs ≡ n
   ring_count = (counts capacity h.plan 0 n ss xs cs from opened).1

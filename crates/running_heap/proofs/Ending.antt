@@ -2,10 +2,7 @@
 use Rattle.std.proofs.Common.{ℕ, ◌≡◌, ◌+◌, List, [], ◌∷◌, map, All, refl, sym, ap, ◌∙◌, subst, inl, inr, arith}
 use Rattle.std.proofs.lemmas.List.{length-map}
 use Rattle.std.proofs.lemmas.List.Elements.{All-nil, All-cons, All-head, All-tail}
-use Rattle.std.specs.Global.{Global}
-use Rattle.rtrb.specs.Ring.{sent}
-use Rattle.rtrb.specs.declared.AnyItems.{AnyItems}
-use Rattle.rtrb.specs.declared.producer.Producer.{Producer}
+use Rattle.lane_rings.specs.Rings.{Sending, sent}
 use Rattle.heap_model.specs.declared.record.Record.{Record}
 use Rattle.heap_model.specs.declared.ids.Lane.{Lane}
 use Rattle.heap_model.specs.Limits.{IsWithinLimits}
@@ -54,7 +51,7 @@ ended_of h c rings x e k joined seat ring capacity lane all_sent held within beg
           (keeps_limits (place_read e.seat) c (own_log (view e.seat).plan e.seat.view.events) within
           (subst (λ n. BeganBelow ((view e.seat).trimmed + n) (actions_in (view e.seat))) (capacity ∙ joined.holds) began));
       held = held ∙ ap (λ (s : Setting). held_in s e.seat.view.events) same;
-      ring = subst (λ (p : Producer Record Global AnyItems). IsEndOf p rings e.lane.0) (sym ring) (subst (λ l. IsEndOf (ring_of x) rings l) at joined.ring);
+      ring = subst (λ (p : Sending). IsEndOf p rings e.lane.0) (sym ring) (subst (λ l. IsEndOf (ring_of x) rings l) at joined.ring);
     }
 
 -- the list of those that met

@@ -1,10 +1,8 @@
 -- A session stays joined to its helper, and a helper goes on.
 use Rattle.std.proofs.Common.{ℕ, zero, suc, List, [], ◌∷◌, sym, ap, ◌∙◌, subst}
-use Rattle.rtrb.specs.declared.consumer.Consumer.{Consumer}
-use Rattle.rtrb.specs.declared.producer.Producer.{Producer}
 use Rattle.rtrb.specs.Ring.{SameProducer}
+use Rattle.lane_rings.specs.Rings.{Receiving, Sending}
 use Rattle.block_disk.specs.Device.{Device}
-use Rattle.heap_model.specs.declared.record.Record.{Record}
 use Rattle.heap_model.specs.declared.ids.Lane.{Lane}
 use Rattle.session.specs.Sessions.{ring_of, view_of}
 use Rattle.monitor.specs.Seats.{Home}
@@ -12,12 +10,12 @@ use Rattle.steps.specs.Views.{plan}
 use Rattle.store_past.specs.Past.{Past}
 use Rattle.trim_helper.specs.Moves.{IsEndOf}
 use Rattle.trim_helper.specs.Parts.{IsServing, Parts, taking_of}
-use Rattle.trim_helper.proofs.Rounds.{drained_same, drained_serves, goes_drained}
+use Rattle.trim_helper.proofs.Rounds.{drained_serves, goes_drained}
 use Rattle.running_heap.specs.Joined.{HasGoneOn, IsHelping}
 use Rattle.running_heap.specs.Laws.{CallLaw, DrainLaw, EndedLaw, RingsLaw, RoundLaw, WaitLaw}
 
 -- another value of the same end
-pub same_end : {A P : Type 0} (p q : Producer Record A P) (cs : List (Consumer Record A P)) (l : ℕ) → SameProducer p q → IsEndOf p cs l → IsEndOf q cs l
+pub same_end : (p q : Sending) (cs : List Receiving) (l : ℕ) → SameProducer p q → IsEndOf p cs l → IsEndOf q cs l
 same_end p q [] l same is = is
 same_end p q (c ∷ cs) zero same is = (is.0 ∙ sym same.0.0, is.1 ∙ sym same.0.1, is.2 ∙ sym same.0.2, is.3 ∙ sym same.0.3)
 same_end p q (c ∷ cs) (suc l) same is = same_end p q cs l same is
@@ -61,6 +59,6 @@ goes_on device h p x y answer was on round = helps_on device h x y round.now was
 
 pub drains_on : {D : Type 0} (device : D → Device) → DrainLaw device
 drains_on device h x y n was seat drained quiet =
-    let on : HasGoneOn h x y = goes_drained h x y was.seat seat (drained_same device (taking_of x) (taking_of y) n drained) drained.advances.layout in
+    let on : HasGoneOn h x y = goes_drained h x y was.seat seat drained.same drained.layout in
     let served = drained_serves device x y n (plan h) was.past drained seat quiet was.serving in
     (on, helps_on device h x y served.now was on served.serves)

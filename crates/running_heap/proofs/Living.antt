@@ -42,7 +42,7 @@ module _ {D : Type 0} (device : D → Device) where
   pub lives_drained : DrainLifeLaw device
   lives_drained h opened x y p n was seat drained quiet =
       let served = drained_serves device x y n (plan h) p drained seat quiet was.serving in
-      (served.now, lives_by h opened x y p served.now was drained.advances.layout served.ran served.serves (drained.advances.running ∙ was.running))
+      (served.now, lives_by h opened x y p served.now was drained.layout served.ran served.serves (drained.running ∙ was.running))
 
   pub lives_closed : ClosedLifeLaw device
   lives_closed h opened d x p ended was from =

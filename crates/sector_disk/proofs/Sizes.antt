@@ -1,6 +1,6 @@
 -- Where sectors and areas lie.
-use Rattle.std.proofs.Common.{◌≡◌, inl, inr, ◌⊎◌, ℕ, ◌+◌, ◌/◌, ◌%◌, ◌<◌, ◌≤◌, Bool, true, false, not, List, [], ◌∷◌, length, get_or, sym, ◌∙◌, ap, subst, arith, nat_eq}
-use Rattle.std.proofs.lemmas.List.{ext_get_or}
+use Rattle.std.proofs.Common.{◌≡◌, inl, inr, ◌⊎◌, ℕ, ◌+◌, ◌/◌, ◌%◌, ◌<◌, ◌≤◌, Bool, true, false, not, List, [], ◌∷◌, length, get_or, sym, ◌∙◌, ap, subst, arith, nat_eq, take}
+use Rattle.std.proofs.lemmas.List.{ext_get_or, take-take}
 use Rattle.block_disk.specs.Bytes.{part, spliced}
 use Rattle.block_disk.specs.Device.{IsClear, Device, written}
 use Rattle.block_disk.specs.Images.{ImageBut, IsApart, LeavesOnly, Always}
@@ -94,6 +94,23 @@ label_apart_area Bytes512 count true = (inl (omega arith), tt)
 label_apart_area Bytes4096 count false = (inl (omega arith), tt)
 label_apart_area Bytes4096 count true = (inl (omega arith), tt)
 
+-- and so do the areas and the gate of the label
+pub apart_label : (size : SectorSize) (count : ℕ) (turn : Bool) → IsApart (place_of size (first_sector count turn)) (place_of size count) (one_sector size 0 ∷ [])
+apart_label size count turn =
+    let low = behind_gate size count turn in
+    let before = ends_before size 0 1 (omega arith) in
+    (inr (omega (arith, before, low)), tt)
+
+pub sector_apart_label : (size : SectorSize) (count : ℕ) (turn : Bool) (i : ℕ) → IsApart (place_of size (first_sector count turn + i)) (bytes_in size) (one_sector size 0 ∷ [])
+sector_apart_label size count turn i =
+    let le = place_le size (first_sector count turn) (first_sector count turn + i) (omega arith) in
+    let low = behind_gate size count turn in
+    let before = ends_before size 0 1 (omega arith) in
+    (inr (omega (arith, le, low, before)), tt)
+
+pub gate_clear_label : (size : SectorSize) → IsClear (place_of size 1) (one_sector size 0 ∷ [])
+gate_clear_label size = (inr (ends_before size 0 1 (omega arith)), tt)
+
 pub gate_clear_area : (size : SectorSize) (count : ℕ) (turn : Bool) → IsClear (place_of size 1) (sectors_from size (first_sector count turn) count ∷ [])
 gate_clear_area size count turn =
     let low = behind_gate size count turn in
@@ -118,7 +135,7 @@ sector_apart size i j (inl less) = (inl (ends_before size i j less), tt)
 sector_apart size i j (inr more) = (inr (ends_before size j i more), tt)
 
 -- the sector in which a byte of an area lies, and its place there
-find_sector : (size : SectorSize) (first count i : ℕ) → i < place_of size count
+pub find_sector : (size : SectorSize) (first count i : ℕ) → i < place_of size count
     → (q : ℕ) × (r : ℕ) × (q < count) × (r < bytes_in size) × (place_of size (first + q) + r ≡ place_of size first + i) × (place_of size q + r ≡ i)
 find_sector Bytes512 first count i less = (i / 512, i % 512, omega arith, omega arith, omega arith, omega arith)
 find_sector Bytes4096 first count i less = (i / 4096, i % 4096, omega arith, omega arith, omega arith, omega arith)
@@ -161,6 +178,15 @@ pub marked_within : (size : SectorSize) (n to count : ℕ) → n ≤ place_of si
 marked_within Bytes512 n to count le less = omega arith
 marked_within Bytes4096 n to count le less = omega arith
 
+-- a sector has room for a label, which is what the device begins with
+pub sixteen : (size : SectorSize) → 16 ≤ bytes_in size
+sixteen Bytes512 = omega arith
+sixteen Bytes4096 = omega arith
+
+pub label_begins : (size : SectorSize) (bytes : List ℕ) → take 16 (sector size 0 bytes) ≡ take 16 bytes
+label_begins Bytes512 bytes = take-take 16 512 bytes (omega arith)
+label_begins Bytes4096 bytes = take-take 16 4096 bytes (omega arith)
+
 -- what is written to a sector stands in it
 pub sector_written : (size : SectorSize) (number : ℕ) (bytes : List ℕ) (old new : Device) → length bytes ≡ bytes_in size → place_of size number + bytes_in size ≤ length old.now.bytes
     → new ≡ written (place_of size number) bytes old → sector size number new.now.bytes ≡ bytes
@@ -199,3 +225,16 @@ ceil_512 size len is =
 pub ceil_4096 : (size : SectorSize) (len : ℕ) → size ≡ Bytes4096 → (len ≤ place_of size ((len + 4095) / 4096)) × (place_of size ((len + 4095) / 4096) < len + bytes_in size)
 ceil_4096 size len is =
     subst (λ (s : SectorSize). (len ≤ place_of s ((len + 4095) / 4096)) × (place_of s ((len + 4095) / 4096) < len + bytes_in s)) (sym is) (omega arith, omega arith)
+
+-- the label, the gate and each area lie among the sectors that a disk in two places takes
+pub label_among : (size : SectorSize) (count : ℕ) → place_of size 0 + bytes_in size ≤ place_of size 0 + place_of size (count + count + 2)
+label_among Bytes512 count = omega arith
+label_among Bytes4096 count = omega arith
+
+pub gate_among : (size : SectorSize) (count : ℕ) → place_of size 1 + bytes_in size ≤ place_of size 0 + place_of size (count + count + 2)
+gate_among Bytes512 count = omega arith
+gate_among Bytes4096 count = omega arith
+
+pub first_among : (size : SectorSize) (count n : ℕ) → n ≡ count → place_of size 2 + place_of size n ≤ place_of size 0 + place_of size (count + count + 2)
+first_among Bytes512 count n is = omega (arith, is)
+first_among Bytes4096 count n is = omega (arith, is)

@@ -4,5 +4,8 @@ pub mod Readable
 pub mod Memory
 pub mod Disks
 pub mod Places
+pub mod Labels
+pub mod Whole
+pub mod OnePlace
 -- Scaffold: the device that no memory holds.
 pub mod Trace

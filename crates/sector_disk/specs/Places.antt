@@ -1,8 +1,8 @@
 -- A disk in two places on a device of sectors (docs/FORMAT.md, "Sectors in two places"). Sectors are numbered from 0: a label, the gate, and then
 -- two areas of as many sectors as the disk has.
-use Rattle.std.specs.Prelude.{◌≡◌, ℕ, ◌+◌, ◌≤◌, Bool, true, false, not, List, length, nat_eq, slice_index, slice_index_or}
+use Rattle.std.specs.Prelude.{◌≡◌, ◌⊎◌, ℕ, ◌+◌, ◌≤◌, Bool, true, false, not, List, length, nat_eq, slice_index, slice_index_or}
 use Rattle.block_disk.specs.Bytes.{part}
-use Rattle.block_disk.specs.Device.{Range, Moment, Device, Image}
+use Rattle.block_disk.specs.Device.{Range, Moment, Device, Image, SameMoments, synced}
 use Rattle.block_disk.specs.Images.{Always}
 use Rattle.sector_disk.specs.declared.size.SectorSize.{SectorSize}
 use Rattle.sector_disk.specs.Size.{bytes_in, place_of, sector}
@@ -64,3 +64,7 @@ pub record IsKept (size : SectorSize) (is_firm turn : Bool) (fresh stale : List 
   pub reads : Reads size (length fresh) turn fresh stale image d.now.bytes
   pub label : List ℕ
   pub crash : Always d (Holds size (length fresh) is_firm turn label m)
+
+-- no sector was written: the device is as it was found, or flushed
+abbrev pub IsAsFound : (old new : Device) → Type 0
+IsAsFound old new = SameMoments old new ⊎ SameMoments (synced old) new

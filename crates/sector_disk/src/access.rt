@@ -1,5 +1,5 @@
 //! Calls of a device of sectors, by what a crash at any moment of them leaves.
-ghost use Rattle.std.specs.Prelude.{◌≡◌, ◌+◌, ◌*◌, ◌≤◌, [], ◌∷◌, length, IsErrOf, OnOk};
+ghost use Rattle.std.specs.Prelude.{◌≡◌, ◌+◌, ◌*◌, ◌≤◌, [], ◌∷◌, length, IsErrOf, OnErr, OnOk};
 ghost use Rattle.block_disk.specs.Device.{SameMoments, SameOutside, synced, written};
 ghost use Rattle.block_disk.specs.Images.{ImageBut, LeavesOnly};
 ghost use Rattle.sector_disk.specs.Places.{one_sector};
@@ -37,6 +37,7 @@ pub(crate) fn put_sector<S: Sectors>(
 /// Makes what was written durable. A fault fixes nothing.
 pub(crate) fn settle<S: Sectors>(sectors: &mut S) -> Result<(), Fault>
     ensures ok { OnOk result (S.device sectors.new ≡ synced (S.device sectors.old)) }
+    ensures err { OnErr result (SameMoments (S.device sectors.old) (S.device sectors.new)) }
     ensures same { (S.device sectors.new).now.bytes ≡ (S.device sectors.old).now.bytes }
     ensures any_moment { LeavesOnly (S.device sectors.old) (S.device sectors.new) (ImageBut (S.device sectors.old) []) }
     ensures size { S.of_size sectors.new ≡ S.of_size sectors.old }

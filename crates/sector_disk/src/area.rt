@@ -97,8 +97,8 @@ fn write_marked<S: Sectors>(
     put_sector(sectors, size, number, bytes)
 }
 
-// The bytes of an image's sector.
-fn sector_at(image: &[u8], size: SectorSize, i: usize) -> &[u8]
+/// The bytes of an image's sector.
+pub(crate) fn sector_at(image: &[u8], size: SectorSize, i: usize) -> &[u8]
     requires { place_of size i + bytes_in size ≤ length image.now }
     ensures bytes { result.now ≡ sector size i image.now }
     ensures whole { length result.now ≡ bytes_in size }

@@ -9,6 +9,7 @@ use crate::error::SectorError;
 use crate::sectors::Sectors;
 use crate::size::SectorSize;
 use crate::trace::Trace;
+use crate::whole::WholeSectors;
 use block_disk::Fault;
 use std::alloc::{AllocError, Global};
 use std::marker::Model;
@@ -109,6 +110,17 @@ impl Sectors for MemSectors {
     fn flush(&mut self) -> Result<(), Fault> {
         let _ = &self.numbers;
         self.trace.sync();
+        Ok(())
+    }
+}
+
+// Memory tears nothing, and no write of it fails.
+impl WholeSectors for MemSectors {
+    fn write_whole(&mut self, number: u64, bytes: &[u8]) -> Result<(), Fault> {
+        let len = self.size.bytes();
+        let at = number as usize * len;
+        put(&mut self.numbers, at, bytes);
+        self.trace.write(at as u64, bytes);
         Ok(())
     }
 }

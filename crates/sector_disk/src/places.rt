@@ -112,8 +112,8 @@ pub(crate) fn write_image(
     put(image, at, bytes);
 }
 
-// Puts these bytes at `at`.
-fn put(image: &mut Vec<u8>, at: u64, bytes: &[u8])
+/// Puts these bytes at `at`.
+pub(crate) fn put(image: &mut Vec<u8>, at: u64, bytes: &[u8])
     requires { at + length bytes.now ≤ length image.old.items }
     ensures { image.new.items ≡ spliced image.old.items at bytes.now }
 {

@@ -40,7 +40,7 @@ impl Trace {
     {}
 
     /// A device of these bytes that nothing was asked of yet.
-    pub(crate) fn of(bytes: &[u8]) -> Trace
+    pub fn of(bytes: &[u8]) -> Trace
         ensures { result.device ≡ new_device bytes.now }
     {
         let mut trace = Trace::new();
@@ -49,7 +49,7 @@ impl Trace {
     }
 
     /// A write of these bytes at `at` succeeds.
-    pub(crate) fn write(&mut self, at: u64, bytes: &[u8])
+    pub fn write(&mut self, at: u64, bytes: &[u8])
         ensures { self.new.device ≡ written at bytes.now self.old.device }
     {
         self.note(&[at], bytes);
@@ -63,7 +63,7 @@ impl Trace {
     }
 
     /// A sync succeeds.
-    pub(crate) fn sync(&mut self)
+    pub fn sync(&mut self)
         ensures { self.new.device ≡ synced self.old.device }
     {
         self.note(&[], &[]);

@@ -1,12 +1,14 @@
 //! A disk in two places on a device of sectors.
-ghost use Rattle.std.specs.Prelude.{◌≡◌, ◌⊎◌, ◌+◌, ◌*◌, ◌^◌, ◌<◌, ◌≤◌, ℕ, List, IfOk, IsErrOf, OnErr, OnOk, [], length, replicate};
+ghost use Rattle.std.specs.Prelude.{◌≡◌, ◌≢◌, ◌⊎◌, ◌+◌, ◌*◌, ◌^◌, ◌<◌, ◌≤◌, ℕ, List, IfErr, IfOk, IsErrAnd, IsErrOf, OnErr, OnOk, [], ◌∷◌, length, replicate, take};
 ghost use Rattle.block_disk.specs.Bytes.{part, spliced};
-ghost use Rattle.block_disk.specs.Device.{HasFailed, SameMoments, TornWrite, synced, written};
+ghost use Rattle.block_disk.specs.Device.{HasFailed, SameMoments, SameOutside, TornWrite, synced, written};
 ghost use Rattle.block_disk.specs.Images.{Always, LeavesOnly};
 ghost use Rattle.block_disk.specs.declared.error.DiskError.TheVariants.{Fault, OutOfRange};
-ghost use Rattle.sector_disk.specs.Places.{IsKept, Shows, shown};
+ghost use Rattle.sector_disk.specs.Labels.{label_bytes};
+ghost use Rattle.sector_disk.specs.Places.{IsAsFound, IsKept, Shows, sectors_from, shown};
 ghost use Rattle.sector_disk.specs.Size.{place_of, sector};
 ghost use Rattle.sector_disk.specs.Trace.{new_device};
+ghost use Rattle.sector_disk.specs.declared.error.PlacesError.TheVariants.{Fault as PlacesFault, TooSmall};
 
 use crate::error::PlacesError;
 use crate::gate::Gate;
@@ -54,26 +56,62 @@ impl<S: Sectors + Drop> Model for TwoPlaces<S> {
 }
 
 impl<S: Sectors + Drop> TwoPlaces<S> {
-    /// The disk of so many sectors that these stand for. They are flushed first, so that what is read is what a crash leaves.
+    /// The disk of so many sectors that these stand for, whatever label they have. They are flushed first, so that what is read is
+    /// what a crash leaves.
     ///
-    /// `TooSmall` is tried first; then `Fault` and `NoMemory`, as they come.
-    pub fn open(alloc: Global, mut sectors: S, count: usize) -> Result<TwoPlaces<S>, PlacesError>
+    /// Refused, with the sectors, of which none was written:
+    /// - `TooSmall` exactly where there are fewer than the label, the gate and two areas take;
+    /// - then `Fault` and `NoMemory`, as they come.
+    pub fn open(
+        alloc: Global,
+        mut sectors: S,
+        count: usize,
+    ) -> Result<TwoPlaces<S>, (S, PlacesError)>
         ensures ok { IfOk result (λ disk. disk.device ≡ new_device (shown (S.of_size sectors) count (S.device sectors).now.bytes)) }
         ensures size { IfOk result (λ disk. (disk.size ≡ S.of_size sectors) × (disk.count ≡ count)) }
+        ensures too_small { length (S.device sectors).now.bytes < place_of (S.of_size sectors) (count + count + 2)
+            → IsErrAnd result (λ back. back.1 ≡ TooSmall) }
+        ensures room { place_of (S.of_size sectors) (count + count + 2) ≤ length (S.device sectors).now.bytes
+            → IfErr result (λ back. back.1 ≢ TooSmall) }
+        ensures err { IfErr result (λ back. IsAsFound (S.device sectors) (S.device back.0)) }
+        ensures back { IfErr result (λ back. S.of_size back.0 ≡ S.of_size sectors) }
     {
         let size = sectors.sector_size();
-        let found = find_places(alloc, &mut sectors, size, count)?;
-        Ok(TwoPlaces::holding(sectors, size, found))
+        match find_places(alloc, &mut sectors, size, count) {
+            Ok(found) => Ok(TwoPlaces::holding(sectors, size, found)),
+            Err(why) => Err((sectors, why)),
+        }
     }
 
-    /// A disk of so many sectors of zeros, durably. Refused as of [`open`](TwoPlaces::open).
-    pub fn create(alloc: Global, mut sectors: S, count: usize) -> Result<TwoPlaces<S>, PlacesError>
+    /// A disk of so many sectors of zeros, durably; the device begins with its label then, which is written last.
+    ///
+    /// Refused, with the sectors:
+    /// - `TooSmall` exactly where there are fewer than the label, the gate and two areas take;
+    /// - then `NoMemory`. After either the device is as it was;
+    /// - `Fault`: any bytes may stand in the sectors that the disk was to have, and no others have changed.
+    pub fn create(
+        alloc: Global,
+        mut sectors: S,
+        count: usize,
+    ) -> Result<TwoPlaces<S>, (S, PlacesError)>
         ensures ok { IfOk result (λ disk. disk.device ≡ new_device (replicate (place_of (S.of_size sectors) count) 0)) }
         ensures size { IfOk result (λ disk. (disk.size ≡ S.of_size sectors) × (disk.count ≡ count)) }
+        ensures labelled { IfOk result (λ disk. take 16 disk.sectors.now.bytes ≡ label_bytes (S.of_size sectors) count) }
+        ensures durable { IfOk result (λ disk. disk.sectors.now.pending ≡ []) }
+        ensures too_small { length (S.device sectors).now.bytes < place_of (S.of_size sectors) (count + count + 2)
+            → IsErrAnd result (λ back. back.1 ≡ TooSmall) }
+        ensures room { place_of (S.of_size sectors) (count + count + 2) ≤ length (S.device sectors).now.bytes
+            → IfErr result (λ back. back.1 ≢ TooSmall) }
+        ensures untouched { IfErr result (λ back. back.1 ≢ PlacesFault → S.device back.0 ≡ S.device sectors) }
+        ensures beyond { IfErr result (λ back. SameOutside (sectors_from (S.of_size sectors) 0 (count + count + 2) ∷ [])
+            (S.device sectors).now.bytes (S.device back.0).now.bytes) }
+        ensures back { IfErr result (λ back. S.of_size back.0 ≡ S.of_size sectors) }
     {
         let size = sectors.sector_size();
-        let found = make_places(alloc, &mut sectors, size, count)?;
-        Ok(TwoPlaces::holding(sectors, size, found))
+        match make_places(alloc, &mut sectors, size, count) {
+            Ok(found) => Ok(TwoPlaces::holding(sectors, size, found)),
+            Err(why) => Err((sectors, why)),
+        }
     }
 
     // The disk of these bytes, which lie on the device as is said.
@@ -82,6 +120,7 @@ impl<S: Sectors + Drop> TwoPlaces<S> {
         requires kept { IsKept size found.gate.is_firm found.gate.turn found.fresh found.stale found.image.items
             (record { bytes = found.image.items; pending = [] }) (S.device sectors) }
         ensures device { result.device ≡ new_device found.image.items }
+        ensures sectors { result.sectors ≡ S.device sectors }
         ensures size { (result.size ≡ size) × (result.count ≡ length found.fresh) }
     {
         let trace = Trace::of(&found.image);

@@ -26,6 +26,39 @@ pub(crate) fn crashed(
     damage: Damage,
     chance: &mut Chance,
 ) -> Option<MemSectors> {
+    let (bytes, lost) = hurt_all(alloc, disk, stop, size, damage, chance)?;
+    let mut sectors = MemSectors::from_bytes(alloc, size, &bytes).ok()?;
+    lose_each(&mut sectors, &lost);
+    Some(sectors)
+}
+
+/// The same as bytes, with zeros in sectors that can't be read: a gate of zeros says what one says that can't be.
+pub(crate) fn crashed_bytes(
+    alloc: Global,
+    disk: &MemDisk,
+    stop: u64,
+    size: SectorSize,
+    damage: Damage,
+    chance: &mut Chance,
+) -> Option<Vec<u8>> {
+    let (mut bytes, lost) = hurt_all(alloc, disk, stop, size, damage, chance)?;
+    for i in 0..lost.len() {
+        if lost[i] {
+            part_mut(&mut bytes, i, size).fill(0);
+        }
+    }
+    Some(bytes)
+}
+
+// What a crash leaves in this stop of the disk, and which sectors can't be read then.
+fn hurt_all(
+    alloc: Global,
+    disk: &MemDisk,
+    stop: u64,
+    size: SectorSize,
+    damage: Damage,
+    chance: &mut Chance,
+) -> Option<(Vec<u8>, Vec<bool>)> {
     let mut bytes = image(alloc, disk, stop, Fill::Lost)?;
     let new = image(alloc, disk, stop, Fill::Kept)?;
     let zeros = image(alloc, disk, stop, Fill::Byte(0))?;
@@ -46,9 +79,7 @@ pub(crate) fn crashed(
             }
         }
     }
-    let mut sectors = MemSectors::from_bytes(alloc, size, &bytes).ok()?;
-    lose_each(&mut sectors, &lost);
-    Some(sectors)
+    Some((bytes, lost))
 }
 
 fn lose_each(sectors: &mut MemSectors, lost: &[bool]) {

@@ -5,11 +5,17 @@
 #![tactic(auto)]
 
 #[cfg(test)]
+mod again;
+#[cfg(test)]
 mod chance;
 #[cfg(test)]
 mod damage;
 #[cfg(test)]
 mod in_place;
+#[cfg(test)]
+mod medium;
+#[cfg(test)]
+mod on_file;
 #[cfg(test)]
 mod truth;
 #[cfg(test)]

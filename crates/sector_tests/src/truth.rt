@@ -18,6 +18,12 @@ impl Truth {
         Some(Truth { bytes, pending })
     }
 
+    /// A disk of these bytes, durably.
+    pub(crate) fn holding(alloc: Global, bytes: Vec<u8>) -> Option<Truth> {
+        let pending = vec![in alloc; false; bytes.len()].ok()?;
+        Some(Truth { bytes, pending })
+    }
+
     /// All is durable.
     pub(crate) fn settle(&mut self) {
         self.pending.fill(false);

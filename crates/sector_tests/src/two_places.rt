@@ -6,11 +6,11 @@ use block_disk::{Disk, MemDisk};
 use sector_disk::{MemSectors, SectorSize, SectorsOf, TwoPlaces};
 use std::alloc::Global;
 
-const COUNT: usize = 4;
+pub(crate) const COUNT: usize = 4;
 
 const SYNCS: u64 = 8;
 
-type Tried = TwoPlaces<SectorsOf<MemDisk>>;
+pub(crate) type Tried = TwoPlaces<SectorsOf<MemDisk>>;
 
 // How many crashes of these devices, eight each, lost a byte; `None` where there was no memory.
 fn wrong(alloc: Global, size: SectorSize, damage: Damage, devices: u64) -> Option<u64> {
@@ -58,8 +58,8 @@ fn live_on(
     Some(wrong)
 }
 
-// Writes a few runs of bytes by chance.
-fn write_some<D: Disk>(disk: &mut D, truth: &mut Truth, chance: &mut Chance) -> bool {
+/// Writes a few runs of bytes by chance.
+pub(crate) fn write_some<D: Disk>(disk: &mut D, truth: &mut Truth, chance: &mut Chance) -> bool {
     for _ in 0..1 + chance.below(4) {
         let run = change(truth, chance);
         if disk.write_at(run.at as u64, bytes_of(truth, run)).is_err() {
@@ -69,8 +69,8 @@ fn write_some<D: Disk>(disk: &mut D, truth: &mut Truth, chance: &mut Chance) -> 
     true
 }
 
-// Whether what a crash has left is opened, and is right.
-fn holds(alloc: Global, left: MemSectors, truth: &Truth, are_all_durable: bool) -> bool {
+/// Whether what a crash has left is opened, and is right.
+pub(crate) fn holds(alloc: Global, left: MemSectors, truth: &Truth, are_all_durable: bool) -> bool {
     match TwoPlaces::open(alloc, left, COUNT) {
         Ok(mut disk) => reads(alloc, &mut disk, truth, are_all_durable),
         Err(_) => false,

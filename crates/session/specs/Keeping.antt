@@ -1,5 +1,5 @@
 -- What the parts of a call keep of a session.
-use Rattle.std.specs.Prelude.{ℕ, ◌≡◌, ◌+◌, ◌<◌, ◌≤◌, ◌⊎◌, Bool, true, [], ◌∷◌, Option, Some, None, Result, Err, IfErr, MatchBool, MatchOption, MatchResult, length}
+use Rattle.std.specs.Prelude.{ℕ, ◌≡◌, ◌+◌, ◌<◌, ◌≤◌, Bool, true, [], ◌∷◌, Option, Some, None, Result, Err, IfErr, MatchBool, MatchOption, MatchResult, length}
 use Rattle.rtrb.specs.Ring.{known_free}
 use Rattle.heap_model.specs.declared.limits.TheConstants.{SECTION_RECORDS}
 use Rattle.heap_model.specs.declared.event.Event.TheVariants.{Look, Resume}

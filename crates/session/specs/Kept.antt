@@ -1,6 +1,6 @@
 -- What a session's parts keep, whether it waits or not.
-use Rattle.std.specs.Prelude.{ℕ}
-use Rattle.rtrb.specs.Ring.{sent, known_free}
+use Rattle.rtrb.specs.Ring.{known_free}
+use Rattle.lane_rings.specs.Rings.{sent}
 use Rattle.steps.specs.Views.{view}
 use Rattle.session.specs.declared.parts.Parts.{Parts}
 use Rattle.session.specs.Sits.{HasRoom, Sits, Stays}

@@ -1,12 +1,9 @@
 -- What a contract sees of a session, of one that waits, and of one that has ended.
 use Rattle.std.specs.Prelude.{ℕ, ◌≡◌, ◌+◌, ◌≤◌}
-use Rattle.std.specs.Global.{Global}
-use Rattle.rtrb.specs.declared.AnyItems.{AnyItems}
-use Rattle.rtrb.specs.declared.producer.Producer.{Producer}
 use Rattle.rtrb.specs.Ring.{SameProducer, known_free}
+use Rattle.lane_rings.specs.Rings.{Sending}
 use Rattle.heap_model.specs.declared.limits.TheConstants.{SECTION_RECORDS}
 use Rattle.heap_model.specs.declared.ids.ObjectId.{ObjectId}
-use Rattle.heap_model.specs.declared.record.Record.{Record}
 use Rattle.monitor.specs.Seats.{Home, Sitting}
 use Rattle.steps.specs.Views.{View, view, IsSeatOf}
 use Rattle.session.specs.declared.parts.Parts.{Parts}
@@ -34,10 +31,10 @@ abbrev pub capacity_of : Session → ℕ
 capacity_of s = s.parts.capacity
 
 -- its end of the ring to the helper
-abbrev pub ring_of : Session → Producer Record Global AnyItems
+abbrev pub ring_of : Session → Sending
 ring_of s = s.parts.ring
 
-abbrev pub ring_waiting : Waiting → Producer Record Global AnyItems
+abbrev pub ring_waiting : Waiting → Sending
 ring_waiting w = w.parts.ring
 
 -- how many slots of its ring it knows to be free
@@ -86,7 +83,7 @@ pub record Ends (s : Session) (e : Ended) : Type 0 where
   pub capacity : e.capacity ≡ s.parts.capacity
 
 -- the ended session has this seat, this end of the ring, and this capacity
-pub record IsMadeOf (e : Ended) (s : Sitting) (p : Producer Record Global AnyItems) (c : ℕ) : Type 0 where
+pub record IsMadeOf (e : Ended) (s : Sitting) (p : Sending) (c : ℕ) : Type 0 where
   pub seat : s ≡ e.seat
   pub ring : p ≡ e.ring
   pub capacity : c ≡ e.capacity

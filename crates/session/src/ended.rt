@@ -1,24 +1,22 @@
 //! A session that has ended.
 
 ghost use Rattle.std.specs.Prelude.{◌≡◌, ◌+◌};
-ghost use Rattle.rtrb.specs.Ring.{sent};
 ghost use Rattle.heap_model.specs.Limits.{IsWithinLimits};
+ghost use Rattle.lane_rings.specs.Rings.{sent};
 ghost use Rattle.steps.specs.Views.{view};
 ghost use Rattle.session.specs.Logs.{sent_in, actions_in, held_count};
 ghost use Rattle.session.specs.Past.{BeganBelow, IsWithinLimits-prop, BeganBelow-prop};
 
 use crate::parts::Parts;
 use crate::session::Session;
-use heap_model::Record;
+use lane_rings::Sender;
 use monitor::Seat;
-use rtrb::Producer;
-use std::alloc::Global;
 
 /// A session that has ended: its seat, and its end of the ring, in which records may still wait for the helper.
 #[derive(Drop)]
 pub struct Ended {
     pub(crate) seat: Seat,
-    pub(crate) ring: Producer<Record, Global>,
+    pub(crate) ring: Sender,
     // How many records the lane holds.
     pub(crate) capacity: u64,
     // How many monitors it still holds.
@@ -62,7 +60,7 @@ impl Ended {
     /// Its seat, its end of the ring, how many records its lane holds, and how many monitors it still holds. All that it was
     /// told is sent; each of its sections is within its limit, and began where the lane, up to the trimmed place that its view
     /// has, had room for a whole one.
-    pub fn into_parts(self) -> (Seat, Producer<Record>, u64, u32)
+    pub fn into_parts(self) -> (Seat, Sender, u64, u32)
         ensures parts { IsMadeOf self result.0 result.1 result.2 }
         ensures all_sent { sent result.1 ≡ sent_in (view result.0) }
         ensures held { result.3 ≡ held_count (view result.0) }

@@ -200,7 +200,7 @@ impl Session {
                 put_first(&mut self.parts.held, first_grip(object, free));
                 self.parts.records += 1;
                 self.parts.place += 1;
-                self.parts.ring.push_reserved(Record::Acq {
+                self.parts.ring.push(Record::Acq {
                     object,
                     number: free.number,
                 });

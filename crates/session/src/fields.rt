@@ -115,7 +115,7 @@ impl Session {
         let before = steps::write_field(shared, &mut self.parts.seat, field, value);
         self.parts.records += 1;
         self.parts.place += 1;
-        self.parts.ring.push_reserved(Record::Put {
+        self.parts.ring.push(Record::Put {
             field,
             before,
             after: value,

@@ -78,9 +78,12 @@ impl Session {
         self.parts.records = records;
         self.parts.sections = sections;
         self.parts.place += 1;
-        self.parts.ring.push_reserved(Record::Rel {
+        let freed = Record::Rel {
             object: grip.object,
             number: grip.number,
-        });
+        };
+        self.parts
+            .ring
+            .push_told(shared, &mut self.parts.seat, freed);
     }
 }

@@ -12,7 +12,7 @@ impl Session {
     ghost use Rattle.session.specs.Sessions.{SameRing, HasRoomLeft, IsSessionOf, view_of, seat_of, ring_of};
     ghost use Rattle.session.specs.Logs.{sent_in, held_count, sections_ended};
     ghost use Rattle.monitor.specs.Views.{Stands};
-    ghost use Rattle.rtrb.specs.Ring.{sent};
+    ghost use Rattle.lane_rings.specs.Rings.{sent};
 
     /// How many sections have ended since the session was opened.
     pub fn sections(&self) -> u64

@@ -2,17 +2,15 @@
 
 use crate::limits::MOST_HELD;
 use arrayvec::ArrayVec;
-use heap_model::Record;
+use lane_rings::Sender;
 use monitor::Seat;
-use rtrb::Producer;
-use std::alloc::Global;
 use steps::Grip;
 
 /// The seat of a session's lane, the monitors that it holds, its end of the ring, and its numbers.
 #[derive(Drop)]
 pub struct Parts {
     pub(crate) seat: Seat,
-    pub(crate) ring: Producer<Record, Global>,
+    pub(crate) ring: Sender,
     // The grips, the newest first.
     pub(crate) held: ArrayVec<Grip, MOST_HELD>,
     // How many records the open section has.

@@ -187,10 +187,11 @@ impl Session {
         parts.records = records;
         parts.sections = sections;
         parts.place += 1;
-        parts.ring.push_reserved(Record::WaitRel {
+        let freed = Record::WaitRel {
             object: grip.object,
             number: grip.number,
-        });
+        };
+        parts.ring.push_told(shared, &mut parts.seat, freed);
         Waiting {
             parts,
             object: grip.object,

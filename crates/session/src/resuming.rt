@@ -16,7 +16,7 @@ impl Waiting {
     ghost use Rattle.session.specs.Sessions.{SameRingResumed, SameRingStill, IsSessionOf, IsWaitingOf, view_waiting, seat_waiting, ring_waiting, awaited};
     ghost use Rattle.session.specs.Logs.{sent_in};
     ghost use Rattle.monitor.specs.Views.{Stands};
-    ghost use Rattle.rtrb.specs.Ring.{sent};
+    ghost use Rattle.lane_rings.specs.Rings.{sent};
 
     /// What the thread was told is its lane's part of one legal history, and what it has sent is the log of that part
     /// ([`Session::stands`] says the same of one that doesn't wait). This does nothing at run time.
@@ -108,7 +108,7 @@ impl Waiting {
                 parts.held.insert(0, grip);
                 parts.records += 1;
                 parts.place += 1;
-                parts.ring.push_reserved(Record::Acq { object, number });
+                parts.ring.push(Record::Acq { object, number });
                 Ok(Session { parts })
             }
             Err(seen) => {

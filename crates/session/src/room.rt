@@ -2,18 +2,17 @@
 
 ghost use Rattle.std.specs.Prelude.{◌≡◌, ◌+◌, ◌<◌, ◌≤◌, ◌^◌, ◌↔◌, [], length, IsTrue, MatchBool};
 ghost use Rattle.std.specs.Bool.{OnFalse};
-ghost use Rattle.rtrb.specs.Ring.{sent, known_free, producer_capacity, ProducerLooked};
+ghost use Rattle.rtrb.specs.Ring.{known_free, producer_capacity};
+ghost use Rattle.lane_rings.specs.Rings.{SenderLooked, sent};
 ghost use Rattle.steps.specs.Views.{view, IsSeatOf, KeepsEach, Lengthens};
 
-use heap_model::Record;
+use lane_rings::Sender;
 use monitor::{Seat, Shared};
-use rtrb::Producer;
-use std::alloc::Global;
 
 /// Whether so many slots of the ring are known to be free.
 #[inline(always)]
-pub fn ring_has_room(ring: &mut Producer<Record, Global>, needed: usize) -> bool
-    ensures looked { ProducerLooked ring.old ring.new }
+pub fn ring_has_room(ring: &mut Sender, needed: usize) -> bool
+    ensures looked { SenderLooked ring.old ring.new }
     ensures room { MatchBool result (needed ≤ known_free ring.new) (producer_capacity ring.old < length (sent ring.old) + needed) }
     ensures short { OnFalse result (known_free ring.new < needed) }
 {

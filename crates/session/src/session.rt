@@ -1,8 +1,10 @@
 //! A session: one thread's use of the heap.
 
-ghost use Rattle.std.specs.Prelude.{◌≡◌};
+ghost use Rattle.std.specs.Prelude.{◌≡◌, Some};
 ghost use Rattle.rtrb.specs.Ring.{producer_capacity};
 ghost use Rattle.heap_model.specs.declared.limits.TheConstants.{RING_RECORDS};
+ghost use Rattle.lane_rings.specs.Following.{whose};
+ghost use Rattle.lane_rings.specs.Rings.{whose_ring};
 ghost use Rattle.session.specs.Kept.{SitsIn};
 ghost use Rattle.session.specs.Past.{kept_props};
 
@@ -18,4 +20,5 @@ pub struct Session {
     pub(crate) parts: Parts,
     ghost sits: { SitsIn parts } by { Prim.hlevel kept_props },
     ghost sized: { producer_capacity parts.ring ≡ RING_RECORDS },
+    ghost owned: { whose_ring parts.ring ≡ Some (whose parts.seat) } by { Prim.hlevel kept_props },
 }

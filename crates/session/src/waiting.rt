@@ -4,6 +4,8 @@ ghost use Rattle.std.specs.Prelude.{◌≡◌, ◌+◌, ◌<◌, ◌≤◌, Some
 ghost use Rattle.rtrb.specs.Ring.{producer_capacity};
 ghost use Rattle.heap_model.specs.declared.limits.TheConstants.{SECTION_RECORDS, RING_RECORDS};
 ghost use Rattle.session.specs.declared.limits.TheConstants.{MOST_HELD, FAT_LOCKS};
+ghost use Rattle.lane_rings.specs.Following.{whose};
+ghost use Rattle.lane_rings.specs.Rings.{whose_ring};
 ghost use Rattle.session.specs.Grips.{grip_in};
 ghost use Rattle.session.specs.Kept.{HasRoomIn, StaysIn};
 ghost use Rattle.session.specs.Past.{kept_props};
@@ -35,4 +37,5 @@ pub struct Waiting {
     ghost gone_from: { removed ≡ true → IsRemoved (view parts.seat) object } by { Prim.hlevel kept_props },
     ghost still_in: { removed ≡ false → IsClear (view parts.seat) } by { Prim.hlevel kept_props },
     ghost sized: { producer_capacity parts.ring ≡ RING_RECORDS },
+    ghost owned: { whose_ring parts.ring ≡ Some (whose parts.seat) } by { Prim.hlevel kept_props },
 }

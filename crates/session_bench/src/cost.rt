@@ -7,6 +7,7 @@ use crate::bare::Words;
 use crate::best::{Best, RUNS, SECTIONS};
 use crate::heap::open_heap;
 use heap_model::{FieldId, ObjectId, RING_RECORDS, Record};
+use lane_rings::Receiver;
 use monitor::Shared;
 use rtrb::{Consumer, Producer, RingBuffer};
 use session::Session;
@@ -71,7 +72,14 @@ fn store_often<R: Wait>(
 }
 
 // Takes all records that wait in the ring.
-fn empty(ring: &mut Consumer<Record>) {
+fn empty(ring: &mut Receiver) {
+    for _ in 0..ring.slots() {
+        let _ = ring.pop();
+    }
+}
+
+// Takes all records that wait in the bare ring.
+fn empty_bare(ring: &mut Consumer<Record>) {
     for _ in 0..ring.slots() {
         let _ = ring.pop();
     }
@@ -82,7 +90,7 @@ fn best_by_session<R: Clock + Wait>(
     rt: &R,
     shared: &Shared,
     session: &mut Session,
-    ring: &mut Consumer<Record>,
+    ring: &mut Receiver,
 ) -> io::Result<Option<Best>>
     requires seat { IsSessionOf shared.now session.old }
 {
@@ -113,7 +121,7 @@ fn best_by_words<R: Clock>(
             return Ok(None);
         }
         best.note(rt, start)?;
-        empty(ring);
+        empty_bare(ring);
     }
     Ok(Some(best))
 }
@@ -123,7 +131,7 @@ fn best_by_stores<R: Clock + Wait>(
     rt: &R,
     shared: &Shared,
     session: &mut Session,
-    ring: &mut Consumer<Record>,
+    ring: &mut Receiver,
     field: FieldId,
 ) -> io::Result<Option<Best>>
     requires seat { IsSessionOf shared.now session.old }

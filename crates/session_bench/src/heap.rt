@@ -5,9 +5,8 @@ ghost use Rattle.guards.specs.Schema.{field_count};
 ghost use Rattle.session.specs.Sessions.{IsSessionOf};
 
 use guards::{Schema, SchemaBuilder};
-use heap_model::Record;
+use lane_rings::Receiver;
 use monitor::Shared;
-use rtrb::Consumer;
 use session::{Session, open_sessions};
 use std::alloc::Global;
 
@@ -28,7 +27,7 @@ fn declare(alloc: Global) -> Option<Schema> {
 }
 
 /// The shared words, the session of the one lane, and the other end of its ring. `None` is want of memory.
-pub fn open_heap(alloc: Global) -> Option<(Shared, Session, Consumer<Record>)>
+pub fn open_heap(alloc: Global) -> Option<(Shared, Session, Receiver)>
     ensures { IfSome result (λ r. IsSessionOf r.0 r.1) }
 {
     let schema = declare(alloc)?;

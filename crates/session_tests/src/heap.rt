@@ -5,9 +5,8 @@ ghost use Rattle.guards.specs.Schema.{field_count};
 ghost use Rattle.session.specs.Sessions.{IsSessionOf};
 
 use guards::{Schema, SchemaBuilder};
-use heap_model::Record;
+use lane_rings::Receiver;
 use monitor::Shared;
-use rtrb::Consumer;
 use session::{Session, open_sessions};
 use std::alloc::Global;
 
@@ -33,7 +32,7 @@ pub fn open_heap(
     lanes: u8,
     last: u64,
     capacity: u32,
-) -> Option<(Shared, Vec<Session>, Vec<Consumer<Record>>)>
+) -> Option<(Shared, Vec<Session>, Vec<Receiver>)>
     requires lanes { lanes ≤ 32 }
     requires last { last < 2 ^ 40 }
     requires capacity { (2000 ≤ capacity) × (capacity ≤ 1048576) }
@@ -50,7 +49,7 @@ fn open_schema(
     lanes: u8,
     last: u64,
     capacity: u32,
-) -> Option<(Shared, Vec<Session>, Vec<Consumer<Record>>)>
+) -> Option<(Shared, Vec<Session>, Vec<Receiver>)>
     requires lanes { lanes ≤ 32 }
     requires last { last < 2 ^ 40 }
     requires capacity { (2000 ≤ capacity) × (capacity ≤ 1048576) }
@@ -94,7 +93,7 @@ pub fn open_of(
     alloc: Global,
     schema: Schema,
     last: u64,
-) -> Option<(Shared, Session, Session, Consumer<Record>)>
+) -> Option<(Shared, Session, Session, Receiver)>
     requires last { last < 2 ^ 40 }
     ensures { IfSome result (λ r. IsSessionOf r.0 r.1 × IsSessionOf r.0 r.2) }
 {

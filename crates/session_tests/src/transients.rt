@@ -7,8 +7,8 @@ use crate::heap::{LAST, open_of};
 use crate::often::store_often;
 use guards::{Schema, SchemaBuilder};
 use heap_model::{FieldId, ObjectId, Record};
+use lane_rings::Receiver;
 use monitor::Shared;
-use rtrb::Consumer;
 use session::{Session, SessionError};
 use std::alloc::{AllocError, Global};
 use std::test::Fail;
@@ -55,13 +55,8 @@ fn finds_cached(shared: &Shared, session: &mut Session, value: u64) -> [bool; 3]
 }
 
 // The first records that wait in the ring.
-fn first_records(ring: &mut Consumer<Record>) -> [Option<Record>; 4] {
-    [
-        ring.pop().ok(),
-        ring.pop().ok(),
-        ring.pop().ok(),
-        ring.pop().ok(),
-    ]
+fn first_records(ring: &mut Receiver) -> [Option<Record>; 4] {
+    [ring.pop(), ring.pop(), ring.pop(), ring.pop()]
 }
 
 // 999 transient stores, 998 persistent ones, and one more; then both fields at once, and the transient one twice. Answers

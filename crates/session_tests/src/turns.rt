@@ -3,9 +3,9 @@
 ghost use Rattle.session.specs.Sessions.{IsSessionOf};
 
 use crate::heap::{LAST, open_heap, take_last};
-use heap_model::{FieldId, ObjectId, Record};
+use heap_model::{FieldId, ObjectId};
+use lane_rings::Receiver;
 use monitor::Shared;
-use rtrb::Consumer;
 use session::Session;
 use std::alloc::AllocError;
 use std::sync::Wait;
@@ -17,7 +17,7 @@ const OBJECT: ObjectId = ObjectId(0);
 const FIELD: FieldId = FieldId(0);
 
 // Takes all records that wait in the ring.
-fn empty(ring: &mut Consumer<Record>) {
+fn empty(ring: &mut Receiver) {
     for _ in 0..ring.slots() {
         let _ = ring.pop();
     }
@@ -38,7 +38,7 @@ fn play<R: Wait>(
     rt: &R,
     shared: &Shared,
     session: Session,
-    ring: Consumer<Record>,
+    ring: Receiver,
     first: u64,
     end: u64,
 ) -> (u64, u64)
@@ -78,8 +78,8 @@ fn play<R: Wait>(
 fn play_both<R: Threads + Wait + Sync>(
     rt: &R,
     shared: &Shared,
-    a: (Session, Consumer<Record>),
-    b: (Session, Consumer<Record>),
+    a: (Session, Receiver),
+    b: (Session, Receiver),
     end: u64,
 ) -> ((u64, u64), (u64, u64))
     requires seats { IsSessionOf shared.now a.0 × IsSessionOf shared.now b.0 }

@@ -5,7 +5,7 @@ use Rattle.std.proofs.lemmas.Bool.Decides.{eqb_tells}
 use mathlib.Core.Logic.{dite}
 use native.Mathlib.Decide.{ℕ_discrete}
 use Rattle.store_memory.specs.Bits.{has_bit, IsLowestIn, IsFirstWord}
-use Rattle.store_memory.specs.Dirty.{IsSummed, IsLeastDirty}
+use Rattle.store_memory.specs.Dirty.{DirtySet, is_dirty_in, IsSummed, IsLeastDirty}
 use Rattle.store_memory.proofs.BitLaws.{no_bit, bit_none}
 
 -- one bit changed, and the summary of its word
@@ -65,3 +65,10 @@ least_dirty fields ws ss group word least was first low found = record {
       (λ other. let w : least / 64 ≡ word = found.there in let under : f / 64 < word = omega arith in
       bit_none ws f (word_none fields ws ss was (f / 64) (below_group ss group word first low (f / 64) under)));
 }
+
+-- to mark a field that is dirty changes nothing
+pub marked_again : (d : DirtySet) (field : ℕ) → is_dirty_in d field ≡ true → (f : ℕ) → is_dirty_in d f ≡ (if field == f then true else is_dirty_in d f)
+marked_again d field is f = elim (eqb_tells field f) [
+  | inl e ↦ ap (λ (k : ℕ). is_dirty_in d k) (sym e.1) ∙ is ∙ sym (ap (λ (b : Bool). if b then true else is_dirty_in d f) e.0)
+  | inr e ↦ sym (ap (λ (b : Bool). if b then true else is_dirty_in d f) e.0)
+]

@@ -17,11 +17,11 @@ use Rattle.store_memory.specs.Limits.{IsWithin}
 use Rattle.store_memory.specs.Memory.{Memory, lane_in}
 use Rattle.store_memory.specs.Fresh.{IsOfLanes}
 use Rattle.store_memory.specs.Remembers.{RemembersLane, Remembers}
-use Rattle.store_memory.specs.Counted.{lane_in as logged_in}
 use Rattle.store_memory.specs.Ends.{slot_of}
-use Rattle.store_memory.specs.Sections.{Logged, place_behind, most_beyond, TellsLane, TellsGraph, TellsSections}
+use Rattle.store_memory.specs.Sections.{Logged, place_behind, most_beyond, on_monitors, TellsLane, TellsGraph, TellsSections}
 use Rattle.store_memory.specs.Trimming.{MayStart, MayForget}
 use Rattle.store_memory.proofs.SectionCounts.{in_older, in_newest, in_short, since_all}
+use Rattle.store_memory.proofs.OnMonitors.{fewer, since_same, stable_same}
 use Rattle.store_memory.proofs.SectionRoom.{since_lanes, total_is}
 
 -- what is past a base and then past the rest of a greater cut is past the cut
@@ -68,7 +68,7 @@ module _ (m : Logged) (base : ℕ → ℕ) (log : List (ℕ × Record)) (cut : C
   pub at_most : (c : ℕ → ℕ) → IsStable m.graph.log c → (l : ℕ) → beyond m.graph cut l ≤ c l
   at_most c stable l =
       let all : IsStable (actions log) (λ k. base_of m.graph k + c k) =
-      trim_stable (actions log) (base_of m.graph) c (λ k. omega (arith, graph.within k, may.tells.whole k)) graph.closed (subst (λ (xs : List (ℕ × Action)). IsStable xs c) graph.since_is stable) in
+      trim_stable (actions log) (base_of m.graph) c (λ k. omega (arith, graph.within k, may.tells.whole k)) graph.closed (stable_same (since (base_of m.graph) (actions log)) c (subst (λ (xs : List (ℕ × Action)). IsStable xs c) graph.since_is stable)) in
       omega (arith, all.greatest (counts_of cut) may.whole may.closed l)
 
   module _ (places : List ℕ) (there : (l : ℕ) → l < m.lanes → slice_index places l ≡ slice_index m.ends (slot_of m.capacity l (counts_of cut l))) where
@@ -76,15 +76,15 @@ module _ (m : Logged) (base : ℕ → ℕ) (log : List (ℕ × Record)) (cut : C
     behind l lt = there l lt ∙ (may.tells.lane_is l lt).ends (counts_of cut l) (may.within l) (may.whole l)
 
     -- what `records_from` asks for
-    pub places_low : (l : ℕ) → l < m.lanes → slice_index places l ≤ (logged_in m.counts l).place
+    pub places_low : (l : ℕ) → l < m.lanes → slice_index places l ≤ slice_index m.places l
     places_low l lt = omega (arith, behind l lt, in_short (counts_of cut l) (lane l log), (may.tells.lane_is l lt).place)
 
-    pub places_near : (l : ℕ) → l < m.lanes → (logged_in m.counts l).place ≤ slice_index places l + m.capacity
+    pub places_near : (l : ℕ) → l < m.lanes → slice_index m.places l ≤ slice_index places l + m.capacity
     places_near l lt = omega (arith, behind l lt, behind_up (base l) (counts_of cut l) (lane l log) (may.within l), (may.tells.lane_is l lt).place, (may.tells.lane_is l lt).room)
 
     -- the records from the places on are those that stay
-    pub left_is : in_all m.lanes (λ l. (logged_in m.counts l).place - slice_index places l) ≡ length (since (counts_of cut) (actions log))
-    left_is = total_is m.lanes (λ l. (logged_in m.counts l).place - slice_index places l) (since (counts_of cut) (actions log)) (since_lanes m.lanes (counts_of cut) log may.tells.of_lanes)
+    pub left_is : in_all m.lanes (λ l. slice_index m.places l - slice_index places l) ≡ length (since (counts_of cut) (actions log))
+    left_is = total_is m.lanes (λ l. slice_index m.places l - slice_index places l) (since (counts_of cut) (actions log)) (since_lanes m.lanes (counts_of cut) log may.tells.of_lanes)
         (λ l lt. omega (arith, behind l lt, (may.tells.lane_is l lt).place, since_all (counts_of cut) l log (may.whole l)))
 
   -- the lanes know what they knew
@@ -93,8 +93,6 @@ module _ (m : Logged) (base : ℕ → ℕ) (log : List (ℕ × Record)) (cut : C
       let was : TellsLane m base log l = may.tells.lane_is l lt in
       record {
         place = was.place;
-        held = was.held;
-        sections = was.sections;
         room = omega (arith, was.room, behind_up (base l) (counts_of cut l) (lane l log) (may.within l));
         ends = λ n from upto. was.ends n (omega (arith, from, may.within l)) upto;
       }
@@ -111,9 +109,13 @@ module _ (m : Logged) (base : ℕ → ℕ) (log : List (ℕ × Record)) (cut : C
 
   -- or forget all that the cut has
   module _ (g : Trace) (told : g.log ≡ since (beyond m.graph cut) m.graph.log) (based : (l : ℕ) → base_of g l ≡ max (base_of m.graph l) (counts_of cut l)) where
-    pub stays : g.log ≡ since (counts_of cut) (actions log)
-    stays = told ∙ ap (λ (xs : List (ℕ × Action)). since (beyond m.graph cut) xs) graph.since_is
-        ∙ since_since (base_of m.graph) (counts_of cut) (beyond m.graph cut) (λ l. omega (arith, graph.within l, may.within l)) (λ l. refl) (actions log)
+    stays : g.log ≡ on_monitors (since (counts_of cut) (actions log))
+    stays = told ∙ ap (λ (xs : List (ℕ × Action)). since (beyond m.graph cut) xs) graph.since_is ∙ since_same (beyond m.graph cut) (since (base_of m.graph) (actions log))
+        ∙ ap (λ (xs : List (ℕ × Action)). on_monitors xs) (since_since (base_of m.graph) (counts_of cut) (beyond m.graph cut) (λ l. omega (arith, graph.within l, may.within l)) (λ l. refl) (actions log))
+
+    -- no more than the records that stay
+    pub stay_few : length g.log ≤ length (since (counts_of cut) (actions log))
+    stay_few = omega (arith, ap (λ (xs : List (ℕ × Action)). length xs) stays, fewer (since (counts_of cut) (actions log)))
 
     forgot : base_of g ≡ counts_of cut
     forgot = λ i l. (let is : base_of g l ≡ counts_of cut l = omega (arith, based l, graph.within l, may.within l) in is) i
@@ -126,8 +128,8 @@ module _ (m : Logged) (base : ℕ → ℕ) (log : List (ℕ × Record)) (cut : C
       graph_is = record {
         within = λ l. omega (arith, based l, graph.within l, may.within l);
         closed = subst (λ (k : ℕ → ℕ). IsClosed (actions log) k) (sym forgot) may.closed;
-        since_is = stays ∙ ap (λ (k : ℕ → ℕ). since k (actions log)) (sym forgot);
-        few = omega (arith, ap (λ (xs : List (ℕ × Action)). length xs) stays);
+        since_is = stays ∙ ap (λ (k : ℕ → ℕ). on_monitors (since k (actions log))) (sym forgot);
+        few = omega (arith, stay_few);
       };
       lane_is = lane_then g;
     }

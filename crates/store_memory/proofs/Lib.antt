@@ -8,5 +8,6 @@ pub mod LogLaws
 pub mod Begins
 pub mod SectionCounts
 pub mod SectionRoom
+pub mod OnMonitors
 pub mod SectionLaws
 pub mod Forgetting

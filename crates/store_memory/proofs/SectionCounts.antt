@@ -1,5 +1,5 @@
 -- What one more record changes of its lane's counts, and of the places behind the lane's sections.
-use Rattle.std.proofs.Common.{ℕ, ◌≡◌, ◌≢◌, ◌+◌, ◌<◌, ◌≤◌, ◌==◌, if◌then◌else◌, Bool, true, false, List, [], ◌∷◌, map, length, Contains, refl, sym, ap, ◌∙◌, subst, inl, inr, arith, nat_lt}
+use Rattle.std.proofs.Common.{ℕ, ◌≡◌, ◌≢◌, ◌+◌, ◌<◌, ◌≤◌, ◌==◌, if◌then◌else◌, Bool, true, false, List, [], ◌∷◌, map, length, refl, sym, ap, ◌∙◌, subst, inl, inr, arith, nat_lt}
 use Rattle.std.proofs.lemmas.Bool.{cases_lt, lt-ltb, le-ltb, eq-eqb, ne_eqb}
 use Rattle.std.proofs.lemmas.Bool.Decides.{eqb_tells}
 use Rattle.heap_model.specs.declared.record.Record.{Record}
@@ -10,9 +10,6 @@ use Rattle.heap_model.specs.Sections.{Action, Takes, Frees, Stores, action, acti
 use Rattle.heap_model.specs.Base.{since}
 use Rattle.cut_laws.proofs.Lanes.{ended_in_lane}
 use Rattle.cut_laws.proofs.Stores.{ended_rises}
-use Rattle.dependence.specs.Counts.{held_after, ended_after, IsHeldBy}
-use Rattle.dependence.specs.Next.{IsNext}
-use Rattle.dependence.proofs.Counted.{without_length}
 use Rattle.store_memory.specs.Sections.{place_behind, start_in}
 
 pub action_undo : (r : Record) → undo_action (undo_of r) ≡ action r
@@ -28,41 +25,6 @@ lane_own {A} l x log = ap (λ (b : Bool). if b then x ∷ lane l log else lane l
 pub lane_else : {A : Type 0} → (l m : ℕ) (x : A) (log : List (ℕ × A)) → m ≢ l → lane l ((m, x) ∷ log) ≡ lane l log
 lane_else {A} l m x log ne = ap (λ (b : Bool). if b then x ∷ lane l log else lane l log) (ne_eqb m l ne)
 
--- what a lane frees it holds
-abbrev pub MayFree : Action → List ℕ → Type 0
-MayFree (Takes o n) held = Unit {0}
-MayFree (Frees o n) held = Contains held o
-MayFree Stores held = Unit {0}
-
-pub next_free : (log : List (ℕ × Action)) (l : ℕ) (a : Action) → IsNext log l a → MayFree a (holding (lane l log))
-next_free log l (Takes o n) h = tt
-next_free log l (Frees o n) h = h.0
-next_free log l Stores h = tt
-
-pub held_by : (a : Action) (xs : List Action) (h : ℕ) → MayFree a (holding xs) → h ≡ length (holding xs) → IsHeldBy a h
-held_by (Takes o n) xs h may e = tt
-held_by (Frees o n) xs h may e = omega (arith, without_length o (holding xs) may)
-held_by Stores xs h may e = tt
-
-pub held_is : (a : Action) (xs : List Action) (h : ℕ) → MayFree a (holding xs) → h ≡ length (holding xs) → held_after a h ≡ length (holding (a ∷ xs))
-held_is (Takes o n) xs h may e = omega arith
-held_is (Frees o n) xs h may e = omega (arith, without_length o (holding xs) may)
-held_is Stores xs h may e = e
-
-pub ended_is : (a : Action) (xs : List Action) (h e : ℕ) → MayFree a (holding xs) → h ≡ length (holding xs) → e ≡ ended xs → ended_after a h e ≡ ended (a ∷ xs)
-ended_is (Takes o n) xs h e may eh ee = ee
-ended_is Stores xs h e may eh ee = ee
-ended_is (Frees o n) xs h e may eh ee =
-    let less : length (without o (holding xs)) + 1 ≡ length (holding xs) = without_length o (holding xs) may in
-    elim (eqb_tells h 1) [
-      | inl one ↦
-          let none : (length (without o (holding xs)) == 0) ≡ true = eq-eqb _ _ (let it : h ≡ 1 = one.1 in omega arith) in
-          ap (λ (t : Bool). if t then e + 1 else e) one.0 ∙ ap (λ (k : ℕ). k + 1) ee ∙ sym (ap (λ (t : Bool). if t then ended xs + 1 else ended xs) none)
-      | inr more ↦
-          let some : (length (without o (holding xs)) == 0) ≡ false = ne_eqb _ _ (λ z. more.1 (omega arith)) in
-          ap (λ (t : Bool). if t then e + 1 else e) more.0 ∙ ee ∙ sym (ap (λ (t : Bool). if t then ended xs + 1 else ended xs) some)
-    ]
-
 -- a record ends one section at most
 pub ends_once : (a : Action) (xs : List Action) → ended (a ∷ xs) ≤ ended xs + 1
 ends_once (Takes o n) xs = omega arith
@@ -72,16 +34,6 @@ ends_once (Frees o n) xs = elim (length (without o (holding xs)) == 0) as (λ b.
 pub ended_short : (xs : List Action) → ended xs ≤ length xs
 ended_short [] = omega arith
 ended_short (a ∷ xs) = omega (arith, ends_once a xs, ended_short xs)
-
-without_short : (o : ℕ) (held : List ℕ) → length (without o held) ≤ length held
-without_short o [] = omega arith
-without_short o (p ∷ ps) = elim (p == o) as (λ b. length (if b then ps else p ∷ without o ps) ≤ length (p ∷ ps)) [ true ↦ omega arith | false ↦ omega (arith, without_short o ps) ]
-
-pub holding_short : (xs : List Action) → length (holding xs) ≤ length xs
-holding_short [] = omega arith
-holding_short (Takes o n ∷ xs) = omega (arith, holding_short xs)
-holding_short (Frees o n ∷ xs) = omega (arith, holding_short xs, without_short o (holding xs))
-holding_short (Stores ∷ xs) = omega (arith, holding_short xs)
 
 -- the sections of a lane's records
 pub ended_records : (l : ℕ) (log : List (ℕ × Record)) → ended (map action (lane l log)) ≡ ended (lane l (actions log))

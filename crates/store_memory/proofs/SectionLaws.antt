@@ -12,7 +12,7 @@ use Rattle.heap_model.specs.declared.record.LaneRecord.{LaneRecord}
 use Rattle.heap_model.specs.Record.{undo_of}
 use Rattle.heap_model.specs.Setting.{Setting}
 use Rattle.heap_model.specs.Log.{lane, IsLegal, IsRecordOf, log_from}
-use Rattle.heap_model.specs.Sections.{Action, action, actions, undo_action, holding, ended, Section, DependsOn, Earlier, Took}
+use Rattle.heap_model.specs.Sections.{Action, action, actions, ended, Section, DependsOn, Earlier, Took}
 use Rattle.heap_model.specs.Cuts.{Counts, IsWhole, IsClosed, IsStable}
 use Rattle.heap_model.specs.Base.{since}
 use Rattle.cut_laws.proofs.Lanes.{lane_append, ended_in_lane}
@@ -20,16 +20,14 @@ use Rattle.cut_laws.proofs.Stays.{cut_stays}
 use Rattle.cut_laws.proofs.Stores.{ended_rises}
 use Rattle.cut_laws.proofs.Next.{legal_before}
 use Rattle.cut_laws.proofs.Trimmed.{since_counts, trim_stable}
-use Rattle.dependence.specs.Counts.{IsHeldBy}
 use Rattle.dependence.specs.Trace.{Trace, base_of, sections_of, IsStableOf}
 use Rattle.dependence.specs.Next.{IsNext, IsObjectBelow}
-use Rattle.dependence.proofs.Trimming.{holding_since}
 use Rattle.dependence.proofs.Legal.{allowed_next}
-use Rattle.store_memory.specs.declared.logged_lane.LoggedLane.{LoggedLane}
 use Rattle.store_memory.specs.Ends.{slot_of}
-use Rattle.store_memory.specs.Counted.{new_lane, lane_in, lane_after, ends_after}
-use Rattle.store_memory.specs.Sections.{Logged, place_behind, start_in, most_beyond, TellsLane, TellsGraph, TellsSections, MayBeLogged}
-use Rattle.store_memory.proofs.SectionCounts.{action_undo, lane_own, lane_else, MayFree, next_free, held_by, held_is, ended_is, ends_once, ended_short, holding_short, ended_records, in_older, in_newest, sections_past, start_grown, since_all}
+use Rattle.store_memory.specs.Counted.{MayEnd, ends_after}
+use Rattle.store_memory.specs.Sections.{Logged, place_behind, start_in, most_beyond, with_action, on_monitors, TellsLane, TellsGraph, TellsSections, MayBeLogged}
+use Rattle.store_memory.proofs.SectionCounts.{lane_own, lane_else, ends_once, ended_short, ended_records, in_older, in_newest, sections_past, start_grown, since_all}
+use Rattle.store_memory.proofs.OnMonitors.{ended_same, fewer, one_more, next_same, stable_same}
 use Rattle.store_memory.proofs.SectionRoom.{total_less, lane_past, since_lanes, sections_apart, lanes_apart, slot_within}
 
 named_in : (s : Setting) (r : Record) → s.objects ≤ 4096 → IsRecordOf s r → IsObjectBelow 4096 (undo_of r)
@@ -38,13 +36,30 @@ named_in s (Rel o n) few of = omega arith
 named_in s (WaitRel o n) few of = omega arith
 named_in s (Put f before after) few of = tt
 
+ends_some : (r : Record) (xs : List Action) → MayEnd r (ended xs) (ended (action r ∷ xs))
+ends_some (Acq o n) xs = omega arith
+ends_some (Rel o n) xs = tt
+ends_some (WaitRel o n) xs = tt
+ends_some (Put f before after) xs = omega arith
+
 -- what is known after the lane's record, with the graph as it is then
-abbrev pub logged_after : Logged → Trace → (lane : ℕ) → Record → Logged
-logged_after m g l r = record m { graph = g; counts = slice_set m.counts l (lane_after r (lane_in m.counts l)); ends = ends_after m.capacity l (lane_in m.counts l) (lane_after r (lane_in m.counts l)) m.ends }
+abbrev pub logged_after : Logged → Trace → (lane : ℕ) → Logged
+logged_after m g l = record m { graph = g; places = slice_set m.places l (slice_index m.places l + 1); ends = ends_after m.capacity l (nat_lt (sections_of m.graph l) (sections_of g l)) (sections_of g l) (slice_index m.places l + 1) m.ends }
 
 -- what the graph forgot is whole
 kept_whole : (m : Logged) (base : ℕ → ℕ) (log : List (ℕ × Record)) → TellsSections m base log → IsWhole (actions log) (base_of m.graph)
 kept_whole m base log tells l = omega (arith, tells.graph_is.within l, tells.whole l)
+
+-- the graph counts the sections of a lane, those that it forgot included
+graph_sections : (g : Trace) (log : List (ℕ × Record)) → IsWhole (actions log) (base_of g) → g.log ≡ on_monitors (since (base_of g) (actions log)) → (k : ℕ) → sections_of g k ≡ ended (lane k (actions log))
+graph_sections g log whole is k =
+    let all : ended (lane k g.log) + base_of g k ≡ ended (lane k (actions log)) =
+    ap (λ (xs : List (ℕ × Action)). ended (lane k xs) + base_of g k) is ∙ ap (λ (e : ℕ). e + base_of g k) (ended_same k (since (base_of g) (actions log)))
+    ∙ since_counts (base_of g) k (actions log) (whole k) in
+    omega (arith, all)
+
+pub sections_told : (m : Logged) (base : ℕ → ℕ) (log : List (ℕ × Record)) → TellsSections m base log → (k : ℕ) → sections_of m.graph k ≡ ended (lane k (actions log))
+sections_told m base log tells = graph_sections m.graph log (kept_whole m base log tells) tells.graph_is.since_is
 
 -- where more stay, the graph may have more beyond
 beyond_grows : (m : Logged) (fewer left : ℕ) → fewer ≤ left → most_beyond m fewer ≤ most_beyond m left
@@ -81,12 +96,9 @@ module _ (s : Setting) (m : Logged) (base : ℕ → ℕ) (log : List (ℕ × Rec
   next_since : IsNext (since (base_of m.graph) (actions log)) l (action r)
   next_since = allowed_next s log (base_of m.graph) l r may.legal.0 kept may.legal.1
 
-  free : MayFree (action r) (holding (lane l (actions log)))
-  free = subst (λ (xs : List ℕ). MayFree (action r) xs) (holding_since (base_of m.graph) l (actions log) (kept l)) (next_free (since (base_of m.graph) (actions log)) l (action r) next_since)
-
-  -- what `Graph::push` asks for
-  pub next : IsNext m.graph.log l (undo_action (undo_of r))
-  next = subst (λ (a : Action). IsNext m.graph.log l a) (sym (action_undo r)) (subst (λ (xs : List (ℕ × Action)). IsNext xs l (action r)) (sym graph.since_is) next_since)
+  -- what telling the graph asks for
+  pub next : IsNext m.graph.log l (action r)
+  next = subst (λ (xs : List (ℕ × Action)). IsNext xs l (action r)) (sym graph.since_is) (next_same (since (base_of m.graph) (actions log)) l (action r) next_since)
 
   pub named : IsObjectBelow 4096 (undo_of r)
   named = named_in s r may.objects may.legal.3
@@ -111,33 +123,18 @@ module _ (s : Setting) (m : Logged) (base : ℕ → ℕ) (log : List (ℕ × Rec
   few : ended (lane l (actions log)) + 1 < 2 ^ 64
   few = omega (arith, ended_short (lane l (actions log)), acts_long, longer, upto)
 
+  before_is : sections_of m.graph l ≡ ended (lane l (actions log))
+  before_is = sections_told m base log was l
+
   pub fits : sections_of m.graph l + 1 < 2 ^ 64
-  fits =
-      let all : ended (lane l m.graph.log) + base_of m.graph l ≡ ended (lane l (actions log)) =
-      ap (λ (xs : List (ℕ × Action)). ended (lane l xs) + base_of m.graph l) graph.since_is ∙ since_counts (base_of m.graph) l (actions log) (kept l) in
-      omega (arith, all, few)
+  fits = omega (arith, before_is, few)
 
   -- what counting asks for
-  pub holds : IsHeldBy (action r) (lane_in m.counts l).held
-  holds = held_by (action r) (lane l (actions log)) (lane_in m.counts l).held free mine.held
-
-  pub place_fits : (lane_in m.counts l).place + 1 < 2 ^ 64
+  pub place_fits : slice_index m.places l + 1 < 2 ^ 64
   place_fits = omega (arith, mine.place, longer, upto)
-
-  pub held_fits : (lane_in m.counts l).held + 1 < 2 ^ 64
-  held_fits = omega (arith, mine.held, holding_short (lane l (actions log)), acts_long, longer, upto)
-
-  pub sections_fit : (lane_in m.counts l).sections + 1 < 2 ^ 64
-  sections_fit = omega (arith, mine.sections, few)
 
   acts_own : lane l (actions ((l, r) ∷ log)) ≡ action r ∷ lane l (actions log)
   acts_own = lane_own l (action r) (actions log)
-
-  held_now : (lane_after r (lane_in m.counts l)).held ≡ length (holding (lane l (actions ((l, r) ∷ log))))
-  held_now = held_is (action r) (lane l (actions log)) (lane_in m.counts l).held free mine.held ∙ ap (λ (xs : List Action). length (holding xs)) (sym acts_own)
-
-  sections_now : (lane_after r (lane_in m.counts l)).sections ≡ ended (lane l (actions ((l, r) ∷ log)))
-  sections_now = ended_is (action r) (lane l (actions log)) (lane_in m.counts l).held (lane_in m.counts l).sections free mine.held mine.sections ∙ ap (λ (xs : List Action). ended xs) (sym acts_own)
 
   grown : ended (lane l (actions ((l, r) ∷ log))) ≤ ended (lane l (actions log)) + 1
   grown = omega (arith, ap (λ (xs : List Action). ended xs) acts_own, ends_once (action r) (lane l (actions log)))
@@ -153,102 +150,104 @@ module _ (s : Setting) (m : Logged) (base : ℕ → ℕ) (log : List (ℕ × Rec
   near : ended (lane l (actions ((l, r) ∷ log))) ≤ base l + m.capacity
   near = omega (arith, sections_past (base l) (lane l ((l, r) ∷ log)), ended_records l ((l, r) ∷ log), start_grown base l l r log (was.whole l), room)
 
-  module _ (g : Trace) (long : l < length m.counts) (slots : length m.ends ≡ m.lanes * (m.capacity + 1)) where
-    counted : lane_in (slice_set m.counts l (lane_after r (lane_in m.counts l))) l ≡ lane_after r (lane_in m.counts l)
-    counted = get_or-set_same m.counts l (lane_after r (lane_in m.counts l)) new_lane long
+  module _ (g : Trace) (told : g.log ≡ with_action (l, action r) m.graph.log) (same_base : g.base ≡ m.graph.base) (long : l < length m.places) (slots : length m.ends ≡ m.lanes * (m.capacity + 1)) where
+    since_now : (cut : ℕ → ℕ) → cut l ≤ ended (lane l (actions log)) → since cut (actions ((l, r) ∷ log)) ≡ (l, action r) ∷ since cut (actions log)
+    since_now cut whole = ap (λ (b : Bool). if b then since cut (actions log) else (l, action r) ∷ since cut (actions log)) (le-ltb (ended (lane l (actions log))) (cut l) whole)
+
+    stays : IsWhole (actions ((l, r) ∷ log)) base × IsClosed (actions ((l, r) ∷ log)) base
+    stays = cut_stays s ((l, r) ∷ []) log base may.legal was.whole was.closed
+
+    graph_now : TellsGraph (logged_after m g l) base ((l, r) ∷ log)
+    graph_now =
+        let more : length (since base (actions ((l, r) ∷ log))) ≡ length (since base (actions log)) + 1 = ap (λ (xs : List (ℕ × Action)). length xs) (since_now base (was.whole l)) ∙ (omega arith) in
+        let one : length g.log ≤ length m.graph.log + 1 = omega (arith, ap (λ (xs : List (ℕ × Action)). length xs) told, one_more (l, action r) m.graph.log) in
+        record {
+          within = λ k. omega (arith, ap (λ (xs : List ℕ). slice_index xs k) same_base, graph.within k);
+          closed = subst (λ (xs : List ℕ). IsClosed (actions ((l, r) ∷ log)) (slice_index xs)) (sym same_base) (cut_stays s ((l, r) ∷ []) log (base_of m.graph) may.legal kept graph.closed).1;
+          since_is = told ∙ ap (λ (xs : List (ℕ × Action)). with_action (l, action r) xs) graph.since_is ∙ ap (λ (xs : List (ℕ × Action)). on_monitors xs) (sym (since_now (base_of m.graph) (kept l)))
+              ∙ ap (λ (xs : List ℕ). on_monitors (since (slice_index xs) (actions ((l, r) ∷ log)))) (sym same_base);
+          few = omega (arith, one, more, graph.few, beyond_grows m (length (since base (actions log))) (length (since base (actions ((l, r) ∷ log)))) (omega (arith, more)));
+        }
+
+    -- how many sections there are then
+    after_is : sections_of g l ≡ ended (lane l (actions ((l, r) ∷ log)))
+    after_is = graph_sections g ((l, r) ∷ log) (λ k. omega (arith, graph_now.within k, stays.0 k)) graph_now.since_is l
+
+    -- only a release ends a section
+    pub may_end : MayEnd r (sections_of m.graph l) (sections_of g l)
+    may_end = subst (λ (b : ℕ). MayEnd r b (sections_of g l)) (sym before_is)
+        (subst (λ (a : ℕ). MayEnd r (ended (lane l (actions log))) a) (sym (after_is ∙ ap (λ (xs : List Action). ended xs) acts_own)) (ends_some r (lane l (actions log))))
 
     -- the lane's places with the new one
-    ends_new : (n : ℕ) → base l ≤ n → n ≤ ended (lane l (actions ((l, r) ∷ log))) → (lane_in m.counts l).sections < (lane_after r (lane_in m.counts l)).sections →
-        slice_index (slice_set m.ends (slot_of m.capacity l (lane_after r (lane_in m.counts l)).sections) (lane_after r (lane_in m.counts l)).place) (slot_of m.capacity l n) ≡ place_behind n (lane l ((l, r) ∷ log))
-    ends_new n from le more = elim (cases_lt n (lane_after r (lane_in m.counts l)).sections) [
+    ends_new : (n : ℕ) → base l ≤ n → n ≤ ended (lane l (actions ((l, r) ∷ log))) → sections_of m.graph l < sections_of g l →
+        slice_index (slice_set m.ends (slot_of m.capacity l (sections_of g l)) (slice_index m.places l + 1)) (slot_of m.capacity l n) ≡ place_behind n (lane l ((l, r) ∷ log))
+    ends_new n from le more = elim (cases_lt n (sections_of g l)) [
       | inl lt ↦
-          let old : n ≤ ended (lane l (actions log)) = omega (arith, lt, sections_now, grown, mine.sections) in
-          get_or-set_other m.ends (slot_of m.capacity l (lane_after r (lane_in m.counts l)).sections) (slot_of m.capacity l n) (lane_after r (lane_in m.counts l)).place 0
-          (sections_apart m.capacity l n (lane_after r (lane_in m.counts l)).sections lt (omega (arith, sections_now, near, from)))
+          let old : n ≤ ended (lane l (actions log)) = omega (arith, lt, after_is, grown) in
+          get_or-set_other m.ends (slot_of m.capacity l (sections_of g l)) (slot_of m.capacity l n) (slice_index m.places l + 1) 0
+          (sections_apart m.capacity l n (sections_of g l) lt (omega (arith, after_is, near, from)))
           ∙ mine.ends n from old ∙ sym (behind_older n old)
       | inr ge ↦
-          let same : n ≡ (lane_after r (lane_in m.counts l)).sections = omega (arith, ge, le, sections_now) in
-          let new : ended (lane l (actions log)) < n = omega (arith, same, more, mine.sections) in
-          ap (λ (k : ℕ). slice_index (slice_set m.ends (slot_of m.capacity l (lane_after r (lane_in m.counts l)).sections) (lane_after r (lane_in m.counts l)).place) (slot_of m.capacity l k)) same
-          ∙ get_or-set_same m.ends (slot_of m.capacity l (lane_after r (lane_in m.counts l)).sections) (lane_after r (lane_in m.counts l)).place 0 (omega (arith, slots, slot_within m.capacity m.lanes l (lane_after r (lane_in m.counts l)).sections low))
+          let same : n ≡ sections_of g l = omega (arith, ge, le, after_is) in
+          let new : ended (lane l (actions log)) < n = omega (arith, same, more, before_is) in
+          ap (λ (k : ℕ). slice_index (slice_set m.ends (slot_of m.capacity l (sections_of g l)) (slice_index m.places l + 1)) (slot_of m.capacity l k)) same
+          ∙ get_or-set_same m.ends (slot_of m.capacity l (sections_of g l)) (slice_index m.places l + 1) 0 (omega (arith, slots, slot_within m.capacity m.lanes l (sections_of g l) low))
           ∙ ap (λ (k : ℕ). k + 1) mine.place ∙ sym (behind_newest n new)
     ]
 
     ends_now : (n : ℕ) → base l ≤ n → n ≤ ended (lane l (actions ((l, r) ∷ log))) →
-        slice_index (ends_after m.capacity l (lane_in m.counts l) (lane_after r (lane_in m.counts l)) m.ends) (slot_of m.capacity l n) ≡ place_behind n (lane l ((l, r) ∷ log))
-    ends_now n from le = elim (cases_lt (lane_in m.counts l).sections (lane_after r (lane_in m.counts l)).sections) [
+        slice_index (ends_after m.capacity l (nat_lt (sections_of m.graph l) (sections_of g l)) (sections_of g l) (slice_index m.places l + 1) m.ends) (slot_of m.capacity l n) ≡ place_behind n (lane l ((l, r) ∷ log))
+    ends_now n from le = elim (cases_lt (sections_of m.graph l) (sections_of g l)) [
       | inl more ↦
-          ap (λ (b : Bool). slice_index (if b then slice_set m.ends (slot_of m.capacity l (lane_after r (lane_in m.counts l)).sections) (lane_after r (lane_in m.counts l)).place else m.ends) (slot_of m.capacity l n))
-          (lt-ltb (lane_in m.counts l).sections (lane_after r (lane_in m.counts l)).sections more)
+          ap (λ (b : Bool). slice_index (if b then slice_set m.ends (slot_of m.capacity l (sections_of g l)) (slice_index m.places l + 1) else m.ends) (slot_of m.capacity l n))
+          (lt-ltb (sections_of m.graph l) (sections_of g l) more)
           ∙ ends_new n from le more
       | inr none ↦
-          let old : n ≤ ended (lane l (actions log)) = omega (arith, le, none, sections_now, mine.sections) in
-          ap (λ (b : Bool). slice_index (if b then slice_set m.ends (slot_of m.capacity l (lane_after r (lane_in m.counts l)).sections) (lane_after r (lane_in m.counts l)).place else m.ends) (slot_of m.capacity l n))
-          (le-ltb (lane_in m.counts l).sections (lane_after r (lane_in m.counts l)).sections none)
+          let old : n ≤ ended (lane l (actions log)) = omega (arith, le, none, after_is, before_is) in
+          ap (λ (b : Bool). slice_index (if b then slice_set m.ends (slot_of m.capacity l (sections_of g l)) (slice_index m.places l + 1) else m.ends) (slot_of m.capacity l n))
+          (le-ltb (sections_of m.graph l) (sections_of g l) none)
           ∙ mine.ends n from old ∙ sym (behind_older n old)
     ]
 
-    lane_now : TellsLane (logged_after m g l r) base ((l, r) ∷ log) l
+    lane_now : TellsLane (logged_after m g l) base ((l, r) ∷ log) l
     lane_now = record {
-      place = ap (λ (k : LoggedLane). k.place) counted ∙ ap (λ (k : ℕ). k + 1) mine.place ∙ sym longer;
-      held = ap (λ (k : LoggedLane). k.held) counted ∙ held_now;
-      sections = ap (λ (k : LoggedLane). k.sections) counted ∙ sections_now;
+      place = get_or-set_same m.places l (slice_index m.places l + 1) 0 long ∙ ap (λ (k : ℕ). k + 1) mine.place ∙ sym longer;
       room = omega (arith, room, start_grown base l l r log (was.whole l));
       ends = ends_now;
     }
 
     -- another lane's places stay
-    ends_other : (k n : ℕ) → k ≢ l → slice_index (ends_after m.capacity l (lane_in m.counts l) (lane_after r (lane_in m.counts l)) m.ends) (slot_of m.capacity k n) ≡ slice_index m.ends (slot_of m.capacity k n)
-    ends_other k n ne = elim (nat_lt (lane_in m.counts l).sections (lane_after r (lane_in m.counts l)).sections) as
-        (λ b. slice_index (if b then slice_set m.ends (slot_of m.capacity l (lane_after r (lane_in m.counts l)).sections) (lane_after r (lane_in m.counts l)).place else m.ends) (slot_of m.capacity k n) ≡ slice_index m.ends (slot_of m.capacity k n)) [
-          | true ↦ get_or-set_other m.ends (slot_of m.capacity l (lane_after r (lane_in m.counts l)).sections) (slot_of m.capacity k n) (lane_after r (lane_in m.counts l)).place 0 (lanes_apart m.capacity k l n (lane_after r (lane_in m.counts l)).sections ne)
+    ends_other : (k n : ℕ) → k ≢ l → slice_index (ends_after m.capacity l (nat_lt (sections_of m.graph l) (sections_of g l)) (sections_of g l) (slice_index m.places l + 1) m.ends) (slot_of m.capacity k n) ≡ slice_index m.ends (slot_of m.capacity k n)
+    ends_other k n ne = elim (nat_lt (sections_of m.graph l) (sections_of g l)) as
+        (λ b. slice_index (if b then slice_set m.ends (slot_of m.capacity l (sections_of g l)) (slice_index m.places l + 1) else m.ends) (slot_of m.capacity k n) ≡ slice_index m.ends (slot_of m.capacity k n)) [
+          | true ↦ get_or-set_other m.ends (slot_of m.capacity l (sections_of g l)) (slot_of m.capacity k n) (slice_index m.places l + 1) 0 (lanes_apart m.capacity k l n (sections_of g l) ne)
           | false ↦ refl
         ]
 
-    lane_other : (k : ℕ) → k < m.lanes → k ≢ l → TellsLane (logged_after m g l r) base ((l, r) ∷ log) k
+    lane_other : (k : ℕ) → k < m.lanes → k ≢ l → TellsLane (logged_after m g l) base ((l, r) ∷ log) k
     lane_other k lt ne =
         let there : TellsLane m base log k = was.lane_is k lt in
         let records : lane k ((l, r) ∷ log) ≡ lane k log = lane_else k l r log (λ e. ne (sym e)) in
         let acts : lane k (actions ((l, r) ∷ log)) ≡ lane k (actions log) = lane_else k l (action r) (actions log) (λ e. ne (sym e)) in
-        let count : lane_in (slice_set m.counts l (lane_after r (lane_in m.counts l))) k ≡ lane_in m.counts k = get_or-set_other m.counts l k (lane_after r (lane_in m.counts l)) new_lane ne in
         record {
-          place = ap (λ (c : LoggedLane). c.place) count ∙ there.place ∙ ap (λ (xs : List Record). length xs) (sym records);
-          held = ap (λ (c : LoggedLane). c.held) count ∙ there.held ∙ ap (λ (xs : List Action). length (holding xs)) (sym acts);
-          sections = ap (λ (c : LoggedLane). c.sections) count ∙ there.sections ∙ ap (λ (xs : List Action). ended xs) (sym acts);
+          place = get_or-set_other m.places l k (slice_index m.places l + 1) 0 ne ∙ there.place ∙ ap (λ (xs : List Record). length xs) (sym records);
           room = omega (arith, there.room, ap (λ (xs : List Record). length xs) records, start_grown base k l r log (was.whole k));
           ends = λ n from le. ends_other k n ne ∙ there.ends n from (omega (arith, le, ap (λ (xs : List Action). ended xs) acts)) ∙ ap (λ (xs : List Record). place_behind n xs) (sym records);
         }
 
-    since_now : (cut : ℕ → ℕ) → cut l ≤ ended (lane l (actions log)) → since cut (actions ((l, r) ∷ log)) ≡ (l, action r) ∷ since cut (actions log)
-    since_now cut whole = ap (λ (b : Bool). if b then since cut (actions log) else (l, action r) ∷ since cut (actions log)) (le-ltb (ended (lane l (actions log))) (cut l) whole)
-
-    graph_now : g.log ≡ (l, undo_action (undo_of r)) ∷ m.graph.log → g.base ≡ m.graph.base → TellsGraph (logged_after m g l r) base ((l, r) ∷ log)
-    graph_now told same_base =
-        let more : length (since base (actions ((l, r) ∷ log))) ≡ length (since base (actions log)) + 1 = ap (λ (xs : List (ℕ × Action)). length xs) (since_now base (was.whole l)) ∙ (omega arith) in
-        let one : length g.log ≡ length m.graph.log + 1 = ap (λ (xs : List (ℕ × Action)). length xs) told ∙ (omega arith) in
-        record {
-          within = λ k. omega (arith, ap (λ (xs : List ℕ). slice_index xs k) same_base, graph.within k);
-          closed = subst (λ (xs : List ℕ). IsClosed (actions ((l, r) ∷ log)) (slice_index xs)) (sym same_base) (cut_stays s ((l, r) ∷ []) log (base_of m.graph) may.legal kept graph.closed).1;
-          since_is = told ∙ (λ i. (l, action_undo r i) ∷ graph.since_is i) ∙ sym (since_now (base_of m.graph) (kept l))
-              ∙ ap (λ (xs : List ℕ). since (slice_index xs) (actions ((l, r) ∷ log))) (sym same_base);
-          few = omega (arith, one, more, graph.few, beyond_grows m (length (since base (actions log))) (length (since base (actions ((l, r) ∷ log)))) (omega (arith, more)));
-        }
-
-    pub tells_next : g.log ≡ (l, undo_action (undo_of r)) ∷ m.graph.log → g.base ≡ m.graph.base → TellsSections (logged_after m g l r) base ((l, r) ∷ log)
-    tells_next told same_base =
-        let stays : IsWhole (actions ((l, r) ∷ log)) base × IsClosed (actions ((l, r) ∷ log)) base = cut_stays s ((l, r) ∷ []) log base may.legal was.whole was.closed in
-        record {
-          whole = stays.0;
-          closed = stays.1;
-          of_lanes = All-cons (λ (x : ℕ × Record). x.0 < m.lanes) (l, r) log low was.of_lanes;
-          graph_is = graph_now told same_base;
-          lane_is = λ k lt. dite (ℕ_discrete k l)
-              (λ same. subst (λ (j : ℕ). TellsLane (logged_after m g l r) base ((l, r) ∷ log) j) (sym same) lane_now)
-              (λ other. lane_other k lt other);
-        }
+    pub tells_next : TellsSections (logged_after m g l) base ((l, r) ∷ log)
+    tells_next = record {
+      whole = stays.0;
+      closed = stays.1;
+      of_lanes = All-cons (λ (x : ℕ × Record). x.0 < m.lanes) (l, r) log low was.of_lanes;
+      graph_is = graph_now;
+      lane_is = λ k lt. dite (ℕ_discrete k l)
+          (λ same. subst (λ (j : ℕ). TellsLane (logged_after m g l) base ((l, r) ∷ log) j) (sym same) lane_now)
+          (λ other. lane_other k lt other);
+    }
 
 -- nothing is known of no records
-pub tells_nothing : (m : Logged) → ((k : ℕ) → base_of m.graph k ≡ 0) → m.graph.log ≡ [] → ((k : ℕ) → lane_in m.counts k ≡ new_lane) → ((k : ℕ) → slice_index m.ends k ≡ 0) → TellsSections m (λ l. 0) []
+pub tells_nothing : (m : Logged) → ((k : ℕ) → base_of m.graph k ≡ 0) → m.graph.log ≡ [] → ((k : ℕ) → slice_index m.places k ≡ 0) → ((k : ℕ) → slice_index m.ends k ≡ 0) → TellsSections m (λ l. 0) []
 tells_nothing m based empty none zeros = record {
   whole = λ l. omega arith;
   closed = nothing_closed (λ l. 0);
@@ -260,9 +259,7 @@ tells_nothing m based empty none zeros = record {
     few = omega (arith, ap (λ (xs : List (ℕ × Action)). length xs) empty);
   };
   lane_is = λ l lt. record {
-    place = ap (λ (c : LoggedLane). c.place) (none l);
-    held = ap (λ (c : LoggedLane). c.held) (none l);
-    sections = ap (λ (c : LoggedLane). c.sections) (none l);
+    place = none l;
     room = omega arith;
     ends = λ n from le. zeros (slot_of m.capacity l n);
   };
@@ -350,7 +347,7 @@ none_past m base log tells l ge = ended_in_lane l log ∙ ap (λ (xs : List Reco
 pub stable_told : (m : Logged) (base : ℕ → ℕ) (log : List (ℕ × Record)) → TellsSections m base log → (cut : ℕ → ℕ) → IsStableOf m.graph cut → IsStable (actions log) cut
 stable_told m base log tells cut of =
     let all : IsStable (actions log) (λ l. base_of m.graph l + of.since l) =
-    trim_stable (actions log) (base_of m.graph) of.since (kept_whole m base log tells) tells.graph_is.closed (subst (λ (xs : List (ℕ × Action)). IsStable xs of.since) tells.graph_is.since_is of.stable) in
+    trim_stable (actions log) (base_of m.graph) of.since (kept_whole m base log tells) tells.graph_is.closed (stable_same (since (base_of m.graph) (actions log)) of.since (subst (λ (xs : List (ℕ × Action)). IsStable xs of.since) tells.graph_is.since_is of.stable)) in
     subst (λ (c : ℕ → ℕ). IsStable (actions log) c) (λ i l. sym (of.counts l) i) all
 
 -- the places in the table's slots are those behind the cut's sections

@@ -3,21 +3,30 @@ use Rattle.std.specs.Prelude.{ℕ, ◌≡◌, ◌+◌, ◌*◌, ◌<◌, ◌≤�
 use Rattle.heap_model.specs.declared.record.Record.{Record}
 use Rattle.heap_model.specs.Setting.{Setting}
 use Rattle.heap_model.specs.Log.{lane, IsLegal}
-use Rattle.heap_model.specs.Sections.{action, actions, holding, ended}
+use Rattle.heap_model.specs.Sections.{Action, Takes, Frees, Stores, action, actions, ended}
 use Rattle.heap_model.specs.Cuts.{IsWhole, IsClosed}
 use Rattle.heap_model.specs.Base.{since}
 use Rattle.dependence.specs.Trace.{Trace, base_of}
-use Rattle.store_memory.specs.declared.logged_lane.LoggedLane.{LoggedLane}
 use Rattle.store_memory.specs.Ends.{slot_of}
-use Rattle.store_memory.specs.Counted.{lane_in}
 
--- The lanes, how many records each may have since what was trimmed, the graph of the records, which forgets what was trimmed
--- later, what is counted of each lane, and the places behind the sections, by slot.
+-- the actions with one more before them, where that takes a monitor or frees one
+abbrev pub with_action : ℕ × Action → List (ℕ × Action) → List (ℕ × Action)
+with_action (l, Takes o n) older = (l, Takes o n) ∷ older
+with_action (l, Frees o n) older = (l, Frees o n) ∷ older
+with_action (l, Stores) older = older
+
+-- what these did to monitors: all but the stores, on which no section depends
+abbrev pub on_monitors : List (ℕ × Action) → List (ℕ × Action)
+on_monitors [] = []
+on_monitors (x ∷ older) = with_action x (on_monitors older)
+
+-- The lanes, how many records each may have since what was trimmed, the graph of the records that take or free a monitor, which forgets what was trimmed
+-- later, by lane how many were logged since the heap was opened, and the places behind the sections, by slot.
 pub record Logged : Type 0 where
   pub lanes : ℕ
   pub capacity : ℕ
   pub graph : Trace
-  pub counts : List LoggedLane
+  pub places : List ℕ
   pub ends : List ℕ
 
 -- the place behind a lane's first n sections: how many records they have
@@ -31,9 +40,7 @@ start_in base log l = place_behind (base l) (lane l log)
 
 -- what is known of the lane is true of the log, of which the base was trimmed
 pub record TellsLane (m : Logged) (base : ℕ → ℕ) (log : List (ℕ × Record)) (l : ℕ) : Type 0 where
-  pub place : (lane_in m.counts l).place ≡ length (lane l log)
-  pub held : (lane_in m.counts l).held ≡ length (holding (lane l (actions log)))
-  pub sections : (lane_in m.counts l).sections ≡ ended (lane l (actions log))
+  pub place : slice_index m.places l ≡ length (lane l log)
   pub room : length (lane l log) ≤ start_in base log l + m.capacity
   -- the place behind each section since, and behind what was trimmed
   pub ends : (n : ℕ) → base l ≤ n → n ≤ ended (lane l (actions log)) → slice_index m.ends (slot_of m.capacity l n) ≡ place_behind n (lane l log)
@@ -43,11 +50,11 @@ pub record TellsLane (m : Logged) (base : ℕ → ℕ) (log : List (ℕ × Recor
 abbrev pub most_beyond : Logged → (left : ℕ) → ℕ
 most_beyond m left = min (m.lanes * m.capacity) (left + 4096)
 
--- The graph tells of the records since a closed cut that is at the base or before it. Few of them were trimmed.
+-- The graph tells what the records did to monitors since a closed cut that is at the base or before it. Few of them were trimmed.
 pub record TellsGraph (m : Logged) (base : ℕ → ℕ) (log : List (ℕ × Record)) : Type 0 where
   pub within : (l : ℕ) → base_of m.graph l ≤ base l
   pub closed : IsClosed (actions log) (base_of m.graph)
-  pub since_is : m.graph.log ≡ since (base_of m.graph) (actions log)
+  pub since_is : m.graph.log ≡ on_monitors (since (base_of m.graph) (actions log))
   pub few : length m.graph.log ≤ length (since base (actions log)) + most_beyond m (length (since base (actions log)))
 
 -- what is known of the logged sections is true of this log, of which the base was trimmed

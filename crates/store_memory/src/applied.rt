@@ -1,24 +1,26 @@
 //! What a store remembers of the records applied.
 
-ghost use Rattle.std.specs.Prelude.{◌≡◌, ◌+◌, ◌^◌, ◌<◌, ◌≤◌, ◌↔◌, ℕ, false, length, slice_index, IsTrue, IfOk, OnOk, OnErr, MatchOption};
+ghost use Rattle.std.specs.Prelude.{◌≡◌, ◌+◌, ◌^◌, ◌<◌, ◌≤◌, ◌↔◌, ℕ, false, length, slice_index, IsTrue, Ok, Err, IfOk, OnOk, OnErr, MatchOption};
 ghost use Rattle.heap_model.specs.Setting.{Setting};
+ghost use Rattle.heap_model.specs.declared.record.Record.TheVariants.{Acq, Rel, WaitRel, Put};
 ghost use Rattle.heap_model.specs.Log.{value as value_of, log_from};
 ghost use Rattle.store_past.specs.Past.{Past, applied, no_past, after_apply, after_log, after_home, after_trim};
 ghost use Rattle.store_memory.specs.Memory.{field_in, lane_in, guard_in, value_in, KeepsLayout};
 ghost use Rattle.store_memory.specs.Remembers.{Remembers, place_of, held_of};
 ghost use Rattle.store_memory.specs.Apply.{Answers};
+ghost use Rattle.store_memory.specs.Verdict.{Judges};
 ghost use Rattle.store_memory.specs.Fresh.{undo_log_of};
 ghost use Rattle.store_memory.specs.Limits.{AreWithin, FitWords};
 ghost use Rattle.store_memory.specs.Begin.{AreFieldsOf, IsLeastDirtyOf};
 ghost use Rattle.store_memory.specs.Trimming.{MayStart};
 
-use crate::check::{any_open, check, field_at, lane_at, word_law};
+use crate::check::{again, any_open, check, field_at, is_taken, lane_at, word_law};
 use crate::dirty::DirtyFields;
 use crate::fresh::FreshRecords;
 use crate::logged::log_all;
 use crate::note::{note_lane, note_monitor, note_starts, note_store};
 use crate::states::{FREE, FieldState, IDLE, LaneState, MonitorState};
-use heap_model::{FieldId, Lane, LaneRecord, Record, UndoRecord};
+use heap_model::{FieldId, Lane, LaneRecord, ObjectId, Record, UndoRecord};
 use std::alloc::{AllocError, Global};
 use std::marker::Model;
 use store_past::{NewRecords, StoreError};
@@ -89,35 +91,84 @@ impl Applied {
     /// Applies the lane's next record, in constant time and with no memory taken.
     ///
     /// A refusal changes nothing. The reasons are tried in the order of [`StoreError`].
+    #[inline(always)]
     pub fn apply(&mut self, lane: Lane, record: Record) -> Result<(), StoreError>
         ensures answer { (s : Setting) (p : Past) → Remembers s self.old p → Answers s self.old p lane.0 «record» result }
         ensures ok { (s : Setting) (p : Past) → Remembers s self.old p → OnOk result (Remembers s self.new (after_apply p lane.0 «record»)) }
         ensures err { OnErr result (self.new ≡ self.old) }
         ensures kept { KeepsLayout self.old self.new }
     {
-        // A case for each kind: the compiler then writes out what is done for that kind alone.
+        // Each kind has a function, which gets the record's parts in registers.
         match record {
-            Record::Acq { object, number } => self.take(lane, Record::Acq { object, number }),
-            Record::Rel { object, number } => self.take(lane, Record::Rel { object, number }),
-            Record::WaitRel { object, number } => {
-                self.take(lane, Record::WaitRel { object, number })
-            }
+            Record::Acq { object, number } => self.take_acquire(lane, object, number),
+            Record::Rel { object, number } => self.take_release(lane, object, number),
+            Record::WaitRel { object, number } => self.take_wait(lane, object, number),
             Record::Put {
                 field,
                 before,
                 after,
-            } => self.take(
-                lane,
-                Record::Put {
-                    field,
-                    before,
-                    after,
-                },
-            ),
+            } => self.take_store(lane, field, before, after),
         }
     }
 
-    // Applies the lane's next record.
+    // Applies an acquire.
+    #[inline(never)]
+    fn take_acquire(&mut self, lane: Lane, object: ObjectId, number: u64) -> Result<(), StoreError>
+        ensures answer { (s : Setting) (p : Past) → Remembers s self.old p → Answers s self.old p lane.0 (Acq object number) result }
+        ensures ok { (s : Setting) (p : Past) → Remembers s self.old p → OnOk result (Remembers s self.new (after_apply p lane.0 (Acq object number))) }
+        ensures err { OnErr result (self.new ≡ self.old) }
+        ensures kept { KeepsLayout self.old self.new }
+    {
+        self.take(lane, Record::Acq { object, number })
+    }
+
+    // Applies a release.
+    #[inline(never)]
+    fn take_release(&mut self, lane: Lane, object: ObjectId, number: u64) -> Result<(), StoreError>
+        ensures answer { (s : Setting) (p : Past) → Remembers s self.old p → Answers s self.old p lane.0 (Rel object number) result }
+        ensures ok { (s : Setting) (p : Past) → Remembers s self.old p → OnOk result (Remembers s self.new (after_apply p lane.0 (Rel object number))) }
+        ensures err { OnErr result (self.new ≡ self.old) }
+        ensures kept { KeepsLayout self.old self.new }
+    {
+        self.take(lane, Record::Rel { object, number })
+    }
+
+    // Applies the release of a wait.
+    #[inline(never)]
+    fn take_wait(&mut self, lane: Lane, object: ObjectId, number: u64) -> Result<(), StoreError>
+        ensures answer { (s : Setting) (p : Past) → Remembers s self.old p → Answers s self.old p lane.0 (WaitRel object number) result }
+        ensures ok { (s : Setting) (p : Past) → Remembers s self.old p → OnOk result (Remembers s self.new (after_apply p lane.0 (WaitRel object number))) }
+        ensures err { OnErr result (self.new ≡ self.old) }
+        ensures kept { KeepsLayout self.old self.new }
+    {
+        self.take(lane, Record::WaitRel { object, number })
+    }
+
+    // Applies a store.
+    #[inline(never)]
+    fn take_store(
+        &mut self,
+        lane: Lane,
+        field: FieldId,
+        before: u64,
+        after: u64,
+    ) -> Result<(), StoreError>
+        ensures answer { (s : Setting) (p : Past) → Remembers s self.old p → Answers s self.old p lane.0 (Put field before after) result }
+        ensures ok { (s : Setting) (p : Past) → Remembers s self.old p → OnOk result (Remembers s self.new (after_apply p lane.0 (Put field before after))) }
+        ensures err { OnErr result (self.new ≡ self.old) }
+        ensures kept { KeepsLayout self.old self.new }
+    {
+        self.take(
+            lane,
+            Record::Put {
+                field,
+                before,
+                after,
+            },
+        )
+    }
+
+    // Applies the lane's next record. It is written out for each kind, so that no test asks for the kind.
     #[inline(always)]
     fn take(&mut self, lane: Lane, record: Record) -> Result<(), StoreError>
         ensures answer { (s : Setting) (p : Past) → Remembers s self.old p → Answers s self.old p lane.0 «record» result }
@@ -125,7 +176,7 @@ impl Applied {
         ensures err { OnErr result (self.new ≡ self.old) }
         ensures kept { KeepsLayout self.old self.new }
     {
-        if let Err(reason) = check(
+        if is_taken(
             self.last,
             self.capacity,
             &self.lanes,
@@ -134,14 +185,36 @@ impl Applied {
             lane,
             record,
         ) {
-            return Err(reason);
+            word_law(record);
+            note_lane(&mut self.lanes, lane, record);
+            note_monitor(&mut self.monitors, &self.fields, lane, record);
+            note_store(&mut self.fields, self.monitors.len(), record);
+            self.fresh.push(lane, record);
+            Ok(())
+        } else {
+            // Here alone the record is wanted in memory.
+            Err(self.refusal(lane, again(record)))
         }
-        word_law(record);
-        note_lane(&mut self.lanes, lane, record);
-        note_monitor(&mut self.monitors, &self.fields, lane, record);
-        note_store(&mut self.fields, self.monitors.len(), record);
-        self.fresh.push(lane, record);
-        Ok(())
+    }
+
+    // Why the record isn't taken.
+    #[inline(never)]
+    fn refusal(&self, lane: Lane, record: Record) -> StoreError
+        requires refused { ¬ Judges self.now.last self.now.capacity self.now.lanes self.now.monitors self.now.fields lane.0 «record» (Ok tt) }
+        ensures { Judges self.now.last self.now.capacity self.now.lanes self.now.monitors self.now.fields lane.0 «record» (Err result) }
+    {
+        match check(
+            self.last,
+            self.capacity,
+            &self.lanes,
+            &self.monitors,
+            &self.fields,
+            lane,
+            record,
+        ) {
+            Err(reason) => reason,
+            Ok(()) => unreachable!(),
+        }
     }
 
     /// The field's value after all records applied.

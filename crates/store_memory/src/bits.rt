@@ -13,6 +13,14 @@ pub fn word_of(at: usize) -> usize
     at / WORD_BITS
 }
 
+/// Whether the number is in the set.
+pub fn has(words: &[u64], at: usize) -> bool
+    requires { at / 64 < length words.now }
+    ensures { result ≡ has_bit words.now at }
+{
+    (words[at / WORD_BITS] >> (at % WORD_BITS)) & 1 == 1
+}
+
 /// Puts the number into the set.
 pub fn set_bit(words: &mut [u64], at: usize)
     requires { at / 64 < length words.old }

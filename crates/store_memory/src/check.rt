@@ -1,6 +1,6 @@
 //! Whether a lane may do a record next.
 
-ghost use Rattle.std.specs.Prelude.{◌≡◌, ◌+◌, ◌<◌, ◌≤◌, ◌^◌, ℕ, ◌↔◌, IsTrue, Some, true, false, length};
+ghost use Rattle.std.specs.Prelude.{◌≡◌, ◌+◌, ◌<◌, ◌≤◌, ◌^◌, ℕ, ◌↔◌, IsTrue, Some, Ok, true, false, length};
 ghost use Rattle.heap_model.specs.Events.{lane_number};
 ghost use Rattle.heap_model.specs.Log.{MayFollow};
 ghost use Rattle.store_memory.specs.Memory.{monitor_in, field_in, lane_in, guard_in, object_number, held_after as held_after_record};
@@ -179,8 +179,110 @@ fn is_full(capacity: u32, state: LaneState) -> bool
     state.held == 0 && u64::from(capacity) < state.place - state.start + SECTION_RECORDS
 }
 
-/// Whether the record is taken, and else why not.
+/// The record, put together anew: where it is wanted in memory, and not before.
 #[inline(always)]
+pub fn again(record: Record) -> Record
+    ensures { result ≡ «record» }
+{
+    match record {
+        Record::Acq { object, number } => Record::Acq { object, number },
+        Record::Rel { object, number } => Record::Rel { object, number },
+        Record::WaitRel { object, number } => Record::WaitRel { object, number },
+        Record::Put {
+            field,
+            before,
+            after,
+        } => Record::Put {
+            field,
+            before,
+            after,
+        },
+    }
+}
+
+/// Whether the record is taken: what [`check`] answers, without the reason.
+#[inline(always)]
+pub fn is_taken(
+    last: u64,
+    capacity: u32,
+    lanes: &[LaneState],
+    monitors: &[MonitorState],
+    fields: &[FieldState],
+    lane: Lane,
+    record: Record,
+) -> bool
+    requires guards { (f : ℕ) → f < length fields.now → guard_in fields.now f < length monitors.now }
+    requires place { (l : ℕ) → l < length lanes.now → (lane_in lanes.now l).place + 1000 < 2 ^ 64 }
+    requires start { (l : ℕ) → l < length lanes.now → (lane_in lanes.now l).start ≤ (lane_in lanes.now l).place }
+    requires held { (l : ℕ) → l < length lanes.now → (lane_in lanes.now l).held + 1 < 2 ^ 32 }
+    ensures { IsTrue result ↔ Judges last capacity lanes.now monitors.now fields.now lane.0 «record» (Ok tt) }
+{
+    if lanes.len() <= lane.0 as usize {
+        return false;
+    }
+    if !is_named(monitors.len(), fields, record) {
+        return false;
+    }
+    is_right(
+        last,
+        capacity,
+        lane_at(lanes, lane),
+        monitors,
+        fields,
+        lane,
+        record,
+    )
+}
+
+// Whether the record, whose lane and names are good, is taken. The tests that most records need come first.
+#[inline(always)]
+fn is_right(
+    last: u64,
+    capacity: u32,
+    state: LaneState,
+    monitors: &[MonitorState],
+    fields: &[FieldState],
+    lane: Lane,
+    record: Record,
+) -> bool
+    requires named { IsNamed (length monitors.now) fields.now «record» }
+    requires guards { (f : ℕ) → f < length fields.now → guard_in fields.now f < length monitors.now }
+    requires place { state.place + 1000 < 2 ^ 64 }
+    requires start { state.start ≤ state.place }
+    requires held { state.held + 1 < 2 ^ 32 }
+    ensures { IsTrue result ↔ JudgesNamed last capacity state monitors.now fields.now lane.0 «record» (Ok tt) }
+{
+    if !is_next(last, monitors, fields, lane, state, record) {
+        return false;
+    }
+    if has_last_number(last, record) {
+        return false;
+    }
+    if is_too_long(state, record) {
+        return false;
+    }
+    is_open(state) || may_begin(capacity, state)
+}
+
+// Whether the lane holds a monitor.
+#[inline(always)]
+fn is_open(state: LaneState) -> bool
+    ensures { IsTrue result ↔ (0 < state.held) }
+{
+    state.held > 0
+}
+
+// Whether a section may begin at the lane's place.
+#[inline(always)]
+fn may_begin(capacity: u32, state: LaneState) -> bool
+    requires place { state.place + 1000 < 2 ^ 64 }
+    requires start { state.start ≤ state.place }
+    ensures { IsTrue result ↔ ((state.place < 2 ^ 62) × (state.place + 1000 ≤ state.start + capacity)) }
+{
+    state.place < LAST_PLACE && state.place - state.start + SECTION_RECORDS <= u64::from(capacity)
+}
+
+/// Whether the record is taken, and else why not.
 pub fn check(
     last: u64,
     capacity: u32,

@@ -1,10 +1,10 @@
 //! Which fields have a logged store newer than their last home write.
 
-ghost use Rattle.std.specs.Prelude.{◌≡◌, ◌<◌, ◌/◌, ◌==◌, ℕ, true, false, if◌then◌else◌, nat_lt, length, slice_index, IfOk, MatchOption};
+ghost use Rattle.std.specs.Prelude.{◌≡◌, ◌<◌, ◌/◌, ◌==◌, ℕ, true, false, if◌then◌else◌, nat_lt, length, slice_index, IsTrue, IfOk, MatchOption};
 ghost use Rattle.store_memory.specs.Bits.{has_bit};
 ghost use Rattle.store_memory.specs.Dirty.{is_dirty_in, IsLeastDirty};
 
-use crate::bits::{clear_bit, first_word, lowest_in, set_bit, word_of};
+use crate::bits::{clear_bit, first_word, has, lowest_in, set_bit, word_of};
 use heap_model::FieldId;
 use std::alloc::{AllocError, Global};
 use std::marker::Model;
@@ -47,8 +47,26 @@ impl DirtyFields {
         })
     }
 
-    /// Makes the field dirty. A number that no field has changes nothing.
+    /// Makes the field dirty, where it isn't yet. A number that no field has changes nothing.
     pub fn mark(&mut self, field: FieldId)
+        ensures marked { (f : ℕ) → f < self.old.fields → is_dirty_in self.new f ≡ (if field.0 == f then true else is_dirty_in self.old f) }
+        ensures fields { self.new.fields ≡ self.old.fields }
+    {
+        if self.is_dirty(field) {
+            return;
+        }
+        self.set(field);
+    }
+
+    // Whether the field is dirty.
+    fn is_dirty(&self, field: FieldId) -> bool
+        ensures { IsTrue result → is_dirty_in self.now field.0 ≡ true }
+    {
+        field.0 < self.fields && has(&self.words, field.0 as usize)
+    }
+
+    // Makes the field dirty.
+    fn set(&mut self, field: FieldId)
         ensures marked { (f : ℕ) → f < self.old.fields → is_dirty_in self.new f ≡ (if field.0 == f then true else is_dirty_in self.old f) }
         ensures fields { self.new.fields ≡ self.old.fields }
     {

@@ -3,14 +3,12 @@
 //! Each lane has an area in a table, of a slot more than it may have records since what was trimmed. The place
 //! behind its section n is in slot n mod the slots of an area; slot 0 is that of the lane's beginning at first.
 
-ghost use Rattle.std.specs.Prelude.{◌≡◌, ◌+◌, ◌-◌, ◌*◌, ◌^◌, ◌<◌, ◌≤◌, ℕ, length, slice_index, slice_set, IsTrue, ◌↔◌};
-ghost use Rattle.heap_model.specs.Sections.{action};
-ghost use Rattle.dependence.specs.Counts.{IsHeldBy};
-ghost use Rattle.dependence.specs.Trace.{in_all};
+ghost use Rattle.std.specs.Prelude.{◌≡◌, ◌+◌, ◌-◌, ◌*◌, ◌^◌, ◌<◌, ◌≤◌, ℕ, length, slice_index, slice_set, nat_lt, IsTrue, ◌↔◌};
+ghost use Rattle.dependence.specs.Trace.{in_all, sections_of};
 ghost use Rattle.store_memory.specs.Ends.{slot_of};
-ghost use Rattle.store_memory.specs.Counted.{lane_in, lane_after, ends_after};
+ghost use Rattle.store_memory.specs.Counted.{MayEnd, ends_after};
 
-use crate::logged_lane::LoggedLane;
+use dependence::Graph;
 use heap_model::{Lane, Record};
 
 /// How many slots a table has, for lanes that may have so many records each.
@@ -29,50 +27,38 @@ fn slot(capacity: u32, lane: Lane, section: u64) -> usize
     lane.0 as usize * area + (section % (capacity as u64 + 1)) as usize
 }
 
-/// Counts the lane's next record, and notes the place behind the section that ends with it.
+/// Whether a section ended with the record, so that there are more than before. Only a release ends one.
 #[inline(always)]
-pub fn count(counts: &mut [LoggedLane], ends: &mut [u64], capacity: u32, lane: Lane, next: Record)
-    requires lane { lane.0 < length counts.old }
-    requires area { (lane.0 + 1) * (capacity + 1) ≤ length ends.old }
-    requires holds { IsHeldBy (action next) (lane_in counts.old lane.0).held }
-    requires place { (lane_in counts.old lane.0).place + 1 < 2 ^ 64 }
-    requires held { (lane_in counts.old lane.0).held + 1 < 2 ^ 64 }
-    requires sections { (lane_in counts.old lane.0).sections + 1 < 2 ^ 64 }
-    ensures counts { counts.new ≡ slice_set counts.old lane.0 (lane_after next (lane_in counts.old lane.0)) }
-    ensures ends { ends.new ≡ ends_after capacity lane.0 (lane_in counts.old lane.0) (lane_after next (lane_in counts.old lane.0)) ends.old }
+pub fn has_ended(next: Record, before: u64, after: u64) -> bool
+    requires { MayEnd next before after }
+    ensures { result ≡ nat_lt before after }
 {
-    let before = counts[lane.0 as usize];
-    let after = counted(before, next);
-    counts[lane.0 as usize] = after;
-    if before.sections < after.sections {
-        ends[slot(capacity, lane, after.sections)] = after.place;
+    match next {
+        Record::Rel { .. } | Record::WaitRel { .. } => before < after,
+        Record::Acq { .. } | Record::Put { .. } => false,
     }
 }
 
-// The lane after its next record.
+/// Counts the lane's next record, and notes the place behind it if that is where the section of this number ended.
 #[inline(always)]
-fn counted(lane: LoggedLane, next: Record) -> LoggedLane
-    requires holds { IsHeldBy (action next) lane.held }
-    requires place { lane.place + 1 < 2 ^ 64 }
-    requires held { lane.held + 1 < 2 ^ 64 }
-    requires sections { lane.sections + 1 < 2 ^ 64 }
-    ensures { result ≡ lane_after next lane }
+pub fn count(
+    places: &mut [u64],
+    ends: &mut [u64],
+    capacity: u32,
+    lane: Lane,
+    has_ended: bool,
+    section: u64,
+)
+    requires lane { lane.0 < length places.old }
+    requires area { (lane.0 + 1) * (capacity + 1) ≤ length ends.old }
+    requires place { slice_index places.old lane.0 + 1 < 2 ^ 64 }
+    ensures places { places.new ≡ slice_set places.old lane.0 (slice_index places.old lane.0 + 1) }
+    ensures ends { ends.new ≡ ends_after capacity lane.0 has_ended section (slice_index places.old lane.0 + 1) ends.old }
 {
-    let (held, sections) = match next {
-        Record::Acq { .. } => (lane.held + 1, lane.sections),
-        Record::Rel { .. } | Record::WaitRel { .. } => {
-            if lane.held == 1 {
-                (0, lane.sections + 1)
-            } else {
-                (lane.held - 1, lane.sections)
-            }
-        }
-        Record::Put { .. } => (lane.held, lane.sections),
-    };
-    LoggedLane {
-        place: lane.place + 1,
-        held,
-        sections,
+    let place = places[lane.0 as usize] + 1;
+    places[lane.0 as usize] = place;
+    if has_ended {
+        ends[slot(capacity, lane, section)] = place;
     }
 }
 
@@ -90,32 +76,28 @@ pub fn places_behind(lanes: u8, capacity: u32, ends: &[u64], counts: &[u64; 32])
     places
 }
 
-/// How many records the lanes have from these places on, of each at most `capacity`.
-pub fn records_from(
-    lanes: u8,
-    capacity: u32,
-    counts: &[LoggedLane; 32],
-    places: &[u64; 32],
-) -> usize
+/// How many records the lanes have from these places on, of each at most `capacity`; `behind` has the place behind each lane's last one.
+pub fn records_from(lanes: u8, capacity: u32, behind: &[u64; 32], places: &[u64; 32]) -> usize
     requires lanes { lanes ≤ 32 }
-    requires low { (l : ℕ) → l < lanes → slice_index places.now l ≤ (lane_in counts.now l).place }
-    requires near { (l : ℕ) → l < lanes → (lane_in counts.now l).place ≤ slice_index places.now l + capacity }
-    ensures { result ≡ in_all lanes (λ l. (lane_in counts.now l).place - slice_index places.now l) }
+    requires low { (l : ℕ) → l < lanes → slice_index places.now l ≤ slice_index behind.now l }
+    requires near { (l : ℕ) → l < lanes → slice_index behind.now l ≤ slice_index places.now l + capacity }
+    ensures { result ≡ in_all lanes (λ l. slice_index behind.now l - slice_index places.now l) }
 {
     let mut records = 0;
     for lane in 0..lanes as usize {
-        records += (counts[lane].place - places[lane]) as usize;
+        records += (behind[lane] - places[lane]) as usize;
     }
     records
 }
 
 /// Whether each of the lanes has ended no more sections than `cut` has of it.
-pub fn are_within(lanes: u8, counts: &[LoggedLane; 32], cut: &[u64; 32]) -> bool
-    requires { lanes ≤ 32 }
-    ensures { IsTrue result ↔ ((l : ℕ) → l < lanes → (lane_in counts.now l).sections ≤ slice_index cut.now l) }
+pub fn are_within(lanes: u8, graph: &Graph, cut: &[u64; 32]) -> bool
+    requires few { lanes ≤ 32 }
+    requires lanes { graph.now.lanes ≡ lanes }
+    ensures { IsTrue result ↔ ((l : ℕ) → l < lanes → sections_of graph.now l ≤ slice_index cut.now l) }
 {
     for lane in 0..lanes {
-        if cut[lane as usize] < counts[lane as usize].sections {
+        if cut[lane as usize] < graph.sections(Lane(lane)) {
             return false;
         }
     }

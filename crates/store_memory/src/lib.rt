@@ -20,7 +20,6 @@ mod logged;
 
 // Where the sections of what is logged end.
 mod ends;
-mod logged_lane;
 mod sections;
 mod stable_sections;
 

@@ -1,23 +1,26 @@
 //! What the store knows of the logged records: which sections may be acknowledged, and where they end.
 
-ghost use Rattle.std.specs.Prelude.{◌≡◌, ◌+◌, ◌*◌, ◌^◌, ◌<◌, ◌≤◌, ◌∷◌, [], ◌++◌, ◌↔◌, ℕ, List, min, IsTrue, IfOk, slice_index};
+ghost use Rattle.std.specs.Prelude.{◌≡◌, ◌+◌, ◌*◌, ◌^◌, ◌<◌, ◌≤◌, ◌∷◌, [], ◌++◌, ◌↔◌, ℕ, List, min, IsTrue, IfOk, length, slice_index};
 ghost use Rattle.heap_model.specs.declared.record.Record.{Record as AnyRecord};
 ghost use Rattle.heap_model.specs.Setting.{Setting};
 ghost use Rattle.heap_model.specs.Log.{lane as lane_of, log_from};
-ghost use Rattle.heap_model.specs.Sections.{actions, ended};
+ghost use Rattle.heap_model.specs.Record.{undo_of};
+ghost use Rattle.heap_model.specs.Sections.{action, actions, ended};
 ghost use Rattle.heap_model.specs.Cuts.{counts_of, IsStable};
-ghost use Rattle.store_memory.specs.Sections.{place_behind, TellsSections, MayBeLogged};
+ghost use Rattle.dependence.specs.Trace.{sections_of};
+ghost use Rattle.dependence.specs.Next.{IsNext, IsObjectBelow};
+ghost use Rattle.store_memory.specs.Sections.{place_behind, with_action, TellsSections, MayBeLogged};
 ghost use Rattle.store_memory.specs.Trimming.{MayForget, IsPaid};
 
-use crate::ends::{are_within, count, places_behind, records_from, slots};
-use crate::logged_lane::LoggedLane;
+use crate::ends::{are_within, count, has_ended, places_behind, records_from, slots};
 use crate::stable_sections::StableSections;
 use dependence::Graph;
-use heap_model::{Cut, Lane, LaneRecord, MOST_OBJECTS, Record};
+use heap_model::{Cut, Lane, LaneRecord, MOST_OBJECTS, Record, UndoRecord};
 use std::alloc::{AllocError, Global};
 use std::marker::Model;
 
-/// The sections of the logged records: how they depend on one another, and the place behind each.
+/// The sections of the logged records: how they depend on one another, and the place behind each. No section depends on a
+/// store, so that the graph has the other records alone.
 ///
 /// Contracts see them as plain data, and say of which log they tell. Of that a base may have been trimmed:
 /// the sections since are numbered on, and places count the records from the first on.
@@ -27,7 +30,8 @@ pub struct LoggedSections {
     // How many records each lane may have since what was trimmed.
     capacity: u32,
     graph: Graph,
-    counts: [LoggedLane; 32],
+    // By lane: the place behind its last record, which is how many were logged since the heap was opened.
+    places: [u64; 32],
     // An area of slots for each lane: of the sections since what was trimmed, and of what was.
     ends: Vec<u64>,
 }
@@ -43,13 +47,6 @@ impl Model for LoggedSections {
 
     ghost invariant = { HasSlots };
 }
-
-// A lane with no records.
-const IDLE: LoggedLane = LoggedLane {
-    place: 0,
-    held: 0,
-    sections: 0,
-};
 
 impl LoggedSections {
     /// The sections of no records, with room for so many records of each of so many lanes, at most 32.
@@ -70,7 +67,7 @@ impl LoggedSections {
             lanes,
             capacity,
             graph: Graph::with_capacity(alloc, lanes, 2 * room(lanes, capacity))?,
-            counts: [IDLE; 32],
+            places: [0; 32],
             ends: vec![in alloc; 0; slots(lanes, capacity)]?,
         })
     }
@@ -112,8 +109,18 @@ impl LoggedSections {
         ensures lanes { self.new.lanes ≡ self.old.lanes }
         ensures capacity { self.new.capacity ≡ self.old.capacity }
     {
-        self.graph.push(lane, &next.undo());
-        count(&mut self.counts, &mut self.ends, self.capacity, lane, next);
+        let before = self.graph.sections(lane);
+        tell(&mut self.graph, lane, next);
+        let after = self.graph.sections(lane);
+        let has_ended = has_ended(next, before, after);
+        count(
+            &mut self.places,
+            &mut self.ends,
+            self.capacity,
+            lane,
+            has_ended,
+            after,
+        );
     }
 
     /// Adds the next logged records, the oldest first. The time is linear in them.
@@ -157,7 +164,7 @@ impl LoggedSections {
         ensures capacity { self.new.capacity ≡ self.old.capacity }
     {
         let places = places_behind(self.lanes, self.capacity, &self.ends, &cut.counts);
-        let left = records_from(self.lanes, self.capacity, &self.counts, &places);
+        let left = records_from(self.lanes, self.capacity, &self.places, &places);
         let most = room(self.lanes, self.capacity);
         // Not each time: the graph walks over all that stays.
         if is_paid(2 * most - self.graph.room(), left, most) {
@@ -169,7 +176,30 @@ impl LoggedSections {
     pub fn is_all_within(&self, cut: &Cut) -> bool
         ensures { (base : ℕ → ℕ) (log : List (ℕ × AnyRecord)) → TellsSections self.now base log → (IsTrue result ↔ ((l : ℕ) → ended (lane_of l (actions log)) ≤ counts_of cut.now l)) }
     {
-        are_within(self.lanes, &self.counts, &cut.counts)
+        are_within(self.lanes, &self.graph, &cut.counts)
+    }
+}
+
+// Tells the graph what the lane's next record does to a monitor. A store does nothing to one, and no section depends on it.
+#[inline(always)]
+fn tell(graph: &mut Graph, lane: Lane, next: Record)
+    requires room { 0 < graph.old.room }
+    requires lane { lane.0 < graph.old.lanes }
+    requires object { IsObjectBelow 4096 (undo_of next) }
+    requires next { IsNext graph.old.log lane.0 (action next) }
+    requires fits { sections_of graph.old lane.0 + 1 < 2 ^ 64 }
+    ensures log { graph.new.log ≡ with_action (lane.0, action next) graph.old.log }
+    ensures room { graph.new.room + length graph.new.log ≡ graph.old.room + length graph.old.log }
+    ensures base { graph.new.base ≡ graph.old.base }
+    ensures lanes { graph.new.lanes ≡ graph.old.lanes }
+{
+    match next {
+        Record::Acq { object, number } => graph.push(lane, &UndoRecord::Acq { object, number }),
+        Record::Rel { object, number } => graph.push(lane, &UndoRecord::Rel { object, number }),
+        Record::WaitRel { object, number } => {
+            graph.push(lane, &UndoRecord::WaitRel { object, number });
+        }
+        Record::Put { .. } => {}
     }
 }
 

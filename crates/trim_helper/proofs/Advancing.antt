@@ -3,7 +3,7 @@ use Rattle.std.proofs.Common.{ℕ, ◌≡◌, ◌≢◌, ◌+◌, ◌*◌, ◌^�
 use Rattle.std.proofs.lemmas.Bool.{cases_eq}
 use Rattle.std.proofs.lemmas.Bool.Decides.{eqb_tells}
 use Rattle.std.proofs.lemmas.List.{append-nil, append_assoc, length-append}
-use Rattle.rtrb.specs.declared.consumer.Consumer.{Consumer}
+use Rattle.lane_rings.specs.Rings.{Receiving}
 use Rattle.heap_model.specs.declared.record.Record.{Record}
 use Rattle.heap_model.specs.Setting.{Setting}
 use Rattle.block_disk.specs.Device.{Device}
@@ -19,21 +19,23 @@ use Rattle.trim_helper.specs.Taken.{Taking, HasTaken, Advances, IsLaneStuck, IsS
 use Rattle.trim_helper.specs.Draining.{Empties, GoesOn, HasAll, Rests, RunsOn, Takes, Turns}
 use Rattle.trim_helper.proofs.Progress.{stream_own, stream_other}
 use Rattle.trim_helper.proofs.RingMoves.{same_refl, same_then, known_most, held_most}
+use Rattle.trim_helper.proofs.Seeing.{keeps_refl, keeps_then}
 
-whole_all : {A P : Type 0} → (r0 r1 : List (Consumer Record A P)) (w0 w1 : List (Option Record)) (lane : ℕ) (gone : List Record) → Moves lane gone r0 w0 r1 w1 → (l : ℕ) → received_of r1 l ++ known_of r1 l ≡ received_of r0 l ++ known_of r0 l
+whole_all : (r0 r1 : List Receiving) (w0 w1 : List (Option Record)) (lane : ℕ) (gone : List Record) → Moves lane gone r0 w0 r1 w1 → (l : ℕ) → received_of r1 l ++ known_of r1 l ≡ received_of r0 l ++ known_of r0 l
 whole_all r0 r1 w0 w1 lane gone moves l = elim (eqb_tells lane l) [
   | inl e ↦ subst (λ k. received_of r1 k ++ known_of r1 k ≡ received_of r0 k ++ known_of r0 k) e.1 moves.whole
   | inr e ↦ let o = moves.others l e.1 in ap (λ (xs : List Record). xs ++ known_of r1 l) o.0 ∙ ap (λ (xs : List Record). received_of r0 l ++ xs) o.1
 ]
 
 -- the record that was fetched was applied
-pub moves_then : {A P : Type 0} → (r0 r1 r2 : List (Consumer Record A P)) (w0 w1 w2 : List (Option Record)) (lane : ℕ) (gone : List Record) → Moves lane [] r0 w0 r1 w1 → Moves lane gone r1 w1 r2 w2 → Moves lane gone r0 w0 r2 w2
+pub moves_then : (r0 r1 r2 : List Receiving) (w0 w1 w2 : List (Option Record)) (lane : ℕ) (gone : List Record) → Moves lane [] r0 w0 r1 w1 → Moves lane gone r1 w1 r2 w2 → Moves lane gone r0 w0 r2 w2
 moves_then r0 r1 r2 w0 w1 w2 lane gone one two = record {
   taken = λ before is. two.taken before (one.taken before is ∙ ap (λ (xs : List Record). xs ++ held_back (waiting_in w1 lane)) (append-nil before));
   whole = two.whole ∙ one.whole;
   others = λ l other. let a = one.others l other in let b = two.others l other in (b.0 ∙ a.0, b.1 ∙ a.1, b.2 ∙ a.2);
   left = let a = one.left in let b = two.left in omega arith;
   same = same_then r0 r1 r2 one.same two.same;
+  told = keeps_then r0 r1 r2 one.told two.told;
   slots = two.slots ∙ one.slots;
 }
 
@@ -68,6 +70,7 @@ module _ {D : Type 0} (device : D → Device) where
     whole = whole_all x.rings y.rings x.waiting y.waiting lane [] moves;
     left = moves.left;
     same = moves.same;
+    told = moves.told;
     slots = moves.slots;
     layout = ap (λ (z : stores.Parts D). z.known.layout) same;
     running = ap (λ (z : stores.Parts D). z.known.has_failed) same;
@@ -82,6 +85,7 @@ module _ {D : Type 0} (device : D → Device) where
     whole = whole_all x.rings y.rings x.waiting y.waiting lane (r ∷ []) moves;
     left = moves.left;
     same = moves.same;
+    told = moves.told;
     slots = moves.slots;
     layout = layout;
     running = running;
@@ -89,7 +93,7 @@ module _ {D : Type 0} (device : D → Device) where
   }
 
   pub advances_start : (x : Taking D) → Advances device x x 0
-  advances_start x = record { made = λ s p has. ([], refl, has); whole = λ l. refl; left = omega arith; same = same_refl x.rings; slots = refl; layout = refl; running = refl; uncalled = refl }
+  advances_start x = record { made = λ s p has. ([], refl, has); whole = λ l. refl; left = omega arith; same = same_refl x.rings; told = keeps_refl x.rings; slots = refl; layout = refl; running = refl; uncalled = refl }
 
   pub advances_then : (x y z : Taking D) (n m : ℕ) → Advances device x y n → Advances device y z m → Advances device x z (n + m)
   advances_then x y z n m one two = record {
@@ -103,6 +107,7 @@ module _ {D : Type 0} (device : D → Device) where
     whole = λ l. two.whole l ∙ one.whole l;
     left = let a = one.left in let b = two.left in omega arith;
     same = same_then x.rings y.rings z.rings one.same two.same;
+    told = keeps_then x.rings y.rings z.rings one.told two.told;
     slots = two.slots ∙ one.slots;
     layout = two.layout ∙ one.layout;
     running = two.running ∙ one.running;

@@ -1,8 +1,6 @@
 -- What a helper serves it serves once its device has met its other end.
-use Rattle.std.proofs.Common.{ℕ, ◌≡◌, ◌<◌, ◌≤◌, ◌++◌, List, Option, sym, ap, ◌∙◌, subst, arith}
-use Rattle.std.specs.Global.{Global}
-use Rattle.rtrb.specs.declared.AnyItems.{AnyItems}
-use Rattle.rtrb.specs.declared.consumer.Consumer.{Consumer}
+use Rattle.std.proofs.Common.{◌≡◌, ◌≤◌, ◌++◌, List, Option, sym, ap, ◌∙◌, subst, arith}
+use Rattle.lane_rings.specs.Rings.{Receiving}
 use Rattle.heap_model.specs.declared.record.Record.{Record}
 use Rattle.heap_model.specs.Setting.{Setting}
 use Rattle.block_disk.specs.Device.{Device}
@@ -21,7 +19,7 @@ serves_still device x y s p same serving =
     record {
       taken = record {
         has = subst (λ (d : Device). HasPast y.store.known s p d) (sym same.device_is) (subst (λ (k : Known). HasPast k s p (device x.store.disk)) (sym same.known) serving.taken.has);
-        taken = λ l. ap (λ (r : List (Consumer Record Global AnyItems)). received_of r l) same.rings ∙ serving.taken.taken l
+        taken = λ l. ap (λ (r : List Receiving). received_of r l) same.rings ∙ serving.taken.taken l
             ∙ ap (λ (w : List (Option Record)). stream l (applied p) ++ held_back (waiting_in w l)) (sym same.waiting);
       };
       counts = λ l lt. subst (λ (k : Helping). count_published k l ≤ p.cut l) (sym same.seat) (serving.counts l (omega arith));

@@ -1,7 +1,7 @@
 -- Both ends have met, and all that was sent is applied, logged, at home and acknowledged.
 use Rattle.std.proofs.Common.{ℕ, zero, suc, ◌≡◌, ◌<◌, ◌≤◌, if◌then◌else◌, true, false, List, [], ◌∷◌, ◌++◌, map, length, reverse, Option, refl, sym, ap, ◌∙◌, subst, inl, inr, arith}
 use Rattle.std.proofs.lemmas.Bool.{cases_lt}
-use Rattle.rtrb.specs.declared.consumer.Consumer.{Consumer}
+use Rattle.lane_rings.specs.Rings.{Receiving}
 use Rattle.heap_model.specs.declared.record.Record.{Record}
 use Rattle.heap_model.specs.declared.event.Event.{Event}
 use Rattle.heap_model.specs.Setting.{Setting}
@@ -48,7 +48,7 @@ limits_more start later capacity (r ∷ rs) le keeps = (
 )
 
 -- a part that no list has
-pub received_past : {A P : Type 0} → (cs : List (Consumer Record A P)) (l : ℕ) → length cs ≤ l → received_of cs l ++ known_of cs l ≡ []
+pub received_past : (cs : List Receiving) (l : ℕ) → length cs ≤ l → received_of cs l ++ known_of cs l ≡ []
 received_past [] l le = refl
 received_past (c ∷ cs) zero le = absurd (omega arith)
 received_past (c ∷ cs) (suc l) le = received_past cs l (omega arith)

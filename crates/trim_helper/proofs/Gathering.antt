@@ -1,9 +1,7 @@
 -- Each session that has ended meets its lane's ring.
 use Rattle.std.proofs.Common.{ℕ, zero, suc, ◌≡◌, ◌≢◌, ◌+◌, ◌<◌, ◌≤◌, ◌⊎◌, ◌==◌, if◌then◌else◌, Option, None, Some, MatchOption, Bool, true, false, List, [], ◌∷◌, ◌++◌, length, slice_index_or, refl, sym, ap, ◌∙◌, subst, inl, inr, ⊎_elim, arith}
 use Rattle.std.proofs.lemmas.Bool.Decides.{eqb_tells}
-use Rattle.rtrb.specs.Ring.{IsPair}
-use Rattle.rtrb.specs.declared.consumer.Consumer.{Consumer}
-use Rattle.rtrb.specs.declared.producer.Producer.{Producer}
+use Rattle.lane_rings.specs.Rings.{IsPair, Receiving, Sending}
 use Rattle.heap_model.specs.declared.record.Record.{Record}
 use Rattle.heap_model.specs.Own.{own_log, sent_of}
 use Rattle.heap_model.specs.Setting.{Setting}
@@ -19,33 +17,32 @@ use Rattle.trim_helper.specs.declared.close_error.CloseError.{CloseError}
 use Rattle.trim_helper.specs.declared.close_error.CloseError.TheVariants.{Missing, Unfinished, Failed, Worn, Fault}
 use Rattle.heap_model.specs.declared.ids.Lane.{Lane}
 
-module _ {A P : Type 0} where
-  pub end_at : (p : Producer Record A P) (cs : List (Consumer Record A P)) (l : ℕ) (d : Consumer Record A P) → IsEndOf p cs l → IsPair p (slice_index_or cs l d)
-  end_at p [] l d is = elim is [ ]
-  end_at p (c ∷ cs) zero d is = is
-  end_at p (c ∷ cs) (suc l) d is = end_at p cs l d is
+pub end_at : (p : Sending) (cs : List Receiving) (l : ℕ) (d : Receiving) → IsEndOf p cs l → IsPair p (slice_index_or cs l d)
+end_at p [] l d is = elim is [ ]
+end_at p (c ∷ cs) zero d is = is
+end_at p (c ∷ cs) (suc l) d is = end_at p cs l d is
 
-  pub end_below : (p : Producer Record A P) (cs : List (Consumer Record A P)) (l : ℕ) → IsEndOf p cs l → l < length cs
-  end_below p [] l is = elim is [ ]
-  end_below p (c ∷ cs) zero is = omega arith
-  end_below p (c ∷ cs) (suc l) is = omega (arith, end_below p cs l is)
+pub end_below : (p : Sending) (cs : List Receiving) (l : ℕ) → IsEndOf p cs l → l < length cs
+end_below p [] l is = elim is [ ]
+end_below p (c ∷ cs) zero is = omega arith
+end_below p (c ∷ cs) (suc l) is = omega (arith, end_below p cs l is)
 
-  -- one more has met
-  pub met_more : (s : Setting) (r0 r1 : List (Consumer Record A P)) (parts : List Part) (capacity : ℕ) (x : Part) → HaveMet s r0 parts capacity → Looks r0 r1 →
-      ((l : ℕ) → x.lane ≢ l → known_of r1 l ≡ known_of r0 l) → received_of r1 x.lane ++ known_of r1 x.lane ≡ sent_of s x.events → ((y : Part) → Among parts y → y.lane ≢ x.lane) →
-      KeepsLimits x.place capacity (own_log s x.events) → HoldsNothing s x.events → HaveMet s r1 (x ∷ parts) capacity
-  met_more s r0 r1 parts capacity x met looks others fifo fresh limits free = record {
-    whole = λ y among. ⊎_elim
-        (λ (t : x ≡ y). subst (λ z. received_of r1 z.lane ++ known_of r1 z.lane ≡ sent_of s z.events) t fifo)
-        (λ (t : Among parts y).
-        let other : x.lane ≢ y.lane = λ e. fresh y t (sym e) in
-        ap (λ (xs : List Record). xs ++ known_of r1 y.lane) (looks.received y.lane) ∙ ap (λ (xs : List Record). received_of r0 y.lane ++ xs) (others y.lane other) ∙ met.whole y t) among;
-    limits = λ y among. ⊎_elim (λ (t : x ≡ y). subst (λ z. KeepsLimits z.place capacity (own_log s z.events)) t limits) (λ (t : Among parts y). met.limits y t) among;
-    free = λ y among. ⊎_elim (λ (t : x ≡ y). subst (λ z. HoldsNothing s z.events) t free) (λ (t : Among parts y). met.free y t) among;
-  }
+-- one more has met
+pub met_more : (s : Setting) (r0 r1 : List Receiving) (parts : List Part) (capacity : ℕ) (x : Part) → HaveMet s r0 parts capacity → Looks r0 r1 →
+    ((l : ℕ) → x.lane ≢ l → known_of r1 l ≡ known_of r0 l) → received_of r1 x.lane ++ known_of r1 x.lane ≡ sent_of s x.events → ((y : Part) → Among parts y → y.lane ≢ x.lane) →
+    KeepsLimits x.place capacity (own_log s x.events) → HoldsNothing s x.events → HaveMet s r1 (x ∷ parts) capacity
+met_more s r0 r1 parts capacity x met looks others fifo fresh limits free = record {
+  whole = λ y among. ⊎_elim
+      (λ (t : x ≡ y). subst (λ z. received_of r1 z.lane ++ known_of r1 z.lane ≡ sent_of s z.events) t fifo)
+      (λ (t : Among parts y).
+      let other : x.lane ≢ y.lane = λ e. fresh y t (sym e) in
+      ap (λ (xs : List Record). xs ++ known_of r1 y.lane) (looks.received y.lane) ∙ ap (λ (xs : List Record). received_of r0 y.lane ++ xs) (others y.lane other) ∙ met.whole y t) among;
+  limits = λ y among. ⊎_elim (λ (t : x ≡ y). subst (λ z. KeepsLimits z.place capacity (own_log s z.events)) t limits) (λ (t : Among parts y). met.limits y t) among;
+  free = λ y among. ⊎_elim (λ (t : x ≡ y). subst (λ z. HoldsNothing s z.events) t free) (λ (t : Among parts y). met.free y t) among;
+}
 
-  pub met_none : (s : Setting) (r : List (Consumer Record A P)) (capacity : ℕ) → HaveMet s r [] capacity
-  met_none s r capacity = record { whole = λ y among. elim among [ ]; limits = λ y among. elim among [ ]; free = λ y among. elim among [ ] }
+pub met_none : (s : Setting) (r : List Receiving) (capacity : ℕ) → HaveMet s r [] capacity
+met_none s r capacity = record { whole = λ y among. elim among [ ]; limits = λ y among. elim among [ ]; free = λ y among. elim among [ ] }
 
 module _ (h : Home) (capacity : ℕ) where
   pub are_same : (r0 r1 : Rings) (es : List Ended) → SameRings r0 r1 → AreEnded h capacity r0 es → AreEnded h capacity r1 es

@@ -1,10 +1,14 @@
 pub mod Progress
 pub mod Refusing
+pub mod Seeing
 pub mod RingMoves
 pub mod Advancing
 pub mod Homes
 pub mod Trims
+pub mod Looking
+pub mod Noting
 pub mod Rounds
+pub mod HeardRings
 pub mod Closing
 pub mod Drained
 pub mod Gathering

@@ -2,9 +2,7 @@
 use Rattle.std.proofs.Common.{ℕ, zero, suc, ◌≡◌, ◌≢◌, ◌≤◌, ◌==◌, if◌then◌else◌, Bool, true, false, List, [], ◌∷◌, ◌++◌, length, replicate, Result, Ok, Err, IfOk, OnErr, IsErrOf, Option, None, refl, sym, ap, ◌∙◌, subst, inl, inr, arith}
 use Rattle.std.proofs.lemmas.Bool.Decides.{eqb_tells}
 use Rattle.std.proofs.lemmas.List.{append_assoc}
-use Rattle.std.specs.Global.{Global}
-use Rattle.rtrb.specs.declared.AnyItems.{AnyItems}
-use Rattle.rtrb.specs.declared.consumer.Consumer.{Consumer}
+use Rattle.lane_rings.specs.Rings.{Receiving}
 use Rattle.heap_model.specs.declared.record.Record.{Record}
 use Rattle.heap_model.specs.Setting.{Setting}
 use Rattle.block_disk.specs.Device.{Device, HasCause}
@@ -19,13 +17,13 @@ use Rattle.durable.specs.Runs.{HasRun, IsLeftBy}
 use Rattle.durable.specs.Store as stores
 use Rattle.durable.specs.Store.{Known, HasPast}
 use Rattle.durable.proofs.Running.{left_always, ran_applied, ran_less, ran_none, ran_then}
-use Rattle.heap_model.specs.declared.limits.TheConstants.{RING_RECORDS}
 use Rattle.trim_helper.specs.Calls.{AreStuck, Drains, HasGoneOn, Rounds}
-use Rattle.trim_helper.specs.Draining.{Drained, DrainsRings, Empties}
+use Rattle.trim_helper.specs.Draining.{DrainsRings}
+use Rattle.trim_helper.specs.declared.draining.TheConstants.{LOOKS}
 use Rattle.trim_helper.specs.Helping.{HasPublished, IsHelper, IsPublished, count_published, place_published, taken_in}
 use Rattle.trim_helper.specs.Parts.{HasDrained, IsServing, IsWhole, Parts, taking_of}
 use Rattle.trim_helper.specs.Rings.{received_of, known_of, held_back, waiting_in, stream}
-use Rattle.trim_helper.specs.Moves.{Looks, SameRings, most_room}
+use Rattle.trim_helper.specs.Moves.{SameRings}
 use Rattle.trim_helper.specs.Taken.{Taking, HasTaken, Advances, AllStuck, applied_more, trimmed_of}
 use Rattle.trim_helper.specs.Settled.{HasSame, IsSettled, RefusesRound, SettlesAndTrimsApplied}
 use Rattle.heap_model.specs.Log.{IsLegal}
@@ -33,7 +31,9 @@ use Rattle.trim_helper.specs.Closed.{AreSent, Stood}
 use Rattle.trim_helper.specs.declared.ended.Ended.{Ended}
 use Rattle.trim_helper.specs.Endings.{HoldNone, IsComplete}
 use Rattle.trim_helper.proofs.Homes.{err_same}
-use Rattle.trim_helper.proofs.RingMoves.{same_then, taken_most}
+use Rattle.trim_helper.specs.Seen.{SeesFrom}
+use Rattle.trim_helper.proofs.Noting.{noted_same}
+use Rattle.trim_helper.proofs.Seeing.{sees_kept}
 
 pub chosen : (i k a b : ℕ) {r : ℕ} → i ≡ k → r ≡ (if i == k then a else b) → r ≡ a
 chosen i k a b same e = elim (eqb_tells i k) [
@@ -66,11 +66,11 @@ pub settled_then : (l m : Layout) (s : Setting) (p q : Past) (d e f : Device) (n
 settled_then l m s p q d e f newer failed runs same is layout on = subst (λ (b : Bool). HasRun m s p d q f b) runs (applied_then l m s p q d e f newer failed same is layout on)
 
 -- of each lane, what its rings have is what was applied of it, and more
-abbrev pub Follows : {A P : Type 0} → List (Consumer Record A P) → List (ℕ × Record) → Type 0
+abbrev pub Follows : List Receiving → List (ℕ × Record) → Type 0
 Follows rings log = (l : ℕ) → (later : List Record) × (received_of rings l ++ known_of rings l ≡ stream l log ++ later)
 
 -- a helper by its parts
-abbrev pub parts_from : {D : Type 0} → stores.Parts D → List (Consumer Record Global AnyItems) → List (Option Record) → Bool → Helping → Parts D
+abbrev pub parts_from : {D : Type 0} → stores.Parts D → List Receiving → List (Option Record) → Bool → Helping → Parts D
 parts_from store rings waiting is_settled seat = record { store = store; rings = rings; waiting = waiting; is_settled = is_settled; seat = seat }
 
 -- So many records were applied after those of the past, and the helper goes on: what was acknowledged and what was trimmed stay so. Whatever
@@ -86,20 +86,11 @@ pub record Served {D : Type 0} (device : D → Device) (before : Device) (y : Pa
   pub ran : HasRun y.store.known.layout s p before now (device y.store.disk) y.store.known.has_failed
 
 module _ {D : Type 0} (device : D → Device) where
-  pub looks_taken : (x : Taking D) (seen : List (Consumer Record Global AnyItems)) (s : Setting) (p : Past) → Looks x.rings seen → HasTaken device x s p → HasTaken device (record x { rings = seen }) s p
-  looks_taken x seen s p looks was = record { has = was.has; taken = λ l. looks.received l ∙ was.taken l }
-
-  pub drained_taken : (x y : Taking D) (n : ℕ) (s : Setting) (p : Past) → Drained device x y n → HasTaken device x s p → (newer : List (ℕ × Record)) × (length newer ≡ n) × HasTaken device y s (applied_more newer p)
-  drained_taken x y n s p drained was = drained.advances.made s p (looks_taken x drained.seen s p drained.looks was)
-
-  pub drained_same : (x y : Taking D) (n : ℕ) → Drained device x y n → SameRings x.rings y.rings
-  drained_same x y n drained = same_then x.rings drained.seen y.rings drained.looks.same drained.advances.same
-
   -- a drain that keeps the seat
   abbrev pub drained_serves : (x y : Parts D) (n : ℕ) (s : Setting) (p : Past) → HasDrained device x y n → y.seat ≡ x.seat → (y.is_settled ≡ true → (x.is_settled ≡ true) × (n ≡ 0)) → IsServing device x s p → Served device (device x.store.disk) y s p n
   drained_serves x y n s p drained seat quiet was =
-      let now = drained_taken (taking_of x) (taking_of y) n s p drained was.taken in
-      let lanes : y.store.known.layout.lanes ≡ x.store.known.layout.lanes = ap (λ l. l.lanes) drained.advances.layout in
+      let now = drained.made s p was.taken in
+      let lanes : y.store.known.layout.lanes ≡ x.store.known.layout.lanes = ap (λ l. l.lanes) drained.layout in
       record {
         newer = now.0;
         long = now.1;
@@ -111,12 +102,12 @@ module _ {D : Type 0} (device : D → Device) where
           taken = now.2;
           counts = λ l lt. subst (λ k. count_published k l ≤ p.cut l) (sym seat) (was.counts l (omega arith));
           places = λ l lt. subst (λ k. place_published k l ≤ trimmed_of p l) (sym seat) (was.places l (omega arith));
-          running = λ is. drained.advances.running ∙ was.running (quiet is).0;
+          running = λ is. drained.running ∙ was.running (quiet is).0;
           settled = λ is. let q = quiet is in subst (λ xs. IsSettled s (applied_more xs p)) (sym (none_of now.0 (now.1 ∙ q.1))) (was.settled q.0);
           trimmed = λ is. was.trimmed (quiet is).0;
           published = λ is l lt. subst (λ k. (count_published k l ≡ p.cut l) × (place_published k l ≡ trimmed_of p l)) (sym seat) (was.published (quiet is).0 l (omega arith));
         };
-        ran = applied_ran y.store.known.layout s p (device x.store.disk) (device y.store.disk) now.0 y.store.known.has_failed drained.advances.uncalled now.2.has.past;
+        ran = applied_ran y.store.known.layout s p (device x.store.disk) (device y.store.disk) now.0 y.store.known.has_failed drained.uncalled now.2.has.past;
       }
 
   -- the store goes on with the same records
@@ -154,28 +145,33 @@ module _ {D : Type 0} (device : D → Device) where
   }
 
   -- each lane has its ring still
-  pub whole_still : (x z : Parts D) (whole : IsWhole device x) → SameRings x.rings z.rings → z.store.known.layout ≡ x.store.known.layout → (q : Past) → IsServing device z whole.setting q → IsWhole device z
-  whole_still x z whole same layout q serving =
+  pub whole_still : (x z : Parts D) (whole : IsWhole device x) → SameRings x.rings z.rings → SeesFrom z.seat 0 z.rings → z.store.known.layout ≡ x.store.known.layout → (q : Past) → IsServing device z whole.setting q → IsWhole device z
+  whole_still x z whole same sees layout q serving =
       let lanes : z.store.known.layout.lanes ≡ x.store.known.layout.lanes = ap (λ l. l.lanes) layout in
       record {
         lanes = omega (arith, same.count, whole.lanes);
         few = omega (arith, same.count, whole.few);
         rooms = omega (arith, same.rooms, whole.rooms);
+        sees = sees;
         setting = whole.setting;
         past = q;
         serving = serving;
       }
 
+  -- a drain keeps the seat
+  pub seat_sees : (x z : Parts D) (n : ℕ) → HasDrained device x z n → z.seat ≡ x.seat → SeesFrom x.seat 0 x.rings → SeesFrom z.seat 0 z.rings
+  seat_sees x z n drained seat sees = subst (λ (h : Helping). SeesFrom h 0 z.rings) (sym seat) (sees_kept x.seat 0 x.rings z.rings drained.told sees)
+
   -- whatever a drain answered
   pub whole_drained : (x z : Parts D) (answer : Result ℕ StoreError) → IsWhole device x → Drains device x z answer → IsWhole device z
   whole_drained x z (Ok n) whole drains =
       let was = drained_serves x z n whole.setting whole.past drains.rings.ok drains.seat drains.settled whole.serving in
-      whole_still x z whole (drained_same (taking_of x) (taking_of z) n drains.rings.ok) drains.layout was.now was.serves
+      whole_still x z whole drains.rings.ok.same (seat_sees x z n drains.rings.ok drains.seat whole.sees) drains.layout was.now was.serves
   whole_drained x z (Err e) whole drains =
       let kept = drains.rings.kept in
       let off : z.is_settled ≡ false = drains.unsettled in
       let was = drained_serves x z kept.0 whole.setting whole.past kept.1 drains.seat (λ is. absurd (let no : false ≡ true = sym off ∙ is in cc)) whole.serving in
-      whole_still x z whole (drained_same (taking_of x) (taking_of z) kept.0 kept.1) drains.layout was.now was.serves
+      whole_still x z whole kept.1.same (seat_sees x z kept.0 kept.1 drains.seat whole.sees) drains.layout was.now was.serves
 
   pub taken_follows : (x : Taking D) (s : Setting) (p : Past) → HasTaken device x s p → Follows x.rings (applied p)
   taken_follows x s p was = λ l.
@@ -213,33 +209,10 @@ module _ {D : Type 0} (device : D → Device) where
     published = λ is l lt. absurd (let no : false ≡ true = sym unsettled ∙ is in cc);
   }
 
-  drained_by : (x y : Taking D) (seen : List (Consumer Record Global AnyItems)) (n : ℕ) → most_room x.rings ≤ RING_RECORDS → Looks x.rings seen → Advances device (record x { rings = seen }) y n → Drained device x y n
-  drained_by x y seen n have looks on = record {
-    seen = seen;
-    looks = looks;
-    advances = on;
-    most = λ l.
-        let e : length (received_of seen l) ≡ length (received_of x.rings l) = ap (λ (xs : List Record). length xs) (looks.received l) in
-        omega (arith, e, taken_most seen y.rings RING_RECORDS l (omega (arith, looks.same.rooms)) (on.whole l));
-  }
-
-  -- the rings were looked at, and then emptied
-  pub looks_drains : (x y : Taking D) (seen : List (Consumer Record Global AnyItems)) (answer : Result ℕ StoreError) → most_room x.rings ≤ RING_RECORDS → Looks x.rings seen → Empties device (record x { rings = seen }) y answer →
-      DrainsRings device x y answer
-  looks_drains x y seen (Ok n) have looks on = record { ok = drained_by x y seen n have looks on.takes.ok; kept = tt; stuck = on.stuck; whole = on.whole; failed = tt; why = λ s p taken. tt }
-  looks_drains x y seen (Err e) have looks on = record {
-    ok = tt;
-    kept = (on.takes.kept.0, drained_by x y seen on.takes.kept.0 have looks on.takes.kept.1);
-    stuck = tt;
-    whole = tt;
-    failed = on.takes.failed;
-    why = λ s p taken. on.takes.why s p (looks_taken x seen s p looks taken);
-  }
-
   -- a helper's drain, by its rings'
-  pub helper_drains : (x : Parts D) (y : Taking D) (b : Bool) (answer : Result ℕ StoreError) → IsWhole device x → DrainsRings device (taking_of x) y answer → IfOk answer (λ n. b ≡ true → (x.is_settled ≡ true) × (n ≡ 0)) →
+  pub helper_drains : (x : Parts D) (y : Taking D) (b : Bool) (answer : Result ℕ StoreError) → IsWhole device x → DrainsRings device LOOKS (taking_of x) y answer → IfOk answer (λ n. b ≡ true → (x.is_settled ≡ true) × (n ≡ 0)) →
       IfOk answer (λ n. n ≡ 0 → x.is_settled ≡ true → b ≡ true) → OnErr answer (b ≡ false) → Drains device x (parts_from y.store y.rings y.waiting b x.seat) answer
-  helper_drains x y b (Ok n) whole drains settled stays off = record { rings = drains; failed = tt; settled = settled; stays = stays; unsettled = tt; seat = refl; layout = drains.ok.advances.layout }
+  helper_drains x y b (Ok n) whole drains settled stays off = record { rings = drains; failed = tt; settled = settled; stays = stays; unsettled = tt; seat = refl; layout = drains.ok.layout }
   helper_drains x y b (Err e) whole drains settled stays off = record {
     rings = drains;
     failed = (drains.failed, drains.why whole.setting whole.past whole.serving.taken);
@@ -247,15 +220,15 @@ module _ {D : Type 0} (device : D → Device) where
     stays = tt;
     unsettled = off;
     seat = refl;
-    layout = drains.kept.1.advances.layout;
+    layout = drains.kept.1.layout;
   }
 
   -- no lane goes on after the drain
   pub stuck_drained : (x z : Parts D) (n : ℕ) (s : Setting) (q : Past) → HasDrained device x z n → HasPast z.store.known s q (device z.store.disk) → AllStuck device (taking_of z) → AreStuck x.store.known.layout (device x.store.disk) z.rings z.waiting s q
   stuck_drained x z n s q drained has stuck = record {
     known = z.store.known;
-    layout = drained.advances.layout;
-    has = subst (λ (k : Device). HasPast z.store.known s q k) drained.advances.uncalled has;
+    layout = drained.layout;
+    has = subst (λ (k : Device). HasPast z.store.known s q k) drained.uncalled has;
     stuck = λ l lt. stuck l lt s q has;
   }
 
@@ -302,8 +275,8 @@ pub goes_drained : {D : Type 0} (h : Home) (x z : Parts D) → IsHelper h x.seat
 goes_drained h x z of seat rings layout = record { seat = subst (λ k. IsHelper h k) (sym seat) of; taken = ap (λ k. taken_in k) seat; rings = rings; layout = layout }
 
 pub goes_on_drained : {D : Type 0} (device : D → Device) (h : Home) (x z : Parts D) (answer : Result ℕ StoreError) → IsHelper h x.seat → Drains device x z answer → HasGoneOn h x z
-goes_on_drained device h x z (Ok n) of drains = goes_drained h x z of drains.seat (drained_same device (taking_of x) (taking_of z) n drains.rings.ok) drains.layout
-goes_on_drained device h x z (Err e) of drains = goes_drained h x z of drains.seat (drained_same device (taking_of x) (taking_of z) drains.rings.kept.0 drains.rings.kept.1) drains.layout
+goes_on_drained device h x z (Ok n) of drains = goes_drained h x z of drains.seat drains.rings.ok.same drains.layout
+goes_on_drained device h x z (Err e) of drains = goes_drained h x z of drains.seat drains.rings.kept.1.same drains.layout
 
 -- A round, from the drain on.
 module _ {D : Type 0} (device : D → Device) (s : Setting) (p : Past) (x : Parts D) (serving : IsServing device x s p) (z : Parts D) where
@@ -315,7 +288,7 @@ module _ {D : Type 0} (device : D → Device) (s : Setting) (p : Past) (x : Part
       let off : x.store.known.has_failed ≡ true = drains.failed.1 in
       let unsettled : z.is_settled ≡ false = drains.unsettled in
       let was = drained_serves device x z kept.0 s p kept.1 drains.seat (λ settled. absurd (let no : false ≡ true = sym unsettled ∙ settled in cc)) serving in
-      let same_failures : (device z.store.disk).failures ≡ (device x.store.disk).failures = ap (λ (d : Device). d.failures) kept.1.advances.uncalled in
+      let same_failures : (device z.store.disk).failures ≡ (device x.store.disk).failures = ap (λ (d : Device). d.failures) kept.1.uncalled in
       record {
         newer = was.newer;
         count = tt;
@@ -331,9 +304,9 @@ module _ {D : Type 0} (device : D → Device) (s : Setting) (p : Past) (x : Part
         left = tt;
         quiet = λ settled none. absurd (let no : false ≡ true = sym (serving.running settled) ∙ off in cc);
         failed = λ was_off. ap Err is;
-        refused = subst (λ k. RefusesRound x.store.known z.store.known k) (sym is) (off, kept.1.advances.running ∙ off);
+        refused = subst (λ k. RefusesRound x.store.known z.store.known k) (sym is) (off, kept.1.running ∙ off);
         unsettled = unsettled;
-        unpublished = drains.seat;
+        unpublished = noted_same x.seat z.seat drains.seat;
         cause = no_fault_of _ _ _ (omega (arith, same_failures)) (λ fault. absurd (let no : Failed ≡ Fault = sym is ∙ err_same (refusal e) e Fault refl fault in cc));
       }
 
@@ -343,7 +316,7 @@ module _ {D : Type 0} (device : D → Device) (s : Setting) (p : Past) (x : Part
     drained = drained_serves device x z n s p drains.rings.ok drains.seat drains.settled serving
 
     same_failures : (device z.store.disk).failures ≡ (device x.store.disk).failures
-    same_failures = ap (λ (d : Device). d.failures) drains.rings.ok.advances.uncalled
+    same_failures = ap (λ (d : Device). d.failures) drains.rings.ok.uncalled
 
     stuck_now : AreStuck x.store.known.layout (device x.store.disk) z.rings z.waiting s drained.now
     stuck_now = stuck_drained device x z n s drained.now drains.rings.ok drained.serves.taken.has drains.rings.stuck
@@ -352,7 +325,7 @@ module _ {D : Type 0} (device : D → Device) (s : Setting) (p : Past) (x : Part
     pub rounds_quiet : z.is_settled ≡ true → Rounds device s p x z (Ok n)
     rounds_quiet settled =
         let was_so = drains.settled settled in
-        let runs = drains.rings.ok.advances.running ∙ serving.running was_so.0 in
+        let runs = drains.rings.ok.running ∙ serving.running was_so.0 in
         record {
           newer = drained.newer;
           count = drained.long;
@@ -366,7 +339,7 @@ module _ {D : Type 0} (device : D → Device) (s : Setting) (p : Past) (x : Part
           serves = drained.serves;
           settled = settled;
           left = left_by z.store.known (device z.store.disk) s drained.now drained.serves.taken.has runs;
-          quiet = λ is empty. (ap Ok was_so.1, drains.rings.ok.advances.uncalled);
+          quiet = λ is empty. (ap Ok was_so.1, drains.rings.ok.uncalled);
           failed = λ off. absurd (let no : false ≡ true = sym (serving.running was_so.0) ∙ off in cc);
           refused = tt;
           unsettled = tt;
@@ -377,7 +350,7 @@ module _ {D : Type 0} (device : D → Device) (s : Setting) (p : Past) (x : Part
     -- what was drained is made durable, where something is to be
     module _ (w : stores.Parts D) (unsettled : z.is_settled ≡ false) (layout : w.known.layout ≡ z.store.known.layout) where
       ran_to : (q : Past) → HasRun w.known.layout s drained.now (device z.store.disk) q (device w.disk) w.known.has_failed → HasRun w.known.layout s p (device x.store.disk) q (device w.disk) w.known.has_failed
-      ran_to q on = applied_then _ _ s p q _ _ _ drained.newer _ drains.rings.ok.advances.uncalled drained.serves.taken.has.past layout on
+      ran_to q on = applied_then _ _ s p q _ _ _ drained.newer _ drains.rings.ok.uncalled drained.serves.taken.has.past layout on
 
       never_quiet : {T : Type 0} → x.is_settled ≡ true → drained.newer ≡ [] → T
       never_quiet is empty =
@@ -402,10 +375,10 @@ module _ {D : Type 0} (device : D → Device) (s : Setting) (p : Past) (x : Part
             settled = tt;
             left = tt;
             quiet = λ is empty. never_quiet is empty;
-            failed = λ off. ap Err (err_same (Err e) e Failed refl (told.failed (drains.rings.ok.advances.running ∙ off)));
-            refused = refused_moved x.store.known z.store.known w.known e drains.rings.ok.advances.running told.refused;
+            failed = λ off. ap Err (err_same (Err e) e Failed refl (told.failed (drains.rings.ok.running ∙ off)));
+            refused = refused_moved x.store.known z.store.known w.known e drains.rings.ok.running told.refused;
             unsettled = unsettled;
-            unpublished = drains.seat;
+            unpublished = noted_same x.seat z.seat drains.seat;
             cause = cause_since _ _ _ Fault (refusal e) (omega (arith, same_failures)) cause;
           }
 
@@ -429,7 +402,7 @@ module _ {D : Type 0} (device : D → Device) (s : Setting) (p : Past) (x : Part
             settled = refl;
             left = left_by w.known (device w.disk) s h.now h.has runs;
             quiet = λ is empty. never_quiet is empty;
-            failed = λ off. absurd (let no = told.failed (drains.rings.ok.advances.running ∙ off) in cc);
+            failed = λ off. absurd (let no = told.failed (drains.rings.ok.running ∙ off) in cc);
             refused = tt;
             unsettled = tt;
             unpublished = tt;

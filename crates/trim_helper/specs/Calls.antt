@@ -1,6 +1,6 @@
 -- What each call of a helper makes of it, as one relation a call (this project's own).
-use Rattle.std.specs.Prelude.{ℕ, ◌≡◌, ◌+◌, ◌<◌, ◌≤◌, ◌++◌, true, false, List, [], Option, Result, Ok, length, IfOk, IfErr, OnOk, OnErr, IsErrOf, IsErrAnd, MatchResult}
-use Rattle.rtrb.specs.declared.consumer.Consumer.{Consumer}
+use Rattle.std.specs.Prelude.{ℕ, ◌≡◌, ◌+◌, ◌*◌, ◌<◌, ◌≤◌, ◌++◌, true, false, List, [], Option, Result, Ok, length, IfOk, IfErr, OnOk, OnErr, IsErrOf, IsErrAnd, MatchResult}
+use Rattle.lane_rings.specs.Rings.{Receiving}
 use Rattle.heap_model.specs.declared.limits.TheConstants.{RING_RECORDS}
 use Rattle.heap_model.specs.declared.record.Record.{Record}
 use Rattle.heap_model.specs.Setting.{Setting}
@@ -17,12 +17,14 @@ use Rattle.monitor.specs.Words.{setting_of}
 use Rattle.trim_helper.specs.Closed.{HasSpelled, IsClosedDown, Stood, disk_of}
 use Rattle.trim_helper.specs.Draining.{DrainsRings}
 use Rattle.trim_helper.specs.Endings.{HoldNone, IsCloseStop, IsCloseWhy, IsComplete, IsOfSessions, RefusesClosing, parts_of}
+use Rattle.trim_helper.specs.Hearing.{IsNoted}
 use Rattle.trim_helper.specs.Helping.{IsBehind, IsHelper, taken_in}
 use Rattle.trim_helper.specs.Moves.{SameRings}
 use Rattle.trim_helper.specs.Parts.{Parts, IsServing, taking_of}
 use Rattle.trim_helper.specs.Rings.{received_of}
 use Rattle.trim_helper.specs.Settled.{RefusesRound}
 use Rattle.trim_helper.specs.Taken.{Taking, HasTaken, IsLaneStuck, applied_more, trimmed_of}
+use Rattle.trim_helper.specs.declared.draining.TheConstants.{LOOKS}
 use Rattle.trim_helper.specs.declared.close_error.CloseError.{CloseError}
 use Rattle.trim_helper.specs.declared.close_error.CloseError.TheVariants as close
 use Rattle.trim_helper.specs.declared.ended.Ended.{Ended}
@@ -36,17 +38,17 @@ pub record HasGoneOn {D : Type 0} (h : Home) (x y : Parts D) : Type 0 where
 
 -- No lane goes on, where a store of this layout has this past on this device: the record that waits isn't next, or none waits and none
 -- is known to be in the ring.
-pub record AreStuck {A P : Type 0} (l : Layout) (d : Device) (rings : List (Consumer Record A P)) (waiting : List (Option Record)) (s : Setting) (p : Past) : Type 0 where
+pub record AreStuck (l : Layout) (d : Device) (rings : List Receiving) (waiting : List (Option Record)) (s : Setting) (p : Past) : Type 0 where
   pub known : Known
   pub layout : known.layout ≡ l
   pub has : HasPast known s p d
   pub stuck : (lane : ℕ) → lane < length rings → IsLaneStuck known rings waiting s p lane
 
 module _ {D : Type 0} (device : D → Device) where
-  -- A drain, in memory alone: the rings are looked at, and each lane goes on as far as it can. It is refused only where the store had
-  -- failed, and what was applied before stands.
+  -- A drain, in memory alone: the rings are looked at, a few times at most, and each time each lane goes on as far as it can. It is refused
+  -- only where the store had failed, and what was applied before stands.
   pub record Drains (x y : Parts D) (answer : Result ℕ StoreError) : Type 0 where
-    pub rings : DrainsRings device (taking_of x) (taking_of y) answer
+    pub rings : DrainsRings device LOOKS (taking_of x) (taking_of y) answer
     pub failed : IfErr answer (λ e. (e ≡ Failed) × (x.store.known.has_failed ≡ true))
     -- all stays settled where it was and nothing came, and nowhere else
     pub settled : IfOk answer (λ n. y.is_settled ≡ true → (x.is_settled ≡ true) × (n ≡ 0))
@@ -59,10 +61,10 @@ module _ {D : Type 0} (device : D → Device) where
   -- acknowledge its stable cut and trim that, and both are published. Whatever a crash leaves meanwhile shows what some of these calls
   -- make of the past, so that recovery takes it, with the stable cut only where a settling was running.
   pub record Rounds (s : Setting) (p : Past) (x y : Parts D) (answer : Result ℕ StoreError) : Type 0 where
-    -- these records were applied, the newest first, at most a ring's of each lane, and it answers how many
+    -- these records were applied, the newest first, at most a ring's a look of each lane, and it answers how many
     pub newer : List (ℕ × Record)
     pub count : IfOk answer (λ n. length newer ≡ n)
-    pub most : (l : ℕ) → length (received_of y.rings l) ≤ length (received_of x.rings l) + RING_RECORDS
+    pub most : (l : ℕ) → length (received_of y.rings l) ≤ length (received_of x.rings l) + LOOKS * RING_RECORDS
     -- whatever it answers, none was left that could be
     pub stuck : x.store.known.has_failed ≡ false → AreStuck x.store.known.layout (device x.store.disk) y.rings y.waiting s (applied_more newer p)
     -- the past since, which the helper serves: what was acknowledged and what was trimmed stays so
@@ -77,11 +79,11 @@ module _ {D : Type 0} (device : D → Device) where
     pub left : OnOk answer (Always (device y.store.disk) (IsLeftBy y.store.known.layout s now))
     -- where all was settled and nothing new came, the device isn't called, and nothing is refused
     pub quiet : x.is_settled ≡ true → newer ≡ [] → (answer ≡ Ok 0) × (device y.store.disk ≡ device x.store.disk)
-    -- a refusal has its cause, and publishes nothing
+    -- a refusal has its cause, publishes nothing and takes nobody in
     pub failed : x.store.known.has_failed ≡ true → IsErrOf answer Failed
     pub refused : IfErr answer (RefusesRound x.store.known y.store.known)
     pub unsettled : OnErr answer (y.is_settled ≡ false)
-    pub unpublished : OnErr answer (y.seat ≡ x.seat)
+    pub unpublished : OnErr answer (IsNoted x.seat y.seat)
     pub cause : HasCause (device x.store.disk).failures (device y.store.disk).failures Fault answer
 
   -- Sessions that have ended meet a helper that serves this past, and the device is given back. Once none of them stops it, what they sent

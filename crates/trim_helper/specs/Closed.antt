@@ -1,6 +1,6 @@
 -- What stands once both ends have met.
 use Rattle.std.specs.Prelude.{ℕ, ◌≡◌, ◌<◌, ◌≤◌, ◌++◌, true, false, List, All, Result, Ok, Err}
-use Rattle.rtrb.specs.Ring.{sent}
+use Rattle.lane_rings.specs.Rings.{sent}
 use Rattle.heap_model.specs.declared.event.Event.{Event}
 use Rattle.heap_model.specs.Setting.{Setting}
 use Rattle.heap_model.specs.History.{state_after, log_of}

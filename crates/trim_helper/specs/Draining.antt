@@ -1,8 +1,5 @@
 -- How rings are drained: each function's call as one relation (this project's own).
-use Rattle.std.specs.Prelude.{ℕ, ◌≡◌, ◌≢◌, ◌+◌, ◌≤◌, if◌then◌else◌, Bool, true, false, List, length, Result, Ok, Err, IfOk, IfErr, OnOk, OnErr}
-use Rattle.std.specs.Global.{Global}
-use Rattle.rtrb.specs.declared.AnyItems.{AnyItems}
-use Rattle.rtrb.specs.declared.consumer.Consumer.{Consumer}
+use Rattle.std.specs.Prelude.{ℕ, ◌≡◌, ◌≢◌, ◌+◌, ◌*◌, ◌≤◌, if◌then◌else◌, Bool, true, false, List, ◌++◌, length, Result, Ok, Err, IfOk, IfErr, OnOk, OnErr}
 use Rattle.heap_model.specs.declared.event.Event.{Event}
 use Rattle.heap_model.specs.declared.limits.TheConstants.{RING_RECORDS}
 use Rattle.heap_model.specs.declared.record.Record.{Record}
@@ -13,10 +10,11 @@ use Rattle.block_disk.specs.Device.{Device}
 use Rattle.store_past.specs.Past.{Past, applied}
 use Rattle.store_past.specs.declared.error.StoreError.{StoreError}
 use Rattle.store_past.specs.declared.error.StoreError.TheVariants.{Failed}
-use Rattle.trim_helper.specs.Moves.{Looks}
-use Rattle.trim_helper.specs.Rings.{received_of}
+use Rattle.trim_helper.specs.Moves.{SameRings}
+use Rattle.trim_helper.specs.Rings.{received_of, known_of}
+use Rattle.trim_helper.specs.Seen.{KeepsTold}
 use Rattle.trim_helper.specs.Serving.{HoldHistory}
-use Rattle.trim_helper.specs.Taken.{Taking, HasTaken, Advances, IsLaneStuck, IsStuckAt, AllStuck}
+use Rattle.trim_helper.specs.Taken.{Taking, HasTaken, Advances, IsLaneStuck, IsStuckAt, AllStuck, applied_more}
 
 -- how many records went, where it answers whether one did
 abbrev pub counted : Result Bool StoreError → Result ℕ StoreError
@@ -63,17 +61,26 @@ module _ {D : Type 0} (device : D → Device) where
     pub stuck : OnOk answer (AllStuck device y)
     pub whole : OnOk answer (HasAll y)
 
-  -- So many records were applied of what the rings held when they were looked at: of each lane at most a ring's.
-  pub record Drained (x y : Taking D) (n : ℕ) : Type 0 where
-    pub seen : List (Consumer Record Global AnyItems)
-    pub looks : Looks x.rings seen
-    pub advances : Advances device (record x { rings = seen }) y n
-    pub most : (l : ℕ) → length (received_of y.rings l) ≤ length (received_of x.rings l) + RING_RECORDS
+  -- So many records were applied of what the rings held in so many looks at them: of each lane at most a ring's a look.
+  pub record Drained (looks : ℕ) (x y : Taking D) (n : ℕ) : Type 0 where
+    pub made : (s : Setting) (p : Past) → HasTaken device x s p → (newer : List (ℕ × Record)) × (length newer ≡ n) × HasTaken device y s (applied_more newer p)
+    -- more may be known of the rings, and what was known before is in its place
+    pub whole : (l : ℕ) → (more : List Record) × (received_of y.rings l ++ known_of y.rings l ≡ (received_of x.rings l ++ known_of x.rings l) ++ more)
+    pub most : (l : ℕ) → length (received_of y.rings l) ≤ length (received_of x.rings l) + looks * RING_RECORDS
+    -- a ring's a look, and the one that waits, of each of 32 lanes
+    pub few : n ≤ looks * (32 * (RING_RECORDS + 1))
+    pub same : SameRings x.rings y.rings
+    pub told : KeepsTold x.rings y.rings
+    pub slots : length y.waiting ≡ length x.waiting
+    pub layout : y.store.known.layout ≡ x.store.known.layout
+    pub running : y.store.known.has_failed ≡ x.store.known.has_failed
+    -- the device wasn't called
+    pub uncalled : device y.store.disk ≡ device x.store.disk
 
-  -- The rings are looked at, and then the lanes go on until none can.
-  pub record DrainsRings (x y : Taking D) (answer : Result ℕ StoreError) : Type 0 where
-    pub ok : IfOk answer (λ n. Drained x y n)
-    pub kept : OnErr answer ((n : ℕ) × Drained x y n)
+  -- The rings are looked at, at most so often, and each time the lanes go on until none can.
+  pub record DrainsRings (looks : ℕ) (x y : Taking D) (answer : Result ℕ StoreError) : Type 0 where
+    pub ok : IfOk answer (λ n. Drained looks x y n)
+    pub kept : OnErr answer ((n : ℕ) × Drained looks x y n)
     pub stuck : OnOk answer (AllStuck device y)
     pub whole : OnOk answer (HasAll y)
     pub failed : IfErr answer (λ e. e ≡ Failed)

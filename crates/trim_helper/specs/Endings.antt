@@ -1,10 +1,6 @@
 -- The sessions that meet the helper.
 use Rattle.std.specs.Prelude.{ℕ, ◌≡◌, ◌≢◌, ◌⊎◌, true, false, ◌+◌, ◌-◌, ◌^◌, ◌<◌, ◌≤◌, ◌==◌, if◌then◌else◌, List, [], ◌∷◌, map, length}
-use Rattle.std.specs.Global.{Global}
-use Rattle.rtrb.specs.Ring.{sent}
-use Rattle.rtrb.specs.declared.AnyItems.{AnyItems}
-use Rattle.rtrb.specs.declared.consumer.Consumer.{Consumer}
-use Rattle.heap_model.specs.declared.record.Record.{Record}
+use Rattle.lane_rings.specs.Rings.{Receiving, sent}
 use Rattle.heap_model.specs.Setting.{Setting}
 use Rattle.block_disk.specs.Device.{Device, HasFailed}
 use Rattle.durable.specs.Store.{Known, HasPast}
@@ -23,7 +19,7 @@ use Rattle.trim_helper.specs.declared.close_error.CloseError.TheVariants.{Missin
 
 -- the rings of a helper
 abbrev pub Rings : Type 0
-Rings = List (Consumer Record Global AnyItems)
+Rings = List Receiving
 
 -- the acknowledged count and the trimmed place that a seat last read of its lane, 0 before
 abbrev pub count_read : Sitting → ℕ

@@ -13,5 +13,8 @@ pub mod Endings
 pub mod Closed
 pub mod Calls
 pub mod Meets
+pub mod Seen
+pub mod Hearing
+pub mod Heard
 -- The scaffold: what is known while the sessions that have ended meet their rings.
 pub mod Meeting

@@ -1,7 +1,6 @@
 -- Sessions that have ended, and the rings that they filled.
 use Rattle.std.specs.Prelude.{ℕ, ◌≡◌, ◌+◌, ◌==◌, if◌then◌else◌, List, [], ◌∷◌, ◌++◌, map, length}
-use Rattle.rtrb.specs.declared.consumer.Consumer.{Consumer}
-use Rattle.heap_model.specs.declared.record.Record.{Record}
+use Rattle.lane_rings.specs.Rings.{Receiving}
 use Rattle.heap_model.specs.declared.event.Event.{Event}
 use Rattle.heap_model.specs.Own.{own_log, sent_of}
 use Rattle.heap_model.specs.Sections.{action, holding}
@@ -15,7 +14,7 @@ abbrev pub HoldsNothing : Setting → List Event → Type 0
 HoldsNothing s events = length (holding (map action (own_log s events))) ≡ 0
 
 -- Of each of these lanes, what was received and what is left is what was sent, which is the log of its events; it keeps to the limits, and it holds nothing.
-pub record HaveMet {A P : Type 0} (s : Setting) (rings : List (Consumer Record A P)) (parts : List Part) (capacity : ℕ) : Type 0 where
+pub record HaveMet (s : Setting) (rings : List Receiving) (parts : List Part) (capacity : ℕ) : Type 0 where
   pub whole : (x : Part) → Among parts x → received_of rings x.lane ++ known_of rings x.lane ≡ sent_of s x.events
   pub limits : (x : Part) → Among parts x → KeepsLimits x.place capacity (own_log s x.events)
   pub free : (x : Part) → Among parts x → HoldsNothing s x.events

@@ -1,8 +1,6 @@
 -- A helper, as contracts see it, and what it serves.
 use Rattle.std.specs.Prelude.{ℕ, ◌≡◌, ◌<◌, ◌≤◌, Bool, true, false, List, Option, length}
-use Rattle.rtrb.specs.declared.AnyItems.{AnyItems}
-use Rattle.std.specs.Global.{Global}
-use Rattle.rtrb.specs.declared.consumer.Consumer.{Consumer}
+use Rattle.lane_rings.specs.Rings.{Receiving}
 use Rattle.heap_model.specs.declared.record.Record.{Record}
 use Rattle.heap_model.specs.Setting.{Setting}
 use Rattle.block_disk.specs.Device.{Device}
@@ -11,8 +9,10 @@ use Rattle.store_past.specs.Past.{Past, IsTrimmed}
 use Rattle.monitor.specs.Seats.{Helping}
 use Rattle.heap_model.specs.declared.limits.TheConstants.{RING_RECORDS}
 use Rattle.trim_helper.specs.Draining.{Drained}
+use Rattle.trim_helper.specs.declared.draining.TheConstants.{LOOKS}
 use Rattle.trim_helper.specs.Helping.{IsPublished, count_published, place_published}
 use Rattle.trim_helper.specs.Moves.{most_room}
+use Rattle.trim_helper.specs.Seen.{SeesFrom}
 use Rattle.trim_helper.specs.Settled.{IsSettled}
 use Rattle.trim_helper.specs.Taken.{Taking, HasTaken, trimmed_of}
 
@@ -20,7 +20,7 @@ use Rattle.trim_helper.specs.Taken.{Taking, HasTaken, trimmed_of}
 -- applied since a round answered Ok, and its seat
 pub record Parts (D : Type 0) : Type 0 where
   pub store : stores.Parts D
-  pub rings : List (Consumer Record Global AnyItems)
+  pub rings : List Receiving
   pub waiting : List (Option Record)
   pub is_settled : Bool
   pub seat : Helping
@@ -42,15 +42,16 @@ module _ {D : Type 0} (device : D → Device) where
     pub trimmed : x.is_settled ≡ true → IsTrimmed p
     pub published : x.is_settled ≡ true → IsPublished x.seat x.store.known.layout.lanes p
 
-  -- so many records were applied of what its rings held when they were looked at
+  -- so many records were applied of what its rings held in a drain's looks at them
   abbrev pub HasDrained : (old new : Parts D) → ℕ → Type 0
-  HasDrained x y n = Drained device (taking_of x) (taking_of y) n
+  HasDrained x y n = Drained device LOOKS (taking_of x) (taking_of y) n
 
-  -- each lane has a ring, and the store has a past
+  -- each lane has a ring, of which the helper has seen what it heard, and the store has a past
   pub record IsWhole (x : Parts D) : Type 0 where
     pub lanes : length x.rings ≡ x.store.known.layout.lanes
     pub few : length x.rings ≤ 32
     pub rooms : most_room x.rings ≤ RING_RECORDS
+    pub sees : SeesFrom x.seat 0 x.rings
     pub setting : Setting
     pub past : Past
     pub serving : IsServing x setting past

@@ -1,7 +1,6 @@
 -- What the rings hold of one legal history, by its threads' views.
 use Rattle.std.specs.Prelude.{ℕ, ◌≡◌, ◌<◌, ◌≤◌, ◌⊎◌, List, [], ◌∷◌, ◌++◌}
-use Rattle.rtrb.specs.declared.consumer.Consumer.{Consumer}
-use Rattle.heap_model.specs.declared.record.Record.{Record}
+use Rattle.lane_rings.specs.Rings.{Receiving}
 use Rattle.heap_model.specs.declared.event.Event.{Event}
 use Rattle.heap_model.specs.Setting.{Setting}
 use Rattle.heap_model.specs.History.{IsLegalHistory}
@@ -32,7 +31,7 @@ pub record IsOneHistory (s : Setting) (lanes : ℕ) (parts : List Part) (history
   pub no_other : (l : ℕ) → lanes ≤ l → lane l history ≡ []
 
 -- The rings hold the logs of one legal history, each lane's log being what was received and what is known to be left, and within the limits.
-pub record HoldHistory {A P : Type 0} (rings : List (Consumer Record A P)) (l : Layout) (s : Setting) (p : Past) (history : List (ℕ × Event)) : Type 0 where
+pub record HoldHistory (rings : List Receiving) (l : Layout) (s : Setting) (p : Past) (history : List (ℕ × Event)) : Type 0 where
   pub legal : IsLegalHistory s history
   pub whole : (k : ℕ) → sent_of s (lane k history) ≡ received_of rings k ++ known_of rings k
   pub limits : (k : ℕ) → k < l.lanes → KeepsLimits (trimmed_of p k) l.capacity (own_log s (lane k history))

@@ -1,8 +1,6 @@
 -- What takes records from the rings: what it has taken, and what became of it.
 use Rattle.std.specs.Prelude.{ℕ, ◌≡◌, ◌≢◌, ◌+◌, ◌<◌, List, [], ◌++◌, length, Option, MatchOption}
-use Rattle.std.specs.Global.{Global}
-use Rattle.rtrb.specs.declared.AnyItems.{AnyItems}
-use Rattle.rtrb.specs.declared.consumer.Consumer.{Consumer}
+use Rattle.lane_rings.specs.Rings.{Receiving}
 use Rattle.heap_model.specs.declared.record.Record.{Record}
 use Rattle.heap_model.specs.Setting.{Setting}
 use Rattle.block_disk.specs.Device.{Device}
@@ -15,15 +13,16 @@ use Rattle.store_past.specs.declared.error.StoreError.{StoreError}
 use Rattle.store_past.specs.declared.error.StoreError.TheVariants.{Failed}
 use Rattle.trim_helper.specs.Rings.{received_of, known_of, held_back, waiting_in, stream}
 use Rattle.trim_helper.specs.Moves.{known_sum, held_sum, SameRings}
+use Rattle.trim_helper.specs.Seen.{KeepsTold}
 
 -- what takes records from the rings: the store, the rings' ends, and the record of each lane that was taken and waits to be next
 pub record Taking (D : Type 0) : Type 0 where
   pub store : stores.Parts D
-  pub rings : List (Consumer Record Global AnyItems)
+  pub rings : List Receiving
   pub waiting : List (Option Record)
 
 -- these three
-abbrev pub with_rings : {D : Type 0} → stores.Parts D → List (Consumer Record Global AnyItems) → List (Option Record) → Taking D
+abbrev pub with_rings : {D : Type 0} → stores.Parts D → List Receiving → List (Option Record) → Taking D
 with_rings store rings waiting = record { store = store; rings = rings; waiting = waiting }
 
 -- the past in which these were applied too, the newest first
@@ -39,7 +38,7 @@ abbrev pub IsRefused : Known → Setting → Past → (lane : ℕ) → Record �
 IsRefused x s p l r = (e : StoreError) × (e ≢ Failed) × RefusesApply x s p l r e
 
 -- The lane doesn't go on: the record that waits isn't next, or none waits and none is known to be in the ring.
-abbrev pub IsLaneStuck : {A P : Type 0} → Known → List (Consumer Record A P) → List (Option Record) → Setting → Past → (lane : ℕ) → Type 0
+abbrev pub IsLaneStuck : Known → List Receiving → List (Option Record) → Setting → Past → (lane : ℕ) → Type 0
 IsLaneStuck x rings waiting s p l = MatchOption (waiting_in waiting l) (known_of rings l ≡ []) (λ r. IsRefused x s p l r)
 
 module _ {D : Type 0} (device : D → Device) where
@@ -54,6 +53,8 @@ module _ {D : Type 0} (device : D → Device) where
     pub whole : (l : ℕ) → received_of y.rings l ++ known_of y.rings l ≡ received_of x.rings l ++ known_of x.rings l
     pub left : known_sum x.rings + held_sum x.waiting ≡ (known_sum y.rings + held_sum y.waiting) + n
     pub same : SameRings x.rings y.rings
+    -- where a ring keeps no witness now, no release was taken of it
+    pub told : KeepsTold x.rings y.rings
     pub slots : length y.waiting ≡ length x.waiting
     pub layout : y.store.known.layout ≡ x.store.known.layout
     pub running : y.store.known.has_failed ≡ x.store.known.has_failed

@@ -22,8 +22,8 @@ use cut_laws::{stable_law, unlogged_law};
 use durable::Store;
 use heap_model::{Lane, RING_RECORDS, Record};
 use history_laws::{all_kept_law, log_law, next_law, order_law, own_log_law};
+use lane_rings::Receiver;
 use monitor::{Finals, HelperSeat, Shared};
-use rtrb::Consumer;
 
 // How many of the sessions are of this lane.
 fn count_of(ended: &[Ended], lane: u8) -> usize
@@ -86,7 +86,7 @@ fn finish<D: Disk>(
     shared: Shared,
     ended: Vec<Ended>,
     store: &mut Store<D>,
-    rings: &mut [Consumer<Record>],
+    rings: &mut [Receiver],
     waiting: &mut [Option<Record>],
     mut seat: HelperSeat,
 ) -> Result<Finals, CloseError>

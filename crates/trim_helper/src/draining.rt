@@ -1,6 +1,7 @@
 //! What is next in its lane is applied, until nothing is.
 ghost use Rattle.std.specs.Prelude.{◌≡◌, ◌<◌, ◌≤◌, length};
 ghost use Rattle.heap_model.specs.declared.limits.TheConstants.{RING_RECORDS};
+ghost use Rattle.trim_helper.specs.declared.draining.TheConstants.{LOOKS};
 ghost use Rattle.trim_helper.specs.Draining.{DrainsRings, Empties, GoesOn, RunsOn, Turns};
 ghost use Rattle.trim_helper.specs.Moves.{most_room};
 ghost use Rattle.trim_helper.specs.Taken.{with_rings};
@@ -10,12 +11,15 @@ use block_disk::Disk;
 use durable::{Store, StoreError};
 use heap_model::{Lane, RING_RECORDS, Record};
 use history_laws::{log_law, next_law, own_log_law};
-use rtrb::Consumer;
+use lane_rings::Receiver;
+
+/// How often a drain looks at the rings at most. While threads send as quickly as it applies, it takes so many rings' fill of each lane.
+pub const LOOKS: usize = 16;
 
 /// Applies the lane's next record, if one is known and it is next. Answers whether it did.
 pub fn go_on<D: Disk>(
     store: &mut Store<D>,
-    rings: &mut [Consumer<Record>],
+    rings: &mut [Receiver],
     waiting: &mut [Option<Record>],
     lane: usize,
 ) -> Result<bool, StoreError>
@@ -43,7 +47,7 @@ pub fn go_on<D: Disk>(
 /// Lets the lane go on as long as it can, and answers by how many records it did.
 pub fn run_on<D: Disk>(
     store: &mut Store<D>,
-    rings: &mut [Consumer<Record>],
+    rings: &mut [Receiver],
     waiting: &mut [Option<Record>],
     lane: usize,
 ) -> Result<u64, StoreError>
@@ -70,7 +74,7 @@ pub fn run_on<D: Disk>(
 /// Lets each lane go on as long as it can, in turn. Answers by how many records they did.
 pub fn turn<D: Disk>(
     store: &mut Store<D>,
-    rings: &mut [Consumer<Record>],
+    rings: &mut [Receiver],
     waiting: &mut [Option<Record>],
 ) -> Result<u64, StoreError>
     requires slots { length waiting.old ≡ 32 }
@@ -91,7 +95,7 @@ pub fn turn<D: Disk>(
 /// Applies what is next in its lane, until nothing is, and reads no more of the rings than is known of them.
 pub fn drain_known<D: Disk>(
     store: &mut Store<D>,
-    rings: &mut [Consumer<Record>],
+    rings: &mut [Receiver],
     waiting: &mut [Option<Record>],
 ) -> Result<u64, StoreError>
     requires slots { length waiting.old ≡ 32 }
@@ -119,20 +123,48 @@ pub fn drain_known<D: Disk>(
 
 /// Looks how many records are in the rings, and applies what is next in its lane of those, until nothing is. Answers how many
 /// it applied.
-pub fn drain_rings<D: Disk>(
+fn drain_once<D: Disk>(
     store: &mut Store<D>,
-    rings: &mut [Consumer<Record>],
+    rings: &mut [Receiver],
     waiting: &mut [Option<Record>],
 ) -> Result<u64, StoreError>
     requires slots { length waiting.old ≡ 32 }
     requires few { length rings.old ≤ 32 }
     requires room { most_room rings.old ≤ RING_RECORDS }
     requires lanes { length rings.old ≡ store.old.known.layout.lanes }
-    ensures { DrainsRings D.device (with_rings store.old rings.old waiting.old) (with_rings store.new rings.new waiting.new) result }
+    ensures { DrainsRings D.device 1 (with_rings store.old rings.old waiting.old) (with_rings store.new rings.new waiting.new) result }
 {
     look(rings);
     match drain_known(store, rings, waiting) {
         Ok(count) => Ok(count),
         Err(reason) => Err(reason),
     }
+}
+
+/// Looks at the rings and applies what is next in its lane, again and again until nothing was, or it has looked [`LOOKS`] times.
+/// Answers how many records it applied.
+pub fn drain_rings<D: Disk>(
+    store: &mut Store<D>,
+    rings: &mut [Receiver],
+    waiting: &mut [Option<Record>],
+) -> Result<u64, StoreError>
+    requires slots { length waiting.old ≡ 32 }
+    requires few { length rings.old ≤ 32 }
+    requires room { most_room rings.old ≤ RING_RECORDS }
+    requires lanes { length rings.old ≡ store.old.known.layout.lanes }
+    ensures { DrainsRings D.device LOOKS (with_rings store.old rings.old waiting.old) (with_rings store.new rings.new waiting.new) result }
+{
+    let mut count = 0u64;
+    for look in 0..LOOKS {
+        match drain_once(store, rings, waiting) {
+            Ok(more) => {
+                count += more;
+                if more == 0 {
+                    return Ok(count);
+                }
+            }
+            Err(reason) => return Err(reason),
+        }
+    }
+    Ok(count)
 }

@@ -1,7 +1,7 @@
 //! A session that has ended.
-use heap_model::{Lane, Record};
+use heap_model::Lane;
+use lane_rings::Sender;
 use monitor::Seat;
-use rtrb::Producer;
 
 /// What a session leaves when it has ended, as the helper meets it.
 #[derive(Drop)]
@@ -13,5 +13,5 @@ pub struct Ended {
     /// How many monitors it holds.
     pub held: u32,
     /// Its end of the ring, which has all that it sent.
-    pub producer: Producer<Record>,
+    pub producer: Sender,
 }

@@ -1,23 +1,27 @@
 //! The helper.
-ghost use Rattle.std.specs.Prelude.{◌≡◌, ◌<◌, ◌≤◌, [], ℕ, true, vec_len};
+ghost use Rattle.std.specs.Prelude.{◌≡◌, ◌<◌, ◌≤◌, [], ℕ, true, false, vec_len};
 ghost use Rattle.durable.specs.Store.{HasPast};
 ghost use Rattle.heap_model.specs.Setting.{Setting};
+ghost use Rattle.monitor.specs.Views.{GoesOn};
 ghost use Rattle.store_past.specs.Past.{Past, no_past};
 ghost use Rattle.trim_helper.specs.Calls.{Drains, HasGoneOn, Rounds};
+ghost use Rattle.trim_helper.specs.Heard.{HasSeen, Hears};
 ghost use Rattle.trim_helper.specs.Helping.{IsHelper, count_published, place_published};
 ghost use Rattle.trim_helper.specs.Moves.{most_room};
 ghost use Rattle.trim_helper.specs.Parts.{IsServing};
 ghost use Rattle.trim_helper.specs.Rings.{received_of};
+ghost use Rattle.trim_helper.specs.Seen.{SeesFrom};
 ghost use Rattle.heap_model.specs.declared.limits.TheConstants.{RING_RECORDS};
 
 use crate::draining::drain_rings;
+use crate::hearing::catch_up;
 use crate::published::publish_all;
 use crate::settling::settle_and_trim;
 use block_disk::Disk;
 use durable::{Store, StoreError};
 use heap_model::{LANES, Lane, RING_RECORDS, Record};
+use lane_rings::Receiver;
 use monitor::{HelperSeat, Shared};
-use rtrb::Consumer;
 use std::marker::Model;
 
 /// The helper: it owns the store, applies to it what the sessions send through their rings, makes that durable, and publishes
@@ -29,7 +33,7 @@ use std::marker::Model;
 pub struct Helper<D: Disk> {
     pub(crate) store: Store<D>,
     /// The rings' ends, by lane.
-    pub(crate) rings: Vec<Consumer<Record>>,
+    pub(crate) rings: Vec<Receiver>,
     /// The record of each lane that was taken and waits to be next.
     pub(crate) waiting: [Option<Record>; LANES],
     /// Nothing was applied since a round answered Ok.
@@ -49,11 +53,12 @@ impl<D: Disk> Model for Helper<D> {
 
 impl<D: Disk> Helper<D> {
     /// The helper of a store that was told nothing, with the ends of the rings, lane i's as the i-th, from which nothing was taken,
-    /// and with the helper's seat, which has published nothing.
-    pub fn new(store: Store<D>, rings: Vec<Consumer<Record>>, seat: HelperSeat) -> Helper<D>
+    /// and with the helper's seat, of the heap whose lanes' rings they are, which has published nothing.
+    pub fn new(store: Store<D>, rings: Vec<Receiver>, seat: HelperSeat) -> Helper<D>
         requires lanes { vec_len rings ≡ store.known.layout.lanes }
         requires rooms { most_room rings.items ≤ RING_RECORDS }
         requires untaken { (l : ℕ) → received_of rings.items l ≡ [] }
+        requires sees { SeesFrom seat 0 rings.items }
         requires untold { (s : Setting) × HasPast store.known s no_past (D.device store.disk) }
         requires silent { (l : ℕ) → (count_published seat l ≡ 0) × (place_published seat l ≡ 0) }
         ensures serves { (s : Setting) → HasPast store.known s no_past (D.device store.disk) → IsServing D.device result s no_past }
@@ -76,8 +81,9 @@ impl<D: Disk> Helper<D> {
         self.store.acknowledged(lane)
     }
 
-    /// Applies records that are next in their lanes, in memory alone, until none is, and answers how many. It looks at each ring
-    /// once, and takes what was there then, at most `RING_RECORDS` of each lane. A record that isn't next waits for the next call.
+    /// Applies records that are next in their lanes, in memory alone, until none is, and answers how many. It looks at the rings
+    /// again as long as it found something, at most `LOOKS` times, and takes what was there then: at most `LOOKS` times
+    /// `RING_RECORDS` of each lane. A record that isn't next waits for the next call.
     ///
     /// It refuses with `Failed` alone; what it applied before stands.
     pub fn drain(&mut self) -> Result<u64, StoreError>
@@ -94,7 +100,15 @@ impl<D: Disk> Helper<D> {
         }
     }
 
-    /// Drains the rings, logs what was applied, writes it home, acknowledges its stable cut, forgets what is acknowledged, and
+    // Hears what the rings tell of the one history, and sees that history so far.
+    fn hear(&mut self, shared: &Shared)
+        requires seat { IsHelper shared.now self.old.seat }
+        ensures { Hears shared.now self.old self.new }
+    {
+        catch_up(shared, &mut self.rings, &mut self.seat);
+    }
+
+    /// Drains the rings, hears what they tell of the one history, logs what was applied, writes it home, acknowledges its stable cut, forgets what is acknowledged, and
     /// then publishes both. So each lane has its area but for the records that aren't acknowledged. It answers how many records
     /// it applied. With nothing applied since the last round that answered Ok it makes no device call, and isn't refused.
     ///
@@ -105,11 +119,15 @@ impl<D: Disk> Helper<D> {
         requires lanes { shared.now.plan.lanes ≡ self.old.store.known.layout.lanes }
         ensures rounds { (s : Setting) (p : Past) → IsServing D.device self.old s p → Rounds D.device s p self.old self.new result }
         ensures goes_on { HasGoneOn shared.now self.old self.new }
+        // What is applied, the helper has seen: it hears the rings before anything of it is logged.
+        ensures seen { self.old.store.known.has_failed ≡ false → HasSeen shared.now self.new }
+        ensures later { GoesOn self.new.seat.view.history self.old.seat.view.history }
     {
         let count = match self.drain() {
             Ok(count) => count,
             Err(reason) => return Err(reason),
         };
+        self.hear(shared);
         if self.is_settled {
             return Ok(count);
         }

@@ -5,17 +5,16 @@ ghost use Rattle.monitor.specs.Words.{setting_of};
 ghost use Rattle.trim_helper.specs.Helping.{IsHelper, count_published, place_published, taken_in};
 ghost use Rattle.trim_helper.specs.Meeting.{HasPart, HaveMet};
 ghost use Rattle.trim_helper.specs.Moves.{IsEndOf, Looks};
-ghost use Rattle.rtrb.specs.Ring.{sent};
+ghost use Rattle.lane_rings.specs.Rings.{sent};
 ghost use Rattle.trim_helper.specs.Rings.{received_of, known_of};
 
 use crate::ended::Ended;
 use crate::published::gather;
-use heap_model::Record;
+use lane_rings::{Receiver, Sender};
 use monitor::{HelperSeat, Shared};
-use rtrb::{Consumer, Producer};
 
 // Looks at the lane's ring beside its other end: what was received and what is left is what was sent.
-fn look_beside(rings: &mut [Consumer<Record>], lane: usize, producer: &mut Producer<Record>)
+fn look_beside(rings: &mut [Receiver], lane: usize, producer: &mut Sender)
     requires ring { lane < length rings.old }
     requires pair { IsEndOf producer.old rings.old lane }
     ensures looks { Looks rings.old rings.new }
@@ -29,7 +28,7 @@ fn look_beside(rings: &mut [Consumer<Record>], lane: usize, producer: &mut Produ
 fn meet_one(
     shared: &Shared,
     one: Ended,
-    rings: &mut [Consumer<Record>],
+    rings: &mut [Receiver],
     seat: &mut HelperSeat,
     capacity: u32,
 )
@@ -58,7 +57,7 @@ fn meet_one(
 pub fn meet(
     shared: &Shared,
     ended: Vec<Ended>,
-    rings: &mut [Consumer<Record>],
+    rings: &mut [Receiver],
     seat: &mut HelperSeat,
     capacity: u32,
 )

@@ -3,6 +3,7 @@ ghost use Rattle.std.specs.Prelude.{◌≡◌, ◌==◌, ◌<◌, ◌≤◌, ◌
 ghost use Rattle.monitor.specs.Seats.{IsSeatOf};
 ghost use Rattle.trim_helper.specs.Endings.{part_at};
 ghost use Rattle.trim_helper.specs.Helping.{HasPublished, HaveRead, IsHelper, MayPublish, TellsHistory, count_published, place_published, taken_in};
+ghost use Rattle.trim_helper.specs.Seen.{SameSight};
 
 use block_disk::Disk;
 use durable::Store;
@@ -17,6 +18,7 @@ pub fn publish_all<D: Disk>(store: &Store<D>, shared: &Shared, seat: &mut Helper
     ensures published { HasPublished D.device store.now seat.new }
     ensures seat { IsHelper shared.now seat.new }
     ensures gathered { taken_in seat.new ≡ taken_in seat.old }
+    ensures sight { SameSight seat.old seat.new }
 {
     let lanes = store.layout().lanes;
     for lane in 0..lanes {
@@ -37,6 +39,7 @@ fn publish(shared: &Shared, seat: &mut HelperSeat, lane: Lane, acknowledged: u64
     ensures count { (l : ℕ) → l < 32 → count_published seat.new l ≡ (if lane.0 == l then acknowledged else count_published seat.old l) }
     ensures place { (l : ℕ) → l < 32 → place_published seat.new l ≡ (if lane.0 == l then trimmed else place_published seat.old l) }
     ensures gathered { taken_in seat.new ≡ taken_in seat.old }
+    ensures sight { SameSight seat.old seat.new }
 {
     shared.publish(seat, lane, acknowledged, trimmed);
 }

@@ -15,3 +15,5 @@ mod image_words;
 mod over_images;
 #[cfg(test)]
 mod playing;
+#[cfg(test)]
+mod two_places;

@@ -5,9 +5,8 @@ use Rattle.commands.proofs.files.drive_at_path.Goals as goal
 
 pub returns-in-Ok-drive_in_file-clause-ok : goal.returns-in-Ok-drive_in_file-clause-ok
 returns-in-Ok-drive_in_file-clause-ok g c =
-    let held = g.F.BackingFile.holds c.new-watched.result.inner in
     let disk = c.in-Ok-drive_in_file.done.0 in
-    (held, disk, subst (λ (d : Driven). HasLeft (λ now. HasDrivenFile c.args.workers held now d) disk) (sym c.driven_of.ensures) c.in-Ok-drive_in_file.ensures.ok)
+    (None, disk, subst (λ (d : Driven). HasLeft (λ now. HasDrivenFile c.args.workers None now d) disk) (sym c.driven_of.ensures) c.in-Ok-drive_in_file.ensures.ok)
 
 pub returns-in-Err-clause-refused : goal.returns-in-Err-clause-refused
 returns-in-Err-clause-refused g c = (None, inl c.in-Err.ensures)

@@ -5,7 +5,7 @@ use Rattle.running_heap.specs.Joined.{IsJoined}
 use Rattle.steps.specs.Views.{plan}
 use Rattle.store_past.specs.Past.{no_past}
 use Rattle.trim_helper.specs.Helping.{IsHelper, part_of, taken_in}
-use Rattle.running_heap.proofs.Beginnings.{all_joined, all_new, ring_count, rooms, session_count, untaken}
+use Rattle.running_heap.proofs.Beginnings.{all_joined, all_new, all_seen, ring_count, rooms, session_count, untaken}
 use Rattle.running_heap.proofs.opening.open.Goals as goal
 
 pub new-helper-requires-clause-lanes : goal.new-helper-requires-clause-lanes
@@ -24,6 +24,13 @@ pub new-helper-requires-clause-untaken : goal.new-helper-requires-clause-untaken
 new-helper-requires-clause-untaken g c =
     let made = c.in-Ok-open_sessions.made in
     untaken c.layout-layout.result.capacity c.in-Ok.opened.shared.plan c.in-Ok.opened.seats.items made.0.items made.1.items c.in-Ok-open_sessions.ensures.opened
+
+pub new-helper-requires-clause-sees : goal.new-helper-requires-clause-sees
+new-helper-requires-clause-sees g c =
+    let made = c.in-Ok-open_sessions.made in
+    let h = c.in-Ok.opened.shared in
+    let of = c.in-Ok.ensures.helper.of in
+    all_seen h c.layout-layout.result.capacity c.args.recovered.layout.lanes c.in-Ok.opened.seats.items made.0.items made.1.items c.in-Ok.ensures.views c.in-Ok-open_sessions.ensures.opened c.in-Ok.opened.seat of.0 of.1 c.in-Ok.ensures.seats
 
 pub returns-clause-joined : goal.returns-clause-joined
 returns-clause-joined g c =

@@ -7,7 +7,8 @@ use Rattle.trim_helper.specs.Taken.{applied_more, trimmed_of, with_rings}
 use Rattle.block_disk.specs.Device.{HasFailed}
 use Rattle.trim_helper.proofs.ClosingReasons.{why_drained, why_settled}
 use Rattle.trim_helper.proofs.Homes.{stops_round}
-use Rattle.trim_helper.proofs.Rounds.{looks_taken, settled_then, stood_round, stood_still, taken_follows}
+use Rattle.trim_helper.proofs.Looking.{looks_taken}
+use Rattle.trim_helper.proofs.Rounds.{settled_then, stood_round, stood_still, taken_follows}
 use Rattle.trim_helper.proofs.Sent.{HasMet, are_sent}
 use Rattle.trim_helper.specs.Serving.{Among, Part}
 use Rattle.trim_helper.specs.Endings.{parts_of}

@@ -1,9 +1,21 @@
-use Rattle.trim_helper.specs.Taken.{with_rings}
-use Rattle.trim_helper.proofs.Rounds.{looks_drains}
+use Rattle.std.proofs.Common.{arith}
+use Rattle.trim_helper.proofs.Looking.{count_looked, looked_again, looked_done, looked_failed, looked_none}
 use Rattle.trim_helper.proofs.draining.drain_rings.Goals as goal
 
-pub returns-in-Ok : goal.returns-in-Ok
-returns-in-Ok g c = looks_drains g.D.Disk.device (with_rings c.args.store.now c.args.rings.now c.args.waiting.now) _ c.look.new.rings _ c.requires.room c.look.ensures c.in-Ok.ensures
+pub loop-look-init : goal.loop-look-init
+loop-look-init g c = record { looked = looked_none g.D.Disk.device _ }
+
+pub overflow_add-count : goal.overflow_add-count
+overflow_add-count g c = let low = count_looked g.D.Disk.device _ _ _ _ _ _ c.loop-look-test.true c.loop-look.invariant.looked c.in-Ok.ensures in omega arith
+
+pub returns-then-more-eq0 : goal.returns-then-more-eq0
+returns-then-more-eq0 g c = looked_done g.D.Disk.device _ _ _ _ _ (omega arith) (omega (arith, c.loop-look-test.true)) (looked_again g.D.Disk.device _ _ _ _ _ _ c.loop-look.invariant.looked c.in-Ok.ensures)
+
+pub loop-look-preserved : goal.loop-look-preserved
+loop-look-preserved g c = record { looked = looked_again g.D.Disk.device _ _ _ _ _ _ c.loop-look.invariant.looked c.in-Ok.ensures }
 
 pub returns-in-Err : goal.returns-in-Err
-returns-in-Err g c = looks_drains g.D.Disk.device (with_rings c.args.store.now c.args.rings.now c.args.waiting.now) _ c.look.new.rings _ c.requires.room c.look.ensures c.in-Err.ensures
+returns-in-Err g c = looked_failed g.D.Disk.device _ _ _ _ _ _ c.in-Err.reason c.loop-look-test.true c.loop-look.invariant.looked c.in-Err.ensures
+
+pub returns : goal.returns
+returns g c = looked_done g.D.Disk.device _ _ _ _ _ (omega (arith, c.loop-look-test.false)) (omega arith) c.loop-look.invariant.looked

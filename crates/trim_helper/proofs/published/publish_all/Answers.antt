@@ -2,10 +2,11 @@ use Rattle.std.proofs.Common.{ℕ, ◌<◌, ◌+◌, ◌≢◌, ◌∙◌, refl,
 use Rattle.std.proofs.lemmas.Bool.Decides.{eqb_tells}
 use Rattle.trim_helper.specs.Taken.{trimmed_of}
 use Rattle.trim_helper.proofs.Rounds.{chosen, unchosen}
+use Rattle.trim_helper.proofs.Seeing.{sight_refl, sight_then}
 use Rattle.trim_helper.proofs.published.publish_all.Goals as goal
 
 pub loop-lane-init : goal.loop-lane-init
-loop-lane-init g c = record { seat = c.requires.seat; done = λ s p has k lt. absurd (omega arith); rest = λ k le lt. (refl, refl); gathered = refl }
+loop-lane-init g c = record { seat = c.requires.seat; done = λ s p has k lt. absurd (omega arith); rest = λ k le lt. (refl, refl); gathered = refl; sight = sight_refl c.args.seat.now }
 
 pub publish-requires-clause-seat : goal.publish-requires-clause-seat
 publish-requires-clause-seat g c = c.loop-lane.invariant.seat
@@ -53,6 +54,7 @@ loop-lane-preserved g c =
             unchosen _ _ _ _ other (c.publish.ensures.place k most) ∙ was.1,
           );
       gathered = c.publish.ensures.gathered ∙ c.loop-lane.invariant.gathered;
+      sight = sight_then _ _ _ c.loop-lane.invariant.sight c.publish.ensures.sight;
     }
 
 pub returns-clause-published : goal.returns-clause-published
@@ -63,3 +65,6 @@ returns-clause-seat g c = c.loop-lane.invariant.seat
 
 pub returns-clause-gathered : goal.returns-clause-gathered
 returns-clause-gathered g c = c.loop-lane.invariant.gathered
+
+pub returns-clause-sight : goal.returns-clause-sight
+returns-clause-sight g c = c.loop-lane.invariant.sight

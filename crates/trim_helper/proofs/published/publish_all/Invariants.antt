@@ -3,6 +3,7 @@ use Rattle.heap_model.specs.Setting.{Setting}
 use Rattle.store_past.specs.Past.{Past}
 use Rattle.durable.specs.Store.{HasPast}
 use Rattle.trim_helper.specs.Helping.{IsHelper, count_published, place_published, taken_in}
+use Rattle.trim_helper.specs.Seen.{SameSight}
 use Rattle.trim_helper.specs.Taken.{trimmed_of}
 use Rattle.trim_helper.proofs.published.publish_all.Given as goal
 
@@ -12,4 +13,5 @@ invariant-loop-lane g l = record {
   done : (s : Setting) (p : Past) → HasPast l.store.known s p (g.D.Disk.device l.store.disk) → (k : ℕ) → k < l.lane → (count_published l.seat k ≡ p.cut k) × (place_published l.seat k ≡ trimmed_of p k);
   rest : (k : ℕ) → l.lane ≤ k → k < 32 → (count_published l.seat k ≡ count_published l.initial.seat k) × (place_published l.seat k ≡ place_published l.initial.seat k);
   gathered : taken_in l.seat ≡ taken_in l.initial.seat;
+  sight : SameSight l.initial.seat l.seat;
 }

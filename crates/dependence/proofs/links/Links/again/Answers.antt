@@ -8,7 +8,7 @@ use Rattle.dependence.proofs.Keeping.{linked_none, order_at}
 use Rattle.dependence.proofs.links.Links.again.Goals as goal
 
 pub loop-place-init : goal.loop-place-init
-loop-place-init c = record { linked = linked_none _ refl c.clear.ensures.items c.clear-2.ensures.items (sym c.fill.new.self.ok.0 ∙ c.fill.ensures.len ∙ c.args.self.now.freed.ok.0 ∙ c.requires.objects); before = c.clear.ensures.capacity; partner = c.clear-2.ensures.capacity }
+loop-place-init c = record { linked = linked_none _ refl c.clear.ensures.items c.clear-2.ensures.items c.requires.objects; before = c.clear.ensures.capacity; partner = c.clear-2.ensures.capacity }
 
 pub add-requires-clause-linked : goal.add-requires-clause-linked
 add-requires-clause-linked c = c.loop-place.invariant.linked

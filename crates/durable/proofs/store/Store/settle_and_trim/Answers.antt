@@ -1,5 +1,4 @@
 use Rattle.std.proofs.Common.{◌≡◌, inr, ⊎_elim, ℕ, true, false, Err, sym, ◌∙◌, ap, subst}
-use Rattle.block_disk.specs.Images.{LeavesOnly}
 use Rattle.block_disk.proofs.Images.{begin}
 use Rattle.durable.specs.Store.{HasPast, ShowsStep}
 use Rattle.durable.specs.declared.doubt.Doubt.TheVariants.{Acknowledging}
@@ -10,9 +9,10 @@ use Rattle.block_disk.specs.Device.{HasCause}
 use Rattle.store_memory.specs.Sections.{Logged}
 use Rattle.store_memory.specs.Trimming.{MayForget}
 use Rattle.store_past.specs.declared.error.StoreError.TheVariants.{Worn, Fault}
-use Rattle.durable.specs.Calls.{HasDirty, IsClean, RefusesSettle}
+use Rattle.durable.specs.Calls.{HasDirty}
 use Rattle.store_image.specs.KeptHeap.{StandsForEither}
-use Rattle.durable.proofs.Storing.{one_stable, to_parts, from_parts, failed_has, kept_has, logs_now, settle_refused, may_settle, none_dirty, some_dirty}
+use Rattle.durable.proofs.Settling.{settling, answers, refuses_worn, refuses_fault, stands_for_one, shows, fails, keeps}
+use Rattle.durable.proofs.Storing.{one_stable, to_parts, from_parts, kept_has, may_settle, none_dirty, some_dirty}
 use Rattle.durable.proofs.Acknowledged.{acknowledges, acknowledges_then, cut_is, may_forget, may_start}
 use Rattle.durable.proofs.store.Store.settle_and_trim.Goals as goal
 
@@ -79,8 +79,7 @@ invariant_of-self-in-Fault g c =
     let was = c.self.invariant in (
       was.0,
       was.1,
-      failed_has _ was.0 was.1 _ was.2 _ _ Acknowledging _ c.in-Err.ensures.err c.stable-stable.ensures.same
-          (logs_now _ was.0 was.1 _ was.2 Acknowledging _ c.if-self.false (acknowledges_then _ was.0 was.1 _ _ _ (none_dirty was.0 was.1 c.least_dirty.result (sym c.is_some.ensures ∙ c.if-is_some.false) (c.least_dirty.ensures was.0 was.1 was.2.remembers)) (c.stable-stable.ensures.stable was.1.base was.1.logged was.2.sections) (c.in-Err.ensures.shown was.0 was.1 (may_settle _ was.0 was.1 _ was.2 c.stable-stable.result.cut c.stable-stable.result.places c.if-self.false (none_dirty was.0 was.1 c.least_dirty.result (sym c.is_some.ensures ∙ c.if-is_some.false) (c.least_dirty.ensures was.0 was.1 was.2.remembers)) (c.stable-stable.ensures.stable was.1.base was.1.logged was.2.sections) (c.stable-stable.ensures.behind was.1.base was.1.logged was.2.sections))))),
+      fails g.D.Disk.device (settling c.least_dirty.result c.stable-stable.result.cut c.stable-stable.result.places c.self.view_is c.if-self.false (sym c.is_some.ensures ∙ c.if-is_some.false) c.least_dirty.ensures c.stable-stable.ensures.stable c.stable-stable.ensures.behind) (g.D.Disk.device c.settle_and_trim.new.disk) Acknowledging (λ p e. after_trim (after_settle p e)) acknowledges_then c.in-Err.ensures.shown _ _ c.in-Err.ensures.err c.stable-stable.ensures.same was.0 was.1 was.2,
     )
 
 pub returns-in-Ok-clause-ok : goal.returns-in-Ok-clause-ok
@@ -95,48 +94,33 @@ returns-in-Ok-clause-ok g c = λ s p cut has stable.
     (c.forget_to.ensures.lanes ∙ ap (λ (g : Logged). g.lanes) c.stable-stable.ensures.same) (c.forget_to.ensures.capacity ∙ ap (λ (g : Logged). g.capacity) c.stable-stable.ensures.same))
 
 pub returns-in-Ok-clause-answer : goal.returns-in-Ok-clause-answer
-returns-in-Ok-clause-answer g c = λ s p has.
-    let was = to_parts g.D.Disk.device _ c.args.self.now (λ x d. HasPast x s p d) c.self.view_is has in
-    from_parts g.D.Disk.device _ c.args.self.now (λ x d. (x.has_failed ≡ false) × IsClean s p) c.self.view_is (c.if-self.false, none_dirty s p c.least_dirty.result (sym c.is_some.ensures ∙ c.if-is_some.false) (c.least_dirty.ensures s p was.remembers))
+returns-in-Ok-clause-answer g c = answers g.D.Disk.device (settling c.least_dirty.result c.stable-stable.result.cut c.stable-stable.result.places c.self.view_is c.if-self.false (sym c.is_some.ensures ∙ c.if-is_some.false) c.least_dirty.ensures c.stable-stable.ensures.stable c.stable-stable.ensures.behind)
 
 pub returns-in-Ok-clause-worn : goal.returns-in-Ok-clause-worn
 returns-in-Ok-clause-worn g c = λ s p has serves clean last.
     c.in-Ok.ensures.worn.1 (ap (λ z. z.known.committed.sequence) c.self.view_is ∙ last)
 
 pub returns-in-Ok-clause-any_moment : goal.returns-in-Ok-clause-any_moment
-returns-in-Ok-clause-any_moment g c = λ s p cut has stable.
-    let was = to_parts g.D.Disk.device _ c.args.self.now (λ x d. HasPast x s p d) c.self.view_is has in
-    from_parts g.D.Disk.device _ c.args.self.now (λ x d. LeavesOnly d (g.D.Disk.device c.settle_and_trim.new.disk) (StandsForEither x.layout s p.logged p.cut cut)) c.self.view_is (subst (λ (k : ℕ → ℕ). LeavesOnly (g.D.Disk.device c.self.inside.disk) (g.D.Disk.device c.settle_and_trim.new.disk) (StandsForEither c.self.inside.layout s p.logged p.cut k)) (λ i l. one_stable (actions p.logged) (counts_of c.stable-stable.result.cut) cut (c.stable-stable.ensures.stable p.base p.logged was.sections) stable l i) (c.in-Ok.ensures.any_moment s p (may_settle _ s p _ was c.stable-stable.result.cut c.stable-stable.result.places c.if-self.false (none_dirty s p c.least_dirty.result (sym c.is_some.ensures ∙ c.if-is_some.false) (c.least_dirty.ensures s p was.remembers)) (c.stable-stable.ensures.stable p.base p.logged was.sections) (c.stable-stable.ensures.behind p.base p.logged was.sections))))
+returns-in-Ok-clause-any_moment g c = stands_for_one g.D.Disk.device (settling c.least_dirty.result c.stable-stable.result.cut c.stable-stable.result.places c.self.view_is c.if-self.false (sym c.is_some.ensures ∙ c.if-is_some.false) c.least_dirty.ensures c.stable-stable.ensures.stable c.stable-stable.ensures.behind) (g.D.Disk.device c.settle_and_trim.new.disk) c.in-Ok.ensures.any_moment
 
 pub returns-in-Ok-clause-shown : goal.returns-in-Ok-clause-shown
-returns-in-Ok-clause-shown g c = λ s p has.
-    let was = to_parts g.D.Disk.device _ c.args.self.now (λ x d. HasPast x s p d) c.self.view_is has in
-    from_parts g.D.Disk.device _ c.args.self.now (λ x d. LeavesOnly d (g.D.Disk.device c.settle_and_trim.new.disk) (ShowsStep x.layout s p Acknowledging)) c.self.view_is (acknowledges_then _ s p _ _ _ (none_dirty s p c.least_dirty.result (sym c.is_some.ensures ∙ c.if-is_some.false) (c.least_dirty.ensures s p was.remembers)) (c.stable-stable.ensures.stable p.base p.logged was.sections) (c.in-Ok.ensures.shown s p (may_settle _ s p _ was c.stable-stable.result.cut c.stable-stable.result.places c.if-self.false (none_dirty s p c.least_dirty.result (sym c.is_some.ensures ∙ c.if-is_some.false) (c.least_dirty.ensures s p was.remembers)) (c.stable-stable.ensures.stable p.base p.logged was.sections) (c.stable-stable.ensures.behind p.base p.logged was.sections))))
+returns-in-Ok-clause-shown g c = shows g.D.Disk.device (settling c.least_dirty.result c.stable-stable.result.cut c.stable-stable.result.places c.self.view_is c.if-self.false (sym c.is_some.ensures ∙ c.if-is_some.false) c.least_dirty.ensures c.stable-stable.ensures.stable c.stable-stable.ensures.behind) (g.D.Disk.device c.settle_and_trim.new.disk) Acknowledging (λ p e. after_trim (after_settle p e)) acknowledges_then c.in-Ok.ensures.shown
 
 pub returns-in-Fault-clause-answer : goal.returns-in-Fault-clause-answer
-returns-in-Fault-clause-answer g c = λ s p has.
-    let was = to_parts g.D.Disk.device _ c.args.self.now (λ x d. HasPast x s p d) c.self.view_is has in
-    from_parts g.D.Disk.device _ c.args.self.now (λ x d. RefusesSettle x s p c.in-Err.reason) c.self.view_is (subst (RefusesSettle (record { layout = c.self.inside.layout; committed = c.self.inside.committed; memory = c.self.inside.applied; logged = c.self.inside.sections; has_failed = c.self.inside.has_failed; doubt = c.self.inside.doubt }) s p) (sym c.in-Fault.is) (c.if-self.false, none_dirty s p c.least_dirty.result (sym c.is_some.ensures ∙ c.if-is_some.false) (c.least_dirty.ensures s p was.remembers)))
+returns-in-Fault-clause-answer g c = refuses_fault g.D.Disk.device (settling c.least_dirty.result c.stable-stable.result.cut c.stable-stable.result.places c.self.view_is c.if-self.false (sym c.is_some.ensures ∙ c.if-is_some.false) c.least_dirty.ensures c.stable-stable.ensures.stable c.stable-stable.ensures.behind) c.in-Err.reason c.in-Fault.is
 
 pub returns-in-Fault-clause-kept : goal.returns-in-Fault-clause-kept
-returns-in-Fault-clause-kept g c = λ s p has.
-    let was = to_parts g.D.Disk.device _ c.args.self.now (λ x d. HasPast x s p d) c.self.view_is has in
-    failed_has _ s p _ was _ _ Acknowledging _ c.in-Err.ensures.err c.stable-stable.ensures.same
-    (logs_now _ s p _ was Acknowledging _ c.if-self.false (acknowledges_then _ s p _ _ _ (none_dirty s p c.least_dirty.result (sym c.is_some.ensures ∙ c.if-is_some.false) (c.least_dirty.ensures s p was.remembers)) (c.stable-stable.ensures.stable p.base p.logged was.sections) (c.in-Err.ensures.shown s p (may_settle _ s p _ was c.stable-stable.result.cut c.stable-stable.result.places c.if-self.false (none_dirty s p c.least_dirty.result (sym c.is_some.ensures ∙ c.if-is_some.false) (c.least_dirty.ensures s p was.remembers)) (c.stable-stable.ensures.stable p.base p.logged was.sections) (c.stable-stable.ensures.behind p.base p.logged was.sections)))))
+returns-in-Fault-clause-kept g c = keeps g.D.Disk.device (settling c.least_dirty.result c.stable-stable.result.cut c.stable-stable.result.places c.self.view_is c.if-self.false (sym c.is_some.ensures ∙ c.if-is_some.false) c.least_dirty.ensures c.stable-stable.ensures.stable c.stable-stable.ensures.behind) (g.D.Disk.device c.settle_and_trim.new.disk) Acknowledging (λ p e. after_trim (after_settle p e)) acknowledges_then c.in-Err.ensures.shown _ _ c.in-Err.ensures.err c.stable-stable.ensures.same
 
 pub returns-in-Fault-clause-worn : goal.returns-in-Fault-clause-worn
 returns-in-Fault-clause-worn g c = λ s p has serves clean last.
     c.in-Err.ensures.worn.1 (ap (λ z. z.known.committed.sequence) c.self.view_is ∙ last)
 
 pub returns-in-Fault-clause-any_moment : goal.returns-in-Fault-clause-any_moment
-returns-in-Fault-clause-any_moment g c = λ s p cut has stable.
-    let was = to_parts g.D.Disk.device _ c.args.self.now (λ x d. HasPast x s p d) c.self.view_is has in
-    from_parts g.D.Disk.device _ c.args.self.now (λ x d. LeavesOnly d (g.D.Disk.device c.settle_and_trim.new.disk) (StandsForEither x.layout s p.logged p.cut cut)) c.self.view_is (subst (λ (k : ℕ → ℕ). LeavesOnly (g.D.Disk.device c.self.inside.disk) (g.D.Disk.device c.settle_and_trim.new.disk) (StandsForEither c.self.inside.layout s p.logged p.cut k)) (λ i l. one_stable (actions p.logged) (counts_of c.stable-stable.result.cut) cut (c.stable-stable.ensures.stable p.base p.logged was.sections) stable l i) (c.in-Err.ensures.any_moment s p (may_settle _ s p _ was c.stable-stable.result.cut c.stable-stable.result.places c.if-self.false (none_dirty s p c.least_dirty.result (sym c.is_some.ensures ∙ c.if-is_some.false) (c.least_dirty.ensures s p was.remembers)) (c.stable-stable.ensures.stable p.base p.logged was.sections) (c.stable-stable.ensures.behind p.base p.logged was.sections))))
+returns-in-Fault-clause-any_moment g c = stands_for_one g.D.Disk.device (settling c.least_dirty.result c.stable-stable.result.cut c.stable-stable.result.places c.self.view_is c.if-self.false (sym c.is_some.ensures ∙ c.if-is_some.false) c.least_dirty.ensures c.stable-stable.ensures.stable c.stable-stable.ensures.behind) (g.D.Disk.device c.settle_and_trim.new.disk) c.in-Err.ensures.any_moment
 
 pub returns-in-Fault-clause-shown : goal.returns-in-Fault-clause-shown
-returns-in-Fault-clause-shown g c = λ s p has.
-    let was = to_parts g.D.Disk.device _ c.args.self.now (λ x d. HasPast x s p d) c.self.view_is has in
-    from_parts g.D.Disk.device _ c.args.self.now (λ x d. LeavesOnly d (g.D.Disk.device c.settle_and_trim.new.disk) (ShowsStep x.layout s p Acknowledging)) c.self.view_is (acknowledges_then _ s p _ _ _ (none_dirty s p c.least_dirty.result (sym c.is_some.ensures ∙ c.if-is_some.false) (c.least_dirty.ensures s p was.remembers)) (c.stable-stable.ensures.stable p.base p.logged was.sections) (c.in-Err.ensures.shown s p (may_settle _ s p _ was c.stable-stable.result.cut c.stable-stable.result.places c.if-self.false (none_dirty s p c.least_dirty.result (sym c.is_some.ensures ∙ c.if-is_some.false) (c.least_dirty.ensures s p was.remembers)) (c.stable-stable.ensures.stable p.base p.logged was.sections) (c.stable-stable.ensures.behind p.base p.logged was.sections))))
+returns-in-Fault-clause-shown g c = shows g.D.Disk.device (settling c.least_dirty.result c.stable-stable.result.cut c.stable-stable.result.places c.self.view_is c.if-self.false (sym c.is_some.ensures ∙ c.if-is_some.false) c.least_dirty.ensures c.stable-stable.ensures.stable c.stable-stable.ensures.behind) (g.D.Disk.device c.settle_and_trim.new.disk) Acknowledging (λ p e. after_trim (after_settle p e)) acknowledges_then c.in-Err.ensures.shown
 
 pub returns-in_default : goal.returns-in_default
 returns-in_default g c =
@@ -146,9 +130,7 @@ returns-in_default g c =
     record {
       ok = λ s p cut has stable. tt;
       running = tt;
-      answer = λ s p has. (
-          let was = to_parts g.D.Disk.device _ c.args.self.now (λ x d. HasPast x s p d) c.self.view_is has in
-          from_parts g.D.Disk.device _ c.args.self.now (λ x d. RefusesSettle x s p c.in-Err.reason) c.self.view_is (settle_refused (record { layout = c.self.inside.layout; committed = c.self.inside.committed; memory = c.self.inside.applied; logged = c.self.inside.sections; has_failed = c.self.inside.has_failed; doubt = c.self.inside.doubt }) s p c.in-Err.reason c.if-self.false worn (none_dirty s p c.least_dirty.result (sym c.is_some.ensures ∙ c.if-is_some.false) (c.least_dirty.ensures s p was.remembers)) (c.in-Err.ensures.worn.0 (ap Err worn))));
+      answer = refuses_worn g.D.Disk.device (settling c.least_dirty.result c.stable-stable.result.cut c.stable-stable.result.places c.self.view_is c.if-self.false (sym c.is_some.ensures ∙ c.if-is_some.false) c.least_dirty.ensures c.stable-stable.ensures.stable c.stable-stable.ensures.behind) c.in-Err.reason worn (c.in-Err.ensures.worn.0 (ap Err worn));
       worn = λ s p has serves clean last. c.in-Err.ensures.worn.1 (ap (λ z. z.known.committed.sequence) c.self.view_is ∙ last);
       kept = λ s p has. (
           let was = to_parts g.D.Disk.device _ c.args.self.now (λ x d. HasPast x s p d) c.self.view_is has in
@@ -157,12 +139,8 @@ returns-in_default g c =
           ∙ c.self.view_is);
       failed = λ is. absurd (c.in_default.not-Fault (let again : c.in-Err.reason ≡ Fault = cc in again));
       in_doubt = λ is. absurd (c.in_default.not-Fault (let again : c.in-Err.reason ≡ Fault = cc in again));
-      any_moment = λ s p cut has stable. (
-          let was = to_parts g.D.Disk.device _ c.args.self.now (λ x d. HasPast x s p d) c.self.view_is has in
-          from_parts g.D.Disk.device _ c.args.self.now (λ x d. LeavesOnly d (g.D.Disk.device c.settle_and_trim.new.disk) (StandsForEither x.layout s p.logged p.cut cut)) c.self.view_is (subst (λ (k : ℕ → ℕ). LeavesOnly (g.D.Disk.device c.self.inside.disk) (g.D.Disk.device c.settle_and_trim.new.disk) (StandsForEither c.self.inside.layout s p.logged p.cut k)) (λ i l. one_stable (actions p.logged) (counts_of c.stable-stable.result.cut) cut (c.stable-stable.ensures.stable p.base p.logged was.sections) stable l i) (c.in-Err.ensures.any_moment s p (may_settle _ s p _ was c.stable-stable.result.cut c.stable-stable.result.places c.if-self.false (none_dirty s p c.least_dirty.result (sym c.is_some.ensures ∙ c.if-is_some.false) (c.least_dirty.ensures s p was.remembers)) (c.stable-stable.ensures.stable p.base p.logged was.sections) (c.stable-stable.ensures.behind p.base p.logged was.sections)))));
-      shown = λ s p has. (
-          let was = to_parts g.D.Disk.device _ c.args.self.now (λ x d. HasPast x s p d) c.self.view_is has in
-          from_parts g.D.Disk.device _ c.args.self.now (λ x d. LeavesOnly d (g.D.Disk.device c.settle_and_trim.new.disk) (ShowsStep x.layout s p Acknowledging)) c.self.view_is (acknowledges_then _ s p _ _ _ (none_dirty s p c.least_dirty.result (sym c.is_some.ensures ∙ c.if-is_some.false) (c.least_dirty.ensures s p was.remembers)) (c.stable-stable.ensures.stable p.base p.logged was.sections) (c.in-Err.ensures.shown s p (may_settle _ s p _ was c.stable-stable.result.cut c.stable-stable.result.places c.if-self.false (none_dirty s p c.least_dirty.result (sym c.is_some.ensures ∙ c.if-is_some.false) (c.least_dirty.ensures s p was.remembers)) (c.stable-stable.ensures.stable p.base p.logged was.sections) (c.stable-stable.ensures.behind p.base p.logged was.sections)))));
+      any_moment = stands_for_one g.D.Disk.device (settling c.least_dirty.result c.stable-stable.result.cut c.stable-stable.result.places c.self.view_is c.if-self.false (sym c.is_some.ensures ∙ c.if-is_some.false) c.least_dirty.ensures c.stable-stable.ensures.stable c.stable-stable.ensures.behind) (g.D.Disk.device c.settle_and_trim.new.disk) c.in-Err.ensures.any_moment;
+      shown = shows g.D.Disk.device (settling c.least_dirty.result c.stable-stable.result.cut c.stable-stable.result.places c.self.view_is c.if-self.false (sym c.is_some.ensures ∙ c.if-is_some.false) c.least_dirty.ensures c.stable-stable.ensures.stable c.stable-stable.ensures.behind) (g.D.Disk.device c.settle_and_trim.new.disk) Acknowledging (λ p e. after_trim (after_settle p e)) acknowledges_then c.in-Err.ensures.shown;
       cause = from_parts g.D.Disk.device _ c.args.self.now (λ x d. HasCause {T = Unit {0}} d.failures (g.D.Disk.device c.settle_and_trim.new.disk).failures Fault (Err c.in-Err.reason)) c.self.view_is c.in-Err.ensures.cause;
       layout = ap (λ z. z.known.layout) c.self.view_is;
     }

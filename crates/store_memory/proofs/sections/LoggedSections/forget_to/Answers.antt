@@ -1,16 +1,16 @@
 use Rattle.std.proofs.Common.{true, false, ℕ, ◌≡◌, ◌+◌, ◌-◌, ◌*◌, ◌≤◌, List, length, slice_index, sym, ap, ◌∙◌, subst, inl, inr, arith}
 use Rattle.std.specs.Prelude.{min}
 use Rattle.std.proofs.lemmas.Bool.{cases_lt}
+use Rattle.std.proofs.Math.Nat.{min-le_left, min-le_right, le-min}
 use Rattle.heap_model.specs.Cuts.{counts_of}
-use Rattle.heap_model.specs.Sections.{Action, actions}
+use Rattle.heap_model.specs.Sections.{actions}
 use Rattle.heap_model.specs.Base.{since}
 use Rattle.dependence.specs.Trace.{in_all, told_of}
-use Rattle.store_memory.specs.Counted.{lane_in}
 use Rattle.store_memory.specs.Ends.{slot_of}
 use Rattle.store_memory.specs.Sections.{Logged, TellsSections}
 use Rattle.store_memory.specs.Trimming.{MayForget, IsPaid, Now}
 use Rattle.store_memory.specs.KeptSections.{logged_of}
-use Rattle.store_memory.proofs.Forgetting.{at_most, places_low, places_near, left_is, stays, tells_later, tells_since}
+use Rattle.store_memory.proofs.Forgetting.{at_most, places_low, places_near, left_is, stay_few, tells_later, tells_since}
 use Rattle.store_memory.proofs.SectionRoom.{sum_room}
 use Rattle.store_memory.proofs.sections.LoggedSections.forget_to.Goals as goal
 
@@ -34,7 +34,7 @@ is_paid-requires-clause-left c =
     let may : MayForget (logged_of c.self.inside) r.0 r.1 (counts_of c.args.cut.now) = subst (λ (m : Logged). MayForget m r.0 r.1 (counts_of c.args.cut.now)) (sym c.self.view_is) r.2 in
     let near = places_near (logged_of c.self.inside) r.0 r.1 c.args.cut.now may c.places_behind-places.result
     (λ l lt. c.places_behind-places.ensures.behind l lt ∙ ap (λ (xs : List ℕ). slice_index xs (slot_of c.self.inside.capacity l (counts_of c.args.cut.now l))) c.deref.ensures.value) in
-    let counted : ℕ → ℕ = λ l. (lane_in c.self.inside.counts l).place - slice_index c.places_behind-places.result l in
+    let counted : ℕ → ℕ = λ l. slice_index c.self.inside.places l - slice_index c.places_behind-places.result l in
     let most : in_all c.self.inside.lanes counted ≤ c.self.inside.lanes * c.self.inside.capacity = sum_room c.self.inside.lanes c.self.inside.capacity counted (λ l lt. omega (arith, near l lt)) in
     let is : c.records_from-left.result ≡ in_all c.self.inside.lanes counted = c.records_from-left.ensures in
     omega (arith, is, most, c.room-most.ensures)
@@ -55,10 +55,13 @@ returns-then-is_paid-clause-paid c =
     let may : MayForget (logged_of c.self.inside) r.0 r.1 (counts_of c.args.cut.now) = subst (λ (m : Logged). MayForget m r.0 r.1 (counts_of c.args.cut.now)) (sym c.self.view_is) r.2 in
     let all : c.records_from-left.result ≡ length (since (counts_of c.args.cut.now) (actions r.1)) = c.records_from-left.ensures ∙ left_is (logged_of c.self.inside) r.0 r.1 c.args.cut.now may c.places_behind-places.result
     (λ l lt. c.places_behind-places.ensures.behind l lt ∙ ap (λ (xs : List ℕ). slice_index xs (slot_of c.self.inside.capacity l (counts_of c.args.cut.now l))) c.deref.ensures.value) in
-    let left : length c.forget_to.new.self.log ≡ c.records_from-left.result = ap (λ (xs : List (ℕ × Action)). length xs)
-    (stays (logged_of c.self.inside) r.0 r.1 c.args.cut.now may (told_of c.forget_to.new.self) c.forget_to.ensures.log c.forget_to.ensures.base) ∙ sym all in
+    let left : length c.forget_to.new.self.log ≤ c.records_from-left.result =
+    omega (arith, stay_few (logged_of c.self.inside) r.0 r.1 c.args.cut.now may (told_of c.forget_to.new.self) c.forget_to.ensures.log c.forget_to.ensures.base, all) in
+    let room : ℕ = c.self.inside.lanes * c.self.inside.capacity in
+    let beyond : min room (length c.forget_to.new.self.log + 4096) ≤ min room (c.records_from-left.result + 4096) =
+    le-min (min-le_left room (length c.forget_to.new.self.log + 4096)) (omega (arith, min-le_right room (length c.forget_to.new.self.log + 4096), left)) in
     subst (λ (m : Logged). IsPaid m (record (logged_of c.self.inside) { graph = told_of c.forget_to.new.self })) c.self.view_is
-    (Now (omega (arith, left, c.is_paid.ensures.0 c.if-is_paid.true, c.room-most.ensures, c.room.ensures, c.self.invariant.graph_room)))
+    (Now (omega (arith, left, beyond, c.is_paid.ensures.0 c.if-is_paid.true, c.room-most.ensures, c.room.ensures, c.self.invariant.graph_room)))
 
 pub returns-else-is_paid-clause-tells : goal.returns-else-is_paid-clause-tells
 returns-else-is_paid-clause-tells c = λ base log was.

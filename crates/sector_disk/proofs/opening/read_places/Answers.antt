@@ -6,14 +6,14 @@ use Rattle.sector_disk.specs.Size.{place_of}
 use Rattle.sector_disk.specs.Places.{area, turn_of}
 use Rattle.sector_disk.proofs.Beginnings.{kept_opened, same_fits, same_now, same_pending}
 use Rattle.sector_disk.proofs.Sizes.{area_fits_all, few_count, gate_fits}
-use Rattle.sector_disk.proofs.opening.find_places.Goals as goal
+use Rattle.sector_disk.proofs.opening.read_places.Goals as goal
 
 pub read_gate-requires-clause-fits : goal.read_gate-requires-clause-fits
 read_gate-requires-clause-fits g c =
     let old = g.S.Sectors.device c.args.sectors.now in
     let mid = g.S.Sectors.device c.settle.new.sectors in
     gate_fits c.args.size c.args.count (length mid.now.bytes)
-    (same_fits old mid (place_of c.args.size (c.args.count + c.args.count + 2)) c.settle.ensures.same (c.has_room.ensures.enough c.if-not-has_room.false))
+    (same_fits old mid (place_of c.args.size (c.args.count + c.args.count + 2)) c.settle.ensures.same c.requires.fits)
 
 pub first_of-first-requires : goal.first_of-first-requires
 first_of-first-requires g c =
@@ -22,7 +22,7 @@ first_of-first-requires g c =
     let late = g.S.Sectors.device c.read_gate.new.sectors in
     let same : late.now.bytes ≡ old.now.bytes = same_now mid late c.read_gate.ensures.same ∙ c.settle.ensures.same in
     let few = few_count c.args.size c.args.count (length late.now.bytes)
-    (same_fits old late (place_of c.args.size (c.args.count + c.args.count + 2)) same (c.has_room.ensures.enough c.if-not-has_room.false)) in
+    (same_fits old late (place_of c.args.size (c.args.count + c.args.count + 2)) same c.requires.fits) in
     omega (arith, few)
 
 pub read_area-requires-clause-fits : goal.read_area-requires-clause-fits
@@ -33,7 +33,7 @@ read_area-requires-clause-fits g c =
     let same : late.now.bytes ≡ old.now.bytes = same_now mid late c.read_gate.ensures.same ∙ c.settle.ensures.same in
     subst (λ (f : ℕ). place_of c.args.size (f + c.args.count) ≤ length late.now.bytes) (sym c.first_of-first.ensures)
     (area_fits_all c.args.size c.args.count c.in_ok-turn.turn (length late.now.bytes)
-    (same_fits old late (place_of c.args.size (c.args.count + c.args.count + 2)) same (c.has_room.ensures.enough c.if-not-has_room.false)))
+    (same_fits old late (place_of c.args.size (c.args.count + c.args.count + 2)) same c.requires.fits))
 
 pub returns-clause-image : goal.returns-clause-image
 returns-clause-image g c =
@@ -67,5 +67,5 @@ returns-clause-kept g c =
     ∙ ap (λ (xs : List ℕ). area c.args.size c.args.count c.in_ok-turn.turn xs) (sym same) in
     kept_opened c.args.size c.args.count c.in_ok-turn.turn c.in_ok-fresh.fresh c.in_ok-stale.stale c.in_ok-image.image.items new
     (same_pending late new c.read_area.ensures.same (same_pending mid late c.read_gate.ensures.same pending))
-    (same_fits old new (place_of c.args.size (c.args.count + c.args.count + 2)) (same ∙ before ∙ c.settle.ensures.same) (c.has_room.ensures.enough c.if-not-has_room.false))
+    (same_fits old new (place_of c.args.size (c.args.count + c.args.count + 2)) (same ∙ before ∙ c.settle.ensures.same) c.requires.fits)
     turn image c.in_ok-fresh.ensures c.in_ok-stale.ensures

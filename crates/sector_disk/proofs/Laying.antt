@@ -1,0 +1,53 @@
+-- Making a device stand for a disk in two places, step by step.
+use Rattle.std.proofs.Common.{◌≡◌, ◌⊎◌, inl, inr, ℕ, ◌+◌, ◌<◌, ◌≤◌, Bool, true, false, List, [], ◌∷◌, length, get_or, replicate, sym, ◌∙◌, ap, subst, arith, nat_eq}
+use Rattle.std.proofs.lemmas.List.{length-replicate}
+use Rattle.block_disk.specs.Device.{Device, Moment, SameMoments, SameOutside, synced}
+use Rattle.block_disk.proofs.Ranges.{outside_trans, outside_wider}
+use Rattle.sector_disk.specs.declared.size.SectorSize.{SectorSize}
+use Rattle.sector_disk.specs.Size.{place_of}
+use Rattle.sector_disk.specs.Places.{IsAsFound, IsKept, Matches, area, first_sector, one_sector, sectors_from, turn_of}
+use Rattle.sector_disk.proofs.Beginnings.{all_marked, kept_found}
+use Rattle.sector_disk.proofs.Sizes.{apart_gate, apart_label, area_fits_all, first_among, gate_among, gate_clear_label, label_among, place_le, sector_apart_gate, sector_apart_label}
+use Rattle.sector_disk.proofs.TwoAreas.{area_same, matches_same}
+
+-- What was written lies among the sectors that the disk takes.
+
+pub among_label : (size : SectorSize) (count : ℕ) (xs ys : List ℕ) → SameOutside (one_sector size 0 ∷ []) xs ys → SameOutside (sectors_from size 0 (count + count + 2) ∷ []) xs ys
+among_label size count xs ys same =
+    outside_wider (one_sector size 0) (sectors_from size 0 (count + count + 2)) xs ys (place_le size 0 0 (omega arith)) (label_among size count) same
+
+pub among_gate : (size : SectorSize) (count : ℕ) (xs ys : List ℕ) → SameOutside (one_sector size 1 ∷ []) xs ys → SameOutside (sectors_from size 0 (count + count + 2) ∷ []) xs ys
+among_gate size count xs ys same =
+    outside_wider (one_sector size 1) (sectors_from size 0 (count + count + 2)) xs ys (place_le size 0 1 (omega arith)) (gate_among size count) same
+
+pub among_first : (size : SectorSize) (count n : ℕ) (xs ys : List ℕ) → n ≡ count → SameOutside (sectors_from size 2 n ∷ []) xs ys → SameOutside (sectors_from size 0 (count + count + 2) ∷ []) xs ys
+among_first size count n xs ys is same =
+    outside_wider (sectors_from size 2 n) (sectors_from size 0 (count + count + 2)) xs ys (place_le size 0 2 (omega arith)) (first_among size count n is) same
+
+-- The first area was filled, then the gate turned to it, and then the label written.
+pub kept_laid : (size : SectorSize) (count : ℕ) (fresh stale : List Bool) (image : List ℕ) (filled turned d : Device) → d.now.pending ≡ [] → place_of size (count + count + 2) ≤ length filled.now.bytes
+    → SameOutside (one_sector size 1 ∷ []) filled.now.bytes turned.now.bytes → turn_of size turned.now.bytes ≡ false → SameOutside (one_sector size 0 ∷ []) turned.now.bytes d.now.bytes
+    → area size count false filled.now.bytes ≡ image → length fresh ≡ count → stale ≡ replicate count true → Matches size 2 fresh image filled.now.bytes
+    → IsKept size true false fresh stale image (record { bytes = image; pending = [] }) d
+kept_laid size count fresh stale image filled turned d settled fits one says two whole many stale_is matches =
+    let fits1 : place_of size (count + count + 2) ≤ length turned.now.bytes = omega (arith, fits, one.size) in
+    let fits2 : place_of size (count + count + 2) ≤ length d.now.bytes = omega (arith, fits1, two.size) in
+    let says2 : turn_of size d.now.bytes ≡ false = ap (λ (b : ℕ). nat_eq b 1) (two.same (place_of size 1) (gate_clear_label size)) ∙ says in
+    let same : area size count false d.now.bytes ≡ image =
+    area_same size count false (one_sector size 0 ∷ []) turned.now.bytes d.now.bytes two fits1 (apart_label size count false)
+    ∙ area_same size count false (one_sector size 1 ∷ []) filled.now.bytes turned.now.bytes one fits (apart_gate size count false) ∙ whole in
+    let long : place_of size (2 + length fresh) ≤ length filled.now.bytes =
+    subst (λ (n : ℕ). place_of size (2 + n) ≤ length filled.now.bytes) (sym many) (area_fits_all size count false (length filled.now.bytes) fits) in
+    let long1 : place_of size (2 + length fresh) ≤ length turned.now.bytes = omega (arith, long, one.size) in
+    kept_found size count false fresh stale image d settled fits2 says2 (sym same) many (ap (λ (xs : List Bool). length xs) stale_is ∙ length-replicate count true)
+    (matches_same size 2 fresh image turned.now.bytes d.now.bytes (one_sector size 0) two long1 (λ i less. sector_apart_label size count false i)
+    (matches_same size 2 fresh image filled.now.bytes turned.now.bytes (one_sector size 1) one long (λ i less. sector_apart_gate size count false i) matches))
+    (all_marked size (first_sector count true) count stale image d.now.bytes stale_is)
+
+-- A device that was flushed, and then only read.
+
+pub read_since : (old flushed new : Device) → flushed ≡ synced old → SameMoments flushed new → IsAsFound old new
+read_since old flushed new is same = inr (subst (λ (d : Device). SameMoments d new) is same)
+
+pub same_then : (old mid new : Device) → SameMoments old mid → SameMoments mid new → SameMoments old new
+same_then old mid new a b = record { name = b.name ∙ a.name; now = b.now ∙ a.now; past = b.past ∙ a.past }

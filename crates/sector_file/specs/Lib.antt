@@ -1,0 +1,2 @@
+-- What the sectors of a file are, as clauses see them.
+pub mod FileSectors

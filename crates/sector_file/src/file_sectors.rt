@@ -1,0 +1,258 @@
+//! The sectors of a file.
+ghost use Rattle.std.specs.Prelude.{◌≡◌, ◌⊎◌, ◌+◌, ◌^◌, ◌<◌, ◌≤◌, length, option_map, IfOk, IfSome, OnErr, OnOk};
+ghost use Rattle.block_disk.specs.Device.{SameMoments, TornWrite, synced, written};
+ghost use Rattle.file_disk.specs.Backing.{put_at, settled};
+ghost use Rattle.sector_disk.specs.Size.{bytes_in, place_of};
+
+use block_disk::{Fault, copy_out};
+use file_disk::{BackingFile, Claim};
+use sector_disk::{PlacesError, SectorError, SectorSize, Sectors, Trace};
+use std::alloc::Global;
+use std::io;
+use std::marker::Model;
+
+// How many bytes are written at a time where a file is filled.
+const PAGE: usize = 4096;
+
+/// The sectors of a file, for a disk in two places on it.
+///
+/// Each call on the file is one of whole sectors. When they are opened, the gate is read, and the area whose turn it is, whole; other
+/// sectors are never read, since a crash may have left them so that they can't be. What was read is kept until a sector is written, so that a
+/// file that gives other bytes later makes no wrong answer.
+///
+/// What they may claim of a crash rests on the file: that `fdatasync` makes durable what was written before it, and that a write
+/// leaves the sectors alone that it isn't one of.
+#[derive(Drop)]
+pub struct FileSectors<F: BackingFile + Drop> {
+    file: F,
+    size: SectorSize,
+    count: u64,
+    // The bytes, of which those of the gate and of the area are read; none once a sector was written.
+    known: Option<Vec<u8>>,
+    // The number of the area's first sector, and how many it has.
+    first: u64,
+    area: u64,
+    trace: Trace,
+}
+
+impl<F: BackingFile + Drop> Model for FileSectors<F> {
+    ghost use Rattle.std.specs.Prelude.{option_map};
+    ghost use Rattle.sector_file.specs.FileSectors.{AreSectors, OnFile};
+
+    ghost Value = { OnFile };
+
+    ghost view = { λ s. record { device = s.trace.device; size = s.size; file = F.holds s.file } };
+
+    ghost invariant = { λ s. AreSectors s.size s.count (option_map (λ known. known.items) s.known) s.trace.device };
+}
+
+impl<F: BackingFile + Drop> FileSectors<F> {
+    /// The sectors of this file on which a disk of so many lies in two places. The file is synced first, so that what is read is what a
+    /// crash leaves.
+    ///
+    /// `Fault`, `TooSmall` and `NoMemory`, as they come. A gate that can't be read is none: then it is the first area's turn.
+    pub fn found(
+        alloc: Global,
+        mut file: F,
+        size: SectorSize,
+        count: usize,
+    ) -> Result<FileSectors<F>, PlacesError>
+        ensures { IfOk result (λ sectors. sectors.size ≡ size) }
+    {
+        if file.settle().is_err() {
+            return Err(PlacesError::Fault);
+        }
+        let Ok(len) = file.len() else {
+            return Err(PlacesError::Fault);
+        };
+        let Some(all) = sectors_for(count, len, size) else {
+            return Err(PlacesError::TooSmall);
+        };
+        let Some(mut bytes) = zeros(alloc, size, all) else {
+            return Err(PlacesError::NoMemory);
+        };
+        let first = match read_areas(&mut file, size, count, &mut bytes) {
+            Ok(first) => first,
+            Err(_) => return Err(PlacesError::Fault),
+        };
+        let trace = Trace::of(&bytes);
+        Ok(FileSectors {
+            file,
+            size,
+            count: all as u64,
+            known: Some(bytes),
+            first: first as u64,
+            area: count as u64,
+            trace,
+        })
+    }
+
+    /// Sectors of zeros in this file, whatever it had, for a disk of so many in two places.
+    ///
+    /// `NoMemory` is tried first, then `Fault`; `TooSmall` says that no file has so many.
+    pub fn blank(
+        alloc: Global,
+        mut file: F,
+        size: SectorSize,
+        count: usize,
+    ) -> Result<FileSectors<F>, PlacesError>
+        ensures { IfOk result (λ sectors. sectors.size ≡ size) }
+    {
+        let Some(all) = sectors_for(count, i64::MAX as u64, size) else {
+            return Err(PlacesError::TooSmall);
+        };
+        let Some(bytes) = zeros(alloc, size, all) else {
+            return Err(PlacesError::NoMemory);
+        };
+        if fill(&mut file, &bytes).is_err() {
+            return Err(PlacesError::Fault);
+        }
+        let trace = Trace::of(&bytes);
+        Ok(FileSectors {
+            file,
+            size,
+            count: all as u64,
+            known: None,
+            first: 0,
+            area: 0,
+            trace,
+        })
+    }
+
+    /// Claims the file.
+    pub fn claim(&self, claim: Claim) -> io::Result<bool> {
+        self.file.claim(claim)
+    }
+}
+
+// So many sectors of zeros; none where there is no memory.
+fn zeros(alloc: Global, size: SectorSize, count: usize) -> Option<Vec<u8>>
+    requires { place_of size count < 2 ^ 64 }
+    ensures { IfSome result (λ bytes. length bytes.items ≡ place_of size count) }
+{
+    vec![in alloc; 0u8; count * size.bytes()].ok()
+}
+
+// How many sectors a disk of so many takes in two places, where so many bytes have as many.
+fn sectors_for(count: usize, len: u64, size: SectorSize) -> Option<usize>
+    ensures is { IfSome result (λ all. all ≡ count + count + 2) }
+    ensures fits { IfSome result (λ all. place_of size all ≤ len) }
+{
+    let most = len / size.bytes() as u64;
+    if most < 2 {
+        return None;
+    }
+    let room = (most - 2) / 2;
+    let wanted = count as u64;
+    if room < wanted {
+        return None;
+    }
+    Some(count + count + 2)
+}
+
+// Reads the gate and the area whose turn it is, and gives the number of the area's first sector.
+fn read_areas<F: BackingFile>(
+    file: &mut F,
+    size: SectorSize,
+    count: usize,
+    bytes: &mut [u8],
+) -> io::Result<usize>
+    requires { length bytes.old ≡ place_of size (count + count + 2) }
+    ensures { length bytes.new ≡ length bytes.old }
+{
+    let len = size.bytes();
+    let turn = read_gate(file, size, &mut bytes[len..len + len]);
+    let first = if turn { count + 2 } else { 2 };
+    let at = first * len;
+    file.read_from(at as u64, &mut bytes[at..at + count * len])?;
+    Ok(first)
+}
+
+// Reads the gate: whether it is the second area's turn.
+fn read_gate<F: BackingFile>(file: &mut F, size: SectorSize, gate: &mut [u8]) -> bool
+    requires { length gate.old ≡ bytes_in size }
+    ensures { length gate.new ≡ length gate.old }
+{
+    if file.read_from(size.bytes() as u64, gate).is_err() {
+        gate.fill(0);
+    }
+    gate[0] == 1
+}
+
+// Makes these the file's bytes, durably, a page at a time.
+fn fill<F: BackingFile>(file: &mut F, bytes: &[u8]) -> io::Result<()> {
+    file.empty()?;
+    for page in 0..bytes.len() / PAGE + 1 {
+        let from = page * PAGE;
+        let to = bytes.len().min(from + PAGE);
+        file.write_to(from as u64, &bytes[from..to])?;
+    }
+    file.settle()
+}
+
+// Whether this is the gate, or one of so many sectors from the first on.
+fn is_among(number: u64, first: u64, count: u64) -> bool {
+    number == 1 || (number >= first && number - first < count)
+}
+
+impl<F: BackingFile + Drop> Sectors for FileSectors<F> {
+    ghost device = { λ s. s.device };
+
+    ghost of_size = { λ s. s.size };
+
+    fn sector_size(&self) -> SectorSize {
+        self.size
+    }
+
+    fn count(&self) -> u64 {
+        self.count
+    }
+
+    fn read_sector(&mut self, number: u64, out: &mut [u8]) -> Result<(), SectorError> {
+        if !is_among(number, self.first, self.area) {
+            return Err(SectorError::Fault);
+        }
+        match &self.known {
+            Some(bytes) => {
+                copy_out(bytes, number * self.size.bytes() as u64, out);
+                Ok(())
+            }
+            None => Err(SectorError::Fault),
+        }
+    }
+
+    /// Writes the file there, and no more of it.
+    fn write_sector(&mut self, number: u64, bytes: &[u8]) -> Result<(), Fault>
+        requires whole { length bytes.now ≡ bytes_in self.old.size }
+        requires fits { place_of self.old.size number + bytes_in self.old.size ≤ length self.old.device.now.bytes }
+        ensures ok { OnOk result (self.new.device ≡ written (place_of self.old.size number) bytes.now self.old.device) }
+        ensures fault { OnErr result (SameMoments self.old.device self.new.device
+            ⊎ TornWrite (place_of self.old.size number) (length bytes.now) self.old.device self.new.device) }
+        ensures size { self.new.size ≡ self.old.size }
+        ensures file { OnOk result (self.new.file ≡ option_map (put_at (place_of self.old.size number) bytes.now) self.old.file) }
+    {
+        let at = number * self.size.bytes() as u64;
+        let answer = self.file.write_to(at, bytes);
+        self.known = None;
+        // Where it has failed, it may have been begun.
+        self.trace.write(at, bytes);
+        match answer {
+            Ok(()) => Ok(()),
+            Err(_) => Err(Fault),
+        }
+    }
+
+    /// Syncs the file.
+    fn flush(&mut self) -> Result<(), Fault>
+        ensures ok { OnOk result (self.new.device ≡ synced self.old.device) }
+        ensures fault { OnErr result (SameMoments self.old.device self.new.device) }
+        ensures size { self.new.size ≡ self.old.size }
+        ensures file { OnOk result (self.new.file ≡ option_map settled self.old.file) }
+    {
+        if self.file.settle().is_err() {
+            return Err(Fault);
+        }
+        self.trace.sync();
+        Ok(())
+    }
+}

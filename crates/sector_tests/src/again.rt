@@ -1,0 +1,97 @@
+//! A second crash, while what the first has left is opened and gone on with: it loses no byte that isn't in flight either.
+use crate::chance::Chance;
+use crate::damage::{Damage, crashed, crashed_bytes};
+use crate::truth::{Truth, stop_between};
+use crate::two_places::{COUNT, Tried, holds, write_some};
+use block_disk::{Disk, MemDisk};
+use sector_disk::{SectorSize, SectorsOf, TwoPlaces};
+use std::alloc::Global;
+
+// How many second crashes of these devices, one each, lost a byte; `None` where there was no memory.
+fn wrong(alloc: Global, size: SectorSize, damage: Damage, devices: u64) -> Option<u64> {
+    let mut chance = Chance::new(11);
+    let mut wrong: u64 = 0;
+    for _ in 0..devices {
+        wrong = wrong.saturating_add(live(alloc, size, damage, &mut chance)?);
+    }
+    Some(wrong)
+}
+
+fn live(alloc: Global, size: SectorSize, damage: Damage, chance: &mut Chance) -> Option<u64> {
+    let len = (2 * COUNT + 2) * size.bytes();
+    let under = MemDisk::new(alloc, len as u64).ok()?;
+    let mut disk = TwoPlaces::create(alloc, SectorsOf::new(under, size), COUNT).ok()?;
+    let mut truth = Truth::zeros(alloc, COUNT * size.bytes())?;
+    for _ in 0..chance.below(3) {
+        sync_some(&mut disk, &mut truth, chance)?;
+        truth.settle();
+    }
+    let (stop, is_done) = sync_some(&mut disk, &mut truth, chance)?;
+    let left = crashed_bytes(alloc, disk.sectors().disk(), stop, size, damage, chance)?;
+    live_again(alloc, &left, size, damage, &truth, is_done, chance)
+}
+
+// Writes some bytes and syncs: a stop in that by chance or behind it, and whether it is behind.
+fn sync_some(disk: &mut Tried, truth: &mut Truth, chance: &mut Chance) -> Option<(u64, bool)> {
+    let before = disk.sectors().disk().stops();
+    if !write_some(disk, truth, chance) {
+        return None;
+    }
+    if disk.sync().is_err() {
+        return None;
+    }
+    let after = disk.sectors().disk().stops();
+    let stop = stop_between(before, after, chance);
+    Some((stop, stop > after))
+}
+
+// The second life: whether it finds what it must, and loses nothing at a crash of its own.
+fn live_again(
+    alloc: Global,
+    left: &[u8],
+    size: SectorSize,
+    damage: Damage,
+    truth: &Truth,
+    is_done: bool,
+    chance: &mut Chance,
+) -> Option<u64> {
+    let under = MemDisk::from_bytes(alloc, left).ok()?;
+    let mut disk = TwoPlaces::open(alloc, SectorsOf::new(under, size), COUNT).ok()?;
+    let mut found = vec![in alloc; 0u8; truth.bytes.len()].ok()?;
+    if disk.read_at(0, &mut found).is_err() || !truth.allows(&found, is_done) {
+        return Some(1);
+    }
+    let mut now = Truth::holding(alloc, found)?;
+    if !write_some(&mut disk, &mut now, chance) || disk.sync().is_err() {
+        return None;
+    }
+    // From the opening on.
+    let after = disk.sectors().disk().stops();
+    let stop = stop_between(0, after, chance);
+    let last = crashed(alloc, disk.sectors().disk(), stop, size, damage, chance)?;
+    if holds(alloc, last, &now, stop > after) {
+        Some(0)
+    } else {
+        Some(1)
+    }
+}
+
+#[test]
+fn no_second_crash_loses_a_byte_that_is_not_in_flight(rt: HostRuntime) {
+    let sizes = [SectorSize::Bytes512, SectorSize::Bytes4096];
+    let models = [
+        Damage::OldOrNew,
+        Damage::Torn,
+        Damage::AnyBytes,
+        Damage::Unreadable,
+    ];
+    for size in sizes {
+        for damage in models {
+            assert_eq!(rt;
+                wrong(rt.alloc(), size, damage, 100),
+                Some(0),
+                "{size:?}, {damage:?}"
+            );
+        }
+    }
+}

@@ -1,0 +1,84 @@
+//! Crashes of an image file in two places: what is found is right, whatever became of the sectors that were being written.
+use crate::chance::Chance;
+use crate::medium::Medium;
+use crate::truth::{Truth, bytes_of, change};
+use file_disk::BackingFile;
+use sector_disk::SectorSize;
+use sector_file::ImageBytes;
+use std::alloc::Global;
+
+// The bytes of two sectors.
+const LEN: usize = 1024;
+
+// How many crashes of these files, eight each, lost a byte; `None` where there was no memory.
+fn wrong(alloc: Global, files: u64) -> Option<u64> {
+    let mut chance = Chance::new(5);
+    let mut wrong: u64 = 0;
+    for _ in 0..files {
+        wrong = wrong.saturating_add(live(alloc, &mut chance)?);
+    }
+    Some(wrong)
+}
+
+// How many of one file's crashes did.
+fn live(alloc: Global, chance: &mut Chance) -> Option<u64> {
+    let medium = Medium::empty();
+    let made = ImageBytes::blank(alloc, medium.file(), Some(SectorSize::Bytes512), LEN as u64);
+    if made.is_err() {
+        return None;
+    }
+    drop(made);
+    let mut truth = Truth::zeros(alloc, LEN)?;
+    for _ in 0..8 {
+        if !is_right(alloc, &medium, &mut truth, chance)? {
+            return Some(1);
+        }
+    }
+    Some(0)
+}
+
+// Opens the file, lets it die in a few syncs, and tells whether what is found afterwards is right.
+fn is_right(
+    alloc: Global,
+    medium: &Medium,
+    truth: &mut Truth,
+    chance: &mut Chance,
+) -> Option<bool> {
+    let mut bytes = ImageBytes::found(alloc, medium.file()).ok()?;
+    medium.die_in(1 + chance.below(9));
+    let mut is_done = true;
+    for _ in 0..3 {
+        if is_done {
+            truth.settle();
+            is_done = write_some(&mut bytes, truth, chance);
+        }
+    }
+    drop(bytes);
+    medium.come_back(chance);
+    let mut found = vec![in alloc; 0u8; LEN].ok()?;
+    let is_read = match ImageBytes::found(alloc, medium.file()) {
+        Ok(mut bytes) => bytes.read_from(0, &mut found).is_ok(),
+        Err(_) => false,
+    };
+    if !is_read || !truth.allows(&found, is_done) {
+        return Some(false);
+    }
+    *truth = Truth::holding(alloc, found)?;
+    Some(true)
+}
+
+// Writes a few runs of bytes and settles them; whether that is done.
+fn write_some<F: BackingFile>(file: &mut F, truth: &mut Truth, chance: &mut Chance) -> bool {
+    for _ in 0..1 + chance.below(3) {
+        let run = change(truth, chance);
+        if file.write_to(run.at as u64, bytes_of(truth, run)).is_err() {
+            return false;
+        }
+    }
+    file.settle().is_ok()
+}
+
+#[test]
+fn no_crash_of_a_file_loses_a_byte_that_is_not_in_flight(rt: HostRuntime) {
+    assert_eq!(rt; wrong(rt.alloc(), 100), Some(0));
+}

@@ -1,0 +1,137 @@
+-- The rings are looked at again and again, and emptied each time.
+use Rattle.std.proofs.Common.{ℕ, ◌≡◌, ◌+◌, ◌*◌, ◌<◌, ◌≤◌, ◌^◌, List, [], ◌++◌, length, Result, Ok, Err, refl, sym, ap, ◌∙◌, subst, arith}
+use Rattle.std.proofs.lemmas.List.{append-nil, append_assoc, length-append}
+use Rattle.lane_rings.specs.Rings.{Receiving}
+use Rattle.heap_model.specs.declared.limits.TheConstants.{RING_RECORDS}
+use Rattle.heap_model.specs.declared.record.Record.{Record}
+use Rattle.heap_model.specs.Setting.{Setting}
+use Rattle.block_disk.specs.Device.{Device}
+use Rattle.store_past.specs.Past.{Past}
+use Rattle.store_past.specs.declared.error.StoreError.{StoreError}
+use Rattle.trim_helper.specs.Draining.{Drained, DrainsRings, Empties, HasAll}
+use Rattle.trim_helper.specs.Moves.{Looks, held_sum, known_sum, most_room}
+use Rattle.trim_helper.specs.Rings.{received_of, known_of}
+use Rattle.trim_helper.specs.Taken.{Taking, HasTaken, Advances, AllStuck, applied_more}
+use Rattle.trim_helper.proofs.Seeing.{keeps_refl, keeps_then}
+use Rattle.trim_helper.proofs.RingMoves.{held_most, known_most, same_refl, same_then, taken_most}
+
+module _ {D : Type 0} (device : D → Device) where
+  pub looks_taken : (x : Taking D) (seen : List Receiving) (s : Setting) (p : Past) → Looks x.rings seen → HasTaken device x s p → HasTaken device (record x { rings = seen }) s p
+  looks_taken x seen s p looks was = record { has = was.has; taken = λ l. looks.received l ∙ was.taken l }
+
+  drained_by : (x y : Taking D) (seen : List Receiving) (n : ℕ) → most_room x.rings ≤ RING_RECORDS → length x.rings ≤ 32 → length x.waiting ≡ 32 → Looks x.rings seen → Advances device (record x { rings = seen }) y n → Drained device 1 x y n
+  drained_by x y seen n have few slots looks on = record {
+    made = λ s p was. on.made s p (looks_taken x seen s p looks was);
+    whole = λ l.
+        let more = looks.known l in
+        (more.0, on.whole l ∙ ap (λ (xs : List Record). xs ++ known_of seen l) (looks.received l) ∙ ap (λ (xs : List Record). received_of x.rings l ++ xs) more.1 ∙ sym (append_assoc (received_of x.rings l) (known_of x.rings l) more.0));
+    most = λ l.
+        let e : length (received_of seen l) ≡ length (received_of x.rings l) = ap (λ (xs : List Record). length xs) (looks.received l) in
+        omega (arith, e, taken_most seen y.rings RING_RECORDS l (omega (arith, looks.same.rooms)) (on.whole l));
+    few =
+        let left = on.left in
+        let known : known_sum seen ≤ length seen * 4096 = known_most 4096 seen (omega (arith, looks.same.rooms)) in
+        let held : held_sum x.waiting ≤ length x.waiting = held_most x.waiting in
+        omega (arith, looks.same.count);
+    same = same_then x.rings seen y.rings looks.same on.same;
+    told = keeps_then x.rings seen y.rings looks.told on.told;
+    slots = on.slots;
+    layout = on.layout;
+    running = on.running;
+    uncalled = on.uncalled;
+  }
+
+  -- the rings were looked at, and then emptied
+  pub looks_drains : (x y : Taking D) (seen : List Receiving) (answer : Result ℕ StoreError) → most_room x.rings ≤ RING_RECORDS → length x.rings ≤ 32 → length x.waiting ≡ 32 → Looks x.rings seen →
+      Empties device (record x { rings = seen }) y answer → DrainsRings device 1 x y answer
+  looks_drains x y seen (Ok n) have few slots looks on = record { ok = drained_by x y seen n have few slots looks on.takes.ok; kept = tt; stuck = on.stuck; whole = on.whole; failed = tt; why = λ s p taken. tt }
+  looks_drains x y seen (Err e) have few slots looks on = record {
+    ok = tt;
+    kept = (on.takes.kept.0, drained_by x y seen on.takes.kept.0 have few slots looks on.takes.kept.1);
+    stuck = tt;
+    whole = tt;
+    failed = on.takes.failed;
+    why = λ s p taken. on.takes.why s p (looks_taken x seen s p looks taken);
+  }
+
+  -- they were looked at so often, and once they were, no lane goes on
+  pub record Looked (x y : Taking D) (n looks : ℕ) : Type 0 where
+    pub drained : Drained device looks x y n
+    pub stuck : 0 < looks → AllStuck device y
+    pub whole : 0 < looks → HasAll device y
+
+  pub looked_none : (x : Taking D) → Looked x x 0 0
+  looked_none x = record {
+    drained = record {
+      made = λ s p was. ([], refl, was);
+      whole = λ l. ([], sym (append-nil (received_of x.rings l ++ known_of x.rings l)));
+      most = λ l. omega arith;
+      few = omega arith;
+      same = same_refl x.rings;
+      told = keeps_refl x.rings;
+      slots = refl;
+      layout = refl;
+      running = refl;
+      uncalled = refl;
+    };
+    stuck = λ some. absurd (omega arith);
+    whole = λ some. absurd (omega arith);
+  }
+
+  drained_then : (x y z : Taking D) (n m looks more : ℕ) → Drained device looks x y n → Drained device more y z m → Drained device (looks + more) x z (n + m)
+  drained_then x y z n m looks more one two = record {
+    made = λ s p was.
+        let first = one.made s p was in
+        let after = two.made s (applied_more first.0 p) first.2 in (
+          after.0 ++ first.0,
+          length-append after.0 first.0 ∙ (let a = first.1 in let b = after.1 in omega arith),
+          subst (λ (xs : List (ℕ × Record)). HasTaken device z s (record p { fresh = xs })) (sym (append_assoc after.0 first.0 p.fresh)) after.2,
+        );
+    whole = λ l.
+        let first = one.whole l in
+        let after = two.whole l in
+        (first.0 ++ after.0, after.1 ∙ ap (λ (xs : List Record). xs ++ after.0) first.1 ∙ append_assoc (received_of x.rings l ++ known_of x.rings l) first.0 after.0);
+    most = λ l. let a = one.most l in let b = two.most l in omega arith;
+    few = let a = one.few in let b = two.few in omega arith;
+    same = same_then x.rings y.rings z.rings one.same two.same;
+    told = keeps_then x.rings y.rings z.rings one.told two.told;
+    slots = two.slots ∙ one.slots;
+    layout = two.layout ∙ one.layout;
+    running = two.running ∙ one.running;
+    uncalled = two.uncalled ∙ one.uncalled;
+  }
+
+  pub looked_again : (x y z : Taking D) (n m looks : ℕ) → Looked x y n looks → DrainsRings device 1 y z (Ok m) → Looked x z (n + m) (looks + 1)
+  looked_again x y z n m looks was last = record { drained = drained_then x y z n m looks 1 was.drained last.ok; stuck = λ some. last.stuck; whole = λ some. last.whole }
+
+  drained_within : (x y : Taking D) (n looks most : ℕ) → looks ≤ most → Drained device looks x y n → Drained device most x y n
+  drained_within x y n looks most le was = record {
+    made = was.made;
+    whole = was.whole;
+    most = λ l. let a = was.most l in omega arith;
+    few = let a = was.few in omega arith;
+    same = was.same;
+    told = was.told;
+    slots = was.slots;
+    layout = was.layout;
+    running = was.running;
+    uncalled = was.uncalled;
+  }
+
+  pub looked_done : (x y : Taking D) (n looks most : ℕ) → 0 < looks → looks ≤ most → Looked x y n looks → DrainsRings device most x y (Ok n)
+  looked_done x y n looks most some le was = record { ok = drained_within x y n looks most le was.drained; kept = tt; stuck = was.stuck some; whole = was.whole some; failed = tt; why = λ s p taken. tt }
+
+  pub looked_failed : (x y z : Taking D) (n looks most : ℕ) (e : StoreError) → looks < most → Looked x y n looks → DrainsRings device 1 y z (Err e) → DrainsRings device most x z (Err e)
+  looked_failed x y z n looks most e lt was last =
+      let kept = last.kept in
+      record {
+        ok = tt;
+        kept = (n + kept.0, drained_within x z (n + kept.0) (looks + 1) most (omega arith) (drained_then x y z n kept.0 looks 1 was.drained kept.1));
+        stuck = tt;
+        whole = tt;
+        failed = last.failed;
+        why = λ s p taken. let made = was.drained.made s p taken in sym was.drained.running ∙ last.why s (applied_more made.0 p) made.2;
+      }
+
+  pub count_looked : (x y z : Taking D) (n m looks : ℕ) → looks < 16 → Looked x y n looks → DrainsRings device 1 y z (Ok m) → n + m < 2 ^ 64
+  count_looked x y z n m looks lt was last = let a = was.drained.few in let b = last.ok.few in omega arith
