@@ -1,0 +1,4 @@
+pub mod InLanes
+pub mod Releases
+pub mod Kept
+pub mod Needed
