@@ -1,1 +1,4 @@
+pub mod Applied
 pub mod Kept
+pub mod Running
+pub mod Seen

@@ -1,2 +1,3 @@
--- The promise: what a crash keeps of a heap that ran and was closed.
+-- The promise: what a crash keeps of a heap that runs, and of one that ran and was closed.
+pub mod Running
 pub mod Crashes
