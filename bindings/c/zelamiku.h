@@ -46,7 +46,7 @@
  * RBD does; ATA and SCSI don't, nor drives without power-loss protection, nor parity RAID without a journal: docs/FORMAT.md, "What the
  * device keeps". zelamiku_file.h and zelamiku_nbd.h rest on it too.
  * One host writes the device at a time. Where another machine may open it, the device ends the other one's access first, with its requests
- * that are underway: README, "Another machine".
+ * that are underway: docs/EMBEDDING.md, "Another machine".
  *
  * Waiting is the host's. Where a call answers ZELAMIKU_HELD, ZELAMIKU_BEHIND or ZELAMIKU_IN_SET, try again later; other answers stay:
  *     for (unsigned spins = 0; (answer = zelamiku_try_enter(&session, object)) == ZELAMIKU_HELD || answer == ZELAMIKU_BEHIND; spins++)

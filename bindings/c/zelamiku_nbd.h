@@ -19,8 +19,8 @@
  *
  * What the caller upholds besides the rules of zelamiku.h:
  *  - whoever wrote the export before has ended, its requests too: those of a host that was killed, paused or cut off may lie in the
- *    server or behind it, and come later. NBD has no lease: the server, or what is behind it, ends the other host first (README, "Another
- *    machine"). From then until zelamiku_end_nbd nobody else writes it;
+ *    server or behind it, and come later. NBD has no lease: the server, or what is behind it, ends the other host first
+ *    (docs/EMBEDDING.md, "Another machine"). From then until zelamiku_end_nbd nobody else writes it;
  *  - a flush that the server answers has made durable what any client wrote before;
  *  - what is behind the server keeps the premise on the device (zelamiku.h), and the server doesn't connect again by itself to what is
  *    behind it: after that, writes that were answered and not flushed may be gone (nbdkit's filter retry is such a thing);

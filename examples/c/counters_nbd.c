@@ -1,5 +1,5 @@
 /* The counters of counters.c on a network block device: the export of an NBD server, which outlives the machine that counts. Another one
- * goes on with it, once the first one's access has ended (README, "Another machine").
+ * goes on with it, once the first one's access has ended (docs/EMBEDDING.md, "Another machine").
  *
  *     counters_nbd SERVER format                              makes a heap on the export, whatever it had
  *     counters_nbd SERVER [SECONDS [PATIENCE [BLOCK]]]        prints the counters that it finds, and then how many counts are acknowledged
