@@ -8,7 +8,7 @@ use Rattle.dependence.specs.declared.section.Dependence.{Dependence}
 use Rattle.dependence.specs.declared.step.Step.{Step}
 use Rattle.dependence.specs.declared.links.Links.{Links}
 use Rattle.dependence.specs.Steps.{reading}
-use Rattle.dependence.specs.Links.{lanes_in, sections_in, acts_in, act_at}
+use Rattle.dependence.specs.Links.{lanes_in, sections_in, acts_in, act_at, before_in}
 use Rattle.dependence.specs.Kept.{IsLinked}
 use Rattle.dependence.specs.Search.{Takes, IsAbove, IsStart, IsWalk, IsLookedAt, IsTakenUp, IsLooking, IsSearch, IsLeft, IsSorted}
 use Rattle.dependence.proofs.Places.{length_map, pick}
@@ -114,13 +114,13 @@ module _ (steps : List Step) (links : Links) (linked : IsLinked steps links) whe
 
   -- one more step of a lane is visited
   pub walk_step : (start left left_too : List ℕ) (Old New : ℕ → Type 0) (lane place : ℕ) → length left ≡ 32 → lane < 32 → IsWalk steps start left Old → place < length steps → place + 1 ≡ slice_index left lane →
-      left_too ≡ slice_set left lane (slice_index links.before.items place) → ((k : ℕ) → Old k → New k) → New place → IsWalk steps start left_too New
+      left_too ≡ slice_set left lane (slice_index (before_in links.beside.items) place) → ((k : ℕ) → Old k → New k) → New place → IsWalk steps start left_too New
   walk_step start left left_too Old New lane place rows low old here at now more visit =
       let many : length (lanes_in steps) ≡ length steps = length_map (λ (s : Step). s.lane.0) steps in
       let of_lane : slice_index (lanes_in steps) place ≡ lane = (old.places lane place (sym at)).1 in
-      let same : slice_index left_too lane ≡ slice_index links.before.items place = ap (λ (xs : List ℕ). slice_index xs lane) now ∙ get_or-set_same left lane (slice_index links.before.items place) 0 (omega arith) in
+      let same : slice_index left_too lane ≡ slice_index (before_in links.beside.items) place = ap (λ (xs : List ℕ). slice_index xs lane) now ∙ get_or-set_same left lane (slice_index (before_in links.beside.items) place) 0 (omega arith) in
       let other_lane : (l : ℕ) → l ≢ lane → slice_index left_too l ≡ slice_index left l =
-      λ l ne. ap (λ (xs : List ℕ). slice_index xs l) now ∙ get_or-set_other left lane l (slice_index links.before.items place) 0 ne in
+      λ l ne. ap (λ (xs : List ℕ). slice_index xs l) now ∙ get_or-set_other left lane l (slice_index (before_in links.beside.items) place) 0 ne in
       record {
         visited = λ k lt le before. elim (cases_eq (slice_index (lanes_in steps) k) lane) [
           | inl e ↦ elim (cases_lt k (place + 1)) [
@@ -130,7 +130,7 @@ module _ (steps : List Step) (links : Links) (linked : IsLinked steps links) whe
             | inl not_later ↦ elim (cases_eq k place) [
               | inl it ↦ subst New (sym it) visit
               | inr ne ↦
-                  let f : slice_index left_too (slice_index (lanes_in steps) k) ≡ slice_index links.before.items place = ap (slice_index left_too) e ∙ same in
+                  let f : slice_index left_too (slice_index (lanes_in steps) k) ≡ slice_index (before_in links.beside.items) place = ap (slice_index left_too) e ∙ same in
                   absurd (omega (arith, linked.chained.before_last place k (omega arith) (grind arith) (e ∙ sym of_lane)))
             ]
           ]
@@ -140,7 +140,7 @@ module _ (steps : List Step) (links : Links) (linked : IsLinked steps links) whe
         ];
         places = λ l c h. elim (cases_eq l lane) [
           | inl e ↦
-              let f : slice_index links.before.items place ≡ c + 1 = sym same ∙ ap (slice_index left_too) (sym e) ∙ h in
+              let f : slice_index (before_in links.beside.items) place ≡ c + 1 = sym same ∙ ap (slice_index left_too) (sym e) ∙ h in
               let was : (c < place) × (slice_index (lanes_in steps) c ≡ slice_index (lanes_in steps) place) = linked.chained.before_is place c (omega arith) f in
               (let lt : c < place = was.0 in omega arith, was.1 ∙ of_lane ∙ sym e)
           | inr ne ↦ old.places l c (sym (other_lane l ne) ∙ h)

@@ -1,5 +1,5 @@
 -- The fields without what a cut counts.
-use Rattle.std.proofs.Common.{ℕ, ◌≡◌, ◌+◌, ◌<◌, ◌≤◌, max, List, All, reverse, replicate, slice_index, nat_lt, vec_len, vec_capacity, None, sym, ap, ◌∙◌, subst, arith}
+use Rattle.std.proofs.Common.{ℕ, ◌≡◌, ◌+◌, ◌-◌, ◌<◌, max, List, All, reverse, replicate, slice_index, nat_lt, vec_len, vec_capacity, None, sym, ap, ◌∙◌, subst, arith}
 use Rattle.std.specs.List.{filter}
 use Rattle.std.proofs.lemmas.List.Elements.{All-filter}
 use Rattle.heap_model.specs.declared.cut.Cut.{Cut}
@@ -50,8 +50,8 @@ module _ (old : Inside) (cut : Cut) (next : List ℕ) (left : List Step) (kept :
   left_numbered = subst (λ (xs : List Step). HasSections (slice_index next) xs) (sym left_back) (sections_since (slice_index old.base) (slice_index next) more raised_by (reverse old.steps.items) kept.numbered)
 
   pub kept_forget : (new : Inside) → IsWhole (log_of (reverse old.steps.items)) more → new.lanes ≡ old.lanes → new.base ≡ next → new.ended ≡ old.ended → new.held ≡ old.held → new.steps.items ≡ left →
-      vec_len new.steps + new.room ≤ vec_capacity new.steps → IsLinked left new.links → HasRoom new.links new.room → ((l : ℕ) → counts_of new.answered l ≡ max (counts_of old.answered l) (counts_of cut l)) → new.causes ≡ replicate 32 None → new.stable ≡ None → IsKept new
-  kept_forget new whole lanes base ended_in held_in items room linked links_room answered causes fresh = record {
+      IsLinked left new.links → HasRoom new.links (vec_capacity new.steps - vec_len new.steps) → ((l : ℕ) → counts_of new.answered l ≡ max (counts_of old.answered l) (counts_of cut l)) → new.causes ≡ replicate 32 None → new.stable ≡ None → new.found_among ≡ 0 → IsKept new
+  kept_forget new whole lanes base ended_in held_in items linked links_room answered causes fresh none = record {
     lanes = omega (arith, kept.lanes);
     low = subst (λ (xs : List Step). All (λ s. s.lane.0 < new.lanes) xs) (sym items) (subst (λ (n : ℕ). All (λ s. s.lane.0 < n) left) (sym lanes) left_low);
     named = subst (λ (xs : List Step). All (λ s. IsObjectBelow 4096 s.entry) xs) (sym items) left_named;
@@ -64,7 +64,6 @@ module _ (old : Inside) (cut : Cut) (next : List ℕ) (left : List Step) (kept :
         (counted_since (slice_index old.base) (slice_index next) more (log_of (reverse old.steps.items)) old.ended old.held raised_by whole kept.counted)))));
     rises = subst (λ (xs : List Step). Rises (log_of (reverse xs))) (sym items) left_rises;
     linked = subst (λ (xs : List Step). IsLinked xs new.links) (sym items) linked;
-    steps_room = room;
     links_room = links_room;
     answered = record {
       past = λ l. let base_is : slice_index new.base l ≡ slice_index next l = ap (λ (xs : List ℕ). slice_index xs l) base in omega (arith, answered l, raised l, kept.answered.past l);
@@ -74,5 +73,6 @@ module _ (old : Inside) (cut : Cut) (next : List ℕ) (left : List Step) (kept :
           (λ l. omega (arith, answered l)) (λ l. omega (arith, answered l, raised l)) kept.answered.closed);
     };
     causes = causes_none new.steps.items (counts_of new.answered) new.causes causes;
-    stable = no_cut new fresh;
+    found_among = omega arith;
+    stable = λ _. no_cut new fresh;
   }

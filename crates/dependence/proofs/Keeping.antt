@@ -9,11 +9,12 @@ use Rattle.heap_model.specs.Sections.{Action, Stores, undo_action, ended}
 use Rattle.cut_laws.specs.Plain.{takes_after, IsClosedOver, IsGreatest}
 use Rattle.dependence.specs.declared.step.Step.{Step}
 use Rattle.dependence.specs.declared.links.Links.{Links}
+use Rattle.dependence.specs.declared.neighbours.Neighbours.{Neighbours}
 use Rattle.dependence.specs.declared.graph.Graph.TheInside.{Inside}
 use Rattle.dependence.specs.Trace.{sections_of, growth, unanswered, IsStableOf}
 use Rattle.dependence.specs.Next.{IsNext, IsObjectBelow}
 use Rattle.dependence.specs.Steps.{did, log_of, HasSections, reading}
-use Rattle.dependence.specs.Links.{act_at}
+use Rattle.dependence.specs.Links.{act_at, before_in, partner_in}
 use Rattle.dependence.specs.Kept.{IsCounted, IsInOrder, Rises, IsLinked, HasRoom}
 use Rattle.dependence.specs.Inside.{trace_of, IsAtHand, IsKept}
 use Rattle.dependence.specs.Search.{IsAnswered, IsFound, IsSorted, AreCauses}
@@ -59,17 +60,17 @@ pub few_looks : (g : Inside) (cut : ℕ → ℕ) (looks : ℕ) → IsKept g → 
 few_looks g cut looks kept found = subst (λ (n : ℕ). looks ≤ n * (n + 1)) (sym (unanswered_is g kept)) found.most
 
 -- the links of no steps
-pub linked_none : (k : Links) → k.newest ≡ replicate 32 0 → k.before.items ≡ [] → k.partner.items ≡ [] → length k.freed.items ≡ 4096 → IsLinked [] k
-linked_none k newest before partner freed = record {
+pub linked_none : (k : Links) → k.newest ≡ replicate 32 0 → k.beside.items ≡ [] → length k.freed.items ≡ 4096 → IsLinked [] k
+linked_none k newest beside freed = record {
   chained = record {
-    count = ap (λ (xs : List ℕ). length xs) before;
+    count = ap (λ (xs : List Neighbours). length (before_in xs)) beside;
     newest_is = λ l c h. absurd (let none : slice_index k.newest l ≡ 0 = ap (λ (xs : List ℕ). slice_index xs l) newest ∙ zeros l in omega arith);
     newest_last = λ i lt. absurd (let no : i < 0 = lt in omega arith);
     before_is = λ i c lt h. absurd (let no : i < 0 = lt in omega arith);
     before_last = λ i j lt less same. absurd (let no : i < 0 = lt in omega arith);
   };
   paired = record {
-    count = ap (λ (xs : List ℕ). length xs) partner;
+    count = ap (λ (xs : List Neighbours). length (partner_in xs)) beside;
     taker = λ i j h. absurd (let f : takes_after (act_at [] j) (act_at [] i) ≡ false = ap (λ x. takes_after x (act_at [] i)) (get_or_past {X = Action} [] j Stores (omega arith)) in cc);
     releaser = λ i j h. absurd (let f : takes_after (act_at [] j) (act_at [] i) ≡ false = ap (λ x. takes_after x (act_at [] i)) (get_or_past {X = Action} [] j Stores (omega arith)) in cc);
     last = λ i o n h. absurd (let f : act_at [] i ≡ Stores = get_or_past {X = Action} [] i Stores (omega arith) in cc);
@@ -104,12 +105,13 @@ answered_push old new s kept base items section next counted answered = record {
 }
 
 -- the fields with one more step
-pub kept_push : (old new : Inside) (s : Step) → IsKept old → new.lanes ≡ old.lanes → new.base ≡ old.base → new.room + 1 ≡ old.room → new.steps.items ≡ old.steps.items ++ s ∷ [] →
-    vec_len new.steps ≡ vec_len old.steps + 1 → vec_capacity new.steps ≡ vec_capacity old.steps → HasRoom new.links new.room → (xs : List Step) → xs ≡ old.steps.items → IsLinked (xs ++ s ∷ []) new.links →
+pub kept_push : (old new : Inside) (s : Step) → IsKept old → new.lanes ≡ old.lanes → new.base ≡ old.base → new.steps.items ≡ old.steps.items ++ s ∷ [] →
+    HasRoom new.links (vec_capacity new.steps - vec_len new.steps) → (xs : List Step) → xs ≡ old.steps.items → IsLinked (xs ++ s ∷ []) new.links →
     s.lane.0 < old.lanes → IsObjectBelow 4096 s.entry → s.section ≡ slice_index old.ended s.lane.0 + 1 → IsNext (log_of (reverse old.steps.items)) s.lane.0 (undo_action s.entry) →
-    IsCounted (slice_index old.base) (did s ∷ log_of (reverse old.steps.items)) new.ended new.held → new.answered ≡ old.answered → new.causes ≡ old.causes → new.stable ≡ None → IsKept new
-kept_push old new s kept lanes base room items len capacity links_room xs same linked low named section next counted answered causes fresh =
+    IsCounted (slice_index old.base) (did s ∷ log_of (reverse old.steps.items)) new.ended new.held → new.answered ≡ old.answered → new.causes ≡ old.causes → new.found_among ≡ old.found_among → IsKept new
+kept_push old new s kept lanes base items links_room xs same linked low named section next counted answered causes before =
     let steps : new.steps.items ≡ old.steps.items ++ s ∷ [] = items in
+    let more : length new.steps.items ≡ length old.steps.items + 1 = ap (λ (xs : List Step). length xs) items ∙ length_snoc old.steps.items s in
     let back : reverse new.steps.items ≡ s ∷ reverse old.steps.items = ap (λ (xs : List Step). reverse xs) items ∙ reverse_snoc old.steps.items s in
     let number : s.section ≡ ended (lane s.lane.0 (log_of (reverse old.steps.items))) + 1 + slice_index old.base s.lane.0 = omega (arith, kept.counted.whole s.lane.0) in
     record {
@@ -120,12 +122,12 @@ kept_push old new s kept lanes base room items len capacity links_room xs same l
       counted = subst (λ (b : List ℕ). IsCounted (slice_index b) (log_of (reverse new.steps.items)) new.ended new.held) (sym base) (subst (λ (xs : List Step). IsCounted (slice_index old.base) (log_of xs) new.ended new.held) (sym back) counted);
       rises = subst (λ (xs : List Step). Rises (log_of xs)) (sym back) (order_next (log_of (reverse old.steps.items)) s.lane.0 (undo_action s.entry) next, kept.rises);
       linked = subst (λ (ys : List Step). IsLinked ys new.links) (sym items) (subst (λ (ys : List Step). IsLinked (ys ++ s ∷ []) new.links) same linked);
-      steps_room = omega (arith, kept.steps_room);
       links_room = links_room;
       answered = answered_push old new s kept base items section next counted answered;
       causes = subst (AreCauses new.steps.items (counts_of new.answered)) (sym causes) (subst (λ (c : Cut). AreCauses new.steps.items (counts_of c) old.causes) (sym answered)
           (subst (λ (ys : List Step). AreCauses ys (counts_of old.answered) old.causes) (sym items) (causes_push old.steps.items s (counts_of old.answered) old.causes kept.causes)));
-      stable = no_cut new fresh;
+      found_among = omega (arith, kept.found_among, more);
+      stable = λ e. absurd (omega (arith, kept.found_among, more));
     }
 
 -- a step of steps whose objects' numbers rise
@@ -147,8 +149,8 @@ all_none : (P : Step → Type 0) → All P []
 all_none P k d lt = absurd (let no : k < 0 = lt in omega arith)
 
 -- the fields of a graph of nothing
-pub kept_none : (g : Inside) → g.lanes ≤ 32 → g.base ≡ replicate 32 0 → g.ended ≡ replicate 32 0 → g.held ≡ replicate 32 0 → g.steps.items ≡ [] → vec_len g.steps + g.room ≤ vec_capacity g.steps → IsLinked [] g.links → HasRoom g.links g.room → g.answered.counts ≡ replicate 32 0 → g.causes ≡ replicate 32 None → g.stable ≡ None → IsKept g
-kept_none g lanes base ended_in held_in items room linked links_room answered causes fresh =
+pub kept_none : (g : Inside) → g.lanes ≤ 32 → g.base ≡ replicate 32 0 → g.ended ≡ replicate 32 0 → g.held ≡ replicate 32 0 → g.steps.items ≡ [] → IsLinked [] g.links → HasRoom g.links (vec_capacity g.steps - vec_len g.steps) → g.answered.counts ≡ replicate 32 0 → g.causes ≡ replicate 32 None → g.stable ≡ None → g.found_among ≡ 0 → IsKept g
+kept_none g lanes base ended_in held_in items linked links_room answered causes fresh none =
     let back : reverse g.steps.items ≡ [] = ap (λ (xs : List Step). reverse xs) items in
     record {
       lanes = lanes;
@@ -161,7 +163,6 @@ kept_none g lanes base ended_in held_in items room linked links_room answered ca
       });
       rises = subst (λ (xs : List Step). Rises (log_of xs)) (sym back) tt;
       linked = subst (λ (xs : List Step). IsLinked xs g.links) (sym items) linked;
-      steps_room = room;
       links_room = links_room;
       answered = record {
         past = λ l. let none : slice_index g.base l ≡ 0 = ap (λ (xs : List ℕ). slice_index xs l) base ∙ zeros l in omega arith;
@@ -169,5 +170,6 @@ kept_none g lanes base ended_in held_in items room linked links_room answered ca
         closed = subst (λ (xs : List Step). IsClosedOver reading xs (counts_of g.answered)) (sym items) (λ s t here there. absurd (let no : here.0 < 0 = here.1 in omega arith));
       };
       causes = causes_none g.steps.items (counts_of g.answered) g.causes causes;
-      stable = no_cut g fresh;
+      found_among = omega arith;
+      stable = λ _. no_cut g fresh;
     }

@@ -2,6 +2,7 @@ pub mod Places
 pub mod Chains
 pub mod Pairs
 pub mod InOrder
+pub mod Beside
 pub mod Linked
 pub mod Falling
 pub mod Causes

@@ -1,23 +1,17 @@
 -- One more step of a lane is taken up.
-use Rattle.std.proofs.Common.{ℕ, zero, suc, add-one, List, Option, ◌≡◌, ◌+◌, ◌-◌, ◌<◌, sym, ◌∙◌, arith, length, get_or, slice_index, slice_set}
-use Rattle.std.proofs.lemmas.Grind.{get_or_default_zero}
+use Rattle.std.proofs.Common.{ℕ, zero, suc, add-one, List, Option, ◌≡◌, ◌+◌, ◌-◌, ◌<◌, sym, ◌∙◌, arith, length, slice_index, slice_set}
 use Rattle.dependence.specs.declared.section.Dependence.{Dependence}
 use Rattle.dependence.specs.declared.step.Step.{Step}
 use Rattle.dependence.specs.declared.links.Links.{Links}
-use Rattle.dependence.specs.Links.{lanes_in, sections_in}
+use Rattle.dependence.specs.Links.{lanes_in, sections_in, before_in}
 use Rattle.dependence.specs.Kept.{IsLinked}
 use Rattle.dependence.specs.Search.{Takes, AreCauses, IsLookedAt, IsTakenUp, IsLooking, IsSearch, IsLeft}
 use Rattle.dependence.proofs.Falling.{Falls, above_low, walk_step, taker_out}
 use Rattle.dependence.proofs.Places.{length_map}
 
--- the step before that is read is the one that is linked
-pub read : (steps : List Step) (links : Links) (left : List ℕ) (cut : ℕ → ℕ) (lane x : ℕ) → IsLinked steps links → IsLeft steps left cut lane →
-    x ≡ get_or links.before.items (slice_index left lane - 1) x → x ≡ slice_index links.before.items (slice_index left lane - 1)
-read steps links left cut lane x linked is_left e = e ∙ get_or_default_zero links.before.items (slice_index left lane - 1) x (omega (arith, linked.chained.count, length_map (λ (s : Step). s.lane.0) steps, is_left.some, is_left.there))
-
 -- the step before in the lane is an earlier one
 pub earlier : (steps : List Step) (links : Links) (left : List ℕ) (cut : ℕ → ℕ) (lane x : ℕ) → IsLinked steps links → IsLeft steps left cut lane →
-    x ≡ slice_index links.before.items (slice_index left lane - 1) → x < slice_index left lane
+    x ≡ slice_index (before_in links.beside.items) (slice_index left lane - 1) → x < slice_index left lane
 earlier steps links left cut lane zero linked is_left e = is_left.some
 earlier steps links left cut lane (suc p) linked is_left e =
     let before : (p < slice_index left lane - 1) × (slice_index (lanes_in steps) p ≡ slice_index (lanes_in steps) (slice_index left lane - 1)) =
@@ -26,7 +20,7 @@ earlier steps links left cut lane (suc p) linked is_left e =
     omega arith
 
 module _ (steps : List Step) (links : Links) (linked : IsLinked steps links) (start left left_too : List ℕ) (candidates cut : ℕ → ℕ) (causes : List (Option Dependence)) (lane place : ℕ)
-    (rows : length left ≡ 32) (low_lane : lane < 32) (here : place < length steps) (at : place + 1 ≡ slice_index left lane) (now : left_too ≡ slice_set left lane (slice_index links.before.items place)) where
+    (rows : length left ≡ 32) (low_lane : lane < 32) (here : place < length steps) (at : place + 1 ≡ slice_index left lane) (now : left_too ≡ slice_set left lane (slice_index (before_in links.beside.items) place)) where
   -- it took from no section that isn't a candidate
   pub looking_same : IsLooking steps start left candidates cut causes → IsLookedAt steps candidates cut place → IsLooking steps start left_too candidates cut causes
   looking_same old visit = record {

@@ -1,5 +1,5 @@
 -- What is true of a graph's fields.
-use Rattle.std.specs.Prelude.{◌+◌, ◌<◌, ◌≤◌, All, reverse, slice_index, vec_len, vec_capacity, Option, MatchOption}
+use Rattle.std.specs.Prelude.{◌≡◌, ◌-◌, ◌<◌, ◌≤◌, All, length, reverse, slice_index, vec_len, vec_capacity, Option, MatchOption}
 use Rattle.heap_model.specs.Cuts.{counts_of}
 use Rattle.dependence.specs.declared.graph.Graph.TheInside.{Inside}
 use Rattle.dependence.specs.declared.found.Found.{Found}
@@ -11,7 +11,7 @@ use Rattle.dependence.specs.Search.{IsAnswered, IsFound, AreCauses}
 
 -- the plain data of the fields
 abbrev pub trace_of : Inside → Trace
-trace_of g = record { lanes = g.lanes; base = g.base; log = log_of (reverse g.steps.items); room = g.room; answered = g.answered.counts; looks = g.looks }
+trace_of g = record { lanes = g.lanes; base = g.base; log = log_of (reverse g.steps.items); room = vec_capacity g.steps - vec_len g.steps; answered = g.answered.counts; looks = g.looks }
 
 -- a cut that is at hand is the one that a search beyond the answered cut finds
 abbrev pub IsAtHand : Inside → Option Found → Type 0
@@ -26,8 +26,8 @@ pub record IsKept (g : Inside) : Type 0 where
   pub counted : IsCounted (slice_index g.base) (log_of (reverse g.steps.items)) g.ended g.held
   pub rises : Rises (log_of (reverse g.steps.items))
   pub linked : IsLinked g.steps.items g.links
-  pub steps_room : vec_len g.steps + g.room ≤ vec_capacity g.steps
-  pub links_room : HasRoom g.links g.room
+  pub links_room : HasRoom g.links (vec_capacity g.steps - vec_len g.steps)
   pub answered : IsAnswered g.steps.items (slice_index g.base) (slice_index g.ended) (counts_of g.answered)
   pub causes : AreCauses g.steps.items (counts_of g.answered) g.causes
-  pub stable : IsAtHand g g.stable
+  pub found_among : g.found_among ≤ length g.steps.items
+  pub stable : g.found_among ≡ length g.steps.items → IsAtHand g g.stable

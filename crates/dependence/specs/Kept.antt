@@ -6,7 +6,7 @@ use Rattle.cut_laws.specs.Plain.{takes_after}
 use Rattle.dependence.specs.declared.step.Step.{Step}
 use Rattle.dependence.specs.declared.links.Links.{Links}
 use Rattle.dependence.specs.Next.{IsBelow}
-use Rattle.dependence.specs.Links.{lanes_in, acts_in, act_at}
+use Rattle.dependence.specs.Links.{lanes_in, acts_in, act_at, before_in, partner_in}
 
 -- by lane: how many sections have ended, what was forgotten included, and how many objects it holds
 pub record IsCounted (base : ℕ → ℕ) (log : List (ℕ × Action)) (ended_in held_in : List ℕ) : Type 0 where
@@ -49,12 +49,11 @@ pub record IsPaired (acts : List Action) (freed partner : List ℕ) : Type 0 whe
 
 -- the links of the steps
 pub record IsLinked (steps : List Step) (links : Links) : Type 0 where
-  pub chained : IsChained (lanes_in steps) links.newest links.before.items
-  pub paired : IsPaired (acts_in steps) links.freed.items links.partner.items
+  pub chained : IsChained (lanes_in steps) links.newest (before_in links.beside.items)
+  pub paired : IsPaired (acts_in steps) links.freed.items (partner_in links.beside.items)
   pub rows : length links.newest ≡ 32
   pub objects : length links.freed.items ≡ 4096
 
 -- so many more steps may be linked
-pub record HasRoom (links : Links) (room : ℕ) : Type 0 where
-  pub before : vec_len links.before + room ≤ vec_capacity links.before
-  pub partner : vec_len links.partner + room ≤ vec_capacity links.partner
+abbrev pub HasRoom : Links → (room : ℕ) → Type 0
+HasRoom links room = vec_len links.beside + room ≤ vec_capacity links.beside

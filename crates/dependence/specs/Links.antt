@@ -3,6 +3,7 @@ use Rattle.std.specs.Prelude.{ℕ, ◌+◌, if◌then◌else◌, zero, suc, List
 use Rattle.heap_model.specs.Sections.{Action, Takes, Frees, Stores, undo_action}
 use Rattle.cut_laws.specs.Plain.{takes_after}
 use Rattle.dependence.specs.declared.step.Step.{Step}
+use Rattle.dependence.specs.declared.neighbours.Neighbours.{Neighbours}
 
 -- the lanes of the steps
 abbrev pub lanes_in : List Step → List ℕ
@@ -19,6 +20,14 @@ acts_in steps = map (λ s. undo_action s.entry) steps
 -- what the step at a place did
 abbrev pub act_at : List Action → ℕ → Action
 act_at acts i = get_or acts i Stores
+
+-- the steps before in their lanes
+abbrev pub before_in : List Neighbours → List ℕ
+before_in beside = map (λ n. n.before) beside
+
+-- the partners
+abbrev pub partner_in : List Neighbours → List ℕ
+partner_in beside = map (λ n. n.partner) beside
 
 -- the object that the action names
 abbrev pub object_of : Action → ℕ

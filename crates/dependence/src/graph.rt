@@ -1,6 +1,6 @@
 //! The graph of the sections.
 
-ghost use Rattle.std.specs.Prelude.{◌≡◌, ◌+◌, ◌^◌, ◌*◌, ◌<◌, ◌≤◌, ◌∷◌, [], ◌↔◌, ℕ, None, max, length, replicate, IfOk, IfSome, IsSome};
+ghost use Rattle.std.specs.Prelude.{◌≡◌, ◌+◌, ◌^◌, ◌*◌, ◌<◌, ◌≤◌, ◌==◌, ◌∷◌, [], ◌↔◌, if◌then◌else◌, ℕ, None, max, length, replicate, IfOk, IfSome, IsSome};
 ghost use Rattle.heap_model.specs.Sections.{undo_action};
 ghost use Rattle.heap_model.specs.Cuts.{counts_of, IsStable};
 ghost use Rattle.heap_model.specs.Base.{since};
@@ -27,10 +27,10 @@ use std::marker::Model;
 #[derive(Drop)]
 pub struct Graph {
     lanes: u8,
-    room: usize,
     base: [u64; 32],
     ended: [u64; 32],
     held: [usize; 32],
+    // Its spare capacity is the room.
     steps: Vec<Step>,
     links: Links,
     // The cut that was last answered, with what was forgotten since, and the looks that it took.
@@ -38,9 +38,11 @@ pub struct Graph {
     looks: u64,
     // By lane: a dependence that keeps its first section beyond that cut out, if it is known.
     causes: [Option<Dependence>; 32],
-    // The stable cut, where nothing was pushed or forgotten since it was found. Its looks are those since
-    // the last answer.
+    // The stable cut that was found last, where nothing was forgotten since. Its looks are those since the
+    // last answer.
     stable: Option<Found>,
+    // How many steps it was found among: it is at hand while there are no more. So a push leaves it alone.
+    found_among: usize,
 }
 
 impl Model for Graph {
@@ -73,7 +75,6 @@ impl Graph {
     {
         Ok(Graph {
             lanes,
-            room: records,
             base: [0; 32],
             ended: [0; 32],
             held: [0; 32],
@@ -83,6 +84,7 @@ impl Graph {
             looks: 0,
             causes: [None; 32],
             stable: None,
+            found_among: 0,
         })
     }
 
@@ -114,8 +116,6 @@ impl Graph {
         count(&mut self.ended, &mut self.held, next);
         self.links.add(&self.steps, next);
         self.steps.push_reserved(next);
-        self.room -= 1;
-        forget(&mut self.stable);
     }
 
     /// Leaves out what the cut counts, which is at most the stable one. It may be a part of what depends
@@ -134,14 +134,13 @@ impl Graph {
         ensures looks { self.new.looks ≡ self.old.looks }
         ensures answers { (c : ℕ → ℕ) → IsStableOf self.new c ↔ IsStableOf self.old c }
     {
-        let records = self.steps.len();
         raise(&mut self.base, &cut.counts);
         raise(&mut self.answered.counts, &cut.counts);
         retain(&mut self.steps, &self.links, &self.base, self.lanes);
-        self.room += records - self.steps.len();
         self.links.again(&self.steps);
         self.causes = [None; 32];
         self.stable = None;
+        self.found_among = 0;
     }
 
     /// The stable cut of all records, what was forgotten included.
@@ -170,7 +169,7 @@ impl Graph {
             &self.ended,
             &self.answered,
             &mut self.causes,
-            self.stable,
+            still(self.stable, self.found_among, self.steps.len()),
         );
         self.answered = found.cut;
         self.looks = found.looks;
@@ -179,6 +178,7 @@ impl Graph {
             cut: found.cut,
             looks: 0,
         });
+        self.found_among = self.steps.len();
         found.cut
     }
 
@@ -205,7 +205,7 @@ impl Graph {
     pub fn room(&self) -> usize
         ensures { result ≡ self.now.room }
     {
-        self.room
+        self.steps.capacity() - self.steps.len()
     }
 
     /// How many lanes there are, numbered from 0.
@@ -235,9 +235,10 @@ impl Graph {
             &self.ended,
             &self.answered,
             &mut causes,
-            self.stable,
+            still(self.stable, self.found_among, self.steps.len()),
         );
         self.stable = Some(found);
+        self.found_among = self.steps.len();
         reason_of(
             &self.steps,
             &self.links,
@@ -248,12 +249,9 @@ impl Graph {
     }
 }
 
-// Leaves no cut at hand. The test saves a write of the whole cut for each record.
-#[inline(always)]
-fn forget(stable: &mut Option<Found>)
-    ensures { stable.new ≡ None }
+// The cut, if no step was added to those that it was found among.
+fn still(stable: Option<Found>, found_among: usize, steps: usize) -> Option<Found>
+    ensures { result ≡ (if found_among == steps then stable else None) }
 {
-    if stable.is_some() {
-        *stable = None;
-    }
+    if found_among == steps { stable } else { None }
 }

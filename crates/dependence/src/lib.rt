@@ -12,6 +12,7 @@ mod graph;
 mod lanes;
 mod laws;
 mod links;
+mod neighbours;
 mod search;
 mod section;
 mod step;

@@ -2,8 +2,9 @@
 
 ghost use Rattle.std.specs.Prelude.{◌≡◌, ◌+◌, ◌-◌, ◌<◌, ◌≤◌, ◌==◌, ◌∷◌, [], ◌++◌, if◌then◌else◌, ◌^◌, ℕ, length, reverse, replicate, vec_len, vec_capacity, IfOk, slice_index, slice_set};
 ghost use Rattle.heap_model.specs.Sections.{undo_action};
-ghost use Rattle.dependence.specs.Links.{checked_release, object_of, with_release, freed_after, acts_in};
+ghost use Rattle.dependence.specs.Links.{checked_release, object_of, with_release, freed_after, acts_in, before_in, partner_in};
 
+use crate::neighbours::Neighbours;
 use crate::step::Step;
 use crate::steps::takes_what_frees;
 use heap_model::{MOST_OBJECTS, ObjectId, UndoRecord};
@@ -15,19 +16,18 @@ use std::alloc::{AllocError, Global};
 pub struct Links {
     /// By lane: its newest step.
     pub newest: [usize; 32],
-    /// By step: the one before it in its lane.
-    pub before: Vec<usize>,
     /// By object: its last release.
     pub freed: Vec<usize>,
-    /// By step: of a take the release before it, of a release the take after it.
-    pub partner: Vec<usize>,
+    /// By step: the steps next to it.
+    pub beside: Vec<Neighbours>,
 }
 
 impl Links {
-    ghost use Rattle.std.specs.Prelude.{◌≡◌, ◌+◌, ◌<◌, ◌≤◌, ◌∷◌, [], ◌++◌, ℕ, All, reverse, length, IfOk, vec_len, vec_capacity};
+    ghost use Rattle.std.specs.Prelude.{◌≡◌, ◌+◌, ◌<◌, ◌≤◌, ◌∷◌, [], ◌++◌, ℕ, All, reverse, length, slice_index, IfOk, vec_len, vec_capacity};
     ghost use Rattle.heap_model.specs.Sections.{undo_action};
     ghost use Rattle.dependence.specs.Next.{IsObjectBelow};
     ghost use Rattle.dependence.specs.Steps.{log_of};
+    ghost use Rattle.dependence.specs.Links.{before_in, partner_in};
     ghost use Rattle.dependence.specs.Kept.{IsInOrder, IsLinked, HasRoom, Rises};
 
     /// The links of no steps, with room for so many.
@@ -37,9 +37,8 @@ impl Links {
     {
         Ok(Links {
             newest: [0; 32],
-            before: Vec::with_capacity(alloc, records)?,
             freed: vec![in alloc; 0; MOST_OBJECTS]?,
-            partner: Vec::with_capacity(alloc, records)?,
+            beside: Vec::with_capacity(alloc, records)?,
         })
     }
 
@@ -53,17 +52,12 @@ impl Links {
         requires order { IsInOrder (log_of (reverse steps.now)) (undo_action next.entry) }
         ensures linked { IsLinked (steps.now ++ next ∷ []) self.new }
         ensures room { (n : ℕ) → HasRoom self.old (n + 1) → HasRoom self.new n }
-        ensures before { vec_capacity self.new.before ≡ vec_capacity self.old.before }
-        ensures partner { vec_capacity self.new.partner ≡ vec_capacity self.old.partner }
+        ensures capacity { vec_capacity self.new.beside ≡ vec_capacity self.old.beside }
     {
-        chain(
-            &mut self.newest,
-            &mut self.before,
-            next.lane.0 as usize,
-            steps.len(),
-        );
-        let release = last_release(&self.freed, steps, next);
-        pair(&mut self.partner, release, steps.len());
+        let before = chain(&mut self.newest, next.lane.0 as usize, steps.len());
+        let partner = last_release(&self.freed, steps, next);
+        pair(&mut self.beside, partner, steps.len());
+        self.beside.push_reserved(Neighbours { before, partner });
         note_release(&mut self.freed, next.entry, steps.len());
     }
 
@@ -72,49 +66,60 @@ impl Links {
     /// What was noted of objects stays: a release counts only where a step at its place frees what is taken.
     pub fn again(&mut self, steps: &[Step])
         requires objects { length self.old.freed.items ≡ 4096 }
-        requires room { length steps.now ≤ vec_capacity self.old.before }
-        requires partner_room { length steps.now ≤ vec_capacity self.old.partner }
+        requires room { length steps.now ≤ vec_capacity self.old.beside }
         requires lanes { All (λ s. s.lane.0 < 32) steps.now }
         requires order { Rises (log_of (reverse steps.now)) }
         requires named { All (λ s. IsObjectBelow 4096 s.entry) steps.now }
         ensures linked { IsLinked steps.now self.new }
-        ensures before { vec_capacity self.new.before ≡ vec_capacity self.old.before }
-        ensures partner { vec_capacity self.new.partner ≡ vec_capacity self.old.partner }
+        ensures capacity { vec_capacity self.new.beside ≡ vec_capacity self.old.beside }
     {
         self.newest = [0; 32];
-        self.before.clear();
-        self.partner.clear();
+        self.beside.clear();
         for (place, step) in steps.iter().enumerate() {
             self.add(&steps[..place], *step);
         }
     }
+
+    /// The place of the step before this one in its lane.
+    #[inline(always)]
+    pub fn before(&self, place: usize) -> usize
+        requires { place < length self.now.beside.items }
+        ensures { result ≡ slice_index (before_in self.now.beside.items) place }
+    {
+        self.beside[place].before
+    }
+
+    /// The place of the step's partner: of a take the release before it, of a release the take after it.
+    #[inline(always)]
+    pub fn partner(&self, place: usize) -> usize
+        requires { place < length self.now.beside.items }
+        ensures { result ≡ slice_index (partner_in self.now.beside.items) place }
+    {
+        self.beside[place].partner
+    }
 }
 
-// Puts the lane's next step at the end of its chain.
+// Puts the lane's next step at the end of its chain, and gives the place of the one before it.
 #[inline(always)]
-fn chain(newest: &mut [usize], before: &mut Vec<usize>, lane: usize, place: usize)
+fn chain(newest: &mut [usize], lane: usize, place: usize) -> usize
     requires lane { lane < length newest.old }
-    requires room { vec_len before.old < vec_capacity before.old }
     requires fits { place + 1 < 2 ^ 64 }
     ensures newest { newest.new ≡ slice_set newest.old lane (place + 1) }
-    ensures before { before.new.items ≡ before.old.items ++ slice_index newest.old lane ∷ [] }
-    ensures len { vec_len before.new ≡ vec_len before.old + 1 }
-    ensures capacity { vec_capacity before.new ≡ vec_capacity before.old }
+    ensures before { result ≡ slice_index newest.old lane }
 {
-    before.push_reserved(newest[lane]);
+    let before = newest[lane];
     newest[lane] = place + 1;
+    before
 }
 
 // The place of the release that freed what the step takes, plus 1, or 0.
 #[inline(always)]
 fn last_release(freed: &[usize], steps: &[Step], next: Step) -> usize
+    requires object { object_of (undo_action next.entry) < length freed.now }
     ensures { result ≡ checked_release (acts_in steps.now) (undo_action next.entry) (slice_index freed.now (object_of (undo_action next.entry))) }
 {
     match next.entry {
-        UndoRecord::Acq { object, .. } => match freed.get(object.0 as usize) {
-            Some(release) => if_freed(steps, next, *release),
-            None => 0,
-        },
+        UndoRecord::Acq { object, .. } => if_freed(steps, next, freed[object.0 as usize]),
         _ => 0,
     }
 }
@@ -132,20 +137,17 @@ fn if_freed(steps: &[Step], next: Step, release: usize) -> usize
     0
 }
 
-// Puts the next step's partner at its place. If there is one, it gets the next step as its partner.
+// If there is a release, it gets the step at the place as its partner.
 #[inline(always)]
-fn pair(partner: &mut Vec<usize>, release: usize, place: usize)
-    requires release { release ≤ length partner.old.items }
-    requires room { vec_len partner.old < vec_capacity partner.old }
+fn pair(beside: &mut [Neighbours], release: usize, place: usize)
+    requires release { release ≤ length beside.old }
     requires fits { place + 1 < 2 ^ 64 }
-    ensures items { partner.new.items ≡ with_release partner.old.items release (place + 1) ++ release ∷ [] }
-    ensures len { vec_len partner.new ≡ vec_len partner.old + 1 }
-    ensures capacity { vec_capacity partner.new ≡ vec_capacity partner.old }
+    ensures before { before_in beside.new ≡ before_in beside.old }
+    ensures partner { partner_in beside.new ≡ with_release (partner_in beside.old) release (place + 1) }
 {
     if release > 0 {
-        partner[release - 1] = place + 1;
+        beside[release - 1].partner = place + 1;
     }
-    partner.push_reserved(release);
 }
 
 // Notes the place of an object's last release.

@@ -222,7 +222,7 @@ fn look_at(steps: &[Step], links: &Links, candidates: &Cut, search: &mut Search,
     ensures smaller { sum search.new.left < sum search.old.left }
 {
     let place = search.left[lane] - 1;
-    search.left[lane] = links.before[place];
+    search.left[lane] = links.before(place);
     if let Some(release) = release_of(steps, links, place) {
         let releaser = steps[release];
         if !is_counted(candidates, releaser) {
@@ -239,7 +239,7 @@ fn take_up(steps: &[Step], links: &Links, search: &mut Search, lane: usize)
     ensures smaller { sum search.new.left < sum search.old.left }
 {
     let place = search.left[lane] - 1;
-    search.left[lane] = links.before[place];
+    search.left[lane] = links.before(place);
     if let Some(taker) = taker_of(steps, links, place) {
         leave_out(&mut search.cut, &mut search.causes, taker, steps[place]);
     }
@@ -252,7 +252,7 @@ fn taker_of(steps: &[Step], links: &Links, place: usize) -> Option<Step>
     ensures { MatchOption result ((j : ℕ) → takes_after (act_at (acts_in steps.now) j) (act_at (acts_in steps.now) place) ≡ false)
         (λ t. (j : ℕ) × (j < length steps.now) × (t ≡ get_or steps.now j t) × (takes_after (act_at (acts_in steps.now) j) (act_at (acts_in steps.now) place) ≡ true)) }
 {
-    let partner = links.partner[place];
+    let partner = links.partner(place);
     if partner > 0
         && partner <= steps.len()
         && takes_what_frees(steps[partner - 1].entry, steps[place].entry)

@@ -88,7 +88,7 @@ pub fn release_of(steps: &[Step], links: &Links, place: usize) -> Option<usize>
     requires there { place < length steps.now }
     ensures { MatchOption result ((j : ℕ) → Takes steps.now place j → ⊥) (λ j. (j < length steps.now) × Takes steps.now place j) }
 {
-    let partner = links.partner[place];
+    let partner = links.partner(place);
     if partner > 0 && partner <= steps.len() {
         if takes_what_frees(steps[place].entry, steps[partner - 1].entry) {
             return Some(partner - 1);

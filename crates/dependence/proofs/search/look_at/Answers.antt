@@ -4,9 +4,13 @@ use Rattle.heap_model.specs.Cuts.{counts_of}
 use Rattle.dependence.specs.Links.{lanes_in, sections_in}
 use Rattle.dependence.specs.Search.{Takes}
 use Rattle.dependence.proofs.Falling.{falls, lane_is, section_is, one_releaser}
-use Rattle.dependence.proofs.Walking.{read, earlier, looking_same, looking_falls}
+use Rattle.dependence.proofs.Walking.{earlier, looking_same, looking_falls}
+use Rattle.dependence.proofs.Linked.{beside_many}
 use Rattle.dependence.proofs.Places.{sum_falls}
 use Rattle.dependence.proofs.search.look_at.Goals as goal
+
+pub before-requires : goal.before-requires
+before-requires c = omega (arith, c.requires.left.1.some, c.requires.left.1.there, beside_many c.args.steps.now c.args.links.now c.requires.linked)
 
 pub returns-then-not-is_counted-clause-search : goal.returns-then-not-is_counted-clause-search
 returns-then-not-is_counted-clause-search c = λ start old.
@@ -19,18 +23,18 @@ returns-then-not-is_counted-clause-search c = λ start old.
       | inl past ↦ past
       | inr within ↦ absurd (let yes_it : c.is_counted.result ≡ true = c.is_counted.ensures.1 within in let not_it : c.is_counted.result ≡ false = c.if-not-is_counted.true in cc)
     ] in
-    looking_falls c.args.steps.now c.args.links.now c.requires.linked start c.args.search.now.left (slice_set c.args.search.now.left c.args.lane c.index.result.now) (counts_of c.args.candidates.now) (counts_of c.args.search.now.cut) c.args.search.now.causes c.args.lane (slice_index c.args.search.now.left c.args.lane - 1)
+    looking_falls c.args.steps.now c.args.links.now c.requires.linked start c.args.search.now.left (slice_set c.args.search.now.left c.args.lane c.before-2.result) (counts_of c.args.candidates.now) (counts_of c.args.search.now.cut) c.args.search.now.causes c.args.lane (slice_index c.args.search.now.left c.args.lane - 1)
     (search rules) (omega (arith, c.requires.left.1.low)) (omega (arith, c.requires.left.1.some, c.requires.left.1.there)) (omega (arith, c.requires.left.1.some))
-    (ap (slice_set c.args.search.now.left c.args.lane) (read c.args.steps.now c.args.links.now c.args.search.now.left c.requires.left.0 c.args.lane c.index.result.now c.requires.linked c.requires.left.1 c.index.ensures))
+    (ap (slice_set c.args.search.now.left c.args.lane) c.before-2.ensures)
     c.in-Some.release (counts_of c.leave_out.new.cut) c.leave_out.new.causes old takes (omega arith)
     (falls c.args.steps.now (slice_index c.args.search.now.left c.args.lane - 1) c.index-steps-place.result (counts_of c.args.search.now.cut) (counts_of c.leave_out.new.cut) (omega (arith, c.requires.left.1.some, c.requires.left.1.there)) c.index-steps-place.is
     c.leave_out.ensures.out c.leave_out.ensures.others c.leave_out.ensures.fewer c.leave_out.ensures.least)
     (c.leave_out.ensures.causes c.args.steps.now (record { take = (slice_index c.args.search.now.left c.args.lane - 1); release = c.in-Some.release; takes = takes; taker_is = c.index-steps-place.is; releaser_is = c.index-steps-release.is }) old.why)
 
 pub returns-then-not-is_counted-clause-smaller : goal.returns-then-not-is_counted-clause-smaller
-returns-then-not-is_counted-clause-smaller c = sum_falls c.args.search.now.left c.args.lane c.index.result.now (search rules)
-    (earlier c.args.steps.now c.args.links.now c.args.search.now.left c.requires.left.0 c.args.lane c.index.result.now c.requires.linked c.requires.left.1
-    (read c.args.steps.now c.args.links.now c.args.search.now.left c.requires.left.0 c.args.lane c.index.result.now c.requires.linked c.requires.left.1 c.index.ensures))
+returns-then-not-is_counted-clause-smaller c = sum_falls c.args.search.now.left c.args.lane c.before-2.result (search rules)
+    (earlier c.args.steps.now c.args.links.now c.args.search.now.left c.requires.left.0 c.args.lane c.before-2.result c.requires.linked c.requires.left.1
+    c.before-2.ensures)
 
 pub returns-else-not-is_counted-clause-search : goal.returns-else-not-is_counted-clause-search
 returns-else-not-is_counted-clause-search c = λ start old.
@@ -40,9 +44,9 @@ returns-else-not-is_counted-clause-search c = λ start old.
     let section_at : slice_index (sections_in c.args.steps.now) c.in-Some.release ≡ c.index-steps-release.result.section = section_is c.args.steps.now c.in-Some.release c.index-steps-release.result release_lt (sym c.index-steps-release.is) in
     let count_at : counts_of c.args.candidates.now (slice_index (lanes_in c.args.steps.now) c.in-Some.release) ≡ counts_of c.args.candidates.now c.index-steps-release.result.lane.0 = ap (counts_of c.args.candidates.now) lane_at in
     let within : c.index-steps-release.result.section ≤ counts_of c.args.candidates.now c.index-steps-release.result.lane.0 = c.is_counted.ensures.0 c.if-not-is_counted.false in
-    looking_same c.args.steps.now c.args.links.now c.requires.linked start c.args.search.now.left (slice_set c.args.search.now.left c.args.lane c.index.result.now) (counts_of c.args.candidates.now) (counts_of c.args.search.now.cut) c.args.search.now.causes c.args.lane (slice_index c.args.search.now.left c.args.lane - 1)
+    looking_same c.args.steps.now c.args.links.now c.requires.linked start c.args.search.now.left (slice_set c.args.search.now.left c.args.lane c.before-2.result) (counts_of c.args.candidates.now) (counts_of c.args.search.now.cut) c.args.search.now.causes c.args.lane (slice_index c.args.search.now.left c.args.lane - 1)
     (search rules) (omega (arith, c.requires.left.1.low)) (omega (arith, c.requires.left.1.some, c.requires.left.1.there)) (omega (arith, c.requires.left.1.some))
-    (ap (slice_set c.args.search.now.left c.args.lane) (read c.args.steps.now c.args.links.now c.args.search.now.left c.requires.left.0 c.args.lane c.index.result.now c.requires.linked c.requires.left.1 c.index.ensures))
+    (ap (slice_set c.args.search.now.left c.args.lane) c.before-2.ensures)
     old
     (λ i t o.
     let same : i ≡ c.in-Some.release = one_releaser c.args.steps.now c.args.links.now c.requires.linked i c.in-Some.release (slice_index c.args.search.now.left c.args.lane - 1) t takes in
@@ -51,17 +55,17 @@ returns-else-not-is_counted-clause-search c = λ start old.
     absurd (omega arith))
 
 pub returns-else-not-is_counted-clause-smaller : goal.returns-else-not-is_counted-clause-smaller
-returns-else-not-is_counted-clause-smaller c = sum_falls c.args.search.now.left c.args.lane c.index.result.now (search rules)
-    (earlier c.args.steps.now c.args.links.now c.args.search.now.left c.requires.left.0 c.args.lane c.index.result.now c.requires.linked c.requires.left.1
-    (read c.args.steps.now c.args.links.now c.args.search.now.left c.requires.left.0 c.args.lane c.index.result.now c.requires.linked c.requires.left.1 c.index.ensures))
+returns-else-not-is_counted-clause-smaller c = sum_falls c.args.search.now.left c.args.lane c.before-2.result (search rules)
+    (earlier c.args.steps.now c.args.links.now c.args.search.now.left c.requires.left.0 c.args.lane c.before-2.result c.requires.linked c.requires.left.1
+    c.before-2.ensures)
 
 pub returns-in_default-clause-search : goal.returns-in_default-clause-search
-returns-in_default-clause-search c = λ start old. looking_same c.args.steps.now c.args.links.now c.requires.linked start c.args.search.now.left (slice_set c.args.search.now.left c.args.lane c.index.result.now) (counts_of c.args.candidates.now) (counts_of c.args.search.now.cut) c.args.search.now.causes c.args.lane (slice_index c.args.search.now.left c.args.lane - 1)
+returns-in_default-clause-search c = λ start old. looking_same c.args.steps.now c.args.links.now c.requires.linked start c.args.search.now.left (slice_set c.args.search.now.left c.args.lane c.before-2.result) (counts_of c.args.candidates.now) (counts_of c.args.search.now.cut) c.args.search.now.causes c.args.lane (slice_index c.args.search.now.left c.args.lane - 1)
     (search rules) (omega (arith, c.requires.left.1.low)) (omega (arith, c.requires.left.1.some, c.requires.left.1.there)) (omega (arith, c.requires.left.1.some))
-    (ap (slice_set c.args.search.now.left c.args.lane) (read c.args.steps.now c.args.links.now c.args.search.now.left c.requires.left.0 c.args.lane c.index.result.now c.requires.linked c.requires.left.1 c.index.ensures))
+    (ap (slice_set c.args.search.now.left c.args.lane) c.before-2.ensures)
     old (λ i t o. absurd (c.in_default.ensures i t))
 
 pub returns-in_default-clause-smaller : goal.returns-in_default-clause-smaller
-returns-in_default-clause-smaller c = sum_falls c.args.search.now.left c.args.lane c.index.result.now (search rules)
-    (earlier c.args.steps.now c.args.links.now c.args.search.now.left c.requires.left.0 c.args.lane c.index.result.now c.requires.linked c.requires.left.1
-    (read c.args.steps.now c.args.links.now c.args.search.now.left c.requires.left.0 c.args.lane c.index.result.now c.requires.linked c.requires.left.1 c.index.ensures))
+returns-in_default-clause-smaller c = sum_falls c.args.search.now.left c.args.lane c.before-2.result (search rules)
+    (earlier c.args.steps.now c.args.links.now c.args.search.now.left c.requires.left.0 c.args.lane c.before-2.result c.requires.linked c.requires.left.1
+    c.before-2.ensures)

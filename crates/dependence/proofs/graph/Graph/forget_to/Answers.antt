@@ -1,6 +1,5 @@
 use Rattle.std.proofs.Common.{◌≡◌, ◌<◌, List, All, reverse, length, sym, ap, ◌∙◌, refl, subst, arith}
 use Rattle.heap_model.specs.Cuts.{IsWhole}
-use Rattle.heap_model.specs.Sections.{undo_action}
 use Rattle.heap_model.specs.Base.{since}
 use Rattle.dependence.specs.declared.step.Step.{Step}
 use Rattle.dependence.specs.Trace.{Trace, beyond, IsStableOf}
@@ -8,7 +7,7 @@ use Rattle.dependence.specs.Next.{IsObjectBelow}
 use Rattle.dependence.specs.Steps.{log_of}
 use Rattle.dependence.specs.Kept.{Rises, IsLinked}
 use Rattle.dependence.specs.Inside.{trace_of}
-use Rattle.dependence.proofs.Places.{length_map}
+use Rattle.dependence.proofs.Linked.{beside_many}
 use Rattle.dependence.proofs.Keeping.{sorted_steps}
 use Rattle.dependence.proofs.Trimming.{IsPart, part_of, part_whole, stable_before, stable_after}
 use Rattle.dependence.proofs.Forgetting.{raised_by, left_log, left_rises, left_lanes, left_named, kept_forget}
@@ -34,39 +33,24 @@ invariant_of-self c =
     let many : c.retain.new.steps.len ≡ length c.retain.new.steps.items = c.retain.new.steps.ok.0 in
     let old_many : c.self.inside.steps.len ≡ length c.self.inside.steps.items = c.self.inside.steps.ok.0 in
     kept_forget c.self.inside c.args.cut.now c.raise.new.base c.retain.new.steps.items c.self.invariant c.raise.ensures c.retain.ensures.kept _ whole refl refl refl refl refl
-    (omega (arith, c.len-records.ensures, c.len.ensures, c.retain.ensures.fewer, c.retain.ensures.capacity, c.self.invariant.steps_room))
     linked
-    (record {
-      before = omega (
-        arith,
-        c.len-records.ensures,
-        c.len.ensures,
-        c.retain.ensures.fewer,
-        c.again.ensures.before,
-        c.again.new.self.before.ok.0,
-        linked.chained.count,
-        length_map (λ (s : Step). s.lane.0) c.retain.new.steps.items,
-        c.self.invariant.links_room.before,
-        c.self.inside.links.before.ok.0,
-        c.self.invariant.linked.chained.count,
-        length_map (λ (s : Step). s.lane.0) c.self.inside.steps.items,
-      );
-      partner = omega (
-        arith,
-        c.len-records.ensures,
-        c.len.ensures,
-        c.retain.ensures.fewer,
-        c.again.ensures.partner,
-        c.again.new.self.partner.ok.0,
-        linked.paired.count,
-        length_map (λ (s : Step). undo_action s.entry) c.retain.new.steps.items,
-        c.self.invariant.links_room.partner,
-        c.self.inside.links.partner.ok.0,
-        c.self.invariant.linked.paired.count,
-        length_map (λ (s : Step). undo_action s.entry) c.self.inside.steps.items,
-      );
-    })
+    (omega (
+      arith,
+      many,
+      old_many,
+      c.retain.ensures.fewer,
+      c.retain.ensures.capacity,
+      c.self.inside.steps.ok.1,
+      c.retain.new.steps.ok.1,
+      c.again.ensures.capacity,
+      c.again.new.self.beside.ok.0,
+      beside_many c.retain.new.steps.items c.again.new.self linked,
+      c.self.invariant.links_room,
+      c.self.inside.links.beside.ok.0,
+      beside_many c.self.inside.steps.items c.self.inside.links c.self.invariant.linked,
+    ))
     c.raise-2.ensures
+    refl
     refl
     refl
 

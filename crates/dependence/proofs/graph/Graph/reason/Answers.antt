@@ -32,11 +32,11 @@ invariant_of-self c = record {
   counted = c.self.invariant.counted;
   rises = c.self.invariant.rises;
   linked = c.self.invariant.linked;
-  steps_room = c.self.invariant.steps_room;
   links_room = c.self.invariant.links_room;
   answered = c.self.invariant.answered;
   causes = c.self.invariant.causes;
-  stable = subst (λ (xs : List Step). IsFound c.self.inside.lanes xs (slice_index c.self.inside.ended) (counts_of c.self.inside.answered) (counts_of c.at_hand-found.result.cut) c.at_hand-found.result.looks) c.deref.ensures.value c.at_hand-found.ensures.found;
+  found_among = omega (arith, c.len-self-inside.ensures, c.self.inside.steps.ok.0);
+  stable = λ _. subst (λ (xs : List Step). IsFound c.self.inside.lanes xs (slice_index c.self.inside.ended) (counts_of c.self.inside.answered) (counts_of c.at_hand-found.result.cut) c.at_hand-found.result.looks) c.deref.ensures.value c.at_hand-found.ensures.found;
 }
 
 pub returns-clause-some : goal.returns-clause-some

@@ -33,11 +33,11 @@ invariant_of-self c =
       counted = c.self.invariant.counted;
       rises = c.self.invariant.rises;
       linked = c.self.invariant.linked;
-      steps_room = c.self.invariant.steps_room;
       links_room = c.self.invariant.links_room;
       answered = answered_greatest (slice_index c.self.inside.base) c.self.inside.steps.items c.self.invariant.numbered (slice_index c.self.inside.ended) (counts_of c.at_hand-found.result.cut) c.self.invariant.counted.whole found.greatest;
       causes = subst (λ (xs : List Step). AreCauses xs (counts_of c.at_hand-found.result.cut) c.at_hand-found.new.causes) c.deref.ensures.value c.at_hand-found.ensures.causes;
-      stable = found_again c.self.inside.lanes c.self.inside.steps.items (slice_index c.self.inside.ended) (counts_of c.at_hand-found.result.cut) found.greatest;
+      found_among = omega (arith, c.len-self-inside.ensures, c.self.inside.steps.ok.0);
+      stable = λ _. found_again c.self.inside.lanes c.self.inside.steps.items (slice_index c.self.inside.ended) (counts_of c.at_hand-found.result.cut) found.greatest;
     }
 
 pub returns-clause-stable : goal.returns-clause-stable

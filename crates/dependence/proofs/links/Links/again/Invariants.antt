@@ -5,6 +5,5 @@ use Rattle.dependence.proofs.links.Links.again.Given as goal
 abbrev pub invariant-loop-place : goal.invariant-loop-place
 invariant-loop-place l = record {
   linked : IsLinked (take l.place l.steps) l.self;
-  before : vec_capacity l.self.before ≡ vec_capacity l.fn.self.before;
-  partner : vec_capacity l.self.partner ≡ vec_capacity l.fn.self.partner;
+  capacity : vec_capacity l.self.beside ≡ vec_capacity l.fn.self.beside;
 }

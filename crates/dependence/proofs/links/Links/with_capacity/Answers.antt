@@ -3,4 +3,4 @@ use Rattle.dependence.proofs.Keeping.{linked_none}
 use Rattle.dependence.proofs.links.Links.with_capacity.Goals as goal
 
 pub returns-clause-linked : goal.returns-clause-linked
-returns-clause-linked c = linked_none _ refl c.in_ok-with_capacity.ensures.items c.in_ok-with_capacity-2.ensures.items (sym c.in_ok-vec.field-0.ok.0 ∙ c.in_ok-vec.ensures.len)
+returns-clause-linked c = linked_none _ refl c.in_ok-with_capacity.ensures.items (sym c.in_ok-vec.field-0.ok.0 ∙ c.in_ok-vec.ensures.len)
