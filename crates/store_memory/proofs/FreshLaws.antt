@@ -1,8 +1,8 @@
 -- What is kept of the fresh records stays true of them.
-use Rattle.std.proofs.Common.{ℕ, suc, zero, ◌≡◌, ◌≢◌, ◌+◌, ◌-◌, ◌*◌, ◌<◌, ◌≤◌, ◌==◌, Bool, true, false, if◌then◌else◌, List, [], ◌∷◌, ◌++◌, map, length, reverse, take, drop, slice_index, slice_set, refl, sym, ap, ◌∙◌, subst, inl, inr, arith}
+use Rattle.std.proofs.Common.{ℕ, suc, zero, ◌≡◌, ◌≢◌, ◌+◌, ◌-◌, ◌*◌, ◌<◌, ◌≤◌, ◌==◌, Bool, true, false, if◌then◌else◌, List, [], ◌∷◌, ◌++◌, map, length, reverse, take, drop, replicate, slice_index, slice_set, refl, sym, ap, ◌∙◌, subst, inl, inr, arith}
 use Rattle.std.proofs.lemmas.Bool.{cases_lt, eq-eqb, ne_eqb}
 use Rattle.std.proofs.lemmas.Bool.Decides.{eqb_tells}
-use Rattle.std.proofs.lemmas.List.{get_or-set_same, get_or-set_other, reverse-append, length-reverse, length-set, length-drop, length-map, drop-set-add, drop-set-lt, take-set-le, take_more_set}
+use Rattle.std.proofs.lemmas.List.{get_or-set_same, get_or-set_other, reverse-append, length-reverse, length-set, length-drop, length-map, length-replicate, get_or-replicate, drop-set-add, drop-set-lt, take-set-le, take_more_set}
 use Rattle.std.proofs.lemmas.Nat.{mul-le}
 use Rattle.std.proofs.Math.Nat.{suc-mul}
 use mathlib.Core.Logic.{dite}
@@ -12,7 +12,7 @@ use Rattle.heap_model.specs.declared.record.LaneRecord.{LaneRecord}
 use Rattle.heap_model.specs.declared.record.UndoRecord.{UndoRecord}
 use Rattle.heap_model.specs.Record.{undo_of}
 use Rattle.heap_model.specs.Log.{lane, log_from}
-use Rattle.store_memory.specs.Fresh.{undo_log_of, IsOfLanes, IsSorted}
+use Rattle.store_memory.specs.Fresh.{undo_log_of, IsOfLanes, IsSorted, HasEnds}
 
 pub log_snoc : (xs : List LaneRecord) (e : LaneRecord) → log_from (xs ++ e ∷ []) ≡ (e.lane.0, e.record) ∷ log_from xs
 log_snoc xs e = ap (λ (ys : List LaneRecord). map (λ (x : LaneRecord). (x.lane.0, x.record)) ys) (reverse-append xs (e ∷ []))
@@ -151,3 +151,61 @@ module _ (room : ℕ) (xs : List LaneRecord) (areas : List UndoRecord) (counts :
         kept = λ l low. sorted_area l (omega (arith, length-set counts e.lane.0 (slice_index counts e.lane.0 + 1)));
         held = omega (arith, was.held, ap (λ k. k * room) (length-set counts e.lane.0 (slice_index counts e.lane.0 + 1)));
       }
+
+module _ (room : ℕ) (xs : List LaneRecord) (areas : List UndoRecord) (ends : List ℕ) (capacity : ℕ) (was : HasEnds room xs areas ends capacity)
+    (e : LaneRecord) (lt : e.lane.0 < length ends) (free : length (lane e.lane.0 (log_from xs)) < room) where
+  counted_lane : e.lane.0 < length was.counts
+  counted_lane = omega (arith, was.many)
+
+  end_is : slice_index ends e.lane.0 ≡ e.lane.0 * room + slice_index was.counts e.lane.0
+  end_is = was.ends_are e.lane.0 lt
+
+  pub end_within : slice_index ends e.lane.0 < length areas
+  end_within = omega (arith, end_is, put_within room xs areas was.counts capacity was.sorted e counted_lane free)
+
+  pub end_room : length xs < capacity
+  end_room = put_room room xs areas was.counts capacity was.sorted e counted_lane free
+
+  next_end : (l : ℕ) → l < length ends → slice_index (slice_set ends e.lane.0 (slice_index ends e.lane.0 + 1)) l ≡ l * room + slice_index (slice_set was.counts e.lane.0 (slice_index was.counts e.lane.0 + 1)) l
+  next_end l low = dite (ℕ_discrete l e.lane.0)
+      (λ same.
+      let end : slice_index (slice_set ends e.lane.0 (slice_index ends e.lane.0 + 1)) l ≡ slice_index ends e.lane.0 + 1 =
+      ap (slice_index (slice_set ends e.lane.0 (slice_index ends e.lane.0 + 1))) same ∙ get_or-set_same ends e.lane.0 (slice_index ends e.lane.0 + 1) 0 lt in
+      let count : slice_index (slice_set was.counts e.lane.0 (slice_index was.counts e.lane.0 + 1)) l ≡ slice_index was.counts e.lane.0 + 1 =
+      ap (slice_index (slice_set was.counts e.lane.0 (slice_index was.counts e.lane.0 + 1))) same ∙ get_or-set_same was.counts e.lane.0 (slice_index was.counts e.lane.0 + 1) 0 counted_lane in
+      let place : l * room ≡ e.lane.0 * room = ap (λ (k : ℕ). k * room) same in
+      omega (arith, end_is))
+      (λ other.
+      let end : slice_index (slice_set ends e.lane.0 (slice_index ends e.lane.0 + 1)) l ≡ slice_index ends l = get_or-set_other ends e.lane.0 l (slice_index ends e.lane.0 + 1) 0 other in
+      let count : slice_index (slice_set was.counts e.lane.0 (slice_index was.counts e.lane.0 + 1)) l ≡ slice_index was.counts l = get_or-set_other was.counts e.lane.0 l (slice_index was.counts e.lane.0 + 1) 0 other in
+      omega (arith, was.ends_are l low))
+
+  -- with one more record
+  pub ends_push : HasEnds room (xs ++ e ∷ []) (slice_set areas (slice_index ends e.lane.0) (undo_of e.record)) (slice_set ends e.lane.0 (slice_index ends e.lane.0 + 1)) capacity
+  ends_push = record {
+    counts = slice_set was.counts e.lane.0 (slice_index was.counts e.lane.0 + 1);
+    many = length-set was.counts e.lane.0 (slice_index was.counts e.lane.0 + 1) ∙ was.many ∙ sym (length-set ends e.lane.0 (slice_index ends e.lane.0 + 1));
+    ends_are = λ l low. next_end l (omega (arith, length-set ends e.lane.0 (slice_index ends e.lane.0 + 1)));
+    sorted = subst (λ (k : ℕ). IsSorted room (xs ++ e ∷ []) (slice_set areas k (undo_of e.record)) (slice_set was.counts e.lane.0 (slice_index was.counts e.lane.0 + 1)) capacity) (sym end_is)
+        (sorted_push room xs areas was.counts capacity was.sorted e counted_lane free);
+  }
+
+-- with none
+pub ends_none : (room : ℕ) (areas : List UndoRecord) (ends : List ℕ) (capacity : ℕ) → length areas ≡ length ends * room → length ends * room ≤ capacity → ((l : ℕ) → l < length ends → slice_index ends l ≡ l * room) → HasEnds room [] areas ends capacity
+ends_none room areas ends capacity areas_are held begin =
+    let counts : List ℕ = replicate (length ends) 0 in
+    let many : length (replicate (length ends) 0) ≡ length ends = length-replicate {A = ℕ} (length ends) 0 in
+    let none : (l : ℕ) → l < length ends → slice_index (replicate (length ends) 0) l ≡ 0 = λ l low. get_or-replicate (length ends) l 0 0 low in
+    record {
+      counts = counts;
+      many = many;
+      ends_are = λ l low. omega (arith, begin l low, none l low);
+      sorted = record {
+        of_lanes = tt;
+        areas_are = areas_are ∙ ap (λ (n : ℕ). n * room) (sym many);
+        counted = λ l low. none l (omega (arith, many));
+        bounded = λ l low. omega (arith, none l (omega (arith, many)));
+        kept = λ l low. ap (λ (n : ℕ). take n (drop (l * room) areas)) (none l (omega (arith, many)));
+        held = omega (arith, ap (λ (n : ℕ). n * room) many);
+      };
+    }

@@ -1,5 +1,5 @@
 -- The records that were applied and not yet logged, in the order applied and by lane (Atlas's undo logs, one a lane).
-use Rattle.std.specs.Prelude.{ℕ, ◌≡◌, ◌*◌, ◌<◌, ◌≤◌, List, [], ◌∷◌, map, length, reverse, take, drop, slice_index}
+use Rattle.std.specs.Prelude.{ℕ, ◌≡◌, ◌+◌, ◌*◌, ◌<◌, ◌≤◌, List, [], ◌∷◌, map, length, reverse, take, drop, slice_index}
 use Rattle.heap_model.specs.declared.record.Record.{Record}
 use Rattle.heap_model.specs.declared.record.LaneRecord.{LaneRecord}
 use Rattle.heap_model.specs.declared.record.UndoRecord.{UndoRecord}
@@ -29,3 +29,10 @@ pub record IsSorted (room : ℕ) (records : List LaneRecord) (areas : List UndoR
   pub bounded : (l : ℕ) → l < length counts → slice_index counts l ≤ room
   pub kept : (l : ℕ) → l < length counts → take (slice_index counts l) (drop (l * room) areas) ≡ undo_log_of l records
   pub held : length counts * room ≤ capacity
+
+-- the same where the places behind the areas' last records are known
+pub record HasEnds (room : ℕ) (records : List LaneRecord) (areas : List UndoRecord) (ends : List ℕ) (capacity : ℕ) : Type 0 where
+  pub counts : List ℕ
+  pub many : length counts ≡ length ends
+  pub ends_are : (l : ℕ) → l < length ends → slice_index ends l ≡ l * room + slice_index counts l
+  pub sorted : IsSorted room records areas counts capacity

@@ -17,8 +17,8 @@ pub struct FreshRecords {
     records: Vec<LaneRecord>,
     // Area l, of `room` records, begins with those of lane l, the oldest first, as its undo log keeps them.
     areas: Vec<UndoRecord>,
-    // By lane: how many there are.
-    counts: Vec<usize>,
+    // By lane: the place in `areas` behind its last one.
+    ends: Vec<usize>,
 }
 
 impl Model for FreshRecords {
@@ -27,11 +27,11 @@ impl Model for FreshRecords {
 
     ghost Value = { Fresh };
 
-    ghost use Rattle.store_memory.specs.Fresh.{IsSorted};
+    ghost use Rattle.store_memory.specs.Fresh.{HasEnds};
 
-    ghost view = { λ f. record { lanes = length f.counts.items; room = f.room; records = f.records.items } };
+    ghost view = { λ f. record { lanes = length f.ends.items; room = f.room; records = f.records.items } };
 
-    ghost invariant = { λ f. IsSorted f.room f.records.items f.areas.items f.counts.items (vec_capacity f.records) };
+    ghost invariant = { λ f. HasEnds f.room f.records.items f.areas.items f.ends.items (vec_capacity f.records) };
 }
 
 // What an area holds where nothing was put yet.
@@ -50,11 +50,13 @@ impl FreshRecords {
         ensures empty { IfOk result (λ f. f.records ≡ []) }
     {
         let total = lanes as usize * room as usize;
+        let mut ends = vec![in alloc; 0; lanes as usize]?;
+        begin(&mut ends, room);
         Ok(FreshRecords {
             room,
             records: Vec::with_capacity(alloc, total)?,
             areas: vec![in alloc; NOTHING; total]?,
-            counts: vec![in alloc; 0; lanes as usize]?,
+            ends,
         })
     }
 
@@ -67,13 +69,7 @@ impl FreshRecords {
         ensures lanes { self.new.lanes ≡ self.old.lanes }
         ensures room { self.new.room ≡ self.old.room }
     {
-        put(
-            &mut self.areas,
-            &mut self.counts,
-            self.room,
-            lane,
-            next.undo(),
-        );
+        put(&mut self.areas, &mut self.ends, lane, next.undo());
         self.records
             .push_reserved(LaneRecord { lane, record: next });
     }
@@ -91,7 +87,7 @@ impl FreshRecords {
         ensures { result.now ≡ undo_log_of lane.0 self.now.records }
     {
         let from = lane.0 as usize * self.room as usize;
-        &self.areas[from..from + self.counts[lane.0 as usize]]
+        &self.areas[from..self.ends[lane.0 as usize]]
     }
 
     /// Forgets them: they are logged.
@@ -101,20 +97,30 @@ impl FreshRecords {
         ensures room { self.new.room ≡ self.old.room }
     {
         self.records.clear();
-        self.counts.fill(0);
+        begin(&mut self.ends, self.room);
+    }
+}
+
+// Has each lane's area end where it begins.
+fn begin(ends: &mut [usize], room: u32)
+    requires { length ends.old * room < 2 ^ 64 }
+    ensures { (l : ℕ) → l < length ends.old → slice_index ends.new l ≡ l * room }
+{
+    for lane in 0..ends.len() {
+        ends[lane] = lane * room as usize;
     }
 }
 
 // Puts the record at the end of what the lane's area has.
 #[inline(always)]
-fn put(areas: &mut [UndoRecord], counts: &mut [usize], room: u32, lane: Lane, entry: UndoRecord)
-    requires lane { lane.0 < length counts.old }
-    requires within { lane.0 * room + slice_index counts.old lane.0 < length areas.old }
-    ensures areas { areas.new ≡ slice_set areas.old (lane.0 * room + slice_index counts.old lane.0) entry }
-    ensures counts { counts.new ≡ slice_set counts.old lane.0 (slice_index counts.old lane.0 + 1) }
+fn put(areas: &mut [UndoRecord], ends: &mut [usize], lane: Lane, entry: UndoRecord)
+    requires lane { lane.0 < length ends.old }
+    requires within { slice_index ends.old lane.0 < length areas.old }
+    ensures areas { areas.new ≡ slice_set areas.old (slice_index ends.old lane.0) entry }
+    ensures ends { ends.new ≡ slice_set ends.old lane.0 (slice_index ends.old lane.0 + 1) }
 {
     let l = lane.0 as usize;
-    let count = counts[l];
-    areas[l * room as usize + count] = entry;
-    counts[l] = count + 1;
+    let end = ends[l];
+    areas[end] = entry;
+    ends[l] = end + 1;
 }
