@@ -76,11 +76,20 @@ fn write_records<D: Disk>(
     ensures cause { HasCause (D.device disk.old).failures (D.device disk.new).failures Fault result }
 {
     let _size = layout.size();
+    // One for all runs: each begins by filling it anew.
+    let mut bytes = [0; RUN_BYTES];
     let mut done = 0;
     while done < records.len() {
         let here = place + done as u64;
         let count = run_length(layout, here, records.len() - done);
-        write_run(disk, layout, lane, here, &records[done..done + count])?;
+        write_run(
+            disk,
+            layout,
+            lane,
+            here,
+            &records[done..done + count],
+            &mut bytes,
+        )?;
         done += count;
     }
     Ok(())
@@ -100,13 +109,15 @@ fn run_length(layout: &Layout, place: u64, left: usize) -> usize
     to_end.min(left as u64).min(RUN_RECORDS as u64) as usize
 }
 
-// Writes these records at the places from `place` on, in one call of the device: a write for each.
+// Writes these records at the places from `place` on, in one call of the device: a write for each. Their bytes are put
+// together in `bytes`, whatever it has.
 fn write_run<D: Disk>(
     disk: &mut D,
     layout: &Layout,
     lane: Lane,
     place: u64,
     run: &[UndoRecord],
+    bytes: &mut [u8; RUN_BYTES],
 ) -> Result<(), LogError>
     requires limits { IsLayout layout.now }
     requires fits { size_of layout.now ≤ length (D.device disk.old).now.bytes }
@@ -119,7 +130,6 @@ fn write_run<D: Disk>(
     ensures any_moment { LeavesOnly (D.device disk.old) (D.device disk.new) (ImageBut (D.device disk.old) (record_ranges layout.now lane.0 place (length run.now))) }
     ensures cause { HasCause (D.device disk.old).failures (D.device disk.new).failures Fault result }
 {
-    let mut bytes = [0; RUN_BYTES];
     let bytes = &mut bytes[..RECORD_BYTES * run.len()];
     encode_run(run, bytes);
     disk.write_units(layout.record(lane, place), bytes, run.len())?;
