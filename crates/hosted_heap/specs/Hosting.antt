@@ -53,4 +53,4 @@ pub record IsClosedWith (h : Home) (x : Parts Deferred) (d : Device) : Type 0 wh
   pub none : HoldNone ended
   pub complete : IsComplete x.store.known.layout.lanes ended
   pub closed : IsClosed h x.store.known.layout ended d
-  pub from : (p : Past) → IsServing hosted_device x (plan h) p → IsClosedFrom h x.store.known.layout ended p (hosted_device x.store.disk) d
+  pub from : (p : Past) → IsServing hosted_device x (plan h) p → IsClosedFrom h x.store.known.layout ended p x.seat (hosted_device x.store.disk) d

@@ -9,7 +9,7 @@ use Rattle.monitor.specs.Seats.{Home}
 use Rattle.steps.specs.Views.{plan}
 use Rattle.store_past.specs.Past.{Past}
 use Rattle.trim_helper.specs.Moves.{IsEndOf}
-use Rattle.trim_helper.specs.Parts.{IsServing, Parts, taking_of}
+use Rattle.trim_helper.specs.Parts.{IsServing, Parts}
 use Rattle.trim_helper.proofs.Rounds.{drained_serves, goes_drained}
 use Rattle.running_heap.specs.Joined.{HasGoneOn, IsHelping}
 use Rattle.running_heap.specs.Laws.{CallLaw, DrainLaw, EndedLaw, RingsLaw, RoundLaw, WaitLaw}

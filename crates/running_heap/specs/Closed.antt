@@ -1,6 +1,7 @@
 -- What stands once a running heap is closed.
 use Rattle.std.specs.Prelude.{ℕ, ◌≡◌, ◌≤◌, false, List, [], All}
 use Rattle.heap_model.specs.declared.event.Event.{Event}
+use Rattle.heap_model.specs.declared.record.Record.{Record}
 use Rattle.heap_model.specs.Cuts.{all_ended}
 use Rattle.heap_model.specs.History.{IsLegalHistory, log_of, state_after}
 use Rattle.heap_model.specs.Log.{lane}
@@ -12,8 +13,11 @@ use Rattle.undo_log.specs.StandsFor.{StandsFor}
 use Rattle.store_image.specs.KeptHeap.{StandsForCut, values_below}
 use Rattle.store_past.specs.Past.{Past, applied}
 use Rattle.durable.specs.Runs.{HasRun, IsLeftBy}
-use Rattle.monitor.specs.Seats.{Home}
+use Rattle.monitor.specs.Seats.{Helping, Home}
+use Rattle.monitor.specs.Views.{GoesOn}
 use Rattle.steps.specs.Views.{plan, view}
+use Rattle.trim_helper.specs.Counts.{IsCutCount, WasCount}
+use Rattle.trim_helper.specs.Parts.{Parts}
 use Rattle.trim_helper.specs.Settled.{closed_value}
 use Rattle.trim_helper.specs.Taken.{trimmed_of}
 use Rattle.trim_helper.specs.declared.ended.Ended.{Ended}
@@ -32,18 +36,28 @@ pub record IsClosed (h : Home) (l : Layout) (ended : List Ended) (d : Device) : 
   pub stands : Always d (StandsForCut l (plan h) (log_of (plan h) history) (all_ended (actions (log_of (plan h) history))))
   pub values : Always d (λ image. StandsFor l image (values_below (closed_value (plan h) (state_after (plan h) history).value) l.fields))
 
--- the session was told of no more sections of its lane than are acknowledged, and of no place past what is trimmed
-pub record WasTold (acknowledged trimmed : ℕ → ℕ) (e : Ended) : Type 0 where
+-- The session was told of no more sections of its lane than are acknowledged, and of no place past what is trimmed. The count of sections
+-- that it last read, the helper had published, and some whole, closed cut of the log has so many of its lane.
+pub record WasTold (log : List (ℕ × Record)) (seat : Helping) (acknowledged trimmed : ℕ → ℕ) (e : Ended) : Type 0 where
   pub stable : (view e.seat).stable ≤ acknowledged (view e.seat).lane.0
   pub trimmed_to : (view e.seat).trimmed ≤ trimmed (view e.seat).lane.0
+  pub published : WasCount seat (view e.seat).lane.0 (view e.seat).stable
+  pub in_cut : IsCutCount log (view e.seat).lane.0 (view e.seat).stable
 
 -- each of these sessions was
-abbrev pub WereTold : (acknowledged trimmed : ℕ → ℕ) → List Ended → Type 0
-WereTold acknowledged trimmed ended = All (WasTold acknowledged trimmed) ended
+abbrev pub WereTold : (log : List (ℕ × Record)) (seat : Helping) (acknowledged trimmed : ℕ → ℕ) → List Ended → Type 0
+WereTold log seat acknowledged trimmed ended = All (WasTold log seat acknowledged trimmed) ended
 
--- The heap was closed from this past, on the one device, which then was the other. Each session was told of what was acknowledged and
--- trimmed by then; and whatever a crash left since shows what some of the store calls that were made since make of that past.
-pub record IsClosedFrom (h : Home) (l : Layout) (ended : List Ended) (p : Past) (since d : Device) : Type 0 where
+-- The heap was closed from this past, on the one device, which then was the other, by a helper with this seat. The history goes on from the
+-- one that the helper had seen. Each session was told of what was acknowledged and trimmed by then, by counts of cuts of the history's log;
+-- and whatever a crash left since shows what some of the store calls that were made since make of that past.
+pub record IsClosedFrom (h : Home) (l : Layout) (ended : List Ended) (p : Past) (seat : Helping) (since d : Device) : Type 0 where
   pub closed : IsClosed h l ended d
+  pub later : GoesOn closed.history seat.view.history
   pub ran : HasRun l (plan h) p since closed.now d false
-  pub told : WereTold p.cut (trimmed_of p) ended
+  pub told : WereTold (log_of (plan h) closed.history) seat p.cut (trimmed_of p) ended
+
+module _ {D : Type 0} (device : D → Device) where
+  -- so this helper's heap was, and this is the disk that is given back
+  abbrev pub ClosesFrom : Home → List Ended → Past → Parts D → (disk : D) → Type 0
+  ClosesFrom h ended p x disk = IsClosedFrom h x.store.known.layout ended p x.seat (device x.store.disk) (device disk)

@@ -41,5 +41,5 @@ module _ {D : Type 0} (device : D → Device) where
 
   -- until the heap is closed
   abbrev pub ClosedLifeLaw : Type 0
-  ClosedLifeLaw = (h : Home) (opened d : Device) (x : Parts D) (p : Past) (ended : List Ended) → HasLived h opened x p → (from : IsClosedFrom h x.store.known.layout ended p (device x.store.disk) d) →
+  ClosedLifeLaw = (h : Home) (opened d : Device) (x : Parts D) (p : Past) (ended : List Ended) → HasLived h opened x p → (from : IsClosedFrom h x.store.known.layout ended p x.seat (device x.store.disk) d) →
       HasLivedTo h x.store.known.layout opened from.closed.now d

@@ -1,7 +1,7 @@
 //! Sessions end, and meet their helper.
 ghost use Rattle.std.specs.Prelude.{◌≡◌, ℕ, All, IfOk};
 ghost use Rattle.monitor.specs.Seats.{Home};
-ghost use Rattle.running_heap.specs.Closed.{IsClosed, IsClosedFrom};
+ghost use Rattle.running_heap.specs.Closed.{ClosesFrom, IsClosed};
 ghost use Rattle.running_heap.specs.Joined.{IsHelping, IsJoined};
 ghost use Rattle.session.specs.Sessions.{seat_of};
 ghost use Rattle.steps.specs.Views.{plan};
@@ -33,7 +33,9 @@ pub fn end(session: Session) -> Ended
 
 /// Lets the sessions that have ended meet their helper: all that they sent is applied, made durable and acknowledged, and the
 /// device is given back. One legal history has what each session was told as its part, recovery takes the device, whatever a crash
-/// leaves of it, and the device stands for the history's heap.
+/// leaves of it, and the device stands for the history's heap. The history goes on from the one that the helper had seen; so each
+/// session's part goes on from what was seen of its lane. A count that a session read as stable, the helper had published as
+/// acknowledged, and there is a whole, closed cut of the one history with so many of the session's sections.
 ///
 /// Refusals, in this order, each with the device, as a stop leaves it:
 /// - `Missing`: the least lane that hasn't just one session in the list. Nothing was done;
@@ -49,7 +51,7 @@ pub fn close<D: Disk>(
     requires helper { IsHelping D.device shared helper }
     requires ended { All (IsEnded shared helper.store.known.layout.capacity helper.rings) ended.items }
     ensures ok { IfOk result (λ disk. IsClosed shared helper.store.known.layout ended.items (D.device disk)) }
-    ensures from { (p : Past) → IsServing D.device helper (plan shared) p → IfOk result (λ disk. IsClosedFrom shared helper.store.known.layout ended.items p (D.device helper.store.disk) (D.device disk)) }
+    ensures from { (p : Past) → IsServing D.device helper (plan shared) p → IfOk result (ClosesFrom D.device shared ended.items p helper) }
     ensures closes { (p : Past) → IsServing D.device helper (plan shared) p → Closes D.device shared ended.items p helper result }
 {
     close_down(shared, ended, helper)

@@ -15,5 +15,5 @@ module _ {D : Type 0} (device : D → Device) where
   -- A heap that had been opened on the one device was closed on the other. Whatever a crash left at any moment between, recovery takes,
   -- and keeps whole sections of the history in which each session's part is what it was told.
   abbrev pub CrashLaw : Type 0
-  CrashLaw = (h : Home) (opened d : Device) (x : Parts D) (p : Past) (ended : List Ended) → HasLived device h opened x p → (from : IsClosedFrom h x.store.known.layout ended p (device x.store.disk) d) →
+  CrashLaw = (h : Home) (opened d : Device) (x : Parts D) (p : Past) (ended : List Ended) → HasLived device h opened x p → (from : IsClosedFrom h x.store.known.layout ended p x.seat (device x.store.disk) d) →
       (image : List ℕ) → MayBeLeft opened d image → KeepsOfHistory x.store.known.layout (plan h) no_past from.closed.history image

@@ -7,6 +7,7 @@ use Rattle.block_disk.specs.Device.{Device}
 use Rattle.durable.specs.Store.{Known, HasPast}
 use Rattle.monitor.specs.Seats.{Helping}
 use Rattle.store_past.specs.Past.{Past, applied}
+use Rattle.trim_helper.specs.Counts.{WasCount}
 use Rattle.trim_helper.specs.Helping.{count_published, place_published}
 use Rattle.trim_helper.specs.Meets.{SameHelper}
 use Rattle.trim_helper.specs.Parts.{IsServing, Parts}
@@ -28,4 +29,5 @@ serves_still device x y s p same serving =
       settled = λ is. serving.settled (sym same.settled ∙ is);
       trimmed = λ is. serving.trimmed (sym same.settled ∙ is);
       published = λ is l lt. subst (λ (k : Helping). (count_published k l ≡ p.cut l) × (place_published k l ≡ trimmed_of p l)) (sym same.seat) (serving.published (sym same.settled ∙ is) l (omega arith));
+      stand = λ l n lt was. serving.stand l n (omega arith) (subst (λ (k : Helping). WasCount k l n) same.seat was);
     }

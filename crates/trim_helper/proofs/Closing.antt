@@ -35,7 +35,9 @@ use Rattle.trim_helper.specs.Settled.{IsSettled, closed_value}
 use Rattle.trim_helper.specs.Serving.{Part, Among, IsOneHistory}
 use Rattle.trim_helper.specs.Meeting.{HasPart, HaveMet}
 use Rattle.trim_helper.specs.Closed.{HasSpelled, IsClosedDown}
-use Rattle.monitor.specs.Seats.{Final}
+use Rattle.monitor.specs.Seats.{Final, Helping}
+use Rattle.monitor.specs.Views.{GoesOn}
+use Rattle.trim_helper.specs.Counts.{IsCutCount, WasCount}
 use Rattle.trim_helper.specs.Helping.{Spells}
 use Rattle.trim_helper.proofs.Refusing.{drained}
 
@@ -101,6 +103,7 @@ module _ (s : Setting) (lanes capacity : ℕ) (place : ℕ → ℕ) (parts : Lis
 
 module _ (s : Setting) (lanes : ℕ) (parts : List Part) (h : List (ℕ × Event)) (one : IsOneHistory s lanes parts h) (log_law : LogLaw) (order_law : OrderLaw) (all_kept : AllKeptLaw) (one_stable : OneStableLaw) (unlogged : UnloggedLaw)
     (words : Final) (spelled : Spells words (state_after s h)) (p : Past) (told : (x : Part) → Among parts x → x.lane < lanes → x.count ≤ p.cut x.lane) (places : (x : Part) → Among parts x → x.lane < lanes → x.place ≤ trimmed_of p x.lane)
+    (seat : Helping) (later : GoesOn h seat.view.history) (published : (x : Part) → Among parts x → x.lane < lanes → WasCount seat x.lane x.count) (counts : (x : Part) → Among parts x → x.lane < lanes → IsCutCount (log_of s h) x.lane x.count)
     (x : Known) (since d : Device) (now : Past) (ran : HasRun x.layout s p since now d false) (has : HasPast x s now d) (running : x.has_failed ≡ false) (settled : IsSettled s now)
     (same : (l : ℕ) → lane l (applied now) ≡ lane l (log_of s h)) (free : (l : ℕ) → length (holding (map action (lane l (log_of s h)))) ≡ 0) where
   abbrev cut : ℕ → ℕ
@@ -145,10 +148,11 @@ module _ (s : Setting) (lanes : ℕ) (parts : List Part) (h : List (ℕ × Event
     | false ↦ λ not. (unlogged s (log_of s h) f (log_law s h one.legal) not).1 cut
   ] refl
 
-  closed_down : IsClosedDown s lanes x.layout parts p since d
+  closed_down : IsClosedDown s lanes x.layout parts p seat since d
   closed_down = record {
     history = h;
     one = one;
+    later = later;
     now = now;
     ran = ran;
     logs = same;
@@ -158,9 +162,11 @@ module _ (s : Setting) (lanes : ℕ) (parts : List Part) (h : List (ℕ × Event
         (λ image st. subst (λ (v : ℕ → ℕ). StandsFor x.layout image (values_below v x.layout.fields)) (λ i f. values f i) st.heap) stands;
     told = told;
     places = places;
+    published = published;
+    counts = counts;
   }
 
-  pub has_spelled : HasSpelled s lanes x.layout parts p since d words
+  pub has_spelled : HasSpelled s lanes x.layout parts p seat since d words
   unfolding closed_down
   has_spelled = record { closed = closed_down; spelled = spelled }
 

@@ -25,6 +25,7 @@ use Rattle.trim_helper.specs.Rings.{known_of, received_of, waiting_in, held_back
 use Rattle.trim_helper.specs.Seen.{AreHeard, BeginsLog, SeesFrom}
 use Rattle.trim_helper.specs.Taken.{IsRefused, trimmed_of}
 use Rattle.trim_helper.proofs.RingMoves.{known_at, known_else, known_set, received_at, received_else, received_set, same_refl, same_set, same_then}
+use Rattle.trim_helper.proofs.Counting.{count_kept}
 use Rattle.trim_helper.proofs.Noting.{count_noted, noted_then, place_noted, taken_noted}
 use Rattle.trim_helper.proofs.Rounds.{parts_from}
 use Rattle.trim_helper.proofs.Seeing.{all_seen}
@@ -64,6 +65,7 @@ module _ {D : Type 0} (device : D → Device) (y : Parts D) (rings : List Receiv
     settled = was.settled;
     trimmed = was.trimmed;
     published = λ is l lt. let both = was.published is l lt in (count_noted y.seat seat l same ∙ both.0, place_noted y.seat seat l same ∙ both.1);
+    stand = λ l n lt count. was.stand l n lt (count_kept y.seat seat l n same.notes count);
   }
 
   heard_stuck : (k : Layout) (d : Device) (s : Setting) (p : Past) → AreStuck k d y.rings y.waiting s p → AreStuck k d rings y.waiting s p

@@ -7,6 +7,8 @@ pub mod Homes
 pub mod Trims
 pub mod Looking
 pub mod Noting
+pub mod Reordered
+pub mod Counting
 pub mod Rounds
 pub mod HeardRings
 pub mod Closing

@@ -1,5 +1,5 @@
 -- A round of the helper.
-use Rattle.std.proofs.Common.{ℕ, zero, suc, ◌≡◌, ◌≢◌, ◌≤◌, ◌==◌, if◌then◌else◌, Bool, true, false, List, [], ◌∷◌, ◌++◌, length, replicate, Result, Ok, Err, IfOk, OnErr, IsErrOf, Option, None, refl, sym, ap, ◌∙◌, subst, inl, inr, arith}
+use Rattle.std.proofs.Common.{ℕ, zero, suc, ◌≡◌, ◌≢◌, ◌+◌, ◌<◌, ◌≤◌, ◌⊎◌, ◌==◌, if◌then◌else◌, Bool, true, false, List, [], ◌∷◌, ◌++◌, length, replicate, Result, Ok, Err, IfOk, OnErr, IsErrOf, Option, None, refl, sym, ap, ◌∙◌, subst, inl, inr, arith}
 use Rattle.std.proofs.lemmas.Bool.Decides.{eqb_tells}
 use Rattle.std.proofs.lemmas.List.{append_assoc}
 use Rattle.lane_rings.specs.Rings.{Receiving}
@@ -9,7 +9,9 @@ use Rattle.block_disk.specs.Device.{Device, HasCause}
 use Rattle.block_disk.specs.Images.{Always}
 use Rattle.block_disk.proofs.Failures.{cause_since}
 use Rattle.image.specs.declared.layout.Layout.{Layout}
+use Rattle.monitor.specs.declared.view.Note.{Note}
 use Rattle.monitor.specs.Seats.{Helping, Home}
+use Rattle.monitor.specs.Views.{noted}
 use Rattle.store_past.specs.Past.{Past, IsPast, IsTrimmed, applied}
 use Rattle.store_past.specs.declared.error.StoreError.{StoreError}
 use Rattle.store_past.specs.declared.error.StoreError.TheVariants.{Failed, BadLane, BadId, Worn, NotNext, TooLong, LogFull, Unwritten, Fault, Unfinished}
@@ -18,6 +20,7 @@ use Rattle.durable.specs.Store as stores
 use Rattle.durable.specs.Store.{Known, HasPast}
 use Rattle.durable.proofs.Running.{left_always, ran_applied, ran_less, ran_none, ran_then}
 use Rattle.trim_helper.specs.Calls.{AreStuck, Drains, HasGoneOn, Rounds}
+use Rattle.trim_helper.specs.Counts.{AddsCounts, StandForCuts, WasCount}
 use Rattle.trim_helper.specs.Draining.{DrainsRings}
 use Rattle.trim_helper.specs.declared.draining.TheConstants.{LOOKS}
 use Rattle.trim_helper.specs.Helping.{HasPublished, IsHelper, IsPublished, count_published, place_published, taken_in}
@@ -30,6 +33,7 @@ use Rattle.heap_model.specs.Log.{IsLegal}
 use Rattle.trim_helper.specs.Closed.{AreSent, Stood}
 use Rattle.trim_helper.specs.declared.ended.Ended.{Ended}
 use Rattle.trim_helper.specs.Endings.{HoldNone, IsComplete}
+use Rattle.trim_helper.proofs.Counting.{stand_added, stand_more, stand_none, stand_same}
 use Rattle.trim_helper.proofs.Homes.{err_same}
 use Rattle.trim_helper.specs.Seen.{SeesFrom}
 use Rattle.trim_helper.proofs.Noting.{noted_same}
@@ -106,6 +110,7 @@ module _ {D : Type 0} (device : D → Device) where
           settled = λ is. let q = quiet is in subst (λ xs. IsSettled s (applied_more xs p)) (sym (none_of now.0 (now.1 ∙ q.1))) (was.settled q.0);
           trimmed = λ is. was.trimmed (quiet is).0;
           published = λ is l lt. subst (λ k. (count_published k l ≡ p.cut l) × (place_published k l ≡ trimmed_of p l)) (sym seat) (was.published (quiet is).0 l (omega arith));
+          stand = λ l n lt count. stand_more x.seat x.store.known.layout.lanes s p now.0 now.2.has.past.legal was.stand l n (omega arith) (subst (λ k. WasCount k l n) seat count);
         };
         ran = applied_ran y.store.known.layout s p (device x.store.disk) (device y.store.disk) now.0 y.store.known.has_failed drained.uncalled now.2.has.past;
       }
@@ -129,12 +134,13 @@ module _ {D : Type 0} (device : D → Device) where
         settled = λ is. absurd (let no : false ≡ true = sym unsettled ∙ is in cc);
         trimmed = λ is. absurd (let no : false ≡ true = sym unsettled ∙ is in cc);
         published = λ is l lt. absurd (let no : false ≡ true = sym unsettled ∙ is in cc);
+        stand = λ l n lt count. stand_same z.seat z.store.known.layout.lanes p h.now h.same was.stand l n (omega arith) count;
       }
 
   -- and it is published
-  pub published_serves : (z : Parts D) (w : stores.Parts D) (seat : Helping) (s : Setting) (p : Past) → IsServing device z s p → (h : HasSame (device z.store.disk) w.known (device w.disk) s p) → w.known.has_failed ≡ false → IsSettled s h.now → IsTrimmed h.now →
-      IsPublished seat w.known.layout.lanes h.now → IsServing device (parts_from w z.rings z.waiting true seat) s h.now
-  published_serves z w seat s p was h runs settled trimmed published = record {
+  pub published_serves : (z : Parts D) (w : stores.Parts D) (seat : Helping) (s : Setting) (p : Past) → w.known.layout ≡ z.store.known.layout → IsServing device z s p → (h : HasSame (device z.store.disk) w.known (device w.disk) s p) → w.known.has_failed ≡ false → IsSettled s h.now → IsTrimmed h.now →
+      IsPublished seat w.known.layout.lanes h.now → ((l n : ℕ) → l < w.known.layout.lanes → WasCount seat l n → WasCount z.seat l n ⊎ (n ≡ h.now.cut l)) → IsServing device (parts_from w z.rings z.waiting true seat) s h.now
+  published_serves z w seat s p layout was h runs settled trimmed published added = record {
     taken = same_taken (taking_of z) w s p was.taken h;
     counts = λ l lt. omega (arith, (published l lt).0);
     places = λ l lt. omega (arith, (published l lt).1);
@@ -142,6 +148,9 @@ module _ {D : Type 0} (device : D → Device) where
     settled = λ is. settled;
     trimmed = λ is. trimmed;
     published = λ is l lt. published l lt;
+    stand = subst (λ (k : Layout). StandForCuts seat k.lanes h.now) (sym layout)
+        (stand_added z.seat seat z.store.known.layout.lanes h.now settled.stable (subst (λ (k : Layout). (l n : ℕ) → l < k.lanes → WasCount seat l n → WasCount z.seat l n ⊎ (n ≡ h.now.cut l)) layout added)
+        (stand_same z.seat z.store.known.layout.lanes p h.now h.same was.stand));
   }
 
   -- each lane has its ring still
@@ -198,15 +207,16 @@ module _ {D : Type 0} (device : D → Device) where
 
   -- nothing was taken yet
   pub serves_new : (x : Parts D) (s : Setting) (p : Past) → x.is_settled ≡ false → ((l : ℕ) → waiting_in x.waiting l ≡ None) → HasPast x.store.known s p (device x.store.disk) → applied p ≡ [] → ((l : ℕ) → received_of x.rings l ≡ []) →
-      ((l : ℕ) → (count_published x.seat l ≡ 0) × (place_published x.seat l ≡ 0)) → IsServing device x s p
+      x.seat.view.notes ≡ [] → IsServing device x s p
   serves_new x s p unsettled none has empty taken silent = record {
     taken = record { has = has; taken = λ l. taken l ∙ sym (ap (λ (xs : List (ℕ × Record)). stream l xs ++ held_back (waiting_in x.waiting l)) empty ∙ ap held_back (none l)) };
-    counts = λ l lt. omega (arith, (silent l).0);
-    places = λ l lt. omega (arith, (silent l).1);
+    counts = λ l lt. let none : count_published x.seat l ≡ 0 = ap (λ (ns : List Note). noted l ns) silent in omega (arith, none);
+    places = λ l lt. let none : place_published x.seat l ≡ 0 = ap (λ (ns : List Note). noted (32 + l) ns) silent in omega (arith, none);
     running = λ is. absurd (let no : false ≡ true = sym unsettled ∙ is in cc);
     settled = λ is. absurd (let no : false ≡ true = sym unsettled ∙ is in cc);
     trimmed = λ is. absurd (let no : false ≡ true = sym unsettled ∙ is in cc);
     published = λ is l lt. absurd (let no : false ≡ true = sym unsettled ∙ is in cc);
+    stand = stand_none x.seat x.store.known.layout.lanes p silent;
   }
 
   -- a helper's drain, by its rings'
@@ -382,9 +392,9 @@ module _ {D : Type 0} (device : D → Device) (s : Setting) (p : Past) (x : Part
             cause = cause_since _ _ _ Fault (refusal e) (omega (arith, same_failures)) cause;
           }
 
-      pub rounds_done : {t : Unit {0}} (seat : Helping) → w.known.has_failed ≡ false → SettlesAndTrimsApplied device z.store w (Ok t) → (device z.store.disk).failures ≤ (device w.disk).failures → HasPublished device w seat →
+      pub rounds_done : {t : Unit {0}} (seat : Helping) → w.known.has_failed ≡ false → SettlesAndTrimsApplied device z.store w (Ok t) → (device z.store.disk).failures ≤ (device w.disk).failures → HasPublished device w seat → AddsCounts device w z.seat seat →
           Rounds device s p x (parts_from w z.rings z.waiting true seat) (Ok n)
-      rounds_done {t} seat runs settles later published =
+      rounds_done {t} seat runs settles later published added =
           let both = settles s drained.now drained.serves.taken.has in
           let told = both.settles in
           let h = told.same in
@@ -398,7 +408,7 @@ module _ {D : Type 0} (device : D → Device) (s : Setting) (p : Past) (x : Part
             cut = λ l. omega (arith, drained.cut l, h.cut l);
             places = λ l. omega (arith, drained.places l, h.places l);
             ran = ran_to h.now h.ran;
-            serves = published_serves device z w seat s drained.now drained.serves h runs told.settled both.trimmed (published s h.now h.has);
+            serves = published_serves device z w seat s drained.now layout drained.serves h runs told.settled both.trimmed (published s h.now h.has) (added s h.now h.has);
             settled = refl;
             left = left_by w.known (device w.disk) s h.now h.has runs;
             quiet = λ is empty. never_quiet is empty;

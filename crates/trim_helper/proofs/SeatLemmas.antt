@@ -33,7 +33,7 @@ place_new h k o a t low is l lt = ap (λ (v : View). noted (32 + l) v.notes) is 
     (λ ne. noted_else (keeping h.view o.0 a) (32 + o.0) t (32 + l) (λ e. ne (omega arith)) ∙ noted_else h.view o.0 a (32 + l) (λ e. absurd (omega arith)))
 
 -- a part that was taken in, by its place in the list
-among : (gs : List raw.Part) (x : Part) → Among (map part_of gs) x → (j : ℕ) × (p : raw.Part) × (get_elem? gs j ≡ some p) × (part_of p ≡ x)
+pub among : (gs : List raw.Part) (x : Part) → Among (map part_of gs) x → (j : ℕ) × (p : raw.Part) × (get_elem? gs j ≡ some p) × (part_of p ≡ x)
 among [] x h = absurd h
 among (g ∷ gs) x h = ⊎_elim (λ (e : part_of g ≡ x). (0, g, refl, e)) (λ (r : Among (map part_of gs) x). let i = among gs x r in (suc i.0, i.1, i.2, i.3)) h
 

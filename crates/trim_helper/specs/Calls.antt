@@ -15,6 +15,7 @@ use Rattle.durable.specs.Store.{Known, HasPast}
 use Rattle.monitor.specs.Seats.{Final, Helping, Home}
 use Rattle.monitor.specs.Words.{setting_of}
 use Rattle.trim_helper.specs.Closed.{HasSpelled, IsClosedDown, Stood, disk_of}
+use Rattle.trim_helper.specs.Counts.{StandForCuts}
 use Rattle.trim_helper.specs.Draining.{DrainsRings}
 use Rattle.trim_helper.specs.Endings.{HoldNone, IsCloseStop, IsCloseWhy, IsComplete, IsOfSessions, RefusesClosing, parts_of}
 use Rattle.trim_helper.specs.Hearing.{IsNoted}
@@ -89,7 +90,7 @@ module _ {D : Type 0} (device : D → Device) where
   -- Sessions that have ended meet a helper that serves this past, and the device is given back. Once none of them stops it, what they sent
   -- is applied, made durable and acknowledged.
   pub record Closes (h : Home) (ended : List Ended) (p : Past) (x : Parts D) (answer : Result D (D × CloseError)) : Type 0 where
-    pub ok : IfOk answer (λ disk. IsClosedDown (setting_of h.plan) h.plan.lanes x.store.known.layout (parts_of ended) p (device x.store.disk) (device disk))
+    pub ok : IfOk answer (λ disk. IsClosedDown (setting_of h.plan) h.plan.lanes x.store.known.layout (parts_of ended) p x.seat (device x.store.disk) (device disk))
     pub refused : MatchResult answer (λ disk. HoldNone ended × IsComplete x.store.known.layout.lanes ended) (λ back. RefusesClosing x.store.known.layout.lanes ended back.1)
     pub failed : x.store.known.has_failed ≡ true → HoldNone ended → IsComplete x.store.known.layout.lanes ended → IsErrAnd answer (λ back. back.1 ≡ close.Failed)
     pub why : IfErr answer (λ back. IsCloseWhy x.store.known (device x.store.disk) (device back.0) back.1)
@@ -101,7 +102,8 @@ module _ {D : Type 0} (device : D → Device) where
   -- Sessions that are complete and hold nothing meet the rings of a helper of this past: what they sent is applied, made durable and
   -- acknowledged, and the words at the end are those of its history; or the store stops that.
   pub record HasFinished (h : Home) (seat : Helping) (ended : List Ended) (p : Past) (x : Taking D) (now : Device) (answer : Result Final CloseError) : Type 0 where
-    pub ok : IsBehind seat x.store.known.layout.lanes p → IfOk answer (HasSpelled (setting_of h.plan) h.plan.lanes x.store.known.layout (parts_of ended) p (device x.store.disk) now)
+    pub ok : IsBehind seat x.store.known.layout.lanes p → StandForCuts seat x.store.known.layout.lanes p →
+        IfOk answer (HasSpelled (setting_of h.plan) h.plan.lanes x.store.known.layout (parts_of ended) p seat (device x.store.disk) now)
     pub stop : IfErr answer IsCloseStop
     pub why : IfErr answer (IsCloseWhy x.store.known (device x.store.disk) now)
     pub failed : x.store.known.has_failed ≡ true → IsErrOf answer close.Failed

@@ -16,7 +16,9 @@ use Rattle.trim_helper.specs.Settled.{closed_value}
 use Rattle.image.specs.declared.layout.Layout.{Layout}
 use Rattle.undo_log.specs.StandsFor.{StandsFor}
 use Rattle.store_image.specs.KeptHeap.{StandsForCut, values_below}
-use Rattle.monitor.specs.Seats.{Final}
+use Rattle.monitor.specs.Seats.{Final, Helping}
+use Rattle.monitor.specs.Views.{GoesOn}
+use Rattle.trim_helper.specs.Counts.{IsCutCount, WasCount}
 use Rattle.trim_helper.specs.Helping.{Spells}
 use Rattle.trim_helper.specs.Serving.{Among, Part, IsOneHistory}
 use Rattle.trim_helper.specs.declared.ended.Ended.{Ended}
@@ -27,10 +29,12 @@ use Rattle.trim_helper.specs.Taken.{trimmed_of}
 -- One legal history has these threads' views as its parts, and the store calls that were made since have applied its logs, lane by
 -- lane. Whatever a crash leaves now, a store of that past leaves, so that recovery takes it, and it stands for the history's heap with
 -- all its sections: after it the persistent fields have these values, and the transient ones begin anew. None of the threads was told of more sections than were acknowledged before, nor of a
--- place past what was trimmed.
-pub record IsClosedDown (s : Setting) (lanes : ℕ) (l : Layout) (parts : List Part) (p : Past) (since d : Device) : Type 0 where
+-- place past what was trimmed. The history goes on from the one that the helper's seat had seen; and each count of sections that a thread
+-- last read, the helper had published, and it is that of a whole, closed cut of the history's log.
+pub record IsClosedDown (s : Setting) (lanes : ℕ) (l : Layout) (parts : List Part) (p : Past) (seat : Helping) (since d : Device) : Type 0 where
   pub history : List (ℕ × Event)
   pub one : IsOneHistory s lanes parts history
+  pub later : GoesOn history seat.view.history
   pub now : Past
   pub ran : HasRun l s p since now d false
   pub logs : (k : ℕ) → lane k (applied now) ≡ lane k (log_of s history)
@@ -39,10 +43,12 @@ pub record IsClosedDown (s : Setting) (lanes : ℕ) (l : Layout) (parts : List P
   pub values : Always d (λ image. StandsFor l image (values_below (closed_value s (state_after s history).value) l.fields))
   pub told : (x : Part) → Among parts x → x.lane < lanes → x.count ≤ p.cut x.lane
   pub places : (x : Part) → Among parts x → x.lane < lanes → x.place ≤ trimmed_of p x.lane
+  pub published : (x : Part) → Among parts x → x.lane < lanes → WasCount seat x.lane x.count
+  pub counts : (x : Part) → Among parts x → x.lane < lanes → IsCutCount (log_of s history) x.lane x.count
 
 -- So it is, and the words at the end spell the state after that history.
-pub record HasSpelled (s : Setting) (lanes : ℕ) (l : Layout) (parts : List Part) (p : Past) (since d : Device) (words : Final) : Type 0 where
-  pub closed : IsClosedDown s lanes l parts p since d
+pub record HasSpelled (s : Setting) (lanes : ℕ) (l : Layout) (parts : List Part) (p : Past) (seat : Helping) (since d : Device) (words : Final) : Type 0 where
+  pub closed : IsClosedDown s lanes l parts p seat since d
   pub spelled : Spells words (state_after s closed.history)
 
 -- the session sent the records that the log has of its lane, in their order, and maybe more

@@ -11,10 +11,11 @@ use Rattle.monitor.specs.declared.view.Plan.{Plan}
 use Rattle.monitor.specs.declared.view.Post.TheVariants.{Stable, Trimmed}
 use Rattle.monitor.specs.declared.view.Part as raw
 use Rattle.monitor.specs.Posts.{known_post}
-use Rattle.monitor.specs.Views.{noted}
+use Rattle.monitor.specs.Views.{GoesOn, noted}
 use Rattle.monitor.specs.Words.{setting_of}
 use Rattle.monitor.specs.Seats.{Home, Helping, Final, IsHelperOf, final_value}
 use Rattle.store_past.specs.Past.{Past}
+use Rattle.trim_helper.specs.Counts.{WasCount}
 use Rattle.trim_helper.specs.Serving.{Among, IsOneHistory, Part}
 use Rattle.trim_helper.specs.Taken.{trimmed_of}
 
@@ -64,6 +65,14 @@ HaveRead h = (x : Part) → Among (taken_in h) x → (x.count ≤ count_publishe
 abbrev pub Spells : Final → State → Type 0
 Spells w s = (f : ℕ) → f < w.fields → final_value w f ≡ s.value f
 
--- the words at the end spell the state after one legal history, which has the lanes that it took in as its parts
-abbrev pub TellsHistory : Plan → Helping → Final → Type 0
-TellsHistory k h w = (history : List (ℕ × Event)) × IsOneHistory (setting_of k) k.lanes (taken_in h) history × Spells w (state_after (setting_of k) history)
+-- each count of sections that a lane which it took in has read, it had published
+abbrev pub HavePublished : Helping → Type 0
+HavePublished h = (x : Part) → Among (taken_in h) x → WasCount h x.lane x.count
+
+-- One legal history has the lanes that it took in as its parts, and goes on from the one that it had seen. The words at the end spell the
+-- state after it.
+pub record TellsHistory (k : Plan) (h : Helping) (w : Final) : Type 0 where
+  pub history : List (ℕ × Event)
+  pub one : IsOneHistory (setting_of k) k.lanes (taken_in h) history
+  pub later : GoesOn history h.view.history
+  pub spelled : Spells w (state_after (setting_of k) history)

@@ -5,6 +5,7 @@ pub mod Taken
 pub mod Draining
 pub mod Settled
 pub mod Helping
+pub mod Counts
 pub mod Rings
 pub mod Moves
 pub mod Limits

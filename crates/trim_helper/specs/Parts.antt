@@ -8,6 +8,7 @@ use Rattle.durable.specs.Store as stores
 use Rattle.store_past.specs.Past.{Past, IsTrimmed}
 use Rattle.monitor.specs.Seats.{Helping}
 use Rattle.heap_model.specs.declared.limits.TheConstants.{RING_RECORDS}
+use Rattle.trim_helper.specs.Counts.{StandForCuts}
 use Rattle.trim_helper.specs.Draining.{Drained}
 use Rattle.trim_helper.specs.declared.draining.TheConstants.{LOOKS}
 use Rattle.trim_helper.specs.Helping.{IsPublished, count_published, place_published}
@@ -32,7 +33,7 @@ taking_of x = record { store = x.store; rings = x.rings; waiting = x.waiting }
 module _ {D : Type 0} (device : D → Device) where
   -- The store has this past, by what was received. By lane, a published count is at most what is acknowledged, and a published place at
   -- most what is trimmed. Where nothing was applied since all was settled, they are equal, all that is acknowledged is trimmed, and the
-  -- store hasn't failed.
+  -- store hasn't failed. Each count that was ever published as acknowledged is that of a whole, closed cut of what was applied.
   pub record IsServing (x : Parts D) (s : Setting) (p : Past) : Type 0 where
     pub taken : HasTaken device (taking_of x) s p
     pub counts : (l : ℕ) → l < x.store.known.layout.lanes → count_published x.seat l ≤ p.cut l
@@ -41,6 +42,7 @@ module _ {D : Type 0} (device : D → Device) where
     pub settled : x.is_settled ≡ true → IsSettled s p
     pub trimmed : x.is_settled ≡ true → IsTrimmed p
     pub published : x.is_settled ≡ true → IsPublished x.seat x.store.known.layout.lanes p
+    pub stand : StandForCuts x.seat x.store.known.layout.lanes p
 
   -- so many records were applied of what its rings held in a drain's looks at them
   abbrev pub HasDrained : (old new : Parts D) → ℕ → Type 0

@@ -6,7 +6,7 @@ ghost use Rattle.monitor.specs.Views.{GoesOn};
 ghost use Rattle.store_past.specs.Past.{Past, no_past};
 ghost use Rattle.trim_helper.specs.Calls.{Drains, HasGoneOn, Rounds};
 ghost use Rattle.trim_helper.specs.Heard.{HasSeen, Hears};
-ghost use Rattle.trim_helper.specs.Helping.{IsHelper, count_published, place_published};
+ghost use Rattle.trim_helper.specs.Helping.{IsHelper};
 ghost use Rattle.trim_helper.specs.Moves.{most_room};
 ghost use Rattle.trim_helper.specs.Parts.{IsServing};
 ghost use Rattle.trim_helper.specs.Rings.{received_of};
@@ -60,7 +60,7 @@ impl<D: Disk> Helper<D> {
         requires untaken { (l : ℕ) → received_of rings.items l ≡ [] }
         requires sees { SeesFrom seat 0 rings.items }
         requires untold { (s : Setting) × HasPast store.known s no_past (D.device store.disk) }
-        requires silent { (l : ℕ) → (count_published seat l ≡ 0) × (place_published seat l ≡ 0) }
+        requires silent { seat.view.notes ≡ [] }
         ensures serves { (s : Setting) → HasPast store.known s no_past (D.device store.disk) → IsServing D.device result s no_past }
         ensures parts { (result.store ≡ store) × (result.rings ≡ rings.items) × (result.seat ≡ seat) }
     {

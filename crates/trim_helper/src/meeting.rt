@@ -7,6 +7,7 @@ ghost use Rattle.trim_helper.specs.Meeting.{HasPart, HaveMet};
 ghost use Rattle.trim_helper.specs.Moves.{IsEndOf, Looks};
 ghost use Rattle.lane_rings.specs.Rings.{sent};
 ghost use Rattle.trim_helper.specs.Rings.{received_of, known_of};
+ghost use Rattle.trim_helper.specs.Seen.{SameSight};
 
 use crate::ended::Ended;
 use crate::published::gather;
@@ -41,6 +42,8 @@ fn meet_one(
     ensures count { (l : ℕ) → count_published seat.new l ≡ count_published seat.old l }
     ensures place { (l : ℕ) → place_published seat.new l ≡ place_published seat.old l }
     ensures gathered { taken_in seat.new ≡ part_at one.seat ∷ taken_in seat.old }
+    ensures notes { seat.new.view.notes ≡ seat.old.view.notes }
+    ensures sight { SameSight seat.old seat.new }
 {
     let Ended {
         seat: other,
@@ -72,6 +75,8 @@ pub fn meet(
     ensures place { (l : ℕ) → place_published seat.new l ≡ place_published seat.old l }
     ensures met { HaveMet (setting_of shared.now.plan) rings.new (taken_in seat.new) capacity }
     ensures gathered { taken_in seat.new ≡ parts_of ended.items }
+    ensures notes { seat.new.view.notes ≡ seat.old.view.notes }
+    ensures sight { SameSight seat.old seat.new }
     ensures present { (l : ℕ) → l < length rings.old → HasPart (taken_in seat.new) l }
 {
     let mut left = ended;

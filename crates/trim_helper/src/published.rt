@@ -1,8 +1,9 @@
 //! The shared words, as the helper uses them.
-ghost use Rattle.std.specs.Prelude.{◌≡◌, ◌==◌, ◌<◌, ◌≤◌, ◌∷◌, ℕ, if◌then◌else◌};
+ghost use Rattle.std.specs.Prelude.{◌≡◌, ◌==◌, ◌<◌, ◌≤◌, ◌⊎◌, ◌∷◌, ℕ, if◌then◌else◌};
 ghost use Rattle.monitor.specs.Seats.{IsSeatOf};
+ghost use Rattle.trim_helper.specs.Counts.{AddsCounts, WasCount};
 ghost use Rattle.trim_helper.specs.Endings.{part_at};
-ghost use Rattle.trim_helper.specs.Helping.{HasPublished, HaveRead, IsHelper, MayPublish, TellsHistory, count_published, place_published, taken_in};
+ghost use Rattle.trim_helper.specs.Helping.{HasPublished, HavePublished, HaveRead, IsHelper, MayPublish, TellsHistory, count_published, place_published, taken_in};
 ghost use Rattle.trim_helper.specs.Seen.{SameSight};
 
 use block_disk::Disk;
@@ -16,6 +17,7 @@ pub fn publish_all<D: Disk>(store: &Store<D>, shared: &Shared, seat: &mut Helper
     requires lanes { shared.now.plan.lanes ≡ store.now.known.layout.lanes }
     requires rises { MayPublish D.device store.now seat.old }
     ensures published { HasPublished D.device store.now seat.new }
+    ensures counts { AddsCounts D.device store.now seat.old seat.new }
     ensures seat { IsHelper shared.now seat.new }
     ensures gathered { taken_in seat.new ≡ taken_in seat.old }
     ensures sight { SameSight seat.old seat.new }
@@ -38,6 +40,7 @@ fn publish(shared: &Shared, seat: &mut HelperSeat, lane: Lane, acknowledged: u64
     ensures seat { IsHelper shared.now seat.new }
     ensures count { (l : ℕ) → l < 32 → count_published seat.new l ≡ (if lane.0 == l then acknowledged else count_published seat.old l) }
     ensures place { (l : ℕ) → l < 32 → place_published seat.new l ≡ (if lane.0 == l then trimmed else place_published seat.old l) }
+    ensures counts { (l n : ℕ) → l < 32 → WasCount seat.new l n → WasCount seat.old l n ⊎ ((lane.0 ≡ l) × (n ≡ acknowledged)) }
     ensures gathered { taken_in seat.new ≡ taken_in seat.old }
     ensures sight { SameSight seat.old seat.new }
 {
@@ -52,16 +55,19 @@ pub fn gather(shared: &Shared, helper: &mut HelperSeat, seat: Seat)
     ensures count { (l : ℕ) → count_published helper.new l ≡ count_published helper.old l }
     ensures place { (l : ℕ) → place_published helper.new l ≡ place_published helper.old l }
     ensures gathered { taken_in helper.new ≡ part_at seat ∷ taken_in helper.old }
+    ensures notes { helper.new.view.notes ≡ helper.old.view.notes }
+    ensures sight { SameSight helper.old helper.new }
 {
     shared.gather(helper, seat);
 }
 
-/// Nobody goes on: one legal history has the lanes that were taken in as its parts, the words spell its state, and nobody
-/// read more than was published.
+/// Nobody goes on: one legal history has the lanes that were taken in as its parts and goes on from what the helper had seen, the words
+/// spell its state, and nobody read more than was published, nor a count that wasn't.
 pub fn close(shared: Shared, helper: HelperSeat) -> Finals
     requires helper { IsHelper shared helper }
     ensures history { TellsHistory shared.plan helper result }
     ensures read { HaveRead helper }
+    ensures published { HavePublished helper }
 {
     shared.close(helper)
 }

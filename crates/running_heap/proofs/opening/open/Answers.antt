@@ -1,6 +1,7 @@
 use Rattle.std.proofs.Common.{◌≡◌, All, length, map, sym, ap, ◌∙◌, subst, arith}
 use Rattle.image.specs.declared.layout.Layout.{Layout}
 use Rattle.monitor.specs.declared.view.Plan.{Plan}
+use Rattle.monitor.specs.declared.view.View.{View}
 use Rattle.running_heap.specs.Joined.{IsJoined}
 use Rattle.steps.specs.Views.{plan}
 use Rattle.store_past.specs.Past.{no_past}
@@ -31,6 +32,9 @@ new-helper-requires-clause-sees g c =
     let h = c.in-Ok.opened.shared in
     let of = c.in-Ok.ensures.helper.of in
     all_seen h c.layout-layout.result.capacity c.args.recovered.layout.lanes c.in-Ok.opened.seats.items made.0.items made.1.items c.in-Ok.ensures.views c.in-Ok-open_sessions.ensures.opened c.in-Ok.opened.seat of.0 of.1 c.in-Ok.ensures.seats
+
+pub new-helper-requires-clause-silent : goal.new-helper-requires-clause-silent
+new-helper-requires-clause-silent g c = ap (λ (v : View). v.notes) c.in-Ok.ensures.silent
 
 pub returns-clause-joined : goal.returns-clause-joined
 returns-clause-joined g c =

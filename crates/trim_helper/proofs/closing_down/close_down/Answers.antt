@@ -43,7 +43,7 @@ returns-in-Ok g c = record {
       let finished = c.in-Ok.ensures p taken in
       let disk = c.into_disk-in-Ok.ensures.disk in
       subst (λ v. Closes g.D.Disk.device c.args.shared c.args.ended.items p v (Ok c.into_disk-in-Ok.result)) c.helper.view_is (record {
-        ok = subst (λ d. IsClosedDown s c.args.shared.plan.lanes x.store.known.layout (parts_of c.args.ended.items) p (g.D.Disk.device x.store.disk) (g.D.Disk.device d)) (sym disk) (finished.ok (λ l lt. (has.counts l lt, has.places l lt))).closed;
+        ok = subst (λ d. IsClosedDown s c.args.shared.plan.lanes x.store.known.layout (parts_of c.args.ended.items) p x.seat (g.D.Disk.device x.store.disk) (g.D.Disk.device d)) (sym disk) (finished.ok (λ l lt. (has.counts l lt, has.places l lt)) has.stand).closed;
         refused = (subst HoldNone c.deref.ensures.value c.in_default.ensures.0, subst (λ n. IsComplete n c.args.ended.items) lanes (subst (λ es. IsComplete c.layout-lanes.result.lanes es) c.deref.ensures.value c.in_default.ensures.1));
         failed = λ off none complete. absurd (let no = finished.failed off in cc);
         why = tt;

@@ -1,11 +1,15 @@
-use Rattle.std.proofs.Common.{ℕ, Err, inl, ◌≡◌, ◌<◌, ◌≤◌, length, ap, sym, subst, ◌∙◌, arith}
+use Rattle.std.proofs.Common.{ℕ, Err, inl, ◌≡◌, ◌<◌, ◌≤◌, List, length, ap, sym, subst, ◌∙◌, arith}
 use Rattle.trim_helper.specs.Closed.{HasSpelled}
+use Rattle.heap_model.specs.declared.event.Event.{Event}
+use Rattle.heap_model.specs.History.{log_of}
+use Rattle.monitor.specs.Views.{GoesOn}
 use Rattle.monitor.specs.Words.{setting_of}
 use Rattle.trim_helper.specs.Helping.{place_published, taken_in}
 use Rattle.trim_helper.specs.Meeting.{HasPart}
 use Rattle.trim_helper.specs.Taken.{applied_more, trimmed_of, with_rings}
 use Rattle.block_disk.specs.Device.{HasFailed}
 use Rattle.trim_helper.proofs.ClosingReasons.{why_drained, why_settled}
+use Rattle.trim_helper.proofs.Counting.{count_later, have_kept}
 use Rattle.trim_helper.proofs.Homes.{stops_round}
 use Rattle.trim_helper.proofs.Looking.{looks_taken}
 use Rattle.trim_helper.proofs.Rounds.{settled_then, stood_round, stood_still, taken_follows}
@@ -32,25 +36,29 @@ returns g c = λ p has.
     let taken = looks_taken g.D.Disk.device x c.meet.new.rings s p c.meet.ensures.looks has in
     let on = c.in_default.ensures.takes.ok in
     let all = λ (behind : (l : ℕ) → l < c.args.shared.plan.lanes → place_published c.meet.new.seat l ≤ trimmed_of p l).
-    all_applied s c.args.shared.plan.lanes c.layout-layout.result.capacity (place_published c.meet.new.seat) (taken_in c.meet.new.seat) history.0 history.1 c.meet.new.rings c.meet.ensures.met present count
+    all_applied s c.args.shared.plan.lanes c.layout-layout.result.capacity (place_published c.meet.new.seat) (taken_in c.meet.new.seat) history.history history.one c.meet.new.rings c.meet.ensures.met present count
     c.log_law.ensures c.own_log_law.ensures g.D.Disk.device c.args.store.now c.args.waiting.now y _ p c.next_law.ensures taken lanes (ap (λ l. l.capacity) layout)
     (λ x among. (c.close-words.ensures.read x among).1) behind on c.in_default.ensures.stuck in
-    let free = all_free s c.args.shared.plan.lanes c.layout-layout.result.capacity (place_published c.meet.new.seat) (taken_in c.meet.new.seat) history.0 history.1 c.meet.new.rings c.meet.ensures.met present count
+    let free = all_free s c.args.shared.plan.lanes c.layout-layout.result.capacity (place_published c.meet.new.seat) (taken_in c.meet.new.seat) history.history history.one c.meet.new.rings c.meet.ensures.met present count
     c.log_law.ensures c.own_log_law.ensures in
     let each : (x : Part) → Among (parts_of c.args.ended.items) x → HasMet c.args.shared c.drain_known.new.rings x = λ x among. on.whole x.lane ∙ c.meet.ensures.met.whole x (subst (λ parts. Among parts x) (sym c.meet.ensures.gathered) among) in
     record {
-      ok = λ places.
+      ok = λ places stand.
           let every = all (λ l lt. let place = c.meet.ensures.place l in omega (arith, (places l (omega arith)).1)) in
+          let seat = c.args.seat in
+          let read = have_kept seat c.meet.new.seat c.meet.ensures.notes c.close-words.ensures.published in
           let settled = c.in_default-settle_applied.ensures.settles s (applied_more every.0 p) every.1.has in
           let now = settled.same.now in
           let since = g.D.Disk.device c.args.store.now.disk in
           let device = g.D.Disk.device w.disk in
           let ran = settled_then _ w.known.layout s p now since _ device every.0 w.known.has_failed c.in_default-settle_applied.ensures.running on.uncalled every.1.has.past c.settle_applied.ensures.layout settled.same.ran in
-          subst (λ parts. HasSpelled s c.args.shared.plan.lanes c.args.store.now.known.layout parts p since device c.close-words.result) c.meet.ensures.gathered
-          (subst (λ l. HasSpelled s c.args.shared.plan.lanes l (taken_in c.meet.new.seat) p since device c.close-words.result) (c.settle_applied.ensures.layout ∙ on.layout)
-          (has_spelled s c.args.shared.plan.lanes (taken_in c.meet.new.seat) history.0 history.1 c.log_law.ensures c.order_law.ensures c.all_kept_law.ensures c.stable_law.ensures.one c.unlogged_law.ensures c.close-words.result history.2 p
+          subst (λ parts. HasSpelled s c.args.shared.plan.lanes c.args.store.now.known.layout parts p seat since device c.close-words.result) c.meet.ensures.gathered
+          (subst (λ l. HasSpelled s c.args.shared.plan.lanes l (taken_in c.meet.new.seat) p seat since device c.close-words.result) (c.settle_applied.ensures.layout ∙ on.layout)
+          (has_spelled s c.args.shared.plan.lanes (taken_in c.meet.new.seat) history.history history.one c.log_law.ensures c.order_law.ensures c.all_kept_law.ensures c.stable_law.ensures.one c.unlogged_law.ensures c.close-words.result history.spelled p
           (λ x among lt. let counts = c.meet.ensures.count x.lane in omega (arith, (c.close-words.ensures.read x among).0, (places x.lane (omega arith)).0))
           (λ x among lt. let place = c.meet.ensures.place x.lane in omega (arith, (c.close-words.ensures.read x among).1, (places x.lane (omega arith)).1))
+          seat (subst (λ (seen : List (ℕ × Event)). GoesOn history.history seen) c.meet.ensures.sight.history history.later) (λ x among lt. read x among)
+          (λ x among lt. count_later s p every.0 (log_of s history.history) x.lane x.count has.has.past.legal (c.log_law.ensures s history.history history.one.legal) every.2 (stand x.lane x.count (omega (arith, lt, lanes)) (read x among)))
           w.known since device now ran settled.same.has c.in_default-settle_applied.ensures.running settled.settled (same_lanes _ _ _ settled.same.same every.2) free));
       stop = tt;
       why = tt;
@@ -70,7 +78,7 @@ returns-in-Err g c = λ p has.
     let takes = c.in-Err.ensures.takes in
     let each : (x : Part) → Among (parts_of c.args.ended.items) x → HasMet c.args.shared c.meet.new.rings x = λ x among. c.meet.ensures.met.whole x (subst (λ parts. Among parts x) (sym c.meet.ensures.gathered) among) in
     record {
-      ok = λ places. tt;
+      ok = λ places stand. tt;
       stop = c.close_error.ensures.stop;
       why = why_drained c.args.store.now.known _ _ c.in-Err.reason c.close_error.result (inl takes.failed) c.close_error.ensures.failed c.close_error.ensures.worn c.close_error.ensures.fault takes.failed (takes.why s p taken);
       failed = λ off. ap Err (c.close_error.ensures.from_failed takes.failed);
@@ -93,7 +101,7 @@ returns-in-Err-settle_applied g c = λ p has.
     let told = c.close_error-in-Err-settle_applied.ensures in
     let each : (x : Part) → Among (parts_of c.args.ended.items) x → HasMet c.args.shared c.drain_known.new.rings x = λ x among. on.whole x.lane ∙ c.meet.ensures.met.whole x (subst (λ parts. Among parts x) (sym c.meet.ensures.gathered) among) in
     record {
-      ok = λ places. tt;
+      ok = λ places stand. tt;
       stop = told.stop;
       why = why_settled c.args.store.now.known (g.D.Disk.device c.args.store.now.disk) _ c.in-Err-settle_applied.reason c.close_error-in-Err-settle_applied.result (stops_round y.store.known w.known c.in-Err-settle_applied.reason left.refused) told.failed told.worn told.fault
           y.store.known w.known s left.same.now on.running left.refused left.same.has

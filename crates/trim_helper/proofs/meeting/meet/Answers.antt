@@ -7,6 +7,7 @@ use Rattle.trim_helper.specs.Meeting.{HaveMet, count_parts}
 use Rattle.trim_helper.specs.Serving.{Part}
 use Rattle.trim_helper.proofs.RingMoves.{looks_none, looks_then}
 use Rattle.trim_helper.proofs.Gathering.{end_below, met_more, met_none, are_same, are_last, parts_last, none_last, count_last, count_more, counts_among, unmet, counts_on, count_empty}
+use Rattle.trim_helper.proofs.Seeing.{sight_refl, sight_then}
 use Rattle.trim_helper.proofs.meeting.meet.Goals as goal
 
 pub ends-init : goal.ends-init
@@ -18,6 +19,8 @@ ends-init c = record {
   helper = c.requires.helper;
   count = λ l. refl;
   place = λ l. refl;
+  notes = refl;
+  sight = sight_refl c.args.seat.now;
   counts = λ k. let none = ap (λ (xs : List Part). count_parts k xs) c.requires.nothing in omega arith;
   parts = ap (λ (xs : List Part). parts_of c.args.ended.items ++ xs) c.requires.nothing ∙ append-nil (parts_of c.args.ended.items);
 }
@@ -51,6 +54,8 @@ ends-preserved c =
       helper = c.meet_one.ensures.helper;
       count = λ l. c.meet_one.ensures.count l ∙ c.ends.invariant.count l;
       place = λ l. c.meet_one.ensures.place l ∙ c.ends.invariant.place l;
+      notes = c.meet_one.ensures.notes ∙ c.ends.invariant.notes;
+      sight = sight_then _ _ _ c.ends.invariant.sight c.meet_one.ensures.sight;
       counts = λ k. ap (λ parts. count_lane k c.pop.new.self.items + count_parts k parts) gathered ∙ counts_on _ _ _ _ _ _ (counted k) (count_more k x before) (c.ends.invariant.counts k);
       parts = ap (λ (xs : List Part). parts_of c.pop.new.self.items ++ xs) c.meet_one.ensures.gathered
           ∙ sym (parts_last c.pop.new.self.items c.in-Some.one before)

@@ -6,7 +6,7 @@ use Rattle.trim_helper.proofs.Seeing.{sight_refl, sight_then}
 use Rattle.trim_helper.proofs.published.publish_all.Goals as goal
 
 pub loop-lane-init : goal.loop-lane-init
-loop-lane-init g c = record { seat = c.requires.seat; done = λ s p has k lt. absurd (omega arith); rest = λ k le lt. (refl, refl); gathered = refl; sight = sight_refl c.args.seat.now }
+loop-lane-init g c = record { seat = c.requires.seat; done = λ s p has k lt. absurd (omega arith); rest = λ k le lt. (refl, refl); counts = λ s p has k n lt was. inl was; gathered = refl; sight = sight_refl c.args.seat.now }
 
 pub publish-requires-clause-seat : goal.publish-requires-clause-seat
 publish-requires-clause-seat g c = c.loop-lane.invariant.seat
@@ -53,12 +53,19 @@ loop-lane-preserved g c =
             unchosen _ _ _ _ other (c.publish.ensures.count k most) ∙ was.0,
             unchosen _ _ _ _ other (c.publish.ensures.place k most) ∙ was.1,
           );
+      counts = λ s p has k n lt was. elim (c.publish.ensures.counts k n lt was) [
+        | inl before ↦ c.loop-lane.invariant.counts s p has k n lt before
+        | inr here ↦ inr (here.1 ∙ c.acknowledged-acknowledged.ensures s p has ∙ ap p.cut here.0)
+      ];
       gathered = c.publish.ensures.gathered ∙ c.loop-lane.invariant.gathered;
       sight = sight_then _ _ _ c.loop-lane.invariant.sight c.publish.ensures.sight;
     }
 
 pub returns-clause-published : goal.returns-clause-published
 returns-clause-published g c = λ s p has l lt. let at = ap (λ l. l.lanes) c.layout-lanes.ensures in c.loop-lane.invariant.done s p has l (omega (arith, c.loop-lane-test.false))
+
+pub returns-clause-counts : goal.returns-clause-counts
+returns-clause-counts g c = λ s p has l n lt was. let few = c.requires.seat.few in c.loop-lane.invariant.counts s p has l n (omega (arith, lt, few, c.requires.lanes)) was
 
 pub returns-clause-seat : goal.returns-clause-seat
 returns-clause-seat g c = c.loop-lane.invariant.seat

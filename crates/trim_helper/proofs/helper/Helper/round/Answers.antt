@@ -3,6 +3,7 @@ use Rattle.store_past.specs.declared.error.StoreError.TheVariants.{Fault}
 use Rattle.monitor.specs.Seats.{Helping}
 use Rattle.trim_helper.specs.Calls.{Drains}
 use Rattle.trim_helper.specs.Heard.{HasSeen, Hears}
+use Rattle.trim_helper.proofs.Counting.{added_noted}
 use Rattle.trim_helper.proofs.HeardRings.{drained_parts, goes_on_heard, round_heard, rounds_heard, seen_still}
 use Rattle.trim_helper.proofs.Homes.{passed_on}
 use Rattle.trim_helper.proofs.Noting.{noted_same}
@@ -106,7 +107,7 @@ returns-clause-rounds g c = λ s p serving.
     let seat = c.publish_all.new.seat in
     rounds_heard g.D.Disk.device (parts_from w d.rings x.waiting true seat) x.rings.items seat hears.records (noted_same seat seat refl) s p c.args.self.now (Ok c.in-Ok.count)
     (rounds_done g.D.Disk.device s p c.args.self.now serving z c.in-Ok.count drains w c.if-self.false c.settle_and_trim.ensures.layout seat c.in_default.ensures.running c.in_default.ensures.settles
-    c.settle_and_trim.ensures.cause.later c.publish_all.ensures.published)
+    c.settle_and_trim.ensures.cause.later c.publish_all.ensures.published (added_noted g.D.Disk.device w d.seat x.seat seat hears.noted c.publish_all.ensures.counts))
 
 pub returns-clause-goes_on : goal.returns-clause-goes_on
 returns-clause-goes_on g c =
@@ -148,4 +149,4 @@ invariant_of-self-2 g c =
     let both = c.in_default.ensures.settles whole.setting whole.past whole.serving.taken.has in
     let h = both.settles.same in
     whole_still g.D.Disk.device z (parts_from w x.rings.items x.waiting true seat) whole (same_refl x.rings.items) (sees_same x.seat seat c.publish_all.ensures.sight 0 x.rings.items whole.sees) c.settle_and_trim.ensures.layout h.now
-    (published_serves g.D.Disk.device z w seat whole.setting whole.past whole.serving h c.in_default.ensures.running both.settles.settled both.trimmed (c.publish_all.ensures.published whole.setting h.now h.has))
+    (published_serves g.D.Disk.device z w seat whole.setting whole.past c.settle_and_trim.ensures.layout whole.serving h c.in_default.ensures.running both.settles.settled both.trimmed (c.publish_all.ensures.published whole.setting h.now h.has) (c.publish_all.ensures.counts whole.setting h.now h.has))
