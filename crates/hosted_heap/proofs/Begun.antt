@@ -3,14 +3,16 @@ use Rattle.std.proofs.Common.{ℕ, ◌≡◌, ◌<◌, ◌+◌, ◌↔◌, Bool,
 use Rattle.deferred_disk.specs.Host.{HasLooked, Host}
 use Rattle.deferred_disk.specs.declared.disk.TheConstants.{SYNCS}
 use Rattle.monitor.specs.Seats.{Home}
+use Rattle.monitor.specs.Views.{GoesOn}
 use Rattle.rtrb.specs.Ring.{known_items}
 use Rattle.steps.specs.Views.{plan}
 use Rattle.deferred_disk.specs.Deferred.{Deferred}
 use Rattle.store_past.specs.declared.error.StoreError.{StoreError}
-use Rattle.trim_helper.specs.Calls.{Rounds}
+use Rattle.trim_helper.specs.Calls.{HasGoneOn, Rounds}
+use Rattle.trim_helper.specs.Heard.{HasSeen}
 use Rattle.trim_helper.specs.Parts.{IsServing, Parts}
 use Rattle.hosted_heap.specs.Hosting.{Hosting, SameHeap, hosted_device}
-use Rattle.hosted_heap.specs.Rounds.{HasRound, KeepsSessions, MakesRound}
+use Rattle.hosted_heap.specs.Rounds.{HasRound, HearsThreads, KeepsSessions, MakesRound}
 use Rattle.hosted_heap.specs.declared.error.RoundError.TheVariants.{CallsLeft, Store}
 use Rattle.hosted_heap.specs.declared.room.TheConstants.{ROUND_SYNCS}
 
@@ -23,11 +25,12 @@ not_begun x y room none tells same looked = record {
   calls_left = (λ is. tells.0 none, λ low. refl);
   nothing = λ is. same;
   rounds = tt;
+  heard = tt;
   kept = record { home = same.home; unused = same.unused; out = same.out; stop = same.stop; layout = ap (λ (h : Parts Deferred). h.store.known.layout) same.helper };
   calls = looked;
 }
 
-module _ (x z w : Hosting) (room : Bool) (some : room ≡ true) (tells : (room ≡ false) ↔ HasNoRoom z) (same : SameHeap x z) (looked : HasLooked x.calls z.calls) (calls : w.calls ≡ z.calls) (kept : KeepsSessions z w) where
+module _ (x z w : Hosting) (room : Bool) (some : room ≡ true) (tells : (room ≡ false) ↔ HasNoRoom z) (same : SameHeap x z) (looked : HasLooked x.calls z.calls) (calls : w.calls ≡ z.calls) (kept : KeepsSessions z w) (heard : HearsThreads z w) where
   has_room : {T : Type 0} → HasNoRoom w → T
   has_room low = absurd (let no : true ≡ false = sym some ∙ tells.1 (subst (λ (c : Host). SYNCS < length (known_items c.ring) + ROUND_SYNCS) calls low) in cc)
 
@@ -46,11 +49,18 @@ module _ (x z w : Hosting) (room : Bool) (some : room ≡ true) (tells : (room �
     layout = kept.layout ∙ ap (λ (h : Parts Deferred). h.store.known.layout) same.helper;
   }
 
+  hears : HearsThreads x w
+  hears = record {
+    goes_on = subst (λ (h : Home). HasGoneOn h x.helper w.helper) same.home (subst (λ (k : Parts Deferred). HasGoneOn z.home k w.helper) same.helper heard.goes_on);
+    seen = λ runs. subst (λ (h : Home). HasSeen h w.helper) same.home (heard.seen (ap (λ (k : Parts Deferred). k.store.known.has_failed) same.helper ∙ runs));
+    later = subst (λ (k : Parts Deferred). GoesOn w.helper.seat.view.history k.seat.view.history) same.helper heard.later;
+  }
+
   looks : HasLooked x.calls w.calls
   looks = subst (λ (c : Host). HasLooked x.calls c) (sym calls) looked
 
   pub begun_ok : (n : ℕ) → MakesRound z w (Ok n) → HasRound x w (Ok n)
-  begun_ok n serves = record { calls_left = (λ is. absurd cc, λ low. has_room low); nothing = λ is. absurd cc; rounds = served (Ok n) serves; kept = keeps; calls = looks }
+  begun_ok n serves = record { calls_left = (λ is. absurd cc, λ low. has_room low); nothing = λ is. absurd cc; rounds = served (Ok n) serves; heard = hears; kept = keeps; calls = looks }
 
   pub begun_err : (e : StoreError) → MakesRound z w (Err e) → HasRound x w (Err (Store e))
-  begun_err e serves = record { calls_left = (λ is. absurd cc, λ low. has_room low); nothing = λ is. absurd cc; rounds = served (Err e) serves; kept = keeps; calls = looks }
+  begun_err e serves = record { calls_left = (λ is. absurd cc, λ low. has_room low); nothing = λ is. absurd cc; rounds = served (Err e) serves; heard = hears; kept = keeps; calls = looks }

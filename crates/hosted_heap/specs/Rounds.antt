@@ -1,12 +1,14 @@
 -- What a round of a hosted heap makes of it (this project's own).
-use Rattle.std.specs.Prelude.{ℕ, ◌≡◌, ◌+◌, ◌<◌, ◌↔◌, Result, Ok, Err, IsErrOf, length}
+use Rattle.std.specs.Prelude.{ℕ, ◌≡◌, ◌+◌, ◌<◌, ◌↔◌, false, Result, Ok, Err, IsErrOf, length}
 use Rattle.deferred_disk.specs.Host.{HasLooked}
 use Rattle.deferred_disk.specs.declared.disk.TheConstants.{SYNCS}
+use Rattle.monitor.specs.Views.{GoesOn}
 use Rattle.rtrb.specs.Ring.{known_items}
 use Rattle.steps.specs.Views.{plan}
 use Rattle.store_past.specs.Past.{Past}
 use Rattle.store_past.specs.declared.error.StoreError.{StoreError}
-use Rattle.trim_helper.specs.Calls.{Rounds}
+use Rattle.trim_helper.specs.Calls.{HasGoneOn, Rounds}
+use Rattle.trim_helper.specs.Heard.{HasSeen}
 use Rattle.trim_helper.specs.Parts.{IsServing}
 use Rattle.hosted_heap.specs.Hosting.{Hosting, SameHeap, hosted_device}
 use Rattle.hosted_heap.specs.declared.error.RoundError.{RoundError}
@@ -31,10 +33,18 @@ pub record KeepsSessions (x y : Hosting) : Type 0 where
   pub stop : y.stop ≡ x.stop
   pub layout : y.helper.store.known.layout ≡ x.helper.store.known.layout
 
+-- The helper goes on. Where its store hadn't failed, it has seen one legal history, of which what it has taken of each lane, up to the last
+-- release, is the beginning; and that history goes on from the one that it had seen before.
+pub record HearsThreads (x y : Hosting) : Type 0 where
+  pub goes_on : HasGoneOn x.home x.helper y.helper
+  pub seen : x.helper.store.known.has_failed ≡ false → HasSeen x.home y.helper
+  pub later : GoesOn y.helper.seat.view.history x.helper.seat.view.history
+
 -- A round of the heap: there is no room to hand its syncs over, and nothing was done, or its helper makes one.
 pub record HasRound (x y : Hosting) (answer : Result ℕ RoundError) : Type 0 where
   pub calls_left : IsErrOf answer CallsLeft ↔ (SYNCS < length (known_items y.calls.ring) + ROUND_SYNCS)
   pub nothing : IsErrOf answer CallsLeft → SameHeap x y
   pub rounds : IfBegun answer (MakesRound x y)
+  pub heard : IfBegun answer (λ answered. HearsThreads x y)
   pub kept : KeepsSessions x y
   pub calls : HasLooked x.calls y.calls

@@ -58,7 +58,7 @@ impl HostedHeap {
     ghost use Rattle.deferred_disk.specs.declared.disk.TheConstants.{SYNCS};
     ghost use Rattle.rtrb.specs.Ring.{known_items};
     ghost use Rattle.session.specs.Sessions.{view_of};
-    ghost use Rattle.hosted_heap.specs.Rounds.{HasRound, KeepsSessions, MakesRound};
+    ghost use Rattle.hosted_heap.specs.Rounds.{HasRound, HearsThreads, KeepsSessions, MakesRound};
     ghost use Rattle.hosted_heap.specs.declared.lane_end.LaneEnd.{LaneEnd};
     ghost use Rattle.hosted_heap.specs.Hosting.{SameHeap, hosted_device};
     ghost use Rattle.hosted_heap.specs.Failing.{HasTold, failed_call};
@@ -177,6 +177,7 @@ impl HostedHeap {
     // The round of the helper.
     fn serve(&mut self) -> Result<u64, StoreError>
         ensures serves { MakesRound self.old self.new result }
+        ensures heard { HearsThreads self.old self.new }
         ensures kept { KeepsSessions self.old self.new }
         ensures calls { self.new.calls ≡ self.old.calls }
     {

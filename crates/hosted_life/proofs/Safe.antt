@@ -42,7 +42,7 @@ keeps_run studied x s p q old new failed image has ran left =
     }
 
 -- no call takes a sync back
-syncs_onto : (made : List Stop) (calls : List DeviceCall) → syncs_in made ≤ syncs_in (onto made calls)
+pub syncs_onto : (made : List Stop) (calls : List DeviceCall) → syncs_in made ≤ syncs_in (onto made calls)
 syncs_onto made [] = omega arith
 syncs_onto made (Write at bytes ∷ calls) = syncs_onto (stop_of (Write at bytes) ∷ made) calls
 syncs_onto made (Sync ∷ calls) = let more = syncs_onto (stop_of Sync ∷ made) calls in omega (arith, more)

@@ -1,2 +1,3 @@
 -- The promise: what a crash of a host's device keeps.
 pub mod Safe
+pub mod Running

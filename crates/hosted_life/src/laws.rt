@@ -1,7 +1,11 @@
 //! Laws of a hosted heap's life, each the contract of a function that does nothing.
+ghost use Rattle.hosted_life.specs.Running.{HostRoundLaw, HostRunLaw};
 ghost use Rattle.hosted_life.specs.Safe.{AcknowledgedLaw, BegunLaw, HostLaw, KeptRunLaw, LivesLaw, NowLaw};
 
+use deferred_disk::DeferredDisk;
+use running_life::round_law;
 use survival::has_study_law;
+use trim_helper::seen_law;
 
 /// Recovery takes whatever a crash left at any moment of a run of store calls, and keeps all that was acknowledged before the first.
 pub fn kept_law()
@@ -21,4 +25,18 @@ pub fn host_law()
     ensures lives { LivesLaw }
 {
     kept_law();
+}
+
+/// What a crash of the host's device keeps while threads run, at whatever moment it comes: the heap of whole sections of the threads'
+/// history, each with all that it depends on. With them is all that was acknowledged when the host had made the calls that were handed
+/// over by then, or when the heap was opened.
+///
+/// The law speaks of each legal history that goes on from what the heap's helper has seen of the threads (`running_life::round_law`),
+/// and of each way in which the host comes on with the calls that it was handed.
+pub fn running_law()
+    ensures run { HostRunLaw }
+    ensures round { HostRoundLaw }
+{
+    round_law::<DeferredDisk>();
+    seen_law::<DeferredDisk>();
 }

@@ -1,9 +1,11 @@
-use Rattle.std.proofs.Common.{ap, refl, sym, subst, ◌∙◌}
+use Rattle.std.proofs.Common.{◌≡◌, false, ap, refl, sym, subst, ◌∙◌}
 use Rattle.image.specs.declared.layout.Layout.{Layout}
 use Rattle.monitor.specs.Seats.{Home}
+use Rattle.monitor.specs.Views.{GoesOn}
 use Rattle.std.specs.Arc.{arc_value}
 use Rattle.steps.specs.Views.{plan}
 use Rattle.trim_helper.specs.Calls.{HasGoneOn, Rounds}
+use Rattle.trim_helper.specs.Heard.{HasSeen}
 use Rattle.trim_helper.specs.Parts.{IsServing}
 use Rattle.hosted_heap.specs.Hosting.{Hosting, hosted_device}
 use Rattle.hosted_heap.proofs.Later.{ends_on, joined_on}
@@ -47,4 +49,17 @@ returns-clause-kept c =
       out = ap (λ (k : Hosting). k.out) view;
       stop = ap (λ (k : Hosting). k.stop) view;
       layout = c.round.ensures.goes_on.layout ∙ ap (λ (k : Hosting). k.helper.store.known.layout) view;
+    }
+
+pub returns-clause-heard : goal.returns-clause-heard
+returns-clause-heard c =
+    let x = c.self.inside.helper in
+    let y = c.round.new.self in
+    let view = c.self.view_is in
+    let on : HasGoneOn (arc_value c.self.inside.shared) x y = subst (λ (k : Home). HasGoneOn k x y) c.deref.ensures c.round.ensures.goes_on in
+    let seen : x.store.known.has_failed ≡ false → HasSeen (arc_value c.self.inside.shared) y = λ runs. subst (λ (k : Home). HasSeen k y) c.deref.ensures (c.round.ensures.seen runs) in
+    record {
+      goes_on = subst (λ (k : Hosting). HasGoneOn k.home k.helper y) view on;
+      seen = subst (λ (k : Hosting). k.helper.store.known.has_failed ≡ false → HasSeen k.home y) view seen;
+      later = subst (λ (k : Hosting). GoesOn y.seat.view.history k.helper.seat.view.history) view c.round.ensures.later;
     }
