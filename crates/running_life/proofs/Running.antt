@@ -25,7 +25,7 @@ use Rattle.survival.specs.WholeRun.{MayBeLeft, Survives}
 use Rattle.survival.proofs.Accepts.{accepted, isnt_old, of_today}
 use Rattle.survival.proofs.WholeRuns.{cannot, found, left_by, of_run, shows_some}
 use Rattle.trim_helper.specs.Heard.{SeenLaw}
-use Rattle.running_life.specs.Running.{CrashBetweenLaw, CrashInRoundLaw, CrashInRunLaw, CrashSinceLaw, KeepsRunning, SeesMoreLaw}
+use Rattle.running_life.specs.Running.{CrashBetweenLaw, CrashInRoundLaw, CrashInRunLaw, CrashSinceLaw, KeepsRunning, SeesMoreLaw, ToldLaw}
 use Rattle.running_life.proofs.Applied.{logged_by}
 use Rattle.running_life.proofs.Seen.{seen_first}
 
@@ -39,6 +39,17 @@ more_kept l s p seen later image was on legal = record {
   kept_are = was.kept_are;
   legal = legal;
   keeps = λ last goes last_legal. was.keeps last (goes.0 ++ on.0, goes.1 ∙ ap (λ (xs : List (ℕ × Event)). goes.0 ++ xs) on.1 ∙ sym (append_assoc goes.0 on.0 seen)) last_legal;
+}
+
+pub told_kept : ToldLaw
+told_kept h l ended p q seat since d seen image was goes from = record {
+  study = was.study;
+  of = was.of;
+  taken = was.taken;
+  cut = was.cut;
+  stays = was.stays;
+  kept_are = was.kept_are;
+  keeps = was.keeps from.closed.history (from.later.0 ++ goes.0, from.later.1 ∙ ap (λ (xs : List (ℕ × Event)). from.later.0 ++ xs) goes.1 ∙ sym (append_assoc from.later.0 goes.0 seen)) from.closed.legal;
 }
 
 module _ (log_legal : LogLaw) (released : ReleasedLaw) (older : OlderLaw) (studied : HasStudyLaw) where

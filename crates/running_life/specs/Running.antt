@@ -8,7 +8,7 @@ use Rattle.block_disk.specs.Device.{Device}
 use Rattle.durable.specs.Runs.{HasRun}
 use Rattle.durable.specs.Store.{HasPast, Known}
 use Rattle.image.specs.declared.layout.Layout.{Layout}
-use Rattle.monitor.specs.Seats.{Home}
+use Rattle.monitor.specs.Seats.{Helping, Home}
 use Rattle.monitor.specs.Views.{GoesOn}
 use Rattle.steps.specs.Views.{plan}
 use Rattle.store_past.specs.Past.{Past, no_past}
@@ -18,10 +18,13 @@ use Rattle.recover.specs.Study.{IsStudyOf}
 use Rattle.recover.specs.declared.error.RecoverError.{RecoverError}
 use Rattle.recover.specs.declared.studied.Study.{Study}
 use Rattle.survival.specs.History.{KeepsHistory}
+use Rattle.survival.specs.Running.{KeepsOfHistory}
 use Rattle.survival.specs.WholeRun.{CannotRecover, MayBeLeft}
 use Rattle.trim_helper.specs.Calls.{HasGoneOn, Rounds}
 use Rattle.trim_helper.specs.Heard.{HasSeen, IsSeenOf}
 use Rattle.trim_helper.specs.Parts.{IsServing, Parts}
+use Rattle.trim_helper.specs.declared.ended.Ended.{Ended}
+use Rattle.running_heap.specs.Closed.{IsClosedFrom}
 use Rattle.running_heap.specs.Life.{HasLived}
 
 -- Recovery takes the image, unless a call fails, memory is wanting, or the control's sequence is at its last value. It keeps one set of
@@ -41,6 +44,11 @@ pub record KeepsRunning (l : Layout) (s : Setting) (p : Past) (seen : List (ℕ 
 -- So it stays as more is seen.
 abbrev pub SeesMoreLaw : Type 0
 SeesMoreLaw = (l : Layout) (s : Setting) (p : Past) (seen later : List (ℕ × Event)) (image : List ℕ) → KeepsRunning l s p seen image → GoesOn later seen → IsLegalHistory s later → KeepsRunning l s p later image
+
+-- And once the heap is closed, it is so of the history in which each session's part is what it was told.
+abbrev pub ToldLaw : Type 0
+ToldLaw = (h : Home) (l : Layout) (ended : List Ended) (p q : Past) (seat : Helping) (since d : Device) (seen : List (ℕ × Event)) (image : List ℕ) → KeepsRunning l (plan h) p seen image → GoesOn seat.view.history seen →
+    (from : IsClosedFrom h l ended q seat since d) → KeepsOfHistory l (plan h) p from.closed.history image
 
 module _ {D : Type 0} (device : D → Device) where
   -- A store had this past, and store calls since have made of it the one that a helper serves, which has seen this history of what it applied.

@@ -1,6 +1,6 @@
 //! Laws of a heap's life, each the contract of a function that does nothing.
 ghost use Rattle.running_life.specs.Crashes.{CrashLaw};
-ghost use Rattle.running_life.specs.Running.{CrashBetweenLaw, CrashInRoundLaw, CrashInRunLaw, CrashSinceLaw, SeesMoreLaw};
+ghost use Rattle.running_life.specs.Running.{CrashBetweenLaw, CrashInRoundLaw, CrashInRunLaw, CrashSinceLaw, SeesMoreLaw, ToldLaw};
 
 use block_disk::Disk;
 use history_laws::{log_law, own_log_law, sent_law};
@@ -16,7 +16,8 @@ use trim_helper::seen_law;
 /// That history is the threads' own, in whose order each session was answered. The helper has seen a beginning of it; so the law
 /// speaks of each legal history that goes on from what was seen at the last round's end, whatever the threads did until the crash. No
 /// section that the helper hadn't seen is kept, and none such was acknowledged. A store that had failed before a round makes no call in
-/// it: what a crash leaves then, one left in the round that failed.
+/// it: what a crash leaves then, one left in the round that failed. Where the heap is closed later, the history in which each session's
+/// part is what it was told is one that goes on from what was seen.
 ///
 /// For example, lane 0 sent a whole section and then took an object again: a round applies all four records, and has heard the lane up
 /// to the first release. A crash behind its settling leaves the section kept, and the second taking of no account, whether the history
@@ -27,6 +28,7 @@ pub fn round_law<D: Disk>()
     ensures opened { CrashSinceLaw D.device }
     ensures between { CrashBetweenLaw D.device }
     ensures more { SeesMoreLaw }
+    ensures told { ToldLaw }
 {
     log_law();
     own_log_law();

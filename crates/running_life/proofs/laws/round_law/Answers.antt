@@ -1,4 +1,4 @@
-use Rattle.running_life.proofs.Running.{between_kept, more_kept, round_kept, served_kept, since_kept}
+use Rattle.running_life.proofs.Running.{between_kept, more_kept, round_kept, served_kept, since_kept, told_kept}
 use Rattle.running_life.proofs.laws.round_law.Goals as goal
 
 pub returns-clause-run : goal.returns-clause-run
@@ -15,3 +15,6 @@ returns-clause-between g c = between_kept c.log_law.ensures c.released_law.ensur
 
 pub returns-clause-more : goal.returns-clause-more
 returns-clause-more g c = more_kept
+
+pub returns-clause-told : goal.returns-clause-told
+returns-clause-told g c = told_kept
