@@ -1,4 +1,6 @@
 pub mod Served
+pub mod Taken
+pub mod Ends
 pub mod Jobs
 pub mod Later
 pub mod Holding

@@ -20,6 +20,7 @@ use Rattle.recover.specs.declared.studied.Study.{Study}
 use Rattle.session.specs.declared.error.SessionError.{SessionError}
 use Rattle.session.specs.declared.error.SessionError.TheVariants as sessions
 use Rattle.store_image.specs.Formatting.{RefusesFormat, layout_with}
+use Rattle.drive.specs.Crashes.{CrashesOf}
 use Rattle.drive.specs.Refusals.{IsMakingRefused, IsOwnStop, IsStoppedFirst, IsStoppedLater, RefusesFinding, RefusesGoingOn, RefusesLook, RefusesNew, RefusesOn, RefusesStudy, RefusesWith, blank_device}
 use Rattle.drive.specs.Schemas.{HoldsWorkers, IsOfWorkers, MayHaveImage, schema_of}
 use Rattle.drive.specs.Stops.{IsHomeOf, StopsBy, StopsRun}
@@ -122,16 +123,16 @@ session_stops workers h capacity lanes values (sessions.Held x) are home stops =
 
 module _ {D : Type 0} (device : D → Device) where
   -- a run by the words of a heap, as the heap's
-  pub run_stops : (schema : Declarations) (was : Parts D) (h : Home) (l : Layout) (old new : Device) (e : DriveError) → IsHomeOf schema was.heap was.layout.lanes h → l ≡ was.layout → old ≡ device was.disk → StopsBy h l old new e → StopsRun device schema was new e
-  run_stops schema was h l old new NoMemory home layouts devices stops = tt
-  run_stops schema was h l old new (Schema e) home layouts devices stops = absurd stops
-  run_stops schema was h l old new (Image e) home layouts devices stops = absurd stops
-  run_stops schema was h l old new (Helper e) home layouts devices stops = record { shared = h; plan = home; stops = subst (λ (d : Device). StopsBy h was.layout d new (Helper e)) devices stops }
-  run_stops schema was h l old new (Session e) home layouts devices stops = record { shared = h; plan = home; stops = subst (λ (k : Layout). StopsWorker h k.capacity e) layouts stops }
-  run_stops schema was h l old new (Close e) home layouts devices stops = record { shared = h; plan = home; stops = subst (λ (d : Device). StopsBy h was.layout d new (Close e)) devices stops }
-  run_stops schema was h l old new (Recover e) home layouts devices stops =
-      record { shared = h; plan = home; stops = subst (λ (d : Device). StopsBy h was.layout d new (Recover e)) devices (subst (λ (k : Layout). StopsBy h k old new (Recover e)) layouts stops) }
-  run_stops schema was h l old new OtherSchema home layouts devices stops = absurd stops
+  pub run_stops : (schema : Declarations) (was : Parts D) (h : Home) (l : Layout) (old new : Device) (e : DriveError) → IsHomeOf schema was.heap was.layout.lanes h → l ≡ was.layout → old ≡ device was.disk → CrashesOf h was.layout (device was.disk) new e → StopsBy h l old new e → StopsRun device schema was new e
+  run_stops schema was h l old new NoMemory home layouts devices crashes stops = crashes
+  run_stops schema was h l old new (Schema e) home layouts devices crashes stops = absurd stops
+  run_stops schema was h l old new (Image e) home layouts devices crashes stops = absurd stops
+  run_stops schema was h l old new (Helper e) home layouts devices crashes stops = record { shared = h; plan = home; crashes = crashes; stops = subst (λ (d : Device). StopsBy h was.layout d new (Helper e)) devices stops }
+  run_stops schema was h l old new (Session e) home layouts devices crashes stops = record { shared = h; plan = home; crashes = crashes; stops = subst (λ (k : Layout). StopsWorker h k.capacity e) layouts stops }
+  run_stops schema was h l old new (Close e) home layouts devices crashes stops = record { shared = h; plan = home; crashes = crashes; stops = subst (λ (d : Device). StopsBy h was.layout d new (Close e)) devices stops }
+  run_stops schema was h l old new (Recover e) home layouts devices crashes stops =
+      record { shared = h; plan = home; crashes = crashes; stops = subst (λ (d : Device). StopsBy h was.layout d new (Recover e)) devices (subst (λ (k : Layout). StopsBy h k old new (Recover e)) layouts stops) }
+  run_stops schema was h l old new OtherSchema home layouts devices crashes stops = absurd stops
 
   pub own_stops : (workers : ℕ) (was : Parts D) (new : Device) (e : DriveError) → IsOfWorkers workers was.layout was.guards → StopsRun device (schema_of workers) was new e → IsOwnStop e
   own_stops workers was new NoMemory theirs stops = tt
@@ -146,7 +147,7 @@ module _ {D : Type 0} (device : D → Device) where
   -- behind the image that was found
   pub going_on : (workers : ℕ) (old : Device) (was : Parts D) (report : Report) (new : Device) (e : DriveError) → IsRecovery old (device was.disk) was report → IsOfWorkers workers was.layout was.guards → old.failures ≤ (device was.disk).failures
       → StopsRun device (schema_of workers) was new e → IsOwnStop e → RefusesGoingOn device workers old new e
-  going_on workers old was report new NoMemory found theirs later stops own = tt
+  going_on workers old was report new NoMemory found theirs later stops own = record { was = was; report = report; found = found; stopped = record { theirs = theirs; later = later; stops = stops; own = own } }
   going_on workers old was report new (Schema e) found theirs later stops own = record { was = was; report = report; found = found; stopped = record { theirs = theirs; later = later; stops = stops; own = own } }
   going_on workers old was report new (Image e) found theirs later stops own = record { was = was; report = report; found = found; stopped = record { theirs = theirs; later = later; stops = stops; own = own } }
   going_on workers old was report new (Helper e) found theirs later stops own = record { was = was; report = report; found = found; stopped = record { theirs = theirs; later = later; stops = stops; own = own } }
@@ -167,7 +168,7 @@ module _ {D : Type 0} (device : D → Device) where
       }
 
   pub going_as_on : (workers : ℕ) (old seen new : Device) (e : DriveError) → HoldsWorkers workers old.now.bytes → SameMoments old seen → old.failures ≤ seen.failures → RefusesGoingOn device workers seen new e → RefusesOn device workers old new e
-  going_as_on workers old seen new NoMemory holds same low refused = (holds, tt)
+  going_as_on workers old seen new NoMemory holds same low refused = (holds, later_alike workers old seen new NoMemory same low refused)
   going_as_on workers old seen new (Schema e) holds same low refused = elim refused.stopped.stops.stops [ ]
   going_as_on workers old seen new (Image e) holds same low refused = elim refused.stopped.stops.stops [ ]
   going_as_on workers old seen new (Helper e) holds same low refused = (holds, later_alike workers old seen new (Helper e) same low refused)
@@ -206,7 +207,7 @@ module _ {D : Type 0} (device : D → Device) where
   -- behind the image that was made
   pub made_new : (workers : ℕ) (old : Device) (was : Parts D) (new : Device) (e : DriveError) → MayHaveImage workers → ((f : ℕ) → f < field_count (schema_of workers) → slice_index was.heap f ≡ 0) → IsOfWorkers workers was.layout was.guards → old.failures ≤ (device was.disk).failures
       → StopsRun device (schema_of workers) was new e → IsOwnStop e → RefusesNew device workers old new e
-  made_new workers old was new NoMemory may first theirs later stops own = may
+  made_new workers old was new NoMemory may first theirs later stops own = (may, record { was = was; first = first; stopped = record { theirs = theirs; later = later; stops = stops; own = own } })
   made_new workers old was new (Schema e) may first theirs later stops own = elim stops.stops [ ]
   made_new workers old was new (Image e) may first theirs later stops own = elim stops.stops [ ]
   made_new workers old was new (Helper e) may first theirs later stops own = (may, record { was = was; first = first; stopped = record { theirs = theirs; later = later; stops = stops; own = own } })
@@ -232,7 +233,7 @@ module _ {D : Type 0} (device : D → Device) where
 
   pub new_with : (workers : ℕ) (old new : Device) (e : DriveError) → old ≡ blank_device workers → length old.now.bytes ≡ size_of (layout_with (schema_of workers) workers 4000)
       → RefusesNew device workers old new e → RefusesWith device workers e
-  new_with workers old new NoMemory blank size refused = refused
+  new_with workers old new NoMemory blank size refused = refused.0
   new_with workers old new (Schema e) blank size refused = refused.0
   new_with workers old new (Image e) blank size refused = image_with workers old new e size refused
   new_with workers old new (Helper e) blank size refused = let stopped = first_with workers old new (Helper e) blank refused.1 in (refused.0, stopped.0, stopped.1)

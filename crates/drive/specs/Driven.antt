@@ -1,42 +1,56 @@
 -- What workers leave of a heap.
 use Rattle.std.specs.Prelude.{ℕ, ◌≡◌, ◌<◌, List, slice_index, take}
-use Rattle.block_disk.specs.Device.{Device}
+use Rattle.block_disk.specs.Device.{Device, synced}
+use Rattle.block_disk.specs.Images.{LeavesOnly}
 use Rattle.guards.specs.Schema.{Declarations, field_count}
 use Rattle.heap_model.specs.declared.limits.TheConstants.{LAST_NUMBER}
 use Rattle.image.specs.Recovered.{Parts}
 use Rattle.image.specs.declared.layout.Layout.{Layout}
 use Rattle.monitor.specs.Seats.{Home}
-use Rattle.recover.specs.Recovery.{IsRecovery}
+use Rattle.recover.specs.Recovery.{IsOnTheWay, IsRecovery}
+use Rattle.recover.specs.Study.{IsStudyOf}
 use Rattle.recover.specs.declared.report.Report.{Report}
+use Rattle.recover.specs.declared.studied.Study.{Study}
 use Rattle.running_heap.specs.Closed.{IsClosed}
+use Rattle.store_past.specs.Past.{Past}
+use Rattle.trim_helper.specs.Parts as helpers
 use Rattle.trim_helper.specs.declared.ended.Ended.{Ended}
 use Rattle.trim_helper.specs.Endings.{HoldNone, IsComplete}
+use Rattle.drive.specs.Crashes.{KeepsEach}
+use Rattle.drive.specs.Serving.{IsLiving}
 use Rattle.drive.specs.Schemas.{IsOfWorkers, schema_of}
 use Rattle.drive.specs.declared.driven.Driven.{Driven}
 
 module _ {D : Type 0} (device : D → Device) where
-  -- Recovery has this of a device that was recovered, and tells what workers have done.
+  -- Recovery has this of a device that was recovered, and tells what workers have done. A crash of it leaves images on its way.
   pub record IsTold (closed : Device) (now : Parts D) (driven : Driven) : Type 0 where
     pub report : Report
     pub recovery : IsRecovery closed (device now.disk) now report
     pub acknowledged : driven.acknowledged.items ≡ take now.layout.lanes report.kept.counts
     pub heap : driven.heap.items ≡ now.heap
+    pub any_moment : (s : Study) → IsStudyOf closed.now.bytes s → LeavesOnly (synced closed) (device now.disk) (IsOnTheWay s)
 
-  -- A heap ran by these words. There was one session a lane, and none of them held a monitor at the end. One legal history has what
-  -- each was told as its part, the device stood for its heap, and what recovery finds there is told.
-  pub record IsRunBy (shared : Home) (layout : Layout) (now : Parts D) (driven : Driven) : Type 0 where
+  -- A heap ran by these words, since it was opened on this device. There was one session a lane, and none of them held a monitor at the
+  -- end. One legal history has what each was told as its part, the device stood for its heap, and what recovery finds there is told.
+  -- Whatever a crash had left at any moment of the run, recovery would have taken, and kept whole sections of that same history.
+  pub record IsRunBy (shared : Home) (layout : Layout) (opened : Device) (now : Parts D) (driven : Driven) : Type 0 where
     pub ended : List Ended
     pub none : HoldNone ended
     pub complete : IsComplete layout.lanes ended
     pub disk : D
     pub closed : IsClosed shared layout ended (device disk)
+    pub crashes : KeepsEach shared layout closed.history opened (device disk)
     pub told : IsTold (device disk) now driven
 
-  -- A heap of this schema ran, from the values that it had.
+  -- So it ran since its opening, whatever its helper had lived through until now.
+  abbrev pub EndsRun : (shared : Home) (helper : helpers.Parts D) (now : Parts D) (driven : Driven) → Type 0
+  EndsRun shared helper now driven = (opened : Device) (p : Past) → IsLiving device shared opened helper p → IsRunBy shared helper.store.known.layout opened now driven
+
+  -- A heap of this schema ran, from the values that it had, on the device that had them.
   pub record IsDriven (schema : Declarations) (was now : Parts D) (driven : Driven) : Type 0 where
     pub shared : Home
     pub plan : shared.plan ≡ record { schema = schema; first = was.heap; last = LAST_NUMBER; lanes = was.layout.lanes }
-    pub run : IsRunBy shared was.layout now driven
+    pub run : IsRunBy shared was.layout (device was.disk) now driven
 
   -- A heap of so many workers ran from its beginning: each value was 0. This is what was left.
   pub record HasDriven (workers : ℕ) (now : Parts D) (driven : Driven) : Type 0 where

@@ -1,7 +1,8 @@
 -- The promise: what workers leave of a heap.
 pub mod Driven
--- Their schema and image, why a run is stopped, and which refusal comes when.
+-- Their schema and image, what a crash left, why a run is stopped, and which refusal comes when.
 pub mod Schemas
+pub mod Crashes
 pub mod Stops
 pub mod Refusals
 -- What workers and helper keep.

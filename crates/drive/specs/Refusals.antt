@@ -80,13 +80,11 @@ module _ {D : Type 0} (device : D → Device) where
 
   -- an image of so many workers isn't recovered, or their run on it was stopped
   abbrev pub RefusesGoingOn : (workers : ℕ) (old new : Device) → DriveError → Type 0
-  RefusesGoingOn workers old new NoMemory = Unit {0}
   RefusesGoingOn workers old new (Recover e) = RefusesFinding old new e ⊎ IsStoppedLater workers old new (Recover e)
   RefusesGoingOn workers old new e = IsStoppedLater workers old new e
 
   -- so many workers don't work on an image that is to be made of a device
   abbrev pub RefusesNew : (workers : ℕ) (old new : Device) → DriveError → Type 0
-  RefusesNew workers old new NoMemory = MayHaveImage workers
   RefusesNew workers old new (Schema e) = (e ≡ schemas.NoMemory) × (new ≡ old)
   RefusesNew workers old new (Image e) = RefusesFormat (schema_of workers) workers 4000 old new e
   RefusesNew workers old new e = MayHaveImage workers × IsStoppedFirst workers old new e

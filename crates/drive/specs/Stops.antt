@@ -16,6 +16,7 @@ use Rattle.trim_helper.specs.Endings.{HoldNone, IsComplete, IsWornOut}
 use Rattle.trim_helper.specs.declared.close_error.CloseError.{CloseError}
 use Rattle.trim_helper.specs.declared.close_error.CloseError.TheVariants as close
 use Rattle.trim_helper.specs.declared.ended.Ended.{Ended}
+use Rattle.drive.specs.Crashes.{CrashesOf, TakesEach}
 use Rattle.drive.specs.Working.{StopsWorker}
 use Rattle.drive.specs.declared.error.DriveError.{DriveError}
 use Rattle.drive.specs.declared.error.DriveError.TheVariants.{NoMemory, Helper, Session, Close, Recover}
@@ -75,13 +76,16 @@ abbrev pub IsHomeOf : Declarations → (values : List ℕ) → (lanes : ℕ) →
 IsHomeOf schema values lanes h = h.plan ≡ record { schema = schema; first = values; last = LAST_NUMBER; lanes = lanes }
 
 module _ {D : Type 0} (device : D → Device) where
-  -- a heap of this schema ran on an image in this state, and was stopped
+  -- A heap of this schema ran on an image in this state, and was stopped. Of whatever a crash left since then, at any moment of the run, of the closing, and
+  -- of the recovery behind it, recovery makes this.
   pub record IsStopped (schema : Declarations) (was : Parts D) (new : Device) (e : DriveError) : Type 0 where
     pub shared : Home
     pub plan : IsHomeOf schema was.heap was.layout.lanes shared
     pub stops : StopsBy shared was.layout (device was.disk) new e
+    pub crashes : CrashesOf shared was.layout (device was.disk) new e
 
-  -- Why a run of a heap of this schema is stopped, on an image in this state: memory was wanting, or there is a cause.
+  -- Why a run of a heap of this schema is stopped, on an image in this state: memory was wanting, or there is a cause. Either way recovery takes whatever
+  -- a crash left since then.
   abbrev pub StopsRun : (schema : Declarations) → (was : Parts D) → (new : Device) → DriveError → Type 0
-  StopsRun schema was new NoMemory = Unit {0}
+  StopsRun schema was new NoMemory = TakesEach (device was.disk) new
   StopsRun schema was new e = IsStopped schema was new e

@@ -1,13 +1,16 @@
 //! Workers on a heap, from its opening to its end.
 ghost use Rattle.std.specs.Prelude.{◌≡◌, All, IfErr, IfOk, false, length, reverse, take};
 ghost use Rattle.std.specs.List.{range_with_len};
-ghost use Rattle.drive.specs.Driven.{IsDriven, IsRunBy, IsTold};
+ghost use Rattle.drive.specs.Driven.{EndsRun, IsDriven, IsTold};
+ghost use Rattle.drive.specs.Serving.{CrashesBy};
 ghost use Rattle.drive.specs.Stops.{StopsBy, StopsRun, StopsTelling};
 ghost use Rattle.drive.specs.Workers.{AreWorked, lanes_worked};
+ghost use Rattle.recover.specs.Recovery.{IsCutOff};
 ghost use Rattle.running_heap.specs.Joined.{AreNew, IsHelping, IsJoined};
 ghost use Rattle.trim_helper.specs.Endings.{HoldNone, IsComplete, IsEnded};
 ghost use Rattle.trim_helper.specs.Opening.{FitsSchema};
 
+use crate::crashes::taken_law;
 use crate::driven::Driven;
 use crate::error::DriveError;
 use crate::meet::Meet;
@@ -20,7 +23,8 @@ use heap_model::LAST_NUMBER;
 use image::Recovered;
 use monitor::Shared;
 use recover::recover;
-use running_heap::{RunningHeap, close, joined_law, open};
+use running_heap::{RunningHeap, close, joined_law, life_law, open};
+use running_life::{crash_law, round_law};
 use std::alloc::Global;
 use std::sync::Wait;
 use std::thread::Threads;
@@ -29,6 +33,10 @@ use trim_helper::{Ended, Helper};
 
 /// Lets a worker for each lane work so many rounds, or as many as [`Meet::goes_on`] lets it, on a heap of this schema that was recovered,
 /// closes the heap, and recovers the device: what is told is what recovery finds there.
+///
+/// A crash may come at any moment of it: recovery takes what that leaves, and keeps whole sections, each with all that it depends on.
+/// Where the heap is closed at last, they are of the one history in which each session's answers stand; where a round was refused, or
+/// a worker, of one that the helper had seen.
 ///
 /// Refusals, in this order, each with the device as a stop leaves it; it may be recovered:
 /// - `NoMemory`: there was no room for what the threads share, or no thread could be made. No worker has worked then;
@@ -53,6 +61,9 @@ pub fn drive_heap<D: Disk + Drop, M: Meet + Sync, R: Threads + Wait + Sync>(
     ensures ok { IfOk result (λ r. IsDriven D.device schema recovered r.0 r.1) }
     ensures cause { IfErr result (λ back. StopsRun D.device schema recovered (D.device back.0) back.1) }
 {
+    taken_law();
+    life_law::<D>();
+    let _layout = recovered.layout();
     match open(alloc, schema, recovered, LAST_NUMBER) {
         Ok(heap) => run(rt, alloc, meet, heap, rounds),
         Err((disk, _)) => Err((disk, DriveError::NoMemory)),
@@ -72,10 +83,12 @@ fn run<D: Disk + Drop, M: Meet + Sync, R: Threads + Wait + Sync>(
     requires count { length heap.sessions.items ≡ heap.helper.store.known.layout.lanes }
     requires helping { IsHelping D.device heap.shared heap.helper }
     requires running { heap.helper.store.known.has_failed ≡ false }
-    ensures ok { IfOk result (λ r. IsRunBy D.device heap.shared heap.helper.store.known.layout r.0 r.1) }
+    ensures ok { IfOk result (λ r. EndsRun D.device heap.shared heap.helper r.0 r.1) }
     ensures cause { IfErr result (λ back. StopsBy heap.shared heap.helper.store.known.layout (D.device heap.helper.store.disk) (D.device back.0) back.1) }
+    ensures crashes { IfErr result (λ back. CrashesBy D.device heap.shared heap.helper (D.device back.0) back.1) }
 {
     joined_law();
+    round_law::<D>();
     let RunningHeap {
         shared,
         sessions,
@@ -116,9 +129,11 @@ fn end_all<D: Disk>(
     requires running { helper.store.known.has_failed ≡ false }
     requires worked { AreWorked shared helper.store.known.layout.capacity helper.rings worked.items }
     requires lanes { reverse (lanes_worked worked.items) ≡ range_with_len 0 helper.store.known.layout.lanes }
-    ensures ok { IfOk result (λ r. IsRunBy D.device shared helper.store.known.layout r.0 r.1) }
+    ensures ok { IfOk result (λ r. EndsRun D.device shared helper r.0 r.1) }
     ensures cause { IfErr result (λ back. StopsBy shared helper.store.known.layout (D.device helper.store.disk) (D.device back.0) back.1) }
+    ensures crashes { IfErr result (λ back. CrashesBy D.device shared helper (D.device back.0) back.1) }
 {
+    round_law::<D>();
     let Ok((ended, refusal)) = part(alloc, worked) else {
         return Err((disk_of(helper), DriveError::NoMemory));
     };
@@ -140,10 +155,13 @@ fn close_all<D: Disk>(
     requires ended { All (IsEnded shared helper.store.known.layout.capacity helper.rings) ended.items }
     requires none { HoldNone ended.items }
     requires complete { IsComplete helper.store.known.layout.lanes ended.items }
-    ensures ok { IfOk result (λ r. IsRunBy D.device shared helper.store.known.layout r.0 r.1) }
+    ensures ok { IfOk result (λ r. EndsRun D.device shared helper r.0 r.1) }
     ensures cause { IfErr result (λ back. StopsBy shared helper.store.known.layout (D.device helper.store.disk) (D.device back.0) back.1) }
+    ensures crashes { IfErr result (λ back. CrashesBy D.device shared helper (D.device back.0) back.1) }
 {
     accepted_law();
+    crash_law::<D>();
+    taken_law();
     match close(shared, ended, helper) {
         Ok(disk) => tell(alloc, disk),
         Err((disk, refusal)) => Err((disk, DriveError::Close(refusal))),
@@ -154,6 +172,7 @@ fn close_all<D: Disk>(
 fn tell<D: Disk>(alloc: Global, disk: D) -> Result<(Recovered<D>, Driven), (D, DriveError)>
     ensures ok { IfOk result (λ r. IsTold D.device (D.device disk) r.0 r.1) }
     ensures cause { IfErr result (λ back. StopsTelling (D.device disk) (D.device back.0) back.1) }
+    ensures cut_off { IfErr result (λ back. IsCutOff (D.device disk) (D.device back.0)) }
 {
     let (recovered, report) = match recover(alloc, disk) {
         Ok(found) => found,

@@ -7,6 +7,7 @@
 //! within each section.
 #![tactic(auto)]
 
+mod crashes;
 mod declaring;
 mod devices;
 mod driven;

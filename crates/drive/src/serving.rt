@@ -1,17 +1,19 @@
 //! What the helper does beside the workers.
-ghost use Rattle.std.specs.Prelude.{◌≡◌, IfErr, OnOk, false};
-ghost use Rattle.drive.specs.Serving.{HasStayed};
+ghost use Rattle.std.specs.Prelude.{◌≡◌, IfErr, OnErr, OnOk, false};
+ghost use Rattle.drive.specs.Serving.{CrashesSince, HasStayed, LivesOn};
 ghost use Rattle.drive.specs.Stops.{StopsRound};
 ghost use Rattle.running_heap.specs.Joined.{IsHelping};
+ghost use Rattle.trim_helper.specs.Heard.{HasSeen};
 
 use crate::signals::Signals;
 use block_disk::Disk;
 use durable::StoreError;
 use monitor::Shared;
-use running_heap::helping_law;
+use running_heap::{helping_law, life_law};
+use running_life::round_law;
 use std::sync::Wait;
 use std::thread;
-use trim_helper::Helper;
+use trim_helper::{Helper, seen_law};
 
 /// The helper, and why it has stopped.
 #[derive(Drop)]
@@ -32,6 +34,8 @@ pub fn serve<D: Disk, R: Wait>(
     ensures helping { IsHelping D.device shared.now result.helper }
     ensures stayed { HasStayed D.device helper result.helper }
     ensures running { OnOk result.answer (result.helper.store.known.has_failed ≡ false) }
+    ensures lives { OnOk result.answer (LivesOn D.device shared.now helper result.helper) }
+    ensures crashes { OnErr result.answer (CrashesSince D.device shared.now helper result.helper) }
     ensures cause { IfErr result.answer (StopsRound (D.device helper.store.disk) (D.device result.helper.store.disk)) }
 {
     let mut helper = helper;
@@ -53,6 +57,8 @@ fn make_rounds<D: Disk, R: Wait>(
     ensures helping { IsHelping D.device shared.now helper.new }
     ensures stayed { HasStayed D.device helper.old helper.new }
     ensures running { OnOk result (helper.new.store.known.has_failed ≡ false) }
+    ensures lives { OnOk result (LivesOn D.device shared.now helper.old helper.new) }
+    ensures crashes { OnErr result (CrashesSince D.device shared.now helper.old helper.new) }
     ensures cause { IfErr result (StopsRound (D.device helper.old.store.disk) (D.device helper.new.store.disk)) }
 {
     for _ in rt.forever() {
@@ -74,8 +80,15 @@ fn make_round<D: Disk>(shared: &Shared, helper: &mut Helper<D>) -> Result<u64, S
     ensures helping { IsHelping D.device shared.now helper.new }
     ensures stayed { HasStayed D.device helper.old helper.new }
     ensures running { OnOk result (helper.new.store.known.has_failed ≡ false) }
+    ensures lives { OnOk result (LivesOn D.device shared.now helper.old helper.new) }
+    ensures seen { HasSeen shared.now helper.new }
+    // Whatever the round answers, and at whatever moment of it a crash comes.
+    ensures crashes { CrashesSince D.device shared.now helper.old helper.new }
     ensures cause { IfErr result (StopsRound (D.device helper.old.store.disk) (D.device helper.new.store.disk)) }
 {
     helping_law::<D>();
+    life_law::<D>();
+    seen_law::<D>();
+    round_law::<D>();
     helper.round(shared)
 }
