@@ -37,3 +37,6 @@ new-down-requires c =
     (subst (λ (xs : List ℕ). LeftSinceStop (begun_at c.args.back d) d xs) bytes (rw c.in-Some.is at c.in_ok-disk.ensures.any_moment)) in
     subst (λ (s : Declarations). IsDiskOf s c.in-Some.disk) (sym c.into_schema.ensures)
     (subst (IsDiskOf c.args.running.monitors.schema) (sym image.1) (fresh_of c.args.running.monitors.schema (crash_back c.args.fill c.args.back d) of))
+
+pub returns-in_default : goal.returns-in_default
+returns-in_default c = record { refused = λ few. (refl, refl); passed = λ enough. absurd (enough (rw c.in_default.is at c.in_ok-disk.ensures.image)) }
