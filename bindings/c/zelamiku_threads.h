@@ -31,6 +31,7 @@
 #ifndef ZELAMIKU_THREADS_H
 #define ZELAMIKU_THREADS_H
 #include <pthread.h>
+#include <sched.h>
 #include <time.h>
 #include "zelamiku_file.h"
 #ifdef HELGRIND /* which knows nothing of atomics */
@@ -47,6 +48,8 @@ enum {
     ZELAMIKU_THREADS_BUCKETS = 64,
     ZELAMIKU_THREADS_TRIES = 40,   /* before a thread sleeps for a monitor */
     ZELAMIKU_THREADS_DEMANDS = 3,  /* rounds that one without room asks for; a later one follows the end of another section */
+    ZELAMIKU_THREADS_PART = 8,     /* of the time that a round's calls take: so long those without room look while the next takes records */
+    ZELAMIKU_THREADS_NAP = 20000,  /* nanoseconds between two looks, for each thread that waits for a round, where many do */
     ZELAMIKU_THREADS_RECORDS = 1000, /* of a lane, after which a round is asked for at a section's end: about a quarter of its ring */
     ZELAMIKU_THREADS_CLOSING = 255 /* no status: zelamiku_threads_stop looks whether it may */
 };
@@ -61,7 +64,7 @@ typedef struct {
     uint32_t wanted;       /* mutex: the object whose monitor it waits for, plus one; 0: none */
     uint64_t turn;         /* mutex: who waits for it longest has the least */
     uint32_t awaits;       /* atomic: it sleeps until `ended` sections are acknowledged */
-    uint32_t is_behind;    /* atomic: it sleeps until a round has ended */
+    uint32_t is_behind;    /* atomic: it sleeps until the helper's next step */
     uint64_t acknowledged; /* atomic: how many sections of the lane are durable */
     char apart[64];        /* what others write lies on other cache lines than what follows */
     zelamiku_handle session;
@@ -81,6 +84,7 @@ typedef struct {
     zelamiku_threads_calls *make_calls;
     void *device;
     uint32_t lanes;
+    uint32_t processors;
     uint64_t linger; /* nanoseconds */
     pthread_t helper;
     pthread_mutex_t mutex;
@@ -93,8 +97,11 @@ typedef struct {
     char apart_too[64];
     uint32_t awaiting;   /* atomic: how many threads wait for a round */
     uint64_t rounds;     /* atomic: how many have ended */
+    uint64_t haste;      /* atomic: until when those without room look again, by CLOCK_MONOTONIC */
+    uint64_t steps;      /* atomic: odd while the helper takes records from the lanes' rings, each of which gives room */
     uint64_t troubles;   /* atomic: of how many a write has failed */
     int error;           /* atomic: the errno of the last of these */
+    uint64_t calls_time; /* of the helper: how many nanoseconds the calls of the last round took */
     uint64_t turns;      /* mutex: how many turns were given */
     bool is_urgent, is_ending, is_troubled, is_asleep; /* mutex: of the helper */
     zelamiku_seat seats[ZELAMIKU_MOST_LANES];
@@ -245,25 +252,88 @@ static inline zelamiku_status zelamiku_threads_trouble(zelamiku_threads *all, ui
     return ZELAMIKU_DEVICE;
 }
 
-/* Sleeps until a round has ended after that one. */
-static inline zelamiku_status zelamiku_threads_sleep(zelamiku_threads *all, zelamiku_seat *seat, uint64_t rounds, unsigned *demands) {
+static inline uint64_t zelamiku_threads_step(zelamiku_threads *all) {
+    return __atomic_load_n(&all->steps, __ATOMIC_SEQ_CST);
+}
+
+static inline uint64_t zelamiku_threads_time(void) {
+    struct timespec now = {0, 0};
+    (void)clock_gettime(CLOCK_MONOTONIC, &now);
+    return (uint64_t)now.tv_sec * 1000000000u + (uint64_t)now.tv_nsec;
+}
+
+/* Sleeps until the helper's next step. */
+static inline zelamiku_status zelamiku_threads_sleep(zelamiku_threads *all, zelamiku_seat *seat, uint64_t step, unsigned *demands) {
     uint64_t troubles = __atomic_load_n(&all->troubles, __ATOMIC_SEQ_CST);
     zelamiku_status status;
     __atomic_add_fetch(&all->awaiting, 1, __ATOMIC_SEQ_CST);
     __atomic_store_n(&seat->is_behind, 1, __ATOMIC_SEQ_CST);
-    if (*demands < ZELAMIKU_THREADS_DEMANDS) {
+    /* A round that takes records, or has begun to since, gives what another one would. */
+    if (step % 2 == 0 && zelamiku_threads_step(all) == step && *demands < ZELAMIKU_THREADS_DEMANDS) {
         ++*demands;
         zelamiku_threads_call(all, true);
     }
     while ((status = zelamiku_threads_trouble(all, troubles)) == ZELAMIKU_OK && (status = zelamiku_threads_over(all)) == ZELAMIKU_OK &&
-           __atomic_load_n(&all->rounds, __ATOMIC_SEQ_CST) == rounds)
+           zelamiku_threads_step(all) == step)
         zelamiku_seat_sleep(seat);
     __atomic_store_n(&seat->is_behind, 0, __ATOMIC_SEQ_CST);
     __atomic_sub_fetch(&all->awaiting, 1, __ATOMIC_SEQ_CST);
     return status;
 }
 
+/* Lets others have the processor. Where as many wait as there are processors, they nap: the longer, the more they are, so that all of them
+ * together look as often as one does. */
+static inline void zelamiku_threads_pause(zelamiku_threads *all) {
+    uint32_t waiting = __atomic_add_fetch(&all->awaiting, 1, __ATOMIC_SEQ_CST);
+    if (waiting < all->processors) {
+        (void)sched_yield();
+    } else {
+        struct timespec nap = {0, (long)ZELAMIKU_THREADS_NAP * waiting};
+        (void)nanosleep(&nap, NULL);
+    }
+    __atomic_sub_fetch(&all->awaiting, 1, __ATOMIC_SEQ_CST);
+}
+
+/* Waits for room, of which there was none at that step of the helper. While the helper takes records the thread looks again and again, so
+ * that what it does then is taken by the same round; while the helper makes calls, which may last, it sleeps. */
+static inline zelamiku_status zelamiku_threads_await_room(zelamiku_threads *all, zelamiku_seat *seat, uint64_t step, unsigned *demands) {
+    bool looks = step % 2 == 1 && zelamiku_threads_time() < __atomic_load_n(&all->haste, __ATOMIC_SEQ_CST);
+    if (!looks) return zelamiku_threads_sleep(all, seat, step, demands);
+    zelamiku_threads_pause(all);
+    return ZELAMIKU_OK;
+}
+
 /* ---- the helper ---- */
+
+/* Wakes those that sleep without room. */
+static inline void zelamiku_threads_go_on(zelamiku_threads *all) {
+    for (uint32_t lane = 0; lane < all->lanes; lane++)
+        if (__atomic_load_n(&all->seats[lane].is_behind, __ATOMIC_SEQ_CST) != 0) zelamiku_seat_ring(&all->seats[lane]);
+}
+
+/* Waits until they are awake, or until that time: else the rings may be empty before the first of them has gone on. */
+static inline void zelamiku_threads_let_come(zelamiku_threads *all, uint64_t end) {
+    const struct timespec nap = {0, ZELAMIKU_THREADS_NAP};
+    for (uint32_t lane = 0; lane < all->lanes; lane++)
+        while (__atomic_load_n(&all->seats[lane].is_behind, __ATOMIC_SEQ_CST) != 0 && zelamiku_threads_time() < end)
+            (void)nanosleep(&nap, NULL);
+}
+
+/* Takes what the threads have done. Where calls take long it is worth some time that much comes into one round: those without room are
+ * woken before. Else they have room soon, and sleep until all is taken. */
+static inline zelamiku_status zelamiku_threads_take(zelamiku_threads *all) {
+    uint64_t count = 0, begun = zelamiku_threads_time(), part = all->calls_time / ZELAMIKU_THREADS_PART;
+    __atomic_store_n(&all->haste, begun + part, __ATOMIC_SEQ_CST);
+    __atomic_add_fetch(&all->steps, 1, __ATOMIC_SEQ_CST);
+    if (part > ZELAMIKU_THREADS_NAP) {
+        zelamiku_threads_go_on(all);
+        zelamiku_threads_let_come(all, begun + part / 4);
+    }
+    zelamiku_status status = zelamiku_round(&all->heap, &count);
+    __atomic_add_fetch(&all->steps, 1, __ATOMIC_SEQ_CST);
+    zelamiku_threads_go_on(all);
+    return status;
+}
 
 /* Makes the calls that a failed write left, a round, and its calls. */
 static inline zelamiku_status zelamiku_threads_round(zelamiku_threads *all) {
@@ -272,8 +342,10 @@ static inline zelamiku_status zelamiku_threads_round(zelamiku_threads *all) {
     __atomic_store_n(&all->has_work, 0, __ATOMIC_SEQ_CST);
     for (uint32_t lane = 0; lane < all->lanes; lane++) (void)__atomic_load_n(&all->seats[lane].ended, __ATOMIC_SEQ_CST);
     zelamiku_status status = all->make_calls(&all->heap, all->device, &count);
-    if (status == ZELAMIKU_OK) status = zelamiku_round(&all->heap, &count);
+    if (status == ZELAMIKU_OK) status = zelamiku_threads_take(all);
+    uint64_t begun = zelamiku_threads_time();
     if (status == ZELAMIKU_OK) status = all->make_calls(&all->heap, all->device, &count);
+    all->calls_time = zelamiku_threads_time() - begun;
     for (uint32_t lane = 0; status == ZELAMIKU_OK && lane < all->lanes; lane++) {
         uint64_t sections = 0;
         status = zelamiku_acknowledged(&all->heap, lane, &sections);
@@ -297,8 +369,8 @@ static inline void zelamiku_threads_tell(zelamiku_threads *all, zelamiku_status 
     __atomic_add_fetch(&all->rounds, 1, __ATOMIC_SEQ_CST);
     for (uint32_t lane = 0; lane < all->lanes; lane++) {
         zelamiku_seat *seat = &all->seats[lane];
-        bool is_told = status != ZELAMIKU_OK || __atomic_load_n(&seat->is_behind, __ATOMIC_SEQ_CST) != 0 ||
-                       (__atomic_load_n(&seat->awaits, __ATOMIC_SEQ_CST) != 0 && zelamiku_seat_is_durable(seat));
+        bool is_told =
+            status != ZELAMIKU_OK || (__atomic_load_n(&seat->awaits, __ATOMIC_SEQ_CST) != 0 && zelamiku_seat_is_durable(seat));
         if (is_told) zelamiku_seat_ring(seat);
     }
 }
@@ -379,6 +451,8 @@ ZELAMIKU_MUST_USE static inline zelamiku_status zelamiku_threads_start_over(zela
     all->make_calls = make_calls;
     all->device = device;
     all->linger = (uint64_t)linger * 1000;
+    long processors = sysconf(_SC_NPROCESSORS_ONLN);
+    all->processors = processors > 1 ? (uint32_t)processors : 1;
     zelamiku_status status = ZELAMIKU_OK;
     while (all->lanes < ZELAMIKU_MOST_LANES &&
            (status = zelamiku_session(heap, &all->seats[all->lanes].session)) == ZELAMIKU_OK)
@@ -397,6 +471,8 @@ ZELAMIKU_MUST_USE static inline zelamiku_status zelamiku_threads_start_over(zela
     ZELAMIKU_IS_ATOMIC(all->has_work);
     ZELAMIKU_IS_ATOMIC(all->awaiting);
     ZELAMIKU_IS_ATOMIC(all->rounds);
+    ZELAMIKU_IS_ATOMIC(all->steps);
+    ZELAMIKU_IS_ATOMIC(all->haste);
     ZELAMIKU_IS_ATOMIC(all->troubles);
     ZELAMIKU_IS_ATOMIC(all->error);
     ZELAMIKU_IS_ATOMIC(all->waiting);
@@ -529,21 +605,24 @@ static inline zelamiku_status zelamiku_thread_told(zelamiku_status status) {
 static inline zelamiku_status zelamiku_thread_enter_asleep(zelamiku_threads *all, zelamiku_seat *seat, uint32_t object) {
     unsigned demands = 0;
     zelamiku_status status;
+    bool is_wanted = false;
     for (;;) {
-        uint64_t rounds = __atomic_load_n(&all->rounds, __ATOMIC_SEQ_CST);
+        uint64_t step = zelamiku_threads_step(all);
         status = zelamiku_threads_over(all);
         if (status == ZELAMIKU_OK) status = zelamiku_thread_told(zelamiku_try_enter(&seat->session, object));
         if (status == ZELAMIKU_HELD) {
             if (!zelamiku_threads_want(all, seat, object)) zelamiku_seat_sleep(seat);
+            is_wanted = true;
         } else if (status == ZELAMIKU_BEHIND) {
-            zelamiku_threads_want_no_more(all, seat, false);
-            status = zelamiku_threads_sleep(all, seat, rounds, &demands);
+            if (is_wanted) zelamiku_threads_want_no_more(all, seat, false);
+            is_wanted = false;
+            status = zelamiku_threads_await_room(all, seat, step, &demands);
             if (status != ZELAMIKU_OK) break;
         } else {
             break;
         }
     }
-    zelamiku_threads_want_no_more(all, seat, status == ZELAMIKU_OK);
+    if (is_wanted) zelamiku_threads_want_no_more(all, seat, status == ZELAMIKU_OK);
     return status;
 }
 
@@ -645,12 +724,12 @@ static inline zelamiku_status zelamiku_thread_resume(zelamiku_threads *all, zela
 static inline zelamiku_status zelamiku_thread_begin_wait(zelamiku_threads *all, zelamiku_seat *seat, uint32_t object) {
     unsigned demands = 0;
     for (;;) {
-        uint64_t rounds = __atomic_load_n(&all->rounds, __ATOMIC_SEQ_CST);
+        uint64_t step = zelamiku_threads_step(all);
         zelamiku_status status = zelamiku_threads_over(all);
         if (status == ZELAMIKU_OK) status = zelamiku_thread_told(zelamiku_begin_wait(&seat->session, object));
         /* What holds the monitor may be what the room waits for. */
         if (status != ZELAMIKU_BEHIND || demands == ZELAMIKU_THREADS_DEMANDS) return status;
-        status = zelamiku_threads_sleep(all, seat, rounds, &demands);
+        status = zelamiku_threads_await_room(all, seat, step, &demands);
         if (status != ZELAMIKU_OK) return status;
     }
 }

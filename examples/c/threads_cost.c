@@ -1,6 +1,7 @@
-/* What sections cost over zelamiku_threads.h: two monitors and two stores each, by threads that each wait until theirs is durable.
+/* What sections cost over zelamiku_threads.h: two monitors and two stores each, by threads that each wait until theirs is durable, or that
+ * wait for none.
  *
- *     threads_cost FILE [THREADS [SECONDS]]
+ *     threads_cost FILE [THREADS [SECONDS [none]]]
  * makes a heap in the file, which it replaces, and prints how many sections so many threads (32) do in a second, over so many seconds (2),
  * and the processor time of a section, of all threads and the helper.
  *
@@ -20,6 +21,7 @@ enum { MOST = 32, SHARED = 0 };
 
 static zelamiku_threads heap;
 static atomic_bool stopping;
+static bool waits = true;
 
 static inline void must(zelamiku_status status, const char *what) {
     char text[256];
@@ -75,7 +77,7 @@ static void *work(void *data) {
     uint64_t count = 0;
     while (!atomic_load(&stopping)) {
         by_threads(&own, object);
-        must(zelamiku_thread_await(&own), "await");
+        if (waits) must(zelamiku_thread_await(&own), "await");
         count++;
     }
     must(zelamiku_thread_end(&own), "end");
@@ -155,18 +157,19 @@ static int rate(const char *path, int threads, int seconds) {
         free(done);
     }
     double time = processor_time() - before;
-    printf("%d threads that wait for each section: %.0f sections a second, %.2f us of processor time a section\n", threads,
-           (double)sections / seconds, time / (double)sections);
+    printf("%d threads that wait for %s: %.0f sections a second, %.2f us of processor time a section\n", threads,
+           waits ? "each section" : "none", (double)sections / seconds, time / (double)sections);
     must(zelamiku_threads_stop(&heap), "stop");
     return close(file);
 }
 
 int main(int count, char **words) {
     if (count < 2) {
-        fprintf(stderr, "threads_cost FILE [THREADS [SECONDS]], or threads_cost FILE handles | threads GROUPS SECTIONS\n");
+        fprintf(stderr, "threads_cost FILE [THREADS [SECONDS [none]]], or threads_cost FILE handles | threads GROUPS SECTIONS\n");
         return 2;
     }
-    if (count == 5) {
+    waits = count < 5 || strcmp(words[4], "none") != 0;
+    if (count == 5 && waits) {
         unsigned groups = (unsigned)atoi(words[3]), sections = (unsigned)atoi(words[4]);
         return strcmp(words[2], "handles") == 0 ? groups_by_handles(words[1], groups, sections) : groups_by_threads(words[1], groups, sections);
     }

@@ -15,6 +15,7 @@
 
 static int writes_fail, syncs_fail; /* by the helper's thread, and set while it rests */
 static int syncs_hang;              /* a sync returns once this is 0 */
+static unsigned sync_time;          /* in microseconds; set while there is no helper */
 static unsigned syncs;
 
 static ssize_t flaky_pwrite(int file, const void *bytes, size_t size, off_t at) {
@@ -28,6 +29,7 @@ static ssize_t flaky_pwrite(int file, const void *bytes, size_t size, off_t at) 
 static int flaky_fdatasync(int file) {
     __atomic_add_fetch(&syncs, 1, __ATOMIC_SEQ_CST);
     while (__atomic_load_n(&syncs_hang, __ATOMIC_SEQ_CST)) usleep(100);
+    if (sync_time > 0) usleep(sync_time);
     if (__atomic_load_n(&syncs_fail, __ATOMIC_SEQ_CST)) {
         errno = EIO;
         return -1;
@@ -46,7 +48,33 @@ static int counted_cond_wait(pthread_cond_t *bell, pthread_mutex_t *mutex) {
 #define pwrite flaky_pwrite
 #define fdatasync flaky_fdatasync
 #define pthread_cond_wait counted_cond_wait
+#include "zelamiku_file.h"
+
+static uint64_t *haste;               /* until when those without room look: set further, where a round lasts */
+static unsigned round_waits;          /* so many microseconds before the library's call of a round */
+static int round_lasts;               /* and behind it until a thread has done more, or for a tenth of a second */
+static unsigned done;                 /* the sections of that thread */
+static unsigned went_on, stood_still; /* how often it had, and hadn't: by the helper's thread */
+
+static zelamiku_status lasting_round(zelamiku_handle *heap, uint64_t *applied) {
+    if (__atomic_load_n(&round_lasts, __ATOMIC_SEQ_CST)) __atomic_store_n(haste, UINT64_MAX, __ATOMIC_SEQ_CST);
+    if (round_waits > 0) usleep(round_waits);
+    zelamiku_status status = zelamiku_round(heap, applied);
+    unsigned before = __atomic_load_n(&done, __ATOMIC_SEQ_CST);
+    for (unsigned tries = 0; __atomic_load_n(&round_lasts, __ATOMIC_SEQ_CST); tries++) {
+        bool has_gone_on = __atomic_load_n(&done, __ATOMIC_SEQ_CST) >= before + 100;
+        if (has_gone_on || tries == 1000) {
+            *(has_gone_on ? &went_on : &stood_still) += 1;
+            break;
+        }
+        usleep(100);
+    }
+    return status;
+}
+
+#define zelamiku_round lasting_round
 #include "zelamiku_threads.h"
+#undef zelamiku_round
 
 #define MUST(is_so) \
     do { \
@@ -63,10 +91,14 @@ static const zelamiku_field FIELDS[] = {{TOTAL, TOTAL, 0, 0}, {LIST, LIST, 0, 0}
 static int file;
 static zelamiku_threads all;
 
-static void begin_anew(void) {
+static void begin_with(uint32_t capacity) {
     zelamiku_handle heap = ZELAMIKU_NONE;
-    MUST(zelamiku_format_file(&heap, file, 2, FIELDS, 3, LANES, 4000) == ZELAMIKU_OK);
+    MUST(zelamiku_format_file(&heap, file, 2, FIELDS, 3, LANES, capacity) == ZELAMIKU_OK);
     MUST(zelamiku_threads_start(&all, &heap, file, 1000) == ZELAMIKU_OK && all.lanes == LANES);
+}
+
+static void begin_anew(void) {
+    begin_with(4000);
 }
 
 static void begin_again(void) {
@@ -152,6 +184,43 @@ static void unawaited(void) {
         nanosleep(&nap, NULL);
     }
     MUST(zelamiku_threads_stop(&all) == ZELAMIKU_OK);
+}
+
+enum { SECTIONS = 20000 }; /* many times what a ring has room for */
+
+static void *do_sections(void *data) {
+    zelamiku_thread own;
+    MUST(zelamiku_thread_begin(&own, &all) == ZELAMIKU_OK);
+    for (unsigned i = 0; i < SECTIONS; i++) {
+        add(&own, TOTAL, 0, 1);
+        __atomic_add_fetch(&done, 1, __ATOMIC_SEQ_CST);
+    }
+    __atomic_store_n(&round_lasts, 0, __ATOMIC_SEQ_CST);
+    MUST(zelamiku_thread_await(&own) == ZELAMIKU_OK && zelamiku_thread_end(&own) == ZELAMIKU_OK);
+    (void)data;
+    return NULL;
+}
+
+/* A thread without room looks again while a round takes records, also before it has taken the first. */
+static void room_while_a_round_takes(void) {
+    round_waits = 1000;
+    sync_time = 20000;
+    done = went_on = stood_still = 0;
+    round_lasts = 1;
+    begin_with(65536);
+    run(do_sections, 1);
+    MUST(zelamiku_threads_stop(&all) == ZELAMIKU_OK);
+    /* On a busy machine it may be kept from it. */
+    MUST(went_on > 0 && stood_still <= went_on / 4);
+}
+
+/* One that has looked in vain, and sleeps, goes on once the round has taken them. */
+static void room_behind_a_round(void) {
+    round_waits = 30000;
+    begin_with(65536);
+    run(do_sections, 1);
+    MUST(zelamiku_threads_stop(&all) == ZELAMIKU_OK);
+    round_waits = sync_time = 0;
 }
 
 static void lives(void) {
@@ -369,14 +438,24 @@ int main(int argc, char **argv) {
     file = open("threads.image", O_RDWR | O_CREAT | O_TRUNC, 0644);
     MUST(file >= 0);
     helpers_bell = &all.bell;
+    haste = &all.haste;
+    ZELAMIKU_IS_ATOMIC(writes_fail);
+    ZELAMIKU_IS_ATOMIC(syncs_fail);
+    ZELAMIKU_IS_ATOMIC(syncs_hang);
+    ZELAMIKU_IS_ATOMIC(syncs);
+    ZELAMIKU_IS_ATOMIC(sleeps);
+    ZELAMIKU_IS_ATOMIC(round_lasts);
+    ZELAMIKU_IS_ATOMIC(done);
     lives();
     unawaited();
+    room_while_a_round_takes();
+    room_behind_a_round();
     refusals();
     failing_writes();
     failing_syncs();
     deadlines();
     turns();
     rest(argc > 2 ? (unsigned)strtoul(argv[2], NULL, 10) : 200);
-    printf("threads: lives of %d threads, refusals, writes and syncs that fail, deadlines, turns, and rest\n", LANES);
+    printf("threads: lives of %d threads, room, refusals, writes and syncs that fail, deadlines, turns, and rest\n", LANES);
     return 0;
 }

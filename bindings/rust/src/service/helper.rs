@@ -12,11 +12,16 @@ use std::time::{Duration, Instant};
 /// A write that failed is made again after so long, where nobody asks for it.
 const AGAIN: Duration = Duration::from_secs(1);
 
+// For this part of the time that the calls of a round take, those without room look again while the next one takes records.
+const PART: u32 = 8;
+
 pub struct Helper {
     pub shared: Arc<Shared>,
     pub heap: handles::Heap,
     pub device: Box<dyn Device + Send>,
     pub linger: Duration,
+    /// How long the calls of the last round took.
+    pub calls_time: Duration,
 }
 
 /// What a round came to.
@@ -90,13 +95,27 @@ impl Helper {
         if let Round::Troubled(error) = self.make_calls()? {
             return Ok(Round::Troubled(error));
         }
-        self.heap.round().map_err(|refusal| stopped(&self.shared, refusal))?;
+        self.take()?;
+        let begun = Instant::now();
         let made = self.make_calls()?;
+        self.calls_time = begun.elapsed();
         if let Round::Made = made {
             self.tell_acknowledged()
                 .map_err(|refusal| stopped(&self.shared, refusal))?;
         }
         Ok(made)
+    }
+
+    // Takes what the sessions have done. Those without room look again while it does, and once it has.
+    fn take(&mut self) -> Result<(), Error> {
+        self.shared.begin_to_take(self.calls_time / PART);
+        #[cfg(test)]
+        self.shared.slow.before_round(&self.shared.haste);
+        let taken = self.heap.round();
+        #[cfg(test)]
+        self.shared.slow.behind_round(&self.shared.seats[0]);
+        self.shared.end_taking();
+        taken.map(|_| ()).map_err(|refusal| stopped(&self.shared, refusal))
     }
 
     fn make_calls(&mut self) -> Result<Round, Error> {

@@ -318,6 +318,7 @@ impl Heap {
             heap,
             device,
             linger,
+            calls_time: Duration::ZERO,
         };
         let thread = std::thread::Builder::new()
             .name("zelamiku".into())

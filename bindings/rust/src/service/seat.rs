@@ -23,7 +23,7 @@ pub struct Seat {
     pub ended: AtomicU64,
     /// The thread sleeps until so many are acknowledged; 0 where it doesn't.
     pub wanted: AtomicU64,
-    /// The thread sleeps until a round has ended.
+    /// The thread sleeps until the helper's next step.
     pub is_behind: AtomicBool,
     /// A section is open, or the session waits for a monitor.
     pub is_busy: AtomicBool,

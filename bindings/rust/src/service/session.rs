@@ -1,7 +1,7 @@
 //! A session of a service, and the monitors that it holds.
 use super::error::{Error, ErrorKind};
 use super::seat::{lock, Seat};
-use super::shared::{Shared, Spare};
+use super::shared::{is_taking, Shared, Spare};
 use crate::raw::{self, Owned};
 use crate::{answer, lane, Pool, Refusal, Sight};
 use std::fmt;
@@ -373,7 +373,7 @@ impl Session {
     fn sleep_for_monitor(&mut self, object: u32) -> Result<(), Error> {
         let (mut is_down, mut was_woken, mut demands) = (false, false, 0);
         loop {
-            let rounds = self.shared.rounds.load(Ordering::SeqCst);
+            let step = self.shared.step();
             let status = self.call(|handle| handle.try_enter(object));
             match answer(status) {
                 Ok(()) => return Ok(()),
@@ -387,25 +387,36 @@ impl Session {
                     is_down = true;
                 }
                 Err(Refusal::Behind) => {
-                    if self.shared.queue.remove(self.lane) || was_woken {
+                    let was_down = (is_down || was_woken) && self.shared.queue.remove(self.lane);
+                    if was_down || was_woken {
                         self.shared.wake_first(object);
                     }
                     (is_down, was_woken) = (false, false);
-                    self.sleep_for_round(rounds, &mut demands)?;
+                    self.await_room(step, &mut demands)?;
                 }
                 Err(_) => return Err(self.refused(status)),
             }
         }
     }
 
-    // Sleeps until a round has ended after that one. It asks for the first few: what a round of one's own can't give, only the end of
-    // another section can, after which there is a round.
-    fn sleep_for_round(&self, rounds: u64, demands: &mut u32) -> Result<(), Error> {
+    // Waits for room, of which there was none at that step of the helper. While the helper takes records the thread looks again and
+    // again, so that what it does then is taken by the same round; while the helper makes calls, which may last, it sleeps.
+    fn await_room(&self, step: u64, demands: &mut u32) -> Result<(), Error> {
+        if is_taking(step) && self.shared.is_hasty() {
+            self.shared.pause();
+            return Ok(());
+        }
+        self.sleep_for_step(step, demands)
+    }
+
+    // Sleeps until the helper's next step. It asks for the first few rounds, unless one takes records or has begun to since: what a round
+    // of one's own can't give, only the end of another section can, after which there is a round.
+    fn sleep_for_step(&self, step: u64, demands: &mut u32) -> Result<(), Error> {
         let (shared, seat) = (&self.shared, &self.seat);
         let troubles = shared.troubles.load(Ordering::SeqCst);
         shared.awaiting.fetch_add(1, Ordering::SeqCst);
         seat.is_behind.store(true, Ordering::SeqCst);
-        if *demands < DEMANDS {
+        if !is_taking(step) && shared.step() == step && *demands < DEMANDS {
             *demands += 1;
             shared.demand();
         }
@@ -416,7 +427,7 @@ impl Session {
             if let Err(error) = shared.must_go_on() {
                 break Err(error);
             }
-            if shared.rounds.load(Ordering::SeqCst) != rounds {
+            if shared.step() != step {
                 break Ok(());
             }
             seat.sleep();
@@ -513,12 +524,12 @@ impl Session {
     fn begin_wait(&mut self, object: u32) -> Result<(), Error> {
         let mut demands = 0;
         loop {
-            let rounds = self.shared.rounds.load(Ordering::SeqCst);
+            let step = self.shared.step();
             let status = self.call(|handle| handle.begin_wait(object));
             match answer(status) {
                 Ok(()) => return Ok(()),
                 // What holds the monitor may be what the room waits for.
-                Err(Refusal::Behind) if demands < DEMANDS => self.sleep_for_round(rounds, &mut demands)?,
+                Err(Refusal::Behind) if demands < DEMANDS => self.await_room(step, &mut demands)?,
                 Err(_) => return Err(self.refused(status)),
             }
         }

@@ -10,6 +10,14 @@ use std::sync::mpsc::Sender;
 use std::sync::{Arc, Condvar, Mutex, OnceLock, PoisonError};
 use std::time::{Duration, Instant};
 
+/// Whether the helper takes records at this step of its.
+pub fn is_taking(step: u64) -> bool {
+    step % 2 == 1
+}
+
+// Between two looks of one that has no room, for each thread that waits for a round, where many do.
+const NAP: Duration = Duration::from_micros(20);
+
 /// A lane that nobody uses: its session, and how many of its sections have ended.
 pub struct Spare {
     pub lane: usize,
@@ -50,6 +58,12 @@ pub struct Shared {
     pub is_settled: AtomicBool,
     /// The rounds that have ended, also those whose calls failed.
     pub rounds: AtomicU64,
+    // Odd while the helper takes records from the lanes' rings, each of which gives room.
+    steps: AtomicU64,
+    /// Until when those that have no room look again meanwhile, in nanoseconds since the heap was started.
+    pub haste: AtomicU64,
+    started: Instant,
+    processors: u32,
     /// The rounds of which a write failed.
     pub troubles: AtomicU64,
     /// How many threads wait for a round.
@@ -65,6 +79,8 @@ pub struct Shared {
     // Who asks that the heap is closed.
     closing: Mutex<Vec<Reply>>,
     bell: Condvar,
+    #[cfg(test)]
+    pub slow: super::tests::Slow,
 }
 
 impl Shared {
@@ -77,6 +93,10 @@ impl Shared {
             is_over: Apart(AtomicBool::new(false)),
             is_settled: AtomicBool::new(false),
             rounds: AtomicU64::new(0),
+            steps: AtomicU64::new(0),
+            haste: AtomicU64::new(0),
+            started: Instant::now(),
+            processors: std::thread::available_parallelism().map_or(1, |count| count.get() as u32),
             troubles: AtomicU64::new(0),
             awaiting: AtomicU32::new(0),
             why: OnceLock::new(),
@@ -86,6 +106,8 @@ impl Shared {
             is_asleep: AtomicBool::new(false),
             closing: Mutex::new(Vec::new()),
             bell: Condvar::new(),
+            #[cfg(test)]
+            slow: super::tests::Slow::default(),
         }
     }
 
@@ -206,9 +228,58 @@ impl Shared {
 
     pub fn end_round(&self) {
         self.rounds.fetch_add(1, Ordering::SeqCst);
+    }
+
+    /// The helper begins to take records. Where calls take long it is worth some time, a part of theirs, that much comes into one round:
+    /// those without room are woken before. Else they have room soon, and sleep until all is taken.
+    pub fn begin_to_take(&self, part: Duration) {
+        let begun = self.started.elapsed();
+        self.haste.store((begun + part).as_nanos() as u64, Ordering::SeqCst);
+        self.steps.fetch_add(1, Ordering::SeqCst);
+        if part <= NAP {
+            return;
+        }
+        self.go_on();
+        // The rings may be empty before the first of them has gone on.
+        let is_behind = |seat: &Arc<Seat>| seat.is_behind.load(Ordering::SeqCst);
+        while self.seats.iter().any(is_behind) && self.started.elapsed() < begun + part / 4 {
+            std::thread::sleep(NAP);
+        }
+    }
+
+    /// The helper has taken what there was.
+    pub fn end_taking(&self) {
+        self.steps.fetch_add(1, Ordering::SeqCst);
+        self.go_on();
+    }
+
+    // Wakes those that sleep without room.
+    fn go_on(&self) {
         for seat in self.seats.iter().filter(|seat| seat.is_behind.load(Ordering::SeqCst)) {
             seat.ring();
         }
+    }
+
+    /// The helper's step: odd while it takes records.
+    pub fn step(&self) -> u64 {
+        self.steps.load(Ordering::SeqCst)
+    }
+
+    /// Whether one that has no room looks again while the helper takes records.
+    pub fn is_hasty(&self) -> bool {
+        self.started.elapsed().as_nanos() < u128::from(self.haste.load(Ordering::SeqCst))
+    }
+
+    /// Lets others have the processor. Where as many wait as there are processors, they nap: the longer, the more they are, so that all of
+    /// them together look as often as one does.
+    pub fn pause(&self) {
+        let waiting = self.awaiting.fetch_add(1, Ordering::SeqCst) + 1;
+        if waiting < self.processors {
+            std::thread::yield_now();
+        } else {
+            std::thread::sleep(NAP * waiting);
+        }
+        self.awaiting.fetch_sub(1, Ordering::SeqCst);
     }
 
     /// Sleeps until there is something to do. A section that nobody waits for may lie so long; and calls that failed are made again then.

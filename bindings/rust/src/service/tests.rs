@@ -1,11 +1,13 @@
 //! Devices that fail beneath a service.
 use super::file::{Opened, Plan};
+use super::seat::Seat;
 use super::{ErrorKind, Heap};
 use crate as handles;
 use crate::{Device, Field, Refusal};
 use std::error::Error;
 use std::io;
 use std::path::Path;
+use std::sync::atomic::{AtomicBool, AtomicU32, AtomicU64, Ordering};
 use std::sync::{Arc, Mutex};
 use std::time::{Duration, Instant};
 
@@ -18,6 +20,8 @@ struct State {
     syncs_fail: bool,
     // A sync returns once this is false.
     syncs_hang: bool,
+    // A sync takes so long.
+    sync_time: Duration,
     syncs: u64,
 }
 
@@ -46,6 +50,7 @@ impl Device for Failing {
         while self.with(|state| state.syncs_hang) {
             std::thread::yield_now();
         }
+        std::thread::sleep(self.with(|state| state.sync_time));
         self.with(|state| {
             state.syncs += 1;
             let pending = std::mem::take(&mut state.pending);
@@ -60,6 +65,41 @@ impl Device for Failing {
     }
 }
 
+// What is done beside the library's call of a round: one of a heap that is slow begins late, and lasts until lane 0 has ended a hundred
+// sections more, or for a tenth of a second; and those without room look again for as long.
+#[derive(Default)]
+pub struct Slow {
+    is_slow: AtomicBool,
+    // How often the lane had, and hadn't.
+    went_on: AtomicU32,
+    stood_still: AtomicU32,
+}
+
+impl Slow {
+    pub fn before_round(&self, haste: &AtomicU64) {
+        if self.is_slow.load(Ordering::SeqCst) {
+            haste.store(u64::MAX, Ordering::SeqCst);
+            std::thread::sleep(Duration::from_millis(1));
+        }
+    }
+
+    pub fn behind_round(&self, seat: &Seat) {
+        let before = seat.ended.load(Ordering::SeqCst);
+        let end = Instant::now() + Duration::from_millis(100);
+        while self.is_slow.load(Ordering::SeqCst) {
+            if seat.ended.load(Ordering::SeqCst) >= before + 100 {
+                self.went_on.fetch_add(1, Ordering::SeqCst);
+                return;
+            }
+            if Instant::now() > end {
+                self.stood_still.fetch_add(1, Ordering::SeqCst);
+                return;
+            }
+            std::thread::sleep(Duration::from_micros(100));
+        }
+    }
+}
+
 const FIELD: Field = Field {
     owner: 0,
     guard: 0,
@@ -67,12 +107,12 @@ const FIELD: Field = Field {
     is_transient: false,
 };
 
-fn start(heap: handles::Heap, device: &Failing, lanes: u32) -> Heap {
+fn start(heap: handles::Heap, device: &Failing, lanes: u32, capacity: u32) -> Heap {
     let plan = Plan {
         objects: 1,
         fields: vec![FIELD],
         lanes,
-        capacity: 2_000,
+        capacity,
     };
     let opened = Opened {
         heap,
@@ -83,11 +123,15 @@ fn start(heap: handles::Heap, device: &Failing, lanes: u32) -> Heap {
 }
 
 fn make(lanes: u32) -> (Heap, Failing) {
+    make_with(lanes, 2_000)
+}
+
+fn make_with(lanes: u32, capacity: u32) -> (Heap, Failing) {
     let mut device = Failing::default();
-    let (mut heap, size) = handles::Heap::format(1, &[FIELD], lanes, 2_000).unwrap();
+    let (mut heap, size) = handles::Heap::format(1, &[FIELD], lanes, capacity).unwrap();
     device.with(|state| state.durable = vec![0; size as usize]);
     heap.make_calls(&mut device).unwrap();
-    (start(heap, &device, lanes), device)
+    (start(heap, &device, lanes, capacity), device)
 }
 
 // The value of the field that recovery finds on the device.
@@ -142,6 +186,29 @@ fn a_lane_without_room_is_told_of_a_write_that_failed() {
     until_written(|| session.synchronized(0, |s| s.store(0, 7)));
     until_written(|| session.durable());
     assert_eq!(found_on(&device), 7);
+}
+
+// It looks again also before the round has taken the first. On a busy machine it may be kept from it.
+#[test]
+fn a_lane_without_room_goes_on_while_a_round_takes_records() {
+    let (heap, device) = make_with(1, 65_536);
+    device.with(|state| state.sync_time = Duration::from_millis(20));
+    let mut session = heap.session().unwrap();
+    let slow = &heap.shared.slow;
+    slow.is_slow.store(true, Ordering::SeqCst);
+    for value in 0..20_000 {
+        session.synchronized(0, |s| s.store(0, value)).unwrap();
+    }
+    slow.is_slow.store(false, Ordering::SeqCst);
+    session.durable().unwrap();
+    let (went_on, stood_still) = (
+        slow.went_on.load(Ordering::SeqCst),
+        slow.stood_still.load(Ordering::SeqCst),
+    );
+    assert!(
+        went_on > 0 && stood_still <= went_on / 4,
+        "{went_on} times it went on, and {stood_still} times not"
+    );
 }
 
 #[test]
