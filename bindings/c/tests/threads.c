@@ -210,8 +210,10 @@ static void room_while_a_round_takes(void) {
     begin_with(65536);
     run(do_sections, 1);
     MUST(zelamiku_threads_stop(&all) == ZELAMIKU_OK);
+#ifndef HELGRIND /* under which a tenth of a second is too short for that */
     /* On a busy machine it may be kept from it. */
     MUST(went_on > 0 && stood_still <= went_on / 4);
+#endif
 }
 
 /* One that has looked in vain, and sleeps, goes on once the round has taken them. */
