@@ -49,6 +49,7 @@ enum {
     ZELAMIKU_THREADS_TRIES = 40,   /* before a thread sleeps for a monitor */
     ZELAMIKU_THREADS_DEMANDS = 3,  /* rounds that one without room asks for; a later one follows the end of another section */
     ZELAMIKU_THREADS_PART = 8,     /* of the time that a round's calls take: so long those without room look while the next takes records */
+    ZELAMIKU_THREADS_MOST = 20000000, /* nanoseconds, of that part, also behind calls that hung */
     ZELAMIKU_THREADS_NAP = 20000,  /* nanoseconds between two looks, for each thread that waits for a round, where many do */
     ZELAMIKU_THREADS_RECORDS = 1000, /* of a lane, after which a round is asked for at a section's end: about a quarter of its ring */
     ZELAMIKU_THREADS_CLOSING = 255 /* no status: zelamiku_threads_stop looks whether it may */
@@ -323,6 +324,7 @@ static inline void zelamiku_threads_let_come(zelamiku_threads *all, uint64_t end
  * woken before. Else they have room soon, and sleep until all is taken. */
 static inline zelamiku_status zelamiku_threads_take(zelamiku_threads *all) {
     uint64_t count = 0, begun = zelamiku_threads_time(), part = all->calls_time / ZELAMIKU_THREADS_PART;
+    if (part > ZELAMIKU_THREADS_MOST) part = ZELAMIKU_THREADS_MOST;
     __atomic_store_n(&all->haste, begun + part, __ATOMIC_SEQ_CST);
     __atomic_add_fetch(&all->steps, 1, __ATOMIC_SEQ_CST);
     if (part > ZELAMIKU_THREADS_NAP) {

@@ -15,6 +15,9 @@ const AGAIN: Duration = Duration::from_secs(1);
 // For this part of the time that the calls of a round take, those without room look again while the next one takes records.
 const PART: u32 = 8;
 
+// And no longer than this, also behind calls that hung.
+const MOST: Duration = Duration::from_millis(20);
+
 pub struct Helper {
     pub shared: Arc<Shared>,
     pub heap: handles::Heap,
@@ -108,7 +111,7 @@ impl Helper {
 
     // Takes what the sessions have done. Those without room look again while it does, and once it has.
     fn take(&mut self) -> Result<(), Error> {
-        self.shared.begin_to_take(self.calls_time / PART);
+        self.shared.begin_to_take((self.calls_time / PART).min(MOST));
         #[cfg(test)]
         self.shared.slow.before_round(&self.shared.haste);
         let taken = self.heap.round();
