@@ -6,7 +6,7 @@ use crate::ids::{FieldId, Lane, ObjectId};
 use std::collections::LinkedList;
 
 /// What a look tells a thread.
-#[derive(Debug, PartialEq, Eq, Drop)]
+#[derive(Drop)]
 pub enum Sight {
     /// The monitor: its owner, the count of the owner's locks (0 where it is free), and its release number.
     Found {
@@ -22,7 +22,7 @@ pub enum Sight {
 ///
 /// An event carries what the thread's log needs: a `number` is the release number that the thread
 /// found, `before` the value that it replaced. So a thread's log is a function of its own events.
-#[derive(Debug, PartialEq, Eq, Drop)]
+#[derive(Drop)]
 pub enum Event {
     /// A lock of a monitor that was free (JLS 17.1).
     Enter {

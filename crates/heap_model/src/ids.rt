@@ -8,15 +8,15 @@ ghost use Rattle.heap_model.specs.declared.limits.TheConstants.{LANES};
 use crate::limits::LANES;
 
 /// An object, numbered from 0 in the order of declaration. Each object has one monitor.
-#[derive(Clone, Copy, Debug, PartialEq, Eq, PartialOrd, Ord, Hash)]
+#[derive(Clone, Copy, Debug, PartialEq, Eq)]
 pub struct ObjectId(pub u32);
 
 /// A field, numbered from 0 over all objects, in the order of declaration.
-#[derive(Clone, Copy, Debug, PartialEq, Eq, PartialOrd, Ord, Hash)]
+#[derive(Clone, Copy, Debug, PartialEq, Eq)]
 pub struct FieldId(pub u32);
 
 /// A thread and its log, numbered from 0. Texts show lane 0 as `t1`.
-#[derive(Clone, Copy, Debug, PartialEq, Eq, PartialOrd, Ord, Hash)]
+#[derive(Clone, Copy, Debug, PartialEq, Eq)]
 pub struct Lane(pub u8);
 
 impl Lane {

@@ -9,7 +9,7 @@ use crate::ids::{FieldId, Lane, ObjectId};
 ///
 /// A `number` is the release number that the acquire found: how often the monitor had become free
 /// since the heap was opened. A release carries the number of its acquire.
-#[derive(Clone, Copy, Debug, PartialEq, Eq, Hash)]
+#[derive(Clone, Copy, Debug, PartialEq, Eq)]
 pub enum Record {
     /// The thread took the monitor, which was free (JLS 17.1).
     Acq {
@@ -35,7 +35,7 @@ pub enum Record {
 }
 
 /// What the undo log keeps of a [`Record`]: all but the new value of a store (Atlas, OOPSLA 2014).
-#[derive(Clone, Copy, Debug, PartialEq, Eq, Hash)]
+#[derive(Clone, Copy, Debug, PartialEq, Eq)]
 pub enum UndoRecord {
     /// As [`Record::Acq`].
     Acq { object: ObjectId, number: u64 },
@@ -48,7 +48,7 @@ pub enum UndoRecord {
 }
 
 /// A lane's record.
-#[derive(Clone, Copy, Debug, PartialEq, Eq, Hash)]
+#[derive(Clone, Copy, Debug, PartialEq, Eq)]
 pub struct LaneRecord {
     pub lane: Lane,
     pub record: Record,
