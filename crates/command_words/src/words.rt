@@ -338,19 +338,13 @@ fn play<'a>(alloc: Global) -> Result<Command<'a>, AllocError>
 fn command<'a>(alloc: Global) -> Result<Command<'a>, AllocError>
     ensures { IfOk result (λ command. app_of command ≡ program) }
 {
-    let play = play(alloc)?;
-    let format = format(alloc)?;
-    let show = show(alloc)?;
-    let recover = recover(alloc)?;
-    let upgrade = upgrade(alloc)?;
-    let drive = drive(alloc)?;
-    let dump = dump(alloc)?;
-    play.subcommand(format)?
-        .subcommand(show)?
-        .subcommand(recover)?
-        .subcommand(upgrade)?
-        .subcommand(drive)?
-        .subcommand(dump)
+    play(alloc)?
+        .subcommand(format(alloc)?)?
+        .subcommand(show(alloc)?)?
+        .subcommand(recover(alloc)?)?
+        .subcommand(upgrade(alloc)?)?
+        .subcommand(drive(alloc)?)?
+        .subcommand(dump(alloc)?)
 }
 
 /// Reads the words; the program's name comes first.
