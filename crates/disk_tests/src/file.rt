@@ -1,39 +1,25 @@
 //! Disks over real files, and over one that fails, is interrupted and moves a byte at a time.
-use crate::calls::{Answer, read, read_all, sync, write};
-use crate::flaky_file::{FlakyFile, Medium};
-use block_disk::{Disk, DiskError};
+use crate::flaky_file::Medium;
+use crate::steps::{BEYOND, FAULT, OK, Step, go_so, go_so_alone};
+use block_disk::Disk;
 use file_disk::{FileDisk, FileError};
 use std::alloc::Global;
 use std::fs;
 
-type Two = Result<[u8; 2], DiskError>;
-
-type Four = Result<[u8; 4], DiskError>;
-
-const FAULT: Answer = Err(DiskError::Fault);
-
-// What a disk of zeros reads, what two writes and syncs of it answer, and a write that is refused, and the failures then.
-fn rewrite<D: Disk>(disk: &mut D) -> (Four, [Answer; 5], u64) {
-    let zeros = read_all(disk);
-    let answers = [
-        write(disk, 1, &[5, 6]),
-        sync(disk),
-        write(disk, 3, &[7]),
-        sync(disk),
-        write(disk, 3, &[8, 9]),
-    ];
-    (zeros, answers, disk.failures())
+// Whether these steps go so on a new disk of so many bytes.
+fn go_so_in(rt: &HostRuntime, path: &str, size: u64, steps: &[Step<'_>]) -> bool {
+    match FileDisk::create(rt, rt.alloc(), path, size) {
+        Ok(mut disk) => go_so_alone(&mut disk, steps),
+        Err(_) => false,
+    }
 }
 
-fn rewritten(rt: &HostRuntime) -> Option<(Four, [Answer; 5], u64)> {
-    let mut disk = FileDisk::create(rt, rt.alloc(), "image", 4).ok()?;
-    Some(rewrite(&mut disk))
-}
-
-// What the disk in the file reads.
-fn attached(rt: &HostRuntime) -> Option<Four> {
-    let mut disk = FileDisk::attach(rt, rt.alloc(), "image").ok()?;
-    Some(read_all(&mut disk))
+// The same on the disk in the file.
+fn go_so_again(rt: &HostRuntime, path: &str, steps: &[Step<'_>]) -> bool {
+    match FileDisk::attach(rt, rt.alloc(), path) {
+        Ok(mut disk) => go_so_alone(&mut disk, steps),
+        Err(_) => false,
+    }
 }
 
 fn file_has(rt: &HostRuntime, bytes: &[u8]) -> bool {
@@ -47,162 +33,153 @@ fn write_file(rt: &HostRuntime, bytes: &[u8]) -> bool {
     fs::write(rt, "image", bytes).is_ok()
 }
 
-#[test]
-fn a_file_is_attached_with_what_was_written(rt: HostRuntime) {
-    let answers = [Ok(()), Ok(()), Ok(()), Ok(()), Err(DiskError::OutOfRange)];
-    assert!(rt;
-        (
-            write_file(&rt, &[9; 20]),
-            rewritten(&rt),
-            file_has(&rt, &[0, 5, 6, 7]),
-            attached(&rt)
-        ) == (
-            true,
-            Some((Ok([0; 4]), answers, 0)),
-            true,
-            Some(Ok([0, 5, 6, 7]))
-        )
-    );
+const REWRITTEN: &[Step<'_>] = &[
+    Step::Size(4),
+    Step::Read(0, &[0; 4]),
+    Step::Write(1, &[5, 6], OK),
+    Step::Sync(OK),
+    Step::Write(3, &[7], OK),
+    Step::Sync(OK),
+    Step::Write(3, &[8, 9], BEYOND),
+    Step::Failures(0),
+];
+
+const ATTACHED: &[Step<'_>] = &[Step::Size(4), Step::Read(0, &[0, 5, 6, 7])];
+
+fn is_attached(rt: &HostRuntime) -> bool {
+    write_file(rt, &[9; 20])
+        && go_so_in(rt, "image", 4, REWRITTEN)
+        && file_has(rt, &[0, 5, 6, 7])
+        && go_so_again(rt, "image", ATTACHED)
 }
 
-// What is read of a file that somebody else writes meanwhile, before and then, and the failures.
-fn read_of_two_files(rt: &HostRuntime) -> Option<(Four, [Two; 2], u64)> {
-    let mut disk = FileDisk::attach(rt, rt.alloc(), "image").ok()?;
-    let before = read_all(&mut disk);
-    if !write_file(rt, &[0, 5, 9, 7]) {
-        return None;
+#[test]
+fn a_file_is_attached_with_what_was_written(rt: HostRuntime) {
+    assert!(rt; is_attached(&rt));
+}
+
+const DIFFERING: &[Step<'_>] = &[
+    Step::Read(0, &[0, 5]),
+    Step::NoRead(1, FAULT),
+    Step::Failures(1),
+];
+
+// Before somebody else writes the file, and then.
+fn go_so_over_two_files<D: Disk>(rt: &HostRuntime, disk: &mut D) -> bool {
+    go_so_alone(disk, ATTACHED) && write_file(rt, &[0, 5, 9, 7]) && go_so_alone(disk, DIFFERING)
+}
+
+fn is_told(rt: &HostRuntime) -> bool {
+    match FileDisk::attach(rt, rt.alloc(), "image") {
+        Ok(mut disk) => go_so_over_two_files(rt, &mut disk),
+        Err(_) => false,
     }
-    let after = [read(&mut disk, 0), read(&mut disk, 1)];
-    Some((before, after, disk.failures()))
 }
 
 // A fault where it differs.
 #[test]
 fn a_file_that_differs_is_a_fault(rt: HostRuntime) {
-    assert!(rt;
-        (write_file(&rt, &[0, 5, 6, 7]), read_of_two_files(&rt))
-            == (
-                true,
-                Some((Ok([0, 5, 6, 7]), [Ok([0, 5]), Err(DiskError::Fault)], 1))
-            )
-    );
+    assert!(rt; write_file(&rt, &[0, 5, 6, 7]) && is_told(&rt));
 }
 
-fn refusal(rt: &HostRuntime) -> Option<FileError> {
-    FileDisk::attach(rt, rt.alloc(), "missing").err()
+fn is_missing(rt: &HostRuntime) -> bool {
+    match FileDisk::attach(rt, rt.alloc(), "missing") {
+        Ok(_) => false,
+        Err(why) => why == FileError::Fault,
+    }
 }
 
-// What a sync of an empty disk answers, and how many bytes its file has then.
-fn empty_disk(rt: &HostRuntime) -> Option<(Answer, u64)> {
-    let mut none = FileDisk::create(rt, rt.alloc(), "none", 0).ok()?;
-    let synced = sync(&mut none);
-    let again = FileDisk::attach(rt, rt.alloc(), "none").ok()?;
-    Some((synced, again.size()))
+fn is_empty(rt: &HostRuntime) -> bool {
+    go_so_in(rt, "none", 0, &[Step::Sync(OK)]) && go_so_again(rt, "none", &[Step::Size(0)])
 }
 
 #[test]
 fn a_missing_file_is_a_fault_and_an_empty_one_is_none(rt: HostRuntime) {
-    assert!(rt; (refusal(&rt), empty_disk(&rt)) == (Some(FileError::Fault), Some((Ok(()), 0))));
+    assert!(rt; is_missing(&rt) && is_empty(&rt));
 }
 
-type Disk4<'a> = FileDisk<FlakyFile<'a>>;
+const MENDED: &[Step<'_>] = &[
+    // The file was emptied for the disk.
+    Step::Keeps(&[0, 0, 0, 0]),
+    // A torn write: the file has half of it, and a read there is a fault until it is written again.
+    Step::Fail(1),
+    Step::Write(0, &[1, 2], FAULT),
+    Step::NoRead(0, FAULT),
+    Step::Read(2, &[0, 0]),
+    Step::Sync(OK),
+    Step::Keeps(&[1, 2, 0, 0]),
+    // A sync that fails, after which the system forgets what it couldn't keep; so does the next one, while it writes again.
+    Step::Write(3, &[4], OK),
+    Step::Fail(1),
+    Step::Sync(FAULT),
+    Step::Forget,
+    Step::Fail(1),
+    Step::Sync(FAULT),
+    Step::Sync(OK),
+    Step::Keeps(&[1, 2, 0, 4]),
+    // A read that fails.
+    Step::Fail(1),
+    Step::NoRead(0, FAULT),
+    Step::Size(4),
+    Step::Read(0, &[1, 2, 0, 4]),
+    Step::Failures(5),
+];
 
-// A torn write: the file has half of it, and a read there is a fault until it is written again.
-fn tear_a_write(medium: &Medium, disk: &mut Disk4<'_>) -> ([Answer; 2], [Two; 2], bool) {
-    medium.fail(1);
-    let torn = write(disk, 0, &[1, 2]);
-    let read_then = [read(disk, 0), read(disk, 2)];
-    let synced = sync(disk);
-    ([torn, synced], read_then, medium.keeps(&[1, 2, 0, 0]))
-}
-
-// A sync that fails, after which the system forgets what it couldn't keep; so does the next one, while it writes again.
-fn fail_two_syncs(medium: &Medium, disk: &mut Disk4<'_>) -> ([Answer; 4], bool) {
-    let written = write(disk, 3, &[4]);
-    medium.fail(1);
-    let first = sync(disk);
-    medium.forget();
-    medium.fail(1);
-    let second = sync(disk);
-    let third = sync(disk);
-    ([written, first, second, third], medium.keeps(&[1, 2, 0, 4]))
-}
-
-fn fail_a_read(medium: &Medium, disk: &mut Disk4<'_>) -> (Two, Four) {
-    medium.fail(1);
-    (read(disk, 0), read_all(disk))
-}
-
-// What each of these answers and leaves, with whether the file was emptied for the disk, and the failures at last.
-type Mended = (
-    bool,
-    ([Answer; 2], [Two; 2], bool),
-    ([Answer; 4], bool),
-    (Two, Four),
-    u64,
-);
-
-fn mended(alloc: Global) -> Option<Mended> {
+fn is_mended(alloc: Global) -> bool {
     let medium = Medium::of(&[9, 9, 9, 9, 9]);
-    let mut disk = FileDisk::filled(alloc, medium.file(), 4).ok()?;
-    Some((
-        medium.keeps(&[0, 0, 0, 0]),
-        tear_a_write(&medium, &mut disk),
-        fail_two_syncs(&medium, &mut disk),
-        fail_a_read(&medium, &mut disk),
-        disk.failures(),
-    ))
+    match FileDisk::filled(alloc, medium.file(), 4) {
+        Ok(mut disk) => go_so(&medium, &mut disk, MENDED),
+        Err(_) => false,
+    }
 }
 
 #[test]
 fn a_fault_of_the_file_is_counted_and_mended_by_the_next_sync(rt: HostRuntime) {
-    let torn = ([FAULT, Ok(())], [Err(DiskError::Fault), Ok([0, 0])], true);
-    let synced = ([Ok(()), FAULT, FAULT, Ok(())], true);
-    let found = (Err(DiskError::Fault), Ok([1, 2, 0, 4]));
-    assert!(rt; mended(rt.alloc()) == Some((true, torn, synced, found, 5)));
+    assert!(rt; is_mended(rt.alloc()));
 }
 
 // Whether no disk is made in a file whose call of this number fails.
 fn is_not_filled(alloc: Global, call: u64) -> bool {
-    let medium = Medium::of(&[1, 2]);
-    medium.fail(call);
-    matches!(
-        FileDisk::filled(alloc, medium.file(), 4),
-        Err(FileError::Fault)
-    )
+    let medium = Medium::failing(&[1, 2], call);
+    match FileDisk::filled(alloc, medium.file(), 4) {
+        Ok(_) => false,
+        Err(why) => why == FileError::Fault,
+    }
 }
 
 fn is_not_found(alloc: Global, call: u64) -> bool {
-    let medium = Medium::of(&[1, 2]);
-    medium.fail(call);
-    matches!(FileDisk::found(alloc, medium.file()), Err(FileError::Fault))
+    let medium = Medium::failing(&[1, 2], call);
+    match FileDisk::found(alloc, medium.file()) {
+        Ok(_) => false,
+        Err(why) => why == FileError::Fault,
+    }
 }
 
 #[test]
 fn a_fault_at_each_call_makes_no_disk(rt: HostRuntime) {
     let alloc = rt.alloc();
-    assert!(rt;
-        [
-            is_not_filled(alloc, 1),
-            is_not_filled(alloc, 2),
-            is_not_filled(alloc, 3),
-            is_not_found(alloc, 1),
-            is_not_found(alloc, 2)
-        ] == [true; 5]
-    );
+    assert!(rt; is_not_filled(alloc, 1) && is_not_filled(alloc, 2) && is_not_filled(alloc, 3));
+    assert!(rt; is_not_found(alloc, 1) && is_not_found(alloc, 2));
 }
 
+const GOING_ON: &[Step<'_>] = &[
+    Step::Sync(FAULT),
+    Step::Size(4),
+    Step::Read(0, &[1, 2, 3, 4]),
+];
+
 // The third call of the file is that of the sync.
-fn found_and_failing(alloc: Global) -> Option<(Answer, Four)> {
-    let medium = Medium::of(&[1, 2, 3, 4]);
-    medium.fail(3);
-    let mut disk = FileDisk::found(alloc, medium.file()).ok()?;
-    Some((sync(&mut disk), read_all(&mut disk)))
+fn is_going_on(alloc: Global) -> bool {
+    let medium = Medium::failing(&[1, 2, 3, 4], 3);
+    match FileDisk::found(alloc, medium.file()) {
+        Ok(mut disk) => go_so(&medium, &mut disk, GOING_ON),
+        Err(_) => false,
+    }
 }
 
 #[test]
 fn a_disk_that_was_found_goes_on_after_a_fault(rt: HostRuntime) {
-    assert!(rt; found_and_failing(rt.alloc()) == Some((FAULT, Ok([1, 2, 3, 4]))));
+    assert!(rt; is_going_on(rt.alloc()));
 }
 
 // Whether the file of three bytes is attached, or there is no memory for it.
@@ -228,24 +205,17 @@ fn file_has_three_bytes(rt: &HostRuntime) -> bool {
     }
 }
 
-// What a new disk of four bytes reads; none where there is no memory for it.
-fn created(rt: &HostRuntime) -> Option<Four> {
-    let mut disk = FileDisk::create(rt, rt.alloc(), "image", 4).ok()?;
-    Some(read_all(&mut disk))
+// Whether a new disk of four bytes has zeros.
+fn is_created(rt: &HostRuntime) -> bool {
+    go_so_in(rt, "image", 4, &[Step::Size(4), Step::Read(0, &[0; 4])])
 }
 
 // Run with each allocation refused in turn: there is no disk then and an old file is as it was, and the next time there is.
 #[test]
 fn a_refused_allocation_makes_no_disk(rt: HostRuntime) {
-    assert!(rt;
-        [
-            write_file(&rt, &[1, 2, 3]),
-            is_attached_or_refused(&rt),
-            is_attached_or_refused(&rt),
-            is_created_or_refused(&rt),
-            created(&rt) == Some(Ok([0; 4])) || created(&rt) == Some(Ok([0; 4]))
-        ] == [true; 5]
-    );
+    assert!(rt; write_file(&rt, &[1, 2, 3]));
+    assert!(rt; is_attached_or_refused(&rt) && is_attached_or_refused(&rt));
+    assert!(rt; is_created_or_refused(&rt) && (is_created(&rt) || is_created(&rt)));
 }
 
 fn reads_as(alloc: Global, error: FileError, words: &str) -> bool {
@@ -257,10 +227,6 @@ fn reads_as(alloc: Global, error: FileError, words: &str) -> bool {
 
 #[test]
 fn errors_have_texts(rt: HostRuntime) {
-    assert!(rt;
-        [
-            reads_as(rt.alloc(), FileError::Fault, "fault"),
-            reads_as(rt.alloc(), FileError::NoMemory, "no memory")
-        ] == [true; 2]
-    );
+    assert!(rt; reads_as(rt.alloc(), FileError::Fault, "fault"));
+    assert!(rt; reads_as(rt.alloc(), FileError::NoMemory, "no memory"));
 }

@@ -64,6 +64,13 @@ impl Medium {
         }
     }
 
+    /// The same, in a file whose call of this number fails.
+    pub fn failing(bytes: &[u8], call: u64) -> Medium {
+        let medium = Medium::of(bytes);
+        medium.fail(call);
+        medium
+    }
+
     /// The file that has them.
     pub fn file(&self) -> FlakyFile<'_> {
         FlakyFile {
@@ -98,6 +105,17 @@ impl Medium {
         (self.writes.get(), self.settles.get())
     }
 
+    fn byte(&self, place: usize) -> Option<u8> {
+        self.bytes.get().as_slice().get(place).copied()
+    }
+
+    fn put(&self, place: usize, byte: u8) -> bool {
+        let mut content = self.bytes.get();
+        let is_put = content.put(place, byte);
+        self.bytes.set(content);
+        is_put
+    }
+
     fn is_due(&self) -> bool {
         let left = self.fails_in.get();
         self.fails_in.set(left.saturating_sub(1));
@@ -118,39 +136,47 @@ pub struct FlakyFile<'a> {
 }
 
 impl FlakyFile<'_> {
-    fn interrupt(&mut self) -> io::Result<()> {
+    // Whether this call is interrupted.
+    fn interrupts(&mut self) -> bool {
         self.is_interrupted = !self.is_interrupted;
-        if self.is_interrupted {
-            return Err(ErrorKind::Interrupted.into());
-        }
-        Ok(())
+        self.is_interrupted
+    }
+
+    // Writes the first of these bytes, and fails.
+    fn tear(&mut self, at: u64, bytes: &[u8]) -> io::Result<()> {
+        let torn = bytes.len().min(1);
+        write_there(self, at, &bytes[..torn])?;
+        Err(ErrorKind::Other.into())
     }
 }
 
 impl Read for FlakyFile<'_> {
     fn read(&mut self, out: &mut [u8]) -> io::Result<usize> {
-        self.interrupt()?;
-        let content = self.medium.bytes.get();
-        let (Some(byte), Some(first)) = (content.as_slice().get(self.place), out.first_mut()) else {
-            return Ok(0);
-        };
-        *first = *byte;
-        self.place = self.place.saturating_add(1);
-        Ok(1)
+        if self.interrupts() {
+            return Err(ErrorKind::Interrupted.into());
+        }
+        match self.medium.byte(self.place) {
+            Some(byte) if !out.is_empty() => {
+                out[0] = byte;
+                self.place = self.place.saturating_add(1);
+                Ok(1)
+            }
+            _ => Ok(0),
+        }
     }
 }
 
 impl Write for FlakyFile<'_> {
     fn write(&mut self, bytes: &[u8]) -> io::Result<usize> {
-        self.interrupt()?;
+        if self.interrupts() {
+            return Err(ErrorKind::Interrupted.into());
+        }
         let Some(byte) = bytes.first() else {
             return Ok(0);
         };
-        let mut content = self.medium.bytes.get();
-        if !content.put(self.place, *byte) {
+        if !self.medium.put(self.place, *byte) {
             return Err(ErrorKind::OutOfMemory.into());
         }
-        self.medium.bytes.set(content);
         self.place = self.place.saturating_add(1);
         Ok(1)
     }
@@ -195,9 +221,7 @@ impl BackingFile for FlakyFile<'_> {
     fn write_to(&mut self, at: u64, bytes: &[u8]) -> io::Result<()> {
         count(&self.medium.writes);
         if self.medium.is_due() {
-            let torn = bytes.len().min(1);
-            write_there(self, at, &bytes[..torn])?;
-            return Err(ErrorKind::Other.into());
+            return self.tear(at, bytes);
         }
         write_there(self, at, bytes)
     }

@@ -1,18 +1,18 @@
 //! Tests of disks, by public calls.
 //!
-//! They stand in a crate of their own, since a crate with tests is proved twice. A scenario is a function that answers
-//! plain words, which its test compares once.
+//! They stand in a crate of their own, since a crate with tests is proved twice. A scenario is a table of steps, each with
+//! what is to come of it, or a function that answers plain words, which its test compares once.
 #![tactic(auto)]
 
 #[cfg(test)]
 mod buffered;
-#[cfg(test)]
-mod calls;
 #[cfg(test)]
 mod file;
 #[cfg(test)]
 mod flaky_file;
 #[cfg(test)]
 mod memory;
+#[cfg(test)]
+mod steps;
 #[cfg(test)]
 mod units;

@@ -2,25 +2,11 @@
 ghost use Rattle.std.specs.Prelude.{◌≤◌, length};
 ghost use Rattle.block_disk.specs.Memory.{device_of};
 
+use crate::steps::{Answer, BEYOND, FAULT, OK, Step, go_so_alone, sync, write};
 use block_disk::{
     Disk, DiskError, Fault, Fill, MemDisk, make_durable, read_within, write_through, write_within,
 };
 use std::alloc::Global;
-
-type Answer = Result<(), DiskError>;
-
-// The disk's calls without their contract: what a test's proof doesn't need, it doesn't carry.
-fn write(disk: &mut MemDisk, at: u64, bytes: &[u8]) -> Answer {
-    disk.write_at(at, bytes)
-}
-
-fn read(disk: &mut MemDisk, at: u64, out: &mut [u8]) -> Answer {
-    disk.read_at(at, out)
-}
-
-fn sync(disk: &mut MemDisk) -> Answer {
-    disk.sync()
-}
 
 // Makes the call of this number from now on a fault.
 fn fail(disk: &mut MemDisk, call: u64)
@@ -47,162 +33,164 @@ fn leaves_with(disk: &MemDisk, k: u64, fill: Fill, bytes: &[u8]) -> bool {
     }
 }
 
-// The same for each fill; the byte of the third is 0.
-fn leaves(disk: &MemDisk, k: u64, lost: &[u8], kept: &[u8], zeros: &[u8]) -> bool {
+// What a crash leaves where pending writes are lost, where they are kept, and where each byte of theirs is 0.
+type Left<'a> = [&'a [u8]; 3];
+
+fn leaves(disk: &MemDisk, k: u64, wanted: Left<'_>) -> bool {
+    let [lost, kept, zeros] = wanted;
     leaves_with(disk, k, Fill::Lost, lost)
         && leaves_with(disk, k, Fill::Kept, kept)
         && leaves_with(disk, k, Fill::Byte(0), zeros)
 }
 
-// Two writes that overlap, a sync, and two more that overlap.
-fn overlapping(alloc: Global) -> Option<MemDisk> {
-    let mut disk = MemDisk::from_bytes(alloc, &[1, 2, 3, 4, 5, 6]).ok()?;
-    write(&mut disk, 1, &[11, 12, 13]).ok()?;
-    write(&mut disk, 2, &[21, 22]).ok()?;
-    sync(&mut disk).ok()?;
-    write(&mut disk, 4, &[31, 32]).ok()?;
-    write(&mut disk, 3, &[41, 42]).ok()?;
-    Some(disk)
+// Whether the stops, from the first to the end, leave what they are to, and there is none before them or behind.
+fn are_left(disk: &MemDisk, stops: &[Left<'_>]) -> bool {
+    let mut k = 0u64;
+    for wanted in stops {
+        k = k.saturating_add(1);
+        if !leaves(disk, k, *wanted) {
+            return false;
+        }
+    }
+    is_no_stop(disk, 0) && is_no_stop(disk, k.saturating_add(1))
 }
 
-// Its stops, and whether each of them, and the end, leaves what it is to. There is no stop before them, or behind.
-fn overlapping_left(alloc: Global) -> Option<(u64, [bool; 8])> {
-    let disk = overlapping(alloc)?;
-    let first = [1, 2, 3, 4, 5, 6];
-    let synced = [1, 11, 21, 22, 5, 6];
-    let zeros = [1, 0, 0, 0, 5, 6];
-    let last = [1, 11, 21, 41, 42, 32];
-    let last_zeros = [1, 11, 21, 0, 0, 0];
-    let fourth = [1, 11, 21, 22, 31, 32];
-    let found = [
-        left(&disk, 0, Fill::Kept).is_none(),
-        leaves(&disk, 1, &first, &[1, 11, 12, 13, 5, 6], &zeros),
-        leaves(&disk, 2, &first, &synced, &zeros),
-        leaves(&disk, 3, &first, &synced, &zeros),
-        leaves(&disk, 4, &synced, &fourth, &[1, 11, 21, 22, 0, 0]),
-        leaves(&disk, 5, &synced, &last, &last_zeros),
-        leaves(&disk, 6, &synced, &last, &last_zeros),
-        left(&disk, 7, Fill::Kept).is_none(),
-    ];
-    Some((disk.stops(), found))
+fn is_no_stop(disk: &MemDisk, k: u64) -> bool {
+    left(disk, k, Fill::Kept).is_none()
 }
+
+// Whether these steps go so on a disk of these bytes, and each of its stops leaves then what it is to.
+fn lives_so(alloc: Global, bytes: &[u8], steps: &[Step<'_>], stops: &[Left<'_>]) -> bool {
+    match MemDisk::from_bytes(alloc, bytes) {
+        Ok(mut disk) => go_so_alone(&mut disk, steps) && are_left(&disk, stops),
+        Err(_) => false,
+    }
+}
+
+// Two writes that overlap, a sync, and two more that overlap.
+const OVERLAPPING: &[Step<'_>] = &[
+    Step::Write(1, &[11, 12, 13], OK),
+    Step::Write(2, &[21, 22], OK),
+    Step::Sync(OK),
+    Step::Write(4, &[31, 32], OK),
+    Step::Write(3, &[41, 42], OK),
+];
 
 #[test]
 fn a_crash_finds_overlapping_writes_pending_until_the_sync(rt: HostRuntime) {
-    assert!(rt; overlapping_left(rt.alloc()) == Some((5, [true; 8])));
+    let first: &[u8] = &[1, 2, 3, 4, 5, 6];
+    let synced: &[u8] = &[1, 11, 21, 22, 5, 6];
+    let zeros: &[u8] = &[1, 0, 0, 0, 5, 6];
+    let last: &[u8] = &[1, 11, 21, 41, 42, 32];
+    let last_zeros: &[u8] = &[1, 11, 21, 0, 0, 0];
+    let stops: [Left<'_>; 6] = [
+        [first, &[1, 11, 12, 13, 5, 6], zeros],
+        [first, synced, zeros],
+        [first, synced, zeros],
+        [synced, &[1, 11, 21, 22, 31, 32], &[1, 11, 21, 22, 0, 0]],
+        [synced, last, last_zeros],
+        [synced, last, last_zeros],
+    ];
+    assert!(rt; lives_so(rt.alloc(), first, OVERLAPPING, &stops));
 }
 
 // A write of as many bytes as the disk keeps in place, a sync, a write of one byte more, and one of one less over it.
-fn short_and_long(alloc: Global) -> Option<MemDisk> {
-    let mut disk = MemDisk::from_bytes(alloc, &[9; 18]).ok()?;
-    write(&mut disk, 1, &[1; 16]).ok()?;
-    sync(&mut disk).ok()?;
-    write(&mut disk, 0, &[2; 17]).ok()?;
-    write(&mut disk, 3, &[3; 15]).ok()?;
-    Some(disk)
-}
-
-// Its stops, and whether each of them leaves what it is to.
-fn short_and_long_left(alloc: Global) -> Option<(u64, [bool; 4])> {
-    let disk = short_and_long(alloc)?;
-    let first = [9; 18];
-    let synced = [9, 1, 1, 1, 1, 1, 1, 1, 1, 1, 1, 1, 1, 1, 1, 1, 1, 9];
-    let zeros = [9, 0, 0, 0, 0, 0, 0, 0, 0, 0, 0, 0, 0, 0, 0, 0, 0, 9];
-    let third = [2, 2, 2, 2, 2, 2, 2, 2, 2, 2, 2, 2, 2, 2, 2, 2, 2, 9];
-    let third_zeros = [0, 0, 0, 0, 0, 0, 0, 0, 0, 0, 0, 0, 0, 0, 0, 0, 0, 9];
-    let last = [2, 2, 2, 3, 3, 3, 3, 3, 3, 3, 3, 3, 3, 3, 3, 3, 3, 3];
-    let found = [
-        leaves(&disk, 1, &first, &synced, &zeros),
-        leaves(&disk, 2, &first, &synced, &zeros),
-        leaves(&disk, 3, &synced, &third, &third_zeros),
-        leaves(&disk, 4, &synced, &last, &[0; 18]),
-    ];
-    Some((disk.stops(), found))
-}
+const SHORT_AND_LONG: &[Step<'_>] = &[
+    Step::Write(1, &[1; 16], OK),
+    Step::Sync(OK),
+    Step::Write(0, &[2; 17], OK),
+    Step::Write(3, &[3; 15], OK),
+];
 
 #[test]
 fn a_crash_finds_short_and_long_writes_alike(rt: HostRuntime) {
-    assert!(rt; short_and_long_left(rt.alloc()) == Some((4, [true; 4])));
-}
-
-// A write, a write and a sync that fail, and a write, with what they answer.
-fn with_two_faults(alloc: Global) -> Option<(MemDisk, [Answer; 4])> {
-    let mut disk = MemDisk::from_bytes(alloc, &[1, 2, 3, 4]).ok()?;
-    fail(&mut disk, 2);
-    let first = write(&mut disk, 0, &[9]);
-    let second = write(&mut disk, 1, &[8, 8]);
-    fail(&mut disk, 1);
-    let third = sync(&mut disk);
-    let last = write(&mut disk, 2, &[7]);
-    Some((disk, [first, second, third, last]))
-}
-
-// A read counts as a call, and so does a write out of range; neither is a stop. The byte that the reads leave alone.
-fn calls_that_are_no_stops(disk: &mut MemDisk) -> ([Answer; 5], u8) {
-    let mut out = [0];
-    fail(disk, 1);
-    let failed_read = read(disk, 0, &mut out);
-    fail(disk, 1);
-    let failed_write = write(disk, 4, &[1]);
-    let answers = [
-        failed_read,
-        failed_write,
-        write(disk, 4, &[1]),
-        write(disk, u64::MAX, &[1]),
-        read(disk, u64::MAX, &mut out),
+    let first: &[u8] = &[9; 18];
+    let synced: &[u8] = &[9, 1, 1, 1, 1, 1, 1, 1, 1, 1, 1, 1, 1, 1, 1, 1, 1, 9];
+    let zeros: &[u8] = &[9, 0, 0, 0, 0, 0, 0, 0, 0, 0, 0, 0, 0, 0, 0, 0, 0, 9];
+    let third: &[u8] = &[2, 2, 2, 2, 2, 2, 2, 2, 2, 2, 2, 2, 2, 2, 2, 2, 2, 9];
+    let third_zeros: &[u8] = &[0, 0, 0, 0, 0, 0, 0, 0, 0, 0, 0, 0, 0, 0, 0, 0, 0, 9];
+    let last: &[u8] = &[2, 2, 2, 3, 3, 3, 3, 3, 3, 3, 3, 3, 3, 3, 3, 3, 3, 3];
+    let stops: [Left<'_>; 5] = [
+        [first, synced, zeros],
+        [first, synced, zeros],
+        [synced, third, third_zeros],
+        [synced, last, &[0; 18]],
+        [synced, last, &[0; 18]],
     ];
-    (answers, out[0])
+    assert!(rt; lives_so(rt.alloc(), first, SHORT_AND_LONG, &stops));
 }
 
-// What all those calls answer, and a sync and a write behind them, with the stops and the failures then.
-fn failing(alloc: Global) -> Option<(MemDisk, [Answer; 11], [u64; 3])> {
-    let (mut disk, [a, b, c, d]) = with_two_faults(alloc)?;
-    let ([e, f, g, h, i], byte) = calls_that_are_no_stops(&mut disk);
-    let j = sync(&mut disk);
-    let k = write(&mut disk, 0, &[5, 5]);
-    let numbers = [disk.stops(), disk.failures(), u64::from(byte)];
-    Some((disk, [a, b, c, d, e, f, g, h, i, j, k], numbers))
+// A write, a write that fails, a sync that fails, and a write. A read counts as a call, and so does a write out of range;
+// neither is a stop.
+const FAILING: [(u64, &[Step<'_>]); 4] = [
+    (
+        2,
+        &[Step::Write(0, &[9], OK), Step::Write(1, &[8, 8], FAULT)],
+    ),
+    (1, &[Step::Sync(FAULT), Step::Write(2, &[7], OK)]),
+    (1, &[Step::NoRead(0, FAULT)]),
+    (
+        1,
+        &[
+            Step::Write(4, &[1], FAULT),
+            Step::Write(4, &[1], BEYOND),
+            Step::Write(u64::MAX, &[1], BEYOND),
+            Step::NoRead(u64::MAX, BEYOND),
+            Step::Sync(OK),
+            Step::Write(0, &[5, 5], OK),
+            Step::Failures(4),
+        ],
+    ),
+];
+
+// Makes the call of the first number from now on a fault, takes the steps, and so on; whether they go so.
+fn runs_go_so(disk: &mut MemDisk, runs: &[(u64, &[Step<'_>])]) -> bool {
+    for (call, steps) in runs {
+        fail(disk, (*call).max(1));
+        if !go_so_alone(disk, steps) {
+            return false;
+        }
+    }
+    true
 }
 
-// Whether each stop leaves what it is to.
-fn failing_left(disk: &MemDisk) -> [bool; 7] {
-    let first = [1, 2, 3, 4];
-    let zeros = [0, 0, 0, 4];
-    let synced = [9, 2, 7, 4];
-    [
-        leaves(disk, 1, &first, &[9, 2, 3, 4], &[0, 2, 3, 4]),
-        leaves(disk, 2, &first, &[9, 2, 3, 4], &zeros),
-        leaves(disk, 3, &first, &[9, 2, 3, 4], &zeros),
-        leaves(disk, 4, &first, &synced, &zeros),
-        leaves(disk, 5, &first, &synced, &zeros),
-        leaves(disk, 6, &synced, &[5, 5, 7, 4], &[0, 0, 7, 4]),
-        leaves(disk, 7, &synced, &[5, 5, 7, 4], &[0, 0, 7, 4]),
-    ]
-}
-
-fn failing_found(alloc: Global) -> Option<([Answer; 11], [u64; 3], [bool; 7])> {
-    let (disk, answers, numbers) = failing(alloc)?;
-    Some((answers, numbers, failing_left(&disk)))
+fn fails_so(alloc: Global, stops: &[Left<'_>]) -> bool {
+    match MemDisk::from_bytes(alloc, &[1, 2, 3, 4]) {
+        Ok(mut disk) => runs_go_so(&mut disk, &FAILING) && are_left(&disk, stops),
+        Err(_) => false,
+    }
 }
 
 #[test]
 fn a_failing_write_is_pending_and_a_failing_sync_fixes_nothing(rt: HostRuntime) {
-    let fault = Err(DiskError::Fault);
-    let beyond = Err(DiskError::OutOfRange);
-    let answers = [
-        Ok(()),
-        fault,
-        fault,
-        Ok(()),
-        fault,
-        fault,
-        beyond,
-        beyond,
-        beyond,
-        Ok(()),
-        Ok(()),
+    let first: &[u8] = &[1, 2, 3, 4];
+    let zeros: &[u8] = &[0, 0, 0, 4];
+    let synced: &[u8] = &[9, 2, 7, 4];
+    let last: &[u8] = &[5, 5, 7, 4];
+    let stops: [Left<'_>; 7] = [
+        [first, &[9, 2, 3, 4], &[0, 2, 3, 4]],
+        [first, &[9, 2, 3, 4], zeros],
+        [first, &[9, 2, 3, 4], zeros],
+        [first, synced, zeros],
+        [first, synced, zeros],
+        [synced, last, &[0, 0, 7, 4]],
+        [synced, last, &[0, 0, 7, 4]],
     ];
-    assert!(rt; failing_found(rt.alloc()) == Some((answers, [6, 4, 0], [true; 7])));
+    assert!(rt; fails_so(rt.alloc(), &stops));
+}
+
+// What a read that fails answers, and the byte that it leaves alone.
+fn failing_read(alloc: Global) -> Option<(Answer, u8)> {
+    let mut disk = MemDisk::from_bytes(alloc, &[1]).ok()?;
+    let mut out = [0];
+    fail(&mut disk, 1);
+    let answer = disk.read_at(0, &mut out);
+    Some((answer, out[0]))
+}
+
+#[test]
+fn a_failing_read_leaves_its_bytes_alone(rt: HostRuntime) {
+    assert!(rt; failing_read(rt.alloc()) == Some((FAULT, 0)));
 }
 
 // What any disk does with two bytes at its start, behind its trait.
@@ -256,13 +244,9 @@ fn fault_reads(alloc: Global, words: &str) -> bool {
 
 #[test]
 fn errors_have_texts(rt: HostRuntime) {
-    assert!(rt;
-        [
-            disk_error_reads(rt.alloc(), DiskError::Fault, "fault"),
-            disk_error_reads(rt.alloc(), DiskError::OutOfRange, "out of range"),
-            fault_reads(rt.alloc(), "fault")
-        ] == [true; 3]
-    );
+    assert!(rt; disk_error_reads(rt.alloc(), DiskError::Fault, "fault"));
+    assert!(rt; disk_error_reads(rt.alloc(), DiskError::OutOfRange, "out of range"));
+    assert!(rt; fault_reads(rt.alloc(), "fault"));
 }
 
 // Every third call is a sync, and the others write their number: into one place, and into more than are kept in place.
