@@ -11,15 +11,20 @@ use store_memory::LoggedSections;
 // The size of an image with these fields and 2 lanes of 4,000 records.
 const SIZE: u64 = 130_208;
 
-// Four objects, and a field of each of the first two, which guards it; none where memory is wanting.
-pub fn schema_or_none(alloc: Global) -> Option<Schema> {
-    let mut builder = SchemaBuilder::new(alloc);
-    builder.object("o0").ok()?;
-    builder.object("o1").ok()?;
-    builder.object("o2").ok()?;
-    builder.object("o3").ok()?;
+// Four objects, and a field of each of the first two, which guards it.
+pub fn declare(builder: &mut SchemaBuilder) -> Option<()> {
+    for name in ["o0", "o1", "o2", "o3"] {
+        builder.object(name).ok()?;
+    }
     builder.field(ObjectId(0), "f0", ObjectId(0), 10).ok()?;
     builder.field(ObjectId(1), "f1", ObjectId(1), 20).ok()?;
+    Some(())
+}
+
+// A schema of these; none where memory is wanting.
+pub fn schema_or_none(alloc: Global) -> Option<Schema> {
+    let mut builder = SchemaBuilder::new(alloc);
+    declare(&mut builder)?;
     builder.build().ok()
 }
 
@@ -35,12 +40,14 @@ fn made_of(alloc: Global, schema: &Schema) -> Option<Recovered<MemDisk>> {
 fn told_of_image(alloc: Global) -> Option<(bool, u64)> {
     let schema = schema_or_none(alloc)?;
     match made_of(alloc, &schema) {
-        Some(made) => {
-            let is_first = made.heap() == [10, 20].as_slice();
-            Some((is_first, made.into_disk().stops()))
-        }
+        Some(made) => Some(told_of(made)),
         None => None,
     }
+}
+
+fn told_of(made: Recovered<MemDisk>) -> (bool, u64) {
+    let is_first = made.heap() == [10, 20].as_slice();
+    (is_first, made.into_disk().stops())
 }
 
 // Nine calls, and two for each field.

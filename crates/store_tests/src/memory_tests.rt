@@ -174,20 +174,24 @@ type Filled = (
 
 fn told_of_filled(alloc: Global) -> Option<Filled> {
     let mut applied = memory(alloc, 9)?;
-    let first = section(&mut applied, 0);
-    let second = section(&mut applied, 1);
+    Some(filled(&mut applied))
+}
+
+fn filled(applied: &mut Applied) -> Filled {
+    let first = section(applied, 0);
+    let second = section(applied, 1);
     let third = applied.apply(Lane(0), acq(0, 2));
     let new = (third, applied.fresh().len());
     applied.logged_all();
     let logged = applied.fresh().len();
     let third = applied.apply(Lane(0), acq(0, 2));
     let other = applied.apply(Lane(1), acq(0, 2));
-    Some((
+    (
         [first, second],
         [new, (third, logged)],
         other,
         applied.any_open(),
-    ))
+    )
 }
 
 // An area of 2,000 records: two sections of 1,000 are taken, and a third doesn't begin, whether they are logged or not.
@@ -199,8 +203,12 @@ fn sections_and_areas_have_an_end(rt: HostRuntime) {
 }
 
 // Whether stores of two fields are taken; and the least dirty field then, once they are logged, and as each field is home.
-fn least_dirty(alloc: Global) -> Option<(bool, [Option<FieldId>; 4])> {
+fn told_of_dirty(alloc: Global) -> Option<(bool, [Option<FieldId>; 4])> {
     let mut applied = memory(alloc, 9)?;
+    Some(least_dirty(&mut applied))
+}
+
+fn least_dirty(applied: &mut Applied) -> (bool, [Option<FieldId>; 4]) {
     let steps = [
         (1, acq(0, 0), Ok(())),
         (1, acq(1, 0), Ok(())),
@@ -208,21 +216,21 @@ fn least_dirty(alloc: Global) -> Option<(bool, [Option<FieldId>; 4])> {
         (1, put(0, 10, 11), Ok(())),
         (1, put(0, 11, 12), Ok(())),
     ];
-    let are_taken = first_other(&mut applied, &steps).is_none();
+    let are_taken = first_other(applied, &steps).is_none();
     let new = applied.least_dirty();
     applied.logged_all();
     let logged = applied.least_dirty();
     applied.home_written(FieldId(0));
     let second = applied.least_dirty();
     applied.home_written(FieldId(1));
-    Some((are_taken, [new, logged, second, applied.least_dirty()]))
+    (are_taken, [new, logged, second, applied.least_dirty()])
 }
 
 // Stores are dirty once they are logged, the least field first, until they are home.
 #[test]
 fn logged_stores_are_dirty(rt: HostRuntime) {
     let least = [None, Some(FieldId(0)), Some(FieldId(1)), None];
-    assert!(rt; least_dirty(rt.alloc()) == Some((true, least)));
+    assert!(rt; told_of_dirty(rt.alloc()) == Some((true, least)));
 }
 
 fn entry(lane: u8, record: Record) -> LaneRecord {
@@ -235,10 +243,16 @@ fn entry(lane: u8, record: Record) -> LaneRecord {
 // Whether these are taken, and are the new records then.
 fn are_fresh(alloc: Global, records: &[LaneRecord]) -> Option<bool> {
     let mut applied = memory(alloc, 9)?;
+    Some(are_applied(&mut applied, records) && applied.fresh() == records)
+}
+
+fn are_applied(applied: &mut Applied, records: &[LaneRecord]) -> bool {
     for entry in records.iter().copied() {
-        applied.apply(entry.lane, entry.record).ok()?;
+        if applied.apply(entry.lane, entry.record).is_err() {
+            return false;
+        }
     }
-    Some(applied.fresh() == records)
+    true
 }
 
 // Two lanes' records, told in turn.

@@ -1,5 +1,5 @@
 //! Stores whose answers, device calls and crash images are known.
-ghost use Rattle.std.specs.Prelude.{◌+◌, ◌-◌, ◌<◌, ◌≤◌, ◌^◌};
+ghost use Rattle.std.specs.Prelude.{◌≤◌};
 
 use crate::format_tests::schema_or_none;
 use block_disk::{Disk, Fill, MemDisk};
@@ -64,10 +64,8 @@ fn store_on(
     disk: MemDisk,
     lanes: u8,
     capacity: u32,
-    last: u64,
-) -> Option<Store<MemDisk>>
-    requires { last ≤ 2 ^ 40 - 1 }
-{
+    last: u16,
+) -> Option<Store<MemDisk>> {
     match schema_or_none(alloc) {
         Some(schema) => adopted(alloc, disk, &schema, lanes, capacity, last),
         None => None,
@@ -81,25 +79,45 @@ pub(crate) fn adopted(
     schema: &Schema,
     lanes: u8,
     capacity: u32,
-    last: u64,
-) -> Option<Store<MemDisk>>
-    requires { last ≤ 2 ^ 40 - 1 }
-{
+    last: u16,
+) -> Option<Store<MemDisk>> {
     let Ok(made) = format(alloc, disk, schema, lanes, capacity) else {
         return None;
     };
-    match Store::adopt(alloc, made, last) {
+    match Store::adopt(alloc, made, u64::from(last)) {
         Ok(store) => Some(store),
         Err(_) => None,
     }
 }
 
-fn fresh(alloc: Global, lanes: u8, last: u64) -> Option<Store<MemDisk>>
-    requires { last ≤ 2 ^ 40 - 1 }
-{
+// The same on a device as large as an image with two lanes of 4,000 records.
+fn fresh_with(alloc: Global, lanes: u8, capacity: u32, last: u16) -> Option<Store<MemDisk>> {
     match MemDisk::new(alloc, 130_208) {
-        Ok(disk) => store_on(alloc, disk, lanes, 4000, last),
+        Ok(disk) => store_on(alloc, disk, lanes, capacity, last),
         Err(_) => None,
+    }
+}
+
+fn fresh(alloc: Global, lanes: u8, last: u16) -> Option<Store<MemDisk>> {
+    fresh_with(alloc, lanes, 4000, last)
+}
+
+// A device of that size, whose call of this number fails.
+fn failing_disk(alloc: Global, call: u64) -> Option<MemDisk>
+    requires { 1 ≤ call }
+{
+    let mut disk = MemDisk::new(alloc, 130_208).ok()?;
+    disk.fail_call(call);
+    Some(disk)
+}
+
+// A store on it, with so many lanes of 4,000 records.
+fn failing(alloc: Global, call: u64, lanes: u8) -> Option<Store<MemDisk>>
+    requires { 1 ≤ call }
+{
+    match failing_disk(alloc, call) {
+        Some(disk) => store_on(alloc, disk, lanes, 4000, 9),
+        None => None,
     }
 }
 
@@ -179,33 +197,45 @@ fn last_steps() -> [Told; 7] {
     ]
 }
 
-// Whether each step answers as it is to; why the store isn't closed before the release and behind it; the sections
-// acknowledged before it and in the end; and whether the store is closed then.
-fn told_of_two_sections(
-    alloc: Global,
-) -> Option<([bool; 3], [StoreError; 2], [Option<u64>; 2], bool)> {
+// Whether each of these steps answers as it is to, and how many sections are acknowledged then.
+type Stepped = (bool, Option<u64>);
+
+fn stepped(store: &mut Store<MemDisk>, steps: &[Told]) -> Stepped {
+    let are_so = first_other(store, steps).is_none();
+    (are_so, kept(store, 0))
+}
+
+// The last steps, and whether the store is closed then.
+fn ended(mut store: Store<MemDisk>) -> (Stepped, bool) {
+    let last = stepped(&mut store, &last_steps());
+    (last, store.close().is_ok())
+}
+
+// Why the store isn't closed behind the release, and what comes then.
+fn released(mut store: Store<MemDisk>) -> Option<(Stepped, StoreError, (Stepped, bool))> {
+    let release = stepped(&mut store, &[(one(rel(0, 0)), Ok(()))]);
+    match still_open(store) {
+        Some((store, why)) => Some((release, why, ended(store))),
+        None => None,
+    }
+}
+
+// The first steps, why the store isn't closed behind them, and what comes then.
+type TwoSections = (Stepped, StoreError, (Stepped, StoreError, (Stepped, bool)));
+
+fn told_of_two_sections(alloc: Global) -> Option<TwoSections> {
     let mut store = fresh(alloc, 2, 2)?;
-    let first = first_other(&mut store, &first_steps()).is_none();
-    let begun = kept(&store, 0);
-    let (mut store, open) = still_open(store)?;
-    let released = answer_to(&mut store, one(rel(0, 0))) == Ok(());
-    let (mut store, unwritten) = still_open(store)?;
-    let last = first_other(&mut store, &last_steps()).is_none();
-    let ended = kept(&store, 0);
-    let is_closed = store.close().is_ok();
-    Some((
-        [first, released, last],
-        [open, unwritten],
-        [begun, ended],
-        is_closed,
-    ))
+    let first = stepped(&mut store, &first_steps());
+    let (store, why) = still_open(store)?;
+    Some((first, why, released(store)?))
 }
 
 // Each refusal of two sections on one object, and what is taken between them.
 #[test]
 fn two_sections_are_kept(rt: HostRuntime) {
-    let refused = [StoreError::Unfinished, StoreError::Unwritten];
-    let wanted = ([true; 3], refused, [Some(0), Some(2)], true);
+    let ended = ((true, Some(2)), true);
+    let released = ((true, Some(0)), StoreError::Unwritten, ended);
+    let wanted = ((true, Some(0)), StoreError::Unfinished, released);
     assert!(rt; told_of_two_sections(rt.alloc()) == Some(wanted));
 }
 
@@ -280,11 +310,9 @@ fn a_fifth_section_is_too_much(rt: HostRuntime) {
 }
 
 // Whether so many sections of 1,000 records are taken, and then logged and acknowledged.
-fn are_settled(store: &mut Store<MemDisk>, from: u64, count: u64) -> bool
-    requires { from + count < 2 ^ 64 }
-{
+fn are_settled(store: &mut Store<MemDisk>, from: u64, count: u64) -> bool {
     let mut are_taken = true;
-    for number in from..from + count {
+    for number in from..from.saturating_add(count) {
         are_taken &= section(store, number);
     }
     are_taken && store.log_step().is_ok() && store.home_step().is_ok() && store.settle().is_ok()
@@ -318,8 +346,7 @@ fn places_again(store: &mut Store<MemDisk>) -> ([bool; 5], [(u64, u64); 5]) {
 }
 
 fn told_of_places(alloc: Global) -> Option<([bool; 5], [(u64, u64); 5])> {
-    let disk = MemDisk::new(alloc, 130_208).ok()?;
-    let mut store = store_on(alloc, disk, 1, 2000, 9)?;
+    let mut store = fresh_with(alloc, 1, 2000, 9)?;
     Some(places_again(&mut store))
 }
 
@@ -337,15 +364,16 @@ fn a_trim_makes_room(rt: HostRuntime) {
     assert!(rt; told_of_places(rt.alloc()) == Some(([true; 5], steps)));
 }
 
-// How many of so many sections of an acquire and a release are taken.
-fn short_sections(store: &mut Store<MemDisk>, from: u64, count: u64) -> u64
-    requires { from + count < 2 ^ 64 }
-{
-    for number in from..from + count {
-        if store.apply(Lane(0), acq(0, number)).is_err()
-            || store.apply(Lane(0), rel(0, number)).is_err()
-        {
-            return number - from;
+// Whether a section of an acquire and a release is taken.
+fn is_short_section(store: &mut Store<MemDisk>, number: u64) -> bool {
+    store.apply(Lane(0), acq(0, number)).is_ok() && store.apply(Lane(0), rel(0, number)).is_ok()
+}
+
+// How many of so many such sections are taken.
+fn short_sections(store: &mut Store<MemDisk>, from: u64, count: u64) -> u64 {
+    for number in from..from.saturating_add(count) {
+        if !is_short_section(store, number) {
+            return number.saturating_sub(from);
         }
     }
     count
@@ -395,9 +423,7 @@ fn failed_trim(store: &mut Store<MemDisk>) -> FailedTrim {
 // Before the trim the device is called 31 times, two reads of a gate among them; it reads a gate and closes it, and the 35th
 // call writes the control.
 fn told_of_failed_trim(alloc: Global) -> Option<FailedTrim> {
-    let mut disk = MemDisk::new(alloc, 130_208).ok()?;
-    disk.fail_call(35);
-    let mut store = store_on(alloc, disk, 1, 4000, 9)?;
+    let mut store = failing(alloc, 35, 1)?;
     Some(failed_trim(&mut store))
 }
 
@@ -435,10 +461,9 @@ const SECTION: [StoreCall; 3] = [
 ];
 
 // Whether a section is played and each call behind it answers so, and how often the device was called.
-fn told_of_failed_log(alloc: Global) -> Option<([bool; 2], u64)> {
-    let mut disk = MemDisk::new(alloc, 130_208).ok()?;
-    disk.fail_call(17);
-    let mut store = store_on(alloc, disk, 2, 4000, 9)?;
+type FailedLog = ([bool; 2], u64);
+
+fn failed_log(store: &mut Store<MemDisk>) -> FailedLog {
     let is_played = store.play(&SECTION) == Ok(());
     let steps = [
         (StoreCall::Log, Err(StoreError::Fault)),
@@ -447,8 +472,13 @@ fn told_of_failed_log(alloc: Global) -> Option<([bool; 2], u64)> {
         (StoreCall::Home, Err(StoreError::Failed)),
         (StoreCall::Settle, Err(StoreError::Failed)),
     ];
-    let are_so = first_other(&mut store, &steps).is_none();
-    Some(([is_played, are_so], store.disk().stops()))
+    let are_so = first_other(store, &steps).is_none();
+    ([is_played, are_so], store.disk().stops())
+}
+
+fn told_of_failed_log(alloc: Global) -> Option<FailedLog> {
+    let mut store = failing(alloc, 17, 2)?;
+    Some(failed_log(&mut store))
 }
 
 // The format takes 13 calls of the device and the section's records 3, so the sync behind them is the 17th.

@@ -1,5 +1,6 @@
 //! A store whose schema has a transient field.
 
+use crate::format_tests::declare;
 use crate::step_tests::{Told, acq, adopted, first_other, one, put, rel};
 use block_disk::MemDisk;
 use durable::{Store, StoreCall, StoreError};
@@ -7,25 +8,25 @@ use guards::{Schema, SchemaBuilder};
 use heap_model::{FieldId, ObjectId};
 use std::alloc::Global;
 
-// The common schema with a transient field more, guarded by the first object.
+// The common declarations, and a transient field more, guarded by the first object.
+fn declare_transient(builder: &mut SchemaBuilder) -> Option<()> {
+    declare(builder)?;
+    builder.transient(ObjectId(0), "f2", ObjectId(0), 30).ok()?;
+    Some(())
+}
+
 fn schema_or_none(alloc: Global) -> Option<Schema> {
     let mut builder = SchemaBuilder::new(alloc);
-    builder.object("o0").ok()?;
-    builder.object("o1").ok()?;
-    builder.object("o2").ok()?;
-    builder.object("o3").ok()?;
-    builder.field(ObjectId(0), "f0", ObjectId(0), 10).ok()?;
-    builder.field(ObjectId(1), "f1", ObjectId(1), 20).ok()?;
-    builder.transient(ObjectId(0), "f2", ObjectId(0), 30).ok()?;
+    declare_transient(&mut builder)?;
     builder.build().ok()
 }
 
 // A store of it, on a device as large as its image with 2 lanes of 4,000 records.
 fn fresh(alloc: Global) -> Option<Store<MemDisk>> {
-    let disk = MemDisk::new(alloc, 130_232).ok()?;
-    match schema_or_none(alloc) {
-        Some(schema) => adopted(alloc, disk, &schema, 2, 4000, 9),
-        None => None,
+    let schema = schema_or_none(alloc)?;
+    match MemDisk::new(alloc, 130_232) {
+        Ok(disk) => adopted(alloc, disk, &schema, 2, 4000, 9),
+        Err(_) => None,
     }
 }
 
