@@ -21,10 +21,9 @@ use std::alloc::Global;
 
 // Four objects, and a field of each of the first two, which guards it.
 fn declare(builder: &mut SchemaBuilder) -> Option<()> {
-    object(builder, "o0").ok()?;
-    object(builder, "o1").ok()?;
-    object(builder, "o2").ok()?;
-    object(builder, "o3").ok()?;
+    for name in ["o0", "o1", "o2", "o3"] {
+        object(builder, name).ok()?;
+    }
     field(builder, ObjectId(0), "f0", ObjectId(0), 10).ok()?;
     field(builder, ObjectId(1), "f1", ObjectId(1), 20).ok()?;
     Some(())
@@ -167,8 +166,17 @@ fn read_third(alloc: Global, disk: &mut MemDisk) -> Result<Option<GuardRow>, Ima
 // The transient field's row as it is read, where this byte of the image is altered.
 fn third_row(alloc: Global, at: u64, byte: u8) -> Option<Result<Option<GuardRow>, ImageError>> {
     let mut disk = marked_disk(alloc)?;
-    put(&mut disk, at, &[byte])?;
-    Some(read_third(alloc, &mut disk))
+    read_altered(alloc, &mut disk, at, byte)
+}
+
+fn read_altered(
+    alloc: Global,
+    disk: &mut MemDisk,
+    at: u64,
+    byte: u8,
+) -> Option<Result<Option<GuardRow>, ImageError>> {
+    put(disk, at, &[byte])?;
+    Some(read_third(alloc, disk))
 }
 
 // The row of field 2, with or without the mark.
@@ -181,28 +189,32 @@ fn third(transient: bool) -> GuardRow {
     }
 }
 
+// Whether the third row is read so where any one of these bytes of the image is altered, each at its place.
+fn are_read(
+    alloc: Global,
+    alterations: &[(u64, u8)],
+    row: Result<Option<GuardRow>, ImageError>,
+) -> bool {
+    for (at, byte) in alterations.iter().copied() {
+        if third_row(alloc, at, byte) != Some(row) {
+            return false;
+        }
+    }
+    true
+}
+
 // The bytes are the row's mark, and the first field's.
 #[test]
 fn a_mark_is_read(rt: HostRuntime) {
-    let cases = [(2196, 1, true), (2196, 0, false), (2164, 1, true)];
-    for (at, byte, transient) in cases {
-        assert!(rt;
-            third_row(rt.alloc(), at, byte) == Some(Ok(Some(third(transient)))),
-            "{at} {byte}"
-        );
-    }
+    assert!(rt; are_read(rt.alloc(), &[(2196, 1), (2164, 1)], Ok(Some(third(true)))));
+    assert!(rt; are_read(rt.alloc(), &[(2196, 0)], Ok(Some(third(false)))));
 }
 
 // Another mark, a byte that has to be zero, and the high byte of the owner.
 #[test]
 fn rows_with_other_bytes_are_refused(rt: HostRuntime) {
-    let cases = [(2196, 2), (2196, 0xff), (2197, 1), (2165, 1), (2198, 1)];
-    for (at, byte) in cases {
-        assert!(rt;
-            third_row(rt.alloc(), at, byte) == Some(Err(ImageError::BadHeader)),
-            "{at} {byte}"
-        );
-    }
+    let alterations = [(2196, 2), (2196, 0xff), (2197, 1), (2165, 1), (2198, 1)];
+    assert!(rt; are_read(rt.alloc(), &alterations, Err(ImageError::BadHeader)));
 }
 
 // What the readers say of the image, one after the other.
@@ -217,16 +229,31 @@ pub(crate) fn put(disk: &mut MemDisk, at: u64, bytes: &[u8]) -> Option<()> {
     disk.write_at(at, bytes).ok()
 }
 
+// What they say with these bytes there.
+fn study_with(
+    alloc: Global,
+    disk: &mut MemDisk,
+    at: u64,
+    bytes: &[u8],
+) -> Option<Result<(Slot, u64), ImageError>> {
+    put(disk, at, bytes)?;
+    Some(study(alloc, disk))
+}
+
 // What the readers say of a fresh image with this byte altered.
 fn study_altered(alloc: Global, at: u64, byte: u8) -> Option<Result<(Slot, u64), ImageError>> {
     let mut disk = fresh_disk(alloc)?;
-    put(&mut disk, at, &[byte])?;
-    Some(study(alloc, &mut disk))
+    study_with(alloc, &mut disk, at, &[byte])
 }
 
 // Whether the image with any one of these bytes altered, each at its place, is refused so.
 fn are_refused(alloc: Global, alterations: &[(u64, u8)], refusal: ImageError) -> bool {
-    alterations.iter().all(|(at, byte)| study_altered(alloc, *at, *byte) == Some(Err(refusal)))
+    for (at, byte) in alterations.iter().copied() {
+        if study_altered(alloc, at, byte) != Some(Err(refusal)) {
+            return false;
+        }
+    }
+    true
 }
 
 #[test]
@@ -325,8 +352,18 @@ fn disk_with(alloc: Global, body: &[u8]) -> Option<MemDisk> {
 fn study_body(alloc: Global, at: usize, byte: u8) -> Option<Result<(Slot, u64), ImageError>> {
     let mut body = documented_body(3);
     *body.get_mut(at)? = byte;
-    let mut disk = disk_with(alloc, &body)?;
-    Some(study(alloc, &mut disk))
+    let mut disk = fresh_disk(alloc)?;
+    study_with(alloc, &mut disk, 72, &body)
+}
+
+// Whether any one of these bytes altered, each at its place, makes it a bad one.
+fn are_bad(alloc: Global, alterations: &[(usize, u8)]) -> bool {
+    for (at, byte) in alterations.iter().copied() {
+        if study_body(alloc, at, byte) != Some(Err(ImageError::BadControl)) {
+            return false;
+        }
+    }
+    true
 }
 
 #[test]
@@ -342,12 +379,7 @@ fn altered_bodies_are_refused(rt: HostRuntime) {
         (38, 16),
         (71 + 32, 1),
     ];
-    let refused = Some(Err(ImageError::BadControl));
-    assert!(rt;
-        alterations
-            .iter()
-            .all(|(at, byte)| study_body(rt.alloc(), *at, *byte) == refused)
-    );
+    assert!(rt; are_bad(rt.alloc(), &alterations));
 }
 
 // The control that is read of one disk, and the slot into which one with its rows is committed on the other.
@@ -392,27 +424,30 @@ fn a_control_has_the_documented_bytes(rt: HostRuntime) {
 // What the readers say where the gates of both slots are open, with this sequence in slot B.
 fn study_both_open(alloc: Global, sequence: u8) -> Option<Result<(Slot, u64), ImageError>> {
     let mut disk = fresh_disk(alloc)?;
-    put(&mut disk, 1112, &[0xa5])?;
-    put(&mut disk, 1120, &documented_body(sequence))?;
-    Some(study(alloc, &mut disk))
+    study_opened(alloc, &mut disk, &documented_body(sequence))
+}
+
+// What they say where slot B's gate is opened before this body.
+fn study_opened(
+    alloc: Global,
+    disk: &mut MemDisk,
+    body: &[u8],
+) -> Option<Result<(Slot, u64), ImageError>> {
+    put(disk, 1112, &[0xa5])?;
+    study_with(alloc, disk, 1120, body)
+}
+
+// Whether they say so.
+fn is_shown(alloc: Global, sequence: u8, wanted: Result<(Slot, u64), ImageError>) -> bool {
+    study_both_open(alloc, sequence) == Some(wanted)
 }
 
 // The greater sequence counts, and two equal ones are refused.
 #[test]
 fn the_greater_sequence_counts(rt: HostRuntime) {
-    let found = [
-        study_both_open(rt.alloc(), 0),
-        study_both_open(rt.alloc(), 1),
-        study_both_open(rt.alloc(), 2),
-    ];
-    assert!(rt;
-        found
-            == [
-                Some(Ok((Slot::A, 1))),
-                Some(Err(ImageError::BadControl)),
-                Some(Ok((Slot::B, 2)))
-            ]
-    );
+    assert!(rt; is_shown(rt.alloc(), 0, Ok((Slot::A, 1))));
+    assert!(rt; is_shown(rt.alloc(), 1, Err(ImageError::BadControl)));
+    assert!(rt; is_shown(rt.alloc(), 2, Ok((Slot::B, 2))));
 }
 
 // The control that is read of a fresh image whose control has version 1, and the slot into which one with its rows is
@@ -460,20 +495,31 @@ fn a_commit_over_version_1_has_version_2(rt: HostRuntime) {
     assert!(rt; committed_over_old(rt.alloc()) == Some((old, Slot::B, true)));
 }
 
-// What is said of devices that are too small: one without the image's last byte, which has a bad guard row too, and one
-// without a whole header.
-fn small_devices(alloc: Global) -> Option<[Result<Layout, ImageError>; 2]> {
+// A fresh image without its last byte.
+fn short_disk(alloc: Global) -> Option<MemDisk> {
     let disk = fresh_disk(alloc)?;
-    let mut short = MemDisk::from_bytes(alloc, disk.bytes().get(..130_207)?).ok()?;
+    MemDisk::from_bytes(alloc, disk.bytes().get(..130_207)?).ok()
+}
+
+// What is said of it where it has a bad guard row too.
+fn told_of_short(alloc: Global) -> Option<Result<Layout, ImageError>> {
+    let mut short = short_disk(alloc)?;
     put(&mut short, 2163, &[9])?;
-    let mut none = MemDisk::new(alloc, 63).ok()?;
-    Some([read_header(&mut short), read_header(&mut none)])
+    Some(read_header(&mut short))
+}
+
+// What is said of a device without a whole header.
+fn told_of_none(alloc: Global) -> Option<Result<Layout, ImageError>> {
+    match MemDisk::new(alloc, 63) {
+        Ok(mut none) => Some(read_header(&mut none)),
+        Err(_) => None,
+    }
 }
 
 #[test]
 fn a_small_device_is_told_of_before_its_guard_rows(rt: HostRuntime) {
-    let refused = [Err(ImageError::TooSmall), Err(ImageError::NotFormatted)];
-    assert!(rt; small_devices(rt.alloc()) == Some(refused));
+    assert!(rt; told_of_short(rt.alloc()) == Some(Err(ImageError::TooSmall)));
+    assert!(rt; told_of_none(rt.alloc()) == Some(Err(ImageError::NotFormatted)));
 }
 
 // Commits a control with empty logs over one with this sequence.
@@ -536,7 +582,7 @@ fn shown(
 // Whether a crash at each stop from 14 to 24 shows the first control before the stop `second`, then the second control, and
 // the third from the stop `third`.
 fn are_shown(alloc: Global, disk: &MemDisk, fill: Fill, second: u64, third: u64) -> bool {
-    (14..25).all(|stop| {
+    for stop in 14..25 {
         let expected = if stop < second {
             (Slot::A, 1)
         } else if stop < third {
@@ -544,8 +590,11 @@ fn are_shown(alloc: Global, disk: &MemDisk, fill: Fill, second: u64, third: u64)
         } else {
             (Slot::A, 3)
         };
-        shown(alloc, disk, stop, fill) == Some(Ok(expected))
-    })
+        if shown(alloc, disk, stop, fill) != Some(Ok(expected)) {
+            return false;
+        }
+    }
+    true
 }
 
 // The stops of two commits, and whether their crashes show what they are to, for each fill. Four calls go into slot B, whose
@@ -553,14 +602,17 @@ fn are_shown(alloc: Global, disk: &MemDisk, fill: Fill, second: u64, third: u64)
 fn crashed_commits(alloc: Global) -> Option<([u64; 2], [bool; 5])> {
     let (mut disk, layout) = steady(alloc)?;
     let stops = commit_twice(&mut disk, &layout)?;
-    let are_shown = [
-        are_shown(alloc, &disk, Fill::Lost, 18, 24),
-        are_shown(alloc, &disk, Fill::Kept, 16, 22),
-        are_shown(alloc, &disk, Fill::Byte(0), 18, 24),
-        are_shown(alloc, &disk, Fill::Byte(0xff), 18, 24),
-        are_shown(alloc, &disk, Fill::Byte(0xa5), 16, 22),
-    ];
-    Some((stops, are_shown))
+    Some((stops, shown_by_fills(alloc, &disk)))
+}
+
+fn shown_by_fills(alloc: Global, disk: &MemDisk) -> [bool; 5] {
+    [
+        are_shown(alloc, disk, Fill::Lost, 18, 24),
+        are_shown(alloc, disk, Fill::Kept, 16, 22),
+        are_shown(alloc, disk, Fill::Byte(0), 18, 24),
+        are_shown(alloc, disk, Fill::Byte(0xff), 18, 24),
+        are_shown(alloc, disk, Fill::Byte(0xa5), 16, 22),
+    ]
 }
 
 // The image is made by 13 writes and syncs.
@@ -593,16 +645,21 @@ fn study_failed_commit(alloc: Global, call: u64) -> Option<Result<(Slot, u64), I
     Some(study(alloc, &mut disk))
 }
 
-// A read and six writes and syncs, each of which fails in turn. At the last of them the new control shows already.
+// How many calls of a second commit fail in turn, from the first, behind which its old control shows.
+fn failed_commits(alloc: Global) -> u64 {
+    for call in 1..100 {
+        if study_failed_commit(alloc, call) != Some(Ok((Slot::B, 2))) {
+            return call - 1;
+        }
+    }
+    100
+}
+
+// A read and six writes and syncs. At the last of them the new control shows already.
 #[test]
 fn a_fault_in_a_commit_leaves_the_old_control_or_the_new_one(rt: HostRuntime) {
-    for call in 1..8 {
-        let shown = if call < 7 { (Slot::B, 2) } else { (Slot::A, 3) };
-        assert!(rt;
-            study_failed_commit(rt.alloc(), call) == Some(Ok(shown)),
-            "call {call}"
-        );
-    }
+    assert!(rt; failed_commits(rt.alloc()) == 6);
+    assert!(rt; study_failed_commit(rt.alloc(), 7) == Some(Ok((Slot::A, 3))));
 }
 
 // What a commit over a fresh image answers where the sixth call fails.
@@ -642,7 +699,16 @@ fn is_header_of_failed_image(alloc: Global, schema: &Schema, call: u64) -> Optio
 // Whether each of the 13 calls fails so, and the header is whole before the last alone.
 fn images_fail(alloc: Global) -> Option<bool> {
     let schema = common_schema(alloc)?;
-    Some((1..14).all(|call| is_header_of_failed_image(alloc, &schema, call) == Some(call == 13)))
+    Some(images_of_it_fail(alloc, &schema))
+}
+
+fn images_of_it_fail(alloc: Global, schema: &Schema) -> bool {
+    for call in 1..14 {
+        if is_header_of_failed_image(alloc, schema, call) != Some(call == 13) {
+            return false;
+        }
+    }
+    true
 }
 
 // Each of the calls that make an image fails in turn. The header is whole before the last.
@@ -660,14 +726,19 @@ fn study_with_fault(alloc: Global, call: u64) -> Option<Result<(Slot, u64), Imag
     Some(study(alloc, &mut disk))
 }
 
+fn are_told(alloc: Global) -> bool {
+    for call in 1..6 {
+        if study_with_fault(alloc, call) != Some(Err(ImageError::Fault)) {
+            return false;
+        }
+    }
+    true
+}
+
+// Each of the first five calls fails in turn.
 #[test]
 fn a_fault_in_the_reading_is_answered_as_one(rt: HostRuntime) {
-    for call in 1..6 {
-        assert!(rt;
-            study_with_fault(rt.alloc(), call) == Some(Err(ImageError::Fault)),
-            "call {call}"
-        );
-    }
+    assert!(rt; are_told(rt.alloc()));
 }
 
 // What is answered where a cell's write is a fault, where its read is one, and then.
@@ -784,9 +855,19 @@ fn count_guards(
 // How many guard rows are read of a fresh image, and of it with a row that names no object.
 fn guards_read(alloc: Global) -> Option<[Result<usize, ImageError>; 2]> {
     let (mut disk, layout) = steady(alloc)?;
-    let good = count_guards(alloc, &mut disk, &layout)?;
-    put(&mut disk, 2163, &[4])?;
-    Some([good, count_guards(alloc, &mut disk, &layout)?])
+    count_twice(alloc, &mut disk, &layout)
+}
+
+fn count_twice(
+    alloc: Global,
+    disk: &mut MemDisk,
+    layout: &Layout,
+) -> Option<[Result<usize, ImageError>; 2]>
+    requires { IsLayout layout.now }
+{
+    let good = count_guards(alloc, disk, layout)?;
+    put(disk, 2163, &[4])?;
+    Some([good, count_guards(alloc, disk, layout)?])
 }
 
 // Whether a bad row is told of, whether or not there is memory. Without the memory for a disk there is nothing to tell.

@@ -127,102 +127,126 @@ fn is_spelt(disk: &MemDisk) -> bool {
 // The calls, whether the bytes are as documented, and whether they are read back.
 fn logged_over_the_end(alloc: Global) -> Option<(u64, bool, Result<bool, LogError>)> {
     let mut disk = empty_disk(alloc)?;
-    append_section(&mut disk, &near_the_end())?.ok()?;
-    let (stops, is_spelt) = (disk.stops(), is_spelt(&disk));
-    let is_read = reads(alloc, &mut disk, 1998, 2002, &SECTION);
-    Some((stops, is_spelt, is_read))
+    log_over_the_end(alloc, &mut disk)
+}
+
+fn log_over_the_end(
+    alloc: Global,
+    disk: &mut MemDisk,
+) -> Option<(u64, bool, Result<bool, LogError>)> {
+    append_section(disk, &near_the_end())?.ok()?;
+    let (stops, is_spelt) = (disk.stops(), is_spelt(disk));
+    Some((stops, is_spelt, reads(alloc, disk, 1998, 2002, &SECTION)))
 }
 
 #[test]
 fn a_log_goes_on_at_its_areas_start(rt: HostRuntime) {
-    assert_eq!(rt; logged_over_the_end(rt.alloc()), Some((4, true, Ok(true))));
+    assert!(rt; logged_over_the_end(rt.alloc()) == Some((4, true, Ok(true))));
 }
 
 // Whether they are read where the fifth call is a fault, and what the call behind the reading answers.
 fn many_read(alloc: Global) -> Option<(Result<bool, LogError>, Result<(), DiskError>)> {
     let mut disk = empty_disk(alloc)?;
-    append_many(&mut disk, &row_at(1700, 1700))?.ok()?;
+    read_many(alloc, &mut disk)
+}
+
+fn read_many(
+    alloc: Global,
+    disk: &mut MemDisk,
+) -> Option<(Result<bool, LogError>, Result<(), DiskError>)> {
+    append_many(disk, &row_at(1700, 1700))?.ok()?;
     disk.fail_call(5);
-    let is_read = reads(alloc, &mut disk, 1700, 2300, &[STORE; 600]);
-    Some((is_read, sync(&mut disk)))
+    let is_read = reads(alloc, disk, 1700, 2300, &[STORE; 600]);
+    Some((is_read, sync(disk)))
 }
 
 // From place 1,700 up to 2,300 there are four runs: 256 and 44 records up to the area's end, and again 256 and 44.
 #[test]
 fn many_records_are_read_in_runs(rt: HostRuntime) {
-    assert_eq!(rt;
-        many_read(rt.alloc()),
-        Some((Ok(true), Err(DiskError::Fault)))
-    );
+    assert!(rt; many_read(rt.alloc()) == Some((Ok(true), Err(DiskError::Fault))));
 }
 
 // What is answered with one place too few, and how many calls there were then; and with just enough.
-fn filled(
-    alloc: Global,
-) -> Option<
-    (
-        Option<Result<(), LogError>>,
-        u64,
-        Option<Result<(), LogError>>,
-    ),
-> {
-    let mut disk = empty_disk(alloc)?;
-    let over = append_section(&mut disk, &row_at(1000, 2997));
+type Filled = (
+    Option<Result<(), LogError>>,
+    u64,
+    Option<Result<(), LogError>>,
+);
+
+fn fill(disk: &mut MemDisk) -> Filled {
+    let over = append_section(disk, &row_at(1000, 2997));
     let stops = disk.stops();
-    Some((over, stops, append_section(&mut disk, &row_at(1000, 2996))))
+    (over, stops, append_section(disk, &row_at(1000, 2996)))
+}
+
+fn filled(alloc: Global) -> Option<Filled> {
+    let mut disk = empty_disk(alloc)?;
+    Some(fill(&mut disk))
 }
 
 #[test]
 fn a_full_area_takes_no_more(rt: HostRuntime) {
     let full = Err(LogError::LogFull { lane: LANE });
-    assert_eq!(rt; filled(rt.alloc()), Some((Some(full), 0, Some(Ok(())))));
+    assert!(rt; filled(rt.alloc()) == Some((Some(full), 0, Some(Ok(())))));
 }
 
 // What is answered where two places more are read, and where a record names a field that there is not.
 fn bad_places(alloc: Global) -> Option<[Result<bool, LogError>; 2]> {
     let mut disk = empty_disk(alloc)?;
-    append_section(&mut disk, &near_the_end())?.ok()?;
-    let zeros = reads(alloc, &mut disk, 1998, 2004, &SECTION);
-    write(&mut disk, 34_224, &[4, 0, 0, 0, 0, 0, 0, 2]).ok()?;
-    Some([zeros, reads(alloc, &mut disk, 1998, 2004, &SECTION)])
+    read_bad_places(alloc, &mut disk)
+}
+
+fn read_bad_places(alloc: Global, disk: &mut MemDisk) -> Option<[Result<bool, LogError>; 2]> {
+    append_section(disk, &near_the_end())?.ok()?;
+    let zeros = reads(alloc, disk, 1998, 2004, &SECTION);
+    write(disk, 34_224, &[4, 0, 0, 0, 0, 0, 0, 2]).ok()?;
+    Some([zeros, reads(alloc, disk, 1998, 2004, &SECTION)])
 }
 
 // The bytes of place 2,002 are zeros. The image has no field 2, and so no record at place 2,001.
 #[test]
 fn the_first_bad_place_is_named(rt: HostRuntime) {
-    let bad = |place| Err(LogError::BadRecord { lane: LANE, place });
-    assert_eq!(rt; bad_places(rt.alloc()), Some([bad(2002), bad(2001)]));
+    let (first, second) = (
+        LogError::BadRecord {
+            lane: LANE,
+            place: 2002,
+        },
+        LogError::BadRecord {
+            lane: LANE,
+            place: 2001,
+        },
+    );
+    assert!(rt; bad_places(rt.alloc()) == Some([Err(first), Err(second)]));
 }
 
 // What an appending whose third call fails answers, how many stops there were then, what the next one answers, and a
 // reading whose second call fails.
-fn failed(
-    alloc: Global,
-) -> Option<
-    (
-        Option<Result<(), LogError>>,
-        u64,
-        Option<Result<(), LogError>>,
-        Result<bool, LogError>,
-    ),
-> {
-    let mut disk = empty_disk(alloc)?;
+type Failed = (
+    Option<Result<(), LogError>>,
+    u64,
+    Option<Result<(), LogError>>,
+    Result<bool, LogError>,
+);
+
+fn fail(alloc: Global, disk: &mut MemDisk) -> Failed {
     disk.fail_call(3);
-    let first = append_section(&mut disk, &near_the_end());
+    let first = append_section(disk, &near_the_end());
     let stops = disk.stops();
-    let second = append_section(&mut disk, &near_the_end());
+    let second = append_section(disk, &near_the_end());
     disk.fail_call(2);
-    let read = reads(alloc, &mut disk, 1998, 2002, &SECTION);
-    Some((first, stops, second, read))
+    let read = reads(alloc, disk, 1998, 2002, &SECTION);
+    (first, stops, second, read)
+}
+
+fn failed(alloc: Global) -> Option<Failed> {
+    let mut disk = empty_disk(alloc)?;
+    Some(fail(alloc, &mut disk))
 }
 
 #[test]
 fn a_fault_in_mid_stream_is_answered(rt: HostRuntime) {
     let fault = LogError::Fault;
-    assert_eq!(rt;
-        failed(rt.alloc()),
-        Some((Some(Err(fault)), 3, Some(Ok(())), Err(fault)))
-    );
+    assert!(rt; failed(rt.alloc()) == Some((Some(Err(fault)), 3, Some(Ok(())), Err(fault))));
 }
 
 fn append_twice(disk: &mut MemDisk) -> Option<Result<(), LogError>> {
@@ -243,7 +267,10 @@ fn read_twice(alloc: Global, disk: &mut MemDisk) -> Result<bool, LogError> {
 
 // What the calls answer the first time that memory isn't wanting.
 fn grown(alloc: Global) -> Option<(Option<Result<(), LogError>>, Result<bool, LogError>)> {
-    let mut disk = empty_disk(alloc).or_else(|| empty_disk(alloc))?;
+    let mut disk = match empty_disk(alloc) {
+        Some(disk) => disk,
+        None => empty_disk(alloc)?,
+    };
     let appended = append_twice(&mut disk);
     Some((appended, read_twice(alloc, &mut disk)))
 }
@@ -251,5 +278,5 @@ fn grown(alloc: Global) -> Option<(Option<Result<(), LogError>>, Result<bool, Lo
 // Run with each allocation refused in turn: the call says so, and is made again.
 #[test]
 fn a_refused_growth_is_answered(rt: HostRuntime) {
-    assert_eq!(rt; grown(rt.alloc()), Some((Some(Ok(())), Ok(true))));
+    assert!(rt; grown(rt.alloc()) == Some((Some(Ok(())), Ok(true))));
 }

@@ -58,7 +58,7 @@ fn first_other(cases: &[(UndoRecord, [u8; 16])]) -> Option<UndoRecord> {
 
 #[test]
 fn records_are_as_documented(rt: HostRuntime) {
-    assert_eq!(rt; first_other(&DOCUMENTED), None);
+    assert!(rt; first_other(&DOCUMENTED).is_none());
 }
 
 // What is no record, and why not.
@@ -98,9 +98,17 @@ const OTHERS: [(&str, [u8; 16]); 12] = [
     ),
 ];
 
+// What of these is a record, if something is.
+fn record_in<'a>(cases: &[(&'a str, [u8; 16])]) -> Option<&'a str> {
+    for (what, bytes) in cases {
+        if decode_record(bytes).is_some() {
+            return Some(*what);
+        }
+    }
+    None
+}
+
 #[test]
 fn other_bytes_are_no_record(rt: HostRuntime) {
-    for (what, bytes) in OTHERS {
-        assert!(rt; decode_record(&bytes).is_none(), "{what}");
-    }
+    assert!(rt; record_in(&OTHERS).is_none());
 }

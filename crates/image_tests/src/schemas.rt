@@ -254,15 +254,19 @@ fn told_of_full(alloc: Global) -> Option<Full> {
     let mut builder = filled(alloc)?;
     let objects = objects_beyond(&mut builder);
     let fields = fields_beyond(&mut builder);
-    let schema = builder.build().ok()?;
-    let last = schema.field_named("f16383");
-    let counts = (
+    match builder.build() {
+        Ok(schema) => Some((objects, fields, counts(&schema))),
+        Err(_) => None,
+    }
+}
+
+fn counts(schema: &Schema) -> (u32, u32, Option<FieldId>, Option<Row>) {
+    (
         schema.objects(),
         schema.fields(),
-        last,
-        row(&schema, 16_383),
-    );
-    Some((objects, fields, counts))
+        schema.field_named("f16383"),
+        row(schema, 16_383),
+    )
 }
 
 // At each limit the earlier reasons still come first, and a full schema is built.
@@ -340,9 +344,13 @@ fn told_of_growth(alloc: Global) -> Option<([bool; 2], (u32, u32), bool)> {
         declares_objects_again(&mut builder, &names),
         declares_fields_again(&mut builder, &names),
     ];
-    let schema = builder.build().ok()?;
-    let counts = (schema.objects(), schema.fields());
-    Some((are_declared, counts, finds_all(&schema, &names)))
+    match builder.build() {
+        Ok(schema) => {
+            let counts = (schema.objects(), schema.fields());
+            Some((are_declared, counts, finds_all(&schema, &names)))
+        }
+        Err(_) => None,
+    }
 }
 
 // Passes with any one of its allocations refused (`rt try --test --fail-alloc N`), and with none.

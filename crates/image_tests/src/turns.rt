@@ -39,22 +39,29 @@ fn counted(disk: &mut MemDisk, layout: &Layout) -> Option<(Slot, u64, u64)>
 fn three_turns(alloc: Global, gate: u8) -> Option<[(Slot, u64, u64); 3]> {
     let (mut disk, layout) = steady(alloc)?;
     put(&mut disk, 1112, &[gate])?;
-    Some([
-        counted(&mut disk, &layout)?,
-        counted(&mut disk, &layout)?,
-        counted(&mut disk, &layout)?,
-    ])
+    count_three(&mut disk, &layout)
+}
+
+fn count_three(disk: &mut MemDisk, layout: &Layout) -> Option<[(Slot, u64, u64); 3]>
+    requires { IsLayout layout.now }
+{
+    let first = counted(disk, layout)?;
+    let second = counted(disk, layout)?;
+    Some([first, second, counted(disk, layout)?])
+}
+
+// Whether they turn the gates in turn, the first of them by so many writes and syncs.
+fn turn_so(alloc: Global, gate: u8, first: u64) -> bool {
+    let turns = [(Slot::B, 2, first), (Slot::A, 1, 5), (Slot::B, 2, 5)];
+    three_turns(alloc, gate) == Some(turns)
 }
 
 // Two writes and two syncs each: a body and a gate, which opens, closes and opens. Slot B of a fresh image has zeros behind a
 // closed gate; open it would have sequence 0, so its gate is closed first, and a third sync stands behind that.
 #[test]
 fn a_turn_takes_two_writes_and_two_syncs(rt: HostRuntime) {
-    let turns = [(Slot::B, 2, 5), (Slot::A, 1, 5), (Slot::B, 2, 5)];
-    let over_zero = [(Slot::B, 2, 7), (Slot::A, 1, 5), (Slot::B, 2, 5)];
-    assert!(rt; three_turns(rt.alloc(), 0) == Some(turns));
-    assert!(rt; three_turns(rt.alloc(), 90) == Some(turns));
-    assert!(rt; three_turns(rt.alloc(), 165) == Some(over_zero));
+    assert!(rt; turn_so(rt.alloc(), 0, 5) && turn_so(rt.alloc(), 90, 5));
+    assert!(rt; turn_so(rt.alloc(), 165, 7));
 }
 
 // From which stop on a crash shows what a gate that is written at stop `gate` makes count: as soon as it may read so, or once
@@ -91,23 +98,28 @@ fn are_shown(alloc: Global, disk: &MemDisk, fill: Fill) -> bool {
         since(fill, 22, false),
         since(fill, 27, true),
     ];
-    (14..30).all(|stop| {
-        let turns = gates.iter().filter(|gate| **gate <= stop).count();
-        let expected = if turns % 2 == 0 {
-            (Slot::A, 1)
-        } else {
-            (Slot::B, 2)
-        };
-        shown(alloc, disk, stop, fill) == Some(Ok(expected))
-    })
+    for stop in 14..30 {
+        if shown(alloc, disk, stop, fill) != Some(Ok(expected(gates, stop))) {
+            return false;
+        }
+    }
+    true
+}
+
+// What counts at this stop, where each of these gates turns from its own on.
+fn expected(gates: [u64; 3], stop: u64) -> (Slot, u64) {
+    let [first, second, third] = gates;
+    if stop < first || (second <= stop && stop < third) {
+        (Slot::A, 1)
+    } else {
+        (Slot::B, 2)
+    }
 }
 
 // Which fills leave what is wanted at each stop.
 fn crashed_turns(alloc: Global) -> Option<[bool; 5]> {
     let (mut disk, layout) = steady(alloc)?;
-    turned(&mut disk, &layout)?;
-    turned(&mut disk, &layout)?;
-    turned(&mut disk, &layout)?;
+    count_three(&mut disk, &layout)?;
     Some([
         are_shown(alloc, &disk, Fill::Lost),
         are_shown(alloc, &disk, Fill::Kept),

@@ -18,28 +18,44 @@ fn log_error_reads(alloc: Global, error: LogError, words: &str) -> bool {
     }
 }
 
+fn schema_errors_read(alloc: Global, cases: &[(SchemaError, &str)]) -> bool {
+    for (error, words) in cases {
+        if !schema_error_reads(alloc, *error, words) {
+            return false;
+        }
+    }
+    true
+}
+
 #[test]
 fn refused_declarations_have_their_words(rt: HostRuntime) {
-    for (error, words) in [
+    let cases = [
         (SchemaError::Empty, "empty"),
         (SchemaError::DoubleName, "double name"),
         (SchemaError::UnknownObject, "unknown"),
         (SchemaError::TooMany, "too many"),
         (SchemaError::NoMemory, "no memory"),
-    ] {
-        assert!(rt; schema_error_reads(rt.alloc(), error, words), "{words}");
+    ];
+    assert!(rt; schema_errors_read(rt.alloc(), &cases));
+}
+
+fn log_errors_read(alloc: Global, cases: &[(LogError, &str)]) -> bool {
+    for (error, words) in cases {
+        if !log_error_reads(alloc, *error, words) {
+            return false;
+        }
     }
+    true
 }
 
 #[test]
 fn refused_logs_have_their_words(rt: HostRuntime) {
     let lane = Lane(1);
-    for (error, words) in [
+    let cases = [
         (LogError::Fault, "fault"),
         (LogError::LogFull { lane }, "log full"),
         (LogError::BadRecord { lane, place: 1998 }, "bad record"),
         (LogError::NoMemory, "no memory"),
-    ] {
-        assert!(rt; log_error_reads(rt.alloc(), error, words), "{words}");
-    }
+    ];
+    assert!(rt; log_errors_read(rt.alloc(), &cases));
 }
