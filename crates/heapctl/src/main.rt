@@ -5,9 +5,6 @@
 //! standard error, and all else to standard output.
 #![tactic(auto)]
 
-#[cfg(test)]
-mod tests;
-
 use clap::Error;
 use clap::error::ErrorKind;
 use command_words::{Words, read_words};

@@ -1,13 +1,12 @@
 //! A script over an image that isn't replaced, that is none, and one whose output can't be written.
 
-use crate::playing::is_made;
+use crate::playing::{Does, FORMAT, FORMATTED, Line, first_other};
 use image_file::{FileFault, ImageFault, NamedFault};
 use image_scripts::{ImageHolder, RunFault, run_image};
 use recover::RecoverError;
 use script_lines::{Ending, ScriptError, ScriptErrorKind};
 use std::alloc::Global;
 use std::io::Write;
-use std::test::Fail;
 use std::{fs, io};
 
 // An image in memory, which may not be replaced for a reason.
@@ -51,69 +50,92 @@ impl Write for Full {
     }
 }
 
-// How a run of this script over the image ends, where nothing may be printed and the image has to stay.
-fn ends(
-    alloc: Global,
-    image: &[u8],
-    fault: Option<FileFault>,
-    script: &[u8],
-) -> Option<Result<(), RunFault>> {
-    let mut held = Held {
-        image: image.to_vec(alloc).ok()?,
-        fault,
-    };
-    let mut written = Vec::new(alloc);
-    let ended = run_image(alloc, &mut held, None, script, Ending::Whole, &mut written);
-    if !written.is_empty() || held.image.as_slice() != image {
-        return None;
-    }
-    Some(ended)
-}
-
-fn of_image(why: RecoverError) -> Result<(), RunFault> {
-    Err(RunFault::Named(NamedFault::Image(ImageFault::Image(why))))
-}
-
-fn stops(line: u64, kind: ScriptErrorKind) -> Result<(), RunFault> {
-    Err(RunFault::Script(ScriptError { line, kind }))
-}
-
 const STEP: &[u8] = b"t1 enter o0\n";
 
-#[test]
-fn refusals_leave_the_image_and_print_nothing(rt: HostRuntime) -> Result<(), Fail> {
-    let alloc = rt.alloc();
-    assert!(rt; is_made(&rt, "held", "held_of")?);
-    let image = fs::read(&rt, "held")?;
-    let in_use = Err(RunFault::Named(NamedFault::Image(ImageFault::InUse)));
-    let cases = [
-        (Some(FileFault::Fault), STEP, of_image(RecoverError::Fault)),
-        (Some(FileFault::InUse), STEP, in_use),
-        (
-            None,
-            b"heap\nfrob\n".as_slice(),
-            stops(2, ScriptErrorKind::Syntax),
-        ),
-    ];
-    for (fault, script, ended) in cases {
-        assert!(rt; ends(alloc, &image, fault, script) == Some(ended));
+const IMAGE_FAULT: Result<(), RunFault> = Err(RunFault::Named(NamedFault::Image(ImageFault::Image(
+    RecoverError::Fault,
+))));
+
+const IN_USE: Result<(), RunFault> = Err(RunFault::Named(NamedFault::Image(ImageFault::InUse)));
+
+const NO_IMAGE: Result<(), RunFault> = Err(RunFault::Named(NamedFault::Image(ImageFault::Image(
+    RecoverError::NotFormatted,
+))));
+
+const SYNTAX: Result<(), RunFault> = Err(RunFault::Script(ScriptError {
+    line: 2,
+    kind: ScriptErrorKind::Syntax,
+}));
+
+// Why the image isn't replaced, if it isn't, a script, and how its run ends.
+type Case = (Option<FileFault>, &'static [u8], Result<(), RunFault>);
+
+const REFUSED: &[Case] = &[
+    (Some(FileFault::Fault), STEP, IMAGE_FAULT),
+    (Some(FileFault::InUse), STEP, IN_USE),
+    (None, b"heap\nfrob\n", SYNTAX),
+];
+
+// An image in memory of these bytes.
+fn hold(alloc: Global, image: &[u8], fault: Option<FileFault>) -> Option<Held> {
+    let image = image.to_vec(alloc).ok()?;
+    Some(Held { image, fault })
+}
+
+// Whether a run of this script over the image ends so, prints nothing, and leaves the image.
+fn is_refused(alloc: Global, image: &[u8], case: &Case) -> Option<bool> {
+    let (fault, script, ends) = *case;
+    let mut held = hold(alloc, image, fault)?;
+    let mut written = Vec::new(alloc);
+    let ended = run_image(alloc, &mut held, None, script, Ending::Whole, &mut written);
+    Some(ended == ends && written.is_empty() && held.image.as_slice() == image)
+}
+
+// The first of these that doesn't.
+fn first_taken(alloc: Global, image: &[u8], cases: &[Case]) -> Option<usize> {
+    for (place, case) in cases.iter().enumerate() {
+        if is_refused(alloc, image, case) != Some(true) {
+            return Some(place);
+        }
     }
-    let none = of_image(RecoverError::NotFormatted);
-    assert!(rt; ends(alloc, b"notes", None, STEP) == Some(none));
-    Ok(())
+    None
+}
+
+const MADE: &[Line] = &[(FORMAT, Some("held"), "", Does::Change(FORMATTED))];
+
+// The first of these that the image in the file doesn't refuse so. `None` where there is no such image.
+fn first_taken_there(rt: &HostRuntime) -> Option<Option<usize>> {
+    let image = fs::read(rt, "held").ok()?;
+    Some(first_taken(rt.alloc(), &image, REFUSED))
 }
 
 #[test]
-fn an_image_is_replaced_before_the_text_is_written(rt: HostRuntime) -> Result<(), Fail> {
-    let alloc = rt.alloc();
-    assert!(rt; is_made(&rt, "replaced", "replaced_of")?);
-    let image = fs::read(&rt, "replaced")?;
-    let mut held = Held {
-        image: image.as_slice().to_vec(alloc)?,
-        fault: None,
-    };
+fn refusals_leave_the_image_and_print_nothing(rt: HostRuntime) {
+    assert!(rt; first_other(&rt, MADE).is_none());
+    assert!(rt; first_taken_there(&rt) == Some(None));
+    assert!(rt; is_refused(rt.alloc(), b"notes", &(None, STEP, NO_IMAGE)) == Some(true));
+}
+
+const REPLACED: &[Line] = &[(FORMAT, Some("replaced"), "", Does::Change(FORMATTED))];
+
+// Whether a run whose text can't be written tells that, and whether the image is another then.
+fn is_replaced(alloc: Global, image: &[u8]) -> Option<[bool; 2]> {
+    let mut held = hold(alloc, image, None)?;
     let ended = run_image(alloc, &mut held, None, STEP, Ending::Whole, &mut Full);
-    assert!(rt; ended == Err(RunFault::Write));
-    assert!(rt; held.image.as_slice() != image.as_slice());
-    Ok(())
+    Some([
+        ended == Err(RunFault::Write),
+        held.image.as_slice() != image,
+    ])
+}
+
+// The same of the image in the file.
+fn is_replaced_there(rt: &HostRuntime) -> Option<[bool; 2]> {
+    let image = fs::read(rt, "replaced").ok()?;
+    is_replaced(rt.alloc(), &image)
+}
+
+#[test]
+fn an_image_is_replaced_before_the_text_is_written(rt: HostRuntime) {
+    assert!(rt; first_other(&rt, REPLACED).is_none());
+    assert!(rt; is_replaced_there(&rt) == Some([true; 2]));
 }

@@ -1,16 +1,14 @@
 //! The word `run` over an image file: what a script leaves in memory behind a crash, it leaves in the file.
 
-use crate::playing::{is_made, play, plays, writes};
+use crate::playing::{Does, FORMAT, FORMATTED, Line, first_other};
 use std::fs;
-use std::test::Fail;
-
-// What is told of the recovery of an image that was only made.
-const BEGUN: &str = "kept 0 0\nundone 0\nheap 10 20\n";
 
 // A section that is logged, written home and acknowledged, and what its lines print: the first script of docs/SCRIPTS.md.
 const KEPT: &str = "t1 enter o0\nt1 store f0 5\nt1 exit o0\nlog\nhome\nsettle\ncrash lost\n";
 
-const KEPT_TEXT: &str = "ok\nok\nok\nlogged 3\nwrote 1\nacknowledged 1 0\ncrashed\n";
+const KEPT_TEXT: &[u8] = b"\
+kept 0 0\nundone 0\nheap 10 20\n\
+ok\nok\nok\nlogged 3\nwrote 1\nacknowledged 1 0\ncrashed\n";
 
 const KEPT_REPORT: &[u8] = b"kept 1 0\nundone 0\nheap 5 20\n";
 
@@ -29,58 +27,85 @@ settle
 crash lost
 ";
 
-const DRAGGED_TEXT: &str =
-    "ok\nok\nok\nok\nok\nok\nok\nlogged 7\nwrote 1\nacknowledged 0 0\ncrashed\n";
+const DRAGGED_TEXT: &[u8] = b"\
+kept 0 0\nundone 0\nheap 10 20\n\
+ok\nok\nok\nok\nok\nok\nok\nlogged 7\nwrote 1\nacknowledged 0 0\ncrashed\n";
 
 const DRAGGED_REPORT: &[u8] =
     b"kept 0 0\ndropped t1 1 unfinished\ndropped t2 1 after t1 1\nundone 1\nheap 10 20\n";
 
+const CRASHES: &[Line] = &[
+    (FORMAT, Some("kept"), "", Does::Change(FORMATTED)),
+    (&["run"], Some("kept"), KEPT, Does::Change(KEPT_TEXT)),
+    (&["recover"], Some("kept"), "", Does::Change(KEPT_REPORT)),
+    (FORMAT, Some("dragged"), "", Does::Change(FORMATTED)),
+    (
+        &["run"],
+        Some("dragged"),
+        DRAGGED,
+        Does::Change(DRAGGED_TEXT),
+    ),
+    (
+        &["recover"],
+        Some("dragged"),
+        "",
+        Does::Change(DRAGGED_REPORT),
+    ),
+];
+
 #[test]
-fn a_crash_stays_in_the_file(rt: HostRuntime) -> Result<(), Fail> {
-    let alloc = rt.alloc();
-    assert!(rt; is_made(&rt, "kept", "kept_of")?);
-    let text = format!(in alloc; "{BEGUN}{KEPT_TEXT}")?;
-    assert!(rt; plays(&rt, &["run", "--image", "kept"], KEPT, text.as_bytes())?);
-    assert!(rt; writes(&rt, &["recover", "--image", "kept"], KEPT_REPORT)?);
-    assert!(rt; is_made(&rt, "dragged", "dragged_of")?);
-    let text = format!(in alloc; "{BEGUN}{DRAGGED_TEXT}")?;
-    assert!(rt;
-        plays(
-            &rt,
-            &["run", "--image", "dragged"],
-            DRAGGED,
-            text.as_bytes()
-        )?
-    );
-    assert!(rt; writes(&rt, &["recover", "--image", "dragged"], DRAGGED_REPORT)?);
-    Ok(())
+fn a_crash_stays_in_the_file(rt: HostRuntime) {
+    assert!(rt; first_other(&rt, CRASHES).is_none());
 }
 
-// What is settled stays at a stop, and what isn't doesn't; names are those of the schema file.
+// A script is played by the names of the schema file.
+const RUN_NAMED: &[&str] = &["run", "--schema", "schema"];
+
+// What is settled stays at a stop, and what isn't doesn't.
+const STOPS: &[Line] = &[
+    (FORMAT, Some("gone_on"), "", Does::Change(FORMATTED)),
+    (
+        RUN_NAMED,
+        Some("gone_on"),
+        "t1 enter o0\nt1 store f0 5\nt1 exit o0\nlog\nhome\nsettle\n",
+        Does::Change(
+            b"kept 0 0\nundone 0\nheap 10 20\nok\nok\nok\nlogged 3\nwrote 1\nacknowledged 1 0\n",
+        ),
+    ),
+    (
+        RUN_NAMED,
+        Some("gone_on"),
+        "t1 enter o1\nt1 store f1 6\nt1 exit o1\nlog\nheap\n",
+        Does::Change(b"kept 1 0\nundone 0\nheap 5 20\nok\nok\nok\nlogged 3\nheap 5 6\n"),
+    ),
+    (
+        RUN_NAMED,
+        Some("gone_on"),
+        "",
+        Does::Change(b"kept 0 0\ndropped t1 1 unsettled\nundone 1\nheap 5 20\n"),
+    ),
+];
+
 #[test]
-fn a_script_goes_on_where_one_stopped(rt: HostRuntime) -> Result<(), Fail> {
-    assert!(rt; is_made(&rt, "gone_on", "gone_on_of")?);
-    let words = ["run", "--image", "gone_on", "--schema", "gone_on_of"];
-    let settled = "t1 enter o0\nt1 store f0 5\nt1 exit o0\nlog\nhome\nsettle\n";
-    assert!(rt; play(&rt, &words, settled)?.is_some());
-    let lost = "t1 enter o1\nt1 store f1 6\nt1 exit o1\nlog\nheap\n";
-    let text = b"kept 1 0\nundone 0\nheap 5 20\nok\nok\nok\nlogged 3\nheap 5 6\n";
-    assert!(rt; plays(&rt, &words, lost, text)?);
-    let report = b"kept 0 0\ndropped t1 1 unsettled\nundone 1\nheap 5 20\n";
-    assert!(rt; plays(&rt, &words, "", report)?);
-    Ok(())
+fn a_script_goes_on_where_one_stopped(rt: HostRuntime) {
+    assert!(rt; first_other(&rt, STOPS).is_none());
 }
 
 // A line that has a fault, and a schema that isn't the image's.
+const REFUSED: &[Line] = &[
+    (FORMAT, Some("left"), "", Does::Change(FORMATTED)),
+    (&["run"], Some("left"), "t1 enter o0\nfrob\n", Does::Fail),
+    (
+        &["run", "--schema", "other_of"],
+        Some("left"),
+        "t1 enter a\n",
+        Does::Fail,
+    ),
+];
+
 #[test]
-fn a_refused_script_leaves_the_file(rt: HostRuntime) -> Result<(), Fail> {
-    assert!(rt; is_made(&rt, "left", "left_of")?);
-    let image = fs::read(&rt, "left")?;
-    assert!(rt; play(&rt, &["run", "--image", "left"], "t1 enter o0\nfrob\n")?.is_none());
-    fs::write(&rt, "other_of", "object a\nfield b a a 7\n")?;
-    let words = ["run", "--image", "left", "--schema", "other_of"];
-    assert!(rt; play(&rt, &words, "t1 enter a\n")?.is_none());
-    assert!(rt; fs::read(&rt, "left")?.as_slice() == image.as_slice());
+fn a_refused_script_leaves_the_file(rt: HostRuntime) {
+    assert!(rt; fs::write(&rt, "other_of", "object a\nfield b a a 7\n").is_ok());
+    assert!(rt; first_other(&rt, REFUSED).is_none());
     assert!(rt; fs::read(&rt, "left.heapctl-new").is_err());
-    Ok(())
 }

@@ -1,20 +1,19 @@
-//! Words that are read and obeyed.
+//! Lines of the program's words, each read and obeyed as the program does it, over image files of the folder that the tests share.
 
 use command_words::{Words, read_words};
 use commands::obey;
 use file_disk::BackingFile;
 use image_file::Trouble;
-use std::alloc::{AllocError, Global};
+use std::alloc::Global;
 use std::fs;
 use std::fs::{Files, OpenFile};
 use std::io::Read;
 use std::rt::Clock;
 use std::sync::Wait;
-use std::test::Fail;
 use std::thread::Threads;
 
-/// Four objects and two fields.
-pub const SCHEMA: &str = "\
+/// Four objects and two fields, as the file `schema` declares them.
+pub const SCHEMA: &[u8] = b"\
 object o0
 object o1
 object o2
@@ -23,33 +22,67 @@ field f0 o0 o0 10
 field f1 o1 o1 20
 ";
 
-// These words behind the program's name.
-fn with_name(alloc: Global, words: &[&str]) -> Result<Vec<String>, AllocError> {
-    let mut texts = vec![in alloc; String::from_str(alloc, "heapctl")?]?;
+/// The words that make an image of it.
+pub const FORMAT: &[&str] = &["format", "--schema", "schema", "--lanes", "2"];
+
+/// What that writes.
+pub const FORMATTED: &[u8] = b"formatted 130208\n";
+
+/// What is told of an image that was only made where it is recovered.
+pub const REPORT: &[u8] = b"kept 0 0\nundone 0\nheap 10 20\n";
+
+/// What is shown of it.
+pub const LINES: &[u8] = b"image lanes 2 capacity 4000 objects 4 fields 2 size 130208
+control a sequence 1 version 2
+lane t1 start 0 settled 0 logged 0 kept 0
+lane t2 start 0 settled 0 logged 0 kept 0
+cut 0 0
+heap 10 20
+";
+
+/// What words have to do.
+#[derive(Clone, Copy)]
+pub enum Does {
+    /// They write this text and end well, and the image has other bytes then.
+    Change(&'static [u8]),
+    /// The same, and each byte of the image stays, or there is none.
+    Tell(&'static [u8]),
+    /// They write a text that begins so and end well, and each byte of the image stays.
+    Draw(&'static [u8]),
+    /// They end with a fault, and each byte of the image stays.
+    Fail,
+}
+
+/// Words, the image file that they name, what is on standard input, and what they have to do.
+pub type Line = (
+    &'static [&'static str],
+    Option<&'static str>,
+    &'static str,
+    Does,
+);
+
+/// These words behind the program's name.
+pub fn with_name(alloc: Global, words: &[&str]) -> Option<Vec<String>> {
+    let mut texts = Vec::new(alloc);
+    texts.push(String::from_str(alloc, "heapctl").ok()?).ok()?;
     for word in words {
-        texts.push(String::from_str(alloc, word)?)?;
+        texts.push(String::from_str(alloc, word).ok()?).ok()?;
     }
-    Ok(texts)
+    Some(texts)
 }
 
-/// What the words write, with this script on standard input; `None` where they end with a fault.
-pub fn play<F, R>(rt: &R, words: &[&str], script: &str) -> Result<Option<Vec<u8>>, Fail>
-where
-    F: BackingFile + OpenFile + Read + Drop,
-    R: Files<File = F> + AllocGlobal + Clock + Eprint + Threads + Wait + Sync,
-{
-    let alloc = rt.alloc();
-    let texts = with_name(alloc, words)?;
-    let mut written = Vec::new(alloc);
-    let done = match read_words(alloc, texts.as_slice()) {
-        Ok(asked) => is_done(rt, asked, script, &mut written),
-        Err(_) => return Err(Fail::new("these words are taken")),
-    };
-    Ok(if done { Some(written) } else { None })
+// These words and the image behind the program's name.
+fn texts_of(alloc: Global, words: &[&str], image: Option<&str>) -> Option<Vec<String>> {
+    let mut texts = with_name(alloc, words)?;
+    if let Some(image) = image {
+        texts.push(String::from_str(alloc, "--image").ok()?).ok()?;
+        texts.push(String::from_str(alloc, image).ok()?).ok()?;
+    }
+    Some(texts)
 }
 
-// Whether it is done what the words ask for.
-fn is_done<F, R>(rt: &R, asked: Words<'_>, script: &str, written: &mut Vec<u8>) -> bool
+// Whether what the words ask for is done, with this script on standard input.
+fn is_obeyed<F, R>(rt: &R, asked: Words<'_>, script: &str, written: &mut Vec<u8>) -> bool
 where
     F: BackingFile + OpenFile + Read + Drop,
     R: Files<File = F> + AllocGlobal + Clock + Eprint + Threads + Wait + Sync,
@@ -58,37 +91,84 @@ where
     obey(rt, false, &Trouble::none(), asked, &mut reader, written).is_ok()
 }
 
-/// Whether the words write this, and end well.
-pub fn writes<F, R>(rt: &R, words: &[&str], text: &[u8]) -> Result<bool, Fail>
+/// Whether what these words ask of the image is done, with this script on standard input. `None` where they aren't taken.
+pub fn play<F, R>(
+    rt: &R,
+    words: &[&str],
+    image: Option<&str>,
+    script: &str,
+    written: &mut Vec<u8>,
+) -> Option<bool>
 where
     F: BackingFile + OpenFile + Read + Drop,
     R: Files<File = F> + AllocGlobal + Clock + Eprint + Threads + Wait + Sync,
 {
-    plays(rt, words, "", text)
+    let texts = texts_of(rt.alloc(), words, image)?;
+    match read_words(rt.alloc(), texts.as_slice()) {
+        Ok(asked) => Some(is_obeyed(rt, asked, script, written)),
+        Err(_) => None,
+    }
 }
 
-/// Whether the words write this, with this script on standard input, and end well.
-pub fn plays<F, R>(rt: &R, words: &[&str], script: &str, text: &[u8]) -> Result<bool, Fail>
+// The bytes of the file, none where there is none.
+fn bytes_of<R: Files + AllocGlobal>(rt: &R, path: Option<&str>) -> Vec<u8> {
+    match path {
+        Some(path) => fs::read(rt, path).unwrap_or(Vec::new(rt.alloc())),
+        None => Vec::new(rt.alloc()),
+    }
+}
+
+// Whether words have done what they have to, that did it well, wrote this and left the image as it was, or not.
+fn fits(does: Does, is_done: bool, written: &[u8], is_left: bool) -> bool {
+    match does {
+        Does::Change(text) => is_done && written == text && !is_left,
+        Does::Tell(text) => is_done && written == text && is_left,
+        Does::Draw(text) => is_done && written.starts_with(text) && is_left,
+        Does::Fail => !is_done && is_left,
+    }
+}
+
+// Whether the line does what it has to do.
+fn is_so<F, R>(rt: &R, line: &Line) -> bool
 where
     F: BackingFile + OpenFile + Read + Drop,
     R: Files<File = F> + AllocGlobal + Clock + Eprint + Threads + Wait + Sync,
 {
-    let written = play(rt, words, script)?;
-    Ok(match &written {
-        Some(written) => written.as_slice() == text,
+    let (words, image, script, does) = *line;
+    let before = bytes_of(rt, image);
+    let mut written = Vec::new(rt.alloc());
+    let played = play(rt, words, image, script, &mut written);
+    let after = bytes_of(rt, image);
+    match played {
+        Some(is_done) => fits(
+            does,
+            is_done,
+            &written,
+            before.as_slice() == after.as_slice(),
+        ),
         None => false,
-    })
+    }
 }
 
-/// Makes an image of two lanes in a file, and tells whether its size was written.
-pub fn is_made<F, R>(rt: &R, image: &str, schema: &str) -> Result<bool, Fail>
+/// The first of these lines, played one after the other, that doesn't do what it has to do.
+pub fn first_other<F, R>(rt: &R, lines: &[Line]) -> Option<usize>
 where
     F: BackingFile + OpenFile + Read + Drop,
     R: Files<File = F> + AllocGlobal + Clock + Eprint + Threads + Wait + Sync,
 {
-    fs::write(rt, schema, SCHEMA)?;
-    let words = [
-        "format", "--schema", schema, "--image", image, "--lanes", "2",
-    ];
-    writes(rt, &words, b"formatted 130208\n")
+    if fs::write(rt, "schema", SCHEMA).is_err() {
+        return Some(0);
+    }
+    for (place, line) in lines.iter().enumerate() {
+        if !is_so(rt, line) {
+            return Some(place);
+        }
+    }
+    None
+}
+
+/// How long the file is, and whether it begins so. `None` where it can't be read.
+pub fn begins<R: Files + AllocGlobal>(rt: &R, path: &str, start: &[u8]) -> Option<(usize, bool)> {
+    let bytes = fs::read(rt, path).ok()?;
+    Some((bytes.len(), bytes.starts_with(start)))
 }
