@@ -6,17 +6,33 @@ ghost use Rattle.running_heap.specs.Joined.{IsHelping, IsJoined};
 ghost use Rattle.session.specs.Sessions.{IsSessionOf};
 ghost use Rattle.trim_helper.specs.Endings.{IsEnded, Rings};
 
-use crate::heap::{open_two, values_on};
+use crate::heap::{TwoLanes, declare, open_two};
+use crate::images::values_on;
+use crate::work::{ALL, TOTAL};
 use block_disk::MemDisk;
-use heap_model::{FieldId, Lane, ObjectId};
+use heap_model::Lane;
 use monitor::Shared;
-use running_heap::{close, end, joined_law};
+use running_heap::{RunningHeap, close, end, joined_law};
 use session::{Session, Waiting};
 use std::alloc::Global;
-use trim_helper::{CloseError, Ended, Helper};
+use trim_helper::{CloseError, Ended};
 
-/// The list of one session that has ended.
-pub fn one_of(alloc: Global, only: Ended) -> Option<Vec<Ended>>
+/// Why a heap wasn't closed, if it wasn't, and the values that recovery gives of its device.
+pub type Closing = (Option<CloseError>, Option<[u64; 3]>);
+
+// Closes the heap with these sessions.
+fn close_with(alloc: Global, heap: RunningHeap<MemDisk>, ended: Vec<Ended>) -> Closing
+    requires helper { IsHelping device_of heap.shared heap.helper }
+    requires ended { All (IsEnded heap.shared heap.helper.store.known.layout.capacity heap.helper.rings) ended.items }
+{
+    match close(heap.shared, ended, heap.helper) {
+        Ok(disk) => (None, values_on(alloc, disk)),
+        Err((disk, why)) => (Some(why), values_on(alloc, disk)),
+    }
+}
+
+// The list of one session that has ended.
+fn one_of(alloc: Global, only: Ended) -> Option<Vec<Ended>>
     ensures items { IfSome result (λ l. l.items ≡ only ∷ []) }
 {
     vec![in alloc; only].ok()
@@ -29,27 +45,14 @@ fn both_of(alloc: Global, first: Ended, second: Ended) -> Option<Vec<Ended>>
     vec![in alloc; first, second].ok()
 }
 
-// Whether recovery gives a heap of three fields their first values.
-fn has_first_values(alloc: Global, disk: MemDisk) -> bool {
-    match values_on(alloc, disk) {
-        Some(values) => values.as_slice() == [0, 0, 0].as_slice(),
-        None => false,
-    }
-}
-
-// Why the heap isn't closed with these sessions, and whether the device that comes back has the first values.
-fn refusal(
-    alloc: Global,
-    shared: Shared,
-    ended: Vec<Ended>,
-    helper: Helper<MemDisk>,
-) -> Option<(CloseError, bool)>
-    requires helper { IsHelping device_of shared helper }
-    requires ended { All (IsEnded shared helper.store.known.layout.capacity helper.rings) ended.items }
+/// Closes the heap with this session alone.
+pub fn close_one(alloc: Global, heap: RunningHeap<MemDisk>, only: Session) -> Closing
+    requires helper { IsHelping device_of heap.shared heap.helper }
+    requires only { IsJoined heap.shared heap.helper.store.known.layout.capacity heap.helper.rings only }
 {
-    match close(shared, ended, helper) {
-        Ok(_) => None,
-        Err((disk, why)) => Some((why, has_first_values(alloc, disk))),
+    match one_of(alloc, end(only)) {
+        Some(ended) => close_with(alloc, heap, ended),
+        None => (None, None),
     }
 }
 
@@ -60,55 +63,26 @@ fn end_holding(shared: &Shared, session: Session) -> Ended
 {
     joined_law();
     let mut session = session;
-    let _ = session.try_enter(shared, ObjectId(0));
+    let _ = session.try_enter(shared, ALL);
     end(session)
-}
-
-// Closes with this session alone.
-fn close_with(
-    alloc: Global,
-    shared: Shared,
-    only: Session,
-    helper: Helper<MemDisk>,
-) -> Option<(CloseError, bool)>
-    requires helper { IsHelping device_of shared helper }
-    requires only { IsJoined shared helper.store.known.layout.capacity helper.rings only }
-{
-    match one_of(alloc, end(only)) {
-        Some(ended) => refusal(alloc, shared, ended, helper),
-        None => None,
-    }
 }
 
 // Closes with both, the first of which holds a monitor.
 fn close_holding(
     alloc: Global,
-    shared: Shared,
+    heap: RunningHeap<MemDisk>,
     first: Session,
     second: Session,
-    helper: Helper<MemDisk>,
-) -> Option<(CloseError, bool)>
-    requires helper { IsHelping device_of shared helper }
-    requires first { IsJoined shared helper.store.known.layout.capacity helper.rings first }
-    requires second { IsJoined shared helper.store.known.layout.capacity helper.rings second }
+) -> Closing
+    requires helper { IsHelping device_of heap.shared heap.helper }
+    requires first { IsJoined heap.shared heap.helper.store.known.layout.capacity heap.helper.rings first }
+    requires second { IsJoined heap.shared heap.helper.store.known.layout.capacity heap.helper.rings second }
 {
-    let held = end_holding(&shared, first);
+    let held = end_holding(&heap.shared, first);
     match both_of(alloc, held, end(second)) {
-        Some(ended) => refusal(alloc, shared, ended, helper),
-        None => None,
+        Some(ended) => close_with(alloc, heap, ended),
+        None => (None, None),
     }
-}
-
-// The second lane's session hasn't come.
-fn one_is_missing(alloc: Global) -> Option<(CloseError, bool)> {
-    let (shared, first, _second, helper) = open_two(alloc)?;
-    close_with(alloc, shared, first, helper)
-}
-
-// The first lane's session holds a monitor.
-fn one_holds(alloc: Global) -> Option<(CloseError, bool)> {
-    let (shared, first, second, helper) = open_two(alloc)?;
-    close_holding(alloc, shared, first, second, helper)
 }
 
 // Enters a monitor, stores, and begins to wait.
@@ -116,29 +90,76 @@ fn begin_wait(shared: &Shared, session: Session) -> Option<Waiting>
     requires seat { IsSessionOf shared.now session }
 {
     let mut session = session;
-    let _ = session.try_enter(shared, ObjectId(0));
-    let _ = session.store(shared, FieldId(0), 7);
-    session.begin_wait(shared, ObjectId(0)).ok()
+    let _ = session.try_enter(shared, ALL);
+    let _ = session.store(shared, TOTAL, 7);
+    session.begin_wait(shared, ALL).ok()
+}
+
+// Closes with the second alone, while the first waits.
+fn close_waiting(
+    alloc: Global,
+    heap: RunningHeap<MemDisk>,
+    first: Session,
+    second: Session,
+) -> (bool, Closing)
+    requires helper { IsHelping device_of heap.shared heap.helper }
+    requires first { IsJoined heap.shared heap.helper.store.known.layout.capacity heap.helper.rings first }
+    requires second { IsJoined heap.shared heap.helper.store.known.layout.capacity heap.helper.rings second }
+{
+    let waiting = begin_wait(&heap.shared, first);
+    let closing = close_one(alloc, heap, second);
+    (waiting.is_some(), closing)
+}
+
+// A heap of two lanes that begins to run.
+fn opened(alloc: Global) -> Option<TwoLanes>
+    ensures first { IfSome result (λ o. IsJoined o.0.shared o.0.helper.store.known.layout.capacity o.0.helper.rings o.1) }
+    ensures second { IfSome result (λ o. IsJoined o.0.shared o.0.helper.store.known.layout.capacity o.0.helper.rings o.2) }
+    ensures helping { IfSome result (λ o. IsHelping device_of o.0.shared o.0.helper) }
+{
+    let schema = declare(alloc)?;
+    open_two(alloc, schema)
+}
+
+// The second lane's session hasn't come.
+fn told_of_missing(alloc: Global) -> Option<Closing> {
+    match opened(alloc) {
+        Some((heap, first, _second)) => Some(close_one(alloc, heap, first)),
+        None => None,
+    }
+}
+
+// The first lane's session holds a monitor.
+fn told_of_holding(alloc: Global) -> Option<Closing> {
+    match opened(alloc) {
+        Some((heap, first, second)) => Some(close_holding(alloc, heap, first, second)),
+        None => None,
+    }
 }
 
 // The first lane's session waits.
-fn one_waits(alloc: Global) -> Option<(bool, Option<(CloseError, bool)>)> {
-    let (shared, first, second, helper) = open_two(alloc)?;
-    let waiting = begin_wait(&shared, first);
-    let refused = close_with(alloc, shared, second, helper);
-    Some((waiting.is_some(), refused))
+fn told_of_waiting(alloc: Global) -> Option<(bool, Closing)> {
+    match opened(alloc) {
+        Some((heap, first, second)) => Some(close_waiting(alloc, heap, first, second)),
+        None => None,
+    }
+}
+
+// Not closed for this reason; recovery gives the first values.
+fn refused(why: CloseError) -> Closing {
+    (Some(why), Some([0; 3]))
 }
 
 #[test]
 fn a_session_that_waits_has_not_ended(rt: HostRuntime) {
-    let missing = CloseError::Missing { lane: Lane(0) };
-    assert!(rt; one_waits(rt.alloc()) == Some((true, Some((missing, true)))));
+    let missing = refused(CloseError::Missing { lane: Lane(0) });
+    assert!(rt; told_of_waiting(rt.alloc()) == Some((true, missing)));
 }
 
 #[test]
 fn all_sessions_have_to_end(rt: HostRuntime) {
-    let missing = CloseError::Missing { lane: Lane(1) };
-    assert_eq!(rt; one_is_missing(rt.alloc()), Some((missing, true)));
-    let unfinished = CloseError::Unfinished { lane: Lane(0) };
-    assert_eq!(rt; one_holds(rt.alloc()), Some((unfinished, true)));
+    let missing = refused(CloseError::Missing { lane: Lane(1) });
+    assert!(rt; told_of_missing(rt.alloc()) == Some(missing));
+    let unfinished = refused(CloseError::Unfinished { lane: Lane(0) });
+    assert!(rt; told_of_holding(rt.alloc()) == Some(unfinished));
 }

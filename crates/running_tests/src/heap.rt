@@ -1,42 +1,61 @@
-//! Heaps that run on disks in memory. Object 0 guards field 0, which is for all; object i + 1 guards field i + 1, which is for
-//! lane i. The fields begin with 0, and each lane holds 4,000 records.
+//! Heaps that run on disks in memory, which hold 4,000 records.
 
 ghost use Rattle.std.specs.Prelude.{IfSome, All};
 ghost use Rattle.block_disk.specs.Memory.{device_of};
 ghost use Rattle.running_heap.specs.Joined.{IsHelping, IsJoined};
-ghost use Rattle.session.specs.Sessions.{IsSessionOf};
 
 use block_disk::{Disk, MemDisk};
 use durable::Store;
 use guards::{Schema, SchemaBuilder};
-use monitor::Shared;
-use recover::recover;
 use running_heap::{RunningHeap, open};
 use session::Session;
 use std::alloc::Global;
-use trim_helper::Helper;
 
 // A bound on release numbers that no test comes near.
 const LAST: u64 = 1_000_000;
 
-// One object with its field for all, and one for each lane.
-fn declare(alloc: Global, lanes: u8) -> Option<Schema> {
-    let mut builder = SchemaBuilder::new(alloc);
-    for number in 0..u32::from(lanes) + 1 {
-        let name = format!(in alloc; "o{number}").ok()?;
-        let object = builder.object(name.as_str()).ok()?;
-        builder.field(object, name.as_str(), object, 0).ok()?;
-    }
-    builder.build().ok()
+/// The disk on which such a heap begins.
+pub fn new_disk(alloc: Global) -> Option<MemDisk> {
+    MemDisk::new(alloc, 80_384).ok()
 }
 
-/// A heap with so many lanes, which begins to run on this disk. `None` is a refusal.
-pub fn open_on<D: Disk + Drop>(alloc: Global, disk: D, lanes: u8) -> Option<RunningHeap<D>>
+// An object, which guards a field of its own that begins with 0. `None` is a refusal.
+fn declare_object(builder: &mut SchemaBuilder, name: &str) -> Option<()> {
+    let object = builder.object(name).ok()?;
+    match builder.field(object, name, object, 0) {
+        Ok(_) => Some(()),
+        Err(_) => None,
+    }
+}
+
+fn declare_objects(builder: &mut SchemaBuilder) -> Option<()> {
+    declare_object(builder, "o0")?;
+    declare_object(builder, "o1")?;
+    declare_object(builder, "o2")
+}
+
+/// Three objects, each of which guards the field of its number. The fields begin with 0. Object 0 is for all, and object i + 1 for
+/// lane i.
+pub fn declare(alloc: Global) -> Option<Schema> {
+    let mut builder = SchemaBuilder::new(alloc);
+    match declare_objects(&mut builder) {
+        Some(()) => builder.build().ok(),
+        None => None,
+    }
+}
+
+// A heap of this schema, with so many lanes of so many records, begins to run. `None` is a refusal.
+fn begin<D: Disk + Drop>(
+    alloc: Global,
+    disk: D,
+    schema: Schema,
+    lanes: u8,
+    capacity: u32,
+) -> Option<RunningHeap<D>>
     ensures joined { IfSome result (λ o. All (IsJoined o.shared o.helper.store.known.layout.capacity o.helper.rings) o.sessions.items) }
     ensures helping { IfSome result (λ o. IsHelping D.device o.shared o.helper) }
 {
-    let schema = declare(alloc, lanes)?;
-    let Ok(made) = Store::format(alloc, disk, &schema, lanes, 4_000) else {
+    let Ok(made) = Store::format(alloc, disk, &schema, lanes, capacity) else {
         return None;
     };
     let Ok(heap) = open(alloc, schema, made, LAST) else {
@@ -45,77 +64,71 @@ pub fn open_on<D: Disk + Drop>(alloc: Global, disk: D, lanes: u8) -> Option<Runn
     Some(heap)
 }
 
-/// The same on a disk of its own.
-pub fn open_lanes(alloc: Global, lanes: u8) -> Option<RunningHeap<MemDisk>>
-    ensures joined { IfSome result (λ o. All (IsJoined o.shared o.helper.store.known.layout.capacity o.helper.rings) o.sessions.items) }
-    ensures helping { IfSome result (λ o. IsHelping device_of o.shared o.helper) }
+// Takes the session of the last lane of which it is there.
+fn take_last<D: Disk + Drop>(heap: &mut RunningHeap<D>) -> Option<Session>
+    requires joined { All (IsJoined heap.old.shared heap.old.helper.store.known.layout.capacity heap.old.helper.rings) heap.old.sessions.items }
+    ensures session { IfSome result (IsJoined heap.new.shared heap.new.helper.store.known.layout.capacity heap.new.helper.rings) }
+    ensures joined { All (IsJoined heap.new.shared heap.new.helper.store.known.layout.capacity heap.new.helper.rings) heap.new.sessions.items }
+    ensures others { (x : Session) → IsJoined heap.old.shared heap.old.helper.store.known.layout.capacity heap.old.helper.rings x → IsJoined heap.new.shared heap.new.helper.store.known.layout.capacity heap.new.helper.rings x }
+    ensures helping { IsHelping D.device heap.old.shared heap.old.helper → IsHelping D.device heap.new.shared heap.new.helper }
 {
-    let disk = MemDisk::new(alloc, 64_000 * u64::from(lanes) + 16_384).ok()?;
-    open_on(alloc, disk, lanes)
+    heap.sessions.pop()
 }
 
-/// The same with one lane: the shared words, its session, and the helper.
-pub fn open_one(alloc: Global) -> Option<(Shared, Session, Helper<MemDisk>)>
-    ensures seat { IfSome result (λ o. IsSessionOf o.0 o.1) }
-    ensures helping { IfSome result (λ o. IsHelping device_of o.0 o.2) }
+// A heap of one lane, whose session is apart.
+fn only_lane<D: Disk + Drop>(heap: RunningHeap<D>) -> Option<(RunningHeap<D>, Session)>
+    requires joined { All (IsJoined heap.shared heap.helper.store.known.layout.capacity heap.helper.rings) heap.sessions.items }
+    requires helping { IsHelping D.device heap.shared heap.helper }
+    ensures joined { IfSome result (λ o. IsJoined o.0.shared o.0.helper.store.known.layout.capacity o.0.helper.rings o.1) }
+    ensures helping { IfSome result (λ o. IsHelping D.device o.0.shared o.0.helper) }
 {
-    let RunningHeap {
-        shared,
-        mut sessions,
-        helper,
-    } = open_lanes(alloc, 1)?;
-    match sessions.pop() {
-        Some(session) => Some((shared, session, helper)),
+    let mut heap = heap;
+    match take_last(&mut heap) {
+        Some(session) => Some((heap, session)),
         None => None,
     }
 }
 
-/// The same on this disk.
-pub fn open_one_on<D: Disk + Drop>(alloc: Global, disk: D) -> Option<(Shared, Session, Helper<D>)>
-    ensures joined { IfSome result (λ o. IsJoined o.0 o.2.store.known.layout.capacity o.2.rings o.1) }
-    ensures helping { IfSome result (λ o. IsHelping D.device o.0 o.2) }
+/// A heap with one lane, which begins to run on this disk, and its session.
+pub fn open_one<D: Disk + Drop>(alloc: Global, disk: D) -> Option<(RunningHeap<D>, Session)>
+    ensures joined { IfSome result (λ o. IsJoined o.0.shared o.0.helper.store.known.layout.capacity o.0.helper.rings o.1) }
+    ensures helping { IfSome result (λ o. IsHelping D.device o.0.shared o.0.helper) }
 {
-    let RunningHeap {
-        shared,
-        mut sessions,
-        helper,
-    } = open_on(alloc, disk, 1)?;
-    match sessions.pop() {
-        Some(session) => Some((shared, session, helper)),
+    let schema = declare(alloc)?;
+    match begin(alloc, disk, schema, 1, 4_000) {
+        Some(heap) => only_lane(heap),
         None => None,
     }
 }
 
-/// The same with two lanes: the shared words, their sessions, and the helper.
-pub fn open_two(alloc: Global) -> Option<(Shared, Session, Session, Helper<MemDisk>)>
-    ensures first { IfSome result (λ o. IsJoined o.0 o.3.store.known.layout.capacity o.3.rings o.1) }
-    ensures second { IfSome result (λ o. IsJoined o.0 o.3.store.known.layout.capacity o.3.rings o.2) }
-    ensures helping { IfSome result (λ o. IsHelping device_of o.0 o.3) }
+/// A heap of two lanes, and their sessions.
+pub type TwoLanes = (RunningHeap<MemDisk>, Session, Session);
+
+// Its sessions are apart.
+fn both_lanes(heap: RunningHeap<MemDisk>) -> Option<TwoLanes>
+    requires joined { All (IsJoined heap.shared heap.helper.store.known.layout.capacity heap.helper.rings) heap.sessions.items }
+    requires helping { IsHelping device_of heap.shared heap.helper }
+    ensures first { IfSome result (λ o. IsJoined o.0.shared o.0.helper.store.known.layout.capacity o.0.helper.rings o.1) }
+    ensures second { IfSome result (λ o. IsJoined o.0.shared o.0.helper.store.known.layout.capacity o.0.helper.rings o.2) }
+    ensures helping { IfSome result (λ o. IsHelping device_of o.0.shared o.0.helper) }
 {
-    let RunningHeap {
-        shared,
-        mut sessions,
-        helper,
-    } = open_lanes(alloc, 2)?;
-    let Some(second) = sessions.pop() else {
-        return None;
-    };
-    match sessions.pop() {
-        Some(first) => Some((shared, first, second, helper)),
+    let mut heap = heap;
+    let second = take_last(&mut heap)?;
+    match take_last(&mut heap) {
+        Some(first) => Some((heap, first, second)),
         None => None,
     }
 }
 
-/// The values that recovery gives the heap on the device. `None` is a refusal.
-pub fn values_on(alloc: Global, disk: MemDisk) -> Option<Vec<u64>> {
-    match recover(alloc, disk) {
-        Ok((recovered, _report)) => recovered.heap().to_vec(alloc).ok(),
-        Err(_) => None,
+/// A heap of this schema, which begins to run on a disk of its own.
+pub fn open_two(alloc: Global, schema: Schema) -> Option<TwoLanes>
+    ensures first { IfSome result (λ o. IsJoined o.0.shared o.0.helper.store.known.layout.capacity o.0.helper.rings o.1) }
+    ensures second { IfSome result (λ o. IsJoined o.0.shared o.0.helper.store.known.layout.capacity o.0.helper.rings o.2) }
+    ensures helping { IfSome result (λ o. IsHelping device_of o.0.shared o.0.helper) }
+{
+    let disk = new_disk(alloc)?;
+    match begin(alloc, disk, schema, 2, 2_000) {
+        Some(heap) => both_lanes(heap),
+        None => None,
     }
-}
-
-/// The value that recovery gives the field for all. `None` is a refusal.
-pub fn first_value(alloc: Global, disk: MemDisk) -> Option<u64> {
-    let values = values_on(alloc, disk)?;
-    values.first().copied()
 }

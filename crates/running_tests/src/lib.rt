@@ -1,5 +1,9 @@
 //! Tests of heaps that run, by their public calls alone: how far a session comes ahead of its helper, what
 //! closing answers, and what a device that fails leaves.
+//!
+//! And of heaps that crash while workers run: whatever a crash leaves at any call of the device, recovery keeps whole sections of
+//! what the workers did, as each of them noted it, and all that was acknowledged before; and of a pool's sections it finds a free
+//! list with no slot twice.
 #![tactic(auto)]
 
 #[cfg(test)]
@@ -11,8 +15,22 @@ mod faults;
 #[cfg(test)]
 mod heap;
 #[cfg(test)]
+mod images;
+#[cfg(test)]
+mod notes;
+#[cfg(test)]
+mod pool_lists;
+#[cfg(test)]
+mod pool_runs;
+#[cfg(test)]
+mod races;
+#[cfg(test)]
 mod room;
 #[cfg(test)]
 mod syncs;
 #[cfg(test)]
+mod turns;
+#[cfg(test)]
 mod work;
+#[cfg(test)]
+mod workers;

@@ -2,7 +2,6 @@ use Rattle.std.proofs.Common.{subst, sym}
 use Rattle.steps.specs.Views.{plan}
 use Rattle.image.specs.declared.layout.Layout.{Layout}
 use Rattle.running_heap.specs.Joined.{IsJoined}
-use Rattle.trim_helper.specs.Endings.{IsEnded}
 use Rattle.running_tests.proofs.work.serve.Goals as goal
 
 pub returns-clause-helping : goal.returns-clause-helping
@@ -17,16 +16,3 @@ returns-clause-joined g c x joined =
     let was = c.args.helper.now in
     let now = c.round.new.self in
     subst (λ (l : Layout). IsJoined h l.capacity now.rings x) (sym c.round.ensures.goes_on.layout) (c.joined_law.ensures.rings h was.store.known.layout.capacity was.rings now.rings x joined c.round.ensures.goes_on.rings)
-
-pub returns-clause-ended : goal.returns-clause-ended
-returns-clause-ended g c e ended =
-    let h = c.args.shared.now in
-    let was = c.args.helper.now in
-    let now = c.round.new.self in
-    subst (λ (l : Layout). IsEnded h l.capacity now.rings e) (sym c.round.ensures.goes_on.layout) (c.joined_law.ensures.ended h was.store.known.layout.capacity was.rings now.rings e ended c.round.ensures.goes_on.rings)
-
-pub returns-clause-rings : goal.returns-clause-rings
-returns-clause-rings g c = c.round.ensures.goes_on.rings
-
-pub returns-clause-layout : goal.returns-clause-layout
-returns-clause-layout g c = c.round.ensures.goes_on.layout

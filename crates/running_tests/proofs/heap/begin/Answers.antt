@@ -1,0 +1,17 @@
+use Rattle.std.proofs.Common.{All, ap, subst, sym}
+use Rattle.image.specs.declared.layout.Layout.{Layout}
+use Rattle.running_heap.specs.Joined.{IsJoined}
+use Rattle.running_tests.proofs.heap.begin.Goals as goal
+
+pub open-requires-clause-schema : goal.open-requires-clause-schema
+open-requires-clause-schema g c = record {
+  objects = ap (λ l. l.objects) c.in-Ok.ensures.layout;
+  fields = ap (λ l. l.fields) c.in-Ok.ensures.layout;
+  guarded = λ f d lt. ap (λ r. r.guard.0) (c.in-Ok.ensures.guards f d lt);
+  marked = λ f d lt. ap (λ r. r.transient) (c.in-Ok.ensures.guards f d lt);
+}
+
+pub returns-clause-joined : goal.returns-clause-joined
+returns-clause-joined g c =
+    let o = c.in-Ok-open.heap in
+    subst (λ (l : Layout). All (IsJoined o.shared l.capacity o.helper.rings) o.sessions.items) (sym c.in-Ok-open.ensures.layout) c.in-Ok-open.ensures.joined

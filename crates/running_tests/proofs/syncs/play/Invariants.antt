@@ -1,7 +1,0 @@
-use Rattle.block_disk.specs.Memory.{device_of}
-use Rattle.running_heap.specs.Joined.{IsHelping}
-use Rattle.session.specs.Sessions.{IsSessionOf}
-use Rattle.running_tests.proofs.syncs.play.Given as goal
-
-abbrev pub invariant-loop : goal.invariant-loop
-invariant-loop g l = IsSessionOf l.shared l.session × IsHelping (λ d. device_of d.disk) l.shared l.helper
