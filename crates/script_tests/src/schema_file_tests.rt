@@ -1,28 +1,10 @@
 //! What schema files declare, and what they are refused for.
+use crate::tests::Source;
 use declarations::{SchemaFault, SchemaFaultKind, read_schema};
 use guards::Schema;
 use heap_model::{FieldId, ObjectId};
 use std::alloc::Global;
 use std::io;
-use std::io::Read;
-
-// The text, and then a fault.
-#[derive(Drop)]
-struct BrokenOff<'a> {
-    text: &'a [u8],
-}
-
-impl<'a> Read for BrokenOff<'a> {
-    fn read(&mut self, buf: &mut [u8]) -> io::Result<usize> {
-        if self.text.is_empty() {
-            return Err(io::Error::from(io::ErrorKind::Interrupted));
-        }
-        let count = self.text.len().min(buf.len());
-        buf[..count].copy_from_slice(&self.text[..count]);
-        self.text = &self.text[count..];
-        Ok(count)
-    }
-}
 
 const COMMON: &[u8] = b"\
 # two objects, each with a field\n\
@@ -37,84 +19,106 @@ fn read_text(alloc: Global, text: &[u8]) -> Result<Schema, SchemaFault> {
     read_schema(alloc, &mut reader)
 }
 
-// How many objects it declares, the object with a name, and the second field's owner, guard and first value.
-fn declared(alloc: Global) -> Option<(u32, Option<ObjectId>, (ObjectId, ObjectId, u64))> {
-    let schema = read_text(alloc, COMMON).ok()?;
+// How many objects and fields a schema has, the object with this name, and the owner, guard and first value of its second field.
+type Declared = (u32, u32, Option<ObjectId>, (ObjectId, ObjectId, u64));
+
+fn told_of(schema: &Schema, name: &str) -> Option<Declared> {
+    let field = FieldId(1);
     if schema.fields() < 2 {
         return None;
     }
-    let field = FieldId(1);
     let row = (
         schema.owner(field),
         schema.guard(field),
         schema.first(field),
     );
-    Some((schema.objects(), schema.object_named("o1"), row))
+    Some((
+        schema.objects(),
+        schema.fields(),
+        schema.object_named(name),
+        row,
+    ))
+}
+
+fn declared(alloc: Global) -> Option<Declared> {
+    match read_text(alloc, COMMON) {
+        Ok(schema) => told_of(&schema, "o1"),
+        Err(_) => None,
+    }
 }
 
 #[test]
 fn a_schema_file_declares(rt: HostRuntime) {
     let row = (ObjectId(1), ObjectId(0), 20);
-    assert!(rt; declared(rt.alloc()) == Some((2, Some(ObjectId(1)), row)));
+    assert!(rt; declared(rt.alloc()) == Some((2, 2, Some(ObjectId(1)), row)));
 }
 
 // A text, and the line and the reason for which it is refused.
-type Refused<'a> = (&'a [u8], u64, SchemaFaultKind);
+const REFUSED: &[(&[u8], u64, SchemaFaultKind)] = &[
+    (b"", 0, SchemaFaultKind::Empty),
+    (b"object a\n\n", 2, SchemaFaultKind::Empty),
+    (b"#\nheap\n", 2, SchemaFaultKind::Syntax),
+    (b"object a b\n", 1, SchemaFaultKind::Syntax),
+    (b"object a\r\n\nobject a\n", 3, SchemaFaultKind::DoubleName),
+    (b"object a\nfield f a b 1\n", 2, SchemaFaultKind::Unknown),
+    (
+        b"object a\ntransient f a b 1\n",
+        2,
+        SchemaFaultKind::Unknown,
+    ),
+    (
+        b"object a\nfield f a a 1\ntransient f a a 1\n",
+        3,
+        SchemaFaultKind::DoubleName,
+    ),
+    (b"object a\ntransient f a a\n", 2, SchemaFaultKind::Syntax),
+    (b"object a\n# \xC3\xA9\nheap\n", 2, SchemaFaultKind::NotText),
+    (&[b'#'; 201], 1, SchemaFaultKind::TooLong),
+];
 
-fn is_refused(alloc: Global, case: Refused<'_>) -> bool {
-    let (text, line, why) = case;
-    read_text(alloc, text).err() == Some(SchemaFault { line, why })
+// Where and why the text is refused, if it is.
+fn refusal(alloc: Global, text: &[u8]) -> Option<(u64, SchemaFaultKind)> {
+    match read_text(alloc, text) {
+        Ok(_) => None,
+        Err(fault) => Some((fault.line, fault.why)),
+    }
 }
 
 // The first of these that isn't refused so.
-fn first_other(alloc: Global, cases: &[Refused<'_>]) -> Option<usize> {
-    cases.iter().position(|case| !is_refused(alloc, *case))
+fn first_other(alloc: Global) -> Option<usize> {
+    for (place, (text, line, why)) in REFUSED.iter().enumerate() {
+        if refusal(alloc, text) != Some((*line, *why)) {
+            return Some(place);
+        }
+    }
+    None
 }
 
 #[test]
 fn schema_files_are_refused_as_documented(rt: HostRuntime) {
-    let long = [b'#'; 201];
-    let cases = [
-        (b"".as_slice(), 0, SchemaFaultKind::Empty),
-        (b"object a\n\n", 2, SchemaFaultKind::Empty),
-        (b"#\nheap\n", 2, SchemaFaultKind::Syntax),
-        (b"object a b\n", 1, SchemaFaultKind::Syntax),
-        (b"object a\r\n\nobject a\n", 3, SchemaFaultKind::DoubleName),
-        (b"object a\nfield f a b 1\n", 2, SchemaFaultKind::Unknown),
-        (
-            b"object a\ntransient f a b 1\n",
-            2,
-            SchemaFaultKind::Unknown,
-        ),
-        (
-            b"object a\nfield f a a 1\ntransient f a a 1\n",
-            3,
-            SchemaFaultKind::DoubleName,
-        ),
-        (b"object a\ntransient f a a\n", 2, SchemaFaultKind::Syntax),
-        (b"object a\n# \xC3\xA9\nheap\n", 2, SchemaFaultKind::NotText),
-        (&long, 1, SchemaFaultKind::TooLong),
-    ];
-    assert!(rt; first_other(rt.alloc(), &cases).is_none());
+    assert!(rt; first_other(rt.alloc()).is_none());
 }
 
 // Why a reader that is broken off gives no schema.
-fn broken_off(alloc: Global, text: &[u8]) -> Option<SchemaFault> {
-    let mut reader = BrokenOff { text };
-    read_schema(alloc, &mut reader).err()
+fn broken_off(alloc: Global, text: &[u8]) -> Option<(u64, SchemaFaultKind)> {
+    let mut reader = Source {
+        bytes: text,
+        fault: Some((0, io::ErrorKind::Interrupted)),
+    };
+    match read_schema(alloc, &mut reader) {
+        Ok(_) => None,
+        Err(fault) => Some((fault.line, fault.why)),
+    }
 }
 
 #[test]
 fn a_fault_of_the_reader_is_of_the_line(rt: HostRuntime) {
     let text = b"object a\nfield f a a 1\nfield";
-    let why = SchemaFaultKind::Read;
-    assert!(rt; broken_off(rt.alloc(), text) == Some(SchemaFault { line: 3, why }));
+    assert!(rt; broken_off(rt.alloc(), text) == Some((3, SchemaFaultKind::Read)));
 }
 
-// Which of the three fields are transient; the last is declared so.
-fn marks(alloc: Global) -> Option<[bool; 3]> {
-    let text = b"object a\nfield f a a 1\nfield g a a 2\ntransient h a a 3\n";
-    let schema = read_text(alloc, text).ok()?;
+// Which of three fields are transient.
+fn marks_of(schema: &Schema) -> Option<[bool; 3]> {
     if schema.fields() != 3 {
         return None;
     }
@@ -125,27 +129,32 @@ fn marks(alloc: Global) -> Option<[bool; 3]> {
     ])
 }
 
-#[test]
-fn a_schema_file_declares_transient_fields(rt: HostRuntime) {
-    assert!(rt; marks(rt.alloc()) == Some([false, false, true]));
+// The same of this text's.
+fn marks(alloc: Global, text: &[u8]) -> Option<[bool; 3]> {
+    match read_text(alloc, text) {
+        Ok(schema) => marks_of(&schema),
+        Err(_) => None,
+    }
 }
 
-// Whether the schema is read, or there is no memory for it; and how many fields are read the next time.
-fn read_again(alloc: Global) -> (bool, Option<u32>) {
-    let first = match read_text(alloc, COMMON) {
-        Ok(_) => true,
-        Err(fault) => fault.why == SchemaFaultKind::Memory,
-    };
-    match read_text(alloc, COMMON) {
-        Ok(schema) => (first, Some(schema.fields())),
-        Err(_) => (first, None),
+#[test]
+fn a_schema_file_declares_transient_fields(rt: HostRuntime) {
+    let text = b"object a\nfield f a a 1\nfield g a a 2\ntransient h a a 3\n";
+    assert!(rt; marks(rt.alloc(), text) == Some([false, false, true]));
+}
+
+// Whether the schema is read, or there is no memory for it.
+fn is_read_or_wanting(alloc: Global) -> bool {
+    match refusal(alloc, COMMON) {
+        Some((_, why)) => why == SchemaFaultKind::Memory,
+        None => true,
     }
 }
 
 // Run with each allocation refused in turn: the schema isn't read then, and the next time it is.
 #[test]
 fn a_refused_allocation_reads_no_schema(rt: HostRuntime) {
-    assert!(rt; read_again(rt.alloc()) == (true, Some(2)));
+    assert!(rt; is_read_or_wanting(rt.alloc()) && declared(rt.alloc()).is_some());
 }
 
 // Whether the fault prints so.

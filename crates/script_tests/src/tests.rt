@@ -11,11 +11,13 @@ use std::alloc::Global;
 use std::io;
 use std::io::{Read, Write};
 
-// Gives three bytes a call at most, and fails once where it stands at `fault`.
+/// Gives three bytes a call at most, and fails once where it stands at `fault`.
 #[derive(Drop)]
-struct Source<'a> {
-    bytes: &'a [u8],
-    fault: Option<(usize, io::ErrorKind)>,
+pub struct Source<'a> {
+    /// What is left.
+    pub bytes: &'a [u8],
+    /// How much is left where it fails, and how.
+    pub fault: Option<(usize, io::ErrorKind)>,
 }
 
 impl<'a> Read for Source<'a> {
@@ -62,69 +64,103 @@ impl Write for Sink {
     }
 }
 
-fn writer_failing(alloc: Global, fault: Option<(u64, Option<io::ErrorKind>)>) -> Sink {
-    Sink {
-        taken: Vec::new(alloc),
-        calls: 0,
-        fault,
+// Where a run stops, and why; nothing where it is played to its end.
+type Stop = Option<(u64, ScriptErrorKind)>;
+
+fn stop_of(run: Result<(), ScriptError>) -> Stop {
+    match run {
+        Ok(()) => None,
+        Err(error) => Some((error.line, error.kind)),
     }
 }
 
-fn stops(line: u64, kind: ScriptErrorKind) -> Result<(), ScriptError> {
-    Err(ScriptError { line, kind })
+// Whether the script that this reader gives prints this with such a fault of the writer, and its run stops so.
+fn is_run(
+    alloc: Global,
+    mut reader: Source<'_>,
+    fault: Option<(u64, Option<io::ErrorKind>)>,
+    printed: &[u8],
+    stop: Stop,
+) -> bool {
+    let mut writer = Sink {
+        taken: Vec::new(alloc),
+        calls: 0,
+        fault,
+    };
+    let run = run_script(alloc, &mut reader, &mut writer);
+    stop_of(run) == stop && writer.taken.as_slice() == printed
 }
 
-// A script, what it prints, and how its run ends.
-type Case<'a> = (&'a [u8], &'a [u8], Result<(), ScriptError>);
-
-// Whether the run ends so, and what this writer took is this.
-fn is_so(writer: &Sink, run: Result<(), ScriptError>, case: Case<'_>) -> bool {
-    let (_, printed, ended) = case;
-    run == ended && writer.taken.as_slice() == printed
-}
-
-// Whether the script prints this, and its run ends so.
-fn is_played(alloc: Global, case: Case<'_>) -> bool {
-    let mut reader = Source {
-        bytes: case.0,
+// Whether the script prints this, and its run stops so.
+fn is_played(alloc: Global, script: &[u8], printed: &[u8], stop: Stop) -> bool {
+    let reader = Source {
+        bytes: script,
         fault: None,
     };
-    let mut writer = writer_failing(alloc, None);
-    let run = run_script(alloc, &mut reader, &mut writer);
-    is_so(&writer, run, case)
+    is_run(alloc, reader, None, printed, stop)
 }
 
+// A script that is played to its end, and what it prints.
+type Play = (&'static [u8], &'static [u8]);
+
 // The first of these that isn't played so.
-fn first_other(alloc: Global, cases: &[Case<'_>]) -> Option<usize> {
-    cases.iter().position(|case| !is_played(alloc, *case))
+fn first_unplayed(alloc: Global, plays: &[Play]) -> Option<usize> {
+    for (place, (script, printed)) in plays.iter().enumerate() {
+        if !is_played(alloc, script, printed, None) {
+            return Some(place);
+        }
+    }
+    None
 }
 
 const REFUSED: &[u8] = b"refused state\n";
 
 const NONE: &[u8] = b"";
 
-// The second is the example of a line of no form.
+// A script, what it prints, and where its run stops. The second is the example of a line of no form.
+const ENDS: &[(&[u8], &[u8], Stop)] = &[
+    (NONE, NONE, None),
+    (
+        b"object a\nfrob\n",
+        NONE,
+        Some((2, ScriptErrorKind::Syntax)),
+    ),
+    (b"object a\r\n\r\n#b\r\nheap", REFUSED, None),
+    (b"log\rheap\n", NONE, Some((1, ScriptErrorKind::Syntax))),
+    (b"heap\r\r\n", NONE, Some((1, ScriptErrorKind::Syntax))),
+    (b"heap\r", NONE, Some((1, ScriptErrorKind::Syntax))),
+    (b" \n", NONE, Some((1, ScriptErrorKind::Syntax))),
+    (
+        b"heap\n# \xC3\xA9\nheap\n",
+        REFUSED,
+        Some((2, ScriptErrorKind::NotText)),
+    ),
+    (b"trim\n", REFUSED, None),
+    (b"object a\nobject a\n", b"refused double name\n", None),
+];
+
+// The first of these that ends otherwise.
+fn first_other(alloc: Global) -> Option<usize> {
+    for (place, (script, printed, stop)) in ENDS.iter().enumerate() {
+        if !is_played(alloc, script, printed, *stop) {
+            return Some(place);
+        }
+    }
+    None
+}
+
 #[test]
 fn lines_end_as_documented(rt: HostRuntime) {
-    let inside = stops(1, ScriptErrorKind::Syntax);
-    let cases = [
-        (NONE, NONE, Ok(())),
-        (b"object a\nfrob\n", NONE, stops(2, ScriptErrorKind::Syntax)),
-        (b"object a\r\n\r\n#b\r\nheap", REFUSED, Ok(())),
-        (b"log\rheap\n", NONE, inside),
-        (b"heap\r\r\n", NONE, inside),
-        (b"heap\r", NONE, inside),
-        (b" \n", NONE, inside),
-        (
-            b"heap\n# \xC3\xA9\nheap\n",
-            REFUSED,
-            stops(2, ScriptErrorKind::NotText),
-        ),
-        (b"trim\n", REFUSED, Ok(())),
-        (b"object a\nobject a\n", b"refused double name\n", Ok(())),
-    ];
-    assert!(rt; first_other(rt.alloc(), &cases).is_none());
+    assert!(rt; first_other(rt.alloc()).is_none());
 }
+
+// How long a comment is, the bytes behind it, what is printed, and where the run stops. On one line, too long comes first.
+const LENGTHS: &[(usize, &[u8], &[u8], Stop)] = &[
+    (200, b"\r\nheap", REFUSED, None),
+    (201, b"\nheap", NONE, Some((1, ScriptErrorKind::TooLong))),
+    (200, b"\r", NONE, Some((1, ScriptErrorKind::TooLong))),
+    (200, b"\xFF", NONE, Some((1, ScriptErrorKind::TooLong))),
+];
 
 // A comment of this length, and behind it these bytes.
 fn comment(alloc: Global, len: usize, end: &[u8]) -> Option<Vec<u8>> {
@@ -133,30 +169,23 @@ fn comment(alloc: Global, len: usize, end: &[u8]) -> Option<Vec<u8>> {
     Some(text)
 }
 
-// Whether such a comment prints this, and its run ends so.
-fn is_comment_played(
-    alloc: Global,
-    len: usize,
-    end: &[u8],
-    printed: &[u8],
-    ended: Result<(), ScriptError>,
-) -> Option<bool> {
-    let text = comment(alloc, len, end)?;
-    Some(is_played(alloc, (&text, printed, ended)))
+// The first of these that ends otherwise.
+fn first_other_length(alloc: Global) -> Option<usize> {
+    for (place, (len, end, printed, stop)) in LENGTHS.iter().enumerate() {
+        let is_so = match comment(alloc, *len, end) {
+            Some(text) => is_played(alloc, &text, printed, *stop),
+            None => false,
+        };
+        if !is_so {
+            return Some(place);
+        }
+    }
+    None
 }
 
-// On one line, too long comes first.
 #[test]
 fn lengths_are_kept(rt: HostRuntime) {
-    let alloc = rt.alloc();
-    let first = stops(1, ScriptErrorKind::TooLong);
-    let found = [
-        is_comment_played(alloc, 200, b"\r\nheap", REFUSED, Ok(())),
-        is_comment_played(alloc, 201, b"\nheap", NONE, first),
-        is_comment_played(alloc, 200, b"\r", NONE, first),
-        is_comment_played(alloc, 200, b"\xFF", NONE, first),
-    ];
-    assert!(rt; found == [Some(true); 4]);
+    assert!(rt; first_other_length(rt.alloc()).is_none());
 }
 
 // 8192 lines of 128 bytes with their ends are the longest text.
@@ -173,10 +202,10 @@ fn longest(alloc: Global) -> Option<Vec<u8>> {
 fn told_of_longest(alloc: Global) -> Option<(usize, [bool; 2])> {
     let mut text = longest(alloc)?;
     let len = text.len();
-    let whole = is_played(alloc, (&text, NONE, Ok(())));
+    let whole = is_played(alloc, &text, NONE, None);
     text.push(b'\n').ok()?;
-    let behind = stops(8193, ScriptErrorKind::TooLong);
-    Some((len, [whole, is_played(alloc, (&text, NONE, behind))]))
+    let behind = is_played(alloc, &text, NONE, Some((8193, ScriptErrorKind::TooLong)));
+    Some((len, [whole, behind]))
 }
 
 #[test]
@@ -184,66 +213,74 @@ fn the_longest_text_is_played(rt: HostRuntime) {
     assert!(rt; told_of_longest(rt.alloc()) == Some((1_048_576, [true; 2])));
 }
 
-// Whether a run whose reader fails so, where this much is left, prints this and ends at this line.
-fn is_broken_off(
-    alloc: Global,
-    left: usize,
-    kind: io::ErrorKind,
-    line: u64,
-    printed: &[u8],
-) -> bool {
-    let script = b"heap\nhome\n";
-    let mut reader = Source {
-        bytes: script,
-        fault: Some((left, kind)),
-    };
-    let mut writer = writer_failing(alloc, None);
-    let run = run_script(alloc, &mut reader, &mut writer);
-    let ended = stops(line, ScriptErrorKind::Read);
-    is_so(&writer, run, (script, printed, ended))
+// How much is left where a reader fails, how, what is printed, and in which line the run stops.
+const BROKEN_OFF: &[(usize, io::ErrorKind, &[u8], u64)] = &[
+    (4, io::ErrorKind::Interrupted, REFUSED, 2),
+    (7, io::ErrorKind::BrokenPipe, NONE, 1),
+    (
+        0,
+        io::ErrorKind::BrokenPipe,
+        b"refused state\nrefused state\n",
+        3,
+    ),
+];
+
+// The first of these that ends otherwise.
+fn first_other_reader(alloc: Global) -> Option<usize> {
+    for (place, (left, kind, printed, line)) in BROKEN_OFF.iter().enumerate() {
+        let reader = Source {
+            bytes: b"heap\nhome\n",
+            fault: Some((*left, *kind)),
+        };
+        if !is_run(
+            alloc,
+            reader,
+            None,
+            printed,
+            Some((*line, ScriptErrorKind::Read)),
+        ) {
+            return Some(place);
+        }
+    }
+    None
 }
 
 #[test]
 fn a_reader_that_fails_ends_the_run(rt: HostRuntime) {
-    let alloc = rt.alloc();
-    let twice = b"refused state\nrefused state\n";
-    let found = [
-        is_broken_off(alloc, 4, io::ErrorKind::Interrupted, 2, REFUSED),
-        is_broken_off(alloc, 7, io::ErrorKind::BrokenPipe, 1, NONE),
-        is_broken_off(alloc, 0, io::ErrorKind::BrokenPipe, 3, twice),
-    ];
-    assert!(rt; found == [true; 3]);
+    assert!(rt; first_other_reader(rt.alloc()).is_none());
 }
 
-// Whether a run whose writer fails so, at this call, has printed this and ends at this line.
-fn is_cut_off(
-    alloc: Global,
-    call: u64,
-    kind: Option<io::ErrorKind>,
-    line: u64,
-    printed: &[u8],
-) -> bool {
-    let script = b"heap\n#\nhome\nfrob\n";
-    let mut reader = Source {
-        bytes: script,
-        fault: None,
-    };
-    let mut writer = writer_failing(alloc, Some((call, kind)));
-    let run = run_script(alloc, &mut reader, &mut writer);
-    let ended = stops(line, ScriptErrorKind::Write);
-    is_so(&writer, run, (script, printed, ended))
+// The call in which a writer fails, how, what is printed, and in which line the run stops.
+const CUT_OFF: &[(u64, Option<io::ErrorKind>, &[u8], u64)] = &[
+    (3, Some(io::ErrorKind::BrokenPipe), b"refu", 1),
+    (1, None, NONE, 1),
+    (8, Some(io::ErrorKind::Interrupted), REFUSED, 3),
+];
+
+// The first of these that ends otherwise.
+fn first_other_writer(alloc: Global) -> Option<usize> {
+    for (place, (call, kind, printed, line)) in CUT_OFF.iter().enumerate() {
+        let reader = Source {
+            bytes: b"heap\n#\nhome\nfrob\n",
+            fault: None,
+        };
+        let fault = Some((*call, *kind));
+        if !is_run(
+            alloc,
+            reader,
+            fault,
+            printed,
+            Some((*line, ScriptErrorKind::Write)),
+        ) {
+            return Some(place);
+        }
+    }
+    None
 }
 
 #[test]
 fn a_writer_that_fails_ends_the_run(rt: HostRuntime) {
-    let alloc = rt.alloc();
-    let (broken, interrupted) = (io::ErrorKind::BrokenPipe, io::ErrorKind::Interrupted);
-    let found = [
-        is_cut_off(alloc, 3, Some(broken), 1, b"refu"),
-        is_cut_off(alloc, 1, None, 1, NONE),
-        is_cut_off(alloc, 8, Some(interrupted), 3, REFUSED),
-    ];
-    assert!(rt; found == [true; 3]);
+    assert!(rt; first_other_writer(rt.alloc()).is_none());
 }
 
 // Whether the error prints so.

@@ -1,9 +1,9 @@
 //! What is shown and recovered after a crash.
-use crate::tests::{first_other, is_played};
+use crate::tests::{Play, first_unplayed, is_played};
 use std::alloc::{AllocError, Global};
 
 // A section that is logged, written home and acknowledged.
-const ACKNOWLEDGED: (&[u8], &[u8]) = (
+const ACKNOWLEDGED: Play = (
     b"\
 object o0\n\
 object o1\n\
@@ -31,7 +31,7 @@ acknowledged 1 0\n\
 );
 
 // The same with a trim, and one that finds nothing to trim.
-const TRIMMED: (&[u8], &[u8]) = (
+const TRIMMED: Play = (
     b"\
 object o0\n\
 object o1\n\
@@ -63,7 +63,7 @@ ok\n\
 );
 
 // Two sections, of which the second took what the first freed. Both are acknowledged once the first has ended.
-const BOTH: (&[u8], &[u8]) = (
+const BOTH: Play = (
     b"\
 object o0\n\
 object o1\n\
@@ -107,7 +107,7 @@ acknowledged 1 1\n\
 );
 
 // A section that is logged and written home, and not acknowledged.
-const LOGGED: (&[u8], &[u8]) = (
+const LOGGED: Play = (
     b"\
 object o0\n\
 object o1\n\
@@ -155,46 +155,50 @@ fn joined(alloc: Global, first: &[u8], second: &[u8], third: &[u8]) -> Result<Ve
 }
 
 // A crash with its script, and what the recovery behind it tells.
-type Crash = ((&'static [u8], &'static [u8]), &'static [u8], &'static [u8]);
+type Crash = (Play, &'static [u8], &'static [u8]);
+
+// The last calls of a settling or of a trim, from the end: a sync, the gate's opening, a sync, the body, a sync, the gate's closing.
+const CRASHES: &[Crash] = &[
+    (LOGGED, b"crash kept\n", SECTION_DROPPED),
+    (ACKNOWLEDGED, b"crash kept back 2\n", SECTION_KEPT),
+    (ACKNOWLEDGED, b"crash lost back 2\n", SECTION_DROPPED),
+    (ACKNOWLEDGED, b"crash a5 back 3\n", SECTION_DROPPED),
+    (ACKNOWLEDGED, b"crash a5 back 6\n", SECTION_DROPPED),
+    (TRIMMED, b"crash lost\n", SECTION_KEPT),
+    (TRIMMED, b"crash kept back 2\n", SECTION_KEPT),
+    (TRIMMED, b"crash a5 back 4\n", SECTION_KEPT),
+    (TRIMMED, b"crash lost back 8\n", SECTION_DROPPED),
+    (BOTH, b"crash lost back 1\n", BOTH_DROPPED),
+    (BOTH, b"crash kept back 1\n", BOTH_KEPT),
+];
 
 // Whether the lines are played, then the crash and this line, which recovers.
-fn is_recovered(alloc: Global, case: Crash, line: &[u8]) -> Option<bool> {
-    let ((lines, printed), crash, report) = case;
+fn is_recovered(alloc: Global, case: &Crash, line: &[u8]) -> Option<bool> {
+    let ((lines, printed), crash, report) = *case;
     let script = joined(alloc, lines, crash, line).ok()?;
     let wanted = joined(alloc, printed, b"crashed\n", report).ok()?;
-    Some(is_played(alloc, (&script, &wanted, Ok(()))))
+    Some(is_played(alloc, &script, &wanted, None))
 }
 
 // The first of these that isn't.
-fn first_unrecovered(alloc: Global, cases: &[Crash], line: &[u8]) -> Option<usize> {
-    cases
-        .iter()
-        .position(|case| is_recovered(alloc, *case, line) != Some(true))
+fn first_unrecovered(alloc: Global, line: &[u8]) -> Option<usize> {
+    for (place, case) in CRASHES.iter().enumerate() {
+        if is_recovered(alloc, case, line) != Some(true) {
+            return Some(place);
+        }
+    }
+    None
 }
 
-// The last calls of a settling or of a trim, from the end: a sync, the gate's opening, a sync, the body, a sync, the gate's closing.
 #[test]
 fn crashes_are_recovered(rt: HostRuntime) {
-    let cases: [Crash; 11] = [
-        (LOGGED, b"crash kept\n", SECTION_DROPPED),
-        (ACKNOWLEDGED, b"crash kept back 2\n", SECTION_KEPT),
-        (ACKNOWLEDGED, b"crash lost back 2\n", SECTION_DROPPED),
-        (ACKNOWLEDGED, b"crash a5 back 3\n", SECTION_DROPPED),
-        (ACKNOWLEDGED, b"crash a5 back 6\n", SECTION_DROPPED),
-        (TRIMMED, b"crash lost\n", SECTION_KEPT),
-        (TRIMMED, b"crash kept back 2\n", SECTION_KEPT),
-        (TRIMMED, b"crash a5 back 4\n", SECTION_KEPT),
-        (TRIMMED, b"crash lost back 8\n", SECTION_DROPPED),
-        (BOTH, b"crash lost back 1\n", BOTH_DROPPED),
-        (BOTH, b"crash kept back 1\n", BOTH_KEPT),
-    ];
-    assert!(rt; first_unrecovered(rt.alloc(), &cases, b"recover\n").is_none());
+    assert!(rt; first_unrecovered(rt.alloc(), b"recover\n").is_none());
     // A script's own image has the current version, of which an upgrade is a recovery.
-    assert!(rt; first_unrecovered(rt.alloc(), &cases, b"upgrade\n").is_none());
+    assert!(rt; first_unrecovered(rt.alloc(), b"upgrade\n").is_none());
 }
 
 // A section that drags another along, shown after the crash and not before it.
-const DRAGGED: (&[u8], &[u8]) = (
+const DRAGGED: Play = (
     b"\
 object o0\n\
 object o1\n\
@@ -250,7 +254,7 @@ heap 10 20\n\
 );
 
 // A crash inside of an upgrade.
-const UPGRADED: (&[u8], &[u8]) = (
+const UPGRADED: Play = (
     b"\
 object o0\n\
 object o1\n\
@@ -292,7 +296,7 @@ heap 10 20\n\
 );
 
 // A crash before the last sync of the format.
-const UNFORMATTED: (&[u8], &[u8]) = (
+const UNFORMATTED: Play = (
     b"\
 object o0\n\
 field f0 o0 o0 10\n\
@@ -311,12 +315,9 @@ refused state\n\
 ",
 );
 
+const SHOWN: &[Play] = &[DRAGGED, UPGRADED, UNFORMATTED];
+
 #[test]
 fn images_are_shown(rt: HostRuntime) {
-    let cases = [
-        (DRAGGED.0, DRAGGED.1, Ok(())),
-        (UPGRADED.0, UPGRADED.1, Ok(())),
-        (UNFORMATTED.0, UNFORMATTED.1, Ok(())),
-    ];
-    assert!(rt; first_other(rt.alloc(), &cases).is_none());
+    assert!(rt; first_unplayed(rt.alloc(), SHOWN).is_none());
 }

@@ -1,8 +1,8 @@
 //! Threads on several lanes, nested locks, waits, and lines that are refused.
-use crate::tests::first_other;
+use crate::tests::{Play, first_unplayed};
 
 // A nested exit frees nothing.
-const NESTED: (&[u8], &[u8]) = (
+const NESTED: Play = (
     b"\
 object o0\n\
 object o1\n\
@@ -36,7 +36,7 @@ heap 6 20\n\
 );
 
 // A thread that holds nothing stores and frees nothing.
-const NOT_HELD: (&[u8], &[u8]) = (
+const NOT_HELD: Play = (
     b"\
 object o0\n\
 object o1\n\
@@ -58,7 +58,7 @@ heap 10 20\n\
 );
 
 // A wait acknowledges what its section did; a woken thread takes its monitor again where that is free.
-const WAITS: (&[u8], &[u8]) = (
+const WAITS: Play = (
     b"\
 object o0\n\
 object o1\n\
@@ -105,7 +105,7 @@ acknowledged 2 1\n\
 );
 
 // The least thread is woken first, and nobody where the set is empty.
-const WOKEN: (&[u8], &[u8]) = (
+const WOKEN: Play = (
     b"\
 object o0\n\
 object o1\n\
@@ -160,7 +160,7 @@ refused unknown\n\
 );
 
 // A section is acknowledged with what it took from another lane's; a crash has no more calls behind it than there were.
-const TWO_LANES: (&[u8], &[u8]) = (
+const TWO_LANES: Play = (
     b"\
 object o0\n\
 object o1\n\
@@ -210,7 +210,7 @@ refused state\n\
 
 // A transient field keeps what threads store while the machine runs, and after `recover` has its first value; no log and no
 // home write has its stores.
-const TRANSIENT: (&[u8], &[u8]) = (
+const TRANSIENT: Play = (
     b"\
 object o0\n\
 object o1\n\
@@ -264,27 +264,9 @@ value 30\n\
 );
 
 // The examples whole, from their text to what they print.
+const PLAYS: &[Play] = &[NESTED, NOT_HELD, WAITS, WOKEN, TWO_LANES, TRANSIENT];
+
 #[test]
 fn scripts_are_played(rt: HostRuntime) {
-    let cases = [
-        (NESTED.0, NESTED.1, Ok(())),
-        (NOT_HELD.0, NOT_HELD.1, Ok(())),
-    ];
-    assert!(rt; first_other(rt.alloc(), &cases).is_none());
-}
-
-#[test]
-fn lanes_and_waits_are_played(rt: HostRuntime) {
-    let cases = [
-        (WAITS.0, WAITS.1, Ok(())),
-        (WOKEN.0, WOKEN.1, Ok(())),
-        (TWO_LANES.0, TWO_LANES.1, Ok(())),
-    ];
-    assert!(rt; first_other(rt.alloc(), &cases).is_none());
-}
-
-#[test]
-fn transient_fields_are_played(rt: HostRuntime) {
-    let cases = [(TRANSIENT.0, TRANSIENT.1, Ok(()))];
-    assert!(rt; first_other(rt.alloc(), &cases).is_none());
+    assert!(rt; first_unplayed(rt.alloc(), PLAYS).is_none());
 }

@@ -26,26 +26,22 @@ fn add_section(played: &mut Played, store: &[u8]) -> Result<(), AllocError> {
 
 // Two sections fill an area of 2,000 records. They are acknowledged and trimmed, and a third, which takes the places of the
 // first, is logged and no more.
-fn places_again(alloc: Global) -> Result<Played, AllocError> {
-    let mut played = Played {
-        lines: Vec::new(alloc),
-        printed: Vec::new(alloc),
-    };
+fn add_places_again(played: &mut Played) -> Result<(), AllocError> {
     add(
-        &mut played,
+        played,
         b"object o0\nfield f0 o0 o0 10\nformat 1 2000\n",
         b"formatted 34184\n",
     )?;
-    add_section(&mut played, b"t1 store f0 5\n")?;
-    add_section(&mut played, b"t1 store f0 6\n")?;
+    add_section(played, b"t1 store f0 5\n")?;
+    add_section(played, b"t1 store f0 6\n")?;
     add(
-        &mut played,
+        played,
         b"t1 enter o0\nlog\nhome\nsettle\ntrim\n",
         b"refused log full\nlogged 2000\nwrote 1\nacknowledged 2\nok\n",
     )?;
-    add_section(&mut played, b"t1 store f0 7\n")?;
+    add_section(played, b"t1 store f0 7\n")?;
     add(
-        &mut played,
+        played,
         b"log\ncrash lost\ntrim\nshow\nrecover\n",
         b"\
 logged 1000\n\
@@ -62,14 +58,17 @@ dropped t1 3 unsettled\n\
 undone 1\n\
 heap 6\n\
 ",
-    )?;
-    Ok(played)
+    )
 }
 
 // Whether it is played so.
 fn are_places_used_again(alloc: Global) -> Option<bool> {
-    let played = places_again(alloc).ok()?;
-    Some(is_played(alloc, (&played.lines, &played.printed, Ok(()))))
+    let mut played = Played {
+        lines: Vec::new(alloc),
+        printed: Vec::new(alloc),
+    };
+    add_places_again(&mut played).ok()?;
+    Some(is_played(alloc, &played.lines, &played.printed, None))
 }
 
 #[test]
