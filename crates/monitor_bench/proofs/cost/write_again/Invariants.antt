@@ -1,5 +1,0 @@
-use Rattle.one_monitor.specs.Held.{HasOne}
-use Rattle.monitor_bench.proofs.cost.write_again.Given as goal
-
-abbrev pub invariant-loop-round : goal.invariant-loop-round
-invariant-loop-round l = HasOne l.shared l.seat l.grip

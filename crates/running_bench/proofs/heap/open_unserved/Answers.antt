@@ -1,4 +1,0 @@
-use Rattle.running_bench.proofs.heap.open_unserved.Goals as goal
-
-pub open_sessions-requires-clause-fresh : goal.open_sessions-requires-clause-fresh
-open_sessions-requires-clause-fresh c = (c.args.workers, c.in-Ok.ensures.views)

@@ -1,5 +1,0 @@
-use Rattle.session.specs.Sessions.{IsSessionOf}
-use Rattle.running_bench.proofs.working.work.Given as goal
-
-abbrev pub invariant-loop-value : goal.invariant-loop-value
-invariant-loop-value g l = IsSessionOf l.shared l.session

@@ -1,0 +1,5 @@
+use Rattle.session.specs.Sessions.{IsSessionOf}
+use Rattle.thread_bench.proofs.section_cost.store_often.Given as goal
+
+abbrev pub invariant-loop-value : goal.invariant-loop-value
+invariant-loop-value g l = IsSessionOf l.shared l.session
