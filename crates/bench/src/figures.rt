@@ -1,24 +1,35 @@
 //! The figures of a measurement.
 ghost use Rattle.std.specs.Prelude.{◌≡◌, ◌≤◌};
 
-use crate::clock::{NOTHING, Spent};
-use crate::stopped::Stopped;
+use crate::clock::{NOTHING, Time};
+use crate::stopped::{Stopped, told};
 
 /// What was done, and what each step took of it.
-#[derive(Clone, Copy, Debug)]
+#[derive(Clone, Copy)]
 pub struct Figures {
     /// Acknowledged sections.
     pub sections: u64,
     /// Applying records.
-    pub apply: Spent,
+    pub apply: Time,
     /// Making them durable.
-    pub log: Spent,
+    pub log: Time,
     /// Writing values home.
-    pub home: Spent,
+    pub home: Time,
     /// Acknowledging.
-    pub settle: Spent,
+    pub settle: Time,
     /// Trimming, where a lane's log was full.
-    pub trim: Spent,
+    pub trim: Time,
+}
+
+impl Figures {
+    // What all steps took.
+    fn all(&self) -> Time {
+        self.apply
+            .and(self.log)
+            .and(self.home)
+            .and(self.settle)
+            .and(self.trim)
+    }
 }
 
 /// The figures of nothing.
@@ -32,17 +43,10 @@ pub const START: Figures = Figures {
 };
 
 /// Prints what a step took for a section, in nanoseconds.
-pub fn print_step<R: Print>(
-    rt: &R,
-    step: &str,
-    spent: Spent,
-    sections: u64,
-) -> Result<(), Stopped> {
+pub fn print_step<R: Print>(rt: &R, step: &str, spent: Time, sections: u64) -> Result<(), Stopped> {
     let wall = spent.wall / sections.max(1);
     let cpu = spent.cpu / sections.max(1);
-    println!(rt; "{step} {wall} ns a section, of them {cpu} of processor time").map_err(
-        |_| Stopped::Telling,
-    )
+    told(println!(rt; "{step} {wall} ns a section, of them {cpu} of processor time"))
 }
 
 // How many a second these are, in so many nanoseconds.
@@ -58,13 +62,8 @@ pub fn print_figures<R: Print>(rt: &R, figures: &Figures) -> Result<(), Stopped>
     print_step(rt, "home", figures.home, sections)?;
     print_step(rt, "settle", figures.settle, sections)?;
     print_step(rt, "trim", figures.trim, sections)?;
-    let all = figures
-        .apply
-        .and(figures.log)
-        .and(figures.home)
-        .and(figures.settle)
-        .and(figures.trim);
+    let all = figures.all();
     print_step(rt, "all", all, sections)?;
     let rate = rate(sections, all.wall);
-    println!(rt; "{sections} sections, {rate} a second").map_err(|_| Stopped::Telling)
+    told(println!(rt; "{sections} sections, {rate} a second"))
 }

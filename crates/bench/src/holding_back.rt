@@ -1,34 +1,36 @@
 //! A run in which one section stays open that all others depend on, so that all of them are left out.
-ghost use Rattle.std.specs.Prelude.{◌≡◌, ◌≤◌, IfOk};
+ghost use Rattle.std.specs.Prelude.{◌≡◌, ◌≤◌};
 
 use crate::acknowledged::acknowledged;
-use crate::clock::{NOTHING, Spent};
+use crate::clock::{NOTHING, Time};
 use crate::figures::{Figures, START, print_step};
-use crate::life::{Room, apply_records, round};
+use crate::life::{Room, apply_records, leave_open, round};
 use crate::load::Load;
-use crate::measuring::open;
-use crate::stopped::Stopped;
+use crate::stopped::{Stopped, told};
 use crate::words::Plan;
 use block_disk::Disk;
 use durable::Store;
-use std::alloc::Global;
 use std::time::{Clock, CpuClock};
-
-/// The records of a lane's log: as many as an image may have.
-pub const MOST: u32 = 1_048_576;
 
 // So many settlings are measured once the plan's sections are left out.
 const TRIES: u64 = 50;
 
-/// What settling took, while sections were left out and when they no longer were.
-#[derive(Clone, Copy, Debug)]
-pub struct HeldBack {
-    /// All settlings until the plan's sections were left out.
-    pub all: Spent,
-    /// The quickest of those after them, in nanoseconds of processor time.
+/// What the settlings of some rounds took.
+#[derive(Clone, Copy)]
+pub struct Settled {
+    /// All of them.
+    pub all: Time,
+    /// The quickest, in nanoseconds of processor time.
     pub least: u64,
+}
+
+/// What settling took, while sections were left out and when they no longer were.
+#[derive(Clone, Copy)]
+pub struct HeldBack {
+    /// All settlings until the plan's sections were left out, and the quickest of those after them.
+    pub left_out: Settled,
     /// The one after the section had ended.
-    pub end: Spent,
+    pub end: Time,
     /// How many sections it acknowledged.
     pub acknowledged: u64,
 }
@@ -39,7 +41,7 @@ fn settling<R: Clock + CpuClock, D: Disk>(
     store: &mut Store<D>,
     load: &mut Load,
     group: u64,
-) -> Result<Spent, Stopped>
+) -> Result<Time, Stopped>
     ensures layout { store.new.known.layout ≡ store.old.known.layout }
 {
     let mut figures = START;
@@ -49,75 +51,74 @@ fn settling<R: Clock + CpuClock, D: Disk>(
     }
 }
 
-/// Does so many rounds, and adds up what settling took.
+/// Does so many rounds, and gives what settling took.
 pub fn settlings<R: Clock + CpuClock, D: Disk>(
     rt: &R,
     store: &mut Store<D>,
     load: &mut Load,
     group: u64,
     rounds: u64,
-) -> Result<Spent, Stopped>
+) -> Result<Settled, Stopped>
     ensures layout { store.new.known.layout ≡ store.old.known.layout }
 {
-    let mut all = NOTHING;
+    let mut settled = Settled {
+        all: NOTHING,
+        least: u64::MAX,
+    };
     for _ in 0..rounds {
-        all = all.and(settling(rt, store, load, group)?);
+        let spent = settling(rt, store, load, group)?;
+        settled.all = settled.all.and(spent);
+        settled.least = settled.least.min(spent.cpu);
     }
-    Ok(all)
+    Ok(settled)
 }
 
-// Does some rounds more, and gives the least time that settling took.
-fn least_settling<R: Clock + CpuClock, D: Disk>(
+// Does rounds until the plan's sections are left out, and some more: these alone count for the quickest.
+fn leave_out<R: Clock + CpuClock, D: Disk>(
     rt: &R,
     store: &mut Store<D>,
     load: &mut Load,
-    group: u64,
-) -> Result<u64, Stopped>
+    plan: &Plan,
+) -> Result<Settled, Stopped>
     ensures layout { store.new.known.layout ≡ store.old.known.layout }
 {
-    let mut least = u64::MAX;
-    for _ in 0..TRIES {
-        least = least.min(settling(rt, store, load, group)?.cpu);
-    }
-    Ok(least)
+    let rounds = plan.sections / plan.group.max(1);
+    let all = settlings(rt, store, load, plan.group, rounds)?.all;
+    let least = settlings(rt, store, load, plan.group, TRIES)?.least;
+    Ok(Settled { all, least })
 }
 
 /// Begins a section of lane 0, on which each section of the others depends; does these in groups until as many are left
 /// out as the plan says; and then ends it.
-pub fn hold_back<R: Clock + CpuClock, D: Disk + Drop>(
+pub fn hold_back<R: Clock + CpuClock, D: Disk>(
     rt: &R,
-    alloc: Global,
-    disk: D,
+    store: &mut Store<D>,
     plan: &Plan,
-) -> Result<HeldBack, Stopped> {
-    let mut store = open(alloc, disk, MOST)?;
+) -> Result<HeldBack, Stopped>
+    requires { 4 ≤ store.old.known.layout.lanes }
+{
     let mut load = Load::new();
-    let [own, shared, count, count_all, free, end] = load.section(0);
-    apply_records(&mut store, 0, &[own, shared, count, count_all, free])?;
-    load.done(0);
+    let end = leave_open(store, &mut load)?;
     let mut load = load.without_lane_0();
-    let rounds = plan.sections / plan.group.max(1);
-    let all = settlings(rt, &mut store, &mut load, plan.group, rounds)?;
-    let least = least_settling(rt, &mut store, &mut load, plan.group)?;
-    apply_records(&mut store, 0, &[end])?;
-    let end = settling(rt, &mut store, &mut load, 0)?;
+    let left_out = leave_out(rt, store, &mut load, plan)?;
+    apply_records(store, 0, &[end])?;
+    let end = settling(rt, store, &mut load, 0)?;
     Ok(HeldBack {
-        all,
-        least,
+        left_out,
         end,
-        acknowledged: acknowledged(&store),
+        acknowledged: acknowledged(store),
     })
 }
 
 /// Prints what settling took for a section.
 pub fn print_held_back<R: Print>(rt: &R, plan: &Plan, held: &HeldBack) -> Result<(), Stopped> {
-    print_step(rt, "settle", held.all, plan.sections)?;
-    let least = held.least / plan.group.max(1);
+    print_step(rt, "settle", held.left_out.all, plan.sections)?;
+    let least = held.left_out.least / plan.group.max(1);
     let left_out = plan.sections;
-    println!(rt;
+    told(println!(rt;
         "with {left_out} left out the quickest settling took {least} ns of processor time a section"
-    ).map_err(|_| Stopped::Telling)?;
+    ))?;
     let sections = held.acknowledged;
     print_step(rt, "the last settling", held.end, sections)?;
-    println!(rt; "it acknowledged {sections} sections").map_err(|_| Stopped::Telling)
+    told(println!(rt; "it acknowledged {sections} sections"))
 }

@@ -1,20 +1,17 @@
 //! Rounds of one open store.
-ghost use Rattle.std.specs.Prelude.{◌≡◌, ◌≤◌, IfOk};
-ghost use Rattle.bench.specs.declared.life.Room.TheVariants.{More};
+ghost use Rattle.std.specs.Prelude.{◌≡◌};
 
-use crate::acknowledged::acknowledged;
 use crate::clock::read_clocks;
 use crate::figures::Figures;
 use crate::load::Load;
 use crate::stopped::Stopped;
-use crate::words::Plan;
 use block_disk::Disk;
 use durable::{Home, Store, StoreError};
 use heap_model::{Lane, Record};
 use std::time::{Clock, CpuClock};
 
 /// Whether there is room for more.
-#[derive(Clone, Copy, Debug, PartialEq, Eq)]
+#[derive(Clone, Copy)]
 pub enum Room {
     /// There is.
     More,
@@ -47,7 +44,7 @@ fn apply_group<D: Disk>(store: &mut Store<D>, load: &mut Load, group: u64) -> Re
     for turn in 0..group {
         let lane = load.lane(turn);
         let records = load.section(lane);
-        if apply_records(store, lane, &records)? == Room::Full {
+        if let Room::Full = apply_records(store, lane, &records)? {
             return Ok(Room::Full);
         }
         load.done(lane);
@@ -100,37 +97,12 @@ pub fn round<R: Clock + CpuClock, D: Disk>(
     Ok(room)
 }
 
-/// Does rounds until the plan's sections are acknowledged or a lane's log is full. If it is to, it tells after each
-/// how many are acknowledged.
-pub fn live<R: Clock + CpuClock + Print, D: Disk>(
-    rt: &R,
-    store: &mut Store<D>,
-    load: &mut Load,
-    plan: &Plan,
-    is_telling: bool,
-    figures: &mut Figures,
-) -> Result<Room, Stopped>
-    requires { 4 ≤ store.old.known.layout.lanes }
+/// Begins a section of lane 0 that stays open, and gives the record that ends it.
+pub fn leave_open<D: Disk>(store: &mut Store<D>, load: &mut Load) -> Result<Record, Stopped>
     ensures layout { store.new.known.layout ≡ store.old.known.layout }
-    ensures more { IfOk result (λ room. room ≡ More → plan.now.sections ≤ figures.new.sections) }
 {
-    for _ in 0..u64::MAX {
-        if plan.sections <= figures.sections {
-            return Ok(Room::More);
-        }
-        let room = round(rt, store, load, plan.group, figures)?;
-        figures.sections = acknowledged(store);
-        if is_telling {
-            tell(rt, figures.sections)?;
-        }
-        if room == Room::Full {
-            return Ok(Room::Full);
-        }
-    }
-    Err(Stopped::Store)
-}
-
-// Tells how many sections are acknowledged.
-fn tell<R: Print>(rt: &R, sections: u64) -> Result<(), Stopped> {
-    println!(rt; "acknowledged {sections}").map_err(|_| Stopped::Telling)
+    let records = load.section(0);
+    apply_records(store, 0, &records[..5])?;
+    load.done(0);
+    Ok(records[5])
 }

@@ -13,18 +13,24 @@ const SHARED: u32 = 4;
 
 const NAMES: [&str; 5] = ["own0", "own1", "own2", "own3", "shared"];
 
-/// An object with a field for each lane, and one with a field for all.
-pub fn schema_of(alloc: Global) -> Option<Schema> {
-    let mut builder = SchemaBuilder::new(alloc);
+// Declares each with its field. `None` is want of memory.
+fn declare(builder: &mut SchemaBuilder) -> Option<()> {
     for name in NAMES {
         let object = builder.object(name).ok()?;
         builder.field(object, name, object, 0).ok()?;
     }
+    Some(())
+}
+
+/// An object with a field for each lane, and one with a field for all.
+pub fn schema_of(alloc: Global) -> Option<Schema> {
+    let mut builder = SchemaBuilder::new(alloc);
+    declare(&mut builder)?;
     builder.build().ok()
 }
 
 /// Which lanes have turns.
-#[derive(Clone, Copy, Debug, PartialEq, Eq)]
+#[derive(Clone, Copy)]
 enum Turns {
     All,
     AllBut0,
@@ -34,7 +40,7 @@ enum Turns {
 }
 
 /// What the lanes know: by object, how often it became free since the store was opened; by field, its value.
-#[derive(Clone, Copy, Debug)]
+#[derive(Clone, Copy)]
 pub struct Load {
     numbers: [u64; 5],
     values: [u64; 5],
@@ -92,7 +98,7 @@ impl Load {
         requires { lane < 4 }
     {
         let own = u32::from(lane);
-        if self.turns == Turns::Lane3 {
+        if let Turns::Lane3 = self.turns {
             return [
                 self.take(own),
                 self.count(own, 0),
@@ -118,7 +124,7 @@ impl Load {
     {
         let own = usize::from(lane);
         self.numbers[own] = self.numbers[own].wrapping_add(1);
-        if self.turns == Turns::Lane3 {
+        if let Turns::Lane3 = self.turns {
             self.values[own] = self.values[own].wrapping_add(4);
             return;
         }

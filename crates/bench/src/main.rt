@@ -6,6 +6,8 @@
 //! what `recover` makes of that.
 #![tactic(auto)]
 
+ghost use Rattle.std.specs.Prelude.{◌≤◌, IfOk};
+
 mod acknowledged;
 mod clock;
 mod figures;
@@ -19,10 +21,11 @@ mod stopped;
 mod trimming;
 mod words;
 
+use durable::Store;
 use figures::{Figures, print_figures};
 use file_disk::{BackingFile, BufferedDisk, FileError, VolatileDisk};
-use holding_back::{HeldBack, MOST, hold_back, print_held_back};
-use measuring::{CAPACITY, image_size, measure};
+use holding_back::{HeldBack, hold_back, print_held_back};
+use measuring::{CAPACITY, image_size, measure, open};
 use memory::print_memory;
 use recovering::{print_heap, recovered_heap};
 use std::alloc::Global;
@@ -31,7 +34,7 @@ use std::os::fd::AsFd;
 use std::process::ExitCode;
 use std::rt::{Env, Files};
 use std::time::{Clock, CpuClock};
-use stopped::Stopped;
+use stopped::{Stopped, told};
 use trimming::{Trimmed, print_trimmed, trim_beside};
 use words::{Plan, Words, read_words};
 
@@ -54,6 +57,9 @@ const FAULT: u8 = 1;
 // What the system says of a descriptor that isn't open (EBADF).
 const NOT_OPEN: i32 = 9;
 
+/// The records of a lane's log where none is trimmed for long: as many as an image may have.
+const MOST: u32 = 1_048_576;
+
 // A disk in memory, for lanes' logs of so many records.
 fn disk_in_memory(alloc: Global, capacity: u32) -> Result<VolatileDisk, Stopped> {
     let size = image_size(alloc, capacity)?;
@@ -61,14 +67,23 @@ fn disk_in_memory(alloc: Global, capacity: u32) -> Result<VolatileDisk, Stopped>
 }
 
 // Measures over a disk in memory.
-fn over_memory<R: Print + Clock + CpuClock>(
+fn over_memory<R: Files + Print + AllocGlobal + Clock + CpuClock>(
     rt: &R,
-    alloc: Global,
     plan: &Plan,
-) -> Result<Figures, Stopped> {
-    let disk = disk_in_memory(alloc, CAPACITY)?;
-    let (_disk, figures) = measure(rt, alloc, disk, plan, false)?;
-    Ok(figures)
+) -> Result<(), Stopped> {
+    print_memory(rt, "before");
+    let disk = disk_in_memory(rt.alloc(), CAPACITY)?;
+    let figures = measure(rt, rt.alloc(), disk, plan, false)?;
+    print_memory(rt, "after");
+    print_figures(rt, &figures)
+}
+
+// The store of an empty image in memory, with the longest logs.
+fn long_store(alloc: Global) -> Result<Store<VolatileDisk>, Stopped>
+    ensures { IfOk result (λ store. 4 ≤ store.known.layout.lanes) }
+{
+    let disk = disk_in_memory(alloc, MOST)?;
+    open(alloc, disk, MOST)
 }
 
 // Measures settling with sections left out.
@@ -77,7 +92,8 @@ fn with_one_open<R: Clock + CpuClock>(
     alloc: Global,
     plan: &Plan,
 ) -> Result<HeldBack, Stopped> {
-    hold_back(rt, alloc, disk_in_memory(alloc, MOST)?, plan)
+    let mut store = long_store(alloc)?;
+    hold_back(rt, &mut store, plan)
 }
 
 // Measures rounds that are trimmed, with sections left out in the logs.
@@ -86,7 +102,8 @@ fn with_others_left<R: Clock + CpuClock>(
     alloc: Global,
     plan: &Plan,
 ) -> Result<Trimmed, Stopped> {
-    trim_beside(rt, alloc, disk_in_memory(alloc, MOST)?, plan)
+    let mut store = long_store(alloc)?;
+    trim_beside(rt, &mut store, plan)
 }
 
 // There is no disk over the file.
@@ -98,7 +115,7 @@ fn no_disk(error: FileError) -> Stopped {
 }
 
 // Measures over a new file, and tells what is acknowledged if it is to.
-fn over_file<F, R>(
+fn on_new_file<F, R>(
     rt: &R,
     alloc: Global,
     plan: &Plan,
@@ -111,8 +128,30 @@ where
 {
     let size = image_size(alloc, CAPACITY)?;
     let disk = BufferedDisk::create(rt, alloc, path, size).map_err(no_disk)?;
-    let (_disk, figures) = measure(rt, alloc, disk, plan, is_telling)?;
-    Ok(figures)
+    measure(rt, alloc, disk, plan, is_telling)
+}
+
+// Measures over a new file, and prints the figures.
+fn over_file<F, R>(rt: &R, plan: &Plan, path: &str) -> Result<(), Stopped>
+where
+    F: BackingFile + Drop,
+    R: Files<File = F> + Print + AllocGlobal + Clock + CpuClock,
+{
+    print_memory(rt, "before");
+    let figures = on_new_file(rt, rt.alloc(), plan, path, false)?;
+    print_memory(rt, "after");
+    print_figures(rt, &figures)
+}
+
+// Recovers the image in a file, and prints its heap.
+fn over_image<F, R>(rt: &R, alloc: Global, path: &str) -> Result<(), Stopped>
+where
+    F: BackingFile + Drop,
+    R: Files<File = F> + Print,
+{
+    let disk = BufferedDisk::attach(rt, alloc, path).map_err(no_disk)?;
+    let heap = recovered_heap(alloc, disk)?;
+    print_heap(rt, &heap)
 }
 
 // Does what the words ask for.
@@ -123,28 +162,35 @@ where
 {
     let alloc = rt.alloc();
     match words {
-        Words::Help => print!(rt; "{HELP}").map_err(|_| Stopped::Telling),
-        Words::Memory { plan } => {
-            print_memory(rt, "before");
-            let figures = over_memory(rt, alloc, &plan)?;
-            print_memory(rt, "after");
-            print_figures(rt, &figures)
-        }
-        Words::File { plan, path } => {
-            print_memory(rt, "before");
-            let figures = over_file(rt, alloc, &plan, path, false)?;
-            print_memory(rt, "after");
-            print_figures(rt, &figures)
-        }
+        Words::Help => told(print!(rt; "{HELP}")),
+        Words::Memory { plan } => over_memory(rt, &plan),
+        Words::File { plan, path } => over_file(rt, &plan, path),
         Words::Open { plan } => print_held_back(rt, &plan, &with_one_open(rt, alloc, &plan)?),
         Words::Trim { plan } => print_trimmed(rt, &plan, &with_others_left(rt, alloc, &plan)?),
         Words::Tell { plan, path } => {
-            over_file(rt, alloc, &plan, path, true)?;
+            on_new_file(rt, alloc, &plan, path, true)?;
             Ok(())
         }
-        Words::Recover { path } => {
-            let disk = BufferedDisk::attach(rt, alloc, path).map_err(no_disk)?;
-            print_heap(rt, &recovered_heap(alloc, disk)?)
+        Words::Recover { path } => over_image(rt, alloc, path),
+    }
+}
+
+// Reads the words, the program's name first, and does what they ask for.
+fn run_by<F, R>(rt: &R, texts: &[String]) -> ExitCode
+where
+    F: BackingFile + Drop,
+    R: Files<File = F> + Print + Eprint + AllocGlobal + Clock + CpuClock,
+{
+    let Some(words) = read_words(texts) else {
+        let _ = eprint!(rt; "{HELP}");
+        return ExitCode::from(WRONG_WORDS);
+    };
+    match obey(rt, words) {
+        Ok(()) => ExitCode::SUCCESS,
+        Err(stopped) => {
+            let text = stopped.text();
+            let _ = eprintln!(rt; "bench: {text}");
+            ExitCode::from(FAULT)
         }
     }
 }
@@ -154,23 +200,12 @@ where
     F: BackingFile + Drop,
     R: Env + Files<File = F> + Print + Eprint + AllocGlobal + Clock + CpuClock,
 {
-    let alloc = rt.alloc();
     let Ok(arguments) = env::args(rt) else {
         return ExitCode::from(WRONG_WORDS);
     };
-    let Ok(texts) = arguments.collect::<Vec<String>>(alloc) else {
-        return ExitCode::from(FAULT);
-    };
-    let Some(words) = read_words(texts.as_slice()) else {
-        let _ = eprint!(rt; "{HELP}");
-        return ExitCode::from(WRONG_WORDS);
-    };
-    match obey(rt, words) {
-        Ok(()) => ExitCode::SUCCESS,
-        Err(stopped) => {
-            let _ = eprintln!(rt; "bench: {stopped}");
-            ExitCode::from(FAULT)
-        }
+    match arguments.collect::<Vec<String>>(rt.alloc()) {
+        Ok(texts) => run_by(rt, texts.as_slice()),
+        Err(_) => ExitCode::from(FAULT),
     }
 }
 

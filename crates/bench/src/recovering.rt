@@ -3,7 +3,7 @@ ghost use Rattle.std.specs.Prelude.{◌≡◌, IfOk};
 ghost use Rattle.recover.specs.Study.{IsStudyOf};
 ghost use Rattle.recover.specs.declared.studied.Study.{Study};
 
-use crate::stopped::Stopped;
+use crate::stopped::{Stopped, told};
 use block_disk::Disk;
 use recover::{one_study_law, recover};
 use std::alloc::Global;
@@ -22,9 +22,7 @@ pub fn recovered_heap<D: Disk + Drop>(alloc: Global, disk: D) -> Result<Vec<u64>
 /// Prints the values of a heap, by field.
 pub fn print_heap<R: Print>(rt: &R, heap: &[u64]) -> Result<(), Stopped> {
     for value in heap {
-        if println!(rt; "{value}").is_err() {
-            return Err(Stopped::Telling);
-        }
+        told(println!(rt; "{value}"))?;
     }
     Ok(())
 }

@@ -1,28 +1,44 @@
 //! Why a measurement stopped.
-use thiserror::Error;
+use std::io;
 
 /// Why a measurement stopped.
-#[derive(Clone, Copy, Debug, PartialEq, Eq, Error)]
+#[derive(Clone, Copy)]
 pub enum Stopped {
     /// The allocator gave no memory.
-    #[error("no memory")]
     Memory,
     /// A call of the file system failed, or there is no such file.
-    #[error("the file failed")]
     File,
     /// No image could be made on the disk.
-    #[error("no image could be made")]
     Format,
     /// The store refused a call.
-    #[error("the store refused a call")]
     Store,
     /// A lane's log is full of sections that are left out.
-    #[error("a lane's log is full")]
     Full,
     /// The image could not be recovered.
-    #[error("the image could not be recovered")]
     Recovery,
     /// Standard output failed.
-    #[error("standard output failed")]
     Telling,
+}
+
+impl Stopped {
+    /// What standard error is told.
+    pub fn text(self) -> &'static str {
+        match self {
+            Stopped::Memory => "no memory",
+            Stopped::File => "the file failed",
+            Stopped::Format => "no image could be made",
+            Stopped::Store => "the store refused a call",
+            Stopped::Full => "a lane's log is full",
+            Stopped::Recovery => "the image could not be recovered",
+            Stopped::Telling => "standard output failed",
+        }
+    }
+}
+
+/// What printing came to.
+pub fn told(printed: io::Result<()>) -> Result<(), Stopped> {
+    match printed {
+        Ok(()) => Ok(()),
+        Err(_) => Err(Stopped::Telling),
+    }
 }

@@ -1,24 +1,23 @@
 //! Rounds that are trimmed, while sections of other lanes stay in the logs.
-ghost use Rattle.std.specs.Prelude.{◌≡◌, ◌≤◌, IfOk};
+ghost use Rattle.std.specs.Prelude.{◌≡◌, ◌≤◌};
 
 use crate::acknowledged::acknowledged;
 use crate::figures::{Figures, START, print_figures};
-use crate::holding_back::{MOST, settlings};
-use crate::life::{Room, apply_records, round};
+use crate::holding_back::settlings;
+use crate::life::{Room, leave_open, round};
 use crate::load::Load;
-use crate::measuring::{open, trim};
-use crate::stopped::Stopped;
+use crate::measuring::trim;
+use crate::stopped::{Stopped, told};
 use crate::words::Plan;
 use block_disk::Disk;
 use durable::Store;
-use std::alloc::Global;
 use std::time::{Clock, CpuClock};
 
 // So many times the plan's sections are trimmed.
 const TIMES: u64 = 5;
 
 /// What rounds took that are trimmed.
-#[derive(Clone, Copy, Debug)]
+#[derive(Clone, Copy)]
 pub struct Trimmed {
     /// All of them.
     pub figures: Figures,
@@ -36,7 +35,7 @@ fn trimmed_round<R: Clock + CpuClock, D: Disk>(
 ) -> Result<(), Stopped>
     ensures layout { store.new.known.layout ≡ store.old.known.layout }
 {
-    if round(rt, store, load, group, &mut trimmed.figures)? == Room::Full {
+    if let Room::Full = round(rt, store, load, group, &mut trimmed.figures)? {
         return Err(Stopped::Full);
     }
     let before = trimmed.figures.trim.cpu;
@@ -69,34 +68,30 @@ fn trimmed_rounds<R: Clock + CpuClock, D: Disk>(
 /// Begins a section of lane 0, on which each section of lanes 1 and 2 depends; leaves as many of these in the logs as the
 /// plan says; and then does rounds of lane 3, whose sections depend on none of them, each of which is trimmed: five times
 /// as many sections.
-pub fn trim_beside<R: Clock + CpuClock, D: Disk + Drop>(
+pub fn trim_beside<R: Clock + CpuClock, D: Disk>(
     rt: &R,
-    alloc: Global,
-    disk: D,
+    store: &mut Store<D>,
     plan: &Plan,
-) -> Result<Trimmed, Stopped> {
-    let mut store = open(alloc, disk, MOST)?;
+) -> Result<Trimmed, Stopped>
+    requires { 4 ≤ store.old.known.layout.lanes }
+{
     let mut load = Load::new();
-    let [own, shared, count, count_all, free, _end] = load.section(0);
-    apply_records(&mut store, 0, &[own, shared, count, count_all, free])?;
-    load.done(0);
+    leave_open(store, &mut load)?;
     let rounds = plan.sections / plan.group.max(1);
     let mut others = load.of_lanes_1_and_2();
-    settlings(rt, &mut store, &mut others, plan.group, rounds)?;
+    settlings(rt, store, &mut others, plan.group, rounds)?;
     let mut load = others.of_lane_3();
     let rounds = rounds.saturating_mul(TIMES);
-    let mut trimmed = trimmed_rounds(rt, &mut store, &mut load, plan.group, rounds)?;
-    trimmed.figures.sections = acknowledged(&store);
+    let mut trimmed = trimmed_rounds(rt, store, &mut load, plan.group, rounds)?;
+    trimmed.figures.sections = acknowledged(store);
     Ok(trimmed)
 }
 
 /// Prints what the rounds took.
 pub fn print_trimmed<R: Print>(rt: &R, plan: &Plan, trimmed: &Trimmed) -> Result<(), Stopped> {
     let left_out = plan.sections;
-    println!(rt; "with {left_out} left out in the logs").map_err(|_| Stopped::Telling)?;
+    told(println!(rt; "with {left_out} left out in the logs"))?;
     print_figures(rt, &trimmed.figures)?;
     let longest = trimmed.longest;
-    println!(rt; "the longest trim took {longest} ns of processor time").map_err(
-        |_| Stopped::Telling,
-    )
+    told(println!(rt; "the longest trim took {longest} ns of processor time"))
 }

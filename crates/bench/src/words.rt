@@ -4,7 +4,7 @@ ghost use Rattle.bench.specs.Words.{SpellsNumber};
 ghost use Rattle.bench.specs.declared.words.Words.TheVariants.{Help};
 
 /// How much is done.
-#[derive(Clone, Copy, Debug, PartialEq, Eq)]
+#[derive(Clone, Copy)]
 pub struct Plan {
     /// So many sections are acknowledged at least.
     pub sections: u64,
@@ -13,7 +13,7 @@ pub struct Plan {
 }
 
 /// What the words ask for.
-#[derive(Clone, Copy, Debug, PartialEq, Eq)]
+#[derive(Clone, Copy)]
 pub enum Words<'a> {
     /// To print which words there are. No words ask for it.
     Help,
@@ -35,33 +35,46 @@ pub enum Words<'a> {
 pub fn read_words(texts: &[String]) -> Option<Words<'_>>
     ensures help { length texts.now ≤ 1 → result ≡ Some Help }
 {
-    let Some(word) = texts.get(1) else {
+    if texts.len() <= 1 {
         return Some(Words::Help);
-    };
-    if texts.len() == 3 && word.as_str() == "recover" {
-        return Some(Words::Recover {
-            path: texts.get(2)?.as_str(),
-        });
+    }
+    read_asked(texts)
+}
+
+// What the words behind the program's name ask for.
+fn read_asked(texts: &[String]) -> Option<Words<'_>> {
+    let word = texts.get(1)?.as_str();
+    if texts.len() == 3 && word == "recover" {
+        let path = texts.get(2)?.as_str();
+        return Some(Words::Recover { path });
     }
     let plan = read_plan(texts.get(2)?.as_str(), texts.get(3)?.as_str())?;
-    let word = word.as_str();
-    if texts.len() == 4 && word == "memory" {
-        return Some(Words::Memory { plan });
+    if texts.len() == 4 {
+        return in_memory(word, plan);
     }
-    if texts.len() == 4 && word == "open" {
-        return Some(Words::Open { plan });
-    }
-    if texts.len() == 4 && word == "trim" {
-        return Some(Words::Trim { plan });
-    }
-    let path = texts.get(4)?.as_str();
-    if texts.len() == 5 && word == "file" {
-        return Some(Words::File { plan, path });
-    }
-    if texts.len() == 5 && word == "tell" {
-        return Some(Words::Tell { plan, path });
+    if texts.len() == 5 {
+        return on_file(word, plan, texts.get(4)?.as_str());
     }
     None
+}
+
+// What is measured in memory.
+fn in_memory<'a>(word: &str, plan: Plan) -> Option<Words<'a>> {
+    match word {
+        "memory" => Some(Words::Memory { plan }),
+        "open" => Some(Words::Open { plan }),
+        "trim" => Some(Words::Trim { plan }),
+        _ => None,
+    }
+}
+
+// What is measured on a file.
+fn on_file<'a>(word: &str, plan: Plan, path: &'a str) -> Option<Words<'a>> {
+    match word {
+        "file" => Some(Words::File { plan, path }),
+        "tell" => Some(Words::Tell { plan, path }),
+        _ => None,
+    }
 }
 
 // The plan of these two numerals.
