@@ -1,14 +1,15 @@
 //! Heaps that hold one pool and nothing else, with a session of each lane. The pool's object has number 0, and so has the field
 //! of its head; that of slot i has number i + 1.
 
-ghost use Rattle.std.specs.Prelude.{◌≡◌, ◌<◌, ◌≤◌, ◌+◌, IfOk, IfSome, All};
+ghost use Rattle.std.specs.Prelude.{◌≡◌, ◌<◌, ◌≤◌, IfSome, All, map};
+ghost use Rattle.monitor.specs.Seats.{IsSeatOf, fresh_views};
 ghost use Rattle.pool.specs.declared.pool.TheConstants.{MOST_SLOTS};
 ghost use Rattle.session.specs.Sessions.{IsSessionOf};
 
 use guards::{Schema, SchemaBuilder};
 use heap_model::{FieldId, ObjectId};
 use lane_rings::Receiver;
-use monitor::Shared;
+use monitor::{Seat, Shared};
 use pool::{MOST_SLOTS, Pool};
 use session::{Session, open_sessions};
 use std::alloc::{AllocError, Global};
@@ -32,7 +33,6 @@ const CAPACITY: u32 = 1_048_576;
 fn declare(alloc: Global, slots: u32) -> Option<(Schema, Pool)>
     requires some { 0 < slots }
     requires few { slots ≤ MOST_SLOTS }
-    ensures slots { IfSome result (λ r. r.1.slots ≡ slots) }
 {
     let mut builder = SchemaBuilder::new(alloc);
     let pool = Pool::lay_out(&mut builder, "p", slots).ok()?;
@@ -52,6 +52,7 @@ fn first_values(alloc: Global, schema: &Schema) -> Result<Vec<u64>, AllocError> 
 }
 
 /// A heap with a pool.
+#[derive(Drop)]
 pub struct PoolHeap {
     /// Its shared words.
     pub shared: Shared,
@@ -63,23 +64,31 @@ pub struct PoolHeap {
     pub rings: Vec<Receiver>,
 }
 
+// The shared words and the seats of a heap of this schema.
+fn share(alloc: Global, schema: Schema, lanes: u8) -> Option<(Shared, Vec<Seat>)>
+    requires lanes { lanes ≤ 32 }
+    ensures views { IfSome result (λ r. map (λ s. s.view) r.1.items ≡ fresh_views r.0.plan lanes) }
+    ensures seats { IfSome result (λ r. All (IsSeatOf r.0) r.1.items) }
+{
+    let values = first_values(alloc, &schema).ok()?;
+    if schema.fields() as usize != values.len() {
+        return None;
+    }
+    match Shared::new(alloc, schema, values.as_slice(), lanes, LAST) {
+        Ok((shared, seats, _helper)) => Some((shared, seats)),
+        Err(_) => None,
+    }
+}
+
 /// A heap with a pool of so many slots, and so many lanes. `None` is want of memory.
 pub fn open_pool(alloc: Global, slots: u32, lanes: u8) -> Option<PoolHeap>
     requires some { 0 < slots }
     requires few { slots ≤ MOST_SLOTS }
     requires lanes { lanes ≤ 32 }
     ensures seats { IfSome result (λ r. All (IsSessionOf r.shared) r.sessions.items) }
-    ensures slots { IfSome result (λ r. r.pool.slots ≡ slots) }
 {
     let (schema, pool) = declare(alloc, slots)?;
-    let values = first_values(alloc, &schema).ok()?;
-    if schema.fields() as usize != values.len() {
-        return None;
-    }
-    let Ok((shared, seats, _helper)) = Shared::new(alloc, schema, values.as_slice(), lanes, LAST)
-    else {
-        return None;
-    };
+    let (shared, seats) = share(alloc, schema, lanes)?;
     match open_sessions(alloc, &shared, seats, CAPACITY) {
         Ok((sessions, rings)) => Some(PoolHeap {
             shared,
@@ -91,23 +100,6 @@ pub fn open_pool(alloc: Global, slots: u32, lanes: u8) -> Option<PoolHeap>
     }
 }
 
-/// The same with two slots and one lane.
-pub fn open_small(alloc: Global) -> Option<(Shared, Pool, Session)>
-    ensures seat { IfSome result (λ r. IsSessionOf r.0 r.2) }
-    ensures slots { IfSome result (λ r. r.1.slots ≡ 2) }
-{
-    let PoolHeap {
-        shared,
-        pool,
-        mut sessions,
-        rings: _,
-    } = open_pool(alloc, 2, 1)?;
-    match sessions.pop() {
-        Some(session) => Some((shared, pool, session)),
-        None => None,
-    }
-}
-
 /// Takes out the last session.
 pub fn take_last(shared: &Shared, sessions: &mut Vec<Session>) -> Option<Session>
     requires seats { All (IsSessionOf shared.now) sessions.old.items }
@@ -115,6 +107,16 @@ pub fn take_last(shared: &Shared, sessions: &mut Vec<Session>) -> Option<Session
     ensures left { All (IsSessionOf shared.now) sessions.new.items }
 {
     sessions.pop()
+}
+
+/// Takes out the last two, in their order.
+pub fn take_two(shared: &Shared, sessions: &mut Vec<Session>) -> Option<(Session, Session)>
+    requires seats { All (IsSessionOf shared.now) sessions.old.items }
+    ensures seats { IfSome result (λ r. IsSessionOf shared.now r.0 × IsSessionOf shared.now r.1) }
+{
+    let b = take_last(shared, sessions)?;
+    let a = take_last(shared, sessions)?;
+    Some((a, b))
 }
 
 /// Takes all records that wait in the ring.

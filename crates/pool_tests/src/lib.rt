@@ -7,6 +7,6 @@ mod calls;
 #[cfg(test)]
 mod heap;
 #[cfg(test)]
-mod refusals;
+mod sections;
 #[cfg(test)]
 mod threads;

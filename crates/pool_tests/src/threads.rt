@@ -1,14 +1,14 @@
 //! Threads that take and give the slots of one pool.
 
-ghost use Rattle.std.specs.Prelude.{◌≡◌, ◌<◌, IfSome, All};
+ghost use Rattle.std.specs.Prelude.{All};
 ghost use Rattle.session.specs.Sessions.{IsSessionOf};
 
-use crate::heap::{GUARD, HEAD, PoolHeap, empty, open_pool, take_last, value_in};
+use crate::heap::{GUARD, HEAD, empty, open_pool, take_last, take_two, value_in};
 use heap_model::FieldId;
 use lane_rings::Receiver;
 use monitor::Shared;
 use pool::Pool;
-use pool_in_section::InSection;
+use pool_in_section::{give, take};
 use session::Session;
 use std::alloc::Global;
 use std::sync::Wait;
@@ -17,83 +17,60 @@ use std::thread::{Threads, join};
 // How many slots the pool has.
 const SLOTS: u32 = 4;
 
+// How often a thread takes two slots and gives them.
+const TIMES: u32 = 1_250;
+
 // Takes a slot in a section of its own.
 fn take_one<R: Wait>(
     rt: &R,
     shared: &Shared,
     pool: &Pool,
     session: Session,
-) -> Option<(Session, u32)>
+) -> (Session, Option<u32>)
     requires seat { IsSessionOf shared.now session }
-    ensures seat { IfSome result (λ r. IsSessionOf shared.now r.0) }
-    ensures slot { IfSome result (λ r. r.1 < pool.now.slots) }
+    ensures seat { IsSessionOf shared.now result.0 }
 {
     let mut session = session;
     let _ = session.enter(rt, shared, GUARD);
-    let mut cells = InSection::new(session, shared);
-    let taken = pool.take(&mut cells);
-    let mut session = cells.into_session();
+    let (session, taken) = take(session, shared, pool);
+    let mut session = session;
     let _ = session.exit(shared, GUARD);
-    match taken {
-        Ok(slot) => Some((session, slot)),
-        Err(_) => None,
-    }
+    (session, taken.ok())
 }
 
-// Gives a slot in a section of its own.
+// Gives a slot in a section of its own, if the pool has it.
 fn give_one<R: Wait>(
     rt: &R,
     shared: &Shared,
     pool: &Pool,
     session: Session,
-    slot: u32,
-) -> Option<Session>
+    slot: Option<u32>,
+) -> (Session, bool)
     requires seat { IsSessionOf shared.now session }
-    requires slot { slot < pool.now.slots }
-    ensures seat { IfSome result (IsSessionOf shared.now) }
+    ensures seat { IsSessionOf shared.now result.0 }
 {
+    let slot = slot.unwrap_or(SLOTS);
+    if slot >= pool.slots() {
+        return (session, false);
+    }
     let mut session = session;
     let _ = session.enter(rt, shared, GUARD);
-    let mut cells = InSection::new(session, shared);
-    let given = pool.give(&mut cells, slot);
-    let mut session = cells.into_session();
+    let (session, given) = give(session, shared, pool, slot);
+    let mut session = session;
     let _ = session.exit(shared, GUARD);
-    match given {
-        Ok(()) => Some(session),
-        Err(_) => None,
-    }
-}
-
-// Gives two slots.
-fn give_both<R: Wait>(
-    rt: &R,
-    shared: &Shared,
-    pool: &Pool,
-    session: Session,
-    slots: (u32, u32),
-) -> Option<Session>
-    requires seat { IsSessionOf shared.now session }
-    requires slots { (slots.0 < pool.now.slots) × (slots.1 < pool.now.slots) }
-    ensures seat { IfSome result (IsSessionOf shared.now) }
-{
-    match give_one(rt, shared, pool, session, slots.0) {
-        Some(session) => give_one(rt, shared, pool, session, slots.1),
-        None => None,
-    }
+    (session, given.is_ok())
 }
 
 // Takes two slots, and gives them in the order in which they came. So the list turns round.
-fn pass<R: Wait>(rt: &R, shared: &Shared, pool: &Pool, session: Session) -> Option<Session>
+fn pass<R: Wait>(rt: &R, shared: &Shared, pool: &Pool, session: Session) -> (Session, bool)
     requires seat { IsSessionOf shared.now session }
-    ensures seat { IfSome result (IsSessionOf shared.now) }
+    ensures seat { IsSessionOf shared.now result.0 }
 {
-    match take_one(rt, shared, pool, session) {
-        Some((session, first)) => match take_one(rt, shared, pool, session) {
-            Some((session, second)) => give_both(rt, shared, pool, session, (first, second)),
-            None => None,
-        },
-        None => None,
-    }
+    let (session, first) = take_one(rt, shared, pool, session);
+    let (session, second) = take_one(rt, shared, pool, session);
+    let (session, one) = give_one(rt, shared, pool, session, first);
+    let (session, two) = give_one(rt, shared, pool, session, second);
+    (session, one && two)
 }
 
 // The same so many times. Answers how many sections there were, unless a call was refused.
@@ -109,34 +86,48 @@ fn pass_often<R: Wait>(
 {
     let mut session = session;
     let mut ring = ring;
+    let mut are_ok = true;
     for _ in 0..times {
         empty(&mut ring);
-        match pass(rt, shared, pool, session) {
-            Some(next) => session = next,
-            None => return None,
-        }
+        let (next, is_ok) = pass(rt, shared, pool, session);
+        session = next;
+        are_ok &= is_ok;
     }
-    Some(session.sections())
+    if are_ok {
+        Some(session.sections())
+    } else {
+        None
+    }
 }
 
-// Two threads do so side by side, each with a session of its own.
+// Takes out the last two, in their order.
+fn take_rings(rings: &mut Vec<Receiver>) -> Option<(Receiver, Receiver)> {
+    let b = rings.pop()?;
+    let a = rings.pop()?;
+    Some((a, b))
+}
+
+// What two threads answer that do so side by side, each with a session of its own, and how often each slot stands in the list
+// then.
 fn race<R: Threads + Wait + Sync>(
     rt: &R,
     shared: &Shared,
     pool: &Pool,
-    a: (Session, Receiver),
-    b: (Session, Receiver),
-    times: u32,
-) -> (Option<u64>, Option<u64>)
-    requires seats { IsSessionOf shared.now a.0 × IsSessionOf shared.now b.0 }
+    sessions: &mut Vec<Session>,
+    rings: &mut Vec<Receiver>,
+) -> Option<((Option<u64>, Option<u64>), [u32; 4])>
+    requires seats { All (IsSessionOf shared.now) sessions.old.items }
 {
-    let (first, first_ring) = a;
-    let (second, second_ring) = b;
-    join(
+    let _ = rings.pop();
+    let (first_ring, second_ring) = take_rings(rings)?;
+    let mut last = take_last(shared, sessions)?;
+    let (first, second) = take_two(shared, sessions)?;
+    let ends = join(
         rt,
-        || pass_often(rt, shared, pool, first, first_ring, times),
-        || pass_often(rt, shared, pool, second, second_ring, times),
-    )
+        || pass_often(rt, shared, pool, first, first_ring, TIMES),
+        || pass_often(rt, shared, pool, second, second_ring, TIMES),
+    );
+    Some((ends, stand(shared, &mut last)))
 }
 
 // How often each slot stands in the free list, as far as it is followed: for one step more than there are slots.
@@ -157,30 +148,24 @@ fn stand(shared: &Shared, session: &mut Session) -> [u32; 4]
     found
 }
 
-// What the threads answer, and how often each slot stands in the list then.
-fn race_and_look<R: Threads + Wait + Sync>(
+// The same of a heap with a pool of these slots.
+fn told_of<R: Threads + Wait + Sync>(
     rt: &R,
     alloc: Global,
-    times: u32,
 ) -> Option<((Option<u64>, Option<u64>), [u32; 4])> {
-    let PoolHeap {
-        shared,
-        pool,
-        mut sessions,
-        mut rings,
-    } = open_pool(alloc, SLOTS, 3)?;
-    let mut last = take_last(&shared, &mut sessions)?;
-    let _ = rings.pop();
-    let b = (take_last(&shared, &mut sessions)?, rings.pop()?);
-    let a = (take_last(&shared, &mut sessions)?, rings.pop()?);
-    let ends = race(rt, &shared, &pool, a, b, times);
-    Some((ends, stand(&shared, &mut last)))
+    let mut heap = open_pool(alloc, SLOTS, 3)?;
+    race(
+        rt,
+        &heap.shared,
+        &heap.pool,
+        &mut heap.sessions,
+        &mut heap.rings,
+    )
 }
 
 // Each thread takes and gives 5,000 times, in 5,000 sections.
 #[test]
 fn two_threads_lose_no_slot(rt: HostRuntime) {
-    let found = race_and_look(&rt, rt.alloc(), 1_250);
     let ends = (Some(5_000), Some(5_000));
-    assert!(rt; found == Some((ends, [1, 1, 1, 1])));
+    assert!(rt; told_of(&rt, rt.alloc()) == Some((ends, [1, 1, 1, 1])));
 }
