@@ -5,78 +5,138 @@ use heap_model::{Cut, FieldId, LANES, Lane, LaneRecord, ObjectId, Record, UndoRe
 use history_laws::earliest_law;
 use std::alloc::Global;
 
-fn acq(lane: u8, object: u32, number: u64) -> LaneRecord {
-    LaneRecord {
-        lane: Lane(lane),
-        record: Record::Acq {
-            object: ObjectId(object),
-            number,
-        },
-    }
+// A constant's value may call no function, so records are spelt by macros.
+macro_rules! entry {
+    ($lane:expr, $record:expr) => {
+        LaneRecord {
+            lane: Lane($lane),
+            record: $record,
+        }
+    };
 }
 
-fn rel(lane: u8, object: u32, number: u64) -> LaneRecord {
-    LaneRecord {
-        lane: Lane(lane),
-        record: Record::Rel {
-            object: ObjectId(object),
-            number,
-        },
-    }
+macro_rules! acq {
+    ($lane:expr, $object:expr, $number:expr) => {
+        entry!(
+            $lane,
+            Record::Acq {
+                object: ObjectId($object),
+                number: $number,
+            }
+        )
+    };
 }
 
-fn wait(lane: u8, object: u32, number: u64) -> LaneRecord {
-    LaneRecord {
-        lane: Lane(lane),
-        record: Record::WaitRel {
-            object: ObjectId(object),
-            number,
-        },
-    }
+macro_rules! rel {
+    ($lane:expr, $object:expr, $number:expr) => {
+        entry!(
+            $lane,
+            Record::Rel {
+                object: ObjectId($object),
+                number: $number,
+            }
+        )
+    };
 }
 
-fn put(lane: u8, field: u32, before: u64, after: u64) -> LaneRecord {
-    LaneRecord {
-        lane: Lane(lane),
-        record: Record::Put {
-            field: FieldId(field),
-            before,
-            after,
-        },
-    }
+macro_rules! wait {
+    ($lane:expr, $object:expr, $number:expr) => {
+        entry!(
+            $lane,
+            Record::WaitRel {
+                object: ObjectId($object),
+                number: $number,
+            }
+        )
+    };
 }
 
-// The first two counts, where the other lanes have none.
-fn first_two(cut: &Cut) -> Option<[u64; 2]> {
-    if cut.counts[2..] == [0; 30] {
-        Some([cut.counts[0], cut.counts[1]])
-    } else {
-        None
-    }
+macro_rules! put {
+    ($lane:expr, $field:expr, $before:expr, $after:expr) => {
+        entry!(
+            $lane,
+            Record::Put {
+                field: FieldId($field),
+                before: $before,
+                after: $after,
+            }
+        )
+    };
+}
+
+// A section takes what an unfinished one freed, which ends with the last record.
+const HANDED_OVER: [LaneRecord; 8] = [
+    acq!(0, 0, 0),
+    acq!(0, 1, 0),
+    put!(0, 0, 10, 1),
+    rel!(0, 0, 0),
+    acq!(1, 0, 1),
+    put!(1, 0, 1, 2),
+    rel!(1, 0, 1),
+    rel!(0, 1, 0),
+];
+
+// Two sections depend on each other. The last record ends the second.
+const CIRCLE: [LaneRecord; 10] = [
+    acq!(0, 0, 0),
+    acq!(0, 1, 0),
+    rel!(0, 1, 0),
+    acq!(1, 2, 0),
+    acq!(1, 1, 1),
+    rel!(1, 2, 0),
+    acq!(0, 2, 1),
+    rel!(0, 2, 1),
+    rel!(0, 0, 0),
+    rel!(1, 1, 1),
+];
+
+// A wait frees the last monitor.
+const WAITED: [LaneRecord; 7] = [
+    acq!(0, 0, 0),
+    put!(0, 0, 10, 7),
+    wait!(0, 0, 0),
+    acq!(1, 0, 1),
+    rel!(1, 0, 1),
+    acq!(0, 0, 2),
+    rel!(0, 0, 2),
+];
+
+// A wait keeps another monitor.
+const WAITED_INSIDE: [LaneRecord; 3] = [acq!(0, 0, 0), acq!(0, 1, 0), wait!(0, 0, 0)];
+
+// A store beyond the heap, and a second section.
+const BEYOND: [LaneRecord; 7] = [
+    acq!(0, 0, 0),
+    put!(0, 0, 10, 5),
+    put!(0, 9, 0, 1),
+    rel!(0, 0, 0),
+    acq!(1, 0, 1),
+    put!(1, 0, 5, 6),
+    rel!(1, 0, 1),
+];
+
+// So many sections of the first two lanes.
+fn cut(first: u64, second: u64) -> Cut {
+    let mut counts = [0; 32];
+    counts[0] = first;
+    counts[1] = second;
+    Cut { counts }
 }
 
 // The stable cut, and the heap that it keeps of two fields, which are 10 and 20 at first.
-fn stable(alloc: Global, records: &[LaneRecord]) -> Option<[[u64; 2]; 2]> {
+fn stable(alloc: Global, records: &[LaneRecord]) -> Option<(Cut, [u64; 2])> {
     if !records.iter().all(|entry| entry.lane.0 < 32) {
         return None;
     }
     let cut = stable_cut(alloc, records).ok()?;
-    let mut heap = [10, 20];
-    replay(alloc, &mut heap, records, &cut).ok()?;
-    Some([first_two(&cut)?, heap])
+    Some((cut, kept(alloc, records, &cut)?))
 }
 
-// The same of the first so many records, and of all.
-fn stable_in_two(
-    alloc: Global,
-    records: &[LaneRecord],
-    first: usize,
-) -> [Option<[[u64; 2]; 2]>; 2] {
-    let begun = match records.get(..first) {
-        Some(part) => stable(alloc, part),
-        None => None,
-    };
-    [begun, stable(alloc, records)]
+// The heap that the cut keeps.
+fn kept(alloc: Global, records: &[LaneRecord], cut: &Cut) -> Option<[u64; 2]> {
+    let mut heap = [10, 20];
+    replay(alloc, &mut heap, records, cut).ok()?;
+    Some(heap)
 }
 
 // The law holds of whatever is listed: an undo log's records are.
@@ -85,94 +145,52 @@ fn the_earliest_is_found_of_any_type(_rt: HostRuntime) {
     earliest_law::<UndoRecord>();
 }
 
-// A section that took what an unfinished one freed stays out with it, until that ends.
+// What depends on an unfinished section stays out with it, until that ends. Those that depend on each other become stable
+// together.
 #[test]
-fn dependence_holds_a_section_back(rt: HostRuntime) {
-    let records = [
-        acq(0, 0, 0),
-        acq(0, 1, 0),
-        put(0, 0, 10, 1),
-        rel(0, 0, 0),
-        acq(1, 0, 1),
-        put(1, 0, 1, 2),
-        rel(1, 0, 1),
-        rel(0, 1, 0),
+fn dependence_holds_sections_back(rt: HostRuntime) {
+    let found = [
+        stable(rt.alloc(), &HANDED_OVER[..7]),
+        stable(rt.alloc(), &HANDED_OVER),
+        stable(rt.alloc(), &CIRCLE[..9]),
+        stable(rt.alloc(), &CIRCLE),
     ];
-    let wanted = [Some([[0, 0], [10, 20]]), Some([[1, 1], [2, 20]])];
-    assert!(rt; stable_in_two(rt.alloc(), &records, 7) == wanted);
+    let wanted = [
+        Some((cut(0, 0), [10, 20])),
+        Some((cut(1, 1), [2, 20])),
+        Some((cut(0, 0), [10, 20])),
+        Some((cut(1, 1), [10, 20])),
+    ];
+    assert!(rt; found == wanted);
 }
 
-// Two sections that depend on each other become stable together.
-#[test]
-fn a_circle_becomes_stable_as_a_whole(rt: HostRuntime) {
-    let records = [
-        acq(0, 0, 0),
-        acq(0, 1, 0),
-        rel(0, 1, 0),
-        acq(1, 2, 0),
-        acq(1, 1, 1),
-        rel(1, 2, 0),
-        acq(0, 2, 1),
-        rel(0, 2, 1),
-        rel(0, 0, 0),
-        rel(1, 1, 1),
-    ];
-    let wanted = [Some([[0, 0], [10, 20]]), Some([[1, 1], [10, 20]])];
-    assert!(rt; stable_in_two(rt.alloc(), &records, 9) == wanted);
-}
-
-// A wait that frees the last monitor ends a section.
+// A wait that frees the last monitor ends a section, and one that keeps another doesn't.
 #[test]
 fn a_section_ends_at_a_wait(rt: HostRuntime) {
-    let records = [
-        acq(0, 0, 0),
-        put(0, 0, 10, 7),
-        wait(0, 0, 0),
-        acq(1, 0, 1),
-        rel(1, 0, 1),
-        acq(0, 0, 2),
-        rel(0, 0, 2),
+    let found = [
+        stable(rt.alloc(), &WAITED[..3]),
+        stable(rt.alloc(), &WAITED),
+        stable(rt.alloc(), &WAITED_INSIDE),
     ];
-    let wanted = [Some([[1, 0], [7, 20]]), Some([[2, 1], [7, 20]])];
-    assert!(rt; stable_in_two(rt.alloc(), &records, 3) == wanted);
-}
-
-// One that keeps another monitor doesn't.
-#[test]
-fn no_section_ends_at_a_wait_inside(rt: HostRuntime) {
-    let records = [acq(0, 0, 0), acq(0, 1, 0), wait(0, 0, 0)];
-    assert!(rt; stable(rt.alloc(), &records) == Some([[0, 0], [10, 20]]));
-}
-
-// The heap that one section of lane 0 keeps.
-fn kept_by_one(alloc: Global, records: &[LaneRecord]) -> Option<[u64; 2]> {
-    let mut cut = Cut { counts: [0; 32] };
-    cut.counts[0] = 1;
-    let mut heap = [10, 20];
-    replay(alloc, &mut heap, records, &cut).ok()?;
-    Some(heap)
+    let wanted = [
+        Some((cut(1, 0), [7, 20])),
+        Some((cut(2, 1), [7, 20])),
+        Some((cut(0, 0), [10, 20])),
+    ];
+    assert!(rt; found == wanted);
 }
 
 // What a cut leaves out isn't replayed, and a store beyond the heap is left out.
 #[test]
 fn a_cut_keeps_its_own_stores(rt: HostRuntime) {
-    let records = [
-        acq(0, 0, 0),
-        put(0, 0, 10, 5),
-        put(0, 9, 0, 1),
-        rel(0, 0, 0),
-        acq(1, 0, 1),
-        put(1, 0, 5, 6),
-        rel(1, 0, 1),
-    ];
-    assert!(rt; kept_by_one(rt.alloc(), &records) == Some([5, 20]));
+    assert!(rt; kept(rt.alloc(), &BEYOND, &cut(1, 0)) == Some([5, 20]));
 }
 
 // The first record of these whose undo record is another one.
 fn first_other(cases: &[(Record, UndoRecord)]) -> Option<Record> {
-    for (record, undo) in cases.iter().copied() {
-        if record.undo() != undo {
-            return Some(record);
+    for (record, undo) in cases {
+        if record.undo() != *undo {
+            return Some(*record);
         }
     }
     None
@@ -252,10 +270,12 @@ fn first_unnumbered() -> Option<u8> {
 
 // The first of these threads that is a lane's.
 fn first_lane(threads: &[u64]) -> Option<u64> {
-    threads
-        .iter()
-        .copied()
-        .find(|thread| Lane::of_thread(*thread).is_some())
+    for thread in threads {
+        if Lane::of_thread(*thread).is_some() {
+            return Some(*thread);
+        }
+    }
+    None
 }
 
 // Threads are shown from 1, and only the lanes that a heap may have are found.

@@ -3,14 +3,26 @@
 use heap_model::{LAST_NUMBER, Lane};
 use lock_word::{FatShape, FatWord, LockWord, Shape, WaitMask, is_lane, is_release_number};
 
+// The lock of a word, of either kind.
+#[derive(Clone, Copy)]
+enum Lock {
+    Thin(LockWord),
+    Fat(FatWord),
+}
+
+// Whether the lock has these bits, and is read of them.
+fn is_spelt(lock: Lock, word: u64) -> bool {
+    match lock {
+        Lock::Thin(lock) => lock.bits() == word && LockWord::parse(word) == Some(lock),
+        Lock::Fat(lock) => lock.bits() == word && FatWord::parse(word) == Some(lock),
+    }
+}
+
 // The first of these words that isn't spelt so, or not read of these bits.
-fn first_other_lock(cases: &[(LockWord, u64)]) -> Option<u64> {
-    for (lock, word) in cases.iter().copied() {
-        if lock.bits() != word {
-            return Some(word);
-        }
-        if LockWord::parse(word) != Some(lock) {
-            return Some(word);
+fn first_other(cases: &[(Lock, u64)]) -> Option<u64> {
+    for (lock, word) in cases {
+        if !is_spelt(*lock, *word) {
+            return Some(*word);
         }
     }
     None
@@ -20,77 +32,98 @@ fn first_other_lock(cases: &[(LockWord, u64)]) -> Option<u64> {
 #[test]
 fn lock_words_are_as_laid_out(rt: HostRuntime) {
     let cases = [
-        (LockWord::free(0), 0),
-        (LockWord::free(1), 16_777_216),
-        (LockWord::thin(1, 255, 0), 511),
-        (LockWord::thin(3, 255, 7), 117_441_535),
-        (LockWord::thin(32_767, 255, 0), 8_388_607),
+        (Lock::Thin(LockWord::free(0)), 0),
+        (Lock::Thin(LockWord::free(1)), 16_777_216),
+        (Lock::Thin(LockWord::thin(1, 255, 0)), 511),
+        (Lock::Thin(LockWord::thin(3, 255, 7)), 117_441_535),
+        (Lock::Thin(LockWord::thin(32_767, 255, 0)), 8_388_607),
         (
-            LockWord::thin(1, 0, LAST_NUMBER),
+            Lock::Thin(LockWord::thin(1, 0, LAST_NUMBER)),
             18_446_744_073_692_774_656,
         ),
-        (LockWord::fat(0, 0), 8_388_608),
-        (LockWord::fat(5, 7), 125_829_125),
-        (LockWord::fat(1023, LAST_NUMBER), 18_446_744_073_701_164_031),
+        (Lock::Thin(LockWord::fat(0, 0)), 8_388_608),
+        (Lock::Thin(LockWord::fat(5, 7)), 125_829_125),
+        (
+            Lock::Thin(LockWord::fat(1023, LAST_NUMBER)),
+            18_446_744_073_701_164_031,
+        ),
     ];
-    assert!(rt; first_other_lock(&cases).is_none());
-}
-
-// The first of these that is read as a lock.
-fn first_lock(words: &[u64]) -> Option<u64> {
-    for word in words.iter().copied() {
-        if LockWord::parse(word).is_some() {
-            return Some(word);
-        }
-    }
-    None
-}
-
-// A free word with a count, and slots that there aren't.
-#[test]
-fn some_words_are_no_lock(rt: HostRuntime) {
-    let words = [1, 255, 16_777_217, 8_389_632, 16_777_215, u64::MAX];
-    assert!(rt; first_lock(&words).is_none());
-}
-
-fn first_other_fat(cases: &[(FatWord, u64)]) -> Option<u64> {
-    for (lock, word) in cases.iter().copied() {
-        if lock.bits() != word {
-            return Some(word);
-        }
-        if FatWord::parse(word) != Some(lock) {
-            return Some(word);
-        }
-    }
-    None
+    assert!(rt; first_other(&cases).is_none());
 }
 
 #[test]
 fn fat_words_are_as_laid_out(rt: HostRuntime) {
     let cases = [
-        (FatWord::free(0), 0),
-        (FatWord::free(1), 16_777_216),
-        (FatWord::free(3), 50_331_648),
-        (FatWord::held(1, 256, 0), 65_537),
-        (FatWord::held(2, 0, 1), 16_777_218),
-        (FatWord::held(255, 65_535, LAST_NUMBER), u64::MAX),
+        (Lock::Fat(FatWord::free(0)), 0),
+        (Lock::Fat(FatWord::free(1)), 16_777_216),
+        (Lock::Fat(FatWord::free(3)), 50_331_648),
+        (Lock::Fat(FatWord::held(1, 256, 0)), 65_537),
+        (Lock::Fat(FatWord::held(2, 0, 1)), 16_777_218),
+        (Lock::Fat(FatWord::held(255, 65_535, LAST_NUMBER)), u64::MAX),
     ];
-    assert!(rt; first_other_fat(&cases).is_none());
+    assert!(rt; first_other(&cases).is_none());
 }
 
-fn first_fat_lock(words: &[u64]) -> Option<u64> {
-    for word in words.iter().copied() {
-        if FatWord::parse(word).is_some() {
-            return Some(word);
+// What bits are read as.
+#[derive(Clone, Copy)]
+enum Kind {
+    Lock,
+    Fat,
+    Mask,
+}
+
+// The bits of what these bits are read as, if they are.
+fn respelt(kind: Kind, word: u64) -> Option<u64> {
+    match kind {
+        Kind::Lock => Some(LockWord::parse(word)?.bits()),
+        Kind::Fat => Some(FatWord::parse(word)?.bits()),
+        Kind::Mask => Some(WaitMask::parse(word)?.bits()),
+    }
+}
+
+// Locks: a free word with a count, and slots that there aren't. Fat ones: free words with a count. Of a mask only bits 0 to 31
+// are lanes.
+const UNREAD: [(Kind, u64); 13] = [
+    (Kind::Lock, 1),
+    (Kind::Lock, 255),
+    (Kind::Lock, 16_777_217),
+    (Kind::Lock, 8_389_632),
+    (Kind::Lock, 16_777_215),
+    (Kind::Lock, u64::MAX),
+    (Kind::Fat, 256),
+    (Kind::Fat, 16_776_960),
+    (Kind::Fat, 16_777_472),
+    (Kind::Mask, 4_294_967_296),
+    (Kind::Mask, 4_294_967_297),
+    (Kind::Mask, 9_223_372_036_854_775_808),
+    (Kind::Mask, u64::MAX),
+];
+
+const READ: [(Kind, u64); 4] = [
+    (Kind::Mask, 0),
+    (Kind::Mask, 1),
+    (Kind::Mask, 2_147_483_649),
+    (Kind::Mask, 4_294_967_295),
+];
+
+// The first of these words that isn't read as what it spells; or, where none is to be read, the first that is.
+fn first_otherwise_read(cases: &[(Kind, u64)], is_read: bool) -> Option<u64> {
+    for (kind, word) in cases {
+        let wanted = if is_read { Some(*word) } else { None };
+        if respelt(*kind, *word) != wanted {
+            return Some(*word);
         }
     }
     None
 }
 
-// Free words with a count.
 #[test]
-fn some_words_are_no_fat_lock(rt: HostRuntime) {
-    assert!(rt; first_fat_lock(&[256, 16_776_960, 16_777_472]).is_none());
+fn some_words_are_read(rt: HostRuntime) {
+    let found = [
+        first_otherwise_read(&READ, true),
+        first_otherwise_read(&UNREAD, false),
+    ];
+    assert!(rt; found == [None; 2]);
 }
 
 // 256 locks of one thread fill the count of a thin word. It is then given up at once. The bits of both.
@@ -203,38 +236,4 @@ fn masks_are_sets_of_lanes(rt: HostRuntime) {
         (0, None),
     ];
     assert!(rt; (sets, has) == (wanted, [true, false, true, false]));
-}
-
-// The first of these that isn't read as the set with these bits.
-fn first_no_mask(words: &[u64]) -> Option<u64> {
-    for word in words.iter().copied() {
-        match WaitMask::parse(word) {
-            Some(mask) if mask.bits() == word => (),
-            _ => return Some(word),
-        }
-    }
-    None
-}
-
-fn first_mask(words: &[u64]) -> Option<u64> {
-    for word in words.iter().copied() {
-        if WaitMask::parse(word).is_some() {
-            return Some(word);
-        }
-    }
-    None
-}
-
-// Only bits 0 to 31 are lanes.
-#[test]
-fn masks_have_32_bits(rt: HostRuntime) {
-    let masks = [0, 1, 2_147_483_649, 4_294_967_295];
-    let others = [
-        4_294_967_296,
-        4_294_967_297,
-        9_223_372_036_854_775_808,
-        u64::MAX,
-    ];
-    let found = [first_no_mask(&masks), first_mask(&others)];
-    assert!(rt; found == [None; 2]);
 }
