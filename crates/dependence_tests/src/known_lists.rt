@@ -8,39 +8,74 @@ use dependence::Dependence;
 use heap_model::{Cut, FieldId, Lane, LaneRecord, ObjectId, Record};
 use std::alloc::Global;
 
-fn acq(object: u32, number: u64) -> Record {
-    Record::Acq {
-        object: ObjectId(object),
-        number,
-    }
+// A constant's value may call no function, so a lane's records are spelt by macros.
+macro_rules! acq {
+    ($lane:expr, $object:expr, $number:expr) => {
+        (
+            $lane,
+            Record::Acq {
+                object: ObjectId($object),
+                number: $number,
+            },
+        )
+    };
 }
 
-fn rel(object: u32, number: u64) -> Record {
-    Record::Rel {
-        object: ObjectId(object),
-        number,
-    }
+macro_rules! rel {
+    ($lane:expr, $object:expr, $number:expr) => {
+        (
+            $lane,
+            Record::Rel {
+                object: ObjectId($object),
+                number: $number,
+            },
+        )
+    };
 }
 
-fn wait(object: u32, number: u64) -> Record {
-    Record::WaitRel {
-        object: ObjectId(object),
-        number,
-    }
+macro_rules! wait {
+    ($lane:expr, $object:expr, $number:expr) => {
+        (
+            $lane,
+            Record::WaitRel {
+                object: ObjectId($object),
+                number: $number,
+            },
+        )
+    };
 }
 
-fn put(before: u64, after: u64) -> Record {
-    Record::Put {
-        field: FieldId(0),
-        before,
-        after,
-    }
+macro_rules! put {
+    ($lane:expr, $before:expr, $after:expr) => {
+        (
+            $lane,
+            Record::Put {
+                field: FieldId(0),
+                before: $before,
+                after: $after,
+            },
+        )
+    };
 }
 
-// Whether the stable cut has so many sections of the two lanes.
-fn is_cut(told: &mut Told, first: u64, second: u64) -> bool {
-    told.stable_cut() == Some(cut(first, second))
+// What is asked of a graph, with its answer.
+#[derive(Clone, Copy)]
+enum Ask {
+    // The stable cut has so many sections of the two lanes.
+    Stable(u64, u64),
+    // The lane's section isn't in the cut since it depends on this other lane's section.
+    Why(u8, u64, u8, u64),
+    // The lane's section has no reason not to be in the cut.
+    NoReason(u8, u64),
+    // So many sections were taken up for the cut before.
+    Looks(u64),
+    // What is stable is forgotten.
+    Forget,
+    // What is stable of lane 0 is forgotten, which is one section.
+    ForgetFirst,
 }
+
+use Ask::{Forget, ForgetFirst, Looks, NoReason, Stable, Why};
 
 fn cut(first: u64, second: u64) -> Cut {
     let mut counts = [0; 32];
@@ -49,46 +84,25 @@ fn cut(first: u64, second: u64) -> Cut {
     Cut { counts }
 }
 
-// Lane 0 takes o0 and o1, stores and frees o0, which lane 1 takes, stores and frees.
-fn handed_over_early() -> [(u8, Record); 7] {
-    [
-        (0, acq(0, 0)),
-        (0, acq(1, 0)),
-        (0, put(10, 1)),
-        (0, rel(0, 0)),
-        (1, acq(0, 1)),
-        (1, put(1, 2)),
-        (1, rel(0, 1)),
-    ]
-}
-
-// Each of two sections takes what the other freed. The last record ends the second.
-fn circle() -> [(u8, Record); 10] {
-    [
-        (0, acq(0, 0)),
-        (0, acq(1, 0)),
-        (0, rel(1, 0)),
-        (1, acq(2, 0)),
-        (1, acq(1, 1)),
-        (1, rel(2, 0)),
-        (0, acq(2, 1)),
-        (0, rel(2, 1)),
-        (0, rel(0, 0)),
-        (1, rel(1, 1)),
-    ]
-}
-
-// Lane 0 waits, which ends its section; lane 1 has one; lane 0 takes the monitor again.
-fn waited() -> [(u8, Record); 7] {
-    [
-        (0, acq(0, 0)),
-        (0, put(10, 7)),
-        (0, wait(0, 0)),
-        (1, acq(0, 1)),
-        (1, rel(0, 1)),
-        (0, acq(0, 2)),
-        (0, rel(0, 2)),
-    ]
+// Whether the graph answers so.
+fn is_so(told: &mut Told, ask: Ask) -> bool {
+    match ask {
+        Stable(first, second) => told.stable_cut() == Some(cut(first, second)),
+        Why(lane, section, on, its) => {
+            let dependence = Dependence {
+                lane: Lane(on),
+                section: its,
+            };
+            told.reason(Lane(lane), section) == Some(dependence)
+        }
+        NoReason(lane, section) => told.reason(Lane(lane), section).is_none(),
+        Looks(count) => told.last_looks() == count,
+        Forget => {
+            told.forget();
+            true
+        }
+        ForgetFirst => told.forget_but(Lane(1)) == cut(1, 0),
+    }
 }
 
 fn push_all(told: &mut Told, records: &[(u8, Record)]) {
@@ -97,104 +111,119 @@ fn push_all(told: &mut Told, records: &[(u8, Record)]) {
     }
 }
 
-// The first lane's next record, and the second's.
-fn one(told: &mut Told, record: Record) {
-    told.push(Lane(0), record);
+// Tells the records, and asks where so many of them are told. Answers whether all answers are so.
+fn follow(told: &mut Told, records: &[(u8, Record)], asks: &[(usize, Ask)]) -> bool {
+    let mut place = 0;
+    let mut are_so = true;
+    for (count, ask) in asks {
+        if let Some(more) = records.get(place..*count) {
+            push_all(told, more);
+        }
+        place = *count;
+        are_so &= is_so(told, *ask);
+    }
+    are_so
 }
 
-fn two(told: &mut Told, record: Record) {
-    told.push(Lane(1), record);
+// The same of a graph with room for so many records.
+fn is_told(
+    alloc: Global,
+    room: usize,
+    records: &[(u8, Record)],
+    asks: &[(usize, Ask)],
+) -> Option<bool> {
+    let mut told = Told::of(alloc, 2, room)?;
+    Some(follow(&mut told, records, asks))
 }
 
-// Whether the lane's section isn't in the cut since it depends on this other one.
-fn is_why(told: &mut Told, lane: u8, section: u64, on: u8, its: u64) -> bool {
-    let dependence = Dependence {
-        lane: Lane(on),
-        section: its,
-    };
-    told.reason(Lane(lane), section) == Some(dependence)
-}
+// Lane 0 takes o0 and o1, stores and frees o0, which lane 1 takes, stores and frees. Lane 1 has one more section, and then lane
+// 0's ends.
+const HANDED_OVER: [(u8, Record); 10] = [
+    acq!(0, 0, 0),
+    acq!(0, 1, 0),
+    put!(0, 10, 1),
+    rel!(0, 0, 0),
+    acq!(1, 0, 1),
+    put!(1, 1, 2),
+    rel!(1, 0, 1),
+    acq!(1, 3, 0),
+    rel!(1, 3, 0),
+    rel!(0, 1, 0),
+];
 
-fn has_no_reason(told: &mut Told, lane: u8, section: u64) -> bool {
-    told.reason(Lane(lane), section).is_none()
-}
-
-// The answers before lane 0's section has ended, with one more section of lane 1, and then.
-fn told_of_handover(alloc: Global) -> Option<[bool; 6]> {
-    let mut told = Told::of(alloc, 2, 10)?;
-    push_all(&mut told, &handed_over_early());
-    let early = is_cut(&mut told, 0, 0);
-    let waits = is_why(&mut told, 1, 1, 0, 1);
-    let unfinished = has_no_reason(&mut told, 0, 1);
-    two(&mut told, acq(3, 0));
-    two(&mut told, rel(3, 0));
-    let follows = is_why(&mut told, 1, 2, 1, 1);
-    one(&mut told, rel(1, 0));
-    let late = is_cut(&mut told, 1, 2);
-    let last = has_no_reason(&mut told, 1, 2);
-    Some([early, waits, unfinished, follows, late, last])
-}
+const TOLD_OF_HANDOVER: [(usize, Ask); 6] = [
+    (7, Stable(0, 0)),
+    (7, Why(1, 1, 0, 1)),
+    (7, NoReason(0, 1)),
+    (9, Why(1, 2, 1, 1)),
+    (10, Stable(1, 2)),
+    (10, NoReason(1, 2)),
+];
 
 #[test]
 fn handed_over_early_waits_for_its_giver(rt: HostRuntime) {
-    assert!(rt; told_of_handover(rt.alloc()) == Some([true; 6]));
+    assert!(rt; is_told(rt.alloc(), 10, &HANDED_OVER, &TOLD_OF_HANDOVER) == Some(true));
 }
 
-// The answers before the circle's last record, and after it.
-fn told_of_circle(alloc: Global) -> Option<[bool; 6]> {
-    let mut told = Told::of(alloc, 2, 10)?;
-    let records = circle();
-    push_all(&mut told, &records[..9]);
-    let early = is_cut(&mut told, 0, 0);
-    let waits = is_why(&mut told, 0, 1, 1, 1);
-    let unfinished = has_no_reason(&mut told, 1, 1);
-    push_all(&mut told, &records[9..]);
-    let late = is_cut(&mut told, 1, 1);
-    let first = has_no_reason(&mut told, 0, 1);
-    let second = has_no_reason(&mut told, 1, 1);
-    Some([early, waits, unfinished, late, first, second])
-}
+// Each of two sections takes what the other freed. The last record ends the second.
+const CIRCLE: [(u8, Record); 10] = [
+    acq!(0, 0, 0),
+    acq!(0, 1, 0),
+    rel!(0, 1, 0),
+    acq!(1, 2, 0),
+    acq!(1, 1, 1),
+    rel!(1, 2, 0),
+    acq!(0, 2, 1),
+    rel!(0, 2, 1),
+    rel!(0, 0, 0),
+    rel!(1, 1, 1),
+];
+
+const TOLD_OF_CIRCLE: [(usize, Ask); 6] = [
+    (9, Stable(0, 0)),
+    (9, Why(0, 1, 1, 1)),
+    (9, NoReason(1, 1)),
+    (10, Stable(1, 1)),
+    (10, NoReason(0, 1)),
+    (10, NoReason(1, 1)),
+];
 
 #[test]
 fn a_circle_enters_when_it_is_whole(rt: HostRuntime) {
-    assert!(rt; told_of_circle(rt.alloc()) == Some([true; 6]));
+    assert!(rt; is_told(rt.alloc(), 10, &CIRCLE, &TOLD_OF_CIRCLE) == Some(true));
 }
 
-// How many sections an answer takes up, if it has one.
-fn looks(told: &mut Told) -> Option<u64> {
-    told.stable_cut()?;
-    Some(told.last_looks())
-}
-
-// How many sections are taken up before the circle's last record, after it, and with nothing new.
-fn looks_at_circle(alloc: Global) -> Option<[u64; 3]> {
-    let mut told = Told::of(alloc, 2, 10)?;
-    let records = circle();
-    push_all(&mut told, &records[..9]);
-    let before = looks(&mut told)?;
-    push_all(&mut told, &records[9..]);
-    let after = looks(&mut told)?;
-    Some([before, after, looks(&mut told)?])
-}
+// Before the circle's last record, after it, and with nothing new.
+const LOOKS_AT_CIRCLE: [(usize, Ask); 6] = [
+    (9, Stable(0, 0)),
+    (9, Looks(2)),
+    (10, Stable(1, 1)),
+    (10, Looks(2)),
+    (10, Stable(1, 1)),
+    (10, Looks(0)),
+];
 
 #[test]
 fn a_circle_takes_few_looks(rt: HostRuntime) {
-    assert!(rt; looks_at_circle(rt.alloc()) == Some([2, 2, 0]));
+    assert!(rt; is_told(rt.alloc(), 10, &CIRCLE, &LOOKS_AT_CIRCLE) == Some(true));
 }
 
-// The answers after the wait, and at the end.
-fn told_of_wait(alloc: Global) -> Option<[bool; 2]> {
-    let mut told = Told::of(alloc, 2, 7)?;
-    let records = waited();
-    push_all(&mut told, &records[..3]);
-    let early = is_cut(&mut told, 1, 0);
-    push_all(&mut told, &records[3..]);
-    Some([early, is_cut(&mut told, 2, 1)])
-}
+// Lane 0 waits, which ends its section; lane 1 has one; lane 0 takes the monitor again.
+const WAITED: [(u8, Record); 7] = [
+    acq!(0, 0, 0),
+    put!(0, 10, 7),
+    wait!(0, 0, 0),
+    acq!(1, 0, 1),
+    rel!(1, 0, 1),
+    acq!(0, 0, 2),
+    rel!(0, 0, 2),
+];
+
+const TOLD_OF_WAIT: [(usize, Ask); 2] = [(3, Stable(1, 0)), (7, Stable(2, 1))];
 
 #[test]
 fn a_wait_ends_a_section(rt: HostRuntime) {
-    assert!(rt; told_of_wait(rt.alloc()) == Some([true; 2]));
+    assert!(rt; is_told(rt.alloc(), 7, &WAITED, &TOLD_OF_WAIT) == Some(true));
 }
 
 // The stable cut by the plain search.
@@ -230,65 +259,84 @@ fn plain_agrees(alloc: Global, records: &[(u8, Record)]) -> Option<bool> {
 #[test]
 fn the_plain_search_agrees(rt: HostRuntime) {
     let agrees = [
-        plain_agrees(rt.alloc(), &handed_over_early()),
-        plain_agrees(rt.alloc(), &circle()),
-        plain_agrees(rt.alloc(), &waited()),
+        plain_agrees(rt.alloc(), &HANDED_OVER),
+        plain_agrees(rt.alloc(), &CIRCLE),
+        plain_agrees(rt.alloc(), &WAITED),
     ];
     assert!(rt; agrees == [Some(true); 3]);
 }
 
-// The answers once the stable cut is forgotten, with a second section of each lane that isn't yet to be kept, and then.
-fn told_of_forgotten(alloc: Global) -> Option<[bool; 5]> {
-    let mut told = Told::of(alloc, 2, 8)?;
-    push_all(&mut told, &handed_over_early());
-    one(&mut told, rel(1, 0));
-    told.forget();
-    let counted = is_cut(&mut told, 1, 1);
-    let first = has_no_reason(&mut told, 1, 1);
-    one(&mut told, acq(1, 1));
-    one(&mut told, acq(0, 2));
-    one(&mut told, rel(0, 2));
-    two(&mut told, acq(0, 3));
-    two(&mut told, rel(0, 3));
-    let early = is_cut(&mut told, 1, 1);
-    let waits = is_why(&mut told, 1, 2, 0, 2);
-    one(&mut told, rel(1, 1));
-    let late = is_cut(&mut told, 2, 2);
-    Some([counted, first, early, waits, late])
-}
+// Lane 0's section ends early. Then lane 0 has a second one, which isn't yet to be kept, lane 1 one that depends on it, and lane
+// 0's ends.
+const HANDED_OVER_AGAIN: [(u8, Record); 14] = [
+    acq!(0, 0, 0),
+    acq!(0, 1, 0),
+    put!(0, 10, 1),
+    rel!(0, 0, 0),
+    acq!(1, 0, 1),
+    put!(1, 1, 2),
+    rel!(1, 0, 1),
+    rel!(0, 1, 0),
+    acq!(0, 1, 1),
+    acq!(0, 0, 2),
+    rel!(0, 0, 2),
+    acq!(1, 0, 3),
+    rel!(1, 0, 3),
+    rel!(0, 1, 1),
+];
+
+const TOLD_OF_FORGOTTEN: [(usize, Ask); 6] = [
+    (8, Forget),
+    (8, Stable(1, 1)),
+    (8, NoReason(1, 1)),
+    (13, Stable(1, 1)),
+    (13, Why(1, 2, 0, 2)),
+    (14, Stable(2, 2)),
+];
 
 // What is forgotten is still counted, its room is free again, and a take of what it freed depends on nothing.
 #[test]
 fn what_is_forgotten_still_counts(rt: HostRuntime) {
-    assert!(rt; told_of_forgotten(rt.alloc()) == Some([true; 5]));
+    let is_so = is_told(rt.alloc(), 8, &HANDED_OVER_AGAIN, &TOLD_OF_FORGOTTEN);
+    assert!(rt; is_so == Some(true));
 }
 
-// Whether lane 0's alone is forgotten, and the answers then, with a second section of it, and with one of lane 1.
-fn told_of_part(alloc: Global) -> Option<[bool; 5]> {
-    let mut told = Told::of(alloc, 2, 12)?;
-    push_all(&mut told, &circle());
-    let part = told.forget_but(Lane(1)) == cut(1, 0);
-    let stays = is_cut(&mut told, 1, 1);
-    let other = has_no_reason(&mut told, 1, 1);
-    one(&mut told, acq(1, 2));
-    two(&mut told, acq(2, 2));
-    one(&mut told, rel(1, 2));
-    let next = is_cut(&mut told, 2, 1);
-    two(&mut told, rel(2, 2));
-    let last = is_cut(&mut told, 2, 2);
-    Some([part, stays, other, next, last])
-}
+// The circle, and then a second section of each lane.
+const BEHIND_CIRCLE: [(u8, Record); 14] = [
+    acq!(0, 0, 0),
+    acq!(0, 1, 0),
+    rel!(0, 1, 0),
+    acq!(1, 2, 0),
+    acq!(1, 1, 1),
+    rel!(1, 2, 0),
+    acq!(0, 2, 1),
+    rel!(0, 2, 1),
+    rel!(0, 0, 0),
+    rel!(1, 1, 1),
+    acq!(0, 1, 2),
+    acq!(1, 2, 2),
+    rel!(0, 1, 2),
+    rel!(1, 2, 2),
+];
+
+const TOLD_OF_PART: [(usize, Ask); 5] = [
+    (10, ForgetFirst),
+    (10, Stable(1, 1)),
+    (10, NoReason(1, 1)),
+    (13, Stable(2, 1)),
+    (14, Stable(2, 2)),
+];
 
 // A part of a circle is forgotten, which no closed cut is. The other part stays stable.
 #[test]
 fn a_part_of_a_circle_is_forgotten(rt: HostRuntime) {
-    assert!(rt; told_of_part(rt.alloc()) == Some([true; 5]));
+    assert!(rt; is_told(rt.alloc(), 12, &BEHIND_CIRCLE, &TOLD_OF_PART) == Some(true));
 }
 
 // Sections of two lanes in turn, each begun before the one before it ends, which takes what it frees:
 // so each depends on the next, and a pass in the order of time finds one of them.
 fn push_bricks(told: &mut Told, sections: u32) {
-    one(told, acq(10, 0));
+    push_all(told, &[acq!(0, 10, 0)]);
     for section in 1..sections {
         push_brick(told, section as u64);
     }
@@ -301,19 +349,22 @@ fn push_brick(told: &mut Told, section: u64)
 {
     let (lane, before) = if section % 2 == 0 { (0, 1) } else { (1, 0) };
     let number = 2 * (section - 1);
-    told.push(Lane(lane), acq(10 + lane as u32, section / 2));
-    told.push(Lane(lane), acq(0, number));
-    told.push(Lane(lane), rel(0, number));
-    told.push(Lane(before), acq(0, number + 1));
-    told.push(Lane(before), rel(0, number + 1));
-    told.push(Lane(before), rel(10 + before as u32, (section - 1) / 2));
+    let records = [
+        acq!(lane, 10 + lane as u32, section / 2),
+        acq!(lane, 0, number),
+        rel!(lane, 0, number),
+        acq!(before, 0, number + 1),
+        rel!(before, 0, number + 1),
+        rel!(before, 10 + before as u32, (section - 1) / 2),
+    ];
+    push_all(told, &records);
 }
 
 // How many sections are taken up, in a chain of so many whose last has not ended.
 fn looks_at_bricks(alloc: Global, sections: u32) -> Option<u64> {
     let mut told = Told::of(alloc, 2, 12_000)?;
     push_bricks(&mut told, sections);
-    let is_none = is_cut(&mut told, 0, 0);
+    let is_none = is_so(&mut told, Stable(0, 0));
     Some(if is_none { told.last_looks() } else { 0 })
 }
 
@@ -324,23 +375,33 @@ fn the_search_is_linear(rt: HostRuntime) {
     assert!(rt; [shorter, longer] == [Some(1_998), Some(3_998)]);
 }
 
-// Lane 0's section stays open, and 2,000 of lane 1 depend on it, with an answer after each 100: how many are
-// taken up until it ends, and for the answer then.
-fn looks_with_one_open(alloc: Global) -> Option<[u64; 2]> {
-    let mut told = Told::of(alloc, 2, 4_004)?;
-    one(&mut told, acq(0, 0));
-    one(&mut told, acq(1, 0));
-    one(&mut told, rel(1, 0));
+// How many sections an answer takes up, if it has one.
+fn looks(told: &mut Told) -> Option<u64> {
+    told.stable_cut()?;
+    Some(told.last_looks())
+}
+
+// Lane 0's section, which stays open.
+const OPEN: [(u8, Record); 3] = [acq!(0, 0, 0), acq!(0, 1, 0), rel!(0, 1, 0)];
+
+// Tells of an open section, and of 2,000 of lane 1 that depend on it, with an answer after each 100. Answers how many are taken
+// up until it ends, and for the answer then.
+fn looks_behind_open(told: &mut Told) -> Option<[u64; 2]> {
+    push_all(told, &OPEN);
     let mut taken_up = 0u64;
     for number in 1..2_001u64 {
-        two(&mut told, acq(1, number));
-        two(&mut told, rel(1, number));
+        push_all(told, &[acq!(1, 1, number), rel!(1, 1, number)]);
         if number % 100 == 0 {
-            taken_up = taken_up.wrapping_add(looks(&mut told)?);
+            taken_up = taken_up.wrapping_add(looks(told)?);
         }
     }
-    one(&mut told, rel(0, 0));
-    Some([taken_up, looks(&mut told)?])
+    push_all(told, &[rel!(0, 0, 0)]);
+    Some([taken_up, looks(told)?])
+}
+
+fn looks_with_one_open(alloc: Global) -> Option<[u64; 2]> {
+    let mut told = Told::of(alloc, 2, 4_004)?;
+    looks_behind_open(&mut told)
 }
 
 #[test]
