@@ -1,16 +1,16 @@
 //! A session that finds a monitor held, and waits for it.
 
+ghost use Rattle.std.specs.Prelude.{All};
 ghost use Rattle.session.specs.Sessions.{IsSessionOf};
 
-use crate::heap::{LAST, open_two};
+use crate::heap::{LAST, declare, open_heap, take_two};
 use crate::words::{Words, words_of};
 use heap_model::ObjectId;
 use monitor::Shared;
 use session::Session;
-use std::alloc::AllocError;
+use std::alloc::Global;
 use std::sync::Wait;
 use std::sync::atomic::{AtomicBool, Ordering};
-use std::test::Fail;
 use std::thread;
 use std::thread::{Threads, join};
 
@@ -59,12 +59,11 @@ fn come<R: Wait>(rt: &R, shared: &Shared, session: Session, is_coming: &AtomicBo
 fn contend<R: Threads + Wait + Sync>(
     rt: &R,
     shared: &Shared,
-    a: Session,
-    b: Session,
-) -> (bool, Option<Words>)
-    requires seats { IsSessionOf shared.now a × IsSessionOf shared.now b }
+    sessions: &mut Vec<Session>,
+) -> Option<(bool, Option<Words>)>
+    requires seats { All (IsSessionOf shared.now) sessions.old.items }
 {
-    let mut a = a;
+    let (mut a, b) = take_two(shared, sessions)?;
     let taken = a.try_enter(shared, OBJECT).is_ok();
     let flag = AtomicBool::new(false);
     let is_coming = &flag;
@@ -73,14 +72,18 @@ fn contend<R: Threads + Wait + Sync>(
         || leave_late(rt, shared, a, is_coming),
         || come(rt, shared, b, is_coming),
     );
-    (taken && left, found)
+    Some((taken && left, found))
+}
+
+// The same of a fresh heap.
+fn told_of<R: Threads + Wait + Sync>(rt: &R, alloc: Global) -> Option<(bool, Option<Words>)> {
+    let mut heap = open_heap(alloc, declare(alloc, 1)?, 2, LAST, 4_000)?;
+    contend(rt, &heap.shared, &mut heap.sessions)
 }
 
 // The second thread takes the thin lock at number 1, makes the monitor fat in slot 0, and holds it.
 #[test]
-fn an_enter_that_waited_makes_the_monitor_fat(rt: HostRuntime) -> Result<(), Fail> {
-    let (shared, a, b) = open_two(rt.alloc(), 1, LAST).ok_or(AllocError)?;
-    let found = contend(&rt, &shared, a, b);
-    assert_eq!(rt; found, (true, Some((25_165_824, Some(16_777_218)))));
-    Ok(())
+fn an_enter_that_waited_makes_the_monitor_fat(rt: HostRuntime) {
+    let words = (25_165_824, Some(16_777_218));
+    assert!(rt; told_of(&rt, rt.alloc()) == Some((true, Some(words))));
 }

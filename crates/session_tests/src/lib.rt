@@ -3,13 +3,13 @@
 #![tactic(auto)]
 
 #[cfg(test)]
+mod calls;
+#[cfg(test)]
 mod contention;
 #[cfg(test)]
 mod heap;
 #[cfg(test)]
 mod limits;
-#[cfg(test)]
-mod often;
 #[cfg(test)]
 mod races;
 #[cfg(test)]

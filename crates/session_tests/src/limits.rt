@@ -1,68 +1,34 @@
 //! Where each limit of a session lies.
 
+ghost use Rattle.std.specs.Prelude.{◌<◌, ◌^◌, All};
 ghost use Rattle.session.specs.Sessions.{IsSessionOf};
 
-use crate::heap::{LAST, open_two};
-use crate::often::{enter_often, exit_often, pass_often, store_often};
+use crate::calls::{Call, Row, follow, make_often};
+use crate::heap::{LAST, declare, open_heap, take_last};
 use heap_model::{FieldId, ObjectId};
 use monitor::Shared;
 use session::{Session, SessionError};
-use std::alloc::AllocError;
-use std::test::Fail;
+use std::alloc::Global;
 
 const OBJECT: ObjectId = ObjectId(0);
 
 const FIELD: FieldId = FieldId(0);
 
-// A section's acquire, 998 stores, one store more, and the release. Answers whether the stores were Ok, whether the last one
-// found the section full, and whether the release was Ok.
-fn fill_section(shared: &Shared, session: &mut Session) -> [bool; 4]
-    requires seat { IsSessionOf shared.now session.old }
+// Makes these calls by the session. Answers whether they go so, and how many sections have ended then.
+fn follow_last(shared: &Shared, sessions: &mut Vec<Session>, rows: &[Row]) -> Option<(bool, u64)>
+    requires seats { All (IsSessionOf shared.now) sessions.old.items }
 {
-    let entered = session.try_enter(shared, OBJECT).is_ok();
-    let stored = store_often(shared, session, FIELD, 998);
-    let full = session.store(shared, FIELD, 1) == Err(SessionError::SectionFull);
-    let left = session.exit(shared, OBJECT).is_ok();
-    [entered, stored, full, left]
+    let mut session = take_last(shared, sessions)?;
+    let are_so = follow(shared, &mut session, rows);
+    Some((are_so, session.sections()))
 }
 
-// Takes the object and the next one, stores so many times, and begins to wait. Answers why that was refused, if it was.
-fn wait_after(shared: &Shared, session: Session, first: u32, stores: u32) -> Option<SessionError>
-    requires seat { IsSessionOf shared.now session }
+// The same of a fresh heap with so many objects, whose release numbers end at `last`. Nobody is at the ring's other end.
+fn told_of(alloc: Global, objects: u32, last: u64, rows: &[Row]) -> Option<(bool, u64)>
+    requires last { last < 2 ^ 40 }
 {
-    let mut session = session;
-    let next = first.saturating_add(1);
-    let taken = session.try_enter(shared, ObjectId(first)).is_ok()
-        && session.try_enter(shared, ObjectId(next)).is_ok()
-        && store_often(shared, &mut session, FieldId(first), stores);
-    if !taken {
-        return Some(SessionError::UnknownObject);
-    }
-    match session.begin_wait(shared, ObjectId(first)) {
-        Ok(_) => None,
-        Err((_session, why)) => Some(why),
-    }
-}
-
-// Takes 16 objects, and one more.
-fn take_many(shared: &Shared, session: &mut Session) -> [bool; 2]
-    requires seat { IsSessionOf shared.now session.old }
-{
-    let mut taken = true;
-    for number in 0..16 {
-        taken = taken && session.try_enter(shared, ObjectId(number)).is_ok();
-    }
-    let more = session.try_enter(shared, ObjectId(16)) == Err(SessionError::TooMany);
-    [taken, more]
-}
-
-// Takes an object by 65,536 locks, and by one more.
-fn nest_deep(shared: &Shared, session: &mut Session) -> [bool; 2]
-    requires seat { IsSessionOf shared.now session.old }
-{
-    let taken = enter_often(shared, session, OBJECT, 65_536);
-    let more = session.try_enter(shared, OBJECT) == Err(SessionError::TooDeep);
-    [taken, more]
+    let mut heap = open_heap(alloc, declare(alloc, objects)?, 1, last, 4_000)?;
+    follow_last(&heap.shared, &mut heap.sessions, rows)
 }
 
 // Inflates so many objects, from the second one on.
@@ -70,109 +36,176 @@ fn inflate_many(shared: &Shared, session: &mut Session, objects: u32) -> bool
     requires seat { IsSessionOf shared.now session.old }
     ensures seat { IsSessionOf shared.now session.new }
 {
+    let mut are_so = true;
     for number in 0..objects {
         let object = ObjectId(number.saturating_add(1));
-        if !enter_often(shared, session, object, 257) {
-            return false;
-        }
-        if !exit_often(shared, session, object, 257) {
-            return false;
-        }
+        are_so &= make_often(shared, session, Call::Enter(object), 257).is_ok();
+        are_so &= make_often(shared, session, Call::Exit(object), 257).is_ok();
     }
-    true
+    are_so
 }
 
-// Takes all 1,024 slots, takes another object by 256 locks, and by one more. Then it waits for that object.
-fn use_all_slots(shared: &Shared, session: Session) -> ([bool; 3], Option<SessionError>)
+// Makes these calls, begins to wait for the first object, and makes the others if that is refused. Answers whether the calls
+// went so, and why the wait was refused, if it was.
+fn wait_behind(
+    shared: &Shared,
+    session: Session,
+    rows: &[Row],
+    others: &[Row],
+) -> (bool, Option<SessionError>)
     requires seat { IsSessionOf shared.now session }
 {
     let mut session = session;
-    let inflated = inflate_many(shared, &mut session, 1_024);
-    let taken = enter_often(shared, &mut session, OBJECT, 256);
-    let more = session.try_enter(shared, OBJECT) == Err(SessionError::NoFat);
+    let are_so = follow(shared, &mut session, rows);
     match session.begin_wait(shared, OBJECT) {
-        Ok(_) => ([inflated, taken, more], None),
-        Err((_session, why)) => ([inflated, taken, more], Some(why)),
-    }
-}
-
-// On a heap whose release numbers end at 2: a section, a wait in the second one, and a third.
-fn wear_out(shared: &Shared, session: Session) -> (bool, Option<SessionError>, bool, bool)
-    requires seat { IsSessionOf shared.now session }
-{
-    let mut session = session;
-    let passed = pass_often(shared, &mut session, OBJECT, 1)
-        && session.try_enter(shared, OBJECT).is_ok();
-    match session.begin_wait(shared, OBJECT) {
-        Ok(_) => (passed, None, false, false),
+        Ok(_) => (are_so, None),
         Err((session, why)) => {
             let mut session = session;
-            let left = session.exit(shared, OBJECT).is_ok();
-            let worn = session.try_enter(shared, OBJECT) == Err(SessionError::Worn);
-            (passed, Some(why), left, worn)
+            (are_so && follow(shared, &mut session, others), Some(why))
         }
     }
 }
 
-// With nobody at the rings' other ends: 1,501 sections, and one more. Answers how many have ended then.
-fn fall_behind(shared: &Shared, session: &mut Session) -> ([bool; 2], u64)
-    requires seat { IsSessionOf shared.now session.old }
+// The same once so many objects are inflated, from the second one on.
+fn wait_last(
+    shared: &Shared,
+    sessions: &mut Vec<Session>,
+    inflated: u32,
+    rows: &[Row],
+    others: &[Row],
+) -> Option<(bool, Option<SessionError>)>
+    requires seats { All (IsSessionOf shared.now) sessions.old.items }
 {
-    let passed = pass_often(shared, session, OBJECT, 1_501);
-    let behind = session.try_enter(shared, OBJECT) == Err(SessionError::Behind);
-    ([passed, behind], session.sections())
+    let mut session = take_last(shared, sessions)?;
+    let are_fat = inflate_many(shared, &mut session, inflated);
+    let (are_so, why) = wait_behind(shared, session, rows, others);
+    Some((are_fat && are_so, why))
 }
 
+// The same of a fresh heap.
+fn told_of_wait(
+    alloc: Global,
+    inflated: u32,
+    last: u64,
+    rows: &[Row],
+    others: &[Row],
+) -> Option<(bool, Option<SessionError>)>
+    requires last { last < 2 ^ 40 }
+{
+    let objects = inflated.saturating_add(2);
+    let mut heap = open_heap(alloc, declare(alloc, objects)?, 1, last, 4_000)?;
+    wait_last(&heap.shared, &mut heap.sessions, inflated, rows, others)
+}
+
+// A section's acquire, 998 stores, one store more, and the release.
+const FULL_SECTION: [Row; 4] = [
+    (Call::Enter(OBJECT), 1, Ok(())),
+    (Call::Store(FIELD, 1), 998, Ok(())),
+    (Call::Store(FIELD, 1), 1, Err(SessionError::SectionFull)),
+    (Call::Exit(OBJECT), 1, Ok(())),
+];
+
 #[test]
-fn a_section_has_1000_records(rt: HostRuntime) -> Result<(), Fail> {
-    let (shared, mut a, _b) = open_two(rt.alloc(), 1, LAST).ok_or(AllocError)?;
-    assert_eq!(rt; fill_section(&shared, &mut a), [true, true, true, true]);
-    Ok(())
+fn a_section_has_1000_records(rt: HostRuntime) {
+    assert!(rt; told_of(rt.alloc(), 1, LAST, &FULL_SECTION) == Some((true, 1)));
+}
+
+// Takes two objects, and stores so many times.
+fn stores_in_two(stores: u32) -> [Row; 3] {
+    [
+        (Call::Enter(OBJECT), 1, Ok(())),
+        (Call::Enter(ObjectId(1)), 1, Ok(())),
+        (Call::Store(FIELD, 1), stores, Ok(())),
+    ]
 }
 
 // After a wait inside a section come an acquire and its release.
 #[test]
-fn a_wait_inside_a_section_needs_two_more(rt: HostRuntime) -> Result<(), Fail> {
-    let (shared, a, b) = open_two(rt.alloc(), 4, LAST).ok_or(AllocError)?;
-    let full = wait_after(&shared, a, 0, 995);
-    let fits = wait_after(&shared, b, 2, 994);
-    assert_eq!(rt; (full, fits), (Some(SessionError::SectionFull), None));
-    Ok(())
+fn a_wait_inside_a_section_needs_two_more(rt: HostRuntime) {
+    let found = [
+        told_of_wait(rt.alloc(), 0, LAST, &stores_in_two(995), &[]),
+        told_of_wait(rt.alloc(), 0, LAST, &stores_in_two(994), &[]),
+    ];
+    let full = (true, Some(SessionError::SectionFull));
+    assert!(rt; found == [Some(full), Some((true, None))]);
 }
 
-#[test]
-fn a_session_holds_16(rt: HostRuntime) -> Result<(), Fail> {
-    let (shared, mut a, _b) = open_two(rt.alloc(), 17, LAST).ok_or(AllocError)?;
-    assert_eq!(rt; take_many(&shared, &mut a), [true, true]);
-    Ok(())
-}
+// 16 objects, and one more.
+const MANY: [Row; 17] = [
+    (Call::Enter(ObjectId(0)), 1, Ok(())),
+    (Call::Enter(ObjectId(1)), 1, Ok(())),
+    (Call::Enter(ObjectId(2)), 1, Ok(())),
+    (Call::Enter(ObjectId(3)), 1, Ok(())),
+    (Call::Enter(ObjectId(4)), 1, Ok(())),
+    (Call::Enter(ObjectId(5)), 1, Ok(())),
+    (Call::Enter(ObjectId(6)), 1, Ok(())),
+    (Call::Enter(ObjectId(7)), 1, Ok(())),
+    (Call::Enter(ObjectId(8)), 1, Ok(())),
+    (Call::Enter(ObjectId(9)), 1, Ok(())),
+    (Call::Enter(ObjectId(10)), 1, Ok(())),
+    (Call::Enter(ObjectId(11)), 1, Ok(())),
+    (Call::Enter(ObjectId(12)), 1, Ok(())),
+    (Call::Enter(ObjectId(13)), 1, Ok(())),
+    (Call::Enter(ObjectId(14)), 1, Ok(())),
+    (Call::Enter(ObjectId(15)), 1, Ok(())),
+    (Call::Enter(ObjectId(16)), 1, Err(SessionError::TooMany)),
+];
 
 #[test]
-fn a_monitor_is_held_65536_times(rt: HostRuntime) -> Result<(), Fail> {
-    let (shared, mut a, _b) = open_two(rt.alloc(), 1, LAST).ok_or(AllocError)?;
-    assert_eq!(rt; nest_deep(&shared, &mut a), [true, true]);
-    Ok(())
+fn a_session_holds_16(rt: HostRuntime) {
+    assert!(rt; told_of(rt.alloc(), 17, LAST, &MANY) == Some((true, 0)));
 }
 
-#[test]
-fn fat_slots_are_1024(rt: HostRuntime) -> Result<(), Fail> {
-    let (shared, a, _b) = open_two(rt.alloc(), 1_025, LAST).ok_or(AllocError)?;
-    let found = use_all_slots(&shared, a);
-    assert_eq!(rt; found, ([true, true, true], Some(SessionError::NoFat)));
-    Ok(())
-}
+// 65,536 locks of one object, and one more.
+const DEEP: [Row; 2] = [
+    (Call::Enter(OBJECT), 65_536, Ok(())),
+    (Call::Enter(OBJECT), 1, Err(SessionError::TooDeep)),
+];
 
 #[test]
-fn numbers_end_at_last(rt: HostRuntime) -> Result<(), Fail> {
-    let (shared, a, _b) = open_two(rt.alloc(), 1, 2).ok_or(AllocError)?;
-    let found = wear_out(&shared, a);
-    assert_eq!(rt; found, (true, Some(SessionError::Worn), true, true));
-    Ok(())
+fn a_monitor_is_held_65536_times(rt: HostRuntime) {
+    assert!(rt; told_of(rt.alloc(), 1, LAST, &DEEP) == Some((true, 0)));
 }
 
+// 256 locks, and one more, for which the monitor would have to become fat.
+const FULL_COUNT: [Row; 2] = [
+    (Call::Enter(OBJECT), 256, Ok(())),
+    (Call::Enter(OBJECT), 1, Err(SessionError::NoFat)),
+];
+
+// All 1,024 slots are taken. A wait needs one too.
 #[test]
-fn a_lane_without_a_helper_fills(rt: HostRuntime) -> Result<(), Fail> {
-    let (shared, mut a, _b) = open_two(rt.alloc(), 1, LAST).ok_or(AllocError)?;
-    assert_eq!(rt; fall_behind(&shared, &mut a), ([true, true], 1_501));
-    Ok(())
+fn fat_slots_are_1024(rt: HostRuntime) {
+    let found = told_of_wait(rt.alloc(), 1_024, LAST, &FULL_COUNT, &[]);
+    assert!(rt; found == Some((true, Some(SessionError::NoFat))));
+}
+
+// A section, and a second one's acquire.
+const SECOND: [Row; 2] = [
+    (Call::Pass(OBJECT), 1, Ok(())),
+    (Call::Enter(OBJECT), 1, Ok(())),
+];
+
+// Its release, and a third one's acquire.
+const THIRD: [Row; 2] = [
+    (Call::Exit(OBJECT), 1, Ok(())),
+    (Call::Enter(OBJECT), 1, Err(SessionError::Worn)),
+];
+
+// Release numbers end at 2.
+#[test]
+fn numbers_end_at_last(rt: HostRuntime) {
+    let found = told_of_wait(rt.alloc(), 0, 2, &SECOND, &THIRD);
+    assert!(rt; found == Some((true, Some(SessionError::Worn))));
+}
+
+// 1,501 sections, and one more.
+const UNSERVED: [Row; 2] = [
+    (Call::Pass(OBJECT), 1_501, Ok(())),
+    (Call::Enter(OBJECT), 1, Err(SessionError::Behind)),
+];
+
+#[test]
+fn a_lane_without_a_helper_fills(rt: HostRuntime) {
+    assert!(rt; told_of(rt.alloc(), 1, LAST, &UNSERVED) == Some((true, 1_501)));
 }

@@ -1,64 +1,96 @@
 //! Sessions that count in one field.
 
-ghost use Rattle.std.specs.Prelude.{All};
+ghost use Rattle.std.specs.Prelude.{◌≤◌, All};
 ghost use Rattle.session.specs.Sessions.{IsSessionOf};
 
-use crate::heap::{LAST, open_heap, take_last};
+use crate::heap::{LAST, declare, open_heap, take_last, take_two};
 use heap_model::{FieldId, ObjectId};
 use monitor::Shared;
 use session::Session;
-use std::alloc::AllocError;
+use std::alloc::Global;
 use std::sync::Wait;
-use std::test::Fail;
 use std::thread::{Threads, join};
 
 const OBJECT: ObjectId = ObjectId(0);
 
 const FIELD: FieldId = FieldId(0);
 
-// Adds one to the field, so many times, each in a section of its own. Answers how many sections there were.
+// Adds one to the field, in a section of its own.
+fn count_once<R: Wait>(rt: &R, shared: &Shared, session: &mut Session) -> Option<()>
+    requires seat { IsSessionOf shared.now session.old }
+    ensures seat { IsSessionOf shared.now session.new }
+{
+    session.enter(rt, shared, OBJECT).ok()?;
+    let value = session.load(shared, FIELD).ok()?;
+    session.store(shared, FIELD, value.wrapping_add(1)).ok()?;
+    session.exit(shared, OBJECT).ok()
+}
+
+// The same so many times. Answers how many sections there were.
 fn count<R: Wait>(rt: &R, shared: &Shared, session: Session, rounds: u32) -> Option<u64>
     requires seat { IsSessionOf shared.now session }
 {
     let mut session = session;
     for _ in 0..rounds {
-        session.enter(rt, shared, OBJECT).ok()?;
-        let value = session.load(shared, FIELD).ok()?;
-        session.store(shared, FIELD, value.wrapping_add(1)).ok()?;
-        session.exit(shared, OBJECT).ok()?;
+        count_once(rt, shared, &mut session)?;
     }
     Some(session.sections())
-}
-
-// Two threads count side by side, each with a session of its own.
-fn race<R: Threads + Wait + Sync>(
-    rt: &R,
-    shared: &Shared,
-    a: Session,
-    b: Session,
-    rounds: u32,
-) -> (Option<u64>, Option<u64>)
-    requires seats { IsSessionOf shared.now a × IsSessionOf shared.now b }
-{
-    join(
-        rt,
-        || count(rt, shared, a, rounds),
-        || count(rt, shared, b, rounds),
-    )
 }
 
 // The field's value, in a section of its own.
 fn value_of<R: Wait>(rt: &R, shared: &Shared, session: &mut Session) -> Option<u64>
     requires seat { IsSessionOf shared.now session.old }
 {
-    if session.enter(rt, shared, OBJECT).is_err() {
-        return None;
-    }
+    session.enter(rt, shared, OBJECT).ok()?;
     session.load(shared, FIELD).ok()
 }
 
-// Each session counts once, one after the other.
-fn count_in_turn<R: Wait>(rt: &R, shared: &Shared, sessions: &mut Vec<Session>) -> u64
+// Two threads count side by side, each with a session of its own. Answers how many sections each had, and then what a third
+// session finds in the field.
+fn race<R: Threads + Wait + Sync>(
+    rt: &R,
+    shared: &Shared,
+    sessions: &mut Vec<Session>,
+    rounds: u32,
+) -> Option<[Option<u64>; 3]>
+    requires seats { All (IsSessionOf shared.now) sessions.old.items }
+{
+    let mut last = take_last(shared, sessions)?;
+    let (a, b) = take_two(shared, sessions)?;
+    let (first, second) = join(
+        rt,
+        || count(rt, shared, a, rounds),
+        || count(rt, shared, b, rounds),
+    );
+    Some([first, second, value_of(rt, shared, &mut last)])
+}
+
+// The same of a fresh heap.
+fn told_of_race<R: Threads + Wait + Sync>(rt: &R, alloc: Global) -> Option<[Option<u64>; 3]> {
+    let mut heap = open_heap(alloc, declare(alloc, 1)?, 3, LAST, 4_000)?;
+    race(rt, &heap.shared, &mut heap.sessions, 1_000)
+}
+
+#[test]
+fn two_sessions_race(rt: HostRuntime) {
+    let counted = [Some(1_000), Some(1_000), Some(2_010)];
+    assert!(rt; told_of_race(&rt, rt.alloc()) == Some(counted));
+}
+
+// All sessions but the last count once, one after the other. Answers how many sections there were, and what the last one finds.
+fn count_in_turn<R: Wait>(
+    rt: &R,
+    shared: &Shared,
+    sessions: &mut Vec<Session>,
+) -> Option<(u64, Option<u64>)>
+    requires seats { All (IsSessionOf shared.now) sessions.old.items }
+{
+    let mut last = take_last(shared, sessions)?;
+    let counted = count_all(rt, shared, sessions);
+    Some((counted, value_of(rt, shared, &mut last)))
+}
+
+fn count_all<R: Wait>(rt: &R, shared: &Shared, sessions: &mut Vec<Session>) -> u64
     requires seats { All (IsSessionOf shared.now) sessions.old.items }
 {
     let mut counted = 0u64;
@@ -68,26 +100,15 @@ fn count_in_turn<R: Wait>(rt: &R, shared: &Shared, sessions: &mut Vec<Session>) 
     counted
 }
 
-#[test]
-fn two_sessions_race(rt: HostRuntime) -> Result<(), Fail> {
-    let (shared, mut sessions, _consumers) = open_heap(rt.alloc(), 1, 3, LAST, 4_000).ok_or(
-        AllocError,
-    )?;
-    let mut c = take_last(&shared, &mut sessions).ok_or(AllocError)?;
-    let b = take_last(&shared, &mut sessions).ok_or(AllocError)?;
-    let a = take_last(&shared, &mut sessions).ok_or(AllocError)?;
-    assert_eq!(rt; race(&rt, &shared, a, b, 1_000), (Some(1_000), Some(1_000)));
-    assert_eq!(rt; value_of(&rt, &shared, &mut c), Some(2_010));
-    Ok(())
+// The same of a fresh heap.
+fn told_of_many<R: Wait>(rt: &R, alloc: Global, lanes: u8) -> Option<(u64, Option<u64>)>
+    requires lanes { lanes ≤ 32 }
+{
+    let mut heap = open_heap(alloc, declare(alloc, 1)?, lanes, LAST, 2_000)?;
+    count_in_turn(rt, &heap.shared, &mut heap.sessions)
 }
 
 #[test]
-fn sessions_are_32(rt: HostRuntime) -> Result<(), Fail> {
-    let (shared, mut sessions, _consumers) = open_heap(rt.alloc(), 1, 32, LAST, 2_000).ok_or(
-        AllocError,
-    )?;
-    let mut last = take_last(&shared, &mut sessions).ok_or(AllocError)?;
-    assert_eq!(rt; count_in_turn(&rt, &shared, &mut sessions), 31);
-    assert_eq!(rt; value_of(&rt, &shared, &mut last), Some(41));
-    Ok(())
+fn sessions_are_32(rt: HostRuntime) {
+    assert!(rt; told_of_many(&rt, rt.alloc(), 32) == Some((31, Some(41))));
 }

@@ -1,17 +1,16 @@
 //! Transient fields: they are loaded and stored as others are, and no record of theirs is sent.
 
-ghost use Rattle.std.specs.Prelude.{◌<◌, ◌^◌, IfSome, OnSome};
+ghost use Rattle.std.specs.Prelude.{All};
 ghost use Rattle.session.specs.Sessions.{IsSessionOf};
 
-use crate::heap::{LAST, open_of};
-use crate::often::store_often;
+use crate::calls::{Call, Row, follow, make, value_in};
+use crate::heap::{LAST, open_heap, take_last, take_two};
 use guards::{Schema, SchemaBuilder};
 use heap_model::{FieldId, ObjectId, Record};
 use lane_rings::Receiver;
 use monitor::Shared;
 use session::{Session, SessionError};
-use std::alloc::{AllocError, Global};
-use std::test::Fail;
+use std::alloc::Global;
 
 const OBJECT: ObjectId = ObjectId(0);
 
@@ -24,76 +23,85 @@ const CACHED: FieldId = FieldId(1);
 // An object that guards a persistent and a transient field of its own.
 fn declare(alloc: Global) -> Option<Schema> {
     let mut builder = SchemaBuilder::new(alloc);
-    let object = builder.object("o").ok()?;
-    builder.field(object, "kept", object, 10).ok()?;
-    builder.transient(object, "cached", object, 10).ok()?;
+    declare_both(&mut builder)?;
     builder.build().ok()
 }
 
-// Takes the monitor, stores to the transient field, loads it, and gives the monitor back. Answers whether each call was Ok, the load
-// with what was stored.
-fn store_and_load(shared: &Shared, session: &mut Session, value: u64) -> [bool; 4]
+fn declare_both(builder: &mut SchemaBuilder) -> Option<()> {
+    let object = builder.object("o").ok()?;
+    builder.field(object, "kept", object, 10).ok()?;
+    builder.transient(object, "cached", object, 10).ok()?;
+    Some(())
+}
+
+// Whether the calls go so, and the object is left behind them; and what the two fields have before that.
+type Told = (bool, [Option<u64>; 2]);
+
+// Makes the calls of a section but its exit.
+fn told_of(shared: &Shared, session: &mut Session, rows: &[Row]) -> Told
     requires seat { IsSessionOf shared.now session.old }
     ensures seat { IsSessionOf shared.now session.new }
 {
-    let entered = session.try_enter(shared, OBJECT).is_ok();
-    let stored = session.store(shared, CACHED, value).is_ok();
-    let loaded = session.load(shared, CACHED) == Ok(value);
-    let left = session.exit(shared, OBJECT).is_ok();
-    [entered, stored, loaded, left]
+    let are_so = follow(shared, session, rows);
+    let kept = value_in(shared, session, KEPT);
+    let cached = value_in(shared, session, CACHED);
+    let left = make(shared, session, Call::Exit(OBJECT));
+    (are_so && left.is_ok(), [kept, cached])
 }
 
-// Loads the transient field in a section of its own. Answers whether each call was Ok, the load with this value.
-fn finds_cached(shared: &Shared, session: &mut Session, value: u64) -> [bool; 3]
-    requires seat { IsSessionOf shared.now session.old }
-    ensures seat { IsSessionOf shared.now session.new }
+fn told_of_last(shared: &Shared, sessions: &mut Vec<Session>, rows: &[Row]) -> Option<Told>
+    requires seats { All (IsSessionOf shared.now) sessions.old.items }
 {
-    let entered = session.try_enter(shared, OBJECT).is_ok();
-    let loaded = session.load(shared, CACHED) == Ok(value);
-    let left = session.exit(shared, OBJECT).is_ok();
-    [entered, loaded, left]
+    let mut session = take_last(shared, sessions)?;
+    Some(told_of(shared, &mut session, rows))
 }
 
-// The first records that wait in the ring.
-fn first_records(ring: &mut Receiver) -> [Option<Record>; 4] {
-    [ring.pop(), ring.pop(), ring.pop(), ring.pop()]
+// The same of a fresh heap.
+fn told_of_one(alloc: Global, rows: &[Row]) -> Option<Told> {
+    let mut heap = open_heap(alloc, declare(alloc)?, 1, LAST, 4_000)?;
+    told_of_last(&heap.shared, &mut heap.sessions, rows)
 }
 
-// 999 transient stores, 998 persistent ones, and one more; then both fields at once, and the transient one twice. Answers
-// which were Ok, and which found the section full.
-fn fill_section(shared: &Shared, session: &mut Session) -> [bool; 6]
-    requires seat { IsSessionOf shared.now session.old }
+const STORE: [Row; 2] = [
+    (Call::Enter(OBJECT), 1, Ok(())),
+    (Call::Store(CACHED, 31), 1, Ok(())),
+];
+
+const NO_STORE: [Row; 1] = [(Call::Enter(OBJECT), 1, Ok(()))];
+
+// The first records that wait in the ring of the first lane.
+fn first_records(rings: &mut [Receiver]) -> Option<[Option<Record>; 4]> {
+    let ring = rings.get_mut(0)?;
+    Some([ring.pop(), ring.pop(), ring.pop(), ring.pop()])
+}
+
+// What two sessions find, and what the first one has sent.
+type Sent = ([Told; 2], Option<[Option<Record>; 4]>);
+
+// The first session stores to the transient field, and then the second one loads.
+fn told_and_sent(
+    shared: &Shared,
+    sessions: &mut Vec<Session>,
+    rings: &mut [Receiver],
+) -> Option<Sent>
+    requires seats { All (IsSessionOf shared.now) sessions.old.items }
 {
-    let entered = session.try_enter(shared, OBJECT).is_ok();
-    let cached = store_often(shared, session, CACHED, 999);
-    let kept = store_often(shared, session, KEPT, 998);
-    let full = session.store(shared, KEPT, 1) == Err(SessionError::SectionFull);
-    let both = session.store_two(shared, KEPT, 1, CACHED, 1) == Err(SessionError::SectionFull);
-    let twice = session.store_two(shared, CACHED, 1, CACHED, 2).is_ok();
-    [entered, cached, kept, full, both, twice]
+    let (mut a, mut b) = take_two(shared, sessions)?;
+    let own = told_of(shared, &mut a, &STORE);
+    let other = told_of(shared, &mut b, &NO_STORE);
+    Some(([own, other], first_records(rings)))
 }
 
-// After 997 persistent stores, one of each field at once. Answers whether each call was Ok, and each load with what was stored.
-fn store_one_of_each(shared: &Shared, session: &mut Session) -> [bool; 6]
-    requires seat { IsSessionOf shared.now session.old }
-{
-    let entered = session.try_enter(shared, OBJECT).is_ok();
-    let often = store_often(shared, session, KEPT, 997);
-    let both = session.store_two(shared, KEPT, 5, CACHED, 6).is_ok();
-    let kept = session.load(shared, KEPT) == Ok(5);
-    let cached = session.load(shared, CACHED) == Ok(6);
-    let left = session.exit(shared, OBJECT).is_ok();
-    [entered, often, both, kept, cached, left]
+// The same of a fresh heap.
+fn told_of_both(alloc: Global) -> Option<Sent> {
+    let mut heap = open_heap(alloc, declare(alloc)?, 2, LAST, 4_000)?;
+    told_and_sent(&heap.shared, &mut heap.sessions, &mut heap.rings)
 }
 
 // The other thread loads what the first one stored, and the ring has the take and the release alone.
 #[test]
-fn a_transient_store_is_loaded_and_not_sent(rt: HostRuntime) -> Result<(), Fail> {
-    let schema = declare(rt.alloc()).ok_or(AllocError)?;
-    let (shared, mut a, mut b, mut ring) = open_of(rt.alloc(), schema, LAST).ok_or(AllocError)?;
-    let own = store_and_load(&shared, &mut a, 31);
-    let other = finds_cached(&shared, &mut b, 31);
-    let records = first_records(&mut ring);
+fn a_transient_store_is_loaded_and_not_sent(rt: HostRuntime) {
+    let told = (true, [Some(10), Some(31)]);
     let take = Record::Acq {
         object: OBJECT,
         number: 0,
@@ -102,27 +110,39 @@ fn a_transient_store_is_loaded_and_not_sent(rt: HostRuntime) -> Result<(), Fail>
         object: OBJECT,
         number: 0,
     };
-    assert_eq!(rt; (own, other), ([true; 4], [true; 3]));
-    assert_eq!(rt; records, [Some(take), Some(release), None, None]);
-    Ok(())
+    let sent = [Some(take), Some(release), None, None];
+    assert!(rt; told_of_both(rt.alloc()) == Some(([told; 2], Some(sent))));
 }
 
+// 999 transient stores, 998 persistent ones, and one more; then both fields at once, and the transient one twice.
+const FULL_SECTION: [Row; 6] = [
+    (Call::Enter(OBJECT), 1, Ok(())),
+    (Call::Store(CACHED, 3), 999, Ok(())),
+    (Call::Store(KEPT, 4), 998, Ok(())),
+    (Call::Store(KEPT, 1), 1, Err(SessionError::SectionFull)),
+    (
+        Call::StoreTwo(KEPT, 1, CACHED, 1),
+        1,
+        Err(SessionError::SectionFull),
+    ),
+    (Call::StoreTwo(CACHED, 1, CACHED, 2), 1, Ok(())),
+];
+
 #[test]
-fn transient_stores_fill_no_section(rt: HostRuntime) -> Result<(), Fail> {
-    let schema = declare(rt.alloc()).ok_or(AllocError)?;
-    let (shared, mut a, _b, _ring) = open_of(rt.alloc(), schema, LAST).ok_or(AllocError)?;
-    assert_eq!(rt;
-        fill_section(&shared, &mut a),
-        [true, true, true, true, true, true]
-    );
-    Ok(())
+fn transient_stores_fill_no_section(rt: HostRuntime) {
+    let told = (true, [Some(4), Some(2)]);
+    assert!(rt; told_of_one(rt.alloc(), &FULL_SECTION) == Some(told));
 }
 
 // The 998th persistent store goes with a transient one.
+const ONE_OF_EACH: [Row; 3] = [
+    (Call::Enter(OBJECT), 1, Ok(())),
+    (Call::Store(KEPT, 1), 997, Ok(())),
+    (Call::StoreTwo(KEPT, 5, CACHED, 6), 1, Ok(())),
+];
+
 #[test]
-fn a_store_to_one_of_each_needs_one_record(rt: HostRuntime) -> Result<(), Fail> {
-    let schema = declare(rt.alloc()).ok_or(AllocError)?;
-    let (shared, mut a, _b, _ring) = open_of(rt.alloc(), schema, LAST).ok_or(AllocError)?;
-    assert_eq!(rt; store_one_of_each(&shared, &mut a), [true; 6]);
-    Ok(())
+fn a_store_to_one_of_each_needs_one_record(rt: HostRuntime) {
+    let told = (true, [Some(5), Some(6)]);
+    assert!(rt; told_of_one(rt.alloc(), &ONE_OF_EACH) == Some(told));
 }

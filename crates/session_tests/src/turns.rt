@@ -1,15 +1,16 @@
 //! Two sessions that take turns: each waits until the other has notified it.
 
+ghost use Rattle.std.specs.Prelude.{All};
 ghost use Rattle.session.specs.Sessions.{IsSessionOf};
 
-use crate::heap::{LAST, open_heap, take_last};
+use crate::calls::value_in;
+use crate::heap::{LAST, declare, open_heap, take_two};
 use heap_model::{FieldId, ObjectId};
 use lane_rings::Receiver;
 use monitor::Shared;
 use session::Session;
-use std::alloc::AllocError;
+use std::alloc::Global;
 use std::sync::Wait;
-use std::test::Fail;
 use std::thread::{Threads, join};
 
 const OBJECT: ObjectId = ObjectId(0);
@@ -32,8 +33,28 @@ fn take_turn(shared: &Shared, session: &mut Session, turn: u64) -> bool
     stored && session.notify(shared, OBJECT).is_ok()
 }
 
-// Takes each second turn, from `first` to before `end`, and waits in between. Answers how many it took, and how often it
-// waited.
+// Takes a turn if it is this session's: each second one is, from `first` on. Answers whether it was, or none where there are no
+// more before `end`.
+fn try_turn(shared: &Shared, session: &mut Session, first: u64, end: u64) -> Option<bool>
+    requires seat { IsSessionOf shared.now session.old }
+    ensures seat { IsSessionOf shared.now session.new }
+{
+    let turn = value_in(shared, session, FIELD).unwrap_or(end);
+    if turn >= end {
+        let _ = session.exit(shared, OBJECT);
+        return None;
+    }
+    if turn % 2 != first % 2 {
+        return Some(false);
+    }
+    if take_turn(shared, session, turn) {
+        Some(true)
+    } else {
+        None
+    }
+}
+
+// Waits in between its turns. Answers how many it took, and how often it waited.
 fn play<R: Wait>(
     rt: &R,
     shared: &Shared,
@@ -48,64 +69,64 @@ fn play<R: Wait>(
     let mut ring = ring;
     let mut taken = 0u64;
     let mut waits = 0u64;
-    if session.enter(rt, shared, OBJECT).is_err() {
-        return (0, 0);
-    }
+    let _ = session.enter(rt, shared, OBJECT);
     for _ in rt.forever() {
-        let turn = session.load(shared, FIELD).unwrap_or(end);
-        if turn >= end {
-            let _ = session.exit(shared, OBJECT);
-            return (taken, waits);
-        }
-        if turn % 2 == first % 2 {
-            if !take_turn(shared, &mut session, turn) {
-                return (taken, waits);
+        match try_turn(shared, &mut session, first, end) {
+            Some(true) => taken = taken.saturating_add(1),
+            Some(false) => {
+                empty(&mut ring);
+                match session.wait(rt, shared, OBJECT) {
+                    Ok(woken) => session = woken,
+                    Err(_) => return (taken, waits),
+                }
+                waits = waits.saturating_add(1);
             }
-            taken = taken.saturating_add(1);
-        } else {
-            empty(&mut ring);
-            match session.wait(rt, shared, OBJECT) {
-                Ok(woken) => session = woken,
-                Err(_) => return (taken, waits),
-            }
-            waits = waits.saturating_add(1);
+            None => return (taken, waits),
         }
     }
     unreachable!()
 }
 
-// Both play, from turn 10 on.
+// Takes out the last two, in their order.
+fn take_rings(rings: &mut Vec<Receiver>) -> Option<(Receiver, Receiver)> {
+    let b = rings.pop()?;
+    let a = rings.pop()?;
+    Some((a, b))
+}
+
+// Both play, from turn 10 on. Answers how many turns each took, and how often they waited in all.
 fn play_both<R: Threads + Wait + Sync>(
     rt: &R,
     shared: &Shared,
-    a: (Session, Receiver),
-    b: (Session, Receiver),
+    sessions: &mut Vec<Session>,
+    rings: &mut Vec<Receiver>,
     end: u64,
-) -> ((u64, u64), (u64, u64))
-    requires seats { IsSessionOf shared.now a.0 × IsSessionOf shared.now b.0 }
+) -> Option<[u64; 3]>
+    requires seats { All (IsSessionOf shared.now) sessions.old.items }
 {
-    let (first, first_ring) = a;
-    let (second, second_ring) = b;
-    join(
+    let (first_ring, second_ring) = take_rings(rings)?;
+    let (first, second) = take_two(shared, sessions)?;
+    let (a, b) = join(
         rt,
         || play(rt, shared, first, first_ring, 10, end),
         || play(rt, shared, second, second_ring, 11, end),
-    )
+    );
+    Some([a.0, b.0, a.1.saturating_add(b.1)])
+}
+
+// The same of a fresh heap.
+fn told_of<R: Threads + Wait + Sync>(rt: &R, alloc: Global, end: u64) -> Option<[u64; 3]> {
+    let mut heap = open_heap(alloc, declare(alloc, 1)?, 2, LAST, 1_048_576)?;
+    play_both(rt, &heap.shared, &mut heap.sessions, &mut heap.rings, end)
 }
 
 // A session may wait once before the first turn, and one more often than it takes a turn.
 #[test]
-fn one_waits_while_another_notifies(rt: HostRuntime) -> Result<(), Fail> {
-    let (shared, mut sessions, mut consumers) = open_heap(rt.alloc(), 1, 2, LAST, 1_048_576).ok_or(
-        AllocError,
-    )?;
-    let b = take_last(&shared, &mut sessions).ok_or(AllocError)?;
-    let a = take_last(&shared, &mut sessions).ok_or(AllocError)?;
-    let b_ring = consumers.pop().ok_or(AllocError)?;
-    let a_ring = consumers.pop().ok_or(AllocError)?;
-    let (first, second) = play_both(&rt, &shared, (a, a_ring), (b, b_ring), 2_010);
-    assert_eq!(rt; (first.0, second.0), (1_000, 1_000));
-    let waits = first.1.saturating_add(second.1);
-    assert!(rt; 1_998 <= waits && waits <= 2_002, "{waits}");
-    Ok(())
+fn one_waits_while_another_notifies(rt: HostRuntime) {
+    let [first, second, waits] = told_of(&rt, rt.alloc(), 2_010).unwrap_or([0; 3]);
+    let are_fair = first == 1_000 && second == 1_000;
+    assert!(rt;
+        are_fair && 1_998 <= waits && waits <= 2_002,
+        "{first} {second} {waits}"
+    );
 }

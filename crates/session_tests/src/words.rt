@@ -1,16 +1,15 @@
 //! The words that sessions leave, as they are worked out in `docs/FORMAT.md`.
 
 ghost use Rattle.session.specs.Sessions.{IsSessionOf, IsWaitingOf};
-ghost use Rattle.std.specs.Prelude.{IfSome};
+ghost use Rattle.std.specs.Prelude.{All, IfSome};
 
-use crate::heap::{LAST, open_two};
-use crate::often::{enter_often, exit_often};
+use crate::calls::{Answer, Call, make, make_often};
+use crate::heap::{LAST, declare, open_heap, take_two};
 use heap_model::{Lane, ObjectId};
 use lock_word::FatWord;
 use monitor::Shared;
 use session::{Session, SessionError, Still, Waiting};
-use std::alloc::AllocError;
-use std::test::Fail;
+use std::alloc::Global;
 use steps::Seen;
 
 const OBJECT: ObjectId = ObjectId(0);
@@ -33,26 +32,34 @@ pub fn words_of(shared: &Shared, session: &mut Session) -> Words
 }
 
 // The first session takes the object by 256 locks, then by one more, and gives all back. Answers what the second one finds
-// each time, whether it met the fat word when it tried in between, and whether it could take the object at last.
-fn fill_count(shared: &Shared, a: &mut Session, b: &mut Session) -> Option<([Words; 3], [bool; 2])>
+// each time, and the answers: to the locks, to the one more, to the second one's try in between, to the exits, and to the second
+// one's try at last.
+fn fill_count(shared: &Shared, a: &mut Session, b: &mut Session) -> ([Words; 3], [Answer; 5])
     requires seats { IsSessionOf shared.now a.old × IsSessionOf shared.now b.old }
 {
-    if !enter_often(shared, a, OBJECT, 256) {
-        return None;
-    }
+    let filled = make_often(shared, a, Call::Enter(OBJECT), 256);
     let full = words_of(shared, b);
-    if !enter_often(shared, a, OBJECT, 1) {
-        return None;
-    }
+    let nested = make(shared, a, Call::Enter(OBJECT));
     let more = words_of(shared, b);
-    let held = SessionError::Held(Seen::Fat(FatWord::held(1, 256, 0)));
-    let met = b.try_enter(shared, OBJECT) == Err(held);
-    if !exit_often(shared, a, OBJECT, 257) {
-        return None;
-    }
+    let met = make(shared, b, Call::Enter(OBJECT));
+    let left = make_often(shared, a, Call::Exit(OBJECT), 257);
     let free = words_of(shared, b);
-    let taken = b.try_enter(shared, OBJECT).is_ok();
-    Some(([full, more, free], [met, taken]))
+    let taken = make(shared, b, Call::Enter(OBJECT));
+    ([full, more, free], [filled, nested, met, left, taken])
+}
+
+// The same of the last two sessions.
+fn fill_last(shared: &Shared, sessions: &mut Vec<Session>) -> Option<([Words; 3], [Answer; 5])>
+    requires seats { All (IsSessionOf shared.now) sessions.old.items }
+{
+    let (mut a, mut b) = take_two(shared, sessions)?;
+    Some(fill_count(shared, &mut a, &mut b))
+}
+
+// The same of a fresh heap.
+fn told_of_count(alloc: Global) -> Option<([Words; 3], [Answer; 5])> {
+    let mut heap = open_heap(alloc, declare(alloc, 1)?, 2, LAST, 4_000)?;
+    fill_last(&heap.shared, &mut heap.sessions)
 }
 
 // A session that waits for the object, which it has taken.
@@ -61,9 +68,7 @@ fn begin_wait(shared: &Shared, session: Session) -> Option<Waiting>
     ensures seat { IfSome result (IsWaitingOf shared.now) }
 {
     let mut session = session;
-    if session.try_enter(shared, OBJECT).is_err() {
-        return None;
-    }
+    let _ = session.try_enter(shared, OBJECT);
     session.begin_wait(shared, OBJECT).ok()
 }
 
@@ -75,6 +80,32 @@ fn stays(shared: &Shared, waiting: Waiting, why: Still) -> Option<Waiting>
     match waiting.try_resume(shared) {
         Ok(_) => None,
         Err((waiting, still)) => { if still == why { Some(waiting) } else { None } }
+    }
+}
+
+// Takes the object, and wakes one who waits for it.
+fn wake(shared: &Shared, session: &mut Session) -> Option<Lane>
+    requires seat { IsSessionOf shared.now session.old }
+    ensures seat { IsSessionOf shared.now session.new }
+{
+    let _ = session.try_enter(shared, OBJECT);
+    match session.notify(shared, OBJECT) {
+        Ok(woken) => woken,
+        Err(_) => None,
+    }
+}
+
+// Comes back from the wait and leaves. Answers how many sections it has then.
+fn resume_and_leave(shared: &Shared, waiting: Waiting) -> Option<u64>
+    requires seat { IsWaitingOf shared.now waiting }
+{
+    match waiting.try_resume(shared) {
+        Ok(session) => {
+            let mut session = session;
+            let _ = session.exit(shared, OBJECT);
+            Some(session.sections())
+        }
+        Err(_) => None,
     }
 }
 
@@ -90,48 +121,51 @@ fn wait_and_wake(
     let waiting = begin_wait(shared, a)?;
     let left = words_of(shared, b);
     let waiting = stays(shared, waiting, Still::InSet)?;
-    if b.try_enter(shared, OBJECT).is_err() {
-        return None;
-    }
-    let woken = b.notify(shared, OBJECT).ok()?;
+    let woken = wake(shared, b);
     let held = Still::Held(Seen::Fat(FatWord::held(2, 0, 1)));
     let waiting = stays(shared, waiting, held)?;
-    if b.exit(shared, OBJECT).is_err() {
-        return None;
-    }
-    let Ok(resumed) = waiting.try_resume(shared) else {
-        return None;
-    };
-    let mut a = resumed;
-    if a.exit(shared, OBJECT).is_err() {
-        return None;
-    }
+    let _ = b.exit(shared, OBJECT);
+    let sections = resume_and_leave(shared, waiting)?;
     let free = words_of(shared, b);
-    Some(([left, free], woken, [a.sections(), b.sections()]))
+    Some(([left, free], woken, [sections, b.sections()]))
+}
+
+// The same of the last two sessions.
+fn wake_last(
+    shared: &Shared,
+    sessions: &mut Vec<Session>,
+) -> Option<([Words; 2], Option<Lane>, [u64; 2])>
+    requires seats { All (IsSessionOf shared.now) sessions.old.items }
+{
+    let (a, mut b) = take_two(shared, sessions)?;
+    wait_and_wake(shared, a, &mut b)
+}
+
+// The same of a fresh heap.
+fn told_of_wait(alloc: Global) -> Option<([Words; 2], Option<Lane>, [u64; 2])> {
+    let mut heap = open_heap(alloc, declare(alloc, 1)?, 2, LAST, 4_000)?;
+    wake_last(&heap.shared, &mut heap.sessions)
 }
 
 // 256 locks fill the thin word of the first thread, and the 257th needs a slot, which is the first. 257 exits free the
 // object, once, and then another may take it.
 #[test]
-fn a_full_count_inflates(rt: HostRuntime) -> Result<(), Fail> {
-    let (shared, mut a, mut b) = open_two(rt.alloc(), 1, LAST).ok_or(AllocError)?;
-    let found = fill_count(&shared, &mut a, &mut b);
+fn a_full_count_inflates(rt: HostRuntime) {
     let words = [
         (511, None),
         (8_388_608, Some(65_537)),
         (8_388_608, Some(16_777_216)),
     ];
-    assert_eq!(rt; found, Some((words, [true, true])));
-    Ok(())
+    let held = SessionError::Held(Seen::Fat(FatWord::held(1, 256, 0)));
+    let answers = [Ok(()), Ok(()), Err(held), Ok(()), Ok(())];
+    assert!(rt; told_of_count(rt.alloc()) == Some((words, answers)));
 }
 
 // The second thread's lock, met by the first, has the bits 16777218.
 #[test]
-fn a_wait_is_notified(rt: HostRuntime) -> Result<(), Fail> {
-    let (shared, a, mut b) = open_two(rt.alloc(), 1, LAST).ok_or(AllocError)?;
-    let found = wait_and_wake(&shared, a, &mut b);
+fn a_wait_is_notified(rt: HostRuntime) {
     let words = [(8_388_608, Some(16_777_216)), (8_388_608, Some(50_331_648))];
-    assert_eq!(rt; found, Some((words, Some(Lane(0)), [2, 1])));
-    assert_eq!(rt; FatWord::held(2, 0, 1).bits(), 16_777_218);
-    Ok(())
+    let bits = FatWord::held(2, 0, 1).bits();
+    let found = (told_of_wait(rt.alloc()), bits);
+    assert!(rt; found == (Some((words, Some(Lane(0)), [2, 1])), 16_777_218));
 }

@@ -1,5 +1,5 @@
 use Rattle.session.specs.Sessions.{IsSessionOf}
-use Rattle.session_tests.proofs.often.enter_often.Given as goal
+use Rattle.session_tests.proofs.calls.make_often.Given as goal
 
 abbrev pub invariant-loop : goal.invariant-loop
 invariant-loop l = IsSessionOf l.shared l.session

@@ -1,5 +1,0 @@
-use Rattle.session.specs.Sessions.{IsSessionOf}
-use Rattle.session_tests.proofs.limits.take_many.Given as goal
-
-abbrev pub invariant-loop-number : goal.invariant-loop-number
-invariant-loop-number l = IsSessionOf l.shared l.session

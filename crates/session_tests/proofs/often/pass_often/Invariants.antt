@@ -1,5 +1,0 @@
-use Rattle.session.specs.Sessions.{IsSessionOf}
-use Rattle.session_tests.proofs.often.pass_often.Given as goal
-
-abbrev pub invariant-loop : goal.invariant-loop
-invariant-loop l = IsSessionOf l.shared l.session
