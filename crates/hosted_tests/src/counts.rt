@@ -1,32 +1,16 @@
 //! How many calls a host makes for a round.
 
+use crate::work::ROWS;
 use deferred_disk::DeviceCall;
 use heap_model::{FieldId, ObjectId};
 use hosted_heap::{HostedHeap, HostedSession, format};
-use image::GuardRow;
 use std::alloc::Global;
-
-// Two objects, each with the one of two fields that it guards.
-const ROWS: [GuardRow; 2] = [
-    GuardRow {
-        guard: ObjectId(0),
-        owner: ObjectId(0),
-        first: 0,
-        transient: false,
-    },
-    GuardRow {
-        guard: ObjectId(1),
-        owner: ObjectId(1),
-        first: 0,
-        transient: false,
-    },
-];
 
 // The most calls that are made.
 const MANY: u32 = 10_000;
 
 /// What a host was told to do.
-#[derive(Clone, Copy, Debug, PartialEq, Eq)]
+#[derive(Clone, Copy, PartialEq, Eq)]
 struct Counts {
     writes: u64,
     syncs: u64,
@@ -102,12 +86,23 @@ fn round(heap: &mut HostedHeap, session: &mut HostedSession, sections: u64) -> (
 }
 
 // What the second of two rounds of 500 sections makes.
+fn second_round(heap: &mut HostedHeap) -> Option<(u64, Counts)> {
+    make_all(heap);
+    match heap.session() {
+        Some(mut session) => {
+            let _ = round(heap, &mut session, 500);
+            Some(round(heap, &mut session, 500))
+        }
+        None => None,
+    }
+}
+
+// The same of a heap of one lane that is made.
 fn counted(alloc: Global) -> Option<(u64, Counts)> {
-    let mut heap = format(alloc, 2, &ROWS, 1, 4_000).ok()?;
-    make_all(&mut heap);
-    let mut session = heap.session()?;
-    let _ = round(&mut heap, &mut session, 500);
-    Some(round(&mut heap, &mut session, 500))
+    match format(alloc, 2, &ROWS, 1, 4_000) {
+        Ok(mut heap) => second_round(&mut heap),
+        Err(_) => None,
+    }
 }
 
 // By docs/FORMAT.md: 3,000 records of 16 bytes, the first 1,000 of them at the end of the lane's area and the others at its beginning,

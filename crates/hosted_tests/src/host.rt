@@ -101,19 +101,21 @@ pub fn make_left(alloc: Global, calls: &mut HostCalls, host: &mut Host) {
     }
 }
 
-/// How many sections are acknowledged, asked before the calls of the last round are made and then.
+/// Makes the calls of the last round, and answers how many sections are acknowledged then. `None` where that isn't told, or was told
+/// before the calls were made.
 pub fn acknowledged(
     alloc: Global,
     heap: &mut HostedHeap,
     host: &mut Host,
     earlier: u64,
-) -> [Result<u64, AcknowledgedError>; 2] {
+) -> Option<u64> {
     let before = heap.acknowledged(Lane(0));
     make_all(alloc, heap, host);
-    let then = heap.acknowledged(Lane(0));
-    if let Ok(sections) = then {
-        host.safe = earlier.wrapping_add(sections);
-    }
+    let sections = heap.acknowledged(Lane(0)).ok()?;
+    host.safe = earlier.wrapping_add(sections);
     host.stop(alloc);
-    [before, then]
+    match before {
+        Err(AcknowledgedError::CallsLeft) => Some(sections),
+        _ => None,
+    }
 }

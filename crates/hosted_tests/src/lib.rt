@@ -15,3 +15,5 @@ mod host;
 mod lives;
 #[cfg(test)]
 mod stops;
+#[cfg(test)]
+mod work;

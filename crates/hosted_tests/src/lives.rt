@@ -2,34 +2,18 @@
 
 use crate::device::values_of;
 use crate::host::{Host, acknowledged, make_all, make_left};
+use crate::work::{ROWS, work};
 use deferred_disk::HostCalls;
-use heap_model::{FieldId, ObjectId};
-use hosted_heap::{AcknowledgedError, Closed, HostedHeap, HostedSession, format, open};
-use image::GuardRow;
+use hosted_heap::{Closed, HostedHeap, HostedSession, format, open};
 use recover::Versions;
 use std::alloc::Global;
 
-// One object for each of two fields, the second of which nobody stores.
-const ROWS: [GuardRow; 2] = [
-    GuardRow {
-        guard: ObjectId(0),
-        owner: ObjectId(0),
-        first: 0,
-        transient: false,
-    },
-    GuardRow {
-        guard: ObjectId(1),
-        owner: ObjectId(1),
-        first: 9,
-        transient: false,
-    },
-];
-
 // What was answered in a life.
-#[derive(Drop, PartialEq)]
+#[derive(Clone, Copy, PartialEq, Eq)]
 struct Life {
-    // How many sections of it are acknowledged after each of two rounds, before and after the host has made the calls.
-    acknowledged: [[Result<u64, AcknowledgedError>; 2]; 2],
+    // How many sections of it are acknowledged after each of two rounds, where that is told once the host has made the calls.
+    first: Option<u64>,
+    second: Option<u64>,
     // Whether each call of the session was Ok, and the heap was closed.
     went_well: bool,
     // At how many places the host would have lost something by stopping there.
@@ -39,54 +23,50 @@ struct Life {
 }
 
 // A section, which stores its number.
-fn work(session: &mut HostedSession, host: &mut Host) -> bool {
+fn work_next(session: &mut HostedSession, host: &mut Host) -> bool {
     let number = host.ended.wrapping_add(1);
-    let entered = session.try_enter(ObjectId(0)).is_ok();
-    let stored = session.store(FieldId(0), number).is_ok();
     host.ended = number;
-    entered && stored && session.exit(ObjectId(0)).is_ok()
+    work(session, number)
 }
 
 // So many sections.
 fn work_often(session: &mut HostedSession, host: &mut Host, sections: u32) -> bool {
     for _ in 0..sections {
-        if !work(session, host) {
+        if !work_next(session, host) {
             return false;
         }
     }
     true
 }
 
-// Two sections and a round, three and a round, and one that no round is made for.
+// Two sections and a round, three and a round, and one that no round is made for. Answers how many are acknowledged after each round,
+// and whether each call was Ok.
+type Served = (Option<u64>, Option<u64>, bool);
+
 fn serve(
     alloc: Global,
     heap: &mut HostedHeap,
     session: &mut HostedSession,
     host: &mut Host,
-) -> ([[Result<u64, AcknowledgedError>; 2]; 2], bool) {
+) -> Served {
     let earlier = host.ended;
     let first = work_often(session, host, 2) && heap.round().is_ok();
     let told = acknowledged(alloc, heap, host, earlier);
     let second = work_often(session, host, 3) && heap.round().is_ok();
     let told_again = acknowledged(alloc, heap, host, earlier);
-    let last = work(session, host);
-    ([told, told_again], first && second && last)
+    let last = work_next(session, host);
+    (told, told_again, first && second && last)
 }
 
-// Lets the heap's session work. `None` where there is none.
-fn serve_session(
-    alloc: Global,
-    heap: &mut HostedHeap,
-    host: &mut Host,
-) -> ([[Result<u64, AcknowledgedError>; 2]; 2], bool) {
-    let nothing = [Err(AcknowledgedError::BadLane); 2];
+// Lets the heap's session work.
+fn serve_session(alloc: Global, heap: &mut HostedHeap, host: &mut Host) -> Served {
     match heap.session() {
         Some(mut session) => {
-            let answered = serve(alloc, heap, &mut session, host);
+            let served = serve(alloc, heap, &mut session, host);
             let _ = session.end();
-            answered
+            served
         }
-        None => ([nothing, nothing], false),
+        None => (None, None, false),
     }
 }
 
@@ -113,16 +93,22 @@ fn finish(alloc: Global, calls: &mut HostCalls, host: &mut Host) {
     host.stop(alloc);
 }
 
-// A life, from the first call of a heap that was made or opened on.
-fn live(alloc: Global, heap: HostedHeap, host: &mut Host) -> Life {
-    let mut heap = heap;
-    make_all(alloc, &mut heap, host);
+// The first part of a life, from the first call of a heap that was made or opened on.
+fn begin(alloc: Global, heap: &mut HostedHeap, host: &mut Host) -> Served {
+    make_all(alloc, heap, host);
     host.is_made = true;
     host.stop(alloc);
-    let (acknowledged, worked) = serve_session(alloc, &mut heap, host);
+    serve_session(alloc, heap, host)
+}
+
+// A life of this heap.
+fn live(alloc: Global, heap: HostedHeap, host: &mut Host) -> Life {
+    let mut heap = heap;
+    let (first, second, worked) = begin(alloc, &mut heap, host);
     let closed = close(alloc, heap, host);
     Life {
-        acknowledged,
+        first,
+        second,
         went_well: worked && closed,
         lost: host.lost,
         values: values_of(alloc, &host.device.written),
@@ -130,13 +116,9 @@ fn live(alloc: Global, heap: HostedHeap, host: &mut Host) -> Life {
 }
 
 // The life of a heap that is made.
-fn made(alloc: Global) -> Option<(Host, Life)> {
+fn made(alloc: Global, host: &mut Host) -> Option<Life> {
     match format(alloc, 2, &ROWS, 1, 2_000) {
-        Ok(heap) => {
-            let mut host = Host::of_zeros(alloc, heap.size())?;
-            let life = live(alloc, heap, &mut host);
-            Some((host, life))
-        }
+        Ok(heap) => Some(live(alloc, heap, host)),
         Err(_) => None,
     }
 }
@@ -149,27 +131,40 @@ fn opened(alloc: Global, host: &mut Host) -> Option<Life> {
     }
 }
 
+// How many bytes the image of the heap has that is made.
+fn size_of_made(alloc: Global) -> Option<u64> {
+    match format(alloc, 2, &ROWS, 1, 2_000) {
+        Ok(heap) => Some(heap.size()),
+        Err(_) => None,
+    }
+}
+
 // Both lives.
-fn both(alloc: Global) -> Option<(Life, Option<Life>)> {
-    let (mut host, first) = made(alloc)?;
-    let second = opened(alloc, &mut host);
-    Some((first, second))
+fn both(alloc: Global) -> Option<[Option<Life>; 2]> {
+    let size = size_of_made(alloc)?;
+    match Host::of_zeros(alloc, size) {
+        Some(mut host) => {
+            let first = made(alloc, &mut host);
+            Some([first, opened(alloc, &mut host)])
+        }
+        None => None,
+    }
 }
 
 // A life of six sections in which nothing is lost, and which leaves so many.
-fn whole(sections: u64) -> Life {
-    let before = Err(AcknowledgedError::CallsLeft);
-    Life {
-        acknowledged: [[before, Ok(2)], [before, Ok(5)]],
+fn whole(sections: u64) -> Option<Life> {
+    Some(Life {
+        first: Some(2),
+        second: Some(5),
         went_well: true,
         lost: 0,
         values: Some((sections, 9)),
-    }
+    })
 }
 
 // What is acknowledged is on the host's device: wherever the host stops, with what was written or with what was synced alone,
 // recovery keeps at least as much. At the end it keeps all.
 #[test]
 fn what_is_acknowledged_is_on_the_device(rt: HostRuntime) {
-    assert!(rt; both(rt.alloc()) == Some((whole(6), Some(whole(12)))));
+    assert!(rt; both(rt.alloc()) == Some([whole(6), whole(12)]));
 }

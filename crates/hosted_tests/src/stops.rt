@@ -1,17 +1,9 @@
 //! What a session learns of a call that its host couldn't make.
 
+use crate::work::{ROWS, work};
 use deferred_disk::DeviceCall;
-use heap_model::{FieldId, ObjectId};
 use hosted_heap::{FailedCall, HostedHeap, HostedSession, format};
-use image::GuardRow;
 use std::alloc::Global;
-
-const ROWS: [GuardRow; 1] = [GuardRow {
-    guard: ObjectId(0),
-    owner: ObjectId(0),
-    first: 0,
-    transient: false,
-}];
 
 // The most calls that are made.
 const MANY: u32 = 1_000;
@@ -39,13 +31,6 @@ fn make(heap: &mut HostedHeap, syncs: bool) {
     }
 }
 
-// A section.
-fn work(session: &mut HostedSession) -> bool {
-    let entered = session.try_enter(ObjectId(0)).is_ok();
-    let stored = session.store(FieldId(0), 5).is_ok();
-    entered && stored && session.exit(ObjectId(0)).is_ok()
-}
-
 // What a call that failed is told to be, and what each of two sessions sees then.
 type Told = (Option<FailedCall>, bool, bool);
 
@@ -57,7 +42,7 @@ fn fail(heap: &mut HostedHeap, one: &mut HostedSession, two: &mut HostedSession)
 // With no call left; with a write; with the sync behind it; and once more.
 fn fail_each(heap: &mut HostedHeap, one: &mut HostedSession, two: &mut HostedSession) -> [Told; 4] {
     let none = fail(heap, one, two);
-    let _ = work(one) && heap.round().is_ok();
+    let _ = work(one, 5) && heap.round().is_ok();
     heap.fetch();
     let write = fail(heap, one, two);
     make(heap, false);
@@ -65,12 +50,21 @@ fn fail_each(heap: &mut HostedHeap, one: &mut HostedSession, two: &mut HostedSes
     [none, write, sync, fail(heap, two, one)]
 }
 
-fn failed(alloc: Global) -> Option<[Told; 4]> {
-    let mut heap = format(alloc, 1, &ROWS, 2, 2_000).ok()?;
-    make(&mut heap, true);
+// The same of the sessions of a heap of two lanes.
+fn fail_all(heap: &mut HostedHeap) -> Option<[Told; 4]> {
+    make(heap, true);
     let mut one = heap.session()?;
-    let mut two = heap.session()?;
-    Some(fail_each(&mut heap, &mut one, &mut two))
+    match heap.session() {
+        Some(mut two) => Some(fail_each(heap, &mut one, &mut two)),
+        None => None,
+    }
+}
+
+fn failed(alloc: Global) -> Option<[Told; 4]> {
+    match format(alloc, 2, &ROWS, 2, 2_000) {
+        Ok(mut heap) => fail_all(&mut heap),
+        Err(_) => None,
+    }
 }
 
 // A session learns of a sync that failed, and of nothing else.
