@@ -77,15 +77,21 @@ fn size_with(schema: &Schema, lanes: u8, capacity: u32) -> Option<u64> {
     Some(layout.size())
 }
 
+fn sizes_of(schema: &Schema) -> [Option<u64>; 5] {
+    [
+        size_with(schema, 0, 4000),
+        size_with(schema, 33, 4000),
+        size_with(schema, 2, 1999),
+        size_with(schema, 2, 1_048_577),
+        size_with(schema, 2, 4000),
+    ]
+}
+
 fn sizes(alloc: Global) -> Option<[Option<u64>; 5]> {
-    let schema = common_schema(alloc)?;
-    Some([
-        size_with(&schema, 0, 4000),
-        size_with(&schema, 33, 4000),
-        size_with(&schema, 2, 1999),
-        size_with(&schema, 2, 1_048_577),
-        size_with(&schema, 2, 4000),
-    ])
+    match common_schema(alloc) {
+        Some(schema) => Some(sizes_of(&schema)),
+        None => None,
+    }
 }
 
 #[test]
@@ -127,15 +133,28 @@ fn a_fresh_image_is_as_documented(rt: HostRuntime) {
 // The same objects and fields, and a transient field of the last object, which the third one guards.
 fn marked_schema(alloc: Global) -> Option<Schema> {
     let mut builder = SchemaBuilder::new(alloc);
-    declare(&mut builder)?;
-    transient(&mut builder, ObjectId(3), "f2", ObjectId(2), 30).ok()?;
+    declare_marked(&mut builder)?;
     builder.build().ok()
 }
 
+fn declare_marked(builder: &mut SchemaBuilder) -> Option<()> {
+    declare(builder)?;
+    transient(builder, ObjectId(3), "f2", ObjectId(2), 30).ok()?;
+    Some(())
+}
+
+fn disk_of(alloc: Global, schema: &Schema) -> Option<MemDisk> {
+    match fresh(alloc, schema) {
+        Some((disk, _)) => Some(disk),
+        None => None,
+    }
+}
+
 fn marked_disk(alloc: Global) -> Option<MemDisk> {
-    let schema = marked_schema(alloc)?;
-    let (disk, _) = fresh(alloc, &schema)?;
-    Some(disk)
+    match marked_schema(alloc) {
+        Some(schema) => disk_of(alloc, &schema),
+        None => None,
+    }
 }
 
 // The transient field's guard row, and its home cell.
@@ -698,8 +717,10 @@ fn is_header_of_failed_image(alloc: Global, schema: &Schema, call: u64) -> Optio
 
 // Whether each of the 13 calls fails so, and the header is whole before the last alone.
 fn images_fail(alloc: Global) -> Option<bool> {
-    let schema = common_schema(alloc)?;
-    Some(images_of_it_fail(alloc, &schema))
+    match common_schema(alloc) {
+        Some(schema) => Some(images_of_it_fail(alloc, &schema)),
+        None => None,
+    }
 }
 
 fn images_of_it_fail(alloc: Global, schema: &Schema) -> bool {
@@ -826,8 +847,10 @@ fn told_of_parts(alloc: Global, schema: &Schema) -> Option<(bool, Apart)> {
 }
 
 fn told_of_fresh(alloc: Global) -> Option<(bool, Apart)> {
-    let schema = common_schema(alloc)?;
-    told_of_parts(alloc, &schema)
+    match common_schema(alloc) {
+        Some(schema) => told_of_parts(alloc, &schema),
+        None => None,
+    }
 }
 
 #[test]

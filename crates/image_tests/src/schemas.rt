@@ -53,23 +53,34 @@ fn fields_answered(builder: &mut SchemaBuilder) -> [Result<FieldId, SchemaError>
 // What a field is: its owner, its guard and its first value.
 type Row = (ObjectId, ObjectId, u64);
 
-// What a builder answers to objects, why it makes no schema then, and what it answers to fields; and how many fields the
-// schema has, and the first.
+// What a builder answers to fields; and how many fields the schema has, and the first.
+type ToldOfFields = (
+    [Result<FieldId, SchemaError>; 3],
+    Option<(u32, Option<Row>)>,
+);
+
+fn told_of_fields(mut builder: SchemaBuilder) -> ToldOfFields {
+    let fields = fields_answered(&mut builder);
+    match builder.build() {
+        Ok(schema) => (fields, Some((schema.fields(), row(&schema, 0)))),
+        Err(_) => (fields, None),
+    }
+}
+
+// What a builder answers to objects, why it makes no schema then, and what it answers to fields.
 type Told = (
     [Result<ObjectId, SchemaError>; 3],
     SchemaError,
-    [Result<FieldId, SchemaError>; 3],
-    (u32, Option<Row>),
+    ToldOfFields,
 );
 
 fn told_of_declarations(alloc: Global) -> Option<Told> {
     let mut builder = SchemaBuilder::new(alloc);
     let objects = objects_answered(&mut builder);
-    let (mut builder, why) = builder.build().err()?;
-    let fields = fields_answered(&mut builder);
-    let schema = builder.build().ok()?;
-    let found = (schema.fields(), row(&schema, 0));
-    Some((objects, why, fields, found))
+    match builder.build() {
+        Ok(_) => None,
+        Err((builder, why)) => Some((objects, why, told_of_fields(builder))),
+    }
 }
 
 // A builder that makes no schema is given back, with the reason, and goes on.
@@ -82,8 +93,8 @@ fn declarations_are_answered(rt: HostRuntime) {
     ];
     let unknown = Err(SchemaError::UnknownObject);
     let fields = [unknown, unknown, Ok(FieldId(0))];
-    let found = (1, Some((O0, O0, 7)));
-    let wanted = (objects, SchemaError::Empty, fields, found);
+    let found = Some((1, Some((O0, O0, 7))));
+    let wanted = (objects, SchemaError::Empty, (fields, found));
     assert!(rt; told_of_declarations(rt.alloc()) == Some(wanted));
 }
 
@@ -105,7 +116,11 @@ fn account_and_bank(alloc: Global) -> Option<Schema> {
 // The objects that a builder finds by an object's name, and by a field's.
 fn objects_named(alloc: Global) -> [Option<ObjectId>; 2] {
     let mut builder = SchemaBuilder::new(alloc);
-    let _declared = declare_account_and_bank(&mut builder);
+    declare_and_find(&mut builder)
+}
+
+fn declare_and_find(builder: &mut SchemaBuilder) -> [Option<ObjectId>; 2] {
+    let _declared = declare_account_and_bank(builder);
     [
         builder.object_named("bank"),
         builder.object_named("balance"),
@@ -130,9 +145,15 @@ fn row(schema: &Schema, field: u32) -> Option<Row> {
     }
 }
 
+fn three_rows(schema: &Schema) -> [Option<Row>; 3] {
+    [row(schema, 0), row(schema, 1), row(schema, 2)]
+}
+
 fn rows(alloc: Global) -> Option<[Option<Row>; 3]> {
-    let schema = account_and_bank(alloc)?;
-    Some([row(&schema, 0), row(&schema, 1), row(&schema, 2)])
+    match account_and_bank(alloc) {
+        Some(schema) => Some(three_rows(&schema)),
+        None => None,
+    }
 }
 
 #[test]
@@ -156,15 +177,23 @@ fn second_object_is(schema: &Schema, name: &str) -> bool {
 }
 
 // What the names of two objects, of a field and of nothing find, and whether the second object has its name.
-fn names(alloc: Global) -> Option<([(Option<ObjectId>, Option<FieldId>); 4], bool)> {
-    let schema = account_and_bank(alloc)?;
+type Names = ([(Option<ObjectId>, Option<FieldId>); 4], bool);
+
+fn names_in(schema: &Schema) -> Names {
     let found = [
-        named(&schema, "account"),
-        named(&schema, "bank"),
-        named(&schema, "balance"),
-        named(&schema, ""),
+        named(schema, "account"),
+        named(schema, "bank"),
+        named(schema, "balance"),
+        named(schema, ""),
     ];
-    Some((found, second_object_is(&schema, "bank")))
+    (found, second_object_is(schema, "bank"))
+}
+
+fn names(alloc: Global) -> Option<Names> {
+    match account_and_bank(alloc) {
+        Some(schema) => Some(names_in(&schema)),
+        None => None,
+    }
 }
 
 #[test]
@@ -243,24 +272,37 @@ fn fields_beyond(builder: &mut SchemaBuilder) -> [Result<FieldId, SchemaError>; 
     ]
 }
 
-// What a filled builder answers to objects and to fields; how many the schema has, its last field by name, and what that is.
+// How many objects and fields a schema has, its last field by name, and what that is.
+type Counts = (u32, u32, Option<FieldId>, Option<Row>);
+
+// What a filled builder answers to objects and to fields, and its schema's counts.
 type Full = (
     [Result<ObjectId, SchemaError>; 3],
     [Result<FieldId, SchemaError>; 5],
-    (u32, u32, Option<FieldId>, Option<Row>),
+    Option<Counts>,
 );
 
 fn told_of_full(alloc: Global) -> Option<Full> {
-    let mut builder = filled(alloc)?;
+    match filled(alloc) {
+        Some(builder) => Some(told_beyond(builder)),
+        None => None,
+    }
+}
+
+fn told_beyond(mut builder: SchemaBuilder) -> Full {
     let objects = objects_beyond(&mut builder);
     let fields = fields_beyond(&mut builder);
+    (objects, fields, built_counts(builder))
+}
+
+fn built_counts(builder: SchemaBuilder) -> Option<Counts> {
     match builder.build() {
-        Ok(schema) => Some((objects, fields, counts(&schema))),
+        Ok(schema) => Some(counts(&schema)),
         Err(_) => None,
     }
 }
 
-fn counts(schema: &Schema) -> (u32, u32, Option<FieldId>, Option<Row>) {
+fn counts(schema: &Schema) -> Counts {
     (
         schema.objects(),
         schema.fields(),
@@ -285,7 +327,7 @@ fn limits_are_tested_last(rt: HostRuntime) {
         Err(SchemaError::TooMany),
     ];
     let row = Some((O0, ObjectId(4095), 16_383));
-    let counts = (4096, 16_384, Some(FieldId(16_383)), row);
+    let counts = Some((4096, 16_384, Some(FieldId(16_383)), row));
     assert!(rt; told_of_full(rt.alloc()) == Some((objects, fields, counts)));
 }
 
@@ -310,51 +352,61 @@ fn field_again(
 }
 
 fn declares_objects_again(builder: &mut SchemaBuilder, names: &[&str]) -> bool {
-    for (number, name) in (0..).zip(names.iter()) {
+    let mut number = 0u32;
+    for name in names {
         if object_again(builder, name) != Ok(ObjectId(number)) {
             return false;
         }
+        number = number.saturating_add(1);
     }
     true
 }
 
 fn declares_fields_again(builder: &mut SchemaBuilder, names: &[&str]) -> bool {
-    for (number, name) in (0..).zip(names.iter()) {
+    let mut number = 0u32;
+    for name in names {
         if field_again(builder, ObjectId(number), name) != Ok(FieldId(number)) {
             return false;
         }
+        number = number.saturating_add(1);
     }
     true
 }
 
 fn finds_all(schema: &Schema, names: &[&str]) -> bool {
-    for (number, name) in (0..).zip(names.iter()) {
+    let mut number = 0u32;
+    for name in names {
         if named(schema, name) != (Some(ObjectId(number)), Some(FieldId(number))) {
             return false;
         }
+        number = number.saturating_add(1);
     }
     true
 }
 
-// Whether all of nine names are declared, of objects and of fields; how many a schema has then, and whether it finds all.
-fn told_of_growth(alloc: Global) -> Option<([bool; 2], (u32, u32), bool)> {
+// Whether nine names are all that the schema has, of objects and of fields.
+fn has_nine(schema: &Schema, names: &[&str]) -> bool {
+    schema.objects() == 9 && schema.fields() == 9 && finds_all(schema, names)
+}
+
+fn builds_nine(builder: SchemaBuilder, names: &[&str]) -> bool {
+    match builder.build() {
+        Ok(schema) => has_nine(&schema, names),
+        Err(_) => false,
+    }
+}
+
+// Whether they are declared, and the schema has them then.
+fn told_of_growth(alloc: Global) -> [bool; 2] {
     let names = ["a", "b", "c", "d", "e", "f", "g", "h", "i"];
     let mut builder = SchemaBuilder::new(alloc);
-    let are_declared = [
-        declares_objects_again(&mut builder, &names),
-        declares_fields_again(&mut builder, &names),
-    ];
-    match builder.build() {
-        Ok(schema) => {
-            let counts = (schema.objects(), schema.fields());
-            Some((are_declared, counts, finds_all(&schema, &names)))
-        }
-        Err(_) => None,
-    }
+    let are_declared = declares_objects_again(&mut builder, &names)
+        && declares_fields_again(&mut builder, &names);
+    [are_declared, builds_nine(builder, &names)]
 }
 
 // Passes with any one of its allocations refused (`rt try --test --fail-alloc N`), and with none.
 #[test]
 fn refused_growth_changes_nothing(rt: HostRuntime) {
-    assert!(rt; told_of_growth(rt.alloc()) == Some(([true; 2], (9, 9), true)));
+    assert!(rt; told_of_growth(rt.alloc()) == [true; 2]);
 }
