@@ -1,27 +1,43 @@
 //! Threads that take and leave one object and their own. An object's release number says how often it was taken.
 
-ghost use Rattle.std.specs.Prelude.{◌<◌, ◌≤◌, All};
+ghost use Rattle.std.specs.Prelude.{◌≡◌, ◌<◌, ◌≤◌, All};
+ghost use Rattle.monitor.specs.Seats.{IsHelperOf};
 ghost use Rattle.steps.specs.Views.{plan};
 ghost use Rattle.one_monitor.specs.Idle.{IsIdle};
 ghost use Rattle.one_monitor.specs.Race.{IsRacer};
 
-use monitor::{Seat, Shared};
+use monitor::{HelperSeat, Seat, Shared};
 use one_monitor::{Racer, deal, is_right, nine_objects, race, racers};
 use std::alloc::Global;
-use std::test::Fail;
 use std::thread::Threads;
 
 // So many threads take the object of all so many times, and each its own. Answers whether none gave up and the release
 // numbers say the same; `None` is want of memory.
-fn run<R: Threads + Sync>(rt: &R, alloc: Global, threads: u8, rounds: u64) -> Option<bool>
+fn told_of<R: Threads + Sync>(rt: &R, alloc: Global, threads: u8, rounds: u64) -> Option<bool>
     requires { threads ≤ 8 }
 {
     let (shared, mut helper) = nine_objects(alloc)?;
-    let mut seat = deal(&shared, &mut helper);
-    let Ok(mut all) = racers(alloc, &shared, &mut helper, threads) else {
-        return None;
-    };
-    Some(is_whole_race(rt, &shared, &mut seat, &mut all, rounds))
+    run(rt, alloc, &shared, &mut helper, threads, rounds)
+}
+
+// The same of a fresh heap's helper.
+fn run<R: Threads + Sync>(
+    rt: &R,
+    alloc: Global,
+    shared: &Shared,
+    helper: &mut HelperSeat,
+    threads: u8,
+    rounds: u64,
+) -> Option<bool>
+    requires helper { IsHelperOf shared.now helper.old × (helper.old.next ≡ 0) }
+    requires objects { (plan shared.now).objects ≡ 9 }
+    requires threads { threads ≤ 8 }
+{
+    let mut seat = deal(shared, helper);
+    match racers(alloc, shared, helper, threads) {
+        Ok(mut all) => Some(is_whole_race(rt, shared, &mut seat, &mut all, rounds)),
+        Err(_) => None,
+    }
 }
 
 // One race of these racers. `seat` is an onlooker's.
@@ -45,21 +61,13 @@ fn is_whole(all: &[Racer], rounds: u64) -> bool {
     all.iter().all(|racer| racer.all_takes == rounds && racer.own_takes == rounds)
 }
 
-// Each test takes 10^6 times in all, one half on the object of all.
+// Each takes 10^6 times in all, one half on the object of all.
 #[test]
-fn two_threads_take_one_object(rt: HostRuntime) -> Result<(), Fail> {
-    assert_eq!(rt; run(&rt, rt.alloc(), 2, 250_000), Some(true));
-    Ok(())
-}
-
-#[test]
-fn four_threads_take_one_object(rt: HostRuntime) -> Result<(), Fail> {
-    assert_eq!(rt; run(&rt, rt.alloc(), 4, 125_000), Some(true));
-    Ok(())
-}
-
-#[test]
-fn eight_threads_take_one_object(rt: HostRuntime) -> Result<(), Fail> {
-    assert_eq!(rt; run(&rt, rt.alloc(), 8, 62_500), Some(true));
-    Ok(())
+fn threads_take_one_object(rt: HostRuntime) {
+    let found = [
+        told_of(&rt, rt.alloc(), 2, 250_000),
+        told_of(&rt, rt.alloc(), 4, 125_000),
+        told_of(&rt, rt.alloc(), 8, 62_500),
+    ];
+    assert!(rt; found == [Some(true); 3]);
 }

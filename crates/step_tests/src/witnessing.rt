@@ -10,9 +10,8 @@ ghost use Rattle.one_monitor.specs.Idle.{IsIdle};
 
 use heap_model::ObjectId;
 use monitor::{HelperSeat, Seat, Shared};
-use one_monitor::{deal, leave, nine_objects, try_enter, words_of};
-use std::alloc::AllocError;
-use std::test::Fail;
+use one_monitor::{deal, nine_objects, take_once, words_of};
+use std::alloc::Global;
 
 const OBJECT: ObjectId = ObjectId(0);
 
@@ -32,21 +31,6 @@ fn tell(shared: &Shared, seat: &mut Seat, helper: &mut HelperSeat)
     shared.catch_up(helper);
 }
 
-// Takes the object and leaves it.
-fn take_and_leave(shared: &Shared, seat: &mut Seat) -> bool
-    requires seat { IsIdle shared.now seat.old }
-    requires heap { (0 < objects shared.now.plan) × (1000 < shared.now.plan.last) }
-    ensures idle { IsIdle shared.now seat.new }
-{
-    match try_enter(shared, seat, OBJECT) {
-        Ok(grip) => {
-            leave(shared, seat, grip);
-            true
-        }
-        Err(_) => false,
-    }
-}
-
 // Two threads take the object in turn and tell of it. Answers whether each took it, and the word that a third finds.
 fn take_and_tell(
     shared: &Shared,
@@ -57,24 +41,35 @@ fn take_and_tell(
 ) -> ([bool; 2], u64)
     requires helper { IsHelperOf shared.now helper.old }
     requires seats { IsIdle shared.now a.old × IsIdle shared.now b.old × IsIdle shared.now c.old }
-    requires heap { (0 < objects shared.now.plan) × (1000 < shared.now.plan.last) }
+    requires heap { 0 < objects shared.now.plan }
 {
-    let first = take_and_leave(shared, a);
+    let first = take_once(shared, a, OBJECT);
     tell(shared, a, helper);
-    let second = take_and_leave(shared, b);
+    let second = take_once(shared, b, OBJECT);
     tell(shared, b, helper);
     let (word, _) = words_of(shared, c, OBJECT);
     ([first, second], word)
 }
 
+// The same of three threads.
+fn tell_of_three(shared: &Shared, helper: &mut HelperSeat) -> ([bool; 2], u64)
+    requires helper { IsHelperOf shared.now helper.old × (helper.old.next ≡ 0) }
+    requires heap { 0 < objects shared.now.plan }
+{
+    let mut a = deal(shared, helper);
+    let mut b = deal(shared, helper);
+    let mut c = deal(shared, helper);
+    take_and_tell(shared, helper, &mut a, &mut b, &mut c)
+}
+
+// The same of a fresh heap.
+fn told_of_three(alloc: Global) -> Option<([bool; 2], u64)> {
+    let (shared, mut helper) = nine_objects(alloc)?;
+    Some(tell_of_three(&shared, &mut helper))
+}
+
 // The object was free twice, and the helper's steps changed no word.
 #[test]
-fn witnesses_are_heard(rt: HostRuntime) -> Result<(), Fail> {
-    let (shared, mut helper) = nine_objects(rt.alloc()).ok_or(AllocError)?;
-    let mut a = deal(&shared, &mut helper);
-    let mut b = deal(&shared, &mut helper);
-    let mut c = deal(&shared, &mut helper);
-    let found = take_and_tell(&shared, &mut helper, &mut a, &mut b, &mut c);
-    assert_eq!(rt; found, ([true; 2], 33_554_432));
-    Ok(())
+fn witnesses_are_heard(rt: HostRuntime) {
+    assert!(rt; told_of_three(rt.alloc()) == Some(([true; 2], 33_554_432)));
 }

@@ -1,17 +1,17 @@
 //! The words that steps leave, as they are worked out in `docs/FORMAT.md`.
 
 ghost use Rattle.std.specs.Prelude.{◌≡◌, ◌<◌};
+ghost use Rattle.monitor.specs.Seats.{IsHelperOf};
 ghost use Rattle.monitor.specs.Words.{objects};
 ghost use Rattle.one_monitor.specs.Idle.{IsIdle};
 
 use heap_model::{Lane, ObjectId};
-use monitor::{Seat, Shared};
+use monitor::{HelperSeat, Seat, Shared};
 use one_monitor::{
-    begin_wait, deal, fatten, is_in_set, leave, nest_to, nine_objects, try_enter, try_return, wake,
-    words_of,
+    begin_wait, deal, fatten, is_in_set, leave, nest_to, nine_objects, take_often, try_enter,
+    try_return, wake, words_of,
 };
-use std::alloc::AllocError;
-use std::test::Fail;
+use std::alloc::Global;
 
 const OBJECT: ObjectId = ObjectId(0);
 
@@ -53,18 +53,14 @@ fn try_word(shared: &Shared, seat: &mut Seat) -> Option<u64>
     }
 }
 
-// Takes the object, inflates it where that is asked for, and leaves it.
-fn take_and_leave(shared: &Shared, seat: &mut Seat, object: ObjectId, is_fat: bool)
+// Takes the object, inflates it, and leaves it.
+fn inflate_once(shared: &Shared, seat: &mut Seat, object: ObjectId)
     requires seat { IsIdle shared.now seat.old }
     requires heap { (object.0 < objects shared.now.plan) × (1000 < shared.now.plan.last) }
     ensures idle { IsIdle shared.now seat.new }
 {
     if let Ok(grip) = try_enter(shared, seat, object) {
-        let grip = if is_fat {
-            fatten(shared, seat, grip)
-        } else {
-            grip
-        };
+        let grip = fatten(shared, seat, grip);
         leave(shared, seat, grip);
     }
 }
@@ -76,18 +72,7 @@ fn use_slots(shared: &Shared, seat: &mut Seat)
     ensures idle { IsIdle shared.now seat.new }
 {
     for other in 1u32..6 {
-        take_and_leave(shared, seat, ObjectId(other), true);
-    }
-}
-
-// The object becomes free 7 times.
-fn free_often(shared: &Shared, seat: &mut Seat)
-    requires seat { IsIdle shared.now seat.old }
-    requires heap { (0 < objects shared.now.plan) × (1000 < shared.now.plan.last) }
-    ensures idle { IsIdle shared.now seat.new }
-{
-    for _ in 0..7 {
-        take_and_leave(shared, seat, OBJECT, false);
+        inflate_once(shared, seat, ObjectId(other));
     }
 }
 
@@ -145,47 +130,89 @@ fn wait_and_wake(
     Some((woken, waiting, held, words_of(shared, b, OBJECT)))
 }
 
+// What `fill_count` answers of two threads, and the word that the second one meets when it tries to take the object at last.
+fn count_by_two(
+    shared: &Shared,
+    helper: &mut HelperSeat,
+) -> Option<((Words, Words, u64, Words), Option<u64>)>
+    requires helper { IsHelperOf shared.now helper.old × (helper.old.next ≡ 0) }
+    requires heap { (0 < objects shared.now.plan) × (1000 < shared.now.plan.last) }
+{
+    let mut a = deal(shared, helper);
+    let mut b = deal(shared, helper);
+    let found = fill_count(shared, &mut a, &mut b);
+    let met = try_word(shared, &mut b);
+    match found {
+        Some(words) => Some((words, met)),
+        None => None,
+    }
+}
+
+// The same of a fresh heap.
+fn told_of_count(alloc: Global) -> Option<((Words, Words, u64, Words), Option<u64>)> {
+    let (shared, mut helper) = nine_objects(alloc)?;
+    count_by_two(&shared, &mut helper)
+}
+
 // 256 locks fill the thin word of the first thread, and the 257th needs a slot, which is the first. 257 exits free the
 // object, once, and then another may take it.
 #[test]
-fn a_full_count_inflates(rt: HostRuntime) -> Result<(), Fail> {
-    let (shared, mut helper) = nine_objects(rt.alloc()).ok_or(AllocError)?;
-    let mut a = deal(&shared, &mut helper);
-    let mut b = deal(&shared, &mut helper);
-    let found = fill_count(&shared, &mut a, &mut b);
+fn a_full_count_inflates(rt: HostRuntime) {
     let fat = (8_388_608, Some(65_537));
     let free = (8_388_608, Some(16_777_216));
-    assert_eq!(rt; found, Some(((511, None), fat, 65_537, free)));
-    assert_eq!(rt; try_word(&shared, &mut b), None);
-    Ok(())
+    let words = ((511, None), fat, 65_537, free);
+    assert!(rt; told_of_count(rt.alloc()) == Some((words, None)));
+}
+
+// Five objects take a slot each, and the object becomes free 7 times. Then a third thread fills and inflates it.
+fn slots_of_three(shared: &Shared, helper: &mut HelperSeat) -> Option<(Words, Words)>
+    requires helper { IsHelperOf shared.now helper.old × (helper.old.next ≡ 0) }
+    requires heap { (objects shared.now.plan ≡ 9) × (1000 < shared.now.plan.last) }
+{
+    let mut a = deal(shared, helper);
+    let mut b = deal(shared, helper);
+    let mut c = deal(shared, helper);
+    use_slots(shared, &mut a);
+    take_often(shared, &mut b, OBJECT, 7);
+    fill_and_inflate(shared, &mut c, &mut a)
+}
+
+// The same of a fresh heap.
+fn told_of_slots(alloc: Global) -> Option<(Words, Words)> {
+    let (shared, mut helper) = nine_objects(alloc)?;
+    slots_of_three(&shared, &mut helper)
 }
 
 // The third thread holds an object, which has become free 7 times, by 256 locks; then it takes the sixth slot.
 #[test]
-fn words_have_thread_number_and_slot(rt: HostRuntime) -> Result<(), Fail> {
-    let (shared, mut helper) = nine_objects(rt.alloc()).ok_or(AllocError)?;
-    let mut a = deal(&shared, &mut helper);
-    let mut b = deal(&shared, &mut helper);
-    let mut c = deal(&shared, &mut helper);
-    use_slots(&shared, &mut a);
-    free_often(&shared, &mut b);
-    let found = fill_and_inflate(&shared, &mut c, &mut a);
-    let Some((thin, fat)) = found else {
-        return Err(Fail::new("not free"));
-    };
-    assert_eq!(rt; thin, (117_441_535, None));
-    assert_eq!(rt; fat.0, 125_829_125);
-    Ok(())
+fn words_have_thread_number_and_slot(rt: HostRuntime) {
+    let (thin, fat) = told_of_slots(rt.alloc()).unwrap_or(((0, None), (0, None)));
+    assert!(rt; (thin, fat.0) == ((117_441_535, None), 125_829_125));
+}
+
+// What `wait_and_wake` answers of two threads.
+fn wait_by_two(
+    shared: &Shared,
+    helper: &mut HelperSeat,
+) -> Option<(Option<Lane>, Words, u64, Words)>
+    requires helper { IsHelperOf shared.now helper.old × (helper.old.next ≡ 0) }
+    requires heap { (0 < objects shared.now.plan) × (1000 < shared.now.plan.last) }
+{
+    let mut a = deal(shared, helper);
+    let mut b = deal(shared, helper);
+    wait_and_wake(shared, &mut a, &mut b)
+}
+
+// The same of a fresh heap.
+fn told_of_wait(alloc: Global) -> Option<(Option<Lane>, Words, u64, Words)> {
+    let (shared, mut helper) = nine_objects(alloc)?;
+    wait_by_two(&shared, &mut helper)
 }
 
 #[test]
-fn a_wait_is_notified(rt: HostRuntime) -> Result<(), Fail> {
-    let (shared, mut helper) = nine_objects(rt.alloc()).ok_or(AllocError)?;
-    let mut a = deal(&shared, &mut helper);
-    let mut b = deal(&shared, &mut helper);
-    let found = wait_and_wake(&shared, &mut a, &mut b);
+fn a_wait_is_notified(rt: HostRuntime) {
     let waiting = (8_388_608, Some(16_777_216));
     let last = (8_388_608, Some(50_331_648));
-    assert_eq!(rt; found, Some((Some(Lane(0)), waiting, 16_777_218, last)));
-    Ok(())
+    let told = (Some(Lane(0)), waiting, 16_777_218, last);
+    assert!(rt; told_of_wait(rt.alloc()) == Some(told));
 }
