@@ -52,9 +52,10 @@ fn an_image_is_made_shown_drawn_and_dumped(rt: HostRuntime) {
     assert!(rt; has_schema(&rt));
 }
 
-// A control is committed.
+// A control is committed, each time.
 const RECOVERED: &[Line] = &[
     (FORMAT, Some("recovered"), "", Does::Change(FORMATTED)),
+    (&["recover"], Some("recovered"), "", Does::Change(REPORT)),
     (&["recover"], Some("recovered"), "", Does::Change(REPORT)),
 ];
 

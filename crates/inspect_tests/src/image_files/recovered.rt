@@ -13,82 +13,68 @@ use std::alloc::Global;
 use std::io::Write;
 use std::{fs, io};
 
-const NOTHING_UNDONE: &[u8] = b"kept 0 0
-undone 0
-heap 10 20
-";
+// What a word of the program asks of an image file.
+#[derive(Clone, Copy)]
+enum Ask {
+    Show,
+    Draw,
+    Recover,
+    Upgrade,
+}
 
-// What a word of the program answers, and whether it writes these lines.
-type Answer = (Result<(), ImageFault>, bool);
-
-// The same of dumping an image.
-type Dumped = (Result<(), NamedFault>, bool);
-
-// Recovers the file, if its image is of one of these versions.
-fn recover_of(rt: &HostRuntime, versions: Versions, image: &str, lines: &[u8]) -> Answer {
-    let mut writer = Vec::new(rt.alloc());
+// What is answered.
+fn answer(rt: &HostRuntime, ask: Ask, image: &str, out: &mut Vec<u8>) -> Result<(), ImageFault> {
+    let alloc = rt.alloc();
     let trouble = Trouble::none();
-    let answer = recover_file(rt, rt.alloc(), &trouble, versions, image, &mut writer);
-    (answer, writer.as_slice() == lines)
+    match ask {
+        Ask::Show => show_file(rt, alloc, &trouble, image, out),
+        Ask::Draw => draw_file(rt, alloc, &trouble, image, out),
+        Ask::Recover => recover_file(rt, alloc, &trouble, Versions::Current, image, out),
+        Ask::Upgrade => recover_file(rt, alloc, &trouble, Versions::Both, image, out),
+    }
 }
 
-fn recover_there(rt: &HostRuntime, image: &str, lines: &[u8]) -> Answer {
-    recover_of(rt, Versions::Current, image, lines)
+// Whether it is answered that, and these lines are written.
+fn is_answered(
+    rt: &HostRuntime,
+    ask: Ask,
+    image: &str,
+    wanted: Result<(), ImageFault>,
+    lines: &[u8],
+) -> bool {
+    let mut out = Vec::new(rt.alloc());
+    let answered = answer(rt, ask, image, &mut out);
+    answered == wanted && out.as_slice() == lines
 }
 
-fn upgrade_there(rt: &HostRuntime, image: &str, lines: &[u8]) -> Answer {
-    recover_of(rt, Versions::Both, image, lines)
+// What is asked of an image file, one after the other, and the lines that are written.
+type Told = (Ask, &'static [u8]);
+
+// The first of these that isn't told.
+fn first_untold(rt: &HostRuntime, image: &str, told: &[Told]) -> Option<usize> {
+    for (place, (ask, lines)) in told.iter().enumerate() {
+        if !is_answered(rt, *ask, image, Ok(()), lines) {
+            return Some(place);
+        }
+    }
+    None
 }
 
-fn show_there(rt: &HostRuntime, image: &str, lines: &[u8]) -> Answer {
-    let mut writer = Vec::new(rt.alloc());
-    let answer = show_file(rt, rt.alloc(), &Trouble::none(), image, &mut writer);
-    (answer, writer.as_slice() == lines)
+// Whether the file is refused for this reason by all three words, which write nothing.
+fn are_refused(rt: &HostRuntime, image: &str, why: RecoverError) -> bool {
+    let refused = Err(ImageFault::Image(why));
+    is_answered(rt, Ask::Recover, image, refused, b"")
+        && is_answered(rt, Ask::Show, image, refused, b"")
+        && is_answered(rt, Ask::Draw, image, refused, b"")
 }
 
-fn draw_there(rt: &HostRuntime, image: &str, lines: &[u8]) -> Answer {
-    let mut writer = Vec::new(rt.alloc());
-    let answer = draw_file(rt, rt.alloc(), &Trouble::none(), image, &mut writer);
-    (answer, writer.as_slice() == lines)
-}
+// What is answered to dumping an image by the names of a schema file, if one is given, and whether these lines are written.
+type Dumped = (Result<(), NamedFault>, bool);
 
 fn dump_there(rt: &HostRuntime, image: &str, schema: Option<&str>, lines: &[u8]) -> Dumped {
     let mut writer = Vec::new(rt.alloc());
     let answer = dump_file(rt, rt.alloc(), &Trouble::none(), image, schema, &mut writer);
     (answer, writer.as_slice() == lines)
-}
-
-// What is answered where a file is made and shown with these lines, then recovered twice; and to drawing it.
-fn file_round_there(
-    rt: &HostRuntime,
-    lines: &[u8],
-) -> Option<
-    (
-        (Result<(), FormatError>, bool),
-        [Answer; 3],
-        Result<(), ImageFault>,
-    ),
-> {
-    fs::write(rt, "schema", SCHEMA).ok()?;
-    let made = format_there(rt, "round", "schema", b"formatted 130208\n");
-    let shown = show_there(rt, "round", lines);
-    let first = recover_there(rt, "round", NOTHING_UNDONE);
-    let again = recover_there(rt, "round", NOTHING_UNDONE);
-    let (drawn, _) = draw_there(rt, "round", b"");
-    Some((made, [shown, first, again], drawn))
-}
-
-#[test]
-fn file_round(rt: HostRuntime) {
-    let lines = b"image lanes 2 capacity 4000 objects 4 fields 2 size 130208
-control a sequence 1 version 2
-lane t1 start 0 settled 0 logged 0 kept 0
-lane t2 start 0 settled 0 logged 0 kept 0
-cut 0 0
-heap 10 20
-";
-    let wanted = ((Ok(()), true), [(Ok(()), true); 3], Ok(()));
-    assert!(rt; file_round_there(&rt, lines) == Some(wanted));
 }
 
 fn schema_there(rt: &HostRuntime) -> Option<Schema> {
@@ -116,12 +102,6 @@ fn store_there(rt: &HostRuntime) -> Option<Store<MemDisk>> {
     store_of(rt.alloc(), &schema)
 }
 
-// What a crash behind the last call leaves of the disk.
-fn left_by(disk: &MemDisk) -> Option<MemDisk> {
-    disk.crash_image(disk.stops().saturating_add(1), Fill::Lost)
-        .ok()?
-}
-
 fn acq(object: u32, number: u64) -> Record {
     Record::Acq {
         object: ObjectId(object),
@@ -144,10 +124,9 @@ fn put(before: u64, after: u64) -> Record {
     }
 }
 
-// What a crash leaves where a section drags another along: the first thread frees the guard, but not its other monitor,
-// and the second one takes it.
-fn crashed(rt: &HostRuntime) -> Option<MemDisk> {
-    let calls = [
+// The first thread frees the guard, but not its other monitor, and the second one takes it: a section drags another along.
+fn dragging() -> [StoreCall; 11] {
+    [
         StoreCall::Apply(Lane(0), acq(0, 0)),
         StoreCall::Apply(Lane(0), acq(1, 0)),
         StoreCall::Apply(Lane(0), put(10, 1)),
@@ -159,26 +138,53 @@ fn crashed(rt: &HostRuntime) -> Option<MemDisk> {
         StoreCall::Home,
         StoreCall::Home,
         StoreCall::Settle,
-    ];
-    let mut store = store_there(rt)?;
-    store.play(&calls).ok()?;
+    ]
+}
+
+// What a crash behind the last of these calls leaves of the store's disk.
+fn left_by(store: Store<MemDisk>, calls: &[StoreCall]) -> Option<MemDisk> {
+    let mut store = store;
+    let is_played = store.play(calls).is_ok();
     let disk = store.into_disk();
-    disk.crash_image(disk.stops().saturating_add(1), Fill::Lost)
-        .ok()?
+    match disk.crash_image(disk.stops().saturating_add(1), Fill::Lost) {
+        Ok(image) if is_played => image,
+        _ => None,
+    }
 }
 
-// What is answered where that is shown with these lines and recovered with those; and recovered once more.
-fn told_of_crashed(rt: &HostRuntime, lines: &[u8], report: &[u8]) -> Option<[Answer; 3]> {
-    fs::write(rt, "crashed", crashed(rt)?.bytes()).ok()?;
-    let shown = show_there(rt, "crashed", lines);
-    let recovered = recover_there(rt, "crashed", report);
-    let again = recover_there(rt, "crashed", NOTHING_UNDONE);
-    Some([shown, recovered, again])
+// What a crash leaves where a section drags another along.
+fn crashed(rt: &HostRuntime) -> Option<MemDisk> {
+    match store_there(rt) {
+        Some(store) => left_by(store, &dragging()),
+        None => None,
+    }
 }
 
-#[test]
-fn a_crashed_file_is_shown_and_recovered(rt: HostRuntime) {
-    let lines = b"image lanes 2 capacity 4000 objects 4 fields 2 size 130208
+// Writes its bytes into a file.
+fn write_crashed(rt: &HostRuntime, image: &str) -> bool {
+    match crashed(rt) {
+        Some(disk) => fs::write(rt, image, disk.bytes()).is_ok(),
+        None => false,
+    }
+}
+
+// What is written of it where it is recovered, and where that is done again.
+const REPORT: &[u8] = b"kept 0 0
+dropped t1 1 unfinished
+dropped t2 1 after t1 1
+undone 1
+heap 10 20
+";
+
+const NOTHING_UNDONE: &[u8] = b"kept 0 0
+undone 0
+heap 10 20
+";
+
+const CRASHED: &[Told] = &[
+    (
+        Ask::Show,
+        b"image lanes 2 capacity 4000 objects 4 fields 2 size 130208
 control a sequence 3 version 2
 lane t1 start 0 settled 0 logged 4 kept 0
 lane t2 start 0 settled 0 logged 3 kept 0
@@ -187,40 +193,42 @@ section t2 1 whole records 3
 depends t2 1 on t1 1 object 0 number 1
 cut 0 0
 heap 10 20
-";
-    let report = b"kept 0 0
-dropped t1 1 unfinished
-dropped t2 1 after t1 1
-undone 1
-heap 10 20
-";
-    assert!(rt; told_of_crashed(&rt, lines, report) == Some([(Ok(()), true); 3]));
-}
-
-// The same where its controls have version 1: what is answered to recovering it, and whether that leaves each byte; to showing it with
-// these lines; to upgrading it with that report; and then to showing and to recovering it.
-fn told_of_old(
-    rt: &HostRuntime,
-    lines: &[u8],
-    report: &[u8],
-    later: &[u8],
-) -> Option<([Answer; 5], bool)> {
-    let mut bytes = crashed(rt)?.bytes().to_vec(rt.alloc()).ok()?;
-    *bytes.get_mut(83)? = 1;
-    *bytes.get_mut(1131)? = 1;
-    fs::write(rt, "old", &bytes).ok()?;
-    let refused = recover_there(rt, "old", b"");
-    let is_left = has(rt, "old", &bytes);
-    let shown = show_there(rt, "old", lines);
-    let upgraded = upgrade_there(rt, "old", report);
-    let shown_later = show_there(rt, "old", later);
-    let recovered = recover_there(rt, "old", NOTHING_UNDONE);
-    Some(([refused, shown, upgraded, shown_later, recovered], is_left))
-}
+",
+    ),
+    (Ask::Recover, REPORT),
+    (Ask::Recover, NOTHING_UNDONE),
+];
 
 #[test]
-fn an_old_file_is_shown_and_upgraded(rt: HostRuntime) {
-    let lines = b"image lanes 2 capacity 4000 objects 4 fields 2 size 130208
+fn a_crashed_file_is_shown_and_recovered(rt: HostRuntime) {
+    assert!(rt; write_crashed(&rt, "crashed"));
+    assert!(rt; first_untold(&rt, "crashed", CRASHED).is_none());
+}
+
+// Makes the file's controls those of version 1. Answers its bytes then.
+fn make_old(rt: &HostRuntime, image: &str) -> Option<Vec<u8>> {
+    let mut bytes = fs::read(rt, image).ok()?;
+    *bytes.get_mut(83)? = 1;
+    *bytes.get_mut(1131)? = 1;
+    fs::write(rt, image, bytes.as_slice()).ok()?;
+    Some(bytes)
+}
+
+// Whether such a file isn't recovered, and keeps each byte.
+fn is_old_refused(rt: &HostRuntime, image: &str) -> bool {
+    match make_old(rt, image) {
+        Some(bytes) => {
+            let refused = Err(ImageFault::Image(RecoverError::OldVersion));
+            is_answered(rt, Ask::Recover, image, refused, b"") && has(rt, image, &bytes)
+        }
+        None => false,
+    }
+}
+
+const OLD: &[Told] = &[
+    (
+        Ask::Show,
+        b"image lanes 2 capacity 4000 objects 4 fields 2 size 130208
 control a sequence 3 version 1
 lane t1 start 0 settled 0 logged 4 kept 0
 lane t2 start 0 settled 0 logged 3 kept 0
@@ -229,42 +237,27 @@ section t2 1 whole records 3
 depends t2 1 on t1 1 object 0 number 1
 cut 0 0
 heap 10 20
-";
-    let report = b"kept 0 0
-dropped t1 1 unfinished
-dropped t2 1 after t1 1
-undone 1
-heap 10 20
-";
-    let later = b"image lanes 2 capacity 4000 objects 4 fields 2 size 130208
+",
+    ),
+    (Ask::Upgrade, REPORT),
+    (
+        Ask::Show,
+        b"image lanes 2 capacity 4000 objects 4 fields 2 size 130208
 control b sequence 4 version 2
 lane t1 start 0 settled 0 logged 0 kept 0
 lane t2 start 0 settled 0 logged 0 kept 0
 cut 0 0
 heap 10 20
-";
-    let refused = (Err(ImageFault::Image(RecoverError::OldVersion)), true);
-    let wanted = [
-        refused,
-        (Ok(()), true),
-        (Ok(()), true),
-        (Ok(()), true),
-        (Ok(()), true),
-    ];
-    assert!(rt; told_of_old(&rt, lines, report, later) == Some((wanted, true)));
-}
+",
+    ),
+    (Ask::Recover, NOTHING_UNDONE),
+];
 
-// Whether a file of these bytes is refused for this reason by all three words, which write nothing, and keeps its bytes.
-fn is_refused(rt: &HostRuntime, bytes: &[u8], why: RecoverError) -> bool {
-    if fs::write(rt, "refused", bytes).is_err() {
-        return false;
-    }
-    let answers = [
-        recover_there(rt, "refused", b""),
-        show_there(rt, "refused", b""),
-        draw_there(rt, "refused", b""),
-    ];
-    answers == [(Err(ImageFault::Image(why)), true); 3] && has(rt, "refused", bytes)
+#[test]
+fn an_old_file_is_shown_and_upgraded(rt: HostRuntime) {
+    assert!(rt; write_crashed(&rt, "old"));
+    assert!(rt; is_old_refused(&rt, "old"));
+    assert!(rt; first_untold(&rt, "old", OLD).is_none());
 }
 
 // Whether the file has these bytes.
@@ -275,66 +268,78 @@ fn has(rt: &HostRuntime, name: &str, bytes: &[u8]) -> bool {
     }
 }
 
-// A place, the byte that is put there, and what it is refused for.
-type Case = (usize, u8, RecoverError);
+// Whether a file of these bytes is refused for this reason by all three words, and keeps its bytes.
+fn is_refused(rt: &HostRuntime, bytes: &[u8], why: RecoverError) -> bool {
+    fs::write(rt, "refused", bytes).is_ok()
+        && are_refused(rt, "refused", why)
+        && has(rt, "refused", bytes)
+}
 
-// Whether the image with this byte is refused so.
-fn is_change_refused(rt: &HostRuntime, image: &MemDisk, case: Case) -> Option<bool> {
-    let (at, value, why) = case;
-    let mut bytes = image.bytes().to_vec(rt.alloc()).ok()?;
+// A place, the byte that is put there, and what it is refused for: the header's gate, its lanes, the version of the control, the first
+// row's mark, and the first thread's first record.
+const CHANGES: &[(usize, u8, RecoverError)] = &[
+    (8, 0, RecoverError::NotFormatted),
+    (9, 33, RecoverError::BadHeader),
+    (83, 3, RecoverError::BadControl),
+    (2164, 2, RecoverError::BadHeader),
+    (
+        2208,
+        9,
+        RecoverError::BadRecord {
+            lane: Lane(0),
+            place: 0,
+        },
+    ),
+];
+
+// These bytes with this one changed.
+fn changed(alloc: Global, bytes: &[u8], at: usize, value: u8) -> Option<Vec<u8>> {
+    let mut bytes = bytes.to_vec(alloc).ok()?;
     *bytes.get_mut(at)? = value;
-    Some(is_refused(rt, &bytes, why))
+    Some(bytes)
 }
 
-// The first of these changes that isn't refused so.
-fn first_other(rt: &HostRuntime, image: &MemDisk, cases: &[Case]) -> Option<usize> {
-    cases
-        .iter()
-        .position(|case| is_change_refused(rt, image, *case) != Some(true))
+// The first of these changes for which the image isn't refused so.
+fn first_other(rt: &HostRuntime, image: &[u8]) -> Option<usize> {
+    for (place, (at, value, why)) in CHANGES.iter().enumerate() {
+        let is_so = match changed(rt.alloc(), image, *at, *value) {
+            Some(bytes) => is_refused(rt, &bytes, *why),
+            None => false,
+        };
+        if !is_so {
+            return Some(place);
+        }
+    }
+    None
 }
 
-// Whether a short image is refused and an empty one, and the first of these changes that isn't.
-fn told_of_refused(rt: &HostRuntime, cases: &[Case]) -> Option<([bool; 2], Option<usize>)> {
-    let image = crashed(rt)?;
-    let cut_short = image.bytes().get(..130_207)?;
-    let small = [
-        is_refused(rt, cut_short, RecoverError::TooSmall),
-        is_refused(rt, b"", RecoverError::NotFormatted),
-    ];
-    Some((small, first_other(rt, &image, cases)))
+// Whether a short image is refused, and each of these changes.
+fn are_all_refused(rt: &HostRuntime, image: &[u8]) -> [bool; 2] {
+    let is_short_refused = match image.get(..130_207) {
+        Some(short) => is_refused(rt, short, RecoverError::TooSmall),
+        None => false,
+    };
+    [is_short_refused, first_other(rt, image).is_none()]
 }
 
-// The header's gate, its lanes, the version of the control, the first row's mark, and the first thread's first record.
+// The same of the crashed image.
+fn are_crashed_refused(rt: &HostRuntime) -> Option<[bool; 2]> {
+    match crashed(rt) {
+        Some(disk) => Some(are_all_refused(rt, disk.bytes())),
+        None => None,
+    }
+}
+
 #[test]
 fn a_refused_file_keeps_each_byte(rt: HostRuntime) {
-    let bad_record = RecoverError::BadRecord {
-        lane: Lane(0),
-        place: 0,
-    };
-    let cases = [
-        (8, 0, RecoverError::NotFormatted),
-        (9, 33, RecoverError::BadHeader),
-        (83, 3, RecoverError::BadControl),
-        (2164, 2, RecoverError::BadHeader),
-        (2208, 9, bad_record),
-    ];
-    assert!(rt; told_of_refused(&rt, &cases) == Some(([true; 2], None)));
-}
-
-// What the three words answer, and whether there is no file then.
-fn told_of_missing(rt: &HostRuntime) -> ([Answer; 3], bool) {
-    let answers = [
-        recover_there(rt, "missing", b""),
-        show_there(rt, "missing", b""),
-        draw_there(rt, "missing", b""),
-    ];
-    (answers, fs::metadata(rt, "missing").is_err())
+    assert!(rt; is_refused(&rt, b"", RecoverError::NotFormatted));
+    assert!(rt; are_crashed_refused(&rt) == Some([true; 2]));
 }
 
 #[test]
 fn a_missing_file_is_a_fault(rt: HostRuntime) {
-    let fault = (Err(ImageFault::Image(RecoverError::Fault)), true);
-    assert!(rt; told_of_missing(&rt) == ([fault; 3], true));
+    assert!(rt; are_refused(&rt, "missing", RecoverError::Fault));
+    assert!(rt; fs::metadata(&rt, "missing").is_err());
 }
 
 // Takes a line, and then fails.
@@ -357,28 +362,27 @@ impl Write for OneLine {
     }
 }
 
-// What is answered where the writer fails behind a line, to showing and to recovering; whether that line is the first of the
-// report; and what is answered to recovering it again.
-fn told_of_half(rt: &HostRuntime) -> Option<([Result<(), ImageFault>; 2], bool, Answer)> {
-    fs::write(rt, "half_told", crashed(rt)?.bytes()).ok()?;
+// What is answered where the writer fails behind a line, to showing and to recovering; and whether that line is the first of the report.
+fn told_of_half(rt: &HostRuntime, image: &str) -> ([Result<(), ImageFault>; 2], bool) {
     let mut writer = OneLine {
         taken: Vec::new(rt.alloc()),
     };
-    let shown = show_file(rt, rt.alloc(), &Trouble::none(), "half_told", &mut writer);
-    writer.taken.clear();
     let trouble = Trouble::none();
+    let shown = show_file(rt, rt.alloc(), &trouble, image, &mut writer);
+    writer.taken.clear();
     let versions = Versions::Current;
-    let recovered = recover_file(rt, rt.alloc(), &trouble, versions, "half_told", &mut writer);
+    let recovered = recover_file(rt, rt.alloc(), &trouble, versions, image, &mut writer);
     let is_first = writer.taken.as_slice() == b"kept 0 0\n".as_slice();
-    let again = recover_there(rt, "half_told", NOTHING_UNDONE);
-    Some(([shown, recovered], is_first, again))
+    ([shown, recovered], is_first)
 }
 
 // The image is recovered all the same.
 #[test]
 fn a_writer_that_fails_is_a_fault(rt: HostRuntime) {
+    assert!(rt; write_crashed(&rt, "half_told"));
     let faults = [Err(ImageFault::Image(RecoverError::Fault)); 2];
-    assert!(rt; told_of_half(&rt) == Some((faults, true, (Ok(()), true))));
+    assert!(rt; told_of_half(&rt, "half_told") == (faults, true));
+    assert!(rt; is_answered(&rt, Ask::Recover, "half_told", Ok(()), NOTHING_UNDONE));
 }
 
 // What is answered to dumping the crashed image with the names of this schema file, and to making an image of what is dumped, with
@@ -388,7 +392,6 @@ fn told_of_dumped(
     lines: &[u8],
     more: &[u8],
 ) -> Option<([Dumped; 2], (Result<(), FormatError>, bool))> {
-    fs::write(rt, "dumped", crashed(rt)?.bytes()).ok()?;
     let first = dump_there(rt, "dumped", Some("schema"), lines);
     fs::write(rt, "larger_schema", more).ok()?;
     let made = format_there(rt, "larger", "larger_schema", b"formatted 130232\n");
@@ -414,12 +417,12 @@ field f1 o1 o1 20
 transient f2 o2 o2 30
 ";
     let wanted = ([(Ok(()), true); 2], (Ok(()), true));
+    assert!(rt; write_crashed(&rt, "dumped"));
     assert!(rt; told_of_dumped(&rt, lines, more) == Some(wanted));
 }
 
 // What is answered to dumping an image by numbers, by the names of a schema file that isn't its own, and of one that is refused.
 fn told_of_names(rt: &HostRuntime, lines: &[u8]) -> Option<[Dumped; 3]> {
-    fs::write(rt, "named", crashed(rt)?.bytes()).ok()?;
     fs::write(rt, "another_schema", "object a\nfield f a a 1\n").ok()?;
     fs::write(rt, "no_schema", "object a\nobject a\n").ok()?;
     Some([
@@ -440,5 +443,6 @@ fn names_are_those_of_the_image(rt: HostRuntime) {
         (Err(NamedFault::OtherSchema), true),
         (Err(NamedFault::Schema(fault)), true),
     ];
+    assert!(rt; write_crashed(&rt, "named"));
     assert!(rt; told_of_names(&rt, SCHEMA.as_bytes()) == Some(wanted));
 }
