@@ -220,10 +220,7 @@ module _ {D : Type 0} (device : D → Device) where
   image_with : (workers : ℕ) (old new : Device) (e : ImageError) → length old.now.bytes ≡ size_of (layout_with (schema_of workers) workers 4000)
       → RefusesFormat (schema_of workers) workers 4000 old new e → RefusesWith device workers (Image e)
   image_with workers old new images.Fault size refused = refused.0
-  image_with workers old new images.NotFormatted size refused = elim refused [ ]
   image_with workers old new images.BadHeader size refused = refused.0
-  image_with workers old new images.NoControl size refused = elim refused [ ]
-  image_with workers old new images.BadControl size refused = elim refused [ ]
   image_with workers old new images.Worn size refused = elim refused [ ]
   image_with workers old new images.TooSmall size refused = let small = refused.1 in omega (arith, size, small)
   image_with workers old new images.NoMemory size refused = refused.0

@@ -11,8 +11,8 @@ use Rattle.image.specs.declared.layout.Layout.{Layout}
 use Rattle.image.specs.declared.control.Control.{Control}
 use Rattle.image.specs.declared.slot.Slot.{Slot}
 use Rattle.image.specs.declared.slot.Slot.TheVariants.{A, B}
-use Rattle.image.specs.declared.error.ImageError.{ImageError}
-use Rattle.image.specs.declared.error.ImageError.TheVariants.{Fault, NotFormatted, BadHeader, NoControl, BadControl, Worn, TooSmall, NoMemory}
+use Rattle.image.specs.declared.error.ControlError.{ControlError}
+use Rattle.image.specs.declared.error.ControlError.TheVariants.{Fault, NoControl, BadControl}
 use Rattle.image.proofs.Commits.{sequence_spelled}
 use Rattle.image.specs.Choice.{Picks, HeadOf}
 
@@ -35,15 +35,10 @@ equal_none : (l : Layout) (image : List ℕ) → ((s : Slot) → gate s image �
 equal_none l image gates same A c shows = absurd (omega (arith, shows.greater (gates B), sequence_spelled l (body A image) c shows.spells))
 equal_none l image gates same B c shows = absurd (omega (arith, shows.greater (gates A), sequence_spelled l (body B image) c shows.spells))
 
-pub refused : (l : Layout) (image : List ℕ) (e : ImageError) → Picks image (Err e) → Chooses l image (Err e)
+pub refused : (l : Layout) (image : List ℕ) (e : ControlError) → Picks image (Err e) → Chooses l image (Err e)
 refused l image Fault picks = tt
 refused l image NoControl picks = picks
 refused l image BadControl picks = ((A, picks.0 A), equal_none l image picks.0 picks.1)
-refused l image NotFormatted picks = picks
-refused l image BadHeader picks = picks
-refused l image Worn picks = picks
-refused l image TooSmall picks = picks
-refused l image NoMemory picks = picks
 
 pub none_spelled : (l : Layout) (image : List ℕ) (s : Slot) → Picks image (Ok s) → ((c : Control) → Spells l (body s image) c → ⊥) → (t : Slot) (c : Control) → Shows l image t c → ⊥
 none_spelled l image A picks none A c shows = none c shows.spells

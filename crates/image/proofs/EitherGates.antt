@@ -10,7 +10,7 @@ use Rattle.block_disk.proofs.Ranges.{outside_wider}
 use Rattle.image.specs.Calls.{Call, after}
 use Rattle.image.specs.Choice.{HeadOf}
 use Rattle.image.specs.Commit.{IsSteady, OldOrDurable, OldOrTurned, body_calls, pending_calls, slots_range, turned_calls, turned_sequence, turning_calls}
-use Rattle.image.specs.Control.{AreRows, IsControl, Spells, control_bytes, control_of}
+use Rattle.image.specs.Control.{AreRows, Spells, control_bytes, control_of}
 use Rattle.image.specs.Slots.{other, slot_range, body_at, gate, body, sequence_of}
 use Rattle.image.specs.declared.choice.Head.{Head}
 use Rattle.image.specs.declared.control.Control.{Control}

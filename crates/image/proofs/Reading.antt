@@ -12,7 +12,8 @@ use Rattle.image.specs.Laws.{HeadersDiffer, ControlsDiffer, HeaderIsRead, Contro
 use Rattle.image.specs.Layout.{size_of}
 use Rattle.image.specs.Slots.{Shows, body}
 use Rattle.image.specs.declared.control.Control.{Control}
-use Rattle.image.specs.declared.error.ImageError.TheVariants.{Fault, NotFormatted, BadHeader, NoControl, BadControl, Worn, TooSmall, NoMemory}
+use Rattle.image.specs.declared.error.ControlError.TheVariants as control
+use Rattle.image.specs.declared.error.HeaderError.TheVariants as header
 use Rattle.image.specs.declared.layout.Layout.{Layout}
 use Rattle.image.specs.declared.slot.Slot.{Slot}
 use Rattle.image.specs.declared.slot.Slot.TheVariants.{A, B}
@@ -39,16 +40,12 @@ formatted l image has = record { room = has.room; name = sym (part_part 0 9 0 64
 pub header_is_read : HeaderIsRead
 header_is_read l image (Ok m) has fits reads =
     let is = one_layout m l reads.0.limits has.limits (sym reads.0.spelled ∙ has.spelled) in inl (λ i. Ok (is i))
-header_is_read l image (Err Fault) has fits reads = inr refl
-header_is_read l image (Err NotFormatted) has fits reads = absurd (reads (formatted l image has))
-header_is_read l image (Err BadHeader) has fits reads = absurd (reads.1 l has)
-header_is_read l image (Err TooSmall) has fits reads =
+header_is_read l image (Err header.Fault) has fits reads = inr refl
+header_is_read l image (Err header.NotFormatted) has fits reads = absurd (reads (formatted l image has))
+header_is_read l image (Err header.BadHeader) has fits reads = absurd (reads.1 l has)
+header_is_read l image (Err header.TooSmall) has fits reads =
     let is = one_layout reads.0 l reads.1.limits has.limits (sym reads.1.spelled ∙ has.spelled) in
     absurd (omega (arith, reads.2, fits, ap size_of is))
-header_is_read l image (Err NoControl) has fits reads = absurd reads
-header_is_read l image (Err BadControl) has fits reads = absurd reads
-header_is_read l image (Err Worn) has fits reads = absurd reads
-header_is_read l image (Err NoMemory) has fits reads = absurd reads
 
 -- the slot and the control that show
 one_shows : (l : Layout) (image : List ℕ) (s t : Slot) (c d : Control) → Shows l image s c → Shows l image t d → (t ≡ s) × (d ≡ c)
@@ -61,14 +58,9 @@ one_shows l image B A c d p q =
 
 pub control_is_chosen : ControlIsChosen
 control_is_chosen l image s c (Ok found) shows chooses = let is = one_shows l image s found.0 c found.1 shows chooses in inl (λ i. Ok (is.0 i, is.1 i))
-control_is_chosen l image s c (Err Fault) shows chooses = inr refl
-control_is_chosen l image s c (Err NoControl) shows chooses = absurd (chooses s shows.is_open)
-control_is_chosen l image s c (Err BadControl) shows chooses = absurd (chooses.1 s c shows)
-control_is_chosen l image s c (Err NotFormatted) shows chooses = absurd chooses
-control_is_chosen l image s c (Err BadHeader) shows chooses = absurd chooses
-control_is_chosen l image s c (Err Worn) shows chooses = absurd chooses
-control_is_chosen l image s c (Err TooSmall) shows chooses = absurd chooses
-control_is_chosen l image s c (Err NoMemory) shows chooses = absurd chooses
+control_is_chosen l image s c (Err control.Fault) shows chooses = inr refl
+control_is_chosen l image s c (Err control.NoControl) shows chooses = absurd (chooses s shows.is_open)
+control_is_chosen l image s c (Err control.BadControl) shows chooses = absurd (chooses.1 s c shows)
 
 pub guards_are_read : GuardsAreRead
 guards_are_read l image rows others p q =

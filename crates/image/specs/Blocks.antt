@@ -5,8 +5,8 @@ use Rattle.block_disk.specs.Bytes.{part}
 use Rattle.image.specs.Guards.{SpellsGuard, HasGuard, HasGuards}
 use Rattle.image.specs.declared.layout.Layout.{Layout}
 use Rattle.image.specs.declared.guard_row.GuardRow.{GuardRow}
-use Rattle.image.specs.declared.error.ImageError.{ImageError}
-use Rattle.image.specs.declared.error.ImageError.TheVariants.{Fault, BadHeader}
+use Rattle.image.specs.declared.error.GuardsError.{GuardsError}
+use Rattle.image.specs.declared.error.GuardsError.TheVariants.{Fault, BadHeader, NoMemory}
 
 -- row i of these bytes
 abbrev pub HoldsRow : List ℕ → ℕ → GuardRow → Type 0
@@ -29,7 +29,7 @@ abbrev pub HasEach : Layout → ℕ → List ℕ → Type 0
 HasEach l n image = (f : ℕ) → f < n → (r : GuardRow) × HasGuard l f image r
 
 -- what a refusal to read a block says of the image
-abbrev pub RefusesBlock : Layout → List ℕ → ImageError → Type 0
+abbrev pub RefusesBlock : Layout → List ℕ → GuardsError → Type 0
 RefusesBlock l image Fault = Unit {0}
 RefusesBlock l image BadHeader = (rows : List GuardRow) → HasGuards l image rows → ⊥
-RefusesBlock l image _ = ⊥
+RefusesBlock l image NoMemory = ⊥

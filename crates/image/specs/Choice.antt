@@ -6,8 +6,8 @@ use Rattle.image.specs.Slots.{other, body_at, gate, body, sequence_of}
 use Rattle.image.specs.declared.slot.Slot.{Slot}
 use Rattle.image.specs.declared.slot.Slot.TheVariants.{A, B}
 use Rattle.image.specs.declared.choice.Head.{Head}
-use Rattle.image.specs.declared.error.ImageError.{ImageError}
-use Rattle.image.specs.declared.error.ImageError.TheVariants.{Fault, NoControl, BadControl}
+use Rattle.image.specs.declared.error.ControlError.{ControlError}
+use Rattle.image.specs.declared.error.ControlError.TheVariants.{Fault, NoControl, BadControl}
 
 -- what the first bytes of a slot say
 pub record HeadOf (image : List ℕ) (s : Slot) (h : Head) : Type 0 where
@@ -16,9 +16,8 @@ pub record HeadOf (image : List ℕ) (s : Slot) (h : Head) : Type 0 where
   pub spelled : to_be_bytes w64 h.sequence ≡ part (body_at s) 8 image
 
 -- what each answer says of the image: of the open slots, the one with the greater sequence
-abbrev pub Picks : List ℕ → Result Slot ImageError → Type 0
+abbrev pub Picks : List ℕ → Result Slot ControlError → Type 0
 Picks image (Ok s) = (gate s image ≡ 165) × (gate (other s) image ≡ 165 → sequence_of (body (other s) image) < sequence_of (body s image))
 Picks image (Err Fault) = Unit {0}
 Picks image (Err NoControl) = (s : Slot) → gate s image ≢ 165
 Picks image (Err BadControl) = ((s : Slot) → gate s image ≡ 165) × (sequence_of (body A image) ≡ sequence_of (body B image))
-Picks image (Err _) = ⊥

@@ -7,8 +7,8 @@ use Rattle.guards.specs.Schema.{Declarations, guard_of, owner_of, first_of, is_t
 use Rattle.image.specs.Layout.{guard_at}
 use Rattle.image.specs.declared.layout.Layout.{Layout}
 use Rattle.image.specs.declared.guard_row.GuardRow.{GuardRow}
-use Rattle.image.specs.declared.error.ImageError.{ImageError}
-use Rattle.image.specs.declared.error.ImageError.TheVariants.{Fault, BadHeader, NoMemory}
+use Rattle.image.specs.declared.error.GuardsError.{GuardsError}
+use Rattle.image.specs.declared.error.GuardsError.TheVariants.{Fault, BadHeader, NoMemory}
 
 -- the mark of a row
 abbrev pub mark_of : (transient : Bool) → ℕ
@@ -55,8 +55,7 @@ abbrev pub no_row : GuardRow
 no_row = record { guard = record { 0 = 0 }; owner = record { 0 = 0 }; first = 0; transient = false }
 
 -- what each refusal to read the guard rows says of the image; want of memory comes last
-abbrev pub RefusesGuards : Layout → List ℕ → ImageError → Type 0
+abbrev pub RefusesGuards : Layout → List ℕ → GuardsError → Type 0
 RefusesGuards l image Fault = Unit {0}
 RefusesGuards l image BadHeader = (rows : List GuardRow) → HasGuards l image rows → ⊥
 RefusesGuards l image NoMemory = (f : ℕ) → f < l.fields → (r : GuardRow) × HasGuard l f image r
-RefusesGuards l image _ = ⊥

@@ -4,8 +4,8 @@ use Rattle.std.specs.Int.{to_be_bytes, w32, w64}
 use Rattle.block_disk.specs.Bytes.{part}
 use Rattle.image.specs.Layout.{IsLayout, size_of}
 use Rattle.image.specs.declared.layout.Layout.{Layout}
-use Rattle.image.specs.declared.error.ImageError.{ImageError}
-use Rattle.image.specs.declared.error.ImageError.TheVariants.{Fault, NotFormatted, BadHeader, TooSmall}
+use Rattle.image.specs.declared.error.HeaderError.{HeaderError}
+use Rattle.image.specs.declared.error.HeaderError.TheVariants.{Fault, NotFormatted, BadHeader, TooSmall}
 
 -- `MONIHEAP` in ASCII
 abbrev pub name : List ℕ
@@ -28,10 +28,9 @@ pub record HasHeader (image : List ℕ) (l : Layout) : Type 0 where
   pub limits : IsLayout l
 
 -- what each answer of reading a header says of the image
-abbrev pub ReadsHeader : List ℕ → Result Layout ImageError → Type 0
+abbrev pub ReadsHeader : List ℕ → Result Layout HeaderError → Type 0
 ReadsHeader image (Ok l) = HasHeader image l × (size_of l ≤ length image)
 ReadsHeader image (Err Fault) = Unit {0}
 ReadsHeader image (Err NotFormatted) = IsFormatted image → ⊥
 ReadsHeader image (Err BadHeader) = IsFormatted image × ((l : Layout) → HasHeader image l → ⊥)
 ReadsHeader image (Err TooSmall) = (l : Layout) × HasHeader image l × (length image < size_of l)
-ReadsHeader image (Err _) = ⊥

@@ -15,8 +15,10 @@ use Rattle.image.specs.Layout.{IsLayout, guard_at, cell_at, area_at, record_at, 
 use Rattle.image.specs.Rows.{empty_row}
 use Rattle.image.specs.Slots.{Shows, Chooses}
 use Rattle.image.specs.declared.control.Control.{Control}
-use Rattle.image.specs.declared.error.ImageError.{ImageError}
-use Rattle.image.specs.declared.error.ImageError.TheVariants.{Fault}
+use Rattle.image.specs.declared.error.ControlError.{ControlError}
+use Rattle.image.specs.declared.error.ControlError.TheVariants as control
+use Rattle.image.specs.declared.error.HeaderError.{HeaderError}
+use Rattle.image.specs.declared.error.HeaderError.TheVariants as header
 use Rattle.image.specs.declared.guard_row.GuardRow.{GuardRow}
 use Rattle.image.specs.declared.layout.Layout.{Layout}
 use Rattle.image.specs.declared.slot.Slot.{Slot}
@@ -35,12 +37,12 @@ ControlsDiffer = (l : Layout) (c other : Control) → IsControl l c → IsContro
 -- Reading: what an image has is what its reader answers, or a fault.
 
 abbrev pub HeaderIsRead : Type 0
-HeaderIsRead = (l : Layout) (image : List ℕ) (answer : Result Layout ImageError) → HasHeader image l → size_of l ≤ length image → ReadsHeader image answer
-    → (answer ≡ Ok l) ⊎ (answer ≡ Err Fault)
+HeaderIsRead = (l : Layout) (image : List ℕ) (answer : Result Layout HeaderError) → HasHeader image l → size_of l ≤ length image → ReadsHeader image answer
+    → (answer ≡ Ok l) ⊎ (answer ≡ Err header.Fault)
 
 abbrev pub ControlIsChosen : Type 0
-ControlIsChosen = (l : Layout) (image : List ℕ) (s : Slot) (c : Control) (answer : Result (Slot × Control) ImageError) → Shows l image s c → Chooses l image answer
-    → (answer ≡ Ok (s, c)) ⊎ (answer ≡ Err Fault)
+ControlIsChosen = (l : Layout) (image : List ℕ) (s : Slot) (c : Control) (answer : Result (Slot × Control) ControlError) → Shows l image s c → Chooses l image answer
+    → (answer ≡ Ok (s, c)) ⊎ (answer ≡ Err control.Fault)
 
 -- an image has one list of guard rows, and one of home cells
 abbrev pub GuardsAreRead : Type 0

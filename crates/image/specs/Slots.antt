@@ -8,8 +8,8 @@ use Rattle.image.specs.declared.layout.Layout.{Layout}
 use Rattle.image.specs.declared.control.Control.{Control}
 use Rattle.image.specs.declared.slot.Slot.{Slot}
 use Rattle.image.specs.declared.slot.Slot.TheVariants.{A, B}
-use Rattle.image.specs.declared.error.ImageError.{ImageError}
-use Rattle.image.specs.declared.error.ImageError.TheVariants.{Fault, NoControl, BadControl}
+use Rattle.image.specs.declared.error.ControlError.{ControlError}
+use Rattle.image.specs.declared.error.ControlError.TheVariants.{Fault, NoControl, BadControl}
 
 -- the slot that is rewritten while this one counts
 abbrev pub other : Slot → Slot
@@ -50,9 +50,8 @@ pub record Shows (l : Layout) (image : List ℕ) (s : Slot) (c : Control) : Type
   pub spells : Spells l (body s image) c
 
 -- what each answer of choosing a control says of the image
-abbrev pub Chooses : Layout → List ℕ → Result (Slot × Control) ImageError → Type 0
+abbrev pub Chooses : Layout → List ℕ → Result (Slot × Control) ControlError → Type 0
 Chooses l image (Ok found) = Shows l image found.0 found.1
 Chooses l image (Err Fault) = Unit {0}
 Chooses l image (Err NoControl) = (s : Slot) → gate s image ≢ 165
 Chooses l image (Err BadControl) = ((s : Slot) × (gate s image ≡ 165)) × ((s : Slot) (c : Control) → Shows l image s c → ⊥)
-Chooses l image (Err _) = ⊥

@@ -1,18 +1,18 @@
 //! Which control of an image counts (`docs/FORMAT.md`, "Control").
-ghost use Rattle.std.specs.Prelude.{◌≡◌, ◌≤◌, length, IfErr, IfOk, OnOk};
-ghost use Rattle.block_disk.specs.Device.{HasCause, SameMoments};
+ghost use Rattle.std.specs.Prelude.{◌≡◌, ◌≤◌, length, IfOk, OnErr, OnOk};
+ghost use Rattle.block_disk.specs.Device.{HasCause, HasFailed, SameMoments};
 ghost use Rattle.image.specs.Choice.{HeadOf, Picks};
 ghost use Rattle.image.specs.Layout.{IsLayout};
 ghost use Rattle.image.specs.Slots.{Chooses, sequence_of};
-ghost use Rattle.image.specs.declared.error.ImageError.TheVariants.{Fault};
+ghost use Rattle.image.specs.declared.error.ControlError.TheVariants as refusal;
 
 use crate::bytes::u64_at;
 use crate::control::{BODY_BYTES, Control, decode_control};
-use crate::error::ImageError;
+use crate::error::ControlError;
 use crate::header::OPEN;
 use crate::layout::Layout;
 use crate::slot::Slot;
-use block_disk::{Disk, read_within};
+use block_disk::{Disk, Fault, read_within};
 
 /// The control that counts, and its slot: of those with an open gate, the one with the greater sequence. Three reads.
 ///
@@ -22,33 +22,36 @@ use block_disk::{Disk, read_within};
 ///   of this layout.
 ///
 /// `Fault` comes where a read fails.
-pub fn choose_control<D: Disk>(disk: &mut D, layout: &Layout) -> Result<(Slot, Control), ImageError>
+pub fn choose_control<D: Disk>(
+    disk: &mut D,
+    layout: &Layout,
+) -> Result<(Slot, Control), ControlError>
     requires limits { IsLayout layout.now }
     requires fits { 2160 ≤ length (D.device disk.old).now.bytes }
     ensures exact { Chooses layout.now (D.device disk.old).now.bytes result }
     ensures same { SameMoments (D.device disk.old) (D.device disk.new) }
-    ensures cause { HasCause (D.device disk.old).failures (D.device disk.new).failures Fault result }
+    ensures cause { HasCause (D.device disk.old).failures (D.device disk.new).failures refusal.Fault result }
 {
     let slot = pick(disk)?;
     let mut body = [0; BODY_BYTES];
     read_within(disk, slot.body(), &mut body)?;
     let Some(control) = decode_control(layout, &body) else {
-        return Err(ImageError::BadControl);
+        return Err(ControlError::BadControl);
     };
     Ok((slot, control))
 }
 
 // The slot that counts. The sequences are compared whether or not the rest of the bodies is a control's.
-fn pick<D: Disk>(disk: &mut D) -> Result<Slot, ImageError>
+fn pick<D: Disk>(disk: &mut D) -> Result<Slot, ControlError>
     requires { 2160 ≤ length (D.device disk.old).now.bytes }
     ensures exact { Picks (D.device disk.old).now.bytes result }
     ensures same { SameMoments (D.device disk.old) (D.device disk.new) }
-    ensures cause { HasCause (D.device disk.old).failures (D.device disk.new).failures Fault result }
+    ensures cause { HasCause (D.device disk.old).failures (D.device disk.new).failures refusal.Fault result }
 {
     let a = read_head(disk, Slot::A)?;
     let b = read_head(disk, Slot::B)?;
     if !a.is_open && !b.is_open {
-        return Err(ImageError::NoControl);
+        return Err(ControlError::NoControl);
     }
     if !b.is_open {
         return Ok(Slot::A);
@@ -57,7 +60,7 @@ fn pick<D: Disk>(disk: &mut D) -> Result<Slot, ImageError>
         return Ok(Slot::B);
     }
     if a.sequence == b.sequence {
-        return Err(ImageError::BadControl);
+        return Err(ControlError::BadControl);
     }
     if a.sequence > b.sequence {
         Ok(Slot::A)
@@ -77,13 +80,13 @@ pub(crate) struct Head {
 
 /// What this slot begins with, in one read.
 #[tactic(auto, unfolding(crate::specs::Slots::sequence_of))]
-pub(crate) fn read_head<D: Disk>(disk: &mut D, slot: Slot) -> Result<Head, ImageError>
+pub(crate) fn read_head<D: Disk>(disk: &mut D, slot: Slot) -> Result<Head, Fault>
     requires { 2160 ≤ length (D.device disk.old).now.bytes }
     ensures ok { IfOk result (HeadOf (D.device disk.old).now.bytes slot) }
     ensures untouched { OnOk result (D.device disk.new ≡ D.device disk.old) }
-    ensures only_fault { IfErr result (λ e. e ≡ Fault) }
     ensures same { SameMoments (D.device disk.old) (D.device disk.new) }
-    ensures cause { HasCause (D.device disk.old).failures (D.device disk.new).failures Fault result }
+    ensures later { (D.device disk.old).failures ≤ (D.device disk.new).failures }
+    ensures cause { OnErr result (HasFailed (D.device disk.old).failures (D.device disk.new).failures) }
 {
     let mut bytes = [0; 16];
     read_within(disk, slot.start(), &mut bytes)?;

@@ -4,9 +4,9 @@ ghost use Rattle.block_disk.specs.Device.{HasCause, SameMoments};
 ghost use Rattle.image.specs.Blocks.{HasBlock, HoldsNoRow, HoldsRows, RefusesBlock, HasEach};
 ghost use Rattle.image.specs.Guards.{HasGuards, NamesObjects, RefusesGuards};
 ghost use Rattle.image.specs.Layout.{IsLayout, size_of};
-ghost use Rattle.image.specs.declared.error.ImageError.TheVariants.{Fault};
+ghost use Rattle.image.specs.declared.error.GuardsError.TheVariants.{Fault};
 
-use crate::error::ImageError;
+use crate::error::GuardsError;
 use crate::guard_row::{GUARD_ROW_BYTES, GuardRow, decode_guard};
 use crate::layout::Layout;
 use block_disk::{Disk, read_within};
@@ -30,7 +30,7 @@ pub fn read_guards<D: Disk>(
     alloc: Global,
     disk: &mut D,
     layout: &Layout,
-) -> Result<Vec<GuardRow>, ImageError>
+) -> Result<Vec<GuardRow>, GuardsError>
     requires limits { IsLayout layout.now }
     requires fits { size_of layout.now ≤ length (D.device disk.old).now.bytes }
     ensures exact { MatchResult result (λ rows. HasGuards layout.now (D.device disk.old).now.bytes rows.items) (RefusesGuards layout.now (D.device disk.old).now.bytes) }
@@ -40,7 +40,7 @@ pub fn read_guards<D: Disk>(
     let Ok(mut rows) = Vec::with_capacity(alloc, layout.fields as usize) else {
         // Want of memory comes last: a row that is bad is told of first.
         check_guards(disk, layout)?;
-        return Err(ImageError::NoMemory);
+        return Err(GuardsError::NoMemory);
     };
     let mut block = [NOTHING; BLOCK_ROWS];
     while rows.len() < layout.fields as usize {
@@ -70,7 +70,7 @@ fn append(rows: &mut Vec<GuardRow>, more: &[GuardRow])
 }
 
 // Whether each row names objects of the image, with no memory taken.
-fn check_guards<D: Disk>(disk: &mut D, layout: &Layout) -> Result<(), ImageError>
+fn check_guards<D: Disk>(disk: &mut D, layout: &Layout) -> Result<(), GuardsError>
     requires limits { IsLayout layout.now }
     requires fits { size_of layout.now ≤ length (D.device disk.old).now.bytes }
     ensures ok { OnOk result (HasEach layout.now layout.now.fields (D.device disk.old).now.bytes) }
@@ -92,7 +92,7 @@ fn read_block<D: Disk>(
     layout: &Layout,
     first: u32,
     block: &mut [GuardRow; 256],
-) -> Result<u32, ImageError>
+) -> Result<u32, GuardsError>
     requires limits { IsLayout layout.now }
     requires fits { size_of layout.now ≤ length (D.device disk.old).now.bytes }
     requires first { first < layout.now.fields }
@@ -108,10 +108,10 @@ fn read_block<D: Disk>(
     let bytes = &mut bytes[..GUARD_ROW_BYTES * rows.len()];
     read_within(disk, layout.guard_row(FieldId(first)), bytes)?;
     if !decode_guards(bytes, rows) {
-        return Err(ImageError::BadHeader);
+        return Err(GuardsError::BadHeader);
     }
     if !name_objects(layout.objects, rows) {
-        return Err(ImageError::BadHeader);
+        return Err(GuardsError::BadHeader);
     }
     Ok(count)
 }

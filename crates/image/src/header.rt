@@ -3,11 +3,11 @@ ghost use Rattle.std.specs.Prelude.{◌≡◌, IfNone, IfSome};
 ghost use Rattle.block_disk.specs.Device.{HasCause, SameMoments};
 ghost use Rattle.image.specs.Header.{ReadsHeader, header_bytes};
 ghost use Rattle.image.specs.Layout.{IsLayout};
-ghost use Rattle.image.specs.declared.error.ImageError.TheVariants.{Fault};
+ghost use Rattle.image.specs.declared.error.HeaderError.TheVariants.{Fault};
 ghost use Rattle.image.specs.declared.layout.Layout.{Layout as Shape};
 
 use crate::bytes::u32_at;
-use crate::error::ImageError;
+use crate::error::HeaderError;
 use crate::layout::Layout;
 use block_disk::{Disk, read_within};
 
@@ -77,24 +77,24 @@ fn decode_header(bytes: &[u8; 64]) -> Option<Layout>
 /// - `TooSmall`: the device is smaller than that size.
 ///
 /// `Fault` comes where the read fails.
-pub fn read_header<D: Disk>(disk: &mut D) -> Result<Layout, ImageError>
+pub fn read_header<D: Disk>(disk: &mut D) -> Result<Layout, HeaderError>
     ensures exact { ReadsHeader (D.device disk.old).now.bytes result }
     ensures same { SameMoments (D.device disk.old) (D.device disk.new) }
     ensures cause { HasCause (D.device disk.old).failures (D.device disk.new).failures Fault result }
 {
     if disk.size() < HEADER_BYTES as u64 {
-        return Err(ImageError::NotFormatted);
+        return Err(HeaderError::NotFormatted);
     }
     let mut bytes = [0; HEADER_BYTES];
     read_within(disk, 0, &mut bytes)?;
     if bytes[..9] != FORMATTED[..] {
-        return Err(ImageError::NotFormatted);
+        return Err(HeaderError::NotFormatted);
     }
     let Some(layout) = decode_header(&bytes) else {
-        return Err(ImageError::BadHeader);
+        return Err(HeaderError::BadHeader);
     };
     if disk.size() < layout.size() {
-        return Err(ImageError::TooSmall);
+        return Err(HeaderError::TooSmall);
     }
     Ok(layout)
 }

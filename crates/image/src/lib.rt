@@ -31,7 +31,7 @@ pub use choice::choose_control;
 pub use commit::commit_control;
 pub use control::{Control, OLD_VERSION, VERSION};
 pub use either_gate::commit_by_turning;
-pub use error::ImageError;
+pub use error::{ControlError, GuardsError, HeaderError, ImageError};
 pub use format::write_header;
 pub use guard_row::GuardRow;
 pub use guard_rows::read_guards;

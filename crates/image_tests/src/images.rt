@@ -1,21 +1,23 @@
 //! The image of the common schema, by its bytes; refusals; and a commit at each of its stops.
-ghost use Rattle.std.specs.Prelude.{◌≡◌, ◌≤◌, ◌<◌, ◌+◌, [], ◌∷◌, length, IfSome, OnOk};
+ghost use Rattle.std.specs.Prelude.{◌≡◌, ◌≤◌, ◌<◌, ◌+◌, [], ◌∷◌, length, IfOk, IfSome, OnOk};
 ghost use Rattle.block_disk.specs.Memory.{device_of};
 ghost use Rattle.image.specs.Commit.{IsSteady};
 ghost use Rattle.image.specs.Control.{empty_control};
 ghost use Rattle.image.specs.Format.{IsFresh};
+ghost use Rattle.image.specs.Header.{HasHeader};
 ghost use Rattle.image.specs.Layout.{IsLayout, IsLayoutOf, size_of};
 ghost use Rattle.image.specs.Slots.{other};
 ghost use Rattle.image.specs.declared.slot.Slot.TheVariants.{A};
 
 use crate::schemas::{field, object, transient};
+use crate::unread::{BAD_CONTROL, BAD_HEADER, BAD_ROW, Unread};
 use block_disk::{Disk, Fill, MemDisk};
 use guards::{Schema, SchemaBuilder};
 use heap_model::{FieldId, ObjectId};
 use image::{
-    Control, GuardRow, ImageError, LaneRow, Layout, Recovered, Slot, choose_control,
-    commit_control, empty_rows_law, get_cell, put_cell, read_guards, read_header, steady_law,
-    write_header,
+    Control, ControlError, GuardRow, GuardsError, HeaderError, ImageError, LaneRow, Layout,
+    Recovered, Slot, choose_control, commit_control, empty_rows_law, get_cell, put_cell,
+    read_guards, read_header, steady_law, write_header,
 };
 use std::alloc::Global;
 
@@ -176,14 +178,27 @@ fn a_transient_field_has_a_marked_row(rt: HostRuntime) {
     assert!(rt; marked_found(rt.alloc()) == Some((130_232, [true; 3])));
 }
 
-fn read_third(alloc: Global, disk: &mut MemDisk) -> Result<Option<GuardRow>, ImageError> {
-    let layout = read_header(disk)?;
-    let rows = read_guards(alloc, disk, &layout)?;
-    Ok(rows.get(2).copied())
+// The layout that the header tells.
+fn layout_in(disk: &mut MemDisk) -> Result<Layout, Unread>
+    ensures layout { IfOk result (HasHeader (device_of disk.new).now.bytes) }
+    ensures fits { IfOk result (λ l. size_of l ≤ length (device_of disk.new).now.bytes) }
+{
+    match read_header(disk) {
+        Ok(layout) => Ok(layout),
+        Err(why) => Err(Unread::Header(why)),
+    }
+}
+
+fn read_third(alloc: Global, disk: &mut MemDisk) -> Result<Option<GuardRow>, Unread> {
+    let layout = layout_in(disk)?;
+    match read_guards(alloc, disk, &layout) {
+        Ok(rows) => Ok(rows.get(2).copied()),
+        Err(why) => Err(Unread::Guards(why)),
+    }
 }
 
 // The transient field's row as it is read, where this byte of the image is altered.
-fn third_row(alloc: Global, at: u64, byte: u8) -> Option<Result<Option<GuardRow>, ImageError>> {
+fn third_row(alloc: Global, at: u64, byte: u8) -> Option<Result<Option<GuardRow>, Unread>> {
     let mut disk = marked_disk(alloc)?;
     read_altered(alloc, &mut disk, at, byte)
 }
@@ -193,7 +208,7 @@ fn read_altered(
     disk: &mut MemDisk,
     at: u64,
     byte: u8,
-) -> Option<Result<Option<GuardRow>, ImageError>> {
+) -> Option<Result<Option<GuardRow>, Unread>> {
     put(disk, at, &[byte])?;
     Some(read_third(alloc, disk))
 }
@@ -212,7 +227,7 @@ fn third(transient: bool) -> GuardRow {
 fn are_read(
     alloc: Global,
     alterations: &[(u64, u8)],
-    row: Result<Option<GuardRow>, ImageError>,
+    row: Result<Option<GuardRow>, Unread>,
 ) -> bool {
     for (at, byte) in alterations.iter().copied() {
         if third_row(alloc, at, byte) != Some(row) {
@@ -233,15 +248,19 @@ fn a_mark_is_read(rt: HostRuntime) {
 #[test]
 fn rows_with_other_bytes_are_refused(rt: HostRuntime) {
     let alterations = [(2196, 2), (2196, 0xff), (2197, 1), (2165, 1), (2198, 1)];
-    assert!(rt; are_read(rt.alloc(), &alterations, Err(ImageError::BadHeader)));
+    assert!(rt; are_read(rt.alloc(), &alterations, Err(BAD_ROW)));
 }
 
 // What the readers say of the image, one after the other.
-pub(crate) fn study(alloc: Global, disk: &mut MemDisk) -> Result<(Slot, u64), ImageError> {
-    let layout = read_header(disk)?;
-    read_guards(alloc, disk, &layout)?;
-    let (slot, control) = choose_control(disk, &layout)?;
-    Ok((slot, control.sequence))
+pub(crate) fn study(alloc: Global, disk: &mut MemDisk) -> Result<(Slot, u64), Unread> {
+    let layout = layout_in(disk)?;
+    if let Err(why) = read_guards(alloc, disk, &layout) {
+        return Err(Unread::Guards(why));
+    }
+    match choose_control(disk, &layout) {
+        Ok((slot, control)) => Ok((slot, control.sequence)),
+        Err(why) => Err(Unread::Control(why)),
+    }
 }
 
 pub(crate) fn put(disk: &mut MemDisk, at: u64, bytes: &[u8]) -> Option<()> {
@@ -254,19 +273,19 @@ fn study_with(
     disk: &mut MemDisk,
     at: u64,
     bytes: &[u8],
-) -> Option<Result<(Slot, u64), ImageError>> {
+) -> Option<Result<(Slot, u64), Unread>> {
     put(disk, at, bytes)?;
     Some(study(alloc, disk))
 }
 
 // What the readers say of a fresh image with this byte altered.
-fn study_altered(alloc: Global, at: u64, byte: u8) -> Option<Result<(Slot, u64), ImageError>> {
+fn study_altered(alloc: Global, at: u64, byte: u8) -> Option<Result<(Slot, u64), Unread>> {
     let mut disk = fresh_disk(alloc)?;
     study_with(alloc, &mut disk, at, &[byte])
 }
 
 // Whether the image with any one of these bytes altered, each at its place, is refused so.
-fn are_refused(alloc: Global, alterations: &[(u64, u8)], refusal: ImageError) -> bool {
+fn are_refused(alloc: Global, alterations: &[(u64, u8)], refusal: Unread) -> bool {
     for (at, byte) in alterations.iter().copied() {
         if study_altered(alloc, at, byte) != Some(Err(refusal)) {
             return false;
@@ -278,10 +297,10 @@ fn are_refused(alloc: Global, alterations: &[(u64, u8)], refusal: ImageError) ->
 #[test]
 fn another_name_is_no_image(rt: HostRuntime) {
     let alterations = [(0, 0x4e), (7, 0x51), (8, 0), (8, 0xff)];
-    assert!(rt; are_refused(rt.alloc(), &alterations, ImageError::NotFormatted));
+    let refusal = Unread::Header(HeaderError::NotFormatted);
+    assert!(rt; are_refused(rt.alloc(), &alterations, refusal));
 }
 
-// The last two are of guard rows.
 #[test]
 fn altered_headers_are_refused(rt: HostRuntime) {
     let alterations = [
@@ -295,15 +314,19 @@ fn altered_headers_are_refused(rt: HostRuntime) {
         (31, 0xa1),
         (32, 1),
         (63, 1),
-        (2163, 4),
-        (2183, 4),
     ];
-    assert!(rt; are_refused(rt.alloc(), &alterations, ImageError::BadHeader));
+    assert!(rt; are_refused(rt.alloc(), &alterations, BAD_HEADER));
+}
+
+#[test]
+fn rows_that_name_no_object_are_refused(rt: HostRuntime) {
+    assert!(rt; are_refused(rt.alloc(), &[(2163, 4), (2183, 4)], BAD_ROW));
 }
 
 #[test]
 fn a_closed_gate_shows_no_control(rt: HostRuntime) {
-    assert!(rt; are_refused(rt.alloc(), &[(64, 0), (64, 0xa4)], ImageError::NoControl));
+    let refusal = Unread::Control(ControlError::NoControl);
+    assert!(rt; are_refused(rt.alloc(), &[(64, 0), (64, 0xa4)], refusal));
 }
 
 // A control of version 1 is one too: that recovery doesn't take it is no matter of the reader.
@@ -325,7 +348,7 @@ fn altered_controls_are_refused(rt: HostRuntime) {
         (175, 1),
         (1111, 1),
     ];
-    assert!(rt; are_refused(rt.alloc(), &alterations, ImageError::BadControl));
+    assert!(rt; are_refused(rt.alloc(), &alterations, BAD_CONTROL));
 }
 
 // The rows of a control with records in two lanes.
@@ -368,7 +391,7 @@ fn disk_with(alloc: Global, body: &[u8]) -> Option<MemDisk> {
 }
 
 // What the readers say where this byte of the documented body is altered.
-fn study_body(alloc: Global, at: usize, byte: u8) -> Option<Result<(Slot, u64), ImageError>> {
+fn study_body(alloc: Global, at: usize, byte: u8) -> Option<Result<(Slot, u64), Unread>> {
     let mut body = documented_body(3);
     *body.get_mut(at)? = byte;
     let mut disk = fresh_disk(alloc)?;
@@ -378,7 +401,7 @@ fn study_body(alloc: Global, at: usize, byte: u8) -> Option<Result<(Slot, u64), 
 // Whether any one of these bytes altered, each at its place, makes it a bad one.
 fn are_bad(alloc: Global, alterations: &[(usize, u8)]) -> bool {
     for (at, byte) in alterations.iter().copied() {
-        if study_body(alloc, at, byte) != Some(Err(ImageError::BadControl)) {
+        if study_body(alloc, at, byte) != Some(Err(BAD_CONTROL)) {
             return false;
         }
     }
@@ -441,7 +464,7 @@ fn a_control_has_the_documented_bytes(rt: HostRuntime) {
 }
 
 // What the readers say where the gates of both slots are open, with this sequence in slot B.
-fn study_both_open(alloc: Global, sequence: u8) -> Option<Result<(Slot, u64), ImageError>> {
+fn study_both_open(alloc: Global, sequence: u8) -> Option<Result<(Slot, u64), Unread>> {
     let mut disk = fresh_disk(alloc)?;
     study_opened(alloc, &mut disk, &documented_body(sequence))
 }
@@ -451,13 +474,13 @@ fn study_opened(
     alloc: Global,
     disk: &mut MemDisk,
     body: &[u8],
-) -> Option<Result<(Slot, u64), ImageError>> {
+) -> Option<Result<(Slot, u64), Unread>> {
     put(disk, 1112, &[0xa5])?;
     study_with(alloc, disk, 1120, body)
 }
 
 // Whether they say so.
-fn is_shown(alloc: Global, sequence: u8, wanted: Result<(Slot, u64), ImageError>) -> bool {
+fn is_shown(alloc: Global, sequence: u8, wanted: Result<(Slot, u64), Unread>) -> bool {
     study_both_open(alloc, sequence) == Some(wanted)
 }
 
@@ -465,7 +488,7 @@ fn is_shown(alloc: Global, sequence: u8, wanted: Result<(Slot, u64), ImageError>
 #[test]
 fn the_greater_sequence_counts(rt: HostRuntime) {
     assert!(rt; is_shown(rt.alloc(), 0, Ok((Slot::A, 1))));
-    assert!(rt; is_shown(rt.alloc(), 1, Err(ImageError::BadControl)));
+    assert!(rt; is_shown(rt.alloc(), 1, Err(BAD_CONTROL)));
     assert!(rt; is_shown(rt.alloc(), 2, Ok((Slot::B, 2))));
 }
 
@@ -521,14 +544,14 @@ fn short_disk(alloc: Global) -> Option<MemDisk> {
 }
 
 // What is said of it where it has a bad guard row too.
-fn told_of_short(alloc: Global) -> Option<Result<Layout, ImageError>> {
+fn told_of_short(alloc: Global) -> Option<Result<Layout, HeaderError>> {
     let mut short = short_disk(alloc)?;
     put(&mut short, 2163, &[9])?;
     Some(read_header(&mut short))
 }
 
 // What is said of a device without a whole header.
-fn told_of_none(alloc: Global) -> Option<Result<Layout, ImageError>> {
+fn told_of_none(alloc: Global) -> Option<Result<Layout, HeaderError>> {
     match MemDisk::new(alloc, 63) {
         Ok(mut none) => Some(read_header(&mut none)),
         Err(_) => None,
@@ -537,8 +560,8 @@ fn told_of_none(alloc: Global) -> Option<Result<Layout, ImageError>> {
 
 #[test]
 fn a_small_device_is_told_of_before_its_guard_rows(rt: HostRuntime) {
-    assert!(rt; told_of_short(rt.alloc()) == Some(Err(ImageError::TooSmall)));
-    assert!(rt; told_of_none(rt.alloc()) == Some(Err(ImageError::NotFormatted)));
+    assert!(rt; told_of_short(rt.alloc()) == Some(Err(HeaderError::TooSmall)));
+    assert!(rt; told_of_none(rt.alloc()) == Some(Err(HeaderError::NotFormatted)));
 }
 
 // Commits a control with empty logs over one with this sequence.
@@ -593,7 +616,7 @@ fn shown(
     disk: &MemDisk,
     stop: u64,
     fill: Fill,
-) -> Option<Result<(Slot, u64), ImageError>> {
+) -> Option<Result<(Slot, u64), Unread>> {
     let mut image = disk.crash_image(stop, fill).ok()??;
     Some(study(alloc, &mut image))
 }
@@ -656,7 +679,7 @@ fn fail_second_commit(disk: &mut MemDisk, layout: &Layout, call: u64) -> Option<
 }
 
 // What the readers say then.
-fn study_failed_commit(alloc: Global, call: u64) -> Option<Result<(Slot, u64), ImageError>>
+fn study_failed_commit(alloc: Global, call: u64) -> Option<Result<(Slot, u64), Unread>>
     requires { 1 ≤ call }
 {
     let (mut disk, layout) = steady(alloc)?;
@@ -739,7 +762,7 @@ fn a_fault_in_the_making_is_answered_as_one(rt: HostRuntime) {
 }
 
 // What the readers say of a fresh image, where the call of this number is a fault.
-fn study_with_fault(alloc: Global, call: u64) -> Option<Result<(Slot, u64), ImageError>>
+fn study_with_fault(alloc: Global, call: u64) -> Option<Result<(Slot, u64), Unread>>
     requires { 1 ≤ call }
 {
     let mut disk = fresh_disk(alloc)?;
@@ -749,11 +772,20 @@ fn study_with_fault(alloc: Global, call: u64) -> Option<Result<(Slot, u64), Imag
 
 fn are_told(alloc: Global) -> bool {
     for call in 1..6 {
-        if study_with_fault(alloc, call) != Some(Err(ImageError::Fault)) {
+        if study_with_fault(alloc, call) != Some(Err(fault_at(call))) {
             return false;
         }
     }
     true
+}
+
+// One read is of the header, one of the guard rows, and three are of the control.
+fn fault_at(call: u64) -> Unread {
+    match call {
+        1 => Unread::Header(HeaderError::Fault),
+        2 => Unread::Guards(GuardsError::Fault),
+        _ => Unread::Control(ControlError::Fault),
+    }
 }
 
 // Each of the first five calls fails in turn.
@@ -817,7 +849,7 @@ fn recovered(alloc: Global, schema: &Schema) -> Option<Recovered<MemDisk>> {
 }
 
 // Its slot, and its sequence, size and stops. Put together again, it is read as before.
-type Apart = (Slot, [u64; 3], Result<(Slot, u64), ImageError>);
+type Apart = (Slot, [u64; 3], Result<(Slot, u64), Unread>);
 
 fn taken_apart(alloc: Global, made: Recovered<MemDisk>) -> Apart {
     let parts = made.into_parts();
@@ -863,7 +895,7 @@ fn count_guards(
     alloc: Global,
     disk: &mut MemDisk,
     layout: &Layout,
-) -> Option<Result<usize, ImageError>>
+) -> Option<Result<usize, GuardsError>>
     requires { IsLayout layout.now }
 {
     if disk.size() < layout.size() {
@@ -876,7 +908,7 @@ fn count_guards(
 }
 
 // How many guard rows are read of a fresh image, and of it with a row that names no object.
-fn guards_read(alloc: Global) -> Option<[Result<usize, ImageError>; 2]> {
+fn guards_read(alloc: Global) -> Option<[Result<usize, GuardsError>; 2]> {
     let (mut disk, layout) = steady(alloc)?;
     count_twice(alloc, &mut disk, &layout)
 }
@@ -885,7 +917,7 @@ fn count_twice(
     alloc: Global,
     disk: &mut MemDisk,
     layout: &Layout,
-) -> Option<[Result<usize, ImageError>; 2]>
+) -> Option<[Result<usize, GuardsError>; 2]>
     requires { IsLayout layout.now }
 {
     let good = count_guards(alloc, disk, layout)?;
@@ -896,8 +928,8 @@ fn count_twice(
 // Whether a bad row is told of, whether or not there is memory. Without the memory for a disk there is nothing to tell.
 fn tells_of_memory_last(alloc: Global) -> bool {
     match guards_read(alloc) {
-        Some(found) => (found[0] == Ok(2) || found[0] == Err(ImageError::NoMemory))
-            && found[1] == Err(ImageError::BadHeader),
+        Some(found) => (found[0] == Ok(2) || found[0] == Err(GuardsError::NoMemory))
+            && found[1] == Err(GuardsError::BadHeader),
         None => true,
     }
 }

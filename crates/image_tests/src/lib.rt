@@ -15,4 +15,6 @@ mod schemas;
 #[cfg(test)]
 mod turns;
 #[cfg(test)]
+mod unread;
+#[cfg(test)]
 mod words;

@@ -2,8 +2,9 @@
 ghost use Rattle.image.specs.Layout.{IsLayout};
 
 use crate::images::{put, steady, study};
+use crate::unread::Unread;
 use block_disk::{Disk, Fill, MemDisk};
-use image::{ImageError, Layout, Slot, choose_control, commit_by_turning, steady_law};
+use image::{Layout, Slot, choose_control, commit_by_turning, steady_law};
 use std::alloc::Global;
 
 // Where a commit of the rows that count is made by one gate, over what is durable, and with which sequence.
@@ -85,7 +86,7 @@ fn shown(
     disk: &MemDisk,
     stop: u64,
     fill: Fill,
-) -> Option<Result<(Slot, u64), ImageError>> {
+) -> Option<Result<(Slot, u64), Unread>> {
     let mut image = disk.crash_image(stop, fill).ok()??;
     Some(study(alloc, &mut image))
 }

@@ -1,5 +1,5 @@
 -- What each refusal on the way says of the image.
-use Rattle.std.proofs.Common.{ℕ, zero, suc, ◌≡◌, ◌+◌, ◌<◌, List, [], ◌∷◌, sym, ap, ◌∙◌, subst, inl, inr, arith, Vec, Global}
+use Rattle.std.proofs.Common.{ℕ, zero, suc, ◌≡◌, ◌+◌, ◌<◌, List, [], ◌∷◌, sym, ◌∙◌, subst, inl, inr, arith, Vec, Global}
 use Rattle.std.specs.Prelude.{All, true}
 use Rattle.std.proofs.lemmas.Bool.{cases_lt}
 use Rattle.std.proofs.lemmas.List.{reverse-reverse}

@@ -13,8 +13,8 @@ use Rattle.image.specs.Laws.{AreApart}
 use Rattle.image.specs.Layout.{IsLayout, area_at, cell_at, record_at}
 use Rattle.image.specs.Slots.{Shows}
 use Rattle.image.specs.declared.control.Control.{Control}
-use Rattle.image.specs.declared.error.ImageError.{ImageError}
-use Rattle.image.specs.declared.error.ImageError.TheVariants.{Fault}
+use Rattle.image.specs.declared.error.ControlError.{ControlError}
+use Rattle.image.specs.declared.error.ControlError.TheVariants.{Fault}
 use Rattle.image.specs.declared.guard_row.GuardRow.{GuardRow}
 use Rattle.image.specs.declared.lane_row.LaneRow.{LaneRow}
 use Rattle.image.specs.declared.layout.Layout.{Layout}
@@ -100,10 +100,10 @@ other_cell l (f ∷ fs) g none = (
 
 -- One image.
 
-same_answer : (x y : Slot × Control) → (let a : Result (Slot × Control) ImageError = Ok x in a ≡ Ok y) → x ≡ y
+same_answer : (x y : Slot × Control) → (let a : Result (Slot × Control) ControlError = Ok x in a ≡ Ok y) → x ≡ y
 same_answer x y is = cc
 
-no_answer : (x : Slot × Control) → (let a : Result (Slot × Control) ImageError = Ok x in a ≡ Err Fault) → ⊥
+no_answer : (x : Slot × Control) → (let a : Result (Slot × Control) ControlError = Ok x in a ≡ Err Fault) → ⊥
 no_answer x is = cc
 
 -- an image shows one control, in one slot

@@ -9,8 +9,8 @@ use Rattle.image.specs.Header.{HasHeader, ReadsHeader}
 use Rattle.image.specs.Layout.{size_of}
 use Rattle.image.specs.Slots.{Shows}
 use Rattle.image.specs.declared.control.Control.{Control}
-use Rattle.image.specs.declared.error.ImageError.{ImageError}
-use Rattle.image.specs.declared.error.ImageError.TheVariants as image_error
+use Rattle.image.specs.declared.error.HeaderError.{HeaderError}
+use Rattle.image.specs.declared.error.HeaderError.TheVariants as header_error
 use Rattle.image.specs.declared.guard_row.GuardRow.{GuardRow}
 use Rattle.image.specs.declared.lane_row.LaneRow.{LaneRow}
 use Rattle.image.specs.declared.layout.Layout.{Layout}
@@ -102,7 +102,7 @@ module _ (image : List ℕ) (s : Study) (of : IsStudyOf image s) where
         (subst (λ (ls : ℕ → List UndoRecord). IsIllegalAt (logged_guard_in s.guards.items) c.rows ls lane place) lanes
         (subst (λ (gs : List GuardRow). IsIllegalAt (logged_guard_in gs) c.rows (lanes_of logged) lane place) guards_is h)))
 
-  layout_read : (answer : Result Layout ImageError) → ReadsHeader image answer → (answer ≡ Ok s.layout) ⊎ (answer ≡ Err image_error.Fault)
+  layout_read : (answer : Result Layout HeaderError) → ReadsHeader image answer → (answer ≡ Ok s.layout) ⊎ (answer ≡ Err header_error.Fault)
   layout_read answer reads = header_is_read s.layout image answer header of.holds.control.front.layout.room reads
 
   no_guards : (m : Layout) → HasLayout image m → RefusesRows m image BadHeader → ⊥
@@ -119,7 +119,7 @@ module _ (image : List ℕ) (s : Study) (of : IsStudyOf image s) where
 
   not_refused : (e : RecoverError) → RefusesImage image e → (e ≡ Fault) ⊎ (e ≡ NoMemory)
   not_refused Fault h = inl refl
-  not_refused NotFormatted h = elim (layout_read (Err image_error.NotFormatted) h) [ inl is ↦ absurd cc | inr is ↦ absurd cc ]
+  not_refused NotFormatted h = elim (layout_read (Err header_error.NotFormatted) h) [ inl is ↦ absurd cc | inr is ↦ absurd cc ]
   not_refused BadHeader (inl h) = absurd (h.1 s.layout header)
   not_refused BadHeader (inr h) = absurd (no_guards h.0 h.1 h.2)
   not_refused TooSmall h = absurd (omega (arith, h.2, of.holds.control.front.layout.room, ap size_of (one_header h.0 h.1)))

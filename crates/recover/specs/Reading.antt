@@ -10,7 +10,7 @@ use Rattle.image.specs.declared.layout.Layout.{Layout}
 use Rattle.image.specs.declared.slot.Slot.{Slot}
 use Rattle.image.specs.declared.control.Control.{Control}
 use Rattle.image.specs.declared.guard_row.GuardRow.{GuardRow}
-use Rattle.image.specs.declared.error.ImageError.TheVariants as image_error
+use Rattle.image.specs.declared.error.ControlError.TheVariants as control_error
 use Rattle.undo_log.specs.StandsFor.{is_transient_in}
 use Rattle.recover.specs.declared.logged_image.LoggedImage.{LoggedImage}
 use Rattle.recover.specs.declared.error.RecoverError.{RecoverError}
@@ -41,8 +41,8 @@ RefusesRows l image _ = ⊥
 -- to choose the control
 abbrev pub RefusesControl : Layout → List ℕ → RecoverError → Type 0
 RefusesControl l image Fault = Unit {0}
-RefusesControl l image NoControl = Chooses l image (Err image_error.NoControl)
-RefusesControl l image BadControl = Chooses l image (Err image_error.BadControl)
+RefusesControl l image NoControl = Chooses l image (Err control_error.NoControl)
+RefusesControl l image BadControl = Chooses l image (Err control_error.BadControl)
 RefusesControl l image _ = ⊥
 
 -- the image has this layout and these guard rows

@@ -1,5 +1,5 @@
 //! Reading an image, whatever its bytes are.
-ghost use Rattle.std.specs.Prelude.{◌≡◌, ◌≤◌, All, IfErr, IfOk, MatchResult, length};
+ghost use Rattle.std.specs.Prelude.{◌≡◌, ◌≤◌, All, IfOk, MatchResult, length};
 ghost use Rattle.block_disk.specs.Device.{HasCause, SameMoments};
 ghost use Rattle.image.specs.Guards.{HasGuards};
 ghost use Rattle.image.specs.Layout.{IsLayout, size_of};
@@ -19,7 +19,8 @@ use crate::replayed::Replayed;
 use crate::version::test_marks;
 use block_disk::Disk;
 use image::{
-    Control, GuardRow, ImageError, Layout, Slot, choose_control, read_guards, read_header,
+    Control, ControlError, GuardRow, GuardsError, HeaderError, Layout, Slot, choose_control,
+    read_guards, read_header,
 };
 use std::alloc::Global;
 
@@ -100,14 +101,10 @@ fn find_layout<D: Disk>(disk: &mut D) -> Result<Layout, RecoverError>
 {
     match read_header(disk) {
         Ok(layout) => Ok(layout),
-        Err(ImageError::Fault) => Err(RecoverError::Fault),
-        Err(ImageError::NotFormatted) => Err(RecoverError::NotFormatted),
-        Err(ImageError::BadHeader) => Err(RecoverError::BadHeader),
-        Err(ImageError::TooSmall) => Err(RecoverError::TooSmall),
-        Err(ImageError::NoControl) => unreachable!(),
-        Err(ImageError::BadControl) => unreachable!(),
-        Err(ImageError::Worn) => unreachable!(),
-        Err(ImageError::NoMemory) => unreachable!(),
+        Err(HeaderError::Fault) => Err(RecoverError::Fault),
+        Err(HeaderError::NotFormatted) => Err(RecoverError::NotFormatted),
+        Err(HeaderError::BadHeader) => Err(RecoverError::BadHeader),
+        Err(HeaderError::TooSmall) => Err(RecoverError::TooSmall),
     }
 }
 
@@ -124,14 +121,9 @@ fn find_guards<D: Disk>(
 {
     match read_guards(alloc, disk, layout) {
         Ok(guards) => Ok(guards),
-        Err(ImageError::Fault) => Err(RecoverError::Fault),
-        Err(ImageError::BadHeader) => Err(RecoverError::BadHeader),
-        Err(ImageError::NoMemory) => Err(RecoverError::NoMemory),
-        Err(ImageError::NotFormatted) => unreachable!(),
-        Err(ImageError::TooSmall) => unreachable!(),
-        Err(ImageError::NoControl) => unreachable!(),
-        Err(ImageError::BadControl) => unreachable!(),
-        Err(ImageError::Worn) => unreachable!(),
+        Err(GuardsError::Fault) => Err(RecoverError::Fault),
+        Err(GuardsError::BadHeader) => Err(RecoverError::BadHeader),
+        Err(GuardsError::NoMemory) => Err(RecoverError::NoMemory),
     }
 }
 
@@ -144,13 +136,8 @@ fn find_control<D: Disk>(disk: &mut D, layout: &Layout) -> Result<(Slot, Control
 {
     match choose_control(disk, layout) {
         Ok(found) => Ok(found),
-        Err(ImageError::Fault) => Err(RecoverError::Fault),
-        Err(ImageError::NoControl) => Err(RecoverError::NoControl),
-        Err(ImageError::BadControl) => Err(RecoverError::BadControl),
-        Err(ImageError::NotFormatted) => unreachable!(),
-        Err(ImageError::BadHeader) => unreachable!(),
-        Err(ImageError::TooSmall) => unreachable!(),
-        Err(ImageError::Worn) => unreachable!(),
-        Err(ImageError::NoMemory) => unreachable!(),
+        Err(ControlError::Fault) => Err(RecoverError::Fault),
+        Err(ControlError::NoControl) => Err(RecoverError::NoControl),
+        Err(ControlError::BadControl) => Err(RecoverError::BadControl),
     }
 }

@@ -36,8 +36,8 @@ use Rattle.script_machine.specs.declared.answer.Refusal.TheVariants.{Worn}
 use Rattle.script_machine.specs.Answers.{acknowledged_in}
 use Rattle.script_machine.specs.Agreement.{setting_from}
 use Rattle.image.specs.declared.control.Control.{Control}
-use Rattle.image.specs.declared.error.ImageError.{ImageError}
-use Rattle.image.specs.declared.error.ImageError.TheVariants as image_error
+use Rattle.image.specs.declared.error.ControlError.{ControlError}
+use Rattle.image.specs.declared.error.ControlError.TheVariants as control_error
 use Rattle.image.specs.declared.slot.Slot.{Slot}
 use Rattle.image.specs.Slots.{Shows as ShowsControl}
 use Rattle.undo_log.specs.StandsFor.{row_of, StandsFor}
@@ -70,10 +70,10 @@ header_of l s p w image (ShowsSettled doubt clean cut stable shown) = shown.part
 header_of l s p w image (ShowsTrimmed doubt shown) = shown.parts.header
 header_of l s p w image (ShowsAcknowledged doubt clean cut stable shown) = shown.parts.header
 
-same_answer : (x y : Slot × Control) → (let a : Result (Slot × Control) ImageError = Ok x in a ≡ Ok y) → x ≡ y
+same_answer : (x y : Slot × Control) → (let a : Result (Slot × Control) ControlError = Ok x in a ≡ Ok y) → x ≡ y
 same_answer x y is = cc
 
-no_fault : (x : Slot × Control) → (let a : Result (Slot × Control) ImageError = Ok x in a ≡ Err image_error.Fault) → ⊥
+no_fault : (x : Slot × Control) → (let a : Result (Slot × Control) ControlError = Ok x in a ≡ Err control_error.Fault) → ⊥
 no_fault x is = cc
 
 -- an image shows one control

@@ -24,8 +24,10 @@ use Rattle.image.specs.Header.{HasHeader, ReadsHeader}
 use Rattle.image.specs.Layout.{size_of}
 use Rattle.image.specs.Slots.{Shows}
 use Rattle.image.specs.declared.control.Control.{Control}
-use Rattle.image.specs.declared.error.ImageError.{ImageError}
-use Rattle.image.specs.declared.error.ImageError.TheVariants as image_error
+use Rattle.image.specs.declared.error.ControlError.{ControlError}
+use Rattle.image.specs.declared.error.ControlError.TheVariants as control_error
+use Rattle.image.specs.declared.error.HeaderError.{HeaderError}
+use Rattle.image.specs.declared.error.HeaderError.TheVariants as header_error
 use Rattle.image.specs.declared.guard_row.GuardRow.{GuardRow}
 use Rattle.image.specs.declared.lane_row.LaneRow.{LaneRow}
 use Rattle.image.specs.declared.layout.Layout.{Layout}
@@ -132,10 +134,10 @@ module _ (s : Setting) (log : List (ℕ × Record)) (base : ℕ → ℕ) (legal 
       (λ m r h. few m r (subst (λ (xs : List UndoRecord). Contains xs r) (lane_map undo_of m since) h)) in
       (found.0, subst (λ (lanes : ℕ → List UndoRecord). Replays guard lanes found.0) logs_are found.1)
 
-same_answer : (x y : Slot × Control) → (let a : Result (Slot × Control) ImageError = Ok x in a ≡ Ok y) → x ≡ y
+same_answer : (x y : Slot × Control) → (let a : Result (Slot × Control) ControlError = Ok x in a ≡ Ok y) → x ≡ y
 same_answer x y is = cc
 
-no_fault : (x : Slot × Control) → (let a : Result (Slot × Control) ImageError = Ok x in a ≡ Err image_error.Fault) → ⊥
+no_fault : (x : Slot × Control) → (let a : Result (Slot × Control) ControlError = Ok x in a ≡ Err control_error.Fault) → ⊥
 no_fault x is = cc
 
 -- an image shows one control
@@ -337,7 +339,7 @@ module _ {v : ℕ} (l : Layout) (s : Setting) (p : Past) (image : List ℕ) (lef
         (subst (λ (gs : List GuardRow). IsIllegalAt (logged_guard_in gs) c.rows (lanes_of logged) lane place) guards_is h)))
 
   -- the header's answers
-  layout_read : (answer : Result Layout ImageError) → ReadsHeader image answer → (answer ≡ Ok l) ⊎ (answer ≡ Err image_error.Fault)
+  layout_read : (answer : Result Layout HeaderError) → ReadsHeader image answer → (answer ≡ Ok l) ⊎ (answer ≡ Err header_error.Fault)
   layout_read answer reads = header_is_read l image answer left.parts.header left.parts.room reads
 
   -- nor is a guard row bad
@@ -375,7 +377,7 @@ module _ {v : ℕ} (l : Layout) (s : Setting) (p : Past) (image : List ℕ) (lef
   -- no refusal but that of the device and want of memory
   pub accepted : (e : RecoverError) → RefusesImage image e → (e ≡ Fault) ⊎ (e ≡ NoMemory)
   accepted Fault h = inl refl
-  accepted NotFormatted h = elim (layout_read (Err image_error.NotFormatted) h) [ inl is ↦ absurd cc | inr is ↦ absurd cc ]
+  accepted NotFormatted h = elim (layout_read (Err header_error.NotFormatted) h) [ inl is ↦ absurd cc | inr is ↦ absurd cc ]
   accepted BadHeader (inl h) = absurd (h.1 l left.parts.header)
   accepted BadHeader (inr h) = absurd (no_guards h.0 h.1 h.2)
   accepted TooSmall h = absurd (omega (arith, h.2, left.parts.room, ap size_of (one_header h.0 h.1)))

@@ -15,8 +15,8 @@ use Rattle.image.specs.declared.slot.Slot.{Slot}
 use Rattle.image.specs.declared.lane_row.LaneRow.{LaneRow}
 use Rattle.image.specs.declared.control.Control.{Control}
 use Rattle.image.specs.declared.guard_row.GuardRow.{GuardRow}
-use Rattle.image.specs.declared.error.ImageError.{ImageError}
-use Rattle.image.specs.declared.error.ImageError.TheVariants.{Fault}
+use Rattle.image.specs.declared.error.ControlError.{ControlError}
+use Rattle.image.specs.declared.error.ControlError.TheVariants.{Fault}
 use Rattle.image.proofs.Reading.{control_is_chosen, guards_are_read, home_is_read}
 use Rattle.undo_log.specs.RecordBytes.{record_bytes, id_of, word_of, kind_of, IsInRange, Spells as SpellsRecord}
 use Rattle.undo_log.specs.OldValues.{TakesBack, IsUnsettled}
@@ -24,10 +24,10 @@ use Rattle.undo_log.specs.Area.{HasRecords, HasSpan}
 use Rattle.undo_log.specs.StandsFor.{row_of, settled_of, row_in, guard_in, HasLive, StandsFor}
 use Rattle.undo_log.proofs.Once.{takes_once}
 
-same_answer : (x y : Slot × Control) → (let a : Result (Slot × Control) ImageError = Ok x in a ≡ Ok y) → x ≡ y
+same_answer : (x y : Slot × Control) → (let a : Result (Slot × Control) ControlError = Ok x in a ≡ Ok y) → x ≡ y
 same_answer x y is = cc
 
-no_fault : (x : Slot × Control) → (let a : Result (Slot × Control) ImageError = Ok x in a ≡ Err Fault) → ⊥
+no_fault : (x : Slot × Control) → (let a : Result (Slot × Control) ControlError = Ok x in a ≡ Err Fault) → ⊥
 no_fault x is = cc
 
 -- an image shows one control

@@ -33,10 +33,7 @@ schema_status schema.DoubleName = EMPTY
 abbrev pub image_status : ImageError → ℕ
 image_status image.NoMemory = NO_MEMORY
 image_status image.Fault = FAULT
-image_status image.NotFormatted = NOT_FORMATTED
 image_status image.BadHeader = BAD_HEADER
-image_status image.NoControl = NO_CONTROL
-image_status image.BadControl = BAD_CONTROL
 image_status image.Worn = WORN
 image_status image.TooSmall = TOO_SMALL
 

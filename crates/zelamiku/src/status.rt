@@ -178,10 +178,7 @@ fn of_image(refusal: ImageError) -> u32
     match refusal {
         ImageError::NoMemory => NO_MEMORY,
         ImageError::Fault => FAULT,
-        ImageError::NotFormatted => NOT_FORMATTED,
         ImageError::BadHeader => BAD_HEADER,
-        ImageError::NoControl => NO_CONTROL,
-        ImageError::BadControl => BAD_CONTROL,
         ImageError::Worn => WORN,
         ImageError::TooSmall => TOO_SMALL,
     }

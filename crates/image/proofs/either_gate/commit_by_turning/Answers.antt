@@ -1,4 +1,4 @@
-use Rattle.std.proofs.Common.{◌≡◌, ◌+◌, ℕ, arith}
+use Rattle.std.proofs.Common.{arith}
 use Rattle.block_disk.proofs.Images.{stays}
 use Rattle.image.specs.Commit.{OldOrTurned, turned_sequence}
 use Rattle.image.specs.Control.{control_of}
