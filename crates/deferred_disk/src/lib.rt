@@ -19,6 +19,3 @@ pub use call::{DeviceCall, MOST_BYTES};
 pub use disk::{DeferredDisk, SYNCS};
 pub use host::HostCalls;
 pub use laws::since_law;
-
-#[cfg(test)]
-mod tests;

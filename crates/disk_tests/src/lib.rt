@@ -7,6 +7,8 @@
 #[cfg(test)]
 mod buffered;
 #[cfg(test)]
+mod deferred;
+#[cfg(test)]
 mod file;
 #[cfg(test)]
 mod flaky_file;

@@ -38,6 +38,10 @@ pub record IsLaneEnd (h : Home) (capacity : ℕ) (rings : Rings) (l : LaneEnd) :
   pub first : BeginsJoined h capacity rings (received l.back)
   pub came : IfSome l.came (IsBack h capacity rings (lane_at l))
 
+-- it is the end of the same lane
+abbrev pub KeepsEnd : (old new : LaneEnd) → Type 0
+KeepsEnd old new = (h : Home) (capacity : ℕ) (rings : Rings) → IsLaneEnd h capacity rings old → IsLaneEnd h capacity rings new × (lane_at new ≡ lane_at old)
+
 -- they are ends of the same lanes
 abbrev pub KeepsEnds : (old new : List LaneEnd) → Type 0
 KeepsEnds old new = (h : Home) (capacity : ℕ) (rings : Rings) → All (IsLaneEnd h capacity rings) old → All (IsLaneEnd h capacity rings) new × (lanes_at new ≡ lanes_at old)
@@ -79,3 +83,8 @@ IsJoinedHere h capacity rings s = IsJoined h capacity rings s.session
 -- these sessions are of the lanes whose ends come first
 abbrev pub ArePaired : List Seated → List LaneEnd → Type 0
 ArePaired unused ends = lanes_of unused ≡ lanes_at (take (length unused) ends)
+
+-- they are ends of the same lanes, also once these sessions have come back to the first of them
+abbrev pub TakesBack : List Seated → (old new : List LaneEnd) → Type 0
+TakesBack unused old new = (h : Home) (capacity : ℕ) (rings : Rings) → ArePaired unused old → All (IsJoinedHere h capacity rings) unused
+    → All (IsLaneEnd h capacity rings) old → All (IsLaneEnd h capacity rings) new × (lanes_at new ≡ lanes_at old)

@@ -3,7 +3,7 @@ ghost use Rattle.std.specs.Prelude.{◌≡◌, ◌<◌, ◌≤◌, [], ℕ, All,
 ghost use Rattle.std.specs.List.{range_with_len};
 ghost use Rattle.hosted_heap.specs.Closing.{HasStopped};
 ghost use Rattle.hosted_heap.specs.Hosting.{IsClosedWith, hosted_device};
-ghost use Rattle.hosted_heap.specs.Lanes.{ArePaired, HasCome, IsAwaited, IsJoinedHere, IsLaneEnd, KeepsEnds, lanes_at};
+ghost use Rattle.hosted_heap.specs.Lanes.{HasCome, IsAwaited, IsLaneEnd, KeepsEnds, TakesBack, lanes_at};
 ghost use Rattle.hosted_heap.specs.declared.lane_end.LaneEnd.{LaneEnd as End};
 ghost use Rattle.monitor.specs.Seats.{Home};
 ghost use Rattle.running_heap.specs.Joined.{IsHelping};
@@ -173,8 +173,7 @@ fn bring_back(unused: &mut Vec<HostedSession>, lanes: &mut Vec<LaneEnd>)
     requires later { All HasCome (drop (length unused.old.items) lanes.old.items) }
     ensures none { unused.new.items ≡ [] }
     ensures came { All HasCome lanes.new.items }
-    ensures kept { (h : Home) (capacity : ℕ) (rings : Rings) → ArePaired unused.old.items lanes.old.items → All (IsJoinedHere h capacity rings) unused.old.items
-        → All (IsLaneEnd h capacity rings) lanes.old.items → All (IsLaneEnd h capacity rings) lanes.new.items × (lanes_at lanes.new.items ≡ lanes_at lanes.old.items) }
+    ensures kept { TakesBack unused.old.items lanes.old.items lanes.new.items }
 {
     'sessions: while let Some(session) = unused.pop() {
         let place = unused.len();

@@ -1,6 +1,6 @@
 //! The heap's end of a lane.
 ghost use Rattle.std.specs.Prelude.{◌≡◌, ◌↔◌, ◌∷◌, [], ℕ, true, false, None, IfNone, IfSome, IsSome, IsTrue};
-ghost use Rattle.hosted_heap.specs.Lanes.{BeginsJoined, IsAwaited, IsBack, IsIdle, IsLaneEnd, IsTaken, lane_at, lane_in};
+ghost use Rattle.hosted_heap.specs.Lanes.{BeginsJoined, IsAwaited, IsBack, IsIdle, IsTaken, KeepsEnd, lane_in};
 ghost use Rattle.monitor.specs.Seats.{Home};
 ghost use Rattle.rtrb.specs.Ring.{known_items, received};
 ghost use Rattle.trim_helper.specs.Endings.{Rings};
@@ -21,7 +21,7 @@ pub struct LaneEnd {
 impl LaneEnd {
     /// Whether the lane's session has come back.
     pub fn has_come(&mut self) -> bool
-        ensures kept { (h : Home) (capacity : ℕ) (rings : Rings) → IsLaneEnd h capacity rings self.old → IsLaneEnd h capacity rings self.new × (lane_at self.new ≡ lane_at self.old) }
+        ensures kept { KeepsEnd self.old self.new }
         ensures came { IsTrue result ↔ IsSome self.new.came }
         ensures awaited { result ≡ false → IsAwaited self.new }
     {
@@ -34,7 +34,7 @@ impl LaneEnd {
 
     /// Whether it has come back and holds no monitor.
     pub fn is_idle(&mut self) -> bool
-        ensures kept { (h : Home) (capacity : ℕ) (rings : Rings) → IsLaneEnd h capacity rings self.old → IsLaneEnd h capacity rings self.new × (lane_at self.new ≡ lane_at self.old) }
+        ensures kept { KeepsEnd self.old self.new }
         ensures idle { result ≡ true → IsIdle self.new }
         ensures taken { result ≡ false → IsTaken self.new }
     {

@@ -18,7 +18,7 @@ pub struct Row {
 
 impl Cells for Row {
     ghost use Rattle.pool.specs.Knowledge.{Reads, Stores, FailsToLoad, FailsToStore};
-    ghost use Rattle.pool_cell_tests.specs.Rows.{row_knows};
+    ghost use Rattle.pool_tests.specs.Rows.{row_knows};
 
     type Fault = ();
 
