@@ -110,12 +110,7 @@ fn hand_out(alloc: Global, heap: &mut HostedHeap, place: &mut Slot) -> u32
     ensures handed { HandsOne heap.old place.new.handle.state (heap_behind heap.new) result }
     ensures refused { result ≢ OK → place.new.handle.state ≡ place.old.handle.state }
 {
-    let Ok(room) = Box::new(
-        alloc,
-        Inner {
-            open: Open::Nothing,
-        },
-    ) else {
+    let Ok(room) = Inner::boxed(alloc, Open::Nothing) else {
         return status::NO_MEMORY;
     };
     if let Some(session) = heap.session() {
@@ -134,7 +129,7 @@ fn put_session(place: &mut Slot, room: Box<Inner>, session: HostedSession) -> u3
     ensures ok { result ≡ OK }
 {
     let mut room = room;
-    room.open = Open::Session(session);
+    room.put(Open::Session(session));
     put(place, room);
     status::OK
 }
@@ -261,9 +256,9 @@ fn acknowledged_of(heap: &mut HostedHeap, lane: u32) -> Result<u64, Acknowledged
 pub fn close(state: &mut Inner) -> u32
     ensures { Answers ClosesAt (Some state.old) (Some state.new) result }
 {
-    let content = std::mem::replace(&mut state.open, Open::Nothing);
+    let content = state.take();
     let (content, answer) = closed_of(content);
-    state.open = content;
+    state.put(content);
     answer
 }
 

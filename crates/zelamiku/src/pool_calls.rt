@@ -25,9 +25,9 @@ pub fn take(state: &mut Inner, head: u32, slots: u32) -> (u32, u32)
     ensures told { AnswersAs (TakesAt head slots result.0) (Some state.old) (Some state.new) result.1 }
     ensures refused { result.1 ≢ OK → result.0 ≡ NO_SLOT }
 {
-    let found = std::mem::replace(&mut state.open, Open::Nothing);
+    let found = state.take();
     let (open, slot, answer) = taken_of(found, head, slots);
-    state.open = open;
+    state.put(open);
     (slot, answer)
 }
 
@@ -71,9 +71,9 @@ fn slot_given(answer: Result<u32, PoolError<SessionError>>) -> (u32, u32)
 pub fn give(state: &mut Inner, head: u32, slots: u32, slot: u32) -> u32
     ensures told { AnswersAs (GivesAt head slots slot) (Some state.old) (Some state.new) result }
 {
-    let found = std::mem::replace(&mut state.open, Open::Nothing);
+    let found = state.take();
     let (open, answer) = given_of(found, head, slots, slot);
-    state.open = open;
+    state.put(open);
     answer
 }
 

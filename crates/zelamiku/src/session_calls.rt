@@ -237,9 +237,9 @@ pub fn lane(state: &mut Inner) -> (u32, u64, u32)
 pub fn begin_wait(state: &mut Inner, object: u32) -> u32
     ensures told { Answers (WaitsAt object) (Some state.old) (Some state.new) result }
 {
-    let found = std::mem::replace(&mut state.open, Open::Nothing);
+    let found = state.take();
     let (open, answer) = waiting_of(found, object);
-    state.open = open;
+    state.put(open);
     answer
 }
 
@@ -259,9 +259,9 @@ fn waiting_of(found: Open, object: u32) -> (Open, u32)
 pub fn try_resume(state: &mut Inner) -> u32
     ensures told { Answers Resumes (Some state.old) (Some state.new) result }
 {
-    let found = std::mem::replace(&mut state.open, Open::Nothing);
+    let found = state.take();
     let (open, answer) = resumed_of(found);
-    state.open = open;
+    state.put(open);
     answer
 }
 
@@ -278,9 +278,9 @@ fn resumed_of(found: Open) -> (Open, u32)
 pub fn end(state: &mut Inner) -> (Option<Returned>, u32)
     ensures told { EndsTo state.old.open state.new.open result.0 result.1 }
 {
-    let found = std::mem::replace(&mut state.open, Open::Nothing);
+    let found = state.take();
     let (open, back, answer) = ended_of(found);
-    state.open = open;
+    state.put(open);
     (back, answer)
 }
 

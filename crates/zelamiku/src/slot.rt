@@ -89,9 +89,7 @@ pub fn put_new(alloc: Global, place: &mut Slot, content: Open) -> Result<(), All
     ensures ok { OnOk result (place.new.handle.state ≡ behind content) }
     ensures err { OnErr result (place.new.handle.state ≡ place.old.handle.state) }
 {
-    let Ok(state) = Box::new(alloc, Inner { open: content }) else {
-        return Err(AllocError);
-    };
+    let state = Inner::boxed(alloc, content)?;
     put(place, state);
     Ok(())
 }

@@ -1,5 +1,9 @@
 //! What is behind a handle.
+ghost use Rattle.std.specs.Prelude.{◌≡◌, IfOk};
+ghost use Rattle.zelamiku.specs.declared.state.Open.TheVariants as kind;
+
 use hosted_heap::{Closed, HostedHeap, HostedSession, HostedWaiting};
+use std::alloc::{AllocError, Global};
 
 /// What is behind a handle: one kind of handle serves all.
 #[derive(Drop)]
@@ -22,4 +26,29 @@ pub enum Open {
 #[derive(Drop)]
 pub struct Inner {
     pub open: Open,
+}
+
+// Each call that moves what is behind a handle does it by these: to move or to drop such a value in place is dear to the prover.
+impl Inner {
+    /// This in a box of its own, where there is memory.
+    pub fn boxed(alloc: Global, content: Open) -> Result<Box<Inner>, AllocError>
+        ensures { IfOk result (λ b. b.value ≡ record { «open» = content }) }
+    {
+        Ok(Box::new(alloc, Inner { open: content })?)
+    }
+
+    /// Takes out what is there, and leaves nothing.
+    pub fn take(&mut self) -> Open
+        ensures taken { result ≡ self.old.open }
+        ensures none { self.new ≡ record { «open» = kind.Nothing } }
+    {
+        std::mem::replace(&mut self.open, Open::Nothing)
+    }
+
+    /// Puts this in the place of what is there.
+    pub fn put(&mut self, content: Open)
+        ensures { self.new ≡ record { «open» = content } }
+    {
+        self.open = content;
+    }
 }

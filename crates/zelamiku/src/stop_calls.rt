@@ -14,9 +14,9 @@ use hosted_heap::{Closed, FailedCall, HostedHeap, HostedSession, HostedWaiting};
 pub fn call_failed(state: &mut Inner) -> u32
     ensures { Answers FailsCallAt (Some state.old) (Some state.new) result }
 {
-    let found = std::mem::replace(&mut state.open, Open::Nothing);
+    let found = state.take();
     let (open, answer) = after_failure(found);
-    state.open = open;
+    state.put(open);
     answer
 }
 
