@@ -1,5 +1,5 @@
 //! The image of the common schema, by its bytes; refusals; and a commit at each of its stops.
-ghost use Rattle.std.specs.Prelude.{◌≡◌, ◌≤◌, ◌<◌, ◌+◌, [], ◌∷◌, length, IfOk, IfSome, OnOk};
+ghost use Rattle.std.specs.Prelude.{◌≡◌, ◌≤◌, ◌<◌, ◌+◌, [], ◌∷◌, length, IfOk, IfSome, OnOk, OnSome};
 ghost use Rattle.block_disk.specs.Memory.{device_of};
 ghost use Rattle.image.specs.Commit.{IsSteady};
 ghost use Rattle.image.specs.Control.{empty_control};
@@ -9,7 +9,7 @@ ghost use Rattle.image.specs.Layout.{IsLayout, IsLayoutOf, size_of};
 ghost use Rattle.image.specs.Slots.{other};
 ghost use Rattle.image.specs.declared.slot.Slot.TheVariants.{A};
 
-use crate::schemas::{field, object, transient};
+use crate::schemas::{built, field, object, transient};
 use crate::unread::{BAD_CONTROL, BAD_HEADER, BAD_ROW, Unread};
 use block_disk::{Disk, Fill, MemDisk};
 use guards::{Schema, SchemaBuilder};
@@ -23,18 +23,26 @@ use std::alloc::Global;
 
 // Four objects, and a field of each of the first two, which guards it.
 fn declare(builder: &mut SchemaBuilder) -> Option<()> {
-    for name in ["o0", "o1", "o2", "o3"] {
-        object(builder, name).ok()?;
-    }
+    declare_objects(builder, &["o0", "o1", "o2", "o3"])?;
     field(builder, ObjectId(0), "f0", ObjectId(0), 10).ok()?;
     field(builder, ObjectId(1), "f1", ObjectId(1), 20).ok()?;
     Some(())
 }
 
+// Objects of these names.
+fn declare_objects(builder: &mut SchemaBuilder, names: &[&str]) -> Option<()> {
+    for name in names {
+        object(builder, name).ok()?;
+    }
+    Some(())
+}
+
 fn common_schema(alloc: Global) -> Option<Schema> {
     let mut builder = SchemaBuilder::new(alloc);
-    declare(&mut builder)?;
-    builder.build().ok()
+    match declare(&mut builder) {
+        Some(()) => built(builder),
+        None => None,
+    }
 }
 
 // The image of the schema with two lanes of 4,000 records, on a disk that ends with it.
@@ -45,14 +53,30 @@ fn fresh(alloc: Global, schema: &Schema) -> Option<(MemDisk, Layout)>
     ensures durable { IfSome result (λ made. (device_of made.0).now.pending ≡ []) }
 {
     let layout = Layout::of(schema, 2, 4000)?;
-    let mut disk = MemDisk::new(alloc, layout.size()).ok()?;
-    let Ok(()) = write_header(&mut disk, &layout, schema) else {
+    match MemDisk::new(alloc, layout.size()) {
+        Ok(mut disk) => match make_image(&mut disk, &layout, schema) {
+            Some(()) => Some((disk, layout)),
+            None => None,
+        },
+        Err(_) => None,
+    }
+}
+
+// Makes the image on the disk.
+fn make_image(disk: &mut MemDisk, layout: &Layout, schema: &Schema) -> Option<()>
+    requires schema { IsLayoutOf schema.now layout.now }
+    requires fits { size_of layout.now ≤ length (device_of disk.old).now.bytes }
+    ensures size { OnSome result (size_of layout.now ≤ length (device_of disk.new).now.bytes) }
+    ensures fresh { OnSome result (IsFresh schema.now layout.now (device_of disk.new).now.bytes) }
+    ensures durable { OnSome result ((device_of disk.new).now.pending ≡ []) }
+{
+    let Ok(()) = write_header(disk, layout, schema) else {
         return None;
     };
     if disk.size() < layout.size() {
         return None;
     }
-    Some((disk, layout))
+    Some(())
 }
 
 // The same, for a test that asks nothing of the schema.
@@ -61,16 +85,28 @@ pub(crate) fn steady(alloc: Global) -> Option<(MemDisk, Layout)>
     ensures size { IfSome result (λ made. size_of made.1 ≤ length (device_of made.0).now.bytes) }
     ensures steady { IfSome result (λ made. IsSteady made.1 (device_of made.0) A (empty_control 1)) }
 {
-    let schema = common_schema(alloc)?;
-    let (disk, layout) = fresh(alloc, &schema)?;
+    match common_schema(alloc) {
+        Some(schema) => steady_of(alloc, &schema),
+        None => None,
+    }
+}
+
+fn steady_of(alloc: Global, schema: &Schema) -> Option<(MemDisk, Layout)>
+    ensures layout { IfSome result (λ made. IsLayout made.1) }
+    ensures size { IfSome result (λ made. size_of made.1 ≤ length (device_of made.0).now.bytes) }
+    ensures steady { IfSome result (λ made. IsSteady made.1 (device_of made.0) A (empty_control 1)) }
+{
     steady_law();
+    let (disk, layout) = fresh(alloc, schema)?;
     Some((disk, layout))
 }
 
 // The same, for a test that asks nothing more of it.
 fn fresh_disk(alloc: Global) -> Option<MemDisk> {
-    let (disk, _) = steady(alloc)?;
-    Some(disk)
+    match steady(alloc) {
+        Some((disk, _)) => Some(disk),
+        None => None,
+    }
 }
 
 // The size of the schema's image with so many lanes of so many records.
@@ -118,13 +154,19 @@ fn has(disk: &MemDisk, at: usize, bytes: &[u8]) -> bool {
 
 // Its size and its calls, and whether header and guard row are as documented.
 fn fresh_found(alloc: Global) -> Option<(u64, u64, [bool; 3])> {
-    let disk = fresh_disk(alloc)?;
+    match fresh_disk(alloc) {
+        Some(disk) => Some(found_on(&disk)),
+        None => None,
+    }
+}
+
+fn found_on(disk: &MemDisk) -> (u64, u64, [bool; 3]) {
     let as_documented = [
-        has(&disk, 0, &HEADER),
-        has(&disk, 32, &[0; 32]),
-        has(&disk, 2176, &ROW),
+        has(disk, 0, &HEADER),
+        has(disk, 32, &[0; 32]),
+        has(disk, 2176, &ROW),
     ];
-    Some((disk.size(), disk.stops(), as_documented))
+    (disk.size(), disk.stops(), as_documented)
 }
 
 #[test]
@@ -135,8 +177,10 @@ fn a_fresh_image_is_as_documented(rt: HostRuntime) {
 // The same objects and fields, and a transient field of the last object, which the third one guards.
 fn marked_schema(alloc: Global) -> Option<Schema> {
     let mut builder = SchemaBuilder::new(alloc);
-    declare_marked(&mut builder)?;
-    builder.build().ok()
+    match declare_marked(&mut builder) {
+        Some(()) => built(builder),
+        None => None,
+    }
 }
 
 fn declare_marked(builder: &mut SchemaBuilder) -> Option<()> {
@@ -199,8 +243,10 @@ fn read_third(alloc: Global, disk: &mut MemDisk) -> Result<Option<GuardRow>, Unr
 
 // The transient field's row as it is read, where this byte of the image is altered.
 fn third_row(alloc: Global, at: u64, byte: u8) -> Option<Result<Option<GuardRow>, Unread>> {
-    let mut disk = marked_disk(alloc)?;
-    read_altered(alloc, &mut disk, at, byte)
+    match marked_disk(alloc) {
+        Some(mut disk) => read_altered(alloc, &mut disk, at, byte),
+        None => None,
+    }
 }
 
 fn read_altered(
@@ -280,8 +326,10 @@ fn study_with(
 
 // What the readers say of a fresh image with this byte altered.
 fn study_altered(alloc: Global, at: u64, byte: u8) -> Option<Result<(Slot, u64), Unread>> {
-    let mut disk = fresh_disk(alloc)?;
-    study_with(alloc, &mut disk, at, &[byte])
+    match fresh_disk(alloc) {
+        Some(mut disk) => study_with(alloc, &mut disk, at, &[byte]),
+        None => None,
+    }
 }
 
 // Whether the image with any one of these bytes altered, each at its place, is refused so.
@@ -447,10 +495,29 @@ fn read_and_commit(
 
 // The control of two rows is read of its documented body. Committed over a fresh image, its rows are spelt so again.
 fn read_and_committed(alloc: Global) -> Option<(Control, Slot, bool)> {
-    let mut documented = disk_with(alloc, &documented_body(3))?;
-    let (mut disk, layout) = steady(alloc)?;
-    let (control, slot) = read_and_commit(&mut documented, &mut disk, &layout)?;
-    Some((control, slot, has(&disk, 1120, &documented_body(2))))
+    match disk_with(alloc, &documented_body(3)) {
+        Some(mut documented) => read_and_committed_of(alloc, &mut documented),
+        None => None,
+    }
+}
+
+fn read_and_committed_of(alloc: Global, documented: &mut MemDisk) -> Option<(Control, Slot, bool)> {
+    match steady(alloc) {
+        Some((mut disk, layout)) => read_and_spell(documented, &mut disk, &layout),
+        None => None,
+    }
+}
+
+fn read_and_spell(
+    documented: &mut MemDisk,
+    disk: &mut MemDisk,
+    layout: &Layout,
+) -> Option<(Control, Slot, bool)>
+    requires limits { IsLayout layout.now }
+    requires steady { IsSteady layout.now (device_of disk.old) A (empty_control 1) }
+{
+    let (control, slot) = read_and_commit(documented, disk, layout)?;
+    Some((control, slot, has(disk, 1120, &documented_body(2))))
 }
 
 #[test]
@@ -484,12 +551,16 @@ fn is_shown(alloc: Global, sequence: u8, wanted: Result<(Slot, u64), Unread>) ->
     study_both_open(alloc, sequence) == Some(wanted)
 }
 
+fn are_all_shown(alloc: Global) -> bool {
+    is_shown(alloc, 0, Ok((Slot::A, 1)))
+        && is_shown(alloc, 1, Err(BAD_CONTROL))
+        && is_shown(alloc, 2, Ok((Slot::B, 2)))
+}
+
 // The greater sequence counts, and two equal ones are refused.
 #[test]
 fn the_greater_sequence_counts(rt: HostRuntime) {
-    assert!(rt; is_shown(rt.alloc(), 0, Ok((Slot::A, 1))));
-    assert!(rt; is_shown(rt.alloc(), 1, Err(BAD_CONTROL)));
-    assert!(rt; is_shown(rt.alloc(), 2, Ok((Slot::B, 2))));
+    assert!(rt; are_all_shown(rt.alloc()));
 }
 
 // The control that is read of a fresh image whose control has version 1, and the slot into which one with its rows is
@@ -518,13 +589,18 @@ fn commit_over_old(disk: &mut MemDisk, layout: &Layout) -> Option<(Control, Slot
 
 // The same, and whether the new control's first bytes are its sequence and version 2.
 fn committed_over_old(alloc: Global) -> Option<(Control, Slot, bool)> {
-    let (mut disk, layout) = steady(alloc)?;
-    let (control, slot) = commit_over_old(&mut disk, &layout)?;
-    Some((
-        control,
-        slot,
-        has(&disk, 1120, &[0, 0, 0, 0, 0, 0, 0, 2, 0, 0, 0, 2]),
-    ))
+    match steady(alloc) {
+        Some((mut disk, layout)) => spell_over_old(&mut disk, &layout),
+        None => None,
+    }
+}
+
+fn spell_over_old(disk: &mut MemDisk, layout: &Layout) -> Option<(Control, Slot, bool)>
+    requires { IsLayout layout.now }
+{
+    let (control, slot) = commit_over_old(disk, layout)?;
+    let is_spelt = has(disk, 1120, &[0, 0, 0, 0, 0, 0, 0, 2, 0, 0, 0, 2]);
+    Some((control, slot, is_spelt))
 }
 
 #[test]
@@ -539,15 +615,27 @@ fn a_commit_over_version_1_has_version_2(rt: HostRuntime) {
 
 // A fresh image without its last byte.
 fn short_disk(alloc: Global) -> Option<MemDisk> {
-    let disk = fresh_disk(alloc)?;
+    match fresh_disk(alloc) {
+        Some(disk) => shortened(alloc, &disk),
+        None => None,
+    }
+}
+
+fn shortened(alloc: Global, disk: &MemDisk) -> Option<MemDisk> {
     MemDisk::from_bytes(alloc, disk.bytes().get(..130_207)?).ok()
 }
 
 // What is said of it where it has a bad guard row too.
 fn told_of_short(alloc: Global) -> Option<Result<Layout, HeaderError>> {
-    let mut short = short_disk(alloc)?;
-    put(&mut short, 2163, &[9])?;
-    Some(read_header(&mut short))
+    match short_disk(alloc) {
+        Some(mut short) => told_of_bad_row(&mut short),
+        None => None,
+    }
+}
+
+fn told_of_bad_row(disk: &mut MemDisk) -> Option<Result<Layout, HeaderError>> {
+    put(disk, 2163, &[9])?;
+    Some(read_header(disk))
 }
 
 // What is said of a device without a whole header.
@@ -611,14 +699,16 @@ fn commit_twice(disk: &mut MemDisk, layout: &Layout) -> Option<[u64; 2]>
 }
 
 // What a crash at this stop shows.
-fn shown(
+pub(crate) fn shown(
     alloc: Global,
     disk: &MemDisk,
     stop: u64,
     fill: Fill,
 ) -> Option<Result<(Slot, u64), Unread>> {
-    let mut image = disk.crash_image(stop, fill).ok()??;
-    Some(study(alloc, &mut image))
+    match disk.crash_image(stop, fill) {
+        Ok(Some(mut image)) => Some(study(alloc, &mut image)),
+        _ => None,
+    }
 }
 
 // Whether a crash at each stop from 14 to 24 shows the first control before the stop `second`, then the second control, and
@@ -642,9 +732,22 @@ fn are_shown(alloc: Global, disk: &MemDisk, fill: Fill, second: u64, third: u64)
 // The stops of two commits, and whether their crashes show what they are to, for each fill. Four calls go into slot B, whose
 // gate is closed, and six into slot A, whose gate is open.
 fn crashed_commits(alloc: Global) -> Option<([u64; 2], [bool; 5])> {
-    let (mut disk, layout) = steady(alloc)?;
-    let stops = commit_twice(&mut disk, &layout)?;
-    Some((stops, shown_by_fills(alloc, &disk)))
+    match steady(alloc) {
+        Some((mut disk, layout)) => crash_commits(alloc, &mut disk, &layout),
+        None => None,
+    }
+}
+
+fn crash_commits(
+    alloc: Global,
+    disk: &mut MemDisk,
+    layout: &Layout,
+) -> Option<([u64; 2], [bool; 5])>
+    requires limits { IsLayout layout.now }
+    requires steady { IsSteady layout.now (device_of disk.old) A (empty_control 1) }
+{
+    let stops = commit_twice(disk, layout)?;
+    Some((stops, shown_by_fills(alloc, disk)))
 }
 
 fn shown_by_fills(alloc: Global, disk: &MemDisk) -> [bool; 5] {
@@ -682,9 +785,24 @@ fn fail_second_commit(disk: &mut MemDisk, layout: &Layout, call: u64) -> Option<
 fn study_failed_commit(alloc: Global, call: u64) -> Option<Result<(Slot, u64), Unread>>
     requires { 1 ≤ call }
 {
-    let (mut disk, layout) = steady(alloc)?;
-    fail_second_commit(&mut disk, &layout, call)?;
-    Some(study(alloc, &mut disk))
+    match steady(alloc) {
+        Some((mut disk, layout)) => study_second_failed(alloc, &mut disk, &layout, call),
+        None => None,
+    }
+}
+
+fn study_second_failed(
+    alloc: Global,
+    disk: &mut MemDisk,
+    layout: &Layout,
+    call: u64,
+) -> Option<Result<(Slot, u64), Unread>>
+    requires limits { IsLayout layout.now }
+    requires steady { IsSteady layout.now (device_of disk.old) A (empty_control 1) }
+    requires call { 1 ≤ call }
+{
+    fail_second_commit(disk, layout, call)?;
+    Some(study(alloc, disk))
 }
 
 // How many calls of a second commit fail in turn, from the first, behind which its old control shows.
@@ -734,8 +852,10 @@ fn is_header_of_failed_image(alloc: Global, schema: &Schema, call: u64) -> Optio
     requires { 1 ≤ call }
 {
     let layout = Layout::of(schema, 2, 4000)?;
-    let mut disk = MemDisk::new(alloc, layout.size()).ok()?;
-    fail_image(&mut disk, &layout, schema, call)
+    match MemDisk::new(alloc, layout.size()) {
+        Ok(mut disk) => fail_image(&mut disk, &layout, schema, call),
+        Err(_) => None,
+    }
 }
 
 // Whether each of the 13 calls fails so, and the header is whole before the last alone.
@@ -810,11 +930,16 @@ fn answer_cells(
 }
 
 fn cells_answered(alloc: Global) -> Option<(Result<(), ImageError>, [Result<u64, ImageError>; 2])> {
-    let (mut disk, layout) = steady(alloc)?;
-    if layout.fields < 2 {
-        return None;
+    match steady(alloc) {
+        Some((mut disk, layout)) => {
+            if layout.fields < 2 {
+                None
+            } else {
+                Some(answer_cells(&mut disk, &layout))
+            }
+        }
+        None => None,
     }
-    Some(answer_cells(&mut disk, &layout))
 }
 
 #[test]

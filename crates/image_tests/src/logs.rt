@@ -267,12 +267,26 @@ fn read_twice(alloc: Global, disk: &mut MemDisk) -> Result<bool, LogError> {
 
 // What the calls answer the first time that memory isn't wanting.
 fn grown(alloc: Global) -> Option<(Option<Result<(), LogError>>, Result<bool, LogError>)> {
-    let mut disk = match empty_disk(alloc) {
-        Some(disk) => disk,
-        None => empty_disk(alloc)?,
-    };
-    let appended = append_twice(&mut disk);
-    Some((appended, read_twice(alloc, &mut disk)))
+    match empty_disk_again(alloc) {
+        Some(mut disk) => Some(grow(alloc, &mut disk)),
+        None => None,
+    }
+}
+
+// An empty disk, the second time at the latest.
+fn empty_disk_again(alloc: Global) -> Option<MemDisk> {
+    match empty_disk(alloc) {
+        Some(disk) => Some(disk),
+        None => empty_disk(alloc),
+    }
+}
+
+fn grow(
+    alloc: Global,
+    disk: &mut MemDisk,
+) -> (Option<Result<(), LogError>>, Result<bool, LogError>) {
+    let appended = append_twice(disk);
+    (appended, read_twice(alloc, disk))
 }
 
 // Run with each allocation refused in turn: the call says so, and is made again.

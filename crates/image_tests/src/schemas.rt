@@ -50,6 +50,14 @@ fn fields_answered(builder: &mut SchemaBuilder) -> [Result<FieldId, SchemaError>
     ]
 }
 
+/// The schema of a builder that makes one.
+pub(crate) fn built(builder: SchemaBuilder) -> Option<Schema> {
+    match builder.build() {
+        Ok(schema) => Some(schema),
+        Err(_) => None,
+    }
+}
+
 // What a field is: its owner, its guard and its first value.
 type Row = (ObjectId, ObjectId, u64);
 
@@ -109,8 +117,10 @@ fn declare_account_and_bank(builder: &mut SchemaBuilder) -> Option<()> {
 
 fn account_and_bank(alloc: Global) -> Option<Schema> {
     let mut builder = SchemaBuilder::new(alloc);
-    declare_account_and_bank(&mut builder)?;
-    builder.build().ok()
+    match declare_account_and_bank(&mut builder) {
+        Some(()) => built(builder),
+        None => None,
+    }
 }
 
 // The objects that a builder finds by an object's name, and by a field's.

@@ -1,8 +1,7 @@
 //! Commits that turn one gate each, at each of their stops.
 ghost use Rattle.image.specs.Layout.{IsLayout};
 
-use crate::images::{put, steady, study};
-use crate::unread::Unread;
+use crate::images::{put, shown, steady};
 use block_disk::{Disk, Fill, MemDisk};
 use image::{Layout, Slot, choose_control, commit_by_turning, steady_law};
 use std::alloc::Global;
@@ -38,9 +37,17 @@ fn counted(disk: &mut MemDisk, layout: &Layout) -> Option<(Slot, u64, u64)>
 
 // Three commits over a fresh image whose slot B has this gate.
 fn three_turns(alloc: Global, gate: u8) -> Option<[(Slot, u64, u64); 3]> {
-    let (mut disk, layout) = steady(alloc)?;
-    put(&mut disk, 1112, &[gate])?;
-    count_three(&mut disk, &layout)
+    match steady(alloc) {
+        Some((mut disk, layout)) => turn_from(&mut disk, &layout, gate),
+        None => None,
+    }
+}
+
+fn turn_from(disk: &mut MemDisk, layout: &Layout, gate: u8) -> Option<[(Slot, u64, u64); 3]>
+    requires { IsLayout layout.now }
+{
+    put(disk, 1112, &[gate])?;
+    count_three(disk, layout)
 }
 
 fn count_three(disk: &mut MemDisk, layout: &Layout) -> Option<[(Slot, u64, u64); 3]>
@@ -80,17 +87,6 @@ fn since(fill: Fill, gate: u64, opens: bool) -> u64 {
     }
 }
 
-// What a crash shows at this stop.
-fn shown(
-    alloc: Global,
-    disk: &MemDisk,
-    stop: u64,
-    fill: Fill,
-) -> Option<Result<(Slot, u64), Unread>> {
-    let mut image = disk.crash_image(stop, fill).ok()??;
-    Some(study(alloc, &mut image))
-}
-
 // Whether a crash at each stop of three commits over a fresh image shows the control before it up to its gate, and then its
 // own. The image takes 13 stops, and each commit has a sync before it.
 fn are_shown(alloc: Global, disk: &MemDisk, fill: Fill) -> bool {
@@ -119,14 +115,22 @@ fn expected(gates: [u64; 3], stop: u64) -> (Slot, u64) {
 
 // Which fills leave what is wanted at each stop.
 fn crashed_turns(alloc: Global) -> Option<[bool; 5]> {
-    let (mut disk, layout) = steady(alloc)?;
-    count_three(&mut disk, &layout)?;
+    match steady(alloc) {
+        Some((mut disk, layout)) => crash_turns(alloc, &mut disk, &layout),
+        None => None,
+    }
+}
+
+fn crash_turns(alloc: Global, disk: &mut MemDisk, layout: &Layout) -> Option<[bool; 5]>
+    requires { IsLayout layout.now }
+{
+    count_three(disk, layout)?;
     Some([
-        are_shown(alloc, &disk, Fill::Lost),
-        are_shown(alloc, &disk, Fill::Kept),
-        are_shown(alloc, &disk, Fill::Byte(0)),
-        are_shown(alloc, &disk, Fill::Byte(0xff)),
-        are_shown(alloc, &disk, Fill::Byte(0xa5)),
+        are_shown(alloc, disk, Fill::Lost),
+        are_shown(alloc, disk, Fill::Kept),
+        are_shown(alloc, disk, Fill::Byte(0)),
+        are_shown(alloc, disk, Fill::Byte(0xff)),
+        are_shown(alloc, disk, Fill::Byte(0xa5)),
     ])
 }
 
