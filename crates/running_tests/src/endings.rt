@@ -45,15 +45,23 @@ fn both_of(alloc: Global, first: Ended, second: Ended) -> Option<Vec<Ended>>
     vec![in alloc; first, second].ok()
 }
 
+// Closes the heap with the sessions of this list, if there is one.
+fn close_listed(alloc: Global, heap: RunningHeap<MemDisk>, list: Option<Vec<Ended>>) -> Closing
+    requires helper { IsHelping device_of heap.shared heap.helper }
+    requires ended { IfSome list (λ l. All (IsEnded heap.shared heap.helper.store.known.layout.capacity heap.helper.rings) l.items) }
+{
+    match Some(heap).zip(list) {
+        Some((heap, ended)) => close_with(alloc, heap, ended),
+        None => (None, None),
+    }
+}
+
 /// Closes the heap with this session alone.
 pub fn close_one(alloc: Global, heap: RunningHeap<MemDisk>, only: Session) -> Closing
     requires helper { IsHelping device_of heap.shared heap.helper }
     requires only { IsJoined heap.shared heap.helper.store.known.layout.capacity heap.helper.rings only }
 {
-    match one_of(alloc, end(only)) {
-        Some(ended) => close_with(alloc, heap, ended),
-        None => (None, None),
-    }
+    close_listed(alloc, heap, one_of(alloc, end(only)))
 }
 
 // Enters a monitor, and ends.
@@ -79,10 +87,7 @@ fn close_holding(
     requires second { IsJoined heap.shared heap.helper.store.known.layout.capacity heap.helper.rings second }
 {
     let held = end_holding(&heap.shared, first);
-    match both_of(alloc, held, end(second)) {
-        Some(ended) => close_with(alloc, heap, ended),
-        None => (None, None),
-    }
+    close_listed(alloc, heap, both_of(alloc, held, end(second)))
 }
 
 // Enters a monitor, stores, and begins to wait.

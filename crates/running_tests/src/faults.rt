@@ -95,27 +95,45 @@ fn seen_at<R: Wait>(rt: &R, alloc: Global, call: u64) -> Option<(Seen, Closing)>
     }
 }
 
-// What recovery gives the field for all where the device fails at this call, if all else is as it has to be.
-fn kept_at<R: Wait>(rt: &R, alloc: Global, call: u64) -> Option<u64>
-    requires { 1 ≤ call }
-{
-    let (seen, (closing, values)) = seen_at(rt, alloc, call)?;
-    let is_told = seen.first == Some(StoreError::Fault)
-        && seen.second == Some(StoreError::Failed)
-        && closing == Some(CloseError::Failed);
-    let values = values?;
-    if is_told && seen.stable == 0 && seen.goes_on && values[1] == 0 && values[2] == 0 {
+// Whether the first round is told of a fault, all calls behind it of a failed device, and no section of being acknowledged.
+fn is_told(seen: &Seen, closing: Option<CloseError>) -> bool {
+    let first = seen.first == Some(StoreError::Fault);
+    let second = seen.second == Some(StoreError::Failed);
+    let closed = closing == Some(CloseError::Failed);
+    first && second && closed && seen.stable == 0 && seen.goes_on
+}
+
+// The first of three values, if the others are 0.
+fn first_alone(values: [u64; 3]) -> Option<u64> {
+    if values[1] == 0 && values[2] == 0 {
         Some(values[0])
     } else {
         None
     }
 }
 
+// What recovery gives the field for all where the device fails at this call, if all else is as it has to be.
+fn kept_at<R: Wait>(rt: &R, alloc: Global, call: u64) -> Option<u64>
+    requires { 1 ≤ call }
+{
+    let (seen, (closing, values)) = seen_at(rt, alloc, call)?;
+    if is_told(&seen, closing) {
+        first_alone(values?)
+    } else {
+        None
+    }
+}
+
+// Whether no call is refused, and one section is told to be acknowledged.
+fn is_served(seen: &Seen, closing: Option<CloseError>) -> bool {
+    let is_ok = seen.first.is_none() && seen.second.is_none() && closing.is_none();
+    is_ok && seen.stable == 1 && seen.goes_on
+}
+
 // Whether all is as it has to be where no call fails: two sections are kept, the first of which is acknowledged before the end.
 fn is_whole<R: Wait>(rt: &R, alloc: Global) -> Option<bool> {
     let (seen, (closing, values)) = seen_at(rt, alloc, 1_000)?;
-    let is_served = seen.first.is_none() && seen.second.is_none() && closing.is_none();
-    Some(is_served && seen.stable == 1 && seen.goes_on && values == Some([2, 0, 0]))
+    Some(is_served(&seen, closing) && values == Some([2, 0, 0]))
 }
 
 #[test]

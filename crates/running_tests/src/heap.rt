@@ -64,6 +64,11 @@ fn begin<D: Disk + Drop>(
     Some(heap)
 }
 
+/// The disk of the heap, which ends.
+pub fn disk_of<D: Disk + Drop>(heap: RunningHeap<D>) -> D {
+    heap.helper.into_store().into_disk()
+}
+
 // Takes the session of the last lane of which it is there.
 fn take_last<D: Disk + Drop>(heap: &mut RunningHeap<D>) -> Option<Session>
     requires joined { All (IsJoined heap.old.shared heap.old.helper.store.known.layout.capacity heap.old.helper.rings) heap.old.sessions.items }
@@ -83,10 +88,8 @@ fn only_lane<D: Disk + Drop>(heap: RunningHeap<D>) -> Option<(RunningHeap<D>, Se
     ensures helping { IfSome result (λ o. IsHelping D.device o.0.shared o.0.helper) }
 {
     let mut heap = heap;
-    match take_last(&mut heap) {
-        Some(session) => Some((heap, session)),
-        None => None,
-    }
+    let session = take_last(&mut heap);
+    Some(heap).zip(session)
 }
 
 /// A heap with one lane, which begins to run on this disk, and its session.
@@ -104,6 +107,18 @@ pub fn open_one<D: Disk + Drop>(alloc: Global, disk: D) -> Option<(RunningHeap<D
 /// A heap of two lanes, and their sessions.
 pub type TwoLanes = (RunningHeap<MemDisk>, Session, Session);
 
+// Takes both sessions of a heap of two lanes, of which they are there.
+fn take_both(heap: &mut RunningHeap<MemDisk>) -> Option<(Session, Session)>
+    requires joined { All (IsJoined heap.old.shared heap.old.helper.store.known.layout.capacity heap.old.helper.rings) heap.old.sessions.items }
+    ensures first { IfSome result (λ r. IsJoined heap.new.shared heap.new.helper.store.known.layout.capacity heap.new.helper.rings r.0) }
+    ensures second { IfSome result (λ r. IsJoined heap.new.shared heap.new.helper.store.known.layout.capacity heap.new.helper.rings r.1) }
+    ensures helping { IsHelping device_of heap.old.shared heap.old.helper → IsHelping device_of heap.new.shared heap.new.helper }
+{
+    let second = take_last(heap);
+    let first = take_last(heap);
+    first.zip(second)
+}
+
 // Its sessions are apart.
 fn both_lanes(heap: RunningHeap<MemDisk>) -> Option<TwoLanes>
     requires joined { All (IsJoined heap.shared heap.helper.store.known.layout.capacity heap.helper.rings) heap.sessions.items }
@@ -113,9 +128,9 @@ fn both_lanes(heap: RunningHeap<MemDisk>) -> Option<TwoLanes>
     ensures helping { IfSome result (λ o. IsHelping device_of o.0.shared o.0.helper) }
 {
     let mut heap = heap;
-    let second = take_last(&mut heap)?;
-    match take_last(&mut heap) {
-        Some(first) => Some((heap, first, second)),
+    let both = take_both(&mut heap);
+    match Some(heap).zip(both) {
+        Some((heap, sessions)) => Some((heap, sessions.0, sessions.1)),
         None => None,
     }
 }

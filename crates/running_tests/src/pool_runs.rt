@@ -6,7 +6,7 @@ ghost use Rattle.pool_in_section.specs.Knowing.{home_of};
 ghost use Rattle.running_heap.specs.Joined.{IsHelping};
 ghost use Rattle.session.specs.Sessions.{IsSessionOf};
 
-use crate::heap::open_two;
+use crate::heap::{disk_of, open_two};
 use crate::images::recover_either;
 use crate::pool_lists::WholeList;
 use crate::work::serve;
@@ -39,16 +39,24 @@ fn lay_out(builder: &mut SchemaBuilder) -> Option<Pool>
     Some(pool)
 }
 
+// The schema that was laid out, beside its pool.
+fn built(builder: SchemaBuilder, pool: Pool) -> Option<(Schema, Pool)>
+    requires slots { pool.slots ≡ 4 }
+    ensures slots { IfSome result (λ r. r.1.slots ≡ 4) }
+{
+    match builder.build() {
+        Ok(schema) => Some((schema, pool)),
+        Err(_) => None,
+    }
+}
+
 // The schema of these.
 fn declare(alloc: Global) -> Option<(Schema, Pool)>
     ensures slots { IfSome result (λ r. r.1.slots ≡ 4) }
 {
     let mut builder = SchemaBuilder::new(alloc);
     match lay_out(&mut builder) {
-        Some(pool) => match builder.build() {
-            Ok(schema) => Some((schema, pool)),
-            Err(_) => None,
-        },
+        Some(pool) => built(builder, pool),
         None => None,
     }
 }
@@ -142,7 +150,7 @@ fn play(
         run,
         turns,
     );
-    heap.helper.into_store().into_disk()
+    disk_of(heap)
 }
 
 // The same of a heap that begins to run, and all of whose slots are free.

@@ -86,18 +86,29 @@ fn race<R: Threads + Wait + Sync>(
     )
 }
 
+// The same of this heap.
+fn race_of<R: Threads + Wait + Sync>(
+    rt: &R,
+    heap: RunningHeap<MemDisk>,
+    first: Session,
+    second: Session,
+) -> ((Notes, Notes), MemDisk)
+    requires seats { IsSessionOf heap.shared first × IsSessionOf heap.shared second }
+    requires helping { IsHelping device_of heap.shared heap.helper }
+{
+    let RunningHeap {
+        shared,
+        sessions: _,
+        helper,
+    } = heap;
+    race(rt, &shared, first, second, helper)
+}
+
 // The same of a heap that begins to run.
 fn raced<R: Threads + Wait + Sync>(rt: &R, alloc: Global) -> Option<((Notes, Notes), MemDisk)> {
     let schema = declare(alloc)?;
     match open_two(alloc, schema) {
-        Some((heap, first, second)) => {
-            let RunningHeap {
-                shared,
-                sessions: _,
-                helper,
-            } = heap;
-            Some(race(rt, &shared, first, second, helper))
-        }
+        Some((heap, first, second)) => Some(race_of(rt, heap, first, second)),
         None => None,
     }
 }

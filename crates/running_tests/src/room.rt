@@ -8,6 +8,7 @@ use crate::heap::{new_disk, open_one};
 use crate::work::{ALL, serve};
 use block_disk::MemDisk;
 use monitor::Shared;
+use running_heap::RunningHeap;
 use session::{Session, SessionError};
 use std::alloc::Global;
 use trim_helper::Helper;
@@ -43,13 +44,19 @@ fn measure(shared: &Shared, session: &mut Session, helper: &mut Helper<MemDisk>)
     (before, stable, pass(shared, session, 4_000))
 }
 
+// The same of this heap.
+fn measure_heap(heap: &mut RunningHeap<MemDisk>, session: &mut Session) -> Room
+    requires seat { IsSessionOf heap.old.shared session.old }
+    requires helping { IsHelping device_of heap.old.shared heap.old.helper }
+{
+    measure(&heap.shared, session, &mut heap.helper)
+}
+
 // The same of a heap that begins to run.
 fn room_about_a_round(alloc: Global) -> Option<Room> {
     let disk = new_disk(alloc)?;
     match open_one(alloc, disk) {
-        Some((mut heap, mut session)) => {
-            Some(measure(&heap.shared, &mut session, &mut heap.helper))
-        }
+        Some((mut heap, mut session)) => Some(measure_heap(&mut heap, &mut session)),
         None => None,
     }
 }

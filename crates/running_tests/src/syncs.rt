@@ -6,10 +6,11 @@ ghost use Rattle.running_heap.specs.Joined.{IsHelping};
 ghost use Rattle.session.specs.Sessions.{IsSessionOf};
 
 use crate::counted_disk::CountedDisk;
-use crate::heap::{new_disk, open_one};
+use crate::heap::{disk_of, new_disk, open_one};
 use crate::work::{add_one, serve};
 use block_disk::MemDisk;
 use monitor::Shared;
+use running_heap::RunningHeap;
 use session::Session;
 use std::alloc::Global;
 use std::sync::Wait;
@@ -38,20 +39,34 @@ fn add_and_serve<R: Wait>(
     is_ok
 }
 
+// The same of this heap.
+fn serve_heap<R: Wait>(
+    rt: &R,
+    heap: &mut RunningHeap<CountedDisk>,
+    session: &mut Session,
+    sections: u32,
+    rounds: u32,
+) -> bool
+    requires helping { IsHelping (λ d. device_of d.disk) heap.old.shared heap.old.helper }
+    requires seat { IsSessionOf heap.old.shared session.old }
+{
+    add_and_serve(
+        rt,
+        &heap.shared,
+        session,
+        &mut heap.helper,
+        sections,
+        rounds,
+    )
+}
+
 // The writes and syncs that were made then of the disk of a heap that began to run.
 fn counts<R: Wait>(rt: &R, alloc: Global, sections: u32, rounds: u32) -> Option<(u64, u64)> {
     let disk = CountedDisk::of(new_disk(alloc)?);
     match open_one(alloc, disk) {
         Some((mut heap, mut session)) => {
-            let is_ok = add_and_serve(
-                rt,
-                &heap.shared,
-                &mut session,
-                &mut heap.helper,
-                sections,
-                rounds,
-            );
-            let counts = heap.helper.into_store().into_disk().counts;
+            let is_ok = serve_heap(rt, &mut heap, &mut session, sections, rounds);
+            let counts = disk_of(heap).counts;
             if is_ok { Some(counts) } else { None }
         }
         None => None,

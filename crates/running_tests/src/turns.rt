@@ -5,7 +5,7 @@ ghost use Rattle.block_disk.specs.Memory.{device_of};
 ghost use Rattle.running_heap.specs.Joined.{IsHelping};
 ghost use Rattle.session.specs.Sessions.{IsSessionOf};
 
-use crate::heap::{declare, open_two};
+use crate::heap::{declare, disk_of, open_two};
 use crate::images::recover_either;
 use crate::notes::{Did, Notes};
 use crate::work::serve;
@@ -65,6 +65,21 @@ fn take_turns<R: Wait>(
     did
 }
 
+// The same of this heap.
+fn take_turns_of<R: Wait>(
+    rt: &R,
+    heap: &mut RunningHeap<MemDisk>,
+    first: &mut Session,
+    second: &mut Session,
+    turns: usize,
+) -> Did
+    requires first { IsSessionOf heap.old.shared first.old }
+    requires second { IsSessionOf heap.old.shared second.old }
+    requires helping { IsHelping device_of heap.old.shared heap.old.helper }
+{
+    take_turns(rt, &heap.shared, first, second, &mut heap.helper, turns)
+}
+
 // The same of this heap, and its disk then.
 fn play<R: Wait>(
     rt: &R,
@@ -77,16 +92,11 @@ fn play<R: Wait>(
     requires second { IsSessionOf heap.shared second }
     requires helping { IsHelping device_of heap.shared heap.helper }
 {
-    let (mut heap, mut first, mut second) = (heap, first, second);
-    let did = take_turns(
-        rt,
-        &heap.shared,
-        &mut first,
-        &mut second,
-        &mut heap.helper,
-        turns,
-    );
-    (heap.helper.into_store().into_disk(), did)
+    let mut heap = heap;
+    let mut first = first;
+    let mut second = second;
+    let did = take_turns_of(rt, &mut heap, &mut first, &mut second, turns);
+    (disk_of(heap), did)
 }
 
 // The same of a heap that begins to run.

@@ -22,7 +22,7 @@ pub fn take_number<R: Wait>(rt: &R, shared: &Shared, session: &mut Session, own:
     let left = session.exit(shared, ALL).is_ok();
     let stored = session.store(shared, FieldId(own), number).is_ok();
     let left_own = session.exit(shared, ObjectId(own)).is_ok();
-    if entered && counted && entered_own && left && stored && left_own {
+    if entered & counted & entered_own & left & stored & left_own {
         number
     } else {
         0
