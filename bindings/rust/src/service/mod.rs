@@ -23,8 +23,8 @@
 //! depends on; once [`Session::durable`] has answered, no crash loses what the session had ended.
 //!
 //! The helper's thread makes rounds while there is work, and makes their calls on the file; without work it sleeps, and no thread that
-//! waits spins but for a moment. A round comes when a thread waits for one ([`Session::durable`], or a lane without room), when a lane is
-//! half full, and else so long after a section's end as [`Options::linger`] says.
+//! waits spins but for a moment. A round comes when a thread waits for one ([`Session::durable`], or a lane without room), when a lane has
+//! sent a quarter of what its ring holds, and else so long after a section's end as [`Options::linger`] says.
 //!
 //! [`ErrorKind`] says of each failure whether the heap goes on.
 use crate::{Field, Found, Pool, Refusal, Report};
@@ -98,8 +98,9 @@ impl Options {
         self
     }
 
-    /// How many records a lane's log holds, 2,000 to 1,048,576; 4,096 where it isn't said. More is of use only while a section that
-    /// others depend on stays open for long. A heap that is there keeps its own.
+    /// How many records a lane's log holds, 2,000 to 1,048,576; 4,096 where it isn't said. More is of use where threads wait for
+    /// none of their sections, since a round then takes more at once, and while a section that others depend on stays open for
+    /// long. A heap that is there keeps its own.
     ///
     /// ```
     /// let options = zelamiku::service::Heap::options().capacity(65_536);
