@@ -4,8 +4,10 @@ use Rattle.std.specs.Prelude.{IsTrue, not, unwrap_or}
 use Rattle.std.specs.Borrow.{Bor}
 use Rattle.std.specs.Str.Parse.{ParsesBool, ParsesUnsigned, parse_bool_error}
 use Rattle.clap.specs.Matches.{ReadsOne}
-use Rattle.clap.specs.Built.{AddsSubcommand}
-use Rattle.clap.specs.Simple.{App, app_of, with_subcommand}
+use Rattle.clap.specs.Built.{AddsArg, AddsSubcommand}
+use Rattle.clap.specs.Simple.{App, app_of, with_rule, with_subcommand}
+use Rattle.clap.specs.Walk.{rule_of}
+use Rattle.clap.specs.declared.builder.arg.Arg.{Arg}
 use Rattle.clap.specs.declared.builder.command.Command.{Command}
 use Rattle.command_words.specs.Words.{MayRead, Reads}
 
@@ -70,3 +72,8 @@ pub word_added : (old word new : Command) (before added : App) → app_of old �
 word_added old word new before added old_is word_is plain adds =
     let local = third_is_off _ _ _ _ (ap (λ (a : App). a.top.is_plain) word_is ∙ plain) in
     adds.shape local ∙ ap₂ with_subcommand old_is (ap (λ (a : App). a.top) word_is)
+
+-- an option more
+pub option_added : (old : Command) (a : Arg) (new : Command) (before : App) → app_of old ≡ before → a.global ≡ false → AddsArg old a new
+    → app_of new ≡ with_rule before (rule_of a)
+option_added old a new before old_is own adds = adds.shape own ∙ ap (λ (x : App). with_rule x (rule_of a)) old_is

@@ -125,13 +125,9 @@ top = record {
   subs = [];
 }
 
--- with the word `run`
-abbrev pub play_words : App
-play_words = with_subcommand top run_words.top
-
 -- with all its words
 abbrev pub program : App
-program = with_subcommand (with_subcommand (with_subcommand (with_subcommand (with_subcommand (with_subcommand play_words format_words.top) show_words.top) recover_words.top) upgrade_words.top) drive_words.top) dump_words.top
+program = with_subcommand (with_subcommand (with_subcommand (with_subcommand (with_subcommand (with_subcommand (with_subcommand top run_words.top) format_words.top) show_words.top) recover_words.top) upgrade_words.top) drive_words.top) dump_words.top
 
 -- the number that an option's text spells, where it spells one that fits
 abbrev pub Reads : (bits : ℕ) → Option Text → ℕ → Type 0

@@ -1,11 +1,11 @@
 //! The program's words.
-ghost use Rattle.std.specs.Prelude.{◌≡◌, ◌↔◌, ◌∷◌, [], List, ℕ, codes, false, map, option_map, string_bytes, unwrap_or, IfErr, IfOk, IsTrue};
-ghost use Rattle.clap.specs.Simple.{app_of, subcommand_of, subcommand_rows_of};
+ghost use Rattle.std.specs.Prelude.{◌≡◌, ◌↔◌, ◌∷◌, [], List, ℕ, codes, false, true, map, option_map, string_bytes, unwrap_or, IfErr, IfOk, IsTrue};
+ghost use Rattle.clap.specs.Simple.{App, app_of, subcommand_of, subcommand_rows_of, with_rule, with_subcommand};
 ghost use Rattle.clap.specs.Values.{kind_of};
-ghost use Rattle.clap.specs.Walk.{first_of, one_of, rows_of, rule_of};
+ghost use Rattle.clap.specs.Walk.{Rule, first_of, one_of, rows_of, rule_of};
 ghost use Rattle.clap.specs.Matches.{found_of};
 ghost use Rattle.clap.specs.declared.error.kind.ErrorKind.TheVariants.{ArgumentConflict, OutOfMemory};
-ghost use Rattle.command_words.specs.Words.{AsksFor, HasBothLengths, HasOnePath, HasOtherSectors, IsAnsweredBy, IsSet, MayRead, Reads, capacity_option, dot_flag, drive_words, dump_words, file_option, format_words, lanes_option, last_option, path_option, plain_format_words, play_words, program, recover_words, rounds_option, run_words, seconds_option, sectors_option, show_words, upgrade_words, workers_option};
+ghost use Rattle.command_words.specs.Words.{AsksFor, HasBothLengths, HasOnePath, HasOtherSectors, IsAnsweredBy, IsSet, MayRead, Reads, capacity_option, dot_flag, drive_words, dump_words, file_option, format_words, lanes_option, last_option, path_option, plain_format_words, program, recover_words, rounds_option, run_words, seconds_option, sectors_option, show_words, top as top_words, upgrade_words, workers_option};
 
 use clap::error::ErrorKind;
 use clap::{Arg, ArgAction, ArgMatches, Command, Error, value_parser};
@@ -211,59 +211,92 @@ fn sectors<'a>(alloc: Global) -> Arg<'a>
         .value_parser(value_parser!(u32).range(512..=4096))
 }
 
+// The command with this option more, where there was memory for it.
+fn with_option<'a>(
+    command: Result<Command<'a>, AllocError>,
+    option: Arg<'a>,
+) -> Result<Command<'a>, AllocError>
+    requires { option.global ≡ false }
+    ensures { (was : App) (rule : Rule) → IfOk command.entry (λ c. app_of c ≡ was) → rule_of option.entry ≡ rule
+        → IfOk result (λ c. app_of c ≡ with_rule was rule) }
+{
+    match command {
+        Ok(command) => command.arg(option),
+        Err(why) => Err(why),
+    }
+}
+
+// The command with this word more, where there was memory for both.
+fn with_word<'a>(
+    command: Result<Command<'a>, AllocError>,
+    word: Result<Command<'a>, AllocError>,
+) -> Result<Command<'a>, AllocError>
+    ensures { (was added : App) → IfOk command.entry (λ c. app_of c ≡ was) → IfOk word.entry (λ c. app_of c ≡ added) → added.top.is_plain ≡ true
+        → IfOk result (λ c. app_of c ≡ with_subcommand was added.top) }
+{
+    match command {
+        Ok(command) => match word {
+            Ok(word) => command.subcommand(word),
+            Err(why) => Err(why),
+        },
+        Err(why) => Err(why),
+    }
+}
+
 // `format` without the option of an image in two places.
 fn plain_format<'a>(alloc: Global) -> Result<Command<'a>, AllocError>
     ensures { IfOk result (λ command. app_of command ≡ plain_format_words) }
 {
-    Command::new(alloc, "format")
-        .about(
-            "Makes an image file for the objects and fields of a schema file, and replaces an image that is there",
-        )
-        .arg(path(
-            alloc,
-            "image",
-            "The image file to make, at another path than the schema file",
-        ))?
-        .arg(path(alloc, "schema", "The schema file"))?
-        .arg(lanes(alloc))?
-        .arg(capacity(alloc))
+    let image = path(
+        alloc,
+        "image",
+        "The image file to make, at another path than the schema file",
+    );
+    let command = Command::new(alloc, "format").about(
+        "Makes an image file for the objects and fields of a schema file, and replaces an image that is there",
+    );
+    let command = with_option(Ok(command), image);
+    let command = with_option(command, path(alloc, "schema", "The schema file"));
+    let command = with_option(command, lanes(alloc));
+    with_option(command, capacity(alloc))
 }
 
 fn format<'a>(alloc: Global) -> Result<Command<'a>, AllocError>
     ensures { IfOk result (λ command. app_of command ≡ format_words) }
 {
-    let plain = plain_format(alloc)?;
-    plain.arg(sectors(alloc))
+    with_option(plain_format(alloc), sectors(alloc))
 }
 
 fn show<'a>(alloc: Global) -> Result<Command<'a>, AllocError>
     ensures { IfOk result (λ command. app_of command ≡ show_words) }
 {
-    Command::new(alloc, "show")
-        .about("Prints what an image file holds, and leaves the file as it is")
-        .arg(path(alloc, "image", "The image file to read"))?
-        .arg(dot(alloc))?
-        .arg(last(alloc))?
-        .arg(file(
-            alloc,
-            "schema",
-            "With --dot: the schema file of the image, for names. Numbers without this",
-        ))
+    let schema = file(
+        alloc,
+        "schema",
+        "With --dot: the schema file of the image, for names. Numbers without this",
+    );
+    let command = Command::new(alloc, "show").about(
+        "Prints what an image file holds, and leaves the file as it is",
+    );
+    let command = with_option(Ok(command), path(alloc, "image", "The image file to read"));
+    let command = with_option(command, dot(alloc));
+    let command = with_option(command, last(alloc));
+    with_option(command, schema)
 }
 
 fn dump<'a>(alloc: Global) -> Result<Command<'a>, AllocError>
     ensures { IfOk result (λ command. app_of command ≡ dump_words) }
 {
-    Command::new(alloc, "dump")
-        .about(
-            "Prints a schema file whose first values are those that 'recover' gives, and leaves the image file as it is: 'format' of it, with more lines at its end or none, makes an image with the same heap",
-        )
-        .arg(path(alloc, "image", "The image file to read"))?
-        .arg(file(
-            alloc,
-            "schema",
-            "The schema file of the image, for names. Without this they are o0 and f0, and so on",
-        ))
+    let schema = file(
+        alloc,
+        "schema",
+        "The schema file of the image, for names. Without this they are o0 and f0, and so on",
+    );
+    let command = Command::new(alloc, "dump").about(
+        "Prints a schema file whose first values are those that 'recover' gives, and leaves the image file as it is: 'format' of it, with more lines at its end or none, makes an image with the same heap",
+    );
+    let command = with_option(Ok(command), path(alloc, "image", "The image file to read"));
+    with_option(command, schema)
 }
 
 fn recover<'a>(alloc: Global) -> Result<Command<'a>, AllocError>
@@ -289,69 +322,67 @@ fn upgrade<'a>(alloc: Global) -> Result<Command<'a>, AllocError>
 fn drive<'a>(alloc: Global) -> Result<Command<'a>, AllocError>
     ensures { IfOk result (λ command. app_of command ≡ drive_words) }
 {
-    Command::new(alloc, "drive")
-        .about(
-            "Lets threads count on one heap, and prints how many sections of each are acknowledged, and what they have counted",
-        )
-        .arg(workers(alloc))?
-        .arg(rounds(alloc))?
-        .arg(seconds(alloc))?
-        .arg(file(
-            alloc,
-            "image",
-            "The image file on which they work: made where it is missing or empty, and else gone on with. In memory without this",
-        ))
+    let image = file(
+        alloc,
+        "image",
+        "The image file on which they work: made where it is missing or empty, and else gone on with. In memory without this",
+    );
+    let command = Command::new(alloc, "drive").about(
+        "Lets threads count on one heap, and prints how many sections of each are acknowledged, and what they have counted",
+    );
+    let command = with_option(Ok(command), workers(alloc));
+    let command = with_option(command, rounds(alloc));
+    let command = with_option(command, seconds(alloc));
+    with_option(command, image)
 }
 
 fn run<'a>(alloc: Global) -> Result<Command<'a>, AllocError>
     ensures { IfOk result (λ command. app_of command ≡ run_words) }
 {
-    Command::new(alloc, "run")
-        .about(
-            "Plays the script on standard input, as no word at all does too. With --image it is played over an image file: the file is recovered, what the lines leave of it takes its place, and then the report and what they print is printed; where that can't be done, nothing is, and the file stays as it was",
-        )
-        .arg(file(
-            alloc,
-            "image",
-            "The image file to play the script over. In memory without this",
-        ))?
-        .arg(file(
-            alloc,
-            "schema",
-            "With --image: the schema file of the image, for names. Without this they are o0 and f0, and so on",
-        ))
+    let image = file(
+        alloc,
+        "image",
+        "The image file to play the script over. In memory without this",
+    );
+    let schema = file(
+        alloc,
+        "schema",
+        "With --image: the schema file of the image, for names. Without this they are o0 and f0, and so on",
+    );
+    let command = Command::new(alloc, "run").about(
+        "Plays the script on standard input, as no word at all does too. With --image it is played over an image file: the file is recovered, what the lines leave of it takes its place, and then the report and what they print is printed; where that can't be done, nothing is, and the file stays as it was",
+    );
+    with_option(with_option(Ok(command), image), schema)
 }
 
-// `heapctl` with the word that there was first.
-fn play<'a>(alloc: Global) -> Result<Command<'a>, AllocError>
-    ensures { IfOk result (λ command. app_of command ≡ play_words) }
+// `heapctl` alone.
+fn top<'a>(alloc: Global) -> Command<'a>
+    ensures { app_of result ≡ top_words }
 {
-    let run = run(alloc)?;
-    let top = Command::new(alloc, "heapctl")
+    Command::new(alloc, "heapctl")
         .version("0.1.0")
         .about("Plays threads on an object heap that survives crashes")
-        .after_help(EXIT_STATUSES);
-    top.subcommand(run)
+        .after_help(EXIT_STATUSES)
 }
 
 // The words that there are, with their help.
 fn command<'a>(alloc: Global) -> Result<Command<'a>, AllocError>
     ensures { IfOk result (λ command. app_of command ≡ program) }
 {
-    play(alloc)?
-        .subcommand(format(alloc)?)?
-        .subcommand(show(alloc)?)?
-        .subcommand(recover(alloc)?)?
-        .subcommand(upgrade(alloc)?)?
-        .subcommand(drive(alloc)?)?
-        .subcommand(dump(alloc)?)
+    let command = with_word(Ok(top(alloc)), run(alloc));
+    let command = with_word(command, format(alloc));
+    let command = with_word(command, show(alloc));
+    let command = with_word(command, recover(alloc));
+    let command = with_word(command, upgrade(alloc));
+    let command = with_word(command, drive(alloc));
+    with_word(command, dump(alloc))
 }
 
 /// Reads the words; the program's name comes first.
 ///
 /// An `Err` holds the text to print: for wrong words what is wrong, for `--help` and `--version` what they ask for. Its
 /// kind is `OutOfMemory` where there was no memory. `format` with one path for the image and for the schema, which would
-/// be emptied, is an `ArgumentConflict`: paths are compared as they are written. `drive` with both `--rounds` and `--seconds` is one too,
+/// be replaced, is an `ArgumentConflict`: paths are compared as they are written. `drive` with both `--rounds` and `--seconds` is one too,
 /// and `format` with sectors of other than 512 or 4,096 bytes.
 pub fn read_words<'a>(alloc: Global, words: &'a [String]) -> Result<Words<'a>, Error>
     ensures exact { IsAnsweredBy (map (λ s. string_bytes s) words.entry.now) result }
