@@ -6,7 +6,7 @@ use heap_model::Lane;
 use std::alloc::AllocError;
 
 /// A monitor. Its release number counts how often it has become free since the heap was opened.
-#[derive(Clone, Copy, Debug, PartialEq, Eq)]
+#[derive(Clone, Copy)]
 pub(crate) enum Monitor {
     /// Nobody owns it.
     Free {

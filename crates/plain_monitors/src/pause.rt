@@ -6,7 +6,7 @@ ghost use Rattle.plain_monitors.specs.WaitSets.{is_in_set, waiting_in};
 use heap_model::ObjectId;
 
 /// What a thread waits for. The locks that it keeps aside are `again + 1`.
-#[derive(Clone, Copy, Debug, PartialEq, Eq)]
+#[derive(Clone, Copy)]
 pub(crate) enum Pause {
     /// It doesn't wait.
     Awake,
