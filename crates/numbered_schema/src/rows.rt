@@ -20,12 +20,28 @@ pub fn declare(alloc: Global, objects: u32, rows: &[GuardRow]) -> Result<Schema,
     ensures refused { IfErr result (RefusesRows objects rows.now) }
 {
     let mut builder = SchemaBuilder::new(alloc);
-    declare_objects(alloc, &mut builder, objects)?;
-    declare_rows(alloc, &mut builder, objects, rows)?;
-    match builder.build() {
-        Ok(schema) => Ok(schema),
-        Err((_, refusal)) => Err(refusal),
+    match declare_all(alloc, &mut builder, objects, rows) {
+        Ok(()) => match builder.build() {
+            Ok(schema) => Ok(schema),
+            Err((_, refusal)) => Err(refusal),
+        },
+        Err(refusal) => Err(refusal),
     }
+}
+
+// So many objects, and then these fields.
+fn declare_all(
+    alloc: Global,
+    builder: &mut SchemaBuilder,
+    objects: u32,
+    rows: &[GuardRow],
+) -> Result<(), SchemaError>
+    requires { builder.old ≡ numbered 0 [] }
+    ensures ok { OnOk result (builder.new ≡ numbered objects rows.now) }
+    ensures refused { IfErr result (RefusesRows objects rows.now) }
+{
+    declare_objects(alloc, builder, objects)?;
+    declare_rows(alloc, builder, objects, rows)
 }
 
 // So many objects.

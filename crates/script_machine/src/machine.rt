@@ -6,6 +6,7 @@ ghost use Rattle.script_machine.specs.Images.{image_in};
 ghost use Rattle.script_machine.specs.Machine as machine;
 ghost use Rattle.script_machine.specs.Machine.{IsStart, Spent, Steps};
 ghost use Rattle.script_machine.specs.OfSchema.{IsDiskOf};
+ghost use Rattle.script_machine.specs.Phases.{shown};
 
 use crate::answer::Answer;
 use crate::down::Down;
@@ -29,9 +30,9 @@ pub struct Machine {
 impl Model for Machine {
     ghost use Rattle.script_machine.specs.Machine.{MachineState};
 
-    ghost Value = { MachineState };
-
     ghost use Rattle.script_machine.specs.Phases.{shown};
+
+    ghost Value = { MachineState };
 
     ghost view = { λ m. shown m.phase };
 }
@@ -69,9 +70,24 @@ impl Machine {
         ensures ok { IfOk result (λ answer. Steps self.old (order_of command.now) answer self.new) }
         ensures err { OnErr result (self.new ≡ Spent) }
     {
-        let phase = mem::replace(&mut self.phase, Phase::Spent);
-        let (phase, answer) = phase.step(alloc, command)?;
-        self.phase = phase;
+        let (phase, answer) = self.take().step(alloc, command)?;
+        self.put(phase);
         Ok(answer)
+    }
+
+    // Takes the state out, and leaves a machine that is spent. This and the next stand alone, since to move a state in place is
+    // dear to the prover.
+    fn take(&mut self) -> Phase
+        ensures taken { shown result ≡ self.old }
+        ensures spent { self.new ≡ Spent }
+    {
+        mem::replace(&mut self.phase, Phase::Spent)
+    }
+
+    // Puts this state in the place of what is there.
+    fn put(&mut self, phase: Phase)
+        ensures { self.new ≡ shown phase }
+    {
+        self.phase = phase;
     }
 }
