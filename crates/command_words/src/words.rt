@@ -392,7 +392,11 @@ pub fn read_words<'a>(alloc: Global, words: &'a [String]) -> Result<Words<'a>, E
 {
     let command = command(alloc)?;
     let asked = match command.try_get_matches_from(words) {
-        Ok(matches) => asked_by(&matches),
+        Ok(matches) => {
+            let asked = asked_by(&matches);
+            drop(matches);
+            asked
+        }
         Err(answer) => return Err(answer),
     };
     if has_one_path(&asked) {
@@ -449,7 +453,9 @@ fn conflict(alloc: Global, why: &'static str) -> Result<Error, AllocError>
     ensures { IfOk result (λ answer. kind_of answer ≡ ArgumentConflict) }
 {
     let mut command = command(alloc)?;
-    command.error(ErrorKind::ArgumentConflict, why)
+    let answer = command.error(ErrorKind::ArgumentConflict, why);
+    drop(command);
+    answer
 }
 
 // What the words ask for in which this was found.
