@@ -16,13 +16,22 @@ pub fn declare(alloc: Global, workers: u8) -> Result<Schema, SchemaError>
     ensures memory { IfErr result (λ e. e ≡ SchemaError.NoMemory) }
 {
     let mut builder = SchemaBuilder::new(alloc);
-    declare_count(&mut builder, "all", "total")?;
+    if let Err(error) = declare_count(&mut builder, "all", "total") {
+        drop(builder);
+        return Err(error);
+    }
     for worker in 0..workers {
-        declare_own(alloc, &mut builder, worker)?;
+        if let Err(error) = declare_own(alloc, &mut builder, worker) {
+            drop(builder);
+            return Err(error);
+        }
     }
     match builder.build() {
         Ok(schema) => Ok(schema),
-        Err((_, error)) => Err(error),
+        Err((builder, error)) => {
+            drop(builder);
+            Err(error)
+        }
     }
 }
 

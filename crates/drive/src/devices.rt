@@ -85,7 +85,9 @@ pub fn image_size(alloc: Global, workers: u8) -> Result<u64, DriveError>
         Ok(schema) => schema,
         Err(refusal) => return Err(DriveError::Schema(refusal)),
     };
-    match Layout::of(&schema, workers, CAPACITY) {
+    let layout = Layout::of(&schema, workers, CAPACITY);
+    drop(schema);
+    match layout {
         Some(layout) => Ok(layout.size()),
         None => Err(DriveError::Image(ImageError::BadHeader)),
     }
@@ -113,7 +115,10 @@ pub fn drive_new<D: Disk + Drop, M: Meet + Sync, R: Threads + Wait + Sync>(
     };
     match make(alloc, disk, &schema, workers) {
         Ok(made) => drive_made(rt, alloc, meet, schema, made, workers, rounds),
-        Err(refusal) => Err(refusal),
+        Err(refusal) => {
+            drop(schema);
+            Err(refusal)
+        }
     }
 }
 
@@ -165,7 +170,10 @@ pub fn drive_on<D: Disk + Drop, M: Meet + Sync, R: Threads + Wait + Sync>(
     let mut disk = disk;
     match look(alloc, &mut disk, &schema, workers) {
         Ok(()) => go_on(rt, alloc, meet, disk, schema, workers, rounds),
-        Err(refusal) => Err((disk, refusal)),
+        Err(refusal) => {
+            drop(schema);
+            Err((disk, refusal))
+        }
     }
 }
 
@@ -218,7 +226,10 @@ fn go_on<D: Disk + Drop, M: Meet + Sync, R: Threads + Wait + Sync>(
 {
     match find(alloc, disk, workers) {
         Ok(found) => drive_made(rt, alloc, meet, schema, found, workers, rounds),
-        Err((disk, refusal)) => Err((disk, DriveError::Recover(refusal))),
+        Err((disk, refusal)) => {
+            drop(schema);
+            Err((disk, DriveError::Recover(refusal)))
+        }
     }
 }
 

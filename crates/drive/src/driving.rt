@@ -95,19 +95,28 @@ fn run<D: Disk + Drop, M: Meet + Sync, R: Threads + Wait + Sync>(
         helper,
     } = heap;
     let Ok(workers) = number_all(alloc, sessions) else {
+        drop(shared);
         return Err((disk_of(helper), DriveError::NoMemory));
     };
     let Raced { worked, served } = match race(rt, meet, &shared, workers, helper, rounds) {
         Ok(raced) => raced,
-        Err(helper) => return Err((disk_of(helper), DriveError::NoMemory)),
+        Err(helper) => {
+            drop(shared);
+            return Err((disk_of(helper), DriveError::NoMemory));
+        }
     };
     let Served { helper, answer } = served;
     if let Err(reason) = answer {
+        drop(worked);
+        drop(shared);
         return Err((disk_of(helper), DriveError::Helper(reason)));
     }
     match worked {
         Ok(worked) => end_all(alloc, shared, worked, helper),
-        Err(_) => Err((disk_of(helper), DriveError::NoMemory)),
+        Err(_) => {
+            drop(shared);
+            Err((disk_of(helper), DriveError::NoMemory))
+        }
     }
 }
 
@@ -135,11 +144,16 @@ fn end_all<D: Disk>(
 {
     round_law::<D>();
     let Ok((ended, refusal)) = part(alloc, worked) else {
+        drop(shared);
         return Err((disk_of(helper), DriveError::NoMemory));
     };
     match refusal {
         None => close_all(alloc, shared, ended, helper),
-        Some(refusal) => Err((disk_of(helper), DriveError::Session(refusal))),
+        Some(refusal) => {
+            drop(ended);
+            drop(shared);
+            Err((disk_of(helper), DriveError::Session(refusal)))
+        }
     }
 }
 

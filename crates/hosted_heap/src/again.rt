@@ -6,14 +6,14 @@ ghost use Rattle.hosted_heap.specs.declared.lane_end.LaneEnd.{LaneEnd as End};
 ghost use Rattle.rtrb.specs.Ring.{IsPair, known_free, known_items, received, sent};
 ghost use Rattle.trim_helper.specs.Endings.{Rings};
 
-use crate::beginning::seat;
+use crate::beginning::{outfit, seat};
 use crate::heap::HostedHeap;
 use crate::lane_end::LaneEnd;
 use crate::returning::Returning;
 use crate::seated::HostedSession;
-use crate::stop::{Stop, Stopper};
+use crate::stop::Stop;
 use monitor::Shared;
-use rtrb::{Consumer, Producer, RingBuffer};
+use rtrb::{Consumer, Producer};
 use session::Session;
 use std::alloc::{AllocError, Global};
 use std::sync::Arc;
@@ -33,38 +33,15 @@ impl HostedHeap {
         let (shared, stop, producer, back) = outfit(self.alloc, &self.shared, &mut self.stop)?;
         let first = self.unused.len();
         let Some(place) = find_idle(&mut self.lanes, first) else {
+            drop(shared);
+            drop(stop);
+            drop(producer);
+            drop(back);
             return Ok(None);
         };
         let session = hand_out_at(&mut self.lanes, place, shared, stop, producer, back);
         Ok(Some(session))
     }
-}
-
-// What a session of this heap is handed out with: the words, what it learns of a stop by, and the ring by which it comes back.
-fn outfit(
-    alloc: Global,
-    shared: &Arc<Shared>,
-    stop: &mut Stopper,
-) -> Result<
-    (
-        Arc<Shared>,
-        Stop,
-        Producer<Session, Global, Returning>,
-        Consumer<Session, Global, Returning>,
-    ),
-    AllocError,
->
-    ensures home { IfOk result (λ r. arc_value r.0 ≡ arc_value shared.now) }
-    ensures word { IfOk result (λ r. r.1 ≡ stop.old) }
-    ensures pair { IfOk result (λ r. IsPair r.2 r.3) }
-    ensures unsent { IfOk result (λ r. (sent r.2 ≡ []) × (known_free r.2 ≡ 2)) }
-    ensures unread { IfOk result (λ r. (received r.3 ≡ []) × (known_items r.3 ≡ [])) }
-    ensures same { stop.new ≡ stop.old }
-{
-    let word = stop.for_session()?;
-    let shared = Arc::try_clone(shared)?;
-    let (producer, back) = RingBuffer::with_protocol::<Global, Returning>(alloc, 2)?;
-    Ok((shared, word, producer, back))
 }
 
 // The place, from this one on, of an end whose session has come back and holds no monitor.

@@ -1,9 +1,11 @@
 //! The sessions of a heap that begins to run, and where they come back.
-ghost use Rattle.std.specs.Prelude.{◌≡◌, ◌∷◌, [], ℕ, All, IfOk, None, length};
+ghost use Rattle.std.specs.Prelude.{◌≡◌, ◌∷◌, ◌++◌, [], ℕ, All, IfOk, OnOk, None, length};
 ghost use Rattle.std.specs.List.{range_with_len};
 ghost use Rattle.std.specs.Arc.{arc_value};
 ghost use Rattle.hosted_heap.specs.Hosting.{lanes_of};
 ghost use Rattle.hosted_heap.specs.Lanes.{AreNewHere, IsJoinedHere, IsLaneEnd, lanes_at};
+ghost use Rattle.hosted_heap.specs.Sessions.{Seated};
+ghost use Rattle.hosted_heap.specs.declared.lane_end.LaneEnd.{LaneEnd as End};
 ghost use Rattle.monitor.specs.Seats.{Home};
 ghost use Rattle.rtrb.specs.Ring.{IsPair, known_free, known_items, received, sent};
 ghost use Rattle.running_heap.specs.Joined.{AreNew, IsJoined};
@@ -41,27 +43,83 @@ pub fn begin_all(
     let mut unused = Vec::new(alloc);
     let mut lanes = Vec::new(alloc);
     'sessions: while let Some(session) = left.pop() {
-        let word = stop.for_session()?;
-        let (session, end) = begin(alloc, Arc::try_clone(shared)?, session, word)?;
-        unused.push(session)?;
-        lanes.push(end)?;
+        if let Err(error) = add(alloc, shared, session, stop, &mut unused, &mut lanes) {
+            drop(lanes);
+            drop(unused);
+            drop(left);
+            return Err(error);
+        }
     }
     Ok((unused, lanes))
 }
 
-// One session with the words.
-fn begin(
+// Adds the session with the words, and where it comes back.
+fn add(
     alloc: Global,
-    shared: Arc<Shared>,
+    shared: &Arc<Shared>,
     session: Session,
-    stop: Stop,
-) -> Result<(HostedSession, LaneEnd), AllocError>
-    requires of { IsSessionOf (arc_value shared) session }
-    ensures session { IfOk result (λ r. (r.0.home ≡ arc_value shared) × (r.0.session ≡ session) × (r.0.stop ≡ stop)) }
-    ensures end { IfOk result (λ r. (received r.1.back ≡ session ∷ []) × (r.1.came ≡ None)) }
+    stop: &mut Stopper,
+    unused: &mut Vec<HostedSession>,
+    lanes: &mut Vec<LaneEnd>,
+) -> Result<(), AllocError>
+    requires of { IsSessionOf (arc_value shared.now) session }
+    ensures added { OnOk result ((one : Seated) × (end : End) × (unused.new.items ≡ unused.old.items ++ one ∷ []) × (lanes.new.items ≡ lanes.old.items ++ end ∷ [])
+        × (one.home ≡ arc_value shared.now) × (one.session ≡ session) × (one.stop ≡ stop.old) × (received end.back ≡ session ∷ []) × (end.came ≡ None)) }
+    ensures same { stop.new ≡ stop.old }
 {
-    let (producer, back) = RingBuffer::with_protocol::<Global, Returning>(alloc, 2)?;
-    Ok(seat(shared, session, stop, producer, back))
+    let (shared, word, producer, back) = match outfit(alloc, shared, stop) {
+        Ok(made) => made,
+        Err(error) => {
+            drop(session);
+            return Err(error);
+        }
+    };
+    let (session, end) = seat(shared, session, word, producer, back);
+    if let Err(error) = unused.push(session) {
+        drop(end);
+        return Err(error.into());
+    }
+    lanes.push(end)?;
+    Ok(())
+}
+
+/// What a session of this heap is handed out with: the words, what it learns of a stop by, and the ring by which it comes back.
+pub fn outfit(
+    alloc: Global,
+    shared: &Arc<Shared>,
+    stop: &mut Stopper,
+) -> Result<
+    (
+        Arc<Shared>,
+        Stop,
+        Producer<Session, Global, Returning>,
+        Consumer<Session, Global, Returning>,
+    ),
+    AllocError,
+>
+    ensures home { IfOk result (λ r. arc_value r.0 ≡ arc_value shared.now) }
+    ensures word { IfOk result (λ r. r.1 ≡ stop.old) }
+    ensures pair { IfOk result (λ r. IsPair r.2 r.3) }
+    ensures unsent { IfOk result (λ r. (sent r.2 ≡ []) × (known_free r.2 ≡ 2)) }
+    ensures unread { IfOk result (λ r. (received r.3 ≡ []) × (known_items r.3 ≡ [])) }
+    ensures same { stop.new ≡ stop.old }
+{
+    let word = stop.for_session()?;
+    let shared = match Arc::try_clone(shared) {
+        Ok(shared) => shared,
+        Err(error) => {
+            drop(word);
+            return Err(error);
+        }
+    };
+    match RingBuffer::with_protocol::<Global, Returning>(alloc, 2) {
+        Ok((producer, back)) => Ok((shared, word, producer, back)),
+        Err(error) => {
+            drop(shared);
+            drop(word);
+            Err(error)
+        }
+    }
 }
 
 /// A session with the words, and the end where it comes back, by a ring through which nothing went.

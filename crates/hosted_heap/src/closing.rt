@@ -215,6 +215,7 @@ fn close_all(
 {
     let Ok(ended) = end_lanes(alloc, lanes) else {
         let disk = helper.into_store().into_disk();
+        drop(shared);
         return Err(NotClosed::Stopped(Closed { disk, calls }, CloseRefusal::NoMemory));
     };
     match close(shared, ended, helper) {

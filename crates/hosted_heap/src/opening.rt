@@ -41,14 +41,21 @@ pub fn format(
         Err(refusal) => return Err(HostError::Schema(refusal)),
     };
     let Some(layout) = Layout::of(&schema, lanes, capacity) else {
+        drop(schema);
         return Err(HostError::Image(ImageError::BadHeader));
     };
     let Ok((disk, calls)) = DeferredDisk::new(alloc, layout.size()) else {
+        drop(schema);
         return Err(HostError::NoMemory);
     };
     let made = match Store::format(alloc, disk, &schema, lanes, capacity) {
         Ok(made) => made,
-        Err((_disk, refusal)) => return Err(HostError::Image(refusal)),
+        Err((disk, refusal)) => {
+            drop(disk);
+            drop(calls);
+            drop(schema);
+            return Err(HostError::Image(refusal));
+        }
     };
     match begin(alloc, schema, made, calls) {
         Ok(heap) => Ok(heap),
@@ -74,11 +81,19 @@ pub fn open(
     };
     let (recovered, report) = match recover_of(alloc, disk, versions) {
         Ok(found) => found,
-        Err((_disk, refusal)) => return Err(HostError::Recover(refusal)),
+        Err((disk, refusal)) => {
+            drop(disk);
+            drop(calls);
+            return Err(HostError::Recover(refusal));
+        }
     };
     let schema = match declare(alloc, recovered.layout().objects, recovered.guards()) {
         Ok(schema) => schema,
-        Err(refusal) => return Err(HostError::Schema(refusal)),
+        Err(refusal) => {
+            drop(recovered);
+            drop(calls);
+            return Err(HostError::Schema(refusal));
+        }
     };
     match begin(alloc, schema, recovered, calls) {
         Ok(heap) => Ok((heap, report)),
@@ -102,24 +117,53 @@ fn begin(
     let layout = recovered.layout();
     let heap = match running_heap::open(alloc, schema, recovered, LAST_NUMBER) {
         Ok(heap) => heap,
-        Err((_disk, error)) => return Err(error),
+        Err((disk, error)) => {
+            drop(disk);
+            drop(calls);
+            return Err(error);
+        }
     };
     let RunningHeap {
         shared,
         sessions,
         helper,
     } = heap;
-    let shared = Arc::new(alloc, shared)?;
-    let mut stop = Stopper::new(alloc)?;
-    let (unused, lanes) = begin_all(alloc, &shared, sessions, &mut stop)?;
-    Ok(HostedHeap {
-        alloc,
-        shared,
-        helper,
-        calls,
-        layout,
-        unused,
-        lanes,
-        stop,
-    })
+    let shared = match Arc::new(alloc, shared) {
+        Ok(shared) => shared,
+        Err(error) => {
+            drop(helper);
+            drop(sessions);
+            drop(calls);
+            return Err(error.into());
+        }
+    };
+    let mut stop = match Stopper::new(alloc) {
+        Ok(stop) => stop,
+        Err(error) => {
+            drop(shared);
+            drop(helper);
+            drop(sessions);
+            drop(calls);
+            return Err(error);
+        }
+    };
+    match begin_all(alloc, &shared, sessions, &mut stop) {
+        Ok((unused, lanes)) => Ok(HostedHeap {
+            alloc,
+            shared,
+            helper,
+            calls,
+            layout,
+            unused,
+            lanes,
+            stop,
+        }),
+        Err(error) => {
+            drop(stop);
+            drop(shared);
+            drop(helper);
+            drop(calls);
+            Err(error)
+        }
+    }
 }

@@ -61,10 +61,13 @@ fn read_content<F: BackingFile + OpenFile>(file: &mut F) -> io::Result<Content> 
         return Ok(Content::Other);
     }
     file.read_from(0, &mut head)?;
-    if begins_as_image(&head) || label_of(file)?.is_some() {
-        Ok(Content::Image)
-    } else {
-        Ok(Content::Other)
+    if begins_as_image(&head) {
+        return Ok(Content::Image);
+    }
+    match label_of(file) {
+        Ok(Some(_)) => Ok(Content::Image),
+        Ok(None) => Ok(Content::Other),
+        Err(error) => Err(error),
     }
 }
 
@@ -82,7 +85,10 @@ where
     match options.open(rt, path) {
         Ok(file) => match claim(rt, path, &file, Place::Image, trouble) {
             Ok(()) => Ok(Some(file)),
-            Err(fault) => Err(fault),
+            Err(fault) => {
+                drop(file);
+                Err(fault)
+            }
         },
         Err(error) => {
             if error.kind() == ErrorKind::NotFound {
@@ -105,10 +111,13 @@ where
         trouble.note(Place::Image, &io::Error::from_raw_os_error(NO_FILE));
         return Err(FileFault::Fault);
     };
-    match content_of(&mut file, trouble)? {
-        Content::Image => Ok(file),
-        Content::Nothing | Content::Other => Err(FileFault::NotImage),
-    }
+    let fault = match content_of(&mut file, trouble) {
+        Ok(Content::Image) => return Ok(file),
+        Ok(Content::Nothing | Content::Other) => FileFault::NotImage,
+        Err(fault) => fault,
+    };
+    drop(file);
+    Err(fault)
 }
 
 /// Claims a file that was opened at this path for this open alone.

@@ -36,7 +36,9 @@ pub fn draw_image<S: Read, W: Write>(
     ensures refused { IfErr result (RefusesToShow graph_text (S.remaining reader.old) (S.remaining reader.new) (W.contents writer.old) (W.contents writer.new)) }
 {
     let mut disk = read_image(alloc, reader, room)?;
-    match draw(alloc, &mut disk, writer) {
+    let drawn = draw(alloc, &mut disk, writer);
+    drop(disk);
+    match drawn {
         Ok(()) => Ok(()),
         Err(error) => Err(refusal_of_inspection(error)),
     }
@@ -63,7 +65,9 @@ pub fn draw_file<F: BackingFile + Read + Drop, R: Files<File = F>, W: Write>(
         Ok(opened) => opened,
         Err(fault) => return Err(ImageFault::from(fault)),
     };
-    match draw_image(alloc, &mut reader, room, writer) {
+    let drawn = draw_image(alloc, &mut reader, room, writer);
+    drop(reader);
+    match drawn {
         Ok(()) => Ok(()),
         Err(error) => Err(ImageFault::Image(error)),
     }

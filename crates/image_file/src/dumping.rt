@@ -40,9 +40,14 @@ pub fn dump_image<S: Read, W: Write>(
 {
     let mut disk = match read_image(alloc, reader, room) {
         Ok(disk) => disk,
-        Err(why) => return Err(NamedFault::Image(ImageFault::Image(why))),
+        Err(why) => {
+            drop(given);
+            return Err(NamedFault::Image(ImageFault::Image(why)));
+        }
     };
-    match dump(alloc, &mut disk, given, writer) {
+    let dumped = dump(alloc, &mut disk, given, writer);
+    drop(disk);
+    match dumped {
         Ok(()) => Ok(()),
         Err(error) => Err(fault_of_naming(error)),
     }
@@ -75,7 +80,12 @@ pub fn dump_file<F: BackingFile + Read + Drop, R: Files<File = F>, W: Write>(
     };
     let (mut reader, room) = match open_to_read(rt, alloc, image_path, trouble) {
         Ok(opened) => opened,
-        Err(fault) => return Err(NamedFault::Image(ImageFault::from(fault))),
+        Err(fault) => {
+            drop(given);
+            return Err(NamedFault::Image(ImageFault::from(fault)));
+        }
     };
-    dump_image(alloc, &mut reader, room, given, writer)
+    let dumped = dump_image(alloc, &mut reader, room, given, writer);
+    drop(reader);
+    dumped
 }

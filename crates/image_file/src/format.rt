@@ -47,13 +47,18 @@ pub fn format_image<D: Disk + Drop, S: Read, M: DiskMaker<D>, W: Write>(
     ensures silent { IfErr result (λ error. IsSilent error → Appends (W.contents writer.old) (W.contents writer.new) []) }
 {
     let schema = read_schema(alloc, reader)?;
-    let made = match make_image(alloc, &schema, maker, lanes, capacity) {
+    let tried = make_image(alloc, &schema, maker, lanes, capacity);
+    drop(schema);
+    let made = match tried {
         Ok(made) => made,
         Err(error) => return Err(error),
     };
     match print_size(alloc, made.layout().size(), writer) {
         Ok(()) => Ok(made),
-        Err(error) => Err(error),
+        Err(error) => {
+            drop(made);
+            Err(error)
+        }
     }
 }
 
@@ -100,13 +105,25 @@ fn make_in_place<D: Disk + Drop, M: DiskMaker<D>>(
     };
     let made = match Store::format(alloc, disk, schema, lanes, capacity) {
         Ok(made) => made,
-        // The device has the image's size, so that these two are all.
-        Err((_, ImageError::NoMemory)) => return Err(FileFault::NoMemory),
-        Err(_) => return Err(FileFault::Fault),
+        Err((disk, why)) => {
+            drop(disk);
+            return Err(fault_of_formatting(why));
+        }
     };
     match maker.put_in_place() {
         Ok(()) => Ok(made),
-        Err(fault) => Err(fault),
+        Err(fault) => {
+            drop(made);
+            Err(fault)
+        }
+    }
+}
+
+// The device has the image's size, so that these two are all.
+fn fault_of_formatting(why: ImageError) -> FileFault {
+    match why {
+        ImageError::NoMemory => FileFault::NoMemory,
+        _ => FileFault::Fault,
     }
 }
 
@@ -156,11 +173,18 @@ pub fn format_file<F: BackingFile + OpenFile + Read + Drop, R: Files<File = F>, 
         }
     };
     let mut file = NewFile::at(rt, image_path, trouble).on(sectors);
-    match format_image(alloc, &mut schema, &mut file, lanes, capacity, writer) {
-        Ok(_) => Ok(()),
+    let formatted = format_image(alloc, &mut schema, &mut file, lanes, capacity, writer);
+    drop(schema);
+    let ended = match formatted {
+        Ok(made) => {
+            drop(made);
+            Ok(())
+        }
         Err(error) => {
             file.give_up();
             Err(error)
         }
-    }
+    };
+    drop(file);
+    ended
 }

@@ -41,9 +41,14 @@ pub fn draw_named_image<S: Read, W: Write>(
 {
     let mut disk = match read_image(alloc, reader, room) {
         Ok(disk) => disk,
-        Err(why) => return Err(NamedFault::Image(ImageFault::Image(why))),
+        Err(why) => {
+            drop(given);
+            return Err(NamedFault::Image(ImageFault::Image(why)));
+        }
     };
-    match draw_named(alloc, &mut disk, given, last, writer) {
+    let drawn = draw_named(alloc, &mut disk, given, last, writer);
+    drop(disk);
+    match drawn {
         Ok(()) => Ok(()),
         Err(error) => Err(fault_of_naming(error)),
     }
@@ -78,7 +83,12 @@ pub fn draw_named_file<F: BackingFile + Read + Drop, R: Files<File = F>, W: Writ
     };
     let (mut reader, room) = match open_to_read(rt, alloc, image_path, trouble) {
         Ok(opened) => opened,
-        Err(fault) => return Err(NamedFault::Image(ImageFault::from(fault))),
+        Err(fault) => {
+            drop(given);
+            return Err(NamedFault::Image(ImageFault::from(fault)));
+        }
     };
-    draw_named_image(alloc, &mut reader, room, given, last, writer)
+    let drawn = draw_named_image(alloc, &mut reader, room, given, last, writer);
+    drop(reader);
+    drawn
 }

@@ -35,7 +35,9 @@ pub(crate) fn schema_at<F: Read + Drop, R: Files<File = F>>(
             return Err(NamedFault::Image(ImageFault::Image(RecoverError::Fault)));
         }
     };
-    match read_schema(alloc, &mut file) {
+    let read = read_schema(alloc, &mut file);
+    drop(file);
+    match read {
         Ok(schema) => Ok(Some(schema)),
         Err(fault) => Err(NamedFault::from(fault)),
     }

@@ -119,7 +119,7 @@ where
         self.is_used = true;
         let taken = take(self.rt, alloc, self.path, self.trouble)?;
         let again = taken.new.try_clone();
-        self.place = Some(taken);
+        keep(&mut self.place, taken);
         match again {
             Ok(file) => filled(alloc, file, self.sectors, size, self.trouble),
             Err(error) => Err(noted(Place::Beside, &error, self.trouble)),
@@ -135,6 +135,11 @@ where
             Err(error) => Err(noted(Place::Beside, &error, self.trouble)),
         }
     }
+}
+
+// The place that was taken, in place of one that was before.
+fn keep<F: Drop>(place: &mut Option<Taken<F>>, taken: Taken<F>) {
+    *place = Some(taken);
 }
 
 fn noted(place: Place, error: &io::Error, trouble: &Trouble) -> FileFault {
@@ -163,8 +168,7 @@ fn filled<'a, F: BackingFile + Drop>(
     }
 }
 
-// Takes a place for a new image: what is at the path is claimed, and is an image or has no bytes; the file beside it is claimed too, and
-// what an earlier making that was cut off has left there is taken for the new one.
+// Takes a place for a new image, at the path and beside it.
 fn take<F, R>(rt: &R, alloc: Global, path: &str, trouble: &Trouble) -> Result<Taken<F>, FileFault>
 where
     F: BackingFile + OpenFile + Drop,
@@ -172,30 +176,76 @@ where
 {
     let target = target_of(rt, alloc, path, trouble)?;
     let Ok(beside) = format!(in alloc; "{target}{BESIDE}") else {
+        drop(target);
         return Err(FileFault::NoMemory);
     };
-    let mut old = claim_at(rt, target.as_str(), trouble)?;
-    if let Some(file) = &mut old {
-        if content_of(file, trouble)? == Content::Other {
-            return Err(FileFault::NotImage);
+    match take_files(rt, target.as_str(), beside.as_str(), trouble) {
+        Ok((old, new)) => Ok(Taken {
+            target,
+            beside,
+            old,
+            new,
+            is_there: false,
+        }),
+        Err(fault) => {
+            drop(target);
+            drop(beside);
+            Err(fault)
         }
     }
-    let new = begin(rt, beside.as_str(), trouble)?;
-    if old.is_none() && rt.metadata(target.as_str()).is_ok() {
-        // Another process has made one there before this one had the file beside it.
-        let _ = rt.remove_file(beside.as_str());
-        return Err(FileFault::InUse);
+}
+
+// What is at the path is claimed, and is an image or has no bytes; the file beside it is claimed too, and what an earlier making that was
+// cut off has left there is taken for the new one.
+fn take_files<F, R>(
+    rt: &R,
+    target: &str,
+    beside: &str,
+    trouble: &Trouble,
+) -> Result<(Option<F>, F), FileFault>
+where
+    F: BackingFile + OpenFile + Drop,
+    R: Files<File = F>,
+{
+    let old = take_old(rt, target, trouble)?;
+    let new = match begin(rt, beside, trouble) {
+        Ok(new) => new,
+        Err(fault) => {
+            drop(old);
+            return Err(fault);
+        }
+    };
+    match &old {
+        Some(file) => keep_permissions(file, &new),
+        None => {
+            if rt.metadata(target).is_ok() {
+                // Another process has made one there before this one had the file beside it.
+                let _ = rt.remove_file(beside);
+                drop(new);
+                drop(old);
+                return Err(FileFault::InUse);
+            }
+        }
     }
-    if let Some(file) = &old {
-        keep_permissions(file, &new);
-    }
-    Ok(Taken {
-        target,
-        beside,
-        old,
-        new,
-        is_there: false,
-    })
+    Ok((old, new))
+}
+
+// Claims the file at the path, if one is there.
+fn take_old<F, R>(rt: &R, target: &str, trouble: &Trouble) -> Result<Option<F>, FileFault>
+where
+    F: BackingFile + OpenFile + Drop,
+    R: Files<File = F>,
+{
+    let Some(mut file) = claim_at(rt, target, trouble)? else {
+        return Ok(None);
+    };
+    let fault = match content_of(&mut file, trouble) {
+        Ok(Content::Nothing | Content::Image) => return Ok(Some(file)),
+        Ok(Content::Other) => FileFault::NotImage,
+        Err(fault) => fault,
+    };
+    drop(file);
+    Err(fault)
 }
 
 // Where the path leads: a link stays, and what it leads to is replaced.
@@ -231,7 +281,10 @@ where
     match options.open(rt, beside) {
         Ok(file) => match claim(rt, beside, &file, Place::Beside, trouble) {
             Ok(()) => Ok(file),
-            Err(fault) => Err(fault),
+            Err(fault) => {
+                drop(file);
+                Err(fault)
+            }
         },
         Err(error) => Err(noted(Place::Beside, &error, trouble)),
     }

@@ -46,33 +46,90 @@ where
             return Err(FileFault::Fault);
         }
     };
-    // Where a file can't be claimed, as a pipe, it is read as it is.
-    if let Ok(false) = file.claim(Claim::Shared) {
+    if is_in_use(&file) {
+        drop(file);
         return Err(FileFault::InUse);
     }
-    let mut file = Watched::new(file, Place::Image, trouble);
-    let mut head = Vec::new(alloc);
-    if let Err(error) = file.by_ref().take(HEADER_BYTES).read_to_end(&mut head) {
-        return Err(fault_of_reading(&error));
+    begin_to_read(alloc, Watched::new(file, Place::Image, trouble))
+}
+
+// Whether another open has claimed this file alone. Where a file can't be claimed, as a pipe, it is read as it is.
+fn is_in_use<F: BackingFile>(file: &F) -> bool {
+    match file.claim(Claim::Shared) {
+        Ok(is_claimed) => !is_claimed,
+        Err(_) => false,
     }
-    let mut file = if begins_as_image(&head) {
-        ImageBytes::Plain(file)
-    } else {
-        let mut placed = placed_in(alloc, file, &head)?;
-        head = Vec::new(alloc);
-        if let Err(error) = placed.by_ref().take(HEADER_BYTES).read_to_end(&mut head) {
-            return Err(fault_of_reading(&error));
+}
+
+// Reads the header of an image's file.
+fn begin_to_read<'a, F: BackingFile + Read + Drop>(
+    alloc: Global,
+    file: Watched<'a, F>,
+) -> Result<(ImageReader<'a, F>, usize), FileFault> {
+    let mut file = file;
+    let head = match read_head(alloc, &mut file) {
+        Ok(head) => head,
+        Err(fault) => {
+            drop(file);
+            return Err(fault);
         }
-        if !begins_as_image(&head) {
-            return Err(FileFault::NotImage);
-        }
-        placed
     };
+    if begins_as_image(&head) {
+        return Ok(reader_of(ImageBytes::Plain(file), head));
+    }
+    let placed = placed_in(alloc, file, &head);
+    drop(head);
+    match placed {
+        Ok(bytes) => begin_to_read_placed(alloc, bytes),
+        Err(fault) => Err(fault),
+    }
+}
+
+// The same for the bytes of a disk in two places, which have a header of their own.
+fn begin_to_read_placed<'a, F: BackingFile + Read + Drop>(
+    alloc: Global,
+    bytes: ImageBytes<Watched<'a, F>>,
+) -> Result<(ImageReader<'a, F>, usize), FileFault> {
+    let mut bytes = bytes;
+    match read_head(alloc, &mut bytes) {
+        Ok(head) => {
+            if begins_as_image(&head) {
+                Ok(reader_of(bytes, head))
+            } else {
+                drop(head);
+                drop(bytes);
+                Err(FileFault::NotImage)
+            }
+        }
+        Err(fault) => {
+            drop(bytes);
+            Err(fault)
+        }
+    }
+}
+
+// As many bytes as a header has, or all where there are fewer.
+fn read_head<S: Read>(alloc: Global, file: &mut S) -> Result<Vec<u8>, FileFault> {
+    let mut head = Vec::new(alloc);
+    match file.by_ref().take(HEADER_BYTES).read_to_end(&mut head) {
+        Ok(_) => Ok(head),
+        Err(error) => {
+            drop(head);
+            Err(fault_of_reading(&error))
+        }
+    }
+}
+
+// What reads the image with this header, which was read from the file, and for how many bytes room is made.
+fn reader_of<'a, F: BackingFile + Read + Drop>(
+    file: ImageBytes<Watched<'a, F>>,
+    head: Vec<u8>,
+) -> (ImageReader<'a, F>, usize) {
     let size = size_in(&head);
     // Of a pipe no length is known: what is read of it makes room for itself.
     let room = file.len().unwrap_or(0).min(size) as usize;
     let rest = size.saturating_sub(HEADER_BYTES);
-    Ok((Cursor::new(head).chain(file.take(rest)), room))
+    (Cursor::new(head).chain(file.take(rest)), room)
 }
 
 // The bytes of the disk in two places that this file is, which begins so.
@@ -82,6 +139,7 @@ fn placed_in<F: BackingFile + Drop>(
     head: &[u8],
 ) -> Result<ImageBytes<F>, FileFault> {
     if Label::read(head).is_none() {
+        drop(file);
         return Err(FileFault::NotImage);
     }
     match ImageBytes::found(alloc, file) {

@@ -35,7 +35,9 @@ pub fn show_image<S: Read, W: Write>(
     ensures refused { IfErr result (RefusesToShow study_text (S.remaining reader.old) (S.remaining reader.new) (W.contents writer.old) (W.contents writer.new)) }
 {
     let mut disk = read_image(alloc, reader, room)?;
-    match inspect(alloc, &mut disk, writer) {
+    let shown = inspect(alloc, &mut disk, writer);
+    drop(disk);
+    match shown {
         Ok(()) => Ok(()),
         Err(error) => Err(refusal_of_inspection(error)),
     }
@@ -62,7 +64,9 @@ pub fn show_file<F: BackingFile + Read + Drop, R: Files<File = F>, W: Write>(
         Ok(opened) => opened,
         Err(fault) => return Err(ImageFault::from(fault)),
     };
-    match show_image(alloc, &mut reader, room, writer) {
+    let shown = show_image(alloc, &mut reader, room, writer);
+    drop(reader);
+    match shown {
         Ok(()) => Ok(()),
         Err(error) => Err(ImageFault::Image(error)),
     }

@@ -37,8 +37,15 @@ pub fn draw_named<D: Disk, W: Write>(
     ensures cause { HasCause (D.device disk.old).failures (D.device disk.new).failures (kinds.Study Fault) result }
 {
     match study(alloc, disk) {
-        Ok(study) => draw_study(alloc, &study, given, last, writer),
-        Err(error) => Err(DumpError::Study(error)),
+        Ok(study) => {
+            let drawn = draw_study(alloc, &study, given, last, writer);
+            drop(study);
+            drawn
+        }
+        Err(error) => {
+            drop(given);
+            Err(DumpError::Study(error))
+        }
     }
 }
 
@@ -55,11 +62,14 @@ fn draw_study<W: Write>(
     ensures refused { IfErr result (RefusesDrawnStudy given last study.now (W.contents writer.old) (W.contents writer.new)) }
 {
     if !fits_given(&given, study) {
+        drop(given);
         return Err(DumpError::OtherSchema);
     }
     // The study of an image is within the limits that its graph needs.
     study_law();
-    match write_graph(alloc, study, given.as_ref(), last, writer) {
+    let drawn = write_graph(alloc, study, given.as_ref(), last, writer);
+    drop(given);
+    match drawn {
         Ok(()) => Ok(()),
         Err(ShowError::NoMemory) => Err(DumpError::Study(RecoverError::NoMemory)),
         Err(ShowError::Write) => Err(DumpError::Write),

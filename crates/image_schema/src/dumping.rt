@@ -36,8 +36,15 @@ pub fn dump<D: Disk, W: Write>(
     ensures cause { HasCause (D.device disk.old).failures (D.device disk.new).failures (kinds.Study Fault) result }
 {
     match study(alloc, disk) {
-        Ok(study) => dump_study(alloc, &study, given, writer),
-        Err(error) => Err(DumpError::Study(error)),
+        Ok(study) => {
+            let dumped = dump_study(alloc, &study, given, writer);
+            drop(study);
+            dumped
+        }
+        Err(error) => {
+            drop(given);
+            Err(DumpError::Study(error))
+        }
     }
 }
 
@@ -57,7 +64,9 @@ fn dump_study<W: Write>(
         Err(NamingError::OtherSchema) => return Err(DumpError::OtherSchema),
         Err(NamingError::NoMemory) => return Err(DumpError::Study(RecoverError::NoMemory)),
     };
-    match write_schema(&schema, &study.heap, writer) {
+    let written = write_schema(&schema, &study.heap, writer);
+    drop(schema);
+    match written {
         Ok(()) => Ok(()),
         Err(_) => Err(DumpError::Write),
     }

@@ -26,6 +26,7 @@ pub fn schema_of(alloc: Global, study: &Study, given: Option<Schema>) -> Result<
         };
     };
     if !fits(&schema, study) {
+        drop(schema);
         return Err(NamingError::OtherSchema);
     }
     Ok(schema)

@@ -41,7 +41,10 @@ fn common_schema(alloc: Global) -> Option<Schema> {
     let mut builder = SchemaBuilder::new(alloc);
     match declare(&mut builder) {
         Some(()) => built(builder),
-        None => None,
+        None => {
+            drop(builder);
+            None
+        }
     }
 }
 
@@ -56,7 +59,10 @@ fn fresh(alloc: Global, schema: &Schema) -> Option<(MemDisk, Layout)>
     match MemDisk::new(alloc, layout.size()) {
         Ok(mut disk) => match make_image(&mut disk, &layout, schema) {
             Some(()) => Some((disk, layout)),
-            None => None,
+            None => {
+                drop(disk);
+                None
+            }
         },
         Err(_) => None,
     }
@@ -86,7 +92,11 @@ pub(crate) fn steady(alloc: Global) -> Option<(MemDisk, Layout)>
     ensures steady { IfSome result (λ made. IsSteady made.1 (device_of made.0) A (empty_control 1)) }
 {
     match common_schema(alloc) {
-        Some(schema) => steady_of(alloc, &schema),
+        Some(schema) => {
+            let made = steady_of(alloc, &schema);
+            drop(schema);
+            made
+        }
         None => None,
     }
 }
@@ -127,7 +137,11 @@ fn sizes_of(schema: &Schema) -> [Option<u64>; 5] {
 
 fn sizes(alloc: Global) -> Option<[Option<u64>; 5]> {
     match common_schema(alloc) {
-        Some(schema) => Some(sizes_of(&schema)),
+        Some(schema) => {
+            let sizes = sizes_of(&schema);
+            drop(schema);
+            Some(sizes)
+        }
         None => None,
     }
 }
@@ -155,7 +169,11 @@ fn has(disk: &MemDisk, at: usize, bytes: &[u8]) -> bool {
 // Its size and its calls, and whether header and guard row are as documented.
 fn fresh_found(alloc: Global) -> Option<(u64, u64, [bool; 3])> {
     match fresh_disk(alloc) {
-        Some(disk) => Some(found_on(&disk)),
+        Some(disk) => {
+            let found = found_on(&disk);
+            drop(disk);
+            Some(found)
+        }
         None => None,
     }
 }
@@ -179,7 +197,10 @@ fn marked_schema(alloc: Global) -> Option<Schema> {
     let mut builder = SchemaBuilder::new(alloc);
     match declare_marked(&mut builder) {
         Some(()) => built(builder),
-        None => None,
+        None => {
+            drop(builder);
+            None
+        }
     }
 }
 
@@ -198,7 +219,11 @@ fn disk_of(alloc: Global, schema: &Schema) -> Option<MemDisk> {
 
 fn marked_disk(alloc: Global) -> Option<MemDisk> {
     match marked_schema(alloc) {
-        Some(schema) => disk_of(alloc, &schema),
+        Some(schema) => {
+            let disk = disk_of(alloc, &schema);
+            drop(schema);
+            disk
+        }
         None => None,
     }
 }
@@ -214,7 +239,9 @@ fn marked_found(alloc: Global) -> Option<(u64, [bool; 3])> {
         has(&disk, 2192, &MARKED),
         has(&disk, 2224, &[0, 0, 0, 0, 0, 0, 0, 30]),
     ];
-    Some((disk.size(), as_documented))
+    let size = disk.size();
+    drop(disk);
+    Some((size, as_documented))
 }
 
 #[test]
@@ -236,7 +263,11 @@ fn layout_in(disk: &mut MemDisk) -> Result<Layout, Unread>
 fn read_third(alloc: Global, disk: &mut MemDisk) -> Result<Option<GuardRow>, Unread> {
     let layout = layout_in(disk)?;
     match read_guards(alloc, disk, &layout) {
-        Ok(rows) => Ok(rows.get(2).copied()),
+        Ok(rows) => {
+            let third = rows.get(2).copied();
+            drop(rows);
+            Ok(third)
+        }
         Err(why) => Err(Unread::Guards(why)),
     }
 }
@@ -244,7 +275,11 @@ fn read_third(alloc: Global, disk: &mut MemDisk) -> Result<Option<GuardRow>, Unr
 // The transient field's row as it is read, where this byte of the image is altered.
 fn third_row(alloc: Global, at: u64, byte: u8) -> Option<Result<Option<GuardRow>, Unread>> {
     match marked_disk(alloc) {
-        Some(mut disk) => read_altered(alloc, &mut disk, at, byte),
+        Some(mut disk) => {
+            let row = read_altered(alloc, &mut disk, at, byte);
+            drop(disk);
+            row
+        }
         None => None,
     }
 }
@@ -300,8 +335,9 @@ fn rows_with_other_bytes_are_refused(rt: HostRuntime) {
 // What the readers say of the image, one after the other.
 pub(crate) fn study(alloc: Global, disk: &mut MemDisk) -> Result<(Slot, u64), Unread> {
     let layout = layout_in(disk)?;
-    if let Err(why) = read_guards(alloc, disk, &layout) {
-        return Err(Unread::Guards(why));
+    match read_guards(alloc, disk, &layout) {
+        Ok(rows) => drop(rows),
+        Err(why) => return Err(Unread::Guards(why)),
     }
     match choose_control(disk, &layout) {
         Ok((slot, control)) => Ok((slot, control.sequence)),
@@ -327,7 +363,11 @@ fn study_with(
 // What the readers say of a fresh image with this byte altered.
 fn study_altered(alloc: Global, at: u64, byte: u8) -> Option<Result<(Slot, u64), Unread>> {
     match fresh_disk(alloc) {
-        Some(mut disk) => study_with(alloc, &mut disk, at, &[byte]),
+        Some(mut disk) => {
+            let told = study_with(alloc, &mut disk, at, &[byte]);
+            drop(disk);
+            told
+        }
         None => None,
     }
 }
@@ -434,7 +474,10 @@ fn documented_body(sequence: u8) -> [u8; 1040] {
 // A fresh image with another body in its first slot, the gate of which is open.
 fn disk_with(alloc: Global, body: &[u8]) -> Option<MemDisk> {
     let mut disk = fresh_disk(alloc)?;
-    put(&mut disk, 72, body)?;
+    if put(&mut disk, 72, body).is_none() {
+        drop(disk);
+        return None;
+    }
     Some(disk)
 }
 
@@ -443,7 +486,9 @@ fn study_body(alloc: Global, at: usize, byte: u8) -> Option<Result<(Slot, u64), 
     let mut body = documented_body(3);
     *body.get_mut(at)? = byte;
     let mut disk = fresh_disk(alloc)?;
-    study_with(alloc, &mut disk, 72, &body)
+    let told = study_with(alloc, &mut disk, 72, &body);
+    drop(disk);
+    told
 }
 
 // Whether any one of these bytes altered, each at its place, makes it a bad one.
@@ -496,14 +541,22 @@ fn read_and_commit(
 // The control of two rows is read of its documented body. Committed over a fresh image, its rows are spelt so again.
 fn read_and_committed(alloc: Global) -> Option<(Control, Slot, bool)> {
     match disk_with(alloc, &documented_body(3)) {
-        Some(mut documented) => read_and_committed_of(alloc, &mut documented),
+        Some(mut documented) => {
+            let committed = read_and_committed_of(alloc, &mut documented);
+            drop(documented);
+            committed
+        }
         None => None,
     }
 }
 
 fn read_and_committed_of(alloc: Global, documented: &mut MemDisk) -> Option<(Control, Slot, bool)> {
     match steady(alloc) {
-        Some((mut disk, layout)) => read_and_spell(documented, &mut disk, &layout),
+        Some((mut disk, layout)) => {
+            let spelt = read_and_spell(documented, &mut disk, &layout);
+            drop(disk);
+            spelt
+        }
         None => None,
     }
 }
@@ -533,7 +586,9 @@ fn a_control_has_the_documented_bytes(rt: HostRuntime) {
 // What the readers say where the gates of both slots are open, with this sequence in slot B.
 fn study_both_open(alloc: Global, sequence: u8) -> Option<Result<(Slot, u64), Unread>> {
     let mut disk = fresh_disk(alloc)?;
-    study_opened(alloc, &mut disk, &documented_body(sequence))
+    let told = study_opened(alloc, &mut disk, &documented_body(sequence));
+    drop(disk);
+    told
 }
 
 // What they say where slot B's gate is opened before this body.
@@ -590,7 +645,11 @@ fn commit_over_old(disk: &mut MemDisk, layout: &Layout) -> Option<(Control, Slot
 // The same, and whether the new control's first bytes are its sequence and version 2.
 fn committed_over_old(alloc: Global) -> Option<(Control, Slot, bool)> {
     match steady(alloc) {
-        Some((mut disk, layout)) => spell_over_old(&mut disk, &layout),
+        Some((mut disk, layout)) => {
+            let spelt = spell_over_old(&mut disk, &layout);
+            drop(disk);
+            spelt
+        }
         None => None,
     }
 }
@@ -616,7 +675,11 @@ fn a_commit_over_version_1_has_version_2(rt: HostRuntime) {
 // A fresh image without its last byte.
 fn short_disk(alloc: Global) -> Option<MemDisk> {
     match fresh_disk(alloc) {
-        Some(disk) => shortened(alloc, &disk),
+        Some(disk) => {
+            let short = shortened(alloc, &disk);
+            drop(disk);
+            short
+        }
         None => None,
     }
 }
@@ -628,7 +691,11 @@ fn shortened(alloc: Global, disk: &MemDisk) -> Option<MemDisk> {
 // What is said of it where it has a bad guard row too.
 fn told_of_short(alloc: Global) -> Option<Result<Layout, HeaderError>> {
     match short_disk(alloc) {
-        Some(mut short) => told_of_bad_row(&mut short),
+        Some(mut short) => {
+            let told = told_of_bad_row(&mut short);
+            drop(short);
+            told
+        }
         None => None,
     }
 }
@@ -641,7 +708,11 @@ fn told_of_bad_row(disk: &mut MemDisk) -> Option<Result<Layout, HeaderError>> {
 // What is said of a device without a whole header.
 fn told_of_none(alloc: Global) -> Option<Result<Layout, HeaderError>> {
     match MemDisk::new(alloc, 63) {
-        Ok(mut none) => Some(read_header(&mut none)),
+        Ok(mut none) => {
+            let told = read_header(&mut none);
+            drop(none);
+            Some(told)
+        }
         Err(_) => None,
     }
 }
@@ -706,7 +777,11 @@ pub(crate) fn shown(
     fill: Fill,
 ) -> Option<Result<(Slot, u64), Unread>> {
     match disk.crash_image(stop, fill) {
-        Ok(Some(mut image)) => Some(study(alloc, &mut image)),
+        Ok(Some(mut image)) => {
+            let told = study(alloc, &mut image);
+            drop(image);
+            Some(told)
+        }
         _ => None,
     }
 }
@@ -733,7 +808,11 @@ fn are_shown(alloc: Global, disk: &MemDisk, fill: Fill, second: u64, third: u64)
 // gate is closed, and six into slot A, whose gate is open.
 fn crashed_commits(alloc: Global) -> Option<([u64; 2], [bool; 5])> {
     match steady(alloc) {
-        Some((mut disk, layout)) => crash_commits(alloc, &mut disk, &layout),
+        Some((mut disk, layout)) => {
+            let crashed = crash_commits(alloc, &mut disk, &layout);
+            drop(disk);
+            crashed
+        }
         None => None,
     }
 }
@@ -786,7 +865,11 @@ fn study_failed_commit(alloc: Global, call: u64) -> Option<Result<(Slot, u64), U
     requires { 1 ≤ call }
 {
     match steady(alloc) {
-        Some((mut disk, layout)) => study_second_failed(alloc, &mut disk, &layout, call),
+        Some((mut disk, layout)) => {
+            let told = study_second_failed(alloc, &mut disk, &layout, call);
+            drop(disk);
+            told
+        }
         None => None,
     }
 }
@@ -825,7 +908,9 @@ fn a_fault_in_a_commit_leaves_the_old_control_or_the_new_one(rt: HostRuntime) {
 // What a commit over a fresh image answers where the sixth call fails.
 fn committed_in_five(alloc: Global) -> Option<Result<Slot, ImageError>> {
     let (mut disk, layout) = steady(alloc)?;
-    Some(failed_commit(&mut disk, &layout, Slot::A, 1, 6))
+    let answer = failed_commit(&mut disk, &layout, Slot::A, 1, 6);
+    drop(disk);
+    Some(answer)
 }
 
 // Into a slot whose gate is closed there are a read and four writes and syncs.
@@ -853,7 +938,11 @@ fn is_header_of_failed_image(alloc: Global, schema: &Schema, call: u64) -> Optio
 {
     let layout = Layout::of(schema, 2, 4000)?;
     match MemDisk::new(alloc, layout.size()) {
-        Ok(mut disk) => fail_image(&mut disk, &layout, schema, call),
+        Ok(mut disk) => {
+            let is_header = fail_image(&mut disk, &layout, schema, call);
+            drop(disk);
+            is_header
+        }
         Err(_) => None,
     }
 }
@@ -861,7 +950,11 @@ fn is_header_of_failed_image(alloc: Global, schema: &Schema, call: u64) -> Optio
 // Whether each of the 13 calls fails so, and the header is whole before the last alone.
 fn images_fail(alloc: Global) -> Option<bool> {
     match common_schema(alloc) {
-        Some(schema) => Some(images_of_it_fail(alloc, &schema)),
+        Some(schema) => {
+            let fail = images_of_it_fail(alloc, &schema);
+            drop(schema);
+            Some(fail)
+        }
         None => None,
     }
 }
@@ -887,7 +980,9 @@ fn study_with_fault(alloc: Global, call: u64) -> Option<Result<(Slot, u64), Unre
 {
     let mut disk = fresh_disk(alloc)?;
     disk.fail_call(call);
-    Some(study(alloc, &mut disk))
+    let told = study(alloc, &mut disk);
+    drop(disk);
+    Some(told)
 }
 
 fn are_told(alloc: Global) -> bool {
@@ -932,11 +1027,13 @@ fn answer_cells(
 fn cells_answered(alloc: Global) -> Option<(Result<(), ImageError>, [Result<u64, ImageError>; 2])> {
     match steady(alloc) {
         Some((mut disk, layout)) => {
-            if layout.fields < 2 {
+            let answers = if layout.fields < 2 {
                 None
             } else {
                 Some(answer_cells(&mut disk, &layout))
-            }
+            };
+            drop(disk);
+            answers
         }
         None => None,
     }
@@ -989,7 +1086,9 @@ fn taken_apart(alloc: Global, made: Recovered<MemDisk>) -> Apart {
         parts.heap,
     );
     let mut disk = made.into_disk();
-    (slot, numbers, study(alloc, &mut disk))
+    let told = study(alloc, &mut disk);
+    drop(disk);
+    (slot, numbers, told)
 }
 
 // Whether its heap has the first values, and its parts.
@@ -1005,7 +1104,11 @@ fn told_of_parts(alloc: Global, schema: &Schema) -> Option<(bool, Apart)> {
 
 fn told_of_fresh(alloc: Global) -> Option<(bool, Apart)> {
     match common_schema(alloc) {
-        Some(schema) => told_of_parts(alloc, &schema),
+        Some(schema) => {
+            let told = told_of_parts(alloc, &schema);
+            drop(schema);
+            told
+        }
         None => None,
     }
 }
@@ -1027,7 +1130,11 @@ fn count_guards(
         return None;
     }
     match read_guards(alloc, disk, layout) {
-        Ok(rows) => Some(Ok(rows.len())),
+        Ok(rows) => {
+            let count = rows.len();
+            drop(rows);
+            Some(Ok(count))
+        }
         Err(error) => Some(Err(error)),
     }
 }
@@ -1035,7 +1142,9 @@ fn count_guards(
 // How many guard rows are read of a fresh image, and of it with a row that names no object.
 fn guards_read(alloc: Global) -> Option<[Result<usize, GuardsError>; 2]> {
     let (mut disk, layout) = steady(alloc)?;
-    count_twice(alloc, &mut disk, &layout)
+    let counts = count_twice(alloc, &mut disk, &layout);
+    drop(disk);
+    counts
 }
 
 fn count_twice(

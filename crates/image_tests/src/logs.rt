@@ -94,7 +94,9 @@ fn reads(
         return Ok(false);
     }
     let found = read(alloc, disk, &LAYOUT, LANE, from, to)?;
-    Ok(found.as_slice() == records)
+    let are_so = found.as_slice() == records;
+    drop(found);
+    Ok(are_so)
 }
 
 fn sync(disk: &mut MemDisk) -> Result<(), DiskError> {
@@ -127,7 +129,9 @@ fn is_spelt(disk: &MemDisk) -> bool {
 // The calls, whether the bytes are as documented, and whether they are read back.
 fn logged_over_the_end(alloc: Global) -> Option<(u64, bool, Result<bool, LogError>)> {
     let mut disk = empty_disk(alloc)?;
-    log_over_the_end(alloc, &mut disk)
+    let told = log_over_the_end(alloc, &mut disk);
+    drop(disk);
+    told
 }
 
 fn log_over_the_end(
@@ -147,7 +151,9 @@ fn a_log_goes_on_at_its_areas_start(rt: HostRuntime) {
 // Whether they are read where the fifth call is a fault, and what the call behind the reading answers.
 fn many_read(alloc: Global) -> Option<(Result<bool, LogError>, Result<(), DiskError>)> {
     let mut disk = empty_disk(alloc)?;
-    read_many(alloc, &mut disk)
+    let told = read_many(alloc, &mut disk);
+    drop(disk);
+    told
 }
 
 fn read_many(
@@ -181,7 +187,9 @@ fn fill(disk: &mut MemDisk) -> Filled {
 
 fn filled(alloc: Global) -> Option<Filled> {
     let mut disk = empty_disk(alloc)?;
-    Some(fill(&mut disk))
+    let filled = fill(&mut disk);
+    drop(disk);
+    Some(filled)
 }
 
 #[test]
@@ -193,7 +201,9 @@ fn a_full_area_takes_no_more(rt: HostRuntime) {
 // What is answered where two places more are read, and where a record names a field that there is not.
 fn bad_places(alloc: Global) -> Option<[Result<bool, LogError>; 2]> {
     let mut disk = empty_disk(alloc)?;
-    read_bad_places(alloc, &mut disk)
+    let told = read_bad_places(alloc, &mut disk);
+    drop(disk);
+    told
 }
 
 fn read_bad_places(alloc: Global, disk: &mut MemDisk) -> Option<[Result<bool, LogError>; 2]> {
@@ -240,7 +250,9 @@ fn fail(alloc: Global, disk: &mut MemDisk) -> Failed {
 
 fn failed(alloc: Global) -> Option<Failed> {
     let mut disk = empty_disk(alloc)?;
-    Some(fail(alloc, &mut disk))
+    let failed = fail(alloc, &mut disk);
+    drop(disk);
+    Some(failed)
 }
 
 #[test]
@@ -268,7 +280,11 @@ fn read_twice(alloc: Global, disk: &mut MemDisk) -> Result<bool, LogError> {
 // What the calls answer the first time that memory isn't wanting.
 fn grown(alloc: Global) -> Option<(Option<Result<(), LogError>>, Result<bool, LogError>)> {
     match empty_disk_again(alloc) {
-        Some(mut disk) => Some(grow(alloc, &mut disk)),
+        Some(mut disk) => {
+            let grown = grow(alloc, &mut disk);
+            drop(disk);
+            Some(grown)
+        }
         None => None,
     }
 }

@@ -52,10 +52,7 @@ fn fields_answered(builder: &mut SchemaBuilder) -> [Result<FieldId, SchemaError>
 
 /// The schema of a builder that makes one.
 pub(crate) fn built(builder: SchemaBuilder) -> Option<Schema> {
-    match builder.build() {
-        Ok(schema) => Some(schema),
-        Err(_) => None,
-    }
+    builder.build().ok()
 }
 
 // What a field is: its owner, its guard and its first value.
@@ -69,9 +66,13 @@ type ToldOfFields = (
 
 fn told_of_fields(mut builder: SchemaBuilder) -> ToldOfFields {
     let fields = fields_answered(&mut builder);
-    match builder.build() {
-        Ok(schema) => (fields, Some((schema.fields(), row(&schema, 0)))),
-        Err(_) => (fields, None),
+    match built(builder) {
+        Some(schema) => {
+            let found = (schema.fields(), row(&schema, 0));
+            drop(schema);
+            (fields, Some(found))
+        }
+        None => (fields, None),
     }
 }
 
@@ -86,7 +87,10 @@ fn told_of_declarations(alloc: Global) -> Option<Told> {
     let mut builder = SchemaBuilder::new(alloc);
     let objects = objects_answered(&mut builder);
     match builder.build() {
-        Ok(_) => None,
+        Ok(schema) => {
+            drop(schema);
+            None
+        }
         Err((builder, why)) => Some((objects, why, told_of_fields(builder))),
     }
 }
@@ -119,14 +123,19 @@ fn account_and_bank(alloc: Global) -> Option<Schema> {
     let mut builder = SchemaBuilder::new(alloc);
     match declare_account_and_bank(&mut builder) {
         Some(()) => built(builder),
-        None => None,
+        None => {
+            drop(builder);
+            None
+        }
     }
 }
 
 // The objects that a builder finds by an object's name, and by a field's.
 fn objects_named(alloc: Global) -> [Option<ObjectId>; 2] {
     let mut builder = SchemaBuilder::new(alloc);
-    declare_and_find(&mut builder)
+    let found = declare_and_find(&mut builder);
+    drop(builder);
+    found
 }
 
 fn declare_and_find(builder: &mut SchemaBuilder) -> [Option<ObjectId>; 2] {
@@ -161,7 +170,11 @@ fn three_rows(schema: &Schema) -> [Option<Row>; 3] {
 
 fn rows(alloc: Global) -> Option<[Option<Row>; 3]> {
     match account_and_bank(alloc) {
-        Some(schema) => Some(three_rows(&schema)),
+        Some(schema) => {
+            let rows = three_rows(&schema);
+            drop(schema);
+            Some(rows)
+        }
         None => None,
     }
 }
@@ -201,7 +214,11 @@ fn names_in(schema: &Schema) -> Names {
 
 fn names(alloc: Global) -> Option<Names> {
     match account_and_bank(alloc) {
-        Some(schema) => Some(names_in(&schema)),
+        Some(schema) => {
+            let names = names_in(&schema);
+            drop(schema);
+            Some(names)
+        }
         None => None,
     }
 }
@@ -223,7 +240,9 @@ fn declares_object(
     number: u32,
 ) -> Result<bool, AllocError> {
     let name = format!(in alloc; "o{number}")?;
-    Ok(object(builder, name.as_str()) == Ok(ObjectId(number)))
+    let answer = object(builder, name.as_str());
+    drop(name);
+    Ok(answer == Ok(ObjectId(number)))
 }
 
 fn declares_field(
@@ -233,7 +252,9 @@ fn declares_field(
 ) -> Result<bool, AllocError> {
     let name = format!(in alloc; "f{number}")?;
     let guard = ObjectId(number % 4096);
-    Ok(field(builder, O0, name.as_str(), guard, u64::from(number)) == Ok(FieldId(number)))
+    let answer = field(builder, O0, name.as_str(), guard, u64::from(number));
+    drop(name);
+    Ok(answer == Ok(FieldId(number)))
 }
 
 fn declares_all_objects(builder: &mut SchemaBuilder, alloc: Global) -> bool {
@@ -260,6 +281,7 @@ fn filled(alloc: Global) -> Option<SchemaBuilder> {
     if declares_all_objects(&mut builder, alloc) && declares_all_fields(&mut builder, alloc) {
         Some(builder)
     } else {
+        drop(builder);
         None
     }
 }
@@ -306,10 +328,10 @@ fn told_beyond(mut builder: SchemaBuilder) -> Full {
 }
 
 fn built_counts(builder: SchemaBuilder) -> Option<Counts> {
-    match builder.build() {
-        Ok(schema) => Some(counts(&schema)),
-        Err(_) => None,
-    }
+    let schema = built(builder)?;
+    let counts = counts(&schema);
+    drop(schema);
+    Some(counts)
 }
 
 fn counts(schema: &Schema) -> Counts {
@@ -400,9 +422,13 @@ fn has_nine(schema: &Schema, names: &[&str]) -> bool {
 }
 
 fn builds_nine(builder: SchemaBuilder, names: &[&str]) -> bool {
-    match builder.build() {
-        Ok(schema) => has_nine(&schema, names),
-        Err(_) => false,
+    match built(builder) {
+        Some(schema) => {
+            let has_nine = has_nine(&schema, names);
+            drop(schema);
+            has_nine
+        }
+        None => false,
     }
 }
 

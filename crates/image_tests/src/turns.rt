@@ -38,7 +38,11 @@ fn counted(disk: &mut MemDisk, layout: &Layout) -> Option<(Slot, u64, u64)>
 // Three commits over a fresh image whose slot B has this gate.
 fn three_turns(alloc: Global, gate: u8) -> Option<[(Slot, u64, u64); 3]> {
     match steady(alloc) {
-        Some((mut disk, layout)) => turn_from(&mut disk, &layout, gate),
+        Some((mut disk, layout)) => {
+            let turns = turn_from(&mut disk, &layout, gate);
+            drop(disk);
+            turns
+        }
         None => None,
     }
 }
@@ -116,7 +120,11 @@ fn expected(gates: [u64; 3], stop: u64) -> (Slot, u64) {
 // Which fills leave what is wanted at each stop.
 fn crashed_turns(alloc: Global) -> Option<[bool; 5]> {
     match steady(alloc) {
-        Some((mut disk, layout)) => crash_turns(alloc, &mut disk, &layout),
+        Some((mut disk, layout)) => {
+            let crashed = crash_turns(alloc, &mut disk, &layout);
+            drop(disk);
+            crashed
+        }
         None => None,
     }
 }

@@ -1,17 +1,36 @@
 //! Pools as a schema declares them.
 
-use guards::{SchemaBuilder, SchemaError};
+use guards::{Schema, SchemaBuilder, SchemaError};
 use heap_model::FieldId;
 use pool::Pool;
 use std::alloc::Global;
 
-// The number, guard and first value of each field of a pool that is declared behind an object and a field.
-fn declared(alloc: Global) -> Option<[(u32, u32, u64); 3]> {
-    let mut builder = SchemaBuilder::new(alloc);
+// Declares an object, its field of this name, and a pool `p` of two slots.
+fn lay_out(builder: &mut SchemaBuilder, field: &str) -> Option<()> {
     let other = builder.object("other").ok()?;
-    builder.field(other, "x", other, 5).ok()?;
-    Pool::lay_out(&mut builder, "p", 2).ok()?;
-    let schema = builder.build().ok()?;
+    builder.field(other, field, other, 5).ok()?;
+    Pool::lay_out(builder, "p", 2).ok()?;
+    Some(())
+}
+
+// The schema of these.
+fn schema_of_pool(alloc: Global) -> Option<Schema> {
+    let mut builder = SchemaBuilder::new(alloc);
+    if lay_out(&mut builder, "x").is_none() {
+        drop(builder);
+        return None;
+    }
+    match builder.build() {
+        Ok(schema) => Some(schema),
+        Err((builder, _why)) => {
+            drop(builder);
+            None
+        }
+    }
+}
+
+// The number, guard and first value of each field of the pool in this schema.
+fn fields_of_pool(schema: &Schema) -> Option<[(u32, u32, u64); 3]> {
     let mut found = [(0, 0, 0); 3];
     let mut place = 0;
     for name in ["p.head", "p.0", "p.1"] {
@@ -25,20 +44,34 @@ fn declared(alloc: Global) -> Option<[(u32, u32, u64); 3]> {
     Some(found)
 }
 
+// The same of a pool that is declared behind an object and a field.
+fn declared(alloc: Global) -> Option<[(u32, u32, u64); 3]> {
+    let schema = schema_of_pool(alloc)?;
+    let found = fields_of_pool(&schema);
+    drop(schema);
+    found
+}
+
 // Why pools are refused, where `p` is declared with two slots and a field is named `q.1`; and how many fields there are then.
-fn refusals(alloc: Global) -> Option<([Option<SchemaError>; 5], u32)> {
-    let mut builder = SchemaBuilder::new(alloc);
-    let other = builder.object("other").ok()?;
-    builder.field(other, "q.1", other, 5).ok()?;
-    Pool::lay_out(&mut builder, "p", 2).ok()?;
+type Refusals = ([Option<SchemaError>; 5], u32);
+
+fn refuse_all(builder: &mut SchemaBuilder) -> Option<Refusals> {
+    lay_out(builder, "q.1")?;
     let why = [
-        Pool::lay_out(&mut builder, "", 1).err(),
-        Pool::lay_out(&mut builder, "p", 1).err(),
-        Pool::lay_out(&mut builder, "q", 2).err(),
-        Pool::lay_out(&mut builder, "r", 16_380).err(),
-        Pool::lay_out(&mut builder, "q", 1).err(),
+        Pool::lay_out(builder, "", 1).err(),
+        Pool::lay_out(builder, "p", 1).err(),
+        Pool::lay_out(builder, "q", 2).err(),
+        Pool::lay_out(builder, "r", 16_380).err(),
+        Pool::lay_out(builder, "q", 1).err(),
     ];
     Some((why, builder.fields()))
+}
+
+fn refusals(alloc: Global) -> Option<Refusals> {
+    let mut builder = SchemaBuilder::new(alloc);
+    let refusals = refuse_all(&mut builder);
+    drop(builder);
+    refusals
 }
 
 #[test]
@@ -75,14 +108,20 @@ fn has_first(builder: &SchemaBuilder) -> bool {
 }
 
 // Whether the pool is declared whole, or, for want of memory, the first of it.
-fn declares_in_order(alloc: Global) -> bool {
-    let mut builder = SchemaBuilder::new(alloc);
-    let whole = match Pool::lay_out(&mut builder, "p", 8) {
+fn lays_out_in_order(builder: &mut SchemaBuilder) -> bool {
+    let whole = match Pool::lay_out(builder, "p", 8) {
         Ok(_) => true,
         Err(SchemaError::NoMemory) => false,
         Err(_) => return false,
     };
-    (builder.fields() == 9) == whole && has_first(&builder)
+    (builder.fields() == 9) == whole && has_first(builder)
+}
+
+fn declares_in_order(alloc: Global) -> bool {
+    let mut builder = SchemaBuilder::new(alloc);
+    let in_order = lays_out_in_order(&mut builder);
+    drop(builder);
+    in_order
 }
 
 // Passes with any one of its allocations refused (`rt try --test --fail-alloc N`), and with none.

@@ -29,21 +29,27 @@ const LAST: u64 = 1_000_000;
 // How many records each lane holds: more than any test sends.
 const CAPACITY: u32 = 1_048_576;
 
-// A schema that declares the pool.
-fn declare(alloc: Global, slots: u32) -> Option<(Schema, Pool)>
+/// A schema that declares the pool.
+pub fn declare(alloc: Global, slots: u32) -> Option<(Schema, Pool)>
     requires some { 0 < slots }
     requires few { slots ≤ MOST_SLOTS }
 {
     let mut builder = SchemaBuilder::new(alloc);
-    let pool = Pool::lay_out(&mut builder, "p", slots).ok()?;
+    let Ok(pool) = Pool::lay_out(&mut builder, "p", slots) else {
+        drop(builder);
+        return None;
+    };
     match builder.build() {
         Ok(schema) => Some((schema, pool)),
-        Err(_) => None,
+        Err((builder, _why)) => {
+            drop(builder);
+            None
+        }
     }
 }
 
-// The values with which its fields begin.
-fn first_values(alloc: Global, schema: &Schema) -> Result<Vec<u64>, AllocError> {
+/// The values with which its fields begin.
+pub fn first_values(alloc: Global, schema: &Schema) -> Result<Vec<u64>, AllocError> {
     let mut values = Vec::new(alloc);
     for field in 0..schema.fields() {
         values.push(schema.first(FieldId(field)))?;
@@ -70,12 +76,22 @@ fn share(alloc: Global, schema: Schema, lanes: u8) -> Option<(Shared, Vec<Seat>)
     ensures views { IfSome result (λ r. map (λ s. s.view) r.1.items ≡ fresh_views r.0.plan lanes) }
     ensures seats { IfSome result (λ r. All (IsSeatOf r.0) r.1.items) }
 {
-    let values = first_values(alloc, &schema).ok()?;
+    let Ok(values) = first_values(alloc, &schema) else {
+        drop(schema);
+        return None;
+    };
     if schema.fields() as usize != values.len() {
+        drop(values);
+        drop(schema);
         return None;
     }
-    match Shared::new(alloc, schema, values.as_slice(), lanes, LAST) {
-        Ok((shared, seats, _helper)) => Some((shared, seats)),
+    let opened = Shared::new(alloc, schema, values.as_slice(), lanes, LAST);
+    drop(values);
+    match opened {
+        Ok((shared, seats, helper)) => {
+            drop(helper);
+            Some((shared, seats))
+        }
         Err(_) => None,
     }
 }
@@ -96,7 +112,10 @@ pub fn open_pool(alloc: Global, slots: u32, lanes: u8) -> Option<PoolHeap>
             sessions,
             rings,
         }),
-        Err(_) => None,
+        Err(_) => {
+            drop(shared);
+            None
+        }
     }
 }
 

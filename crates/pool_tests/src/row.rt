@@ -3,7 +3,7 @@
 ghost use Rattle.std.specs.Prelude.{◌<◌, ◌≤◌};
 ghost use Rattle.pool.specs.declared.pool.TheConstants.{MOST_SLOTS};
 
-use guards::SchemaBuilder;
+use crate::heap::{declare, first_values};
 use heap_model::FieldId;
 use pool::{Cells, MOST_SLOTS, Pool};
 use std::alloc::Global;
@@ -65,13 +65,10 @@ pub fn laid_out(alloc: Global, slots: u32) -> Option<(Pool, Row)>
     requires some { 0 < slots }
     requires few { slots ≤ MOST_SLOTS }
 {
-    let mut builder = SchemaBuilder::new(alloc);
-    let pool = Pool::lay_out(&mut builder, "p", slots).ok()?;
-    let schema = builder.build().ok()?;
-    let mut values = Vec::new(alloc);
-    for field in 0..schema.fields() {
-        values.push(schema.first(FieldId(field))).ok()?;
-    }
+    let (schema, pool) = declare(alloc, slots)?;
+    let found = first_values(alloc, &schema);
+    drop(schema);
+    let values = found.ok()?;
     let row = Row {
         values,
         broken: WHOLE,

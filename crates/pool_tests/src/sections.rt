@@ -74,14 +74,16 @@ fn told_of_last(
 // The same of a heap with a pool of two slots.
 fn told_of_two(alloc: Global, object: ObjectId, stores: (u64, u32), rows: &[Row]) -> Option<Told> {
     let mut heap = open_pool(alloc, 2, 1)?;
-    told_of_last(
+    let told = told_of_last(
         &heap.shared,
         &heap.pool,
         &mut heap.sessions,
         object,
         stores,
         rows,
-    )
+    );
+    drop(heap);
+    told
 }
 
 // Takes until none is left, gives slot 0 twice, and takes.
@@ -158,7 +160,9 @@ fn finds_it_taken(shared: &Shared, sessions: &mut Vec<Session>) -> Option<bool>
 // The same of a heap with a pool of two slots.
 fn is_taken_for_others(alloc: Global) -> Option<bool> {
     let mut heap = open_pool(alloc, 2, 2)?;
-    finds_it_taken(&heap.shared, &mut heap.sessions)
+    let told = finds_it_taken(&heap.shared, &mut heap.sessions);
+    drop(heap);
+    told
 }
 
 #[test]
@@ -186,7 +190,9 @@ fn values_after(
 // The same of a heap with a pool of two slots.
 fn values_in(alloc: Global, first: FieldId, second: FieldId) -> Option<[Option<u64>; 2]> {
     let mut heap = open_pool(alloc, 2, 1)?;
-    values_after(&heap.shared, &mut heap.sessions, first, second)
+    let told = values_after(&heap.shared, &mut heap.sessions, first, second);
+    drop(heap);
+    told
 }
 
 // A heap with a pool of two slots has the fields 0 to 2.
@@ -241,12 +247,14 @@ fn takes_all_of(alloc: Global, slots: u32) -> Option<bool>
     requires few { slots ≤ MOST_SLOTS }
 {
     let mut heap = open_pool(alloc, slots, 1)?;
-    take_all_by_last(
+    let told = take_all_by_last(
         &heap.shared,
         &heap.pool,
         &mut heap.sessions,
         &mut heap.rings,
-    )
+    );
+    drop(heap);
+    told
 }
 
 #[test]

@@ -154,13 +154,15 @@ fn told_of<R: Threads + Wait + Sync>(
     alloc: Global,
 ) -> Option<((Option<u64>, Option<u64>), [u32; 4])> {
     let mut heap = open_pool(alloc, SLOTS, 3)?;
-    race(
+    let told = race(
         rt,
         &heap.shared,
         &heap.pool,
         &mut heap.sessions,
         &mut heap.rings,
-    )
+    );
+    drop(heap);
+    told
 }
 
 // Each thread takes and gives 5,000 times, in 5,000 sections.

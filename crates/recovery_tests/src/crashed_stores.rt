@@ -124,10 +124,15 @@ fn a_section_whose_sync_failed_is_as_never_logged(rt: HostRuntime) {
 // Whether a run is played whole, whether recovery keeps both of its sections, and how many calls of the device it made.
 fn told_of_whole_run(alloc: Global) -> Option<(bool, bool, u64)> {
     let left = crashed(alloc, &released(), Fill::Lost)?;
-    let mut store = new_store(alloc)?;
+    let Some(mut store) = new_store(alloc) else {
+        drop(left);
+        return None;
+    };
     let WholeRun { played, recovered } = play_and_recover(alloc, &mut store, &released(), left);
+    let stops = store.disk().stops();
+    drop(store);
     let is_kept = answered(recovered) == Some(Ok(kept(1, 1, [2, 20])));
-    Some((played == Ok(()), is_kept, store.into_disk().stops()))
+    Some((played == Ok(()), is_kept, stops))
 }
 
 // A run that is cut off by a crash behind its last call. The device calls of a log step are a write for each record, a

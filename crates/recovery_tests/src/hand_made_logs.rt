@@ -18,14 +18,21 @@ const ROWS_AT: [u64; 2] = [88, 120];
 const AREAS_AT: [u64; 2] = [2208, 66_208];
 
 // Four objects, and a field of each of the first two, which guards it; none where memory is wanting.
-fn schema_or_none(alloc: Global) -> Option<Schema> {
-    let mut builder = SchemaBuilder::new(alloc);
-    builder.object("o0").ok()?;
-    builder.object("o1").ok()?;
-    builder.object("o2").ok()?;
-    builder.object("o3").ok()?;
+fn declare(builder: &mut SchemaBuilder) -> Option<()> {
+    for name in ["o0", "o1", "o2", "o3"] {
+        builder.object(name).ok()?;
+    }
     builder.field(ObjectId(0), "f0", ObjectId(0), 10).ok()?;
     builder.field(ObjectId(1), "f1", ObjectId(1), 20).ok()?;
+    Some(())
+}
+
+fn schema_or_none(alloc: Global) -> Option<Schema> {
+    let mut builder = SchemaBuilder::new(alloc);
+    if declare(&mut builder).is_none() {
+        drop(builder);
+        return None;
+    }
     builder.build().ok()
 }
 
@@ -41,11 +48,13 @@ pub(crate) fn formatted_with(
     lanes: u8,
     capacity: u32,
 ) -> Option<Recovered<MemDisk>> {
-    let schema = schema_or_none(alloc)?;
-    match Store::format(alloc, disk, &schema, lanes, capacity) {
-        Ok(made) => Some(made),
-        Err(_) => None,
-    }
+    let Some(schema) = schema_or_none(alloc) else {
+        drop(disk);
+        return None;
+    };
+    let made = Store::format(alloc, disk, &schema, lanes, capacity).ok();
+    drop(schema);
+    made
 }
 
 // The same on a disk of its own.
@@ -116,6 +125,19 @@ fn store(field: u32) -> UndoRecord {
     }
 }
 
+// Puts these logs of the two lanes into the image.
+fn put_logs(
+    disk: &mut MemDisk,
+    rows: [LaneRow; 2],
+    first: &[UndoRecord],
+    second: &[UndoRecord],
+) -> Option<()> {
+    put_row(disk, ROWS_AT[0], rows[0])?;
+    put_records(disk, AREAS_AT[0], first)?;
+    put_row(disk, ROWS_AT[1], rows[1])?;
+    put_records(disk, AREAS_AT[1], second)
+}
+
 // The image with these logs of its two lanes.
 fn image_with(
     alloc: Global,
@@ -124,10 +146,10 @@ fn image_with(
     second: &[UndoRecord],
 ) -> Option<MemDisk> {
     let mut disk = fresh(alloc)?;
-    put_row(&mut disk, ROWS_AT[0], rows[0])?;
-    put_records(&mut disk, AREAS_AT[0], first)?;
-    put_row(&mut disk, ROWS_AT[1], rows[1])?;
-    put_records(&mut disk, AREAS_AT[1], second)?;
+    if put_logs(&mut disk, rows, first, second).is_none() {
+        drop(disk);
+        return None;
+    }
     Some(disk)
 }
 
@@ -156,7 +178,11 @@ fn told<'a>(
 
 fn is_answered_so(alloc: Global, case: Case<'_>) -> bool {
     match image_with(alloc, case.rows, case.first, case.second) {
-        Some(mut disk) => refused_by(alloc, &mut disk) == case.why,
+        Some(mut disk) => {
+            let why = refused_by(alloc, &mut disk);
+            drop(disk);
+            why == case.why
+        }
         None => false,
     }
 }
@@ -173,7 +199,10 @@ fn other_answer(alloc: Global, cases: &[Case<'_>]) -> Option<usize> {
 
 fn refused_by(alloc: Global, disk: &mut MemDisk) -> Option<RecoverError> {
     match study(alloc, disk) {
-        Ok(_) => None,
+        Ok(found) => {
+            drop(found);
+            None
+        }
         Err(error) => Some(error),
     }
 }
@@ -195,17 +224,21 @@ fn found_in(
 ) -> Option<[bool; 4]> {
     let mut disk = image_with(alloc, rows, first, second)?;
     let Ok(found) = study(alloc, &mut disk) else {
+        drop(disk);
         return None;
     };
-    let [one, two] = found.records.as_slice() else {
-        return None;
+    drop(disk);
+    let told = match found.records.as_slice() {
+        [one, two] => Some([
+            found.layout.size() == 130_208,
+            found.guards.len() == 2,
+            &found.control.rows[..2] == rows.as_slice(),
+            one.as_slice() == first && two.as_slice() == second,
+        ]),
+        _ => None,
     };
-    Some([
-        found.layout.size() == 130_208,
-        found.guards.len() == 2,
-        &found.control.rows[..2] == rows.as_slice(),
-        one.as_slice() == first && two.as_slice() == second,
-    ])
+    drop(found);
+    told
 }
 
 // The second lane is settled right after a wait's release that ended its section.
@@ -277,23 +310,29 @@ fn acknowledged_sections_are_whole_and_depend_on_such(rt: HostRuntime) {
 }
 
 // One thing more is wrong each time, from the last test to the first: what refuses the image in turn.
+fn refused_in_turn(alloc: Global, disk: &mut MemDisk) -> Option<[Option<RecoverError>; 7]> {
+    let whole = refused_by(alloc, disk);
+    put(disk, AREAS_AT[0], &[9])?;
+    let record = refused_by(alloc, disk);
+    put_row(disk, ROWS_AT[1], row(0, 0, 1))?;
+    let control = refused_by(alloc, disk);
+    put(disk, 64, &[0])?;
+    let none = refused_by(alloc, disk);
+    put(disk, 2163, &[4])?;
+    let header = refused_by(alloc, disk);
+    disk.fail_call(2);
+    let fault = refused_by(alloc, disk);
+    put(disk, 8, &[0])?;
+    let unformatted = refused_by(alloc, disk);
+    Some([whole, record, control, none, header, fault, unformatted])
+}
+
 fn worse_and_worse(alloc: Global) -> Option<[Option<RecoverError>; 7]> {
     let log = [acq(0, 0), rel(0, 0)];
     let mut disk = image_with(alloc, [row(0, 2, 0), row(0, 0, 0)], &log, &[])?;
-    let whole = refused_by(alloc, &mut disk);
-    put(&mut disk, AREAS_AT[0], &[9])?;
-    let record = refused_by(alloc, &mut disk);
-    put_row(&mut disk, ROWS_AT[1], row(0, 0, 1))?;
-    let control = refused_by(alloc, &mut disk);
-    put(&mut disk, 64, &[0])?;
-    let none = refused_by(alloc, &mut disk);
-    put(&mut disk, 2163, &[4])?;
-    let header = refused_by(alloc, &mut disk);
-    disk.fail_call(2);
-    let fault = refused_by(alloc, &mut disk);
-    put(&mut disk, 8, &[0])?;
-    let unformatted = refused_by(alloc, &mut disk);
-    Some([whole, record, control, none, header, fault, unformatted])
+    let told = refused_in_turn(alloc, &mut disk);
+    drop(disk);
+    told
 }
 
 #[test]

@@ -59,15 +59,16 @@ pub fn label_of<F: BackingFile>(file: &mut F) -> io::Result<Option<Label>> {
     }
     let mut head = [0; LABEL_BYTES];
     file.read_from(0, &mut head)?;
-    match Label::read(&head) {
-        Some(label) => {
-            if has_all(label, len) {
-                Ok(Some(label))
-            } else {
-                Ok(None)
-            }
-        }
-        None => Ok(None),
+    Ok(whole_label(&head, len))
+}
+
+// The label that is here, where so many bytes are all sectors of such a disk.
+fn whole_label(head: &[u8], len: u64) -> Option<Label> {
+    let label = Label::read(head)?;
+    if has_all(label, len) {
+        Some(label)
+    } else {
+        None
     }
 }
 

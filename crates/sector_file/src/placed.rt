@@ -28,7 +28,10 @@ impl<F: BackingFile + Drop> PlacedFile<F> {
         let sectors = FileSectors::found(alloc, file, label.size, count)?;
         match TwoPlaces::open(alloc, sectors, count) {
             Ok(disk) => Ok(PlacedFile::of(disk)),
-            Err((_, why)) => Err(why),
+            Err((sectors, why)) => {
+                drop(sectors);
+                Err(why)
+            }
         }
     }
 
@@ -43,7 +46,10 @@ impl<F: BackingFile + Drop> PlacedFile<F> {
         let sectors = FileSectors::blank(alloc, file, size, count)?;
         match TwoPlaces::create(alloc, sectors, count) {
             Ok(disk) => Ok(PlacedFile::of(disk)),
-            Err((_, why)) => Err(why),
+            Err((sectors, why)) => {
+                drop(sectors);
+                Err(why)
+            }
         }
     }
 

@@ -78,7 +78,9 @@ fn contend<R: Threads + Wait + Sync>(
 // The same of a fresh heap.
 fn told_of<R: Threads + Wait + Sync>(rt: &R, alloc: Global) -> Option<(bool, Option<Words>)> {
     let mut heap = open_heap(alloc, declare(alloc, 1)?, 2, LAST, 4_000)?;
-    contend(rt, &heap.shared, &mut heap.sessions)
+    let told = contend(rt, &heap.shared, &mut heap.sessions);
+    drop(heap);
+    told
 }
 
 // The second thread takes the thin lock at number 1, makes the monitor fat in slot 0, and holds it.

@@ -28,11 +28,27 @@ fn declare_all(alloc: Global, builder: &mut SchemaBuilder, objects: u32) -> Opti
     Some(())
 }
 
+/// The schema that was declared.
+pub fn built(builder: SchemaBuilder) -> Option<Schema> {
+    match builder.build() {
+        Ok(schema) => Some(schema),
+        Err((builder, _why)) => {
+            drop(builder);
+            None
+        }
+    }
+}
+
 /// So many objects and fields.
 pub fn declare(alloc: Global, objects: u32) -> Option<Schema> {
     let mut builder = SchemaBuilder::new(alloc);
-    declare_all(alloc, &mut builder, objects)?;
-    builder.build().ok()
+    match declare_all(alloc, &mut builder, objects) {
+        Some(()) => built(builder),
+        None => {
+            drop(builder);
+            None
+        }
+    }
 }
 
 /// A heap.
@@ -53,9 +69,17 @@ fn share(alloc: Global, schema: Schema, lanes: u8, last: u64) -> Option<(Shared,
     ensures views { IfSome result (λ r. map (λ s. s.view) r.1.items ≡ fresh_views r.0.plan lanes) }
     ensures seats { IfSome result (λ r. All (IsSeatOf r.0) r.1.items) }
 {
-    let heap = vec![in alloc; 10u64; schema.fields() as usize].ok()?;
-    match Shared::new(alloc, schema, heap.as_slice(), lanes, last) {
-        Ok((shared, seats, _helper)) => Some((shared, seats)),
+    let Ok(heap) = vec![in alloc; 10u64; schema.fields() as usize] else {
+        drop(schema);
+        return None;
+    };
+    let opened = Shared::new(alloc, schema, heap.as_slice(), lanes, last);
+    drop(heap);
+    match opened {
+        Ok((shared, seats, helper)) => {
+            drop(helper);
+            Some((shared, seats))
+        }
         Err(_) => None,
     }
 }
@@ -74,7 +98,10 @@ pub fn open_heap(alloc: Global, schema: Schema, lanes: u8, last: u64, capacity: 
             sessions,
             rings,
         }),
-        Err(_) => None,
+        Err(_) => {
+            drop(shared);
+            None
+        }
     }
 }
 

@@ -28,7 +28,9 @@ fn told_of(alloc: Global, objects: u32, last: u64, rows: &[Row]) -> Option<(bool
     requires last { last < 2 ^ 40 }
 {
     let mut heap = open_heap(alloc, declare(alloc, objects)?, 1, last, 4_000)?;
-    follow_last(&heap.shared, &mut heap.sessions, rows)
+    let told = follow_last(&heap.shared, &mut heap.sessions, rows);
+    drop(heap);
+    told
 }
 
 // Inflates so many objects, from the second one on.
@@ -94,7 +96,9 @@ fn told_of_wait(
 {
     let objects = inflated.saturating_add(2);
     let mut heap = open_heap(alloc, declare(alloc, objects)?, 1, last, 4_000)?;
-    wait_last(&heap.shared, &mut heap.sessions, inflated, rows, others)
+    let told = wait_last(&heap.shared, &mut heap.sessions, inflated, rows, others);
+    drop(heap);
+    told
 }
 
 // A section's acquire, 998 stores, one store more, and the release.

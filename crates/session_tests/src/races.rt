@@ -68,7 +68,9 @@ fn race<R: Threads + Wait + Sync>(
 // The same of a fresh heap.
 fn told_of_race<R: Threads + Wait + Sync>(rt: &R, alloc: Global) -> Option<[Option<u64>; 3]> {
     let mut heap = open_heap(alloc, declare(alloc, 1)?, 3, LAST, 4_000)?;
-    race(rt, &heap.shared, &mut heap.sessions, 1_000)
+    let told = race(rt, &heap.shared, &mut heap.sessions, 1_000);
+    drop(heap);
+    told
 }
 
 #[test]
@@ -105,7 +107,9 @@ fn told_of_many<R: Wait>(rt: &R, alloc: Global, lanes: u8) -> Option<(u64, Optio
     requires lanes { lanes ≤ 32 }
 {
     let mut heap = open_heap(alloc, declare(alloc, 1)?, lanes, LAST, 2_000)?;
-    count_in_turn(rt, &heap.shared, &mut heap.sessions)
+    let told = count_in_turn(rt, &heap.shared, &mut heap.sessions);
+    drop(heap);
+    told
 }
 
 #[test]

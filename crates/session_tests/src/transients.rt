@@ -4,7 +4,7 @@ ghost use Rattle.std.specs.Prelude.{All};
 ghost use Rattle.session.specs.Sessions.{IsSessionOf};
 
 use crate::calls::{Call, Row, follow, make, value_in};
-use crate::heap::{LAST, open_heap, take_last, take_two};
+use crate::heap::{LAST, built, open_heap, take_last, take_two};
 use guards::{Schema, SchemaBuilder};
 use heap_model::{FieldId, ObjectId, Record};
 use lane_rings::Receiver;
@@ -23,8 +23,13 @@ const CACHED: FieldId = FieldId(1);
 // An object that guards a persistent and a transient field of its own.
 fn declare(alloc: Global) -> Option<Schema> {
     let mut builder = SchemaBuilder::new(alloc);
-    declare_both(&mut builder)?;
-    builder.build().ok()
+    match declare_both(&mut builder) {
+        Some(()) => built(builder),
+        None => {
+            drop(builder);
+            None
+        }
+    }
 }
 
 fn declare_both(builder: &mut SchemaBuilder) -> Option<()> {
@@ -59,7 +64,9 @@ fn told_of_last(shared: &Shared, sessions: &mut Vec<Session>, rows: &[Row]) -> O
 // The same of a fresh heap.
 fn told_of_one(alloc: Global, rows: &[Row]) -> Option<Told> {
     let mut heap = open_heap(alloc, declare(alloc)?, 1, LAST, 4_000)?;
-    told_of_last(&heap.shared, &mut heap.sessions, rows)
+    let told = told_of_last(&heap.shared, &mut heap.sessions, rows);
+    drop(heap);
+    told
 }
 
 const STORE: [Row; 2] = [
@@ -95,7 +102,9 @@ fn told_and_sent(
 // The same of a fresh heap.
 fn told_of_both(alloc: Global) -> Option<Sent> {
     let mut heap = open_heap(alloc, declare(alloc)?, 2, LAST, 4_000)?;
-    told_and_sent(&heap.shared, &mut heap.sessions, &mut heap.rings)
+    let told = told_and_sent(&heap.shared, &mut heap.sessions, &mut heap.rings);
+    drop(heap);
+    told
 }
 
 // The other thread loads what the first one stored, and the ring has the take and the release alone.

@@ -117,7 +117,9 @@ fn play_both<R: Threads + Wait + Sync>(
 // The same of a fresh heap.
 fn told_of<R: Threads + Wait + Sync>(rt: &R, alloc: Global, end: u64) -> Option<[u64; 3]> {
     let mut heap = open_heap(alloc, declare(alloc, 1)?, 2, LAST, 1_048_576)?;
-    play_both(rt, &heap.shared, &mut heap.sessions, &mut heap.rings, end)
+    let told = play_both(rt, &heap.shared, &mut heap.sessions, &mut heap.rings, end);
+    drop(heap);
+    told
 }
 
 // A session may wait once before the first turn, and one more often than it takes a turn.

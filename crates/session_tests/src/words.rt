@@ -59,7 +59,9 @@ fn fill_last(shared: &Shared, sessions: &mut Vec<Session>) -> Option<([Words; 3]
 // The same of a fresh heap.
 fn told_of_count(alloc: Global) -> Option<([Words; 3], [Answer; 5])> {
     let mut heap = open_heap(alloc, declare(alloc, 1)?, 2, LAST, 4_000)?;
-    fill_last(&heap.shared, &mut heap.sessions)
+    let told = fill_last(&heap.shared, &mut heap.sessions);
+    drop(heap);
+    told
 }
 
 // A session that waits for the object, which it has taken.
@@ -144,7 +146,9 @@ fn wake_last(
 // The same of a fresh heap.
 fn told_of_wait(alloc: Global) -> Option<([Words; 2], Option<Lane>, [u64; 2])> {
     let mut heap = open_heap(alloc, declare(alloc, 1)?, 2, LAST, 4_000)?;
-    wake_last(&heap.shared, &mut heap.sessions)
+    let told = wake_last(&heap.shared, &mut heap.sessions);
+    drop(heap);
+    told
 }
 
 // 256 locks fill the thin word of the first thread, and the 257th needs a slot, which is the first. 257 exits free the

@@ -25,13 +25,24 @@ const WORN: [Change; 8] = [
     (79, 255),
 ];
 
-/// The image with the bytes at these places changed.
-pub(super) fn changed(alloc: Global, image: &MemDisk, changes: &[Change]) -> Option<MemDisk> {
-    let mut bytes = image.bytes().to_vec(alloc).ok()?;
+// Changes the bytes at these places.
+fn change(bytes: &mut [u8], changes: &[Change]) -> Option<()> {
     for (at, value) in changes {
         *bytes.get_mut(*at)? = *value;
     }
-    MemDisk::from_bytes(alloc, &bytes).ok()
+    Some(())
+}
+
+/// The image with the bytes at these places changed.
+pub(super) fn changed(alloc: Global, image: &MemDisk, changes: &[Change]) -> Option<MemDisk> {
+    let mut bytes = image.bytes().to_vec(alloc).ok()?;
+    if change(&mut bytes, changes).is_none() {
+        drop(bytes);
+        return None;
+    }
+    let disk = MemDisk::from_bytes(alloc, &bytes);
+    drop(bytes);
+    disk.ok()
 }
 
 // What recovery answers of the image with these changes.
@@ -60,7 +71,11 @@ fn other_refusal(
 // Whether what these calls leave is refused, with each of these changes, for its reason.
 fn are_refused(alloc: Global, calls: &[StoreCall], altered: &[(&[Change], RecoverError)]) -> bool {
     match crashed(alloc, calls, Fill::Lost) {
-        Some(image) => other_refusal(alloc, &image, altered).is_none(),
+        Some(image) => {
+            let other = other_refusal(alloc, &image, altered);
+            drop(image);
+            other.is_none()
+        }
         None => false,
     }
 }
@@ -113,6 +128,7 @@ fn parts_are_refused(alloc: Global) -> Option<[bool; 2]> {
     let image = crashed(alloc, &stored(), Fill::Lost)?;
     let shorter = other_length(alloc, &image, 0..64, 1, RecoverError::NotFormatted);
     let longer = other_length(alloc, &image, 64..130_208, 1_833, RecoverError::TooSmall);
+    drop(image);
     Some([shorter.is_none(), longer.is_none()])
 }
 
@@ -154,6 +170,7 @@ fn left_with_another_value(alloc: Global) -> Option<[Option<Result<Outcome, Reco
     let image = crashed(alloc, &stored(), Fill::Lost)?;
     let persistent = left_of(alloc, &image, &[(2207, 99)]);
     let transient = left_of(alloc, &image, &[(2207, 99), (2180, 1)]);
+    drop(image);
     Some([persistent, transient])
 }
 
@@ -165,18 +182,32 @@ fn a_transient_field_begins_anew(rt: HostRuntime) {
     assert!(rt; told == Some([Some(Ok(wanted[0])), Some(Ok(wanted[1]))]));
 }
 
+// What a section leaves, with a control of version 1.
+fn old_image(alloc: Global) -> Option<MemDisk> {
+    let image = crashed(alloc, &stored(), Fill::Lost)?;
+    let old = changed(alloc, &image, &[(83, 1)]);
+    drop(image);
+    old
+}
+
+// Whether recovery of this image is refused, and leaves these bytes.
+fn is_refused_with(alloc: Global, old: MemDisk, bytes: &[u8]) -> Option<[bool; 2]> {
+    let (disk, why) = recover(alloc, old).err()?;
+    let told = [why == RecoverError::OldVersion, disk.bytes() == bytes];
+    drop(disk);
+    Some(told)
+}
+
 // Whether recovery of an image of version 1 is refused, and leaves its bytes as they were.
 fn is_left_alone(alloc: Global) -> Option<[bool; 2]> {
-    let image = crashed(alloc, &stored(), Fill::Lost)?;
-    let old = changed(alloc, &image, &[(83, 1)])?;
-    let again = changed(alloc, &old, &[])?;
-    match recover(alloc, old) {
-        Err((disk, why)) => Some([
-            why == RecoverError::OldVersion,
-            disk.bytes() == again.bytes(),
-        ]),
-        Ok(_) => None,
-    }
+    let old = old_image(alloc)?;
+    let Some(again) = changed(alloc, &old, &[]) else {
+        drop(old);
+        return None;
+    };
+    let told = is_refused_with(alloc, old, again.bytes());
+    drop(again);
+    told
 }
 
 #[test]
@@ -187,7 +218,9 @@ fn an_image_of_version_1_is_left_alone(rt: HostRuntime) {
 // What recovery answers where the gate of the last control is closed.
 fn left_by_the_other(alloc: Global) -> Option<Result<Outcome, RecoverError>> {
     let image = crashed(alloc, &stored(), Fill::Lost)?;
-    left_of(alloc, &image, &[(64, 0)])
+    let left = left_of(alloc, &image, &[(64, 0)]);
+    drop(image);
+    left
 }
 
 // The control before counts, which has the section as logged.
@@ -202,15 +235,24 @@ fn the_other_control_counts_where_a_gate_is_closed(rt: HostRuntime) {
     assert!(rt; left_by_the_other(rt.alloc()) == Some(Ok(wanted)));
 }
 
+fn studied(alloc: Global, disk: &mut MemDisk) -> Option<Outcome> {
+    let found = study(alloc, disk).ok()?;
+    let outcome = outcome_of(&found.heap, &found.report);
+    drop(found);
+    outcome
+}
+
 // What is studied of an image with a worn control, and what recovery answers of it.
 fn told_of_worn(alloc: Global) -> Option<(Outcome, Option<Result<Outcome, RecoverError>>)> {
     let image = crashed(alloc, &stored(), Fill::Lost)?;
-    let mut disk = changed(alloc, &image, &WORN)?;
-    let Ok(found) = study(alloc, &mut disk) else {
+    let worn = changed(alloc, &image, &WORN);
+    drop(image);
+    let mut disk = worn?;
+    let Some(outcome) = studied(alloc, &mut disk) else {
+        drop(disk);
         return None;
     };
-    let studied = outcome_of(&found.heap, &found.report)?;
-    Some((studied, recovery_of(alloc, disk)))
+    Some((outcome, recovery_of(alloc, disk)))
 }
 
 #[test]

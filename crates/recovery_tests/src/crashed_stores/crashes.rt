@@ -7,10 +7,10 @@ use std::alloc::Global;
 
 // Recovers the disk to the heap before all stores, and gives it back. None where recovery answers otherwise.
 fn recovered(alloc: Global, disk: MemDisk) -> Option<MemDisk> {
-    let Ok((recovered, _)) = recover(alloc, disk) else {
-        return None;
-    };
+    let (recovered, report) = recover(alloc, disk).ok()?;
+    drop(report);
     if recovered.heap() != [10, 20].as_slice() {
+        drop(recovered);
         return None;
     }
     Some(recovered.into_disk())
@@ -25,9 +25,10 @@ fn recovered_at(alloc: Global, disk: &MemDisk, k: u64, fill: Fill) -> Option<Mem
 // Whether each crash with this fill while the disk was written is recovered so.
 fn survives(alloc: Global, disk: &MemDisk, fill: Fill) -> bool {
     for k in 1..disk.stops().saturating_add(2) {
-        if recovered_at(alloc, disk, k, fill).is_none() {
+        let Some(again) = recovered_at(alloc, disk, k, fill) else {
             return false;
-        }
+        };
+        drop(again);
     }
     true
 }
@@ -35,7 +36,11 @@ fn survives(alloc: Global, disk: &MemDisk, fill: Fill) -> bool {
 // The same of a crash behind which each crash is recovered so while what the first one left is recovered.
 fn survives_another(alloc: Global, disk: &MemDisk, k: u64, fill: Fill) -> bool {
     match recovered_at(alloc, disk, k, fill) {
-        Some(again) => survives(alloc, &again, fill),
+        Some(again) => {
+            let survived = survives(alloc, &again, fill);
+            drop(again);
+            survived
+        }
         None => false,
     }
 }
@@ -57,7 +62,9 @@ fn recovered_stores(alloc: Global) -> Option<MemDisk> {
 // How many calls of the device that takes.
 fn calls_of_recovery(alloc: Global) -> Option<u64> {
     let disk = recovered_stores(alloc)?;
-    Some(disk.stops())
+    let stops = disk.stops();
+    drop(disk);
+    Some(stops)
 }
 
 // A sync, a write of the one field that is put back, a sync, and six calls of a commit, as both gates are open.
@@ -69,12 +76,14 @@ fn recovery_makes_the_documented_calls(rt: HostRuntime) {
 // Whether crashes at each of these calls, and at each call of the recovery of what that leaves, are recovered, by fill.
 fn survived_twice(alloc: Global) -> Option<[bool; 4]> {
     let disk = recovered_stores(alloc)?;
-    Some([
+    let survived = [
         survives_twice(alloc, &disk, Fill::Lost),
         survives_twice(alloc, &disk, Fill::Kept),
         survives_twice(alloc, &disk, Fill::Byte(0)),
         survives_twice(alloc, &disk, Fill::Byte(255)),
-    ])
+    ];
+    drop(disk);
+    Some(survived)
 }
 
 #[test]
@@ -85,19 +94,22 @@ fn a_recovery_cut_off_twice_is_recovered(rt: HostRuntime) {
 // The two values that recovery gives of what a crash leaves that comes with call `k` begun.
 fn heap_at(alloc: Global, disk: &MemDisk, k: u64, fill: Fill) -> Option<(u64, u64)> {
     let image = disk.crash_image(k, fill).ok()??;
-    let Ok((recovered, _)) = recover(alloc, image) else {
-        return None;
+    let (recovered, report) = recover(alloc, image).ok()?;
+    drop(report);
+    let heap = match recovered.heap() {
+        [first, second] => Some((*first, *second)),
+        _ => None,
     };
-    let [first, second] = recovered.heap() else {
-        return None;
-    };
-    Some((*first, *second))
+    drop(recovered);
+    heap
 }
 
 // The disk of a store that makes these calls and trims.
 fn trimmed(alloc: Global, calls: &[StoreCall]) -> Option<MemDisk> {
     let mut store = new_store(alloc)?;
-    if store.play(calls).is_err() || store.play(&[StoreCall::Trim]).is_err() {
+    let is_played = store.play(calls).is_ok() && store.play(&[StoreCall::Trim]).is_ok();
+    if !is_played {
+        drop(store);
         return None;
     }
     Some(store.into_disk())
@@ -126,12 +138,14 @@ fn stored_by_fill(
     value: u64,
 ) -> Option<[Option<(u64, u64)>; 4]> {
     let disk = trimmed(alloc, calls)?;
-    Some([
+    let since = [
         stored_since(alloc, &disk, value, Fill::Lost),
         stored_since(alloc, &disk, value, Fill::Kept),
         stored_since(alloc, &disk, value, Fill::Byte(0)),
         stored_since(alloc, &disk, value, Fill::Byte(255)),
-    ])
+    ];
+    drop(disk);
+    Some(since)
 }
 
 // Two logs of 12 and 8 calls, a home write and two settlings of 7: the gate of the last is opened by call 47, and the sync behind

@@ -15,8 +15,14 @@ fn left_behind(alloc: Global, image: &MemDisk, call: u64) -> Option<Result<Outco
     disk.fail_call(call);
     match recover(alloc, disk) {
         Err((disk, RecoverError::Fault)) => recovery_of(alloc, disk),
-        Err((_, error)) => Some(Err(error)),
-        Ok(_) => None,
+        Err((disk, error)) => {
+            drop(disk);
+            Some(Err(error))
+        }
+        Ok(made) => {
+            drop(made);
+            None
+        }
     }
 }
 
@@ -46,7 +52,9 @@ fn counted(alloc: Global) -> Option<(u64, u64, bool)> {
     let ended = kept(0, 0, [10, 20]);
     let behind = so_many(alloc, &image, before.saturating_add(1), ended);
     let last = before.saturating_add(behind).saturating_add(1);
-    Some((before, behind, left_behind(alloc, &image, last).is_none()))
+    let is_last = left_behind(alloc, &image, last).is_none();
+    drop(image);
+    Some((before, behind, is_last))
 }
 
 // The section is logged and written home, and not settled. The new control shows where the last call alone fails, which is the

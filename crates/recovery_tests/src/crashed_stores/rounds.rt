@@ -105,18 +105,14 @@ fn image_of(alloc: Global, lanes: u8) -> Option<Recovered<MemDisk>> {
 // The same as recovery leaves it.
 fn recovered_of(alloc: Global, lanes: u8) -> Option<Recovered<MemDisk>> {
     let made = image_of(alloc, lanes)?;
-    match recover(alloc, made.into_disk()) {
-        Ok((recovered, _)) => Some(recovered),
-        Err(_) => None,
-    }
+    let (recovered, report) = recover(alloc, made.into_disk()).ok()?;
+    drop(report);
+    Some(recovered)
 }
 
 // A store over it.
 fn adopted(alloc: Global, image: Recovered<MemDisk>) -> Option<Store<MemDisk>> {
-    match Store::adopt(alloc, image, 9) {
-        Ok(store) => Some(store),
-        Err(_) => None,
-    }
+    Store::adopt(alloc, image, 9).ok()
 }
 
 // The store of the case.
@@ -165,14 +161,15 @@ fn rounds(store: &mut Store<MemDisk>, case: Case) -> Option<[u64; 3]> {
 // What recovery keeps of what a crash leaves that comes with call `k` begun.
 fn kept_at(alloc: Global, disk: &MemDisk, k: u64, fill: Fill) -> Option<Kept> {
     let image = disk.crash_image(k, fill).ok()??;
-    let Ok((recovered, report)) = recover(alloc, image) else {
-        return None;
+    let (recovered, report) = recover(alloc, image).ok()?;
+    let counts = report.kept.counts;
+    drop(report);
+    let heap = match recovered.heap() {
+        [first, second] => Some([*first, *second]),
+        _ => None,
     };
-    let [first, second] = recovered.heap() else {
-        return None;
-    };
-    let [one, two, three, ..] = report.kept.counts;
-    Some(([one, two, three], [*first, *second]))
+    drop(recovered);
+    Some(([counts[0], counts[1], counts[2]], heap?))
 }
 
 // From which call on a crash behind it keeps the new cut, where `gate` is the write that turns the round's last gate, to open
@@ -224,17 +221,29 @@ fn is_atomic_by_fills(
         .all(|fill| is_atomic(alloc, disk, calls, opens, kept, *fill))
 }
 
+// Whether each crash of the first round is as it is to be, and each of the second, by how often the device was called.
+fn are_atomic(alloc: Global, disk: &MemDisk, case: Case, calls: [u64; 3]) -> [bool; 2] {
+    let [before, middle, end] = calls;
+    let opens = case.recovered;
+    let [old, between, new] = case.kept;
+    let first = is_atomic_by_fills(alloc, disk, [before, middle], opens, [old, between]);
+    let second = is_atomic_by_fills(alloc, disk, [middle, end], opens, [between, new]);
+    [first, second]
+}
+
 // How many writes and syncs the two rounds took, and whether each crash of the first is as it is to be, and each of the second.
 fn told_of_rounds(alloc: Global, case: Case) -> Option<([u64; 2], [bool; 2])> {
     let mut store = store_of(alloc, case)?;
-    let [before, middle, end] = rounds(&mut store, case)?;
+    let Some(calls) = rounds(&mut store, case) else {
+        drop(store);
+        return None;
+    };
     let disk = store.into_disk();
-    let opens = case.recovered;
-    let [old, between, new] = case.kept;
-    let first = is_atomic_by_fills(alloc, &disk, [before, middle], opens, [old, between]);
-    let second = is_atomic_by_fills(alloc, &disk, [middle, end], opens, [between, new]);
+    let atomic = are_atomic(alloc, &disk, case, calls);
+    drop(disk);
+    let [before, middle, end] = calls;
     let stops = [middle.saturating_sub(before), end.saturating_sub(middle)];
-    Some((stops, [first, second]))
+    Some((stops, atomic))
 }
 
 // Whether the case is as it is to be, over an image just made and over one that recovery left.
@@ -273,10 +282,13 @@ fn left_by_fault(alloc: Global, call: u64, fill: Fill) -> Option<Kept>
     let made = formatted_with(alloc, disk, 3, 2_000)?;
     let mut store = adopted(alloc, made)?;
     if round(&mut store, &first_calls()).is_some() {
+        drop(store);
         return None;
     }
     let disk = store.into_disk();
-    kept_at(alloc, &disk, disk.stops().saturating_add(1), fill)
+    let left = kept_at(alloc, &disk, disk.stops().saturating_add(1), fill);
+    drop(disk);
+    left
 }
 
 // Whether it keeps the new cut then. Call 33 closes the last gate, and 34 is the sync behind it. A write that failed is not

@@ -164,10 +164,13 @@ pub(crate) fn new_store(alloc: Global) -> Option<Store<MemDisk>> {
 pub(crate) fn crashed(alloc: Global, calls: &[StoreCall], fill: Fill) -> Option<MemDisk> {
     let mut store = new_store(alloc)?;
     if store.play(calls).is_err() {
+        drop(store);
         return None;
     }
     let disk = store.into_disk();
-    disk.crash_image(disk.stops().saturating_add(1), fill).ok()?
+    let left = disk.crash_image(disk.stops().saturating_add(1), fill);
+    drop(disk);
+    left.ok()?
 }
 
 /// What recovery answers of that, where what wasn't synced is lost.
@@ -185,8 +188,16 @@ pub(crate) fn answered(
     answer: Result<(Recovered<MemDisk>, Report), (MemDisk, RecoverError)>,
 ) -> Option<Result<Outcome, RecoverError>> {
     match answer {
-        Ok((recovered, report)) => Some(Ok(outcome_of(recovered.heap(), &report)?)),
-        Err((_, reason)) => Some(Err(reason)),
+        Ok((recovered, report)) => {
+            let outcome = outcome_of(recovered.heap(), &report);
+            drop(recovered);
+            drop(report);
+            Some(Ok(outcome?))
+        }
+        Err((disk, reason)) => {
+            drop(disk);
+            Some(Err(reason))
+        }
     }
 }
 

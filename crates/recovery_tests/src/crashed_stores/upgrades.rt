@@ -12,7 +12,9 @@ const FILLS: [Fill; 4] = [Fill::Lost, Fill::Kept, Fill::Byte(0), Fill::Byte(255)
 // What a section leaves that was logged and written home and isn't settled, with a control of version 1 in both slots.
 fn old_image(alloc: Global) -> Option<MemDisk> {
     let image = crashed(alloc, &stored()[..6], Fill::Kept)?;
-    changed(alloc, &image, &[(83, 1), (1131, 1)])
+    let old = changed(alloc, &image, &[(83, 1), (1131, 1)]);
+    drop(image);
+    old
 }
 
 // What an upgrade of this disk answers.
@@ -33,7 +35,9 @@ fn undone() -> Outcome {
 // The slot, the sequence and the version of the control that counts.
 fn control_of(alloc: Global, disk: &mut MemDisk) -> Option<(Slot, u64, u32)> {
     let found = study(alloc, disk).ok()?;
-    Some((found.slot, found.control.sequence, found.control.version))
+    let told = (found.slot, found.control.sequence, found.control.version);
+    drop(found);
+    Some(told)
 }
 
 // What recovery answers of the image, and whether an upgrade answers this.
@@ -50,19 +54,22 @@ fn an_image_of_version_1_is_upgraded_and_not_recovered(rt: HostRuntime) {
 
 // The disk of an upgrade of the image.
 fn upgraded(alloc: Global) -> Option<MemDisk> {
-    let Ok((recovered, _)) = upgrade(alloc, old_image(alloc)?) else {
-        return None;
-    };
+    let (recovered, report) = upgrade(alloc, old_image(alloc)?).ok()?;
+    drop(report);
     Some(recovered.into_disk())
 }
 
 // How many writes and syncs the upgrade makes; and the control before and behind it.
 fn controls(alloc: Global) -> Option<(u64, [(Slot, u64, u32); 2])> {
-    let before = control_of(alloc, &mut old_image(alloc)?)?;
+    let mut old = old_image(alloc)?;
+    let before = control_of(alloc, &mut old);
+    drop(old);
+    let before = before?;
     let mut disk = upgraded(alloc)?;
     let stops = disk.stops();
-    let behind = control_of(alloc, &mut disk)?;
-    Some((stops, [before, behind]))
+    let behind = control_of(alloc, &mut disk);
+    drop(disk);
+    Some((stops, [before, behind?]))
 }
 
 #[test]
@@ -71,13 +78,21 @@ fn an_upgrade_leaves_a_control_of_version_2(rt: HostRuntime) {
     assert!(rt; controls(rt.alloc()) == Some((9, wanted)));
 }
 
+// The version of the image's control, and whether an upgrade gives the heap from before it.
+fn told_of_upgrade(alloc: Global, image: &mut MemDisk) -> Option<(u32, bool)> {
+    let (_, _, version) = control_of(alloc, image)?;
+    let again = upgrade_of(alloc, changed(alloc, image, &[])?)?;
+    Some((version, again.is_ok_and(|outcome| outcome.heap == [10, 20])))
+}
+
 // Whether what a crash leaves that comes with call `k` of the upgrade begun upgrades to the heap from before it, and is recovered to
 // it where version 2 shows and else refused.
 fn goes_on(alloc: Global, disk: &MemDisk, k: u64, fill: Fill) -> Option<bool> {
     let mut image = disk.crash_image(k, fill).ok()??;
-    let (_, _, version) = control_of(alloc, &mut image)?;
-    let again = upgrade_of(alloc, changed(alloc, &image, &[])?)?;
-    let is_upgraded = again.is_ok_and(|outcome| outcome.heap == [10, 20]);
+    let Some((version, is_upgraded)) = told_of_upgrade(alloc, &mut image) else {
+        drop(image);
+        return None;
+    };
     let recovered = recovery_of(alloc, image)?;
     let wanted = if version == 1 {
         recovered == Err(RecoverError::OldVersion)
@@ -99,7 +114,9 @@ fn each_goes_on(alloc: Global, disk: &MemDisk, fill: Fill) -> bool {
 
 fn goes_on_by_fills(alloc: Global) -> Option<bool> {
     let disk = upgraded(alloc)?;
-    Some(FILLS.iter().all(|fill| each_goes_on(alloc, &disk, *fill)))
+    let goes_on = FILLS.iter().all(|fill| each_goes_on(alloc, &disk, *fill));
+    drop(disk);
+    Some(goes_on)
 }
 
 #[test]

@@ -14,10 +14,12 @@ fn are_dropped(
     wanted: &[Dropped],
 ) -> Option<bool> {
     let mut disk = image_with(alloc, rows, first, second)?;
-    match study(alloc, &mut disk) {
-        Ok(found) => Some(found.report.dropped.as_slice() == wanted),
-        Err(_) => None,
-    }
+    let found = study(alloc, &mut disk).ok();
+    drop(disk);
+    let found = found?;
+    let are_so = found.report.dropped.as_slice() == wanted;
+    drop(found);
+    Some(are_so)
 }
 
 fn dropped(lane: u8, section: u64, why: Why) -> Dropped {

@@ -2,16 +2,23 @@
 use super::{acq, fresh, image_with, rel, row, store};
 use block_disk::MemDisk;
 use heap_model::{Lane, UndoRecord};
-use image::LaneRow;
-use recover::{Dropped, RecoverError, Why, recover, study};
+use image::{LaneRow, Recovered};
+use recover::{Dropped, RecoverError, Report, Study, Why, recover, study};
 use std::alloc::Global;
 
 // What a recovery of zeros answers, and how many calls it makes that change the device.
 fn zeros(alloc: Global) -> Option<(RecoverError, u64)> {
     let disk = MemDisk::new(alloc, 130_208).ok()?;
     match recover(alloc, disk) {
-        Err((disk, error)) => Some((error, disk.stops())),
-        Ok(_) => None,
+        Err((disk, error)) => {
+            let stops = disk.stops();
+            drop(disk);
+            Some((error, stops))
+        }
+        Ok(made) => {
+            drop(made);
+            None
+        }
     }
 }
 
@@ -24,36 +31,57 @@ fn zeros_are_not_formatted(rt: HostRuntime) {
 // The two values that a study finds, the sequence, and how many sections are dropped.
 type Studied = ([u64; 2], u64, usize);
 
-fn studied(alloc: Global, disk: &mut MemDisk) -> Option<Studied> {
-    let Ok(found) = study(alloc, disk) else {
-        return None;
-    };
+fn told_of_study(found: &Study) -> Option<Studied> {
     let heap = *found.heap.as_array::<2>()?;
     Some((heap, found.control.sequence, found.report.dropped.len()))
+}
+
+fn studied(alloc: Global, disk: &mut MemDisk) -> Option<Studied> {
+    let found = study(alloc, disk).ok()?;
+    let told = told_of_study(&found);
+    drop(found);
+    told
 }
 
 // The two values that recovery gives, how many fields it put back, and by how many calls of the device.
 type Recovery = ([u64; 2], u32, u64);
 
-// What recovery makes of an image, and the disk that it leaves. None where other sections are dropped.
-fn recovered(alloc: Global, disk: MemDisk, dropped: &[Dropped]) -> Option<(Recovery, MemDisk)> {
-    let before = disk.stops();
-    let Ok((recovered, report)) = recover(alloc, disk) else {
-        return None;
-    };
+// The two values of what was recovered. None where other sections are dropped.
+fn heap_of(
+    recovered: &Recovered<MemDisk>,
+    report: &Report,
+    dropped: &[Dropped],
+) -> Option<[u64; 2]> {
     if report.dropped.as_slice() != dropped {
         return None;
     }
-    let heap = *recovered.heap().as_array::<2>()?;
+    recovered.heap().as_array::<2>().copied()
+}
+
+// What recovery makes of an image, and the disk that it leaves. None where other sections are dropped.
+fn recovered(alloc: Global, disk: MemDisk, dropped: &[Dropped]) -> Option<(Recovery, MemDisk)> {
+    let before = disk.stops();
+    let (recovered, report) = recover(alloc, disk).ok()?;
+    let heap = heap_of(&recovered, &report, dropped);
+    let undone = report.undone;
+    drop(report);
     let left = recovered.into_disk();
+    let Some(heap) = heap else {
+        drop(left);
+        return None;
+    };
     let calls = left.stops().wrapping_sub(before);
-    Some(((heap, report.undone, calls), left))
+    Some(((heap, undone, calls), left))
 }
 
 fn told_of_formatted(alloc: Global) -> Option<(Studied, Recovery)> {
     let mut disk = fresh(alloc)?;
-    let found = studied(alloc, &mut disk)?;
-    let (recovery, _) = recovered(alloc, disk, &[])?;
+    let Some(found) = studied(alloc, &mut disk) else {
+        drop(disk);
+        return None;
+    };
+    let (recovery, left) = recovered(alloc, disk, &[])?;
+    drop(left);
     Some((found, recovery))
 }
 
@@ -74,7 +102,9 @@ fn told_of_logs(
 ) -> Option<(Recovery, Studied)> {
     let disk = image_with(alloc, rows, first, second)?;
     let (recovery, mut left) = recovered(alloc, disk, dropped)?;
-    Some((recovery, studied(alloc, &mut left)?))
+    let found = studied(alloc, &mut left);
+    drop(left);
+    Some((recovery, found?))
 }
 
 // The second lane's field took 20, and its section hasn't ended; the first lane's was acknowledged. There is one write more

@@ -40,38 +40,39 @@ sessions-preserved c =
     let was = c.sessions.invariant in
     let left = c.pop.new.self.items in
     let unused = c.sessions.unused.items in
-    let one : Seated = c.in_ok-session.session in
-    let ends = c.in_ok-session.ensures in
+    let added = c.in_default-add.ensures.added in
+    let one : Seated = added.0 in
+    let end : LaneEnd = added.1 in
     let popped : c.sessions.left.items ≡ left ++ s ∷ [] = c.in-Some.ensures.items in
     let new = new_popped 0 left s (subst (AreNew 0) popped was.0) in
     let fewer : length c.sessions.left.items ≡ length left + 1 = ap (λ (l : List Session). length l) popped ∙ length_push left s in
-    let pushed : c.push.new.self.items ≡ unused ++ one ∷ [] = c.in_ok-push.ensures.items in
+    let pushed : c.add.new.unused.items ≡ unused ++ one ∷ [] = added.2 in
     let down : IsDown left (unused ++ one ∷ []) (length c.args.sessions.items) = (
-      lanes_down unused one left s (length c.sessions.left.items) ends.session.1 new.1 fewer was.1.0,
+      lanes_down unused one left s (length c.sessions.left.items) added.5 new.1 fewer was.1.0,
       (let count = was.1.1 in let more = length_push unused one in omega (arith, count, more, fewer)),
     ) in (
       new.0,
       subst (λ (u : List Seated). IsDown left u (length c.args.sessions.items)) (sym pushed) down,
       ap (λ (u : List Seated). length u) pushed ∙ length_push unused one ∙ ap (λ (n : ℕ). n + 1) was.2
-          ∙ sym (ap (λ (es : List LaneEnd). length es) c.in_ok-push-2.ensures.items ∙ length_push c.sessions.lanes.items c.in_ok-session.end),
+          ∙ sym (ap (λ (es : List LaneEnd). length es) added.3 ∙ length_push c.sessions.lanes.items end),
       (All-pop (IsSessionOf h) _ _ (Some s) c.in-Some.ensures.items was.3).0,
       subst (AreNewHere h word) (sym pushed)
-          (All-push (IsNewHere h word) _ one was.4 (record { home = ends.session.0 ∙ c.in_ok-try_clone.ensures; word_is = ap (λ (x : Stopping). x.word) (ends.session.2 ∙ c.in_ok-word.ensures.other ∙ was.7); untold = ap (λ (x : Session). (view_of x).events) ends.session.1 ∙ new.2 })),
+          (All-push (IsNewHere h word) _ one was.4 (record { home = added.4; word_is = ap (λ (x : Stopping). x.word) (added.6 ∙ was.7); untold = ap (λ (x : Session). (view_of x).events) added.5 ∙ new.2 })),
       λ k rings all.
           let each = was.5 k rings all in
           let parts = All-pop (IsJoined h k rings) _ _ (Some s) c.in-Some.ensures.items each.0 in (
             parts.0,
-            subst (All (IsLaneEnd h k rings)) (sym c.in_ok-push-2.ensures.items)
-                (All-push (IsLaneEnd h k rings) _ c.in_ok-session.end each.1 (record {
-                  first = (s, [], ends.end.0, parts.1);
-                  came = subst (λ (o : Option Session). IfSome o (IsBack h k rings (lane_at c.in_ok-session.end))) (sym ends.end.1) tt;
+            subst (All (IsLaneEnd h k rings)) (sym added.3)
+                (All-push (IsLaneEnd h k rings) _ end each.1 (record {
+                  first = (s, [], added.7, parts.1);
+                  came = subst (λ (o : Option Session). IfSome o (IsBack h k rings (lane_at end))) (sym added.8) tt;
                 })),
-            subst (All (IsJoinedHere h k rings)) (sym pushed) (All-push (IsJoinedHere h k rings) unused one each.2 (subst (IsJoined h k rings) (sym ends.session.1) parts.1)),
+            subst (All (IsJoinedHere h k rings)) (sym pushed) (All-push (IsJoinedHere h k rings) unused one each.2 (subst (IsJoined h k rings) (sym added.5) parts.1)),
           ),
-      ap (λ (es : List LaneEnd). lanes_at es) c.in_ok-push-2.ensures.items ∙ lanes_at_more c.sessions.lanes.items c.in_ok-session.end
-          ∙ ap (λ (n : ℕ). n ∷ lanes_at c.sessions.lanes.items) (ap (λ (items : List Session). lane_in items) ends.end.0 ∙ sym (ap (λ (x : Session). (view_of x).lane.0) ends.session.1))
+      ap (λ (es : List LaneEnd). lanes_at es) added.3 ∙ lanes_at_more c.sessions.lanes.items end
+          ∙ ap (λ (n : ℕ). n ∷ lanes_at c.sessions.lanes.items) (ap (λ (items : List Session). lane_in items) added.7 ∙ sym (ap (λ (x : Session). (view_of x).lane.0) added.5))
           ∙ ap (λ (ns : List ℕ). (view_of one.session).lane.0 ∷ ns) was.6 ∙ sym (lanes_more unused one) ∙ sym (ap (λ (u : List Seated). lanes_of u) pushed),
-      c.for_session.ensures.same ∙ was.7,
+      c.add.ensures.same ∙ was.7,
     )
 
 pub returns-clause-lanes : goal.returns-clause-lanes

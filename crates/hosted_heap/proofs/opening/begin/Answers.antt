@@ -22,7 +22,7 @@ pub begin_all-requires : goal.begin_all-requires
 begin_all-requires c =
     let x = c.in-Ok.heap in
     record {
-      of = subst (λ (h : Home). All (IsSessionOf h) x.sessions.items) (sym c.in_ok-shared.ensures.ok)
+      of = subst (λ (h : Home). All (IsSessionOf h) x.sessions.items) (sym c.in-Ok-new.ensures.ok)
           (All-weaker (IsJoined x.shared c.args.recovered.layout.capacity x.helper.rings) (IsSessionOf x.shared) (λ s joined. joined.of) x.sessions.items c.in-Ok.ensures.joined);
       fresh = c.in-Ok.ensures.fresh;
     }
@@ -30,11 +30,11 @@ begin_all-requires c =
 pub invariant_of-result : goal.invariant_of-result
 invariant_of-result c =
     let x = c.in-Ok.heap in
-    let same = sym c.in_ok-shared.ensures.ok in
-    let unused = c.in_ok-unused.unused.items in
-    let lanes = c.in_ok-unused.lanes.items in
-    let count = c.in_ok-unused.ensures.count in
-    let ends = c.in_ok-unused.ensures.lanes x.helper.store.known.layout.capacity x.helper.rings
+    let same = sym c.in-Ok-new.ensures.ok in
+    let unused = c.in-Ok-begin_all.unused.items in
+    let lanes = c.in-Ok-begin_all.lanes.items in
+    let count = c.in-Ok-begin_all.ensures.count in
+    let ends = c.in-Ok-begin_all.ensures.lanes x.helper.store.known.layout.capacity x.helper.rings
     (subst (λ (h : Home). All (IsJoined h x.helper.store.known.layout.capacity x.helper.rings) x.sessions.items) same
     (subst (λ (l : Layout). All (IsJoined x.shared l.capacity x.helper.rings) x.sessions.items) (sym c.in-Ok.ensures.layout) c.in-Ok.ensures.joined)) in
     record {
@@ -42,18 +42,18 @@ invariant_of-result c =
       host = subst (λ (d : Deferred). IsHostOf d c.args.calls) (sym c.in-Ok.ensures.disk) c.requires.host;
       layout_is = c.layout-layout.ensures.layout ∙ sym c.in-Ok.ensures.layout;
       within = c.layout-layout.ensures.recovered.image.header.limits;
-      unused_are = subst (λ (s : Stopping). AreNewHere (arc_value c.in_ok-shared.shared) s.word unused) (sym c.in_ok-unused.ensures.stop) c.in_ok-unused.ensures.homes;
-      count = (let same = c.in_ok-unused.ensures.count in omega (arith, same));
+      unused_are = subst (λ (s : Stopping). AreNewHere (arc_value c.in-Ok-new.shared) s.word unused) (sym c.in-Ok-begin_all.ensures.stop) c.in-Ok-begin_all.ensures.homes;
+      count = (let same = c.in-Ok-begin_all.ensures.count in omega (arith, same));
       lanes_are = ends.0;
-      order = c.in_ok-unused.ensures.paired ∙ c.in_ok-unused.ensures.in_order ∙ ap (λ (n : ℕ). range_with_len 0 n) c.in-Ok.ensures.count ∙ ap (λ (l : Layout). range_with_len 0 l.lanes) (sym c.layout-layout.ensures.layout);
+      order = c.in-Ok-begin_all.ensures.paired ∙ c.in-Ok-begin_all.ensures.in_order ∙ ap (λ (n : ℕ). range_with_len 0 n) c.in-Ok.ensures.count ∙ ap (λ (l : Layout). range_with_len 0 l.lanes) (sym c.layout-layout.ensures.layout);
       joined = ends.1;
-      paired = sym c.in_ok-unused.ensures.paired ∙ ap (λ (es : List LaneEnd). lanes_at es) (sym (take_all (length unused) lanes (omega (arith, count))));
+      paired = sym c.in-Ok-begin_all.ensures.paired ∙ ap (λ (es : List LaneEnd). lanes_at es) (sym (take_all (length unused) lanes (omega (arith, count))));
     }
 
-pub returns : goal.returns
-returns c =
+pub returns-in-Ok-begin_all : goal.returns-in-Ok-begin_all
+returns-in-Ok-begin_all c =
     let x = c.in-Ok.heap in
-    let same = c.in_ok-shared.ensures.ok in
+    let same = c.in-Ok-new.ensures.ok in
     record {
       begun = record {
         plan_is = ap (λ (h : Home). h.plan) same ∙ c.in-Ok.ensures.plan;
@@ -64,9 +64,9 @@ returns c =
         untold = subst (λ (h : Home). IsServing hosted_device x.helper (plan h) no_past) (sym same) c.in-Ok.ensures.past;
         unmade = c.requires.calls.0;
         none_left = c.requires.calls.1;
-        unused = c.in_ok-unused.ensures.in_order ∙ ap (λ (n : ℕ). range_with_len 0 n) c.in-Ok.ensures.count;
-        unstopped = ap (λ (s : Stopping). s.seen) c.in_ok-unused.ensures.stop ∙ c.in_ok-stop.ensures;
-        none_out = drop_all (length c.in_ok-unused.unused.items) c.in_ok-unused.lanes.items (let same = c.in_ok-unused.ensures.count in omega (arith, same));
+        unused = c.in-Ok-begin_all.ensures.in_order ∙ ap (λ (n : ℕ). range_with_len 0 n) c.in-Ok.ensures.count;
+        unstopped = ap (λ (s : Stopping). s.seen) c.in-Ok-begin_all.ensures.stop ∙ c.in-Ok-new-2.ensures;
+        none_out = drop_all (length c.in-Ok-begin_all.unused.items) c.in-Ok-begin_all.lanes.items (let same = c.in-Ok-begin_all.ensures.count in omega (arith, same));
       };
       calls = refl;
     }

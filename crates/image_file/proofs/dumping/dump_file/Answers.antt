@@ -9,12 +9,12 @@ returns-in-Err-open_to_read-clause-part g c = inl (Appends-nil (g.W.Write.conten
 
 pub returns-clause-printed : goal.returns-clause-printed
 returns-clause-printed g c =
-    on_ok_weaker c.dump_image.result (dumps_told c.in-Ok.given _ _ (g.W.Write.contents c.args.writer.now) (g.W.Write.contents c.dump_image.new.writer) c.args.schema_path c.in-Ok.ensures) c.dump_image.ensures.ok
+    on_ok_weaker c.dump_image-dumped.result (dumps_told c.in-Ok.given _ _ (g.W.Write.contents c.args.writer.now) (g.W.Write.contents c.dump_image-dumped.new.writer) c.args.schema_path c.in-Ok.ensures) c.dump_image-dumped.ensures.ok
 
 pub returns-clause-silent : goal.returns-clause-silent
 returns-clause-silent g c =
-    IfErr-weaker c.dump_image.result _ _ (dumps_silent c.in-Ok.given _ _ (g.W.Write.contents c.args.writer.now) (g.W.Write.contents c.dump_image.new.writer)) c.dump_image.ensures.refused
+    IfErr-weaker c.dump_image-dumped.result _ _ (dumps_silent c.in-Ok.given _ _ (g.W.Write.contents c.args.writer.now) (g.W.Write.contents c.dump_image-dumped.new.writer)) c.dump_image-dumped.ensures.refused
 
 pub returns-clause-part : goal.returns-clause-part
 returns-clause-part g c =
-    some_err _ c.dump_image.result (dumps_part c.in-Ok.given _ _ (g.W.Write.contents c.args.writer.now) (g.W.Write.contents c.dump_image.new.writer)) c.dump_image.ensures.refused
+    some_err _ c.dump_image-dumped.result (dumps_part c.in-Ok.given _ _ (g.W.Write.contents c.args.writer.now) (g.W.Write.contents c.dump_image-dumped.new.writer)) c.dump_image-dumped.ensures.refused

@@ -9,12 +9,12 @@ returns-in-Err-open_to_read-clause-part g c = inl (Appends-nil (g.W.Write.conten
 
 pub returns-clause-printed : goal.returns-clause-printed
 returns-clause-printed g c =
-    on_ok_weaker c.draw_named_image.result (draws_told c.in-Ok.given c.args.last _ _ (g.W.Write.contents c.args.writer.now) (g.W.Write.contents c.draw_named_image.new.writer) c.args.schema_path c.in-Ok.ensures) c.draw_named_image.ensures.ok
+    on_ok_weaker c.draw_named_image-drawn.result (draws_told c.in-Ok.given c.args.last _ _ (g.W.Write.contents c.args.writer.now) (g.W.Write.contents c.draw_named_image-drawn.new.writer) c.args.schema_path c.in-Ok.ensures) c.draw_named_image-drawn.ensures.ok
 
 pub returns-clause-silent : goal.returns-clause-silent
 returns-clause-silent g c =
-    IfErr-weaker c.draw_named_image.result _ _ (draws_silent c.in-Ok.given c.args.last _ _ (g.W.Write.contents c.args.writer.now) (g.W.Write.contents c.draw_named_image.new.writer)) c.draw_named_image.ensures.refused
+    IfErr-weaker c.draw_named_image-drawn.result _ _ (draws_silent c.in-Ok.given c.args.last _ _ (g.W.Write.contents c.args.writer.now) (g.W.Write.contents c.draw_named_image-drawn.new.writer)) c.draw_named_image-drawn.ensures.refused
 
 pub returns-clause-part : goal.returns-clause-part
 returns-clause-part g c =
-    some_err _ c.draw_named_image.result (draws_part c.in-Ok.given c.args.last _ _ (g.W.Write.contents c.args.writer.now) (g.W.Write.contents c.draw_named_image.new.writer)) c.draw_named_image.ensures.refused
+    some_err _ c.draw_named_image-drawn.result (draws_part c.in-Ok.given c.args.last _ _ (g.W.Write.contents c.args.writer.now) (g.W.Write.contents c.draw_named_image-drawn.new.writer)) c.draw_named_image-drawn.ensures.refused

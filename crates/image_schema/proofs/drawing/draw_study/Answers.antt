@@ -6,8 +6,8 @@ use Rattle.inspect.specs.WholeGraph.{picture_text}
 use Rattle.inspect.specs.Written.{AppendsPart}
 use Rattle.image_schema.proofs.drawing.draw_study.Goals as goal
 
-pub write_graph-requires : goal.write_graph-requires
-write_graph-requires g c = c.study_law.ensures.numbers c.requires.image c.args.study.now c.requires.of
+pub write_graph-drawn-requires : goal.write_graph-drawn-requires
+write_graph-drawn-requires g c = c.study_law.ensures.numbers c.requires.image c.args.study.now c.requires.of
 
 pub returns-then-not-fits_given-clause-refused : goal.returns-then-not-fits_given-clause-refused
 returns-then-not-fits_given-clause-refused g c = (
@@ -18,14 +18,14 @@ returns-then-not-fits_given-clause-refused g c = (
 pub returns-in-Ok-clause-ok : goal.returns-in-Ok-clause-ok
 returns-in-Ok-clause-ok g c =
     let old = g.W.Write.contents c.args.writer.now in
-    let new = g.W.Write.contents c.write_graph.new.writer in
+    let new = g.W.Write.contents c.write_graph-drawn.new.writer in
     record {
       fits = c.fits_given.ensures.0 c.if-not-fits_given.false;
       written = subst (λ (names : Option Declarations). Appends old new (picture_text names c.args.last c.args.study.now)) c.as_ref.ensures.value c.in-Ok.ensures.ok;
     }
 
-pub returns-clause-refused : goal.returns-clause-refused
-returns-clause-refused g c =
+pub returns-in-Err-Write-clause-refused : goal.returns-in-Err-Write-clause-refused
+returns-in-Err-Write-clause-refused g c =
     let old = g.W.Write.contents c.args.writer.now in
-    let new = g.W.Write.contents c.write_graph.new.writer in
-    subst (λ (names : Option Declarations). AppendsPart old new (picture_text names c.args.last c.args.study.now)) c.as_ref.ensures.value (c.in-Err-Write.ensures.part c.in-Err-Write.field-0-is)
+    let new = g.W.Write.contents c.write_graph-drawn.new.writer in
+    subst (λ (names : Option Declarations). AppendsPart old new (picture_text names c.args.last c.args.study.now)) c.as_ref.ensures.value (c.in-Err-Write.ensures-1.part (rw c.in-Err-Write.is at c.in-Err-Write.field-0-is))

@@ -2,5 +2,5 @@ use Rattle.std.proofs.Common.{ap, length, sym, ◌∙◌}
 use Rattle.image_schema.proofs.FitLemmas.{heap_length}
 use Rattle.image_schema.proofs.dumping.dump_study.Goals as goal
 
-pub write_schema-requires : goal.write_schema-requires
-write_schema-requires g c = ap length c.deref.ensures.value ∙ heap_length c.args.study.now c.requires ∙ c.in-Ok.ensures.fits.fields
+pub write_schema-written-requires : goal.write_schema-written-requires
+write_schema-written-requires g c = ap length c.deref.ensures.value ∙ heap_length c.args.study.now c.requires ∙ c.in-Ok.ensures.fits.fields
