@@ -47,7 +47,11 @@ where
     ensures { Drives (WorkedAt image.entry workers) (RefusedAt image.entry workers) result (W.contents writer.old) (W.contents writer.new) }
 {
     match drive_there(rt, rt.alloc(), trouble, meet, workers, rounds, image) {
-        Ok(driven) => tell(&driven, writer),
+        Ok(driven) => {
+            let told = tell(&driven, writer);
+            drop(driven);
+            told
+        }
         Err(fault) => Err(fault),
     }
 }

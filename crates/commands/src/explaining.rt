@@ -33,38 +33,46 @@ where
         WorkFault::Script(_)
         | WorkFault::Format(FormatError::Schema(_))
         | WorkFault::Named(NamedFault::Schema(_)) => {}
-        WorkFault::Named(NamedFault::OtherSchema) => {
-            let schema = schema_of(words);
-            let _ = eprintln!(rt;
-                "heapctl: {image}: it hasn't the objects and fields of {schema}; name the schema file that it was made of, or none"
-            );
-        }
+        WorkFault::Named(NamedFault::OtherSchema) => tell_other_schema(rt, words, image),
         WorkFault::Image(ImageFault::InUse)
         | WorkFault::Named(NamedFault::Image(ImageFault::InUse))
         | WorkFault::Format(FormatError::InUse)
         | WorkFault::File(FileFault::InUse) => {
-            let _ = eprintln!(rt; "heapctl: {image}: another process has it; wait until it ends");
+            tell(rt, image, "another process has it; wait until it ends");
         }
-        WorkFault::Format(FormatError::NotImage) => {
-            let _ = eprintln!(rt;
-                "heapctl: {image}: it is neither empty nor an image, so it is not replaced; name another file, or remove it"
-            );
-        }
-        WorkFault::File(FileFault::NotImage) => {
-            let _ = eprintln!(rt;
-                "heapctl: {image}: it has bytes and doesn't begin as an image; if its making was cut off, remove it"
-            );
-        }
+        WorkFault::Format(FormatError::NotImage) => tell(
+            rt,
+            image,
+            "it is neither empty nor an image, so it is not replaced; name another file, or remove it",
+        ),
+        WorkFault::File(FileFault::NotImage) => tell(
+            rt,
+            image,
+            "it has bytes and doesn't begin as an image; if its making was cut off, remove it",
+        ),
         WorkFault::Image(ImageFault::Image(RecoverError::OldVersion))
         | WorkFault::Named(NamedFault::Image(ImageFault::Image(RecoverError::OldVersion)))
-        | WorkFault::Drive(DriveError::Recover(RecoverError::OldVersion)) => {
-            let _ = eprintln!(rt;
-                "heapctl: {image}: it is of version 1; 'heapctl upgrade' makes it one of version 2, in place, and keeps its heap"
-            );
-        }
+        | WorkFault::Drive(DriveError::Recover(RecoverError::OldVersion)) => tell(
+            rt,
+            image,
+            "it is of version 1; 'heapctl upgrade' makes it one of version 2, in place, and keeps its heap",
+        ),
         WorkFault::Drive(DriveError::OtherSchema) => tell_other(rt, words, image),
         _ => tell_cause(rt, words, trouble),
     }
+}
+
+// Tells this of a file.
+fn tell<R: Eprint>(rt: &R, file: &str, text: &str) {
+    let _ = eprintln!(rt; "heapctl: {file}: {text}");
+}
+
+// Tells of an image that isn't of the schema that the words name.
+fn tell_other_schema<R: Eprint>(rt: &R, words: &Words<'_>, image: &str) {
+    let schema = schema_of(words);
+    let _ = eprintln!(rt;
+        "heapctl: {image}: it hasn't the objects and fields of {schema}; name the schema file that it was made of, or none"
+    );
 }
 
 // The file that the words name as their image; none in memory.
@@ -134,9 +142,16 @@ where
     F: BackingFile + Read + Drop,
     R: Files<File = F>,
 {
-    let mut file = fs::open(rt, image).ok()?;
+    let mut file = match fs::open(rt, image) {
+        Ok(file) => file,
+        Err(_) => return None,
+    };
     let mut head = [0; 64];
-    read_head(&mut file, &mut head).ok()?;
+    let read = read_head(&mut file, &mut head);
+    drop(file);
+    if read.is_err() {
+        return None;
+    }
     let objects = u32::from_be_bytes([head[12], head[13], head[14], head[15]]);
     let fields = u32::from_be_bytes([head[16], head[17], head[18], head[19]]);
     Some((head[9], objects, fields))

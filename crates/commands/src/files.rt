@@ -97,9 +97,18 @@ where
     };
     match content_of(&mut file, trouble) {
         Ok(Content::Image) => Ok(Some(file)),
-        Ok(Content::Nothing) => Ok(None),
-        Ok(Content::Other) => Err(FileFault::NotImage),
-        Err(fault) => Err(fault),
+        Ok(Content::Nothing) => {
+            drop(file);
+            Ok(None)
+        }
+        Ok(Content::Other) => {
+            drop(file);
+            Err(FileFault::NotImage)
+        }
+        Err(fault) => {
+            drop(file);
+            Err(fault)
+        }
     }
 }
 
@@ -116,17 +125,42 @@ where
     R: Files<File = F>,
     ensures { IfErr result (HasNoFile workers) }
 {
-    let Ok(schema) = declare(alloc, workers) else {
-        return Err(WorkFault::Format(FormatError::NoMemory));
-    };
     let mut place = NewFile::at(rt, path, trouble);
-    if let Err(error) = make_image(alloc, &schema, &mut place, workers, CAPACITY) {
-        place.give_up();
-        return Err(WorkFault::Format(error));
+    if let Err(fault) = make_there(alloc, &mut place, workers) {
+        drop(place);
+        return Err(fault);
     }
     match place.into_file() {
         Some(file) => Ok(file),
         None => Err(WorkFault::File(FileFault::Fault)),
+    }
+}
+
+// Makes an image for so many workers in its place, and lets it go.
+fn make_there<F, R>(
+    alloc: Global,
+    place: &mut NewFile<'_, F, R>,
+    workers: u8,
+) -> Result<(), WorkFault>
+where
+    F: BackingFile + OpenFile + Drop,
+    R: Files<File = F>,
+    ensures { IfErr result (HasNoFile workers) }
+{
+    let Ok(schema) = declare(alloc, workers) else {
+        return Err(WorkFault::Format(FormatError::NoMemory));
+    };
+    let made = make_image(alloc, &schema, place, workers, CAPACITY);
+    drop(schema);
+    match made {
+        Ok(image) => {
+            drop(image);
+            Ok(())
+        }
+        Err(error) => {
+            place.give_up();
+            Err(WorkFault::Format(error))
+        }
     }
 }
 
@@ -156,7 +190,10 @@ where
     match file.len() {
         Ok(0) => drive_new_file(rt, alloc, meet, file, workers, rounds),
         Ok(_) => drive_left_file(rt, alloc, meet, file, workers, rounds),
-        Err(_) => Err(WorkFault::File(FileFault::Fault)),
+        Err(_) => {
+            drop(file);
+            Err(WorkFault::File(FileFault::Fault))
+        }
     }
 }
 
@@ -178,7 +215,10 @@ where
 {
     let size = match image_size(alloc, workers) {
         Ok(size) => size,
-        Err(refusal) => return Err(WorkFault::Drive(refusal)),
+        Err(refusal) => {
+            drop(file);
+            return Err(WorkFault::Drive(refusal));
+        }
     };
     let disk = match BufferedDisk::filled(alloc, file, size) {
         Ok(disk) => disk,
@@ -235,7 +275,8 @@ fn left_of<F: BackingFile + Drop>(
 fn driven_of<D: Drop>(done: (D, Driven)) -> Driven
     ensures { result ≡ done.1 }
 {
-    let (_disk, driven) = done;
+    let (disk, driven) = done;
+    drop(disk);
     driven
 }
 
@@ -243,6 +284,7 @@ fn driven_of<D: Drop>(done: (D, Driven)) -> Driven
 fn refusal_of<D: Disk + Drop>(back: (D, DriveError)) -> DriveError
     ensures { result ≡ back.1 }
 {
-    let (_disk, refusal) = back;
+    let (disk, refusal) = back;
+    drop(disk);
     refusal
 }

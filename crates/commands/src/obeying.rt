@@ -78,7 +78,9 @@ where
         } => {
             let rounds = rounds_for(rounds, seconds);
             let progress = Progress::new(rt, is_telling, workers, rounds, seconds);
-            drive(rt, trouble, &progress, workers, rounds, image, writer)
+            let driven = drive(rt, trouble, &progress, workers, rounds, image, writer);
+            drop(progress);
+            driven
         }
     }
 }

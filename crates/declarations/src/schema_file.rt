@@ -27,13 +27,20 @@ pub fn read_schema<R: Read>(alloc: Global, reader: &mut R) -> Result<Schema, Sch
 {
     let (lines, ending) = read_lines(alloc, reader);
     let mut declaring = Declaring::new(alloc);
-    let count = declare_lines(&mut declaring, &lines)?;
+    let count = match declare_lines(&mut declaring, &lines) {
+        Ok(count) => count,
+        Err(fault) => {
+            drop(declaring);
+            return Err(fault);
+        }
+    };
     let why = match ending {
         Ending::Whole => return close(declaring, count),
         Ending::TooLong => SchemaFaultKind::TooLong,
         Ending::Fault => SchemaFaultKind::Read,
         Ending::NoMemory => SchemaFaultKind::Memory,
     };
+    drop(declaring);
     Err(SchemaFault {
         line: count + 1,
         why,

@@ -56,6 +56,7 @@ where
             }),
             Err(fault) => {
                 place.give_up();
+                drop(place);
                 Err(fault)
             }
         }
@@ -158,7 +159,10 @@ where
     };
     match open_sized(rt, alloc, path, size, sectors, trouble) {
         Ok(reader) => Ok((beside, reader)),
-        Err(fault) => Err(fault),
+        Err(fault) => {
+            drop(beside);
+            Err(fault)
+        }
     }
 }
 
@@ -206,10 +210,14 @@ where
             if len == size {
                 Ok(bytes)
             } else {
+                drop(bytes);
                 Err(FileFault::InUse)
             }
         }
-        Err(_) => Err(FileFault::Fault),
+        Err(_) => {
+            drop(bytes);
+            Err(FileFault::Fault)
+        }
     }
 }
 

@@ -35,6 +35,7 @@ pub(crate) fn machine_over(
     ensures refused { IfErr result (RefusesOver given image.now) }
 {
     let Ok(mut disk) = MemDisk::from_bytes(alloc, image) else {
+        drop(given);
         return Err(refused(RecoverError::NoMemory));
     };
     match schema_on(alloc, &mut disk, given) {
@@ -43,7 +44,10 @@ pub(crate) fn machine_over(
             disk_law();
             Ok(Machine::down(schema, disk))
         }
-        Err(fault) => Err(fault),
+        Err(fault) => {
+            drop(disk);
+            Err(fault)
+        }
     }
 }
 
@@ -61,8 +65,15 @@ fn schema_on(alloc: Global, disk: &mut MemDisk, given: Option<Schema>) -> Result
     ensures same { SameMoments (device_of disk.old) (device_of disk.new) }
 {
     match study(alloc, disk) {
-        Ok(study) => schema_for(alloc, &study, given),
-        Err(why) => Err(refused(why)),
+        Ok(study) => {
+            let schema = schema_for(alloc, &study, given);
+            drop(study);
+            schema
+        }
+        Err(why) => {
+            drop(given);
+            Err(refused(why))
+        }
     }
 }
 
@@ -79,6 +90,7 @@ fn schema_for(alloc: Global, study: &Study, given: Option<Schema>) -> Result<Sch
         Err(NamingError::NoMemory) => return Err(refused(RecoverError::NoMemory)),
     };
     if !begin_as(&schema, &study.guards) {
+        drop(schema);
         return Err(NamedFault::OtherSchema);
     }
     Ok(schema)
@@ -95,8 +107,15 @@ pub(crate) fn recovered(alloc: Global, machine: &mut Machine) -> Result<Vec<u8>,
         Err(_) => return Err(refused(RecoverError::NoMemory)),
     };
     match refusal_in(&answer) {
-        Some(why) => Err(refused(reason_of(&why))),
-        None => told(alloc, &answer),
+        Some(why) => {
+            drop(answer);
+            Err(refused(reason_of(&why)))
+        }
+        None => {
+            let text = told(alloc, &answer);
+            drop(answer);
+            text
+        }
     }
 }
 

@@ -44,7 +44,9 @@ pub fn play_over(
         Ok(machine) => machine,
         Err(fault) => return Err(RunFault::Named(fault)),
     };
-    play_down(alloc, &mut machine, script, ending)
+    let played = play_down(alloc, &mut machine, script, ending);
+    drop(machine);
+    played
 }
 
 // Recovers a machine that is down, and plays the lines on it.

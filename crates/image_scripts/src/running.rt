@@ -66,8 +66,15 @@ fn play_held<H: ImageHolder>(
     ensures same { H.holds holder.new ≡ H.holds holder.old }
 {
     match holder.read_image(alloc) {
-        Ok(image) => play_over(alloc, &image, given, script, ending),
-        Err(why) => Err(of_file(why)),
+        Ok(image) => {
+            let played = play_over(alloc, &image, given, script, ending);
+            drop(image);
+            played
+        }
+        Err(why) => {
+            drop(given);
+            Err(of_file(why))
+        }
     }
 }
 
@@ -115,8 +122,12 @@ where
             if ended.is_err() {
                 image.give_up();
             }
+            drop(image);
             ended
         }
-        Err(why) => Err(of_file(why)),
+        Err(why) => {
+            drop(given);
+            Err(of_file(why))
+        }
     }
 }

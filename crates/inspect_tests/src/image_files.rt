@@ -19,6 +19,18 @@ field f1 o1 o1 20
 // What the first bytes of its image are.
 const HEADER: &[u8] = b"MONIHEAP\xA5\x02\x00\x00\x00\x00\x00\x04\x00\x00\x00\x02\x00\x00\x0F\xA0";
 
+// Whether the file has these bytes.
+fn has(rt: &HostRuntime, name: &str, bytes: &[u8]) -> bool {
+    match fs::read(rt, name) {
+        Ok(left) => {
+            let is_so = left.as_slice() == bytes;
+            drop(left);
+            is_so
+        }
+        Err(_) => false,
+    }
+}
+
 // Makes an image file of 2 lanes, and gives what is answered and whether this is written.
 fn format_there(
     rt: &HostRuntime,
@@ -39,7 +51,9 @@ fn format_there(
         None,
         &mut writer,
     );
-    (made, writer.as_slice() == lines)
+    let is_written = writer.as_slice() == lines;
+    drop(writer);
+    (made, is_written)
 }
 
 // What is answered and whether it is written, and the size of the file, with whether it begins as documented.
@@ -47,7 +61,9 @@ fn told_of_made(rt: &HostRuntime) -> Option<((Result<(), FormatError>, bool), (u
     fs::write(rt, "schema", SCHEMA).ok()?;
     let made = format_there(rt, "made", "schema", b"formatted 130208\n");
     let image = fs::read(rt, "made").ok()?;
-    Some((made, (image.len(), image.starts_with(HEADER))))
+    let found = (image.len(), image.starts_with(HEADER));
+    drop(image);
+    Some((made, found))
 }
 
 #[test]
@@ -88,9 +104,9 @@ fn told_of_other_bytes(rt: &HostRuntime) -> Option<[(Result<(), FormatError>, bo
     fs::write(rt, "schema_too", SCHEMA).ok()?;
     fs::write(rt, "notes", "my notes, of a year").ok()?;
     let (notes, is_silent) = format_there(rt, "notes", "schema_too", b"");
-    let notes_stay = fs::read(rt, "notes").ok()?.as_slice() == b"my notes, of a year".as_slice();
+    let notes_stay = has(rt, "notes", b"my notes, of a year");
     let (same, is_silent_too) = format_there(rt, "./schema_too", "schema_too", b"");
-    let schema_stays = fs::read(rt, "schema_too").ok()?.as_slice() == SCHEMA.as_bytes();
+    let schema_stays = has(rt, "schema_too", SCHEMA.as_bytes());
     Some([
         (notes, is_silent, notes_stay),
         (same, is_silent_too, schema_stays),
@@ -103,23 +119,31 @@ fn other_bytes_are_never_replaced(rt: HostRuntime) {
     assert!(rt; told_of_other_bytes(&rt) == Some([refused; 2]));
 }
 
+// Whether another open claims the image, and making one over it is refused then and leaves these bytes.
+fn told_while_claimed(rt: &HostRuntime, before: &[u8]) -> Option<[bool; 2]> {
+    let mut options = OpenOptions::new();
+    let other = options.read(true).write(true).open(rt, "claimed").ok()?;
+    let claimed = other.claim(Claim::Alone);
+    let (refused, is_silent) = format_there(rt, "claimed", "schema_of_claimed", b"");
+    let stays = has(rt, "claimed", before);
+    drop(other);
+    let is_in_use = refused == Err(FormatError::InUse) && is_silent;
+    Some([claimed.ok()?, is_in_use && stays])
+}
+
 // Whether making an image is refused while another open has claimed the one that is there, whose bytes stay; and done after that.
 fn told_of_claimed(rt: &HostRuntime) -> Option<[bool; 3]> {
     fs::write(rt, "schema_of_claimed", SCHEMA).ok()?;
     let lines = b"formatted 130208\n";
     let (made, _) = format_there(rt, "claimed", "schema_of_claimed", lines);
     let before = fs::read(rt, "claimed").ok()?;
-    let mut options = OpenOptions::new();
-    let other = options.read(true).write(true).open(rt, "claimed").ok()?;
-    let is_claimed = other.claim(Claim::Alone).ok()?;
-    let (refused, is_silent) = format_there(rt, "claimed", "schema_of_claimed", b"");
-    let is_in_use = refused == Err(FormatError::InUse) && is_silent;
-    let stays = fs::read(rt, "claimed").ok()?.as_slice() == before.as_slice();
-    drop(other);
+    let told = told_while_claimed(rt, &before);
+    drop(before);
+    let [is_claimed, is_refused] = told?;
     let (again, _) = format_there(rt, "claimed", "schema_of_claimed", lines);
     Some([
         made.is_ok() && is_claimed,
-        is_in_use && stays,
+        is_refused,
         again.is_ok() && fs::metadata(rt, "claimed.heapctl-new").is_err(),
     ])
 }

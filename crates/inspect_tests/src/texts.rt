@@ -202,19 +202,29 @@ fn settled(alloc: Global) -> Result<Study, AllocError>
     )
 }
 
+// What is answered to writing the report where the call of this number fails, and whether these lines are written.
+fn report_written(
+    alloc: Global,
+    report: &Report,
+    fault: u64,
+    lines: &[u8],
+) -> (Result<(), WriteError>, bool) {
+    let mut out = writer_failing(alloc, fault);
+    let answer = write_report(report, &[10, 20], 2, &mut out);
+    let are_written = out.taken.as_slice() == lines;
+    drop(out);
+    (answer, are_written)
+}
+
 // Whether the whole report is written so; and whether it is refused where the ninth call fails, with what is written before
 // it.
 fn told_of_report(alloc: Global, lines: &[u8]) -> Option<[bool; 3]> {
     let report = unfinished(alloc).ok()?;
-    let mut out = writer_failing(alloc, 0);
-    write_report(&report, &[10, 20], 2, &mut out).ok()?;
-    let mut broken = writer_failing(alloc, 9);
-    let refused = write_report(&report, &[10, 20], 2, &mut broken);
-    Some([
-        out.taken.as_slice() == lines,
-        refused == Err(WriteError),
-        broken.taken.as_slice() == b"kept 0 0\ndr".as_slice(),
-    ])
+    let (whole, is_whole) = report_written(alloc, &report, 0, lines);
+    let (refused, is_begun) = report_written(alloc, &report, 9, b"kept 0 0\ndr");
+    drop(report);
+    whole.ok()?;
+    Some([is_whole, refused == Err(WriteError), is_begun])
 }
 
 #[test]
@@ -232,8 +242,12 @@ heap 10 20
 fn is_written(alloc: Global, lines: &[u8]) -> Option<bool> {
     let study = settled(alloc).ok()?;
     let mut out = writer_failing(alloc, 0);
-    write_study(alloc, &study, &mut out).ok()?;
-    Some(out.taken.as_slice() == lines)
+    let written = write_study(alloc, &study, &mut out);
+    drop(study);
+    let is_so = out.taken.as_slice() == lines;
+    drop(out);
+    written.ok()?;
+    Some(is_so)
 }
 
 #[test]
@@ -257,8 +271,12 @@ heap 10 20
 fn is_drawn(alloc: Global, names: Option<&Schema>, last: u32, lines: &[u8]) -> Option<bool> {
     let study = settled(alloc).ok()?;
     let mut out = writer_failing(alloc, 0);
-    write_graph(alloc, &study, names, last, &mut out).ok()?;
-    Some(out.taken.as_slice() == lines)
+    let drawn = write_graph(alloc, &study, names, last, &mut out);
+    drop(study);
+    let is_so = out.taken.as_slice() == lines;
+    drop(out);
+    drawn.ok()?;
+    Some(is_so)
 }
 
 #[test]
@@ -294,7 +312,9 @@ rank=same
 // The same by the names of a schema, with the last section of each thread that has ended.
 fn is_drawn_in_part(alloc: Global, lines: &[u8]) -> Option<bool> {
     let schema = schema_or_none(alloc)?;
-    is_drawn(alloc, Some(&schema), 1, lines)
+    let is_drawn = is_drawn(alloc, Some(&schema), 1, lines);
+    drop(schema);
+    is_drawn
 }
 
 #[test]
@@ -326,23 +346,33 @@ rank=same
 }
 
 // Four objects, and a field of each of the first two, which guards it; none where memory is wanting.
-fn schema_or_none(alloc: Global) -> Option<Schema> {
-    let mut builder = SchemaBuilder::new(alloc);
-    builder.object("o0").ok()?;
-    builder.object("o1").ok()?;
-    builder.object("o2").ok()?;
-    builder.object("o3").ok()?;
+fn declare(builder: &mut SchemaBuilder) -> Option<()> {
+    for name in ["o0", "o1", "o2", "o3"] {
+        builder.object(name).ok()?;
+    }
     builder.field(ObjectId(0), "f0", ObjectId(0), 10).ok()?;
     builder.field(ObjectId(1), "f1", ObjectId(1), 20).ok()?;
+    Some(())
+}
+
+fn schema_or_none(alloc: Global) -> Option<Schema> {
+    let mut builder = SchemaBuilder::new(alloc);
+    if declare(&mut builder).is_none() {
+        drop(builder);
+        return None;
+    }
     builder.build().ok()
+}
+
+fn formatted_of(alloc: Global, schema: &Schema) -> Option<Recovered<MemDisk>> {
+    let disk = MemDisk::new(alloc, 130_208).ok()?;
+    Store::format(alloc, disk, schema, 2, 4000).ok()
 }
 
 // The image of the schema with two lanes of 4,000 records; none where memory is wanting.
 fn formatted(alloc: Global) -> Option<Recovered<MemDisk>> {
     let schema = schema_or_none(alloc)?;
-    let disk = MemDisk::new(alloc, 130_208).ok()?;
-    let Ok(made) = Store::format(alloc, disk, &schema, 2, 4000) else {
-        return None;
-    };
-    Some(made)
+    let made = formatted_of(alloc, &schema);
+    drop(schema);
+    made
 }

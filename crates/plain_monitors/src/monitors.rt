@@ -68,8 +68,13 @@ impl Monitors {
         ensures last { IfOk result (λ m. m.last ≡ last) }
         ensures state { IfOk result (λ m. state_of m ≡ initial_state (first_of schema)) }
     {
-        let values = first_values(alloc, &schema)?;
-        Monitors::holding(alloc, schema, last, lanes, values)
+        match first_values(alloc, &schema) {
+            Ok(values) => Monitors::holding(alloc, schema, last, lanes, values),
+            Err(why) => {
+                drop(schema);
+                Err(why)
+            }
+        }
     }
 
     /// All monitors free, with release number 0, each field with its value in `heap`, and so many threads, all awake.
@@ -87,8 +92,13 @@ impl Monitors {
         ensures state { IfOk result (λ m. state_of m ≡ initial_state (slice_index m.values)) }
         ensures values { IfOk result (λ m. (f : ℕ) → f < field_count schema → slice_index m.values f ≡ slice_index heap.now f) }
     {
-        let values = values_in(alloc, heap, schema.fields() as usize)?;
-        Monitors::holding(alloc, schema, last, lanes, values)
+        match values_in(alloc, heap, schema.fields() as usize) {
+            Ok(values) => Monitors::holding(alloc, schema, last, lanes, values),
+            Err(why) => {
+                drop(schema);
+                Err(why)
+            }
+        }
     }
 
     // All monitors free, and the fields with these values.
@@ -107,8 +117,23 @@ impl Monitors {
         ensures values { IfOk result (λ m. m.values ≡ values.items) }
         ensures state { IfOk result (λ m. state_of m ≡ initial_state (slice_index values.items)) }
     {
-        let monitors = free_monitors(alloc, schema.objects() as usize)?;
-        let pauses = awake(alloc, lanes)?;
+        let monitors = match free_monitors(alloc, schema.objects() as usize) {
+            Ok(monitors) => monitors,
+            Err(why) => {
+                drop(schema);
+                drop(values);
+                return Err(why);
+            }
+        };
+        let pauses = match awake(alloc, lanes) {
+            Ok(pauses) => pauses,
+            Err(why) => {
+                drop(schema);
+                drop(monitors);
+                drop(values);
+                return Err(why);
+            }
+        };
         Ok(Monitors {
             schema,
             last,

@@ -1,6 +1,7 @@
 -- What is looked up and planned, as the lines of a script tell it.
-use Rattle.std.proofs.Common.{◌≡◌, ◌≢◌, ℕ, ◌<◌, ◌≤◌, inl, inr, List, Some, None, Result, Ok, Err, IfOk, MatchResult, refl, subst, take}
+use Rattle.std.proofs.Common.{◌≡◌, ◌≢◌, ℕ, ◌<◌, ◌≤◌, inl, inr, List, Some, None, Result, Ok, Err, IfOk, MatchResult, refl, subst, ap, take, Contains, slice_get, arith}
 use Rattle.std.proofs.lemmas.Bool.{cases_lt}
+use Rattle.std.proofs.lemmas.Option.{get_or_from_slice_get, slice_get_within}
 use Rattle.guards.specs.Schema.{object_count, guard_of}
 use Rattle.heap_model.specs.declared.ids.ObjectId.{ObjectId}
 use Rattle.heap_model.specs.declared.ids.FieldId.{FieldId}
@@ -21,7 +22,7 @@ use Rattle.script_machine.specs.States.{Live}
 use Rattle.script_machine.specs.Answers.{woken_in}
 use Rattle.plain_monitors.specs.Table.{Table, IsAfter, lanes_of, setting_of, state_of}
 use Rattle.plain_monitors.specs.WaitSets.{least_of}
-use Rattle.script_machine.specs.Machine.{MachineState, Refuses, WhileAwake, Does, Enters, Exits, Stores, Waits, Resumes, Notifies, NotifiesAll, Running, waiters}
+use Rattle.script_machine.specs.Machine.{MachineState, Refuses, WhileAwake, Does, Enters, Exits, Loads, Stores, Waits, Resumes, Notifies, NotifiesAll, Running, waiters}
 
 -- a thread of which it isn't so that it waits
 pub is_awake : (w : Waiting) → ¬ (w ≢ Awake) → w ≡ Awake
@@ -57,6 +58,11 @@ pub record PlansWait (m : Table) (t : ℕ) (o : ObjectId) (planned : Result Even
   pub ok : (state_of m).owner o.0 ≡ Some t → planned ≡ Ok (Wait o ((state_of m).number o.0))
   pub not_held : (state_of m).owner o.0 ≢ Some t → planned ≡ Err monitor.NotHeld
 
+-- what load answers
+pub record PlansLoad (m : Table) (t : ℕ) (f : FieldId) (planned : Result ℕ MonitorRefusal) : Type 0 where
+  pub ok : (state_of m).owner (guard_of m.schema f.0) ≡ Some t → planned ≡ Ok ((state_of m).value f.0)
+  pub not_held : (state_of m).owner (guard_of m.schema f.0) ≢ Some t → planned ≡ Err monitor.NotHeld
+
 -- what may_resume answers
 pub record PlansResume (m : Table) (t : ℕ) (planned : Result Event MonitorRefusal) : Type 0 where
   pub not_waiting : (state_of m).waiting t ≡ Awake → planned ≡ Err monitor.NotWaiting
@@ -65,6 +71,45 @@ pub record PlansResume (m : Table) (t : ℕ) (planned : Result Event MonitorRefu
   pub worn : (o c : ℕ) → (state_of m).waiting t ≡ Woken o c → (state_of m).owner o ≡ None → m.last ≤ (state_of m).number o → planned ≡ Err monitor.Worn
   pub ok : (o c : ℕ) → (state_of m).waiting t ≡ Woken o c → (state_of m).owner o ≡ None → (state_of m).number o < m.last
       → planned ≡ Ok (Resume (object_of o) ((state_of m).number o))
+
+-- what a look-up answers
+module _ {X : Type 0} (id : ℕ → X) (m : Table) (names : List (List ℕ)) (name : List ℕ) (t : ℕ) where
+  pub no_lane : (t < lanes_of m → ⊥) → LooksUp id m names name t (Err why.Lane)
+  no_lane beyond = record {
+    lane = λ _. refl;
+    unknown = λ in' _. absurd (beyond in');
+    waiting = λ in' _ _ _. absurd (beyond in');
+    known = λ in' _ _ _. absurd (beyond in');
+  }
+
+  module _ (in' : t < lanes_of m) where
+    pub not_there : ((k : ℕ) → slice_get names k ≡ Some name → ⊥) → LooksUp id m names name t (Err why.Unknown)
+    not_there absent = record {
+      lane = λ beyond. absurd (omega (arith, in', beyond));
+      unknown = λ _ _. refl;
+      waiting = λ _ k here _. absurd (absent k here);
+      known = λ _ k here _. absurd (absent k here);
+    }
+
+    module _ (k : ℕ) (here : slice_get names k ≡ Some name) where
+      contained : Contains names name
+      contained = (k, slice_get_within names k name here, get_or_from_slice_get names k name name here)
+
+      pub is_asleep : (state_of m).waiting t ≢ Awake → LooksUp id m names name t (Err why.Waiting)
+      is_asleep asleep = record {
+        lane = λ beyond. absurd (omega (arith, in', beyond));
+        unknown = λ _ absent. absurd (absent contained);
+        waiting = λ _ _ _ _. refl;
+        known = λ _ _ _ awake. absurd (asleep awake);
+      }
+
+      pub is_found : (x : X) → (state_of m).waiting t ≡ Awake → ((j : ℕ) → slice_get names j ≡ Some name → x ≡ id j) → LooksUp id m names name t (Ok x)
+      is_found x awake own = record {
+        lane = λ beyond. absurd (omega (arith, in', beyond));
+        unknown = λ _ absent. absurd (absent contained);
+        waiting = λ _ _ _ asleep. absurd (asleep awake);
+        known = λ _ j there _. ap Ok (own j there);
+      }
 
 module _ (old : MachineState) (answer : Answer) (new : MachineState) where
   -- a look-up, and what follows it
@@ -112,6 +157,13 @@ module _ (old : MachineState) (answer : Answer) (new : MachineState) where
     not_held = λ other. follow m t Done is (plans.not_held other);
     ok = λ mine. follow m t Done is (plans.ok mine);
   }
+
+  -- what is made of what load answers
+  abbrev pub TellsValue : Result ℕ MonitorRefusal → Type 0
+  TellsValue planned = MatchResult planned (λ v. (answer ≡ answers.Value v) × (new ≡ old)) (λ w. Refuses old answer new (told_of_monitor w))
+
+  pub loaded : (m : Live) (t : ℕ) (f : FieldId) (planned : Result ℕ MonitorRefusal) → PlansLoad m.monitors t f planned → TellsValue planned → Loads old answer new m t f
+  loaded m t f planned plans is = record { not_held = λ other. subst TellsValue (plans.not_held other) is; ok = λ mine. subst TellsValue (plans.ok mine) is }
 
   pub waited : (m : Live) (t : ℕ) (o : ObjectId) (planned : Result Event MonitorRefusal) → PlansWait m.monitors t o planned → Follows m t answers.Waiting planned → Waits old answer new m t o
   waited m t o planned plans is = record {

@@ -29,7 +29,6 @@ pub struct Machine {
 
 impl Model for Machine {
     ghost use Rattle.script_machine.specs.Machine.{MachineState};
-
     ghost use Rattle.script_machine.specs.Phases.{shown};
 
     ghost Value = { MachineState };
@@ -88,6 +87,6 @@ impl Machine {
     fn put(&mut self, phase: Phase)
         ensures { self.new ≡ shown phase }
     {
-        self.phase = phase;
+        drop(mem::replace(&mut self.phase, phase));
     }
 }

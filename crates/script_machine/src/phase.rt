@@ -98,8 +98,13 @@ impl Phase {
     {
         match self {
             Phase::Declaring(mut declaring) => {
-                let said = declaring.object(name)?;
-                Ok((Phase::Declaring(declaring), answered(said)))
+                match declaring.object(name) {
+                    Ok(said) => Ok((Phase::Declaring(declaring), answered(said))),
+                    Err(why) => {
+                        drop(declaring);
+                        Err(why)
+                    }
+                }
             }
             other => Ok(other.refuse()),
         }
@@ -117,8 +122,13 @@ impl Phase {
     {
         match self {
             Phase::Declaring(mut declaring) => {
-                let said = declaring.field(name, owner, guard, first, is_transient)?;
-                Ok((Phase::Declaring(declaring), answered(said)))
+                match declaring.field(name, owner, guard, first, is_transient) {
+                    Ok(said) => Ok((Phase::Declaring(declaring), answered(said))),
+                    Err(why) => {
+                        drop(declaring);
+                        Err(why)
+                    }
+                }
             }
             other => Ok(other.refuse()),
         }
@@ -143,8 +153,13 @@ impl Phase {
     {
         match self {
             Phase::Running(mut running) => {
-                let answer = running.step(alloc, thread, step)?;
-                Ok((Phase::Running(running), answer))
+                match running.step(alloc, thread, step) {
+                    Ok(answer) => Ok((Phase::Running(running), answer)),
+                    Err(why) => {
+                        drop(running);
+                        Err(why)
+                    }
+                }
             }
             other => Ok(other.refuse()),
         }
@@ -203,8 +218,13 @@ impl Phase {
     {
         match self {
             Phase::Running(running) => {
-                let answer = running.heap(alloc)?;
-                Ok((Phase::Running(running), answer))
+                match running.heap(alloc) {
+                    Ok(answer) => Ok((Phase::Running(running), answer)),
+                    Err(why) => {
+                        drop(running);
+                        Err(why)
+                    }
+                }
             }
             other => Ok(other.refuse()),
         }
@@ -224,8 +244,13 @@ impl Phase {
     {
         match self {
             Phase::Down(mut down) => {
-                let answer = down.show(alloc)?;
-                Ok((Phase::Down(down), answer))
+                match down.show(alloc) {
+                    Ok(answer) => Ok((Phase::Down(down), answer)),
+                    Err(why) => {
+                        drop(down);
+                        Err(why)
+                    }
+                }
             }
             other => Ok(other.refuse()),
         }
@@ -261,8 +286,20 @@ fn format_declared(
         ));
     };
     let schema = declaring.build();
-    let (store, size) = format_store(alloc, &schema, lanes, capacity)?;
-    let monitors = Monitors::new(alloc, schema, LAST_NUMBER, lanes)?;
+    let (store, size) = match format_store(alloc, &schema, lanes, capacity) {
+        Ok(made) => made,
+        Err(why) => {
+            drop(schema);
+            return Err(why);
+        }
+    };
+    let monitors = match Monitors::new(alloc, schema, LAST_NUMBER, lanes) {
+        Ok(monitors) => monitors,
+        Err(why) => {
+            drop(store);
+            return Err(why);
+        }
+    };
     let running = Running::new(monitors, store);
     Ok((Phase::Running(running), Answer::Formatted(size)))
 }
@@ -271,11 +308,17 @@ fn format_declared(
 fn crash_running(running: Running, fill: Fill, back: u64) -> Result<(Phase, Answer), AllocError>
     ensures { IfOk result (λ r. machine.Crashes (machine.Running running) r.1 (shown r.0) running fill back) }
 {
-    let Some(disk) = running.crash_image(fill, back)? else {
-        return Ok((Phase::Running(running), Answer::Refused(Refusal::Back)));
-    };
-    let down = Down::new(running.into_schema(), disk);
-    Ok((Phase::Down(down), Answer::Crashed))
+    match running.crash_image(fill, back) {
+        Ok(Some(disk)) => {
+            let down = Down::new(running.into_schema(), disk);
+            Ok((Phase::Down(down), Answer::Crashed))
+        }
+        Ok(None) => Ok((Phase::Running(running), Answer::Refused(Refusal::Back))),
+        Err(why) => {
+            drop(running);
+            Err(why)
+        }
+    }
 }
 
 // Recovers the device that a crash left, if its image is of one of these versions.
@@ -287,16 +330,28 @@ fn recover_down(
     ensures { IfOk result (λ r. machine.RecoversDevice (machine.Down down) r.1 (shown r.0) versions down) }
 {
     let (schema, disk) = down.into_parts();
-    match restore(alloc, disk, versions)? {
-        Ok((store, report)) => {
+    match restore(alloc, disk, versions) {
+        Ok(Ok((store, report))) => {
             let lanes = store.layout().lanes;
-            let monitors = Monitors::with_values(alloc, schema, LAST_NUMBER, lanes, &report.heap)?;
-            let running = Running::new(monitors, store);
-            Ok((Phase::Running(running), Answer::Recovered(report)))
+            match Monitors::with_values(alloc, schema, LAST_NUMBER, lanes, &report.heap) {
+                Ok(monitors) => {
+                    let running = Running::new(monitors, store);
+                    Ok((Phase::Running(running), Answer::Recovered(report)))
+                }
+                Err(why) => {
+                    drop(store);
+                    drop(report);
+                    Err(why)
+                }
+            }
         }
-        Err((disk, why)) => {
+        Ok(Err((disk, why))) => {
             let down = Down::new(schema, disk);
             Ok((Phase::Down(down), Answer::Refused(why)))
+        }
+        Err(why) => {
+            drop(schema);
+            Err(why)
         }
     }
 }

@@ -232,9 +232,13 @@ impl Running {
         // What the monitors allow is the next of the store's records.
         log_law();
         if let Err(why) = keep_record(&mut self.store, &self.monitors, thread, event) {
+            drop(said);
             return Ok(Answer::Refused(refused_record(why)));
         }
-        self.monitors.perform(thread, event)?;
+        if let Err(why) = self.monitors.perform(thread, event) {
+            drop(said);
+            return Err(why);
+        }
         Ok(said)
     }
 
@@ -248,7 +252,14 @@ impl Running {
         } = self;
         let answer = match store.log_step() {
             Ok(records) => Answer::Logged(records),
-            Err(why) => Answer::Refused(refused_call(why)?),
+            Err(why) => match refused_call(why) {
+                Ok(refusal) => Answer::Refused(refusal),
+                Err(why) => {
+                    drop(monitors);
+                    drop(store);
+                    return Err(why);
+                }
+            },
         };
         Ok((Running { monitors, store }, answer))
     }
@@ -263,6 +274,8 @@ impl Running {
         } = self;
         let Ok(cells) = write_homes(&mut store) else {
             // The device hadn't failed, so this is a fault: the disk in memory had no room for one more write.
+            drop(monitors);
+            drop(store);
             return Err(AllocError);
         };
         Ok((Running { monitors, store }, Answer::Wrote(cells)))
@@ -278,8 +291,22 @@ impl Running {
         } = self;
         stable_law();
         let answer = match store.settle() {
-            Ok(()) => Answer::Acknowledged(acknowledged_counts(alloc, &store)?),
-            Err(why) => Answer::Refused(refused_call(why)?),
+            Ok(()) => match acknowledged_counts(alloc, &store) {
+                Ok(counts) => Answer::Acknowledged(counts),
+                Err(why) => {
+                    drop(monitors);
+                    drop(store);
+                    return Err(why);
+                }
+            },
+            Err(why) => match refused_call(why) {
+                Ok(refusal) => Answer::Refused(refusal),
+                Err(why) => {
+                    drop(monitors);
+                    drop(store);
+                    return Err(why);
+                }
+            },
         };
         Ok((Running { monitors, store }, answer))
     }
@@ -294,7 +321,14 @@ impl Running {
         } = self;
         let answer = match store.trim() {
             Ok(()) => Answer::Done,
-            Err(why) => Answer::Refused(refused_call(why)?),
+            Err(why) => match refused_call(why) {
+                Ok(refusal) => Answer::Refused(refusal),
+                Err(why) => {
+                    drop(monitors);
+                    drop(store);
+                    return Err(why);
+                }
+            },
         };
         Ok((Running { monitors, store }, answer))
     }
@@ -331,6 +365,8 @@ impl Running {
     pub(crate) fn into_schema(self) -> Schema
         ensures { result ≡ self.monitors.schema }
     {
-        self.monitors.into_schema()
+        let Running { monitors, store } = self;
+        drop(store);
+        monitors.into_schema()
     }
 }

@@ -42,7 +42,11 @@ fn told_of(schema: &Schema, name: &str) -> Option<Declared> {
 
 fn declared(alloc: Global) -> Option<Declared> {
     match read_text(alloc, COMMON) {
-        Ok(schema) => told_of(&schema, "o1"),
+        Ok(schema) => {
+            let told = told_of(&schema, "o1");
+            drop(schema);
+            told
+        }
         Err(_) => None,
     }
 }
@@ -79,7 +83,10 @@ const REFUSED: &[(&[u8], u64, SchemaFaultKind)] = &[
 // Where and why the text is refused, if it is.
 fn refusal(alloc: Global, text: &[u8]) -> Option<(u64, SchemaFaultKind)> {
     match read_text(alloc, text) {
-        Ok(_) => None,
+        Ok(schema) => {
+            drop(schema);
+            None
+        }
         Err(fault) => Some((fault.line, fault.why)),
     }
 }
@@ -106,7 +113,10 @@ fn broken_off(alloc: Global, text: &[u8]) -> Option<(u64, SchemaFaultKind)> {
         fault: Some((0, io::ErrorKind::Interrupted)),
     };
     match read_schema(alloc, &mut reader) {
-        Ok(_) => None,
+        Ok(schema) => {
+            drop(schema);
+            None
+        }
         Err(fault) => Some((fault.line, fault.why)),
     }
 }
@@ -132,7 +142,11 @@ fn marks_of(schema: &Schema) -> Option<[bool; 3]> {
 // The same of this text's.
 fn marks(alloc: Global, text: &[u8]) -> Option<[bool; 3]> {
     match read_text(alloc, text) {
-        Ok(schema) => marks_of(&schema),
+        Ok(schema) => {
+            let marks = marks_of(&schema);
+            drop(schema);
+            marks
+        }
         Err(_) => None,
     }
 }

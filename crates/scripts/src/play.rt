@@ -26,7 +26,9 @@ pub fn run_script<R: Read, W: Write>(
 {
     let (lines, ending) = read_lines(alloc, reader);
     let mut machine = Machine::new(alloc);
-    run_on(alloc, &mut machine, &lines, ending, writer)
+    let ended = run_on(alloc, &mut machine, &lines, ending, writer);
+    drop(machine);
+    ended
 }
 
 /// Plays lines that [`read_lines`] gave, with how the text ended, on a machine in any state, as [`run_script`] does on one with
@@ -103,7 +105,9 @@ fn play_line<W: Write>(
         return Err(ScriptErrorKind::Memory);
     };
     let Ok(printed) = text(alloc, &answer) else {
+        drop(answer);
         return Err(ScriptErrorKind::Memory);
     };
+    drop(answer);
     put(writer, &printed)
 }

@@ -1,5 +1,6 @@
 //! The text of an answer.
-ghost use Rattle.std.specs.Prelude.{◌≡◌, ◌+◌, ◌++◌, IfOk, OnOk, string_bytes};
+ghost use Rattle.std.specs.Prelude.{◌≡◌, ◌+◌, ◌++◌, IfOk, OnOk, codes, string_bytes};
+ghost use Rattle.std.specs.Fmt.{decimal};
 ghost use Rattle.inspect.specs.ReportText.{report_text};
 ghost use Rattle.inspect.specs.StudyText.{study_text};
 ghost use Rattle.scripts.specs.Texts.{text_of, list_line, refused_line, why_refused, place_of, place_text, woke_line, woken_threads};
@@ -17,12 +18,12 @@ pub fn text(alloc: Global, answer: &Answer) -> Result<Vec<u8>, AllocError>
     match answer {
         Answer::Silent => Ok(Vec::new(alloc)),
         Answer::Done => line(alloc, "ok\n"),
-        Answer::Formatted(size) => Ok(format!(in alloc; "formatted {size}\n")?.into_bytes()),
+        Answer::Formatted(size) => numbered(alloc, "formatted ", *size),
         Answer::Waiting => line(alloc, "waiting\n"),
         Answer::Woke(lanes) => woke(alloc, lanes),
-        Answer::Value(value) => Ok(format!(in alloc; "value {value}\n")?.into_bytes()),
-        Answer::Logged(count) => Ok(format!(in alloc; "logged {count}\n")?.into_bytes()),
-        Answer::Wrote(count) => Ok(format!(in alloc; "wrote {count}\n")?.into_bytes()),
+        Answer::Value(value) => numbered(alloc, "value ", *value),
+        Answer::Logged(count) => numbered(alloc, "logged ", *count),
+        Answer::Wrote(count) => numbered(alloc, "wrote ", *count),
         Answer::Acknowledged(counts) => list(alloc, "acknowledged", counts),
         Answer::Heap(values) => list(alloc, "heap", values),
         Answer::Crashed => line(alloc, "crashed\n"),
@@ -36,6 +37,13 @@ fn line(alloc: Global, words: &str) -> Result<Vec<u8>, AllocError>
     ensures { IfOk result (λ text. text.items ≡ words.now) }
 {
     Ok(String::from_str(alloc, words)?.into_bytes())
+}
+
+// The line of a number after a word and a space.
+fn numbered(alloc: Global, word: &str, number: u64) -> Result<Vec<u8>, AllocError>
+    ensures { IfOk result (λ text. text.items ≡ word.now ++ decimal number ++ codes "\n") }
+{
+    Ok(format!(in alloc; "{word}{number}\n")?.into_bytes())
 }
 
 fn list(alloc: Global, word: &str, numbers: &[u64]) -> Result<Vec<u8>, AllocError>

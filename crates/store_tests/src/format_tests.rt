@@ -24,7 +24,10 @@ pub fn declare(builder: &mut SchemaBuilder) -> Option<()> {
 // A schema of these; none where memory is wanting.
 pub fn schema_or_none(alloc: Global) -> Option<Schema> {
     let mut builder = SchemaBuilder::new(alloc);
-    declare(&mut builder)?;
+    if declare(&mut builder).is_none() {
+        drop(builder);
+        return None;
+    }
     builder.build().ok()
 }
 
@@ -39,7 +42,9 @@ fn made_of(alloc: Global, schema: &Schema) -> Option<Recovered<MemDisk>> {
 // Whether its heap has the first values, and how often its device was called.
 fn told_of_image(alloc: Global) -> Option<(bool, u64)> {
     let schema = schema_or_none(alloc)?;
-    match made_of(alloc, &schema) {
+    let made = made_of(alloc, &schema);
+    drop(schema);
+    match made {
         Some(made) => Some(told_of(made)),
         None => None,
     }
@@ -47,7 +52,10 @@ fn told_of_image(alloc: Global) -> Option<(bool, u64)> {
 
 fn told_of(made: Recovered<MemDisk>) -> (bool, u64) {
     let is_first = made.heap() == [10, 20].as_slice();
-    (is_first, made.into_disk().stops())
+    let disk = made.into_disk();
+    let stops = disk.stops();
+    drop(disk);
+    (is_first, stops)
 }
 
 // Nine calls, and two for each field.
@@ -59,7 +67,9 @@ fn an_image_is_made(rt: HostRuntime) {
 // The stable cut of no sections.
 fn stable_of_none(alloc: Global) -> Option<[u64; 32]> {
     let mut sections = LoggedSections::with_capacity(alloc, 2, 2000).ok()?;
-    Some(sections.stable().cut.counts)
+    let stable = sections.stable();
+    drop(sections);
+    Some(stable.cut.counts)
 }
 
 #[test]

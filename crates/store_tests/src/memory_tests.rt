@@ -83,7 +83,9 @@ fn first_other(applied: &mut Applied, steps: &[Told]) -> Option<usize> {
 // Whether a new memory, with release numbers up to `last`, answers all so.
 fn answers_so(alloc: Global, last: u64, steps: &[Told]) -> Option<bool> {
     let mut applied = memory(alloc, last)?;
-    Some(first_other(&mut applied, steps).is_none())
+    let other = first_other(&mut applied, steps);
+    drop(applied);
+    Some(other.is_none())
 }
 
 // Each refusal, and what is taken between them.
@@ -115,7 +117,9 @@ fn refusals_come_in_order(rt: HostRuntime) {
 fn answers_with_transient(alloc: Global, steps: &[Told]) -> Option<bool> {
     let fields = vec![in alloc; field(0, 10), transient(0, 30)].ok()?;
     let mut applied = Applied::new(alloc, 2, 2000, 1, fields, 9).ok()?;
-    Some(first_other(&mut applied, steps).is_none())
+    let other = first_other(&mut applied, steps);
+    drop(applied);
+    Some(other.is_none())
 }
 
 // No record tells of a store of a transient field, whoever holds its guard.
@@ -174,7 +178,9 @@ type Filled = (
 
 fn told_of_filled(alloc: Global) -> Option<Filled> {
     let mut applied = memory(alloc, 9)?;
-    Some(filled(&mut applied))
+    let told = filled(&mut applied);
+    drop(applied);
+    Some(told)
 }
 
 fn filled(applied: &mut Applied) -> Filled {
@@ -205,7 +211,9 @@ fn sections_and_areas_have_an_end(rt: HostRuntime) {
 // Whether stores of two fields are taken; and the least dirty field then, once they are logged, and as each field is home.
 fn told_of_dirty(alloc: Global) -> Option<(bool, [Option<FieldId>; 4])> {
     let mut applied = memory(alloc, 9)?;
-    Some(least_dirty(&mut applied))
+    let told = least_dirty(&mut applied);
+    drop(applied);
+    Some(told)
 }
 
 fn least_dirty(applied: &mut Applied) -> (bool, [Option<FieldId>; 4]) {
@@ -243,7 +251,9 @@ fn entry(lane: u8, record: Record) -> LaneRecord {
 // Whether these are taken, and are the new records then.
 fn are_fresh(alloc: Global, records: &[LaneRecord]) -> Option<bool> {
     let mut applied = memory(alloc, 9)?;
-    Some(are_applied(&mut applied, records) && applied.fresh() == records)
+    let are_fresh = are_applied(&mut applied, records) && applied.fresh() == records;
+    drop(applied);
+    Some(are_fresh)
 }
 
 fn are_applied(applied: &mut Applied, records: &[LaneRecord]) -> bool {

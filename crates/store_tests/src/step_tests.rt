@@ -67,8 +67,15 @@ fn store_on(
     last: u16,
 ) -> Option<Store<MemDisk>> {
     match schema_or_none(alloc) {
-        Some(schema) => adopted(alloc, disk, &schema, lanes, capacity, last),
-        None => None,
+        Some(schema) => {
+            let store = adopted(alloc, disk, &schema, lanes, capacity, last);
+            drop(schema);
+            store
+        }
+        None => {
+            drop(disk);
+            None
+        }
     }
 }
 
@@ -81,12 +88,12 @@ pub(crate) fn adopted(
     capacity: u32,
     last: u16,
 ) -> Option<Store<MemDisk>> {
-    let Ok(made) = format(alloc, disk, schema, lanes, capacity) else {
-        return None;
-    };
-    match Store::adopt(alloc, made, u64::from(last)) {
-        Ok(store) => Some(store),
-        Err(_) => None,
+    match format(alloc, disk, schema, lanes, capacity) {
+        Ok(made) => Store::adopt(alloc, made, u64::from(last)).ok(),
+        Err(refused) => {
+            drop(refused);
+            None
+        }
     }
 }
 
@@ -158,10 +165,15 @@ pub(crate) fn first_other(
 
 // The store, and why it isn't closed.
 fn still_open(store: Store<MemDisk>) -> Option<(Store<MemDisk>, StoreError)> {
-    match store.close() {
-        Ok(_) => None,
-        Err(refused) => Some(refused),
-    }
+    store.close().err()
+}
+
+// Whether the store is closed.
+pub(crate) fn is_closed(store: Store<MemDisk>) -> bool {
+    let closed = store.close();
+    let is_closed = closed.is_ok();
+    drop(closed);
+    is_closed
 }
 
 // The first section's steps, up to its release.
@@ -208,7 +220,7 @@ fn stepped(store: &mut Store<MemDisk>, steps: &[Told]) -> Stepped {
 // The last steps, and whether the store is closed then.
 fn ended(mut store: Store<MemDisk>) -> (Stepped, bool) {
     let last = stepped(&mut store, &last_steps());
-    (last, store.close().is_ok())
+    (last, is_closed(store))
 }
 
 // Why the store isn't closed behind the release, and what comes then.
@@ -251,7 +263,9 @@ fn logged_and_home(store: &mut Store<MemDisk>) -> LoggedHome {
 
 fn told_of_home(alloc: Global) -> Option<LoggedHome> {
     let mut store = fresh(alloc, 2, 2)?;
-    Some(logged_and_home(&mut store))
+    let told = logged_and_home(&mut store);
+    drop(store);
+    Some(told)
 }
 
 #[test]
@@ -299,7 +313,9 @@ fn fifth_section(store: &mut Store<MemDisk>) -> Fifth {
 
 fn told_of_fifth(alloc: Global) -> Option<Fifth> {
     let mut store = fresh(alloc, 1, 9)?;
-    Some(fifth_section(&mut store))
+    let told = fifth_section(&mut store);
+    drop(store);
+    Some(told)
 }
 
 // An area of 4,000 records takes four sections of 1,000, and a fifth once they are trimmed.
@@ -347,7 +363,9 @@ fn places_again(store: &mut Store<MemDisk>) -> ([bool; 5], [(u64, u64); 5]) {
 
 fn told_of_places(alloc: Global) -> Option<([bool; 5], [(u64, u64); 5])> {
     let mut store = fresh_with(alloc, 1, 2000, 9)?;
-    Some(places_again(&mut store))
+    let told = places_again(&mut store);
+    drop(store);
+    Some(told)
 }
 
 // The format takes 13 calls; the first two sections 2,000 writes, a sync and a commit of 4, a home write, a sync and a commit of
@@ -394,7 +412,9 @@ fn sections_by_trim(store: &mut Store<MemDisk>) -> ByTrim {
 
 fn told_by_trim(alloc: Global) -> Option<ByTrim> {
     let mut store = fresh(alloc, 1, 9000)?;
-    Some(sections_by_trim(&mut store))
+    let told = sections_by_trim(&mut store);
+    drop(store);
+    Some(told)
 }
 
 // An area of 4,000 records begins no section where fewer than 1,000 are left.
@@ -424,7 +444,9 @@ fn failed_trim(store: &mut Store<MemDisk>) -> FailedTrim {
 // call writes the control.
 fn told_of_failed_trim(alloc: Global) -> Option<FailedTrim> {
     let mut store = failing(alloc, 35, 1)?;
-    Some(failed_trim(&mut store))
+    let told = failed_trim(&mut store);
+    drop(store);
+    Some(told)
 }
 
 #[test]
@@ -478,7 +500,9 @@ fn failed_log(store: &mut Store<MemDisk>) -> FailedLog {
 
 fn told_of_failed_log(alloc: Global) -> Option<FailedLog> {
     let mut store = failing(alloc, 17, 2)?;
-    Some(failed_log(&mut store))
+    let told = failed_log(&mut store);
+    drop(store);
+    Some(told)
 }
 
 // The format takes 13 calls of the device and the section's records 3, so the sync behind them is the 17th.
@@ -496,6 +520,7 @@ fn played(alloc: Global, calls: &[StoreCall]) -> Option<(MemDisk, Layout)> {
     if is_played {
         Some((disk, layout))
     } else {
+        drop(disk);
         None
     }
 }
@@ -503,7 +528,9 @@ fn played(alloc: Global, calls: &[StoreCall]) -> Option<(MemDisk, Layout)> {
 // How many calls of the device there were when so many of the calls were made.
 fn stops_after(alloc: Global, calls: &[StoreCall], count: usize) -> Option<u64> {
     let (disk, _) = played(alloc, calls.get(..count)?)?;
-    Some(disk.stops())
+    let stops = disk.stops();
+    drop(disk);
+    Some(stops)
 }
 
 // The first of these numbers of calls behind which the device was not called so often.
@@ -565,14 +592,30 @@ fn live(
     read(alloc, disk, layout, Lane(lane), row.start, row.logged).ok()
 }
 
+// Adds those of the second lane.
+fn add_live(
+    alloc: Global,
+    disk: &mut MemDisk,
+    layout: &Layout,
+    row: &LaneRow,
+    records: &mut Vec<UndoRecord>,
+) -> Option<()> {
+    let others = live(alloc, disk, layout, 1, row)?;
+    let added = records.extend_from_slice(&others);
+    drop(others);
+    added.ok()
+}
+
 fn shown(alloc: Global, disk: &mut MemDisk, layout: &Layout) -> Option<Contents> {
     if !layout.is_within_limits() || disk.size() < layout.size() {
         return None;
     }
     let (_, control) = choose_control(disk, layout).ok()?;
     let mut records = live(alloc, disk, layout, 0, &control.rows[0])?;
-    let others = live(alloc, disk, layout, 1, &control.rows[1])?;
-    records.extend_from_slice(&others).ok()?;
+    if add_live(alloc, disk, layout, &control.rows[1], &mut records).is_none() {
+        drop(records);
+        return None;
+    }
     Some(Contents { control, records })
 }
 
@@ -585,7 +628,9 @@ fn shown_after(
     fill: Fill,
 ) -> Option<Contents> {
     let mut image = disk.crash_image(k, fill).ok()??;
-    shown(alloc, &mut image, layout)
+    let contents = shown(alloc, &mut image, layout);
+    drop(image);
+    contents
 }
 
 fn is_one_of(found: &Option<Contents>, old: &Contents, new: &Contents) -> bool {
@@ -606,7 +651,9 @@ fn shows_either(
 ) -> bool {
     let mut is_so = true;
     for fill in FILLS {
-        is_so &= is_one_of(&shown_after(alloc, disk, layout, k, fill), old, new);
+        let found = shown_after(alloc, disk, layout, k, fill);
+        is_so &= is_one_of(&found, old, new);
+        drop(found);
     }
     is_so
 }
@@ -632,8 +679,11 @@ fn shows_either_from(
 // How often the device was called by these calls, and what it shows then.
 fn shown_by(alloc: Global, calls: &[StoreCall]) -> Option<(u64, Contents)> {
     let (mut disk, layout) = played(alloc, calls)?;
-    match shown(alloc, &mut disk, &layout) {
-        Some(contents) => Some((disk.stops(), contents)),
+    let shown = shown(alloc, &mut disk, &layout);
+    let stops = disk.stops();
+    drop(disk);
+    match shown {
+        Some(contents) => Some((stops, contents)),
         None => None,
     }
 }
@@ -648,7 +698,11 @@ fn shows_from(
     old: &Contents,
 ) -> bool {
     match shown(alloc, disk, layout) {
-        Some(new) => shows_either_from(alloc, disk, layout, from, old, &new),
+        Some(new) => {
+            let is_so = shows_either_from(alloc, disk, layout, from, old, &new);
+            drop(new);
+            is_so
+        }
         None => false,
     }
 }
@@ -656,7 +710,11 @@ fn shows_from(
 // The same of the device on which these calls are made.
 fn plays_from(alloc: Global, calls: &[StoreCall], from: u64, old: &Contents) -> bool {
     match played(alloc, calls) {
-        Some((mut disk, layout)) => shows_from(alloc, &mut disk, &layout, from, old),
+        Some((mut disk, layout)) => {
+            let is_so = shows_from(alloc, &mut disk, &layout, from, old);
+            drop(disk);
+            is_so
+        }
         None => false,
     }
 }
@@ -668,7 +726,11 @@ fn is_last_atomic(alloc: Global, calls: &[StoreCall]) -> bool {
         return false;
     };
     match shown_by(alloc, earlier) {
-        Some((from, old)) => plays_from(alloc, calls, from, &old),
+        Some((from, old)) => {
+            let is_so = plays_from(alloc, calls, from, &old);
+            drop(old);
+            is_so
+        }
         None => false,
     }
 }
@@ -682,6 +744,7 @@ fn are_all_atomic(alloc: Global, calls: &[StoreCall]) -> bool {
 fn kept_after(alloc: Global, calls: &[StoreCall], count: usize) -> Option<[u64; 2]> {
     let (_, contents) = shown_by(alloc, calls.get(..count)?)?;
     let rows = contents.control.rows;
+    drop(contents);
     Some([rows[0].kept, rows[1].kept])
 }
 
@@ -769,6 +832,8 @@ fn a_wait_ends_a_section(rt: HostRuntime) {
 fn places(alloc: Global, calls: &[StoreCall]) -> Option<[u64; 7]> {
     let (_, found) = shown_by(alloc, calls)?;
     let [first, second] = [found.control.rows[0], found.control.rows[1]];
+    let live = found.records.len() as u64;
+    drop(found);
     Some([
         first.start,
         first.settled,
@@ -776,7 +841,7 @@ fn places(alloc: Global, calls: &[StoreCall]) -> Option<[u64; 7]> {
         second.start,
         second.settled,
         second.logged,
-        found.records.len() as u64,
+        live,
     ])
 }
 

@@ -1,7 +1,7 @@
 //! A store whose schema has a transient field.
 
 use crate::format_tests::declare;
-use crate::step_tests::{Told, acq, adopted, first_other, one, put, rel};
+use crate::step_tests::{Told, acq, adopted, first_other, is_closed, one, put, rel};
 use block_disk::MemDisk;
 use durable::{Store, StoreCall, StoreError};
 use guards::{Schema, SchemaBuilder};
@@ -17,17 +17,22 @@ fn declare_transient(builder: &mut SchemaBuilder) -> Option<()> {
 
 fn schema_or_none(alloc: Global) -> Option<Schema> {
     let mut builder = SchemaBuilder::new(alloc);
-    declare_transient(&mut builder)?;
+    if declare_transient(&mut builder).is_none() {
+        drop(builder);
+        return None;
+    }
     builder.build().ok()
 }
 
 // A store of it, on a device as large as its image with 2 lanes of 4,000 records.
 fn fresh(alloc: Global) -> Option<Store<MemDisk>> {
     let schema = schema_or_none(alloc)?;
-    match MemDisk::new(alloc, 130_232) {
+    let store = match MemDisk::new(alloc, 130_232) {
         Ok(disk) => adopted(alloc, disk, &schema, 2, 4000, 9),
         Err(_) => None,
-    }
+    };
+    drop(schema);
+    store
 }
 
 // The values of its fields.
@@ -69,7 +74,7 @@ fn answered(store: &mut Store<MemDisk>) -> Answered {
 fn told_of_steps(alloc: Global) -> Option<(Answered, bool)> {
     let mut store = fresh(alloc)?;
     let found = answered(&mut store);
-    Some((found, store.close().is_ok()))
+    Some((found, is_closed(store)))
 }
 
 // A store of it is no record, whoever holds its guard; it keeps its first value.

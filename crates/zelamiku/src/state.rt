@@ -49,6 +49,6 @@ impl Inner {
     pub fn put(&mut self, content: Open)
         ensures { self.new ≡ record { «open» = content } }
     {
-        self.open = content;
+        drop(std::mem::replace(&mut self.open, content));
     }
 }

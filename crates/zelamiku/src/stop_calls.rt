@@ -38,7 +38,10 @@ fn heap_after_failure(heap: HostedHeap) -> (Open, u32)
     match heap.call_failed() {
         None => (Open::Heap(heap), status::NONE_LEFT),
         Some(FailedCall::Write) => (Open::Heap(heap), status::OK),
-        Some(FailedCall::Sync) => (Open::Stopped, status::STOPPED),
+        Some(FailedCall::Sync) => {
+            drop(heap);
+            (Open::Stopped, status::STOPPED)
+        }
     }
 }
 
@@ -48,7 +51,10 @@ fn closed_after_failure(closed: Closed) -> (Open, u32)
     match closed.call_failed() {
         None => (Open::Closed(closed), status::NONE_LEFT),
         Some(FailedCall::Write) => (Open::Closed(closed), status::OK),
-        Some(FailedCall::Sync) => (Open::Stopped, status::STOPPED),
+        Some(FailedCall::Sync) => {
+            drop(closed);
+            (Open::Stopped, status::STOPPED)
+        }
     }
 }
 

@@ -1,5 +1,5 @@
 //! Image files recovered, shown, drawn and dumped. Lines and bytes follow from docs/SCRIPTS.md and docs/FORMAT.md.
-use super::{SCHEMA, format_there};
+use super::{SCHEMA, format_there, has};
 use block_disk::{Fill, MemDisk};
 use declarations::{SchemaFault, SchemaFaultKind, read_schema};
 use durable::{Store, StoreCall};
@@ -44,7 +44,9 @@ fn is_answered(
 ) -> bool {
     let mut out = Vec::new(rt.alloc());
     let answered = answer(rt, ask, image, &mut out);
-    answered == wanted && out.as_slice() == lines
+    let are_written = out.as_slice() == lines;
+    drop(out);
+    answered == wanted && are_written
 }
 
 // What is asked of an image file, one after the other, and the lines that are written.
@@ -74,13 +76,17 @@ type Dumped = (Result<(), NamedFault>, bool);
 fn dump_there(rt: &HostRuntime, image: &str, schema: Option<&str>, lines: &[u8]) -> Dumped {
     let mut writer = Vec::new(rt.alloc());
     let answer = dump_file(rt, rt.alloc(), &Trouble::none(), image, schema, &mut writer);
-    (answer, writer.as_slice() == lines)
+    let are_written = writer.as_slice() == lines;
+    drop(writer);
+    (answer, are_written)
 }
 
 fn schema_there(rt: &HostRuntime) -> Option<Schema> {
     fs::write(rt, "schema", SCHEMA).ok()?;
     let mut file = fs::open(rt, "schema").ok()?;
-    read_schema(rt.alloc(), &mut file).ok()
+    let schema = read_schema(rt.alloc(), &mut file);
+    drop(file);
+    schema.ok()
 }
 
 // A store of the schema with two lanes of 4,000 records.
@@ -88,18 +94,20 @@ fn store_of(alloc: Global, schema: &Schema) -> Option<Store<MemDisk>> {
     let Ok(disk) = MemDisk::new(alloc, 130_208) else {
         return None;
     };
-    let Ok(made) = Store::format(alloc, disk, schema, 2, 4000) else {
-        return None;
-    };
-    match Store::adopt(alloc, made, 9) {
-        Ok(store) => Some(store),
-        Err(_) => None,
+    match Store::format(alloc, disk, schema, 2, 4000) {
+        Ok(made) => Store::adopt(alloc, made, 9).ok(),
+        Err(refused) => {
+            drop(refused);
+            None
+        }
     }
 }
 
 fn store_there(rt: &HostRuntime) -> Option<Store<MemDisk>> {
     let schema = schema_there(rt)?;
-    store_of(rt.alloc(), &schema)
+    let store = store_of(rt.alloc(), &schema);
+    drop(schema);
+    store
 }
 
 fn acq(object: u32, number: u64) -> Record {
@@ -146,9 +154,13 @@ fn left_by(store: Store<MemDisk>, calls: &[StoreCall]) -> Option<MemDisk> {
     let mut store = store;
     let is_played = store.play(calls).is_ok();
     let disk = store.into_disk();
-    match disk.crash_image(disk.stops().saturating_add(1), Fill::Lost) {
-        Ok(image) if is_played => image,
-        _ => None,
+    let left = disk.crash_image(disk.stops().saturating_add(1), Fill::Lost);
+    drop(disk);
+    if is_played {
+        left.ok()?
+    } else {
+        drop(left);
+        None
     }
 }
 
@@ -163,7 +175,11 @@ fn crashed(rt: &HostRuntime) -> Option<MemDisk> {
 // Writes its bytes into a file.
 fn write_crashed(rt: &HostRuntime, image: &str) -> bool {
     match crashed(rt) {
-        Some(disk) => fs::write(rt, image, disk.bytes()).is_ok(),
+        Some(disk) => {
+            let written = fs::write(rt, image, disk.bytes());
+            drop(disk);
+            written.is_ok()
+        }
         None => false,
     }
 }
@@ -208,10 +224,17 @@ fn a_crashed_file_is_shown_and_recovered(rt: HostRuntime) {
 // Makes the file's controls those of version 1. Answers its bytes then.
 fn make_old(rt: &HostRuntime, image: &str) -> Option<Vec<u8>> {
     let mut bytes = fs::read(rt, image).ok()?;
+    if write_old(rt, image, &mut bytes).is_none() {
+        drop(bytes);
+        return None;
+    }
+    Some(bytes)
+}
+
+fn write_old(rt: &HostRuntime, image: &str, bytes: &mut [u8]) -> Option<()> {
     *bytes.get_mut(83)? = 1;
     *bytes.get_mut(1131)? = 1;
-    fs::write(rt, image, bytes.as_slice()).ok()?;
-    Some(bytes)
+    fs::write(rt, image, bytes).ok()
 }
 
 // Whether such a file isn't recovered, and keeps each byte.
@@ -219,7 +242,10 @@ fn is_old_refused(rt: &HostRuntime, image: &str) -> bool {
     match make_old(rt, image) {
         Some(bytes) => {
             let refused = Err(ImageFault::Image(RecoverError::OldVersion));
-            is_answered(rt, Ask::Recover, image, refused, b"") && has(rt, image, &bytes)
+            let is_refused = is_answered(rt, Ask::Recover, image, refused, b"")
+                && has(rt, image, &bytes);
+            drop(bytes);
+            is_refused
         }
         None => false,
     }
@@ -260,14 +286,6 @@ fn an_old_file_is_shown_and_upgraded(rt: HostRuntime) {
     assert!(rt; first_untold(&rt, "old", OLD).is_none());
 }
 
-// Whether the file has these bytes.
-fn has(rt: &HostRuntime, name: &str, bytes: &[u8]) -> bool {
-    match fs::read(rt, name) {
-        Ok(left) => left.as_slice() == bytes,
-        Err(_) => false,
-    }
-}
-
 // Whether a file of these bytes is refused for this reason by all three words, and keeps its bytes.
 fn is_refused(rt: &HostRuntime, bytes: &[u8], why: RecoverError) -> bool {
     fs::write(rt, "refused", bytes).is_ok()
@@ -295,18 +313,37 @@ const CHANGES: &[(usize, u8, RecoverError)] = &[
 // These bytes with this one changed.
 fn changed(alloc: Global, bytes: &[u8], at: usize, value: u8) -> Option<Vec<u8>> {
     let mut bytes = bytes.to_vec(alloc).ok()?;
-    *bytes.get_mut(at)? = value;
+    match bytes.get_mut(at) {
+        Some(byte) => *byte = value,
+        None => {
+            drop(bytes);
+            return None;
+        }
+    }
     Some(bytes)
+}
+
+// Whether the image with the byte at this place changed is refused so.
+fn is_change_refused(
+    rt: &HostRuntime,
+    image: &[u8],
+    change: (usize, u8),
+    why: RecoverError,
+) -> bool {
+    match changed(rt.alloc(), image, change.0, change.1) {
+        Some(bytes) => {
+            let is_refused = is_refused(rt, &bytes, why);
+            drop(bytes);
+            is_refused
+        }
+        None => false,
+    }
 }
 
 // The first of these changes for which the image isn't refused so.
 fn first_other(rt: &HostRuntime, image: &[u8]) -> Option<usize> {
     for (place, (at, value, why)) in CHANGES.iter().enumerate() {
-        let is_so = match changed(rt.alloc(), image, *at, *value) {
-            Some(bytes) => is_refused(rt, &bytes, *why),
-            None => false,
-        };
-        if !is_so {
+        if !is_change_refused(rt, image, (*at, *value), *why) {
             return Some(place);
         }
     }
@@ -325,7 +362,11 @@ fn are_all_refused(rt: &HostRuntime, image: &[u8]) -> [bool; 2] {
 // The same of the crashed image.
 fn are_crashed_refused(rt: &HostRuntime) -> Option<[bool; 2]> {
     match crashed(rt) {
-        Some(disk) => Some(are_all_refused(rt, disk.bytes())),
+        Some(disk) => {
+            let are_refused = are_all_refused(rt, disk.bytes());
+            drop(disk);
+            Some(are_refused)
+        }
         None => None,
     }
 }
@@ -373,6 +414,7 @@ fn told_of_half(rt: &HostRuntime, image: &str) -> ([Result<(), ImageFault>; 2], 
     let versions = Versions::Current;
     let recovered = recover_file(rt, rt.alloc(), &trouble, versions, image, &mut writer);
     let is_first = writer.taken.as_slice() == b"kept 0 0\n".as_slice();
+    drop(writer);
     ([shown, recovered], is_first)
 }
 

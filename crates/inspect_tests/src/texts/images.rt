@@ -102,19 +102,28 @@ fn left_by(disk: &MemDisk) -> Option<MemDisk> {
 // What a crash behind the last of these calls leaves of a store of two lanes.
 fn crashed(alloc: Global, calls: &[StoreCall]) -> Option<MemDisk> {
     let made = formatted(alloc)?;
-    let Ok(mut store) = Store::adopt(alloc, made, 9) else {
-        return None;
-    };
+    let mut store = Store::adopt(alloc, made, 9).ok()?;
     let is_played = store.play(calls).is_ok();
     let disk = store.into_disk();
-    if is_played { left_by(&disk) } else { None }
+    let left = if is_played { left_by(&disk) } else { None };
+    drop(disk);
+    left
+}
+
+// Changes the bytes at these places.
+fn change(bytes: &mut [u8], changes: &[Change]) -> Option<()> {
+    for (at, value) in changes {
+        *bytes.get_mut(*at)? = *value;
+    }
+    Some(())
 }
 
 // The image with the bytes at these places changed.
 fn changed(alloc: Global, image: &MemDisk, changes: &[Change]) -> Option<Vec<u8>> {
     let mut bytes = image.bytes().to_vec(alloc).ok()?;
-    for (at, value) in changes {
-        *bytes.get_mut(*at)? = *value;
+    if change(&mut bytes, changes).is_none() {
+        drop(bytes);
+        return None;
     }
     Some(bytes)
 }
@@ -122,24 +131,34 @@ fn changed(alloc: Global, image: &MemDisk, changes: &[Change]) -> Option<Vec<u8>
 // Whether the image's lines are these.
 fn is_shown(alloc: Global, image: &mut MemDisk, lines: &[u8]) -> bool {
     let mut out = writer_failing(alloc, 0);
-    inspect(alloc, image, &mut out) == Ok(()) && out.taken.as_slice() == lines
+    let answer = inspect(alloc, image, &mut out);
+    let are_written = out.taken.as_slice() == lines;
+    drop(out);
+    answer == Ok(()) && are_written
 }
 
 // Whether the image's graph is this.
 fn is_drawn(alloc: Global, image: &mut MemDisk, graph: &[u8]) -> bool {
     let mut out = writer_failing(alloc, 0);
-    draw(alloc, image, &mut out) == Ok(()) && out.taken.as_slice() == graph
+    let answer = draw(alloc, image, &mut out);
+    let is_written = out.taken.as_slice() == graph;
+    drop(out);
+    answer == Ok(()) && is_written
 }
 
 // Whether the lines of what a crash leaves are these, and its graph.
 fn is_crash_shown(alloc: Global, calls: &[StoreCall], lines: &[u8]) -> Option<bool> {
     let mut image = crashed(alloc, calls)?;
-    Some(is_shown(alloc, &mut image, lines))
+    let is_shown = is_shown(alloc, &mut image, lines);
+    drop(image);
+    Some(is_shown)
 }
 
 fn is_crash_drawn(alloc: Global, calls: &[StoreCall], graph: &[u8]) -> Option<bool> {
     let mut image = crashed(alloc, calls)?;
-    Some(is_drawn(alloc, &mut image, graph))
+    let is_drawn = is_drawn(alloc, &mut image, graph);
+    drop(image);
+    Some(is_drawn)
 }
 
 // Whether the graph of what a crash leaves of the circle, while the second section has not ended, is this.
@@ -150,7 +169,9 @@ fn is_open_circle_drawn(alloc: Global, graph: &[u8]) -> Option<bool> {
 
 fn is_format_shown(alloc: Global, lines: &[u8]) -> Option<bool> {
     let mut image = formatted(alloc)?.into_disk();
-    Some(is_shown(alloc, &mut image, lines))
+    let is_shown = is_shown(alloc, &mut image, lines);
+    drop(image);
+    Some(is_shown)
 }
 
 // Whether the inspector and its graph refuse an image of these bytes for this reason, write nothing, and keep the bytes.
@@ -159,12 +180,11 @@ fn is_refused(alloc: Global, bytes: &[u8], why: RecoverError) -> Option<[bool; 4
     let mut out = writer_failing(alloc, 0);
     let is_not_shown = inspect(alloc, &mut disk, &mut out) == Err(InspectError::Study(why));
     let is_not_drawn = draw(alloc, &mut disk, &mut out) == Err(InspectError::Study(why));
-    Some([
-        is_not_shown,
-        is_not_drawn,
-        out.calls == 0,
-        disk.bytes() == bytes,
-    ])
+    let is_silent = out.calls == 0;
+    drop(out);
+    let is_kept = disk.bytes() == bytes;
+    drop(disk);
+    Some([is_not_shown, is_not_drawn, is_silent, is_kept])
 }
 
 #[test]
@@ -279,12 +299,23 @@ rank=same
     assert!(rt; found == [Some(true); 2]);
 }
 
-// Whether the lines of what a crash leaves, with the bytes at these places changed, are these.
-fn is_change_shown(alloc: Global, changes: &[Change], lines: &[u8]) -> Option<bool> {
+// What a crash leaves, with the bytes at these places changed.
+fn stored_and_changed(alloc: Global, changes: &[Change]) -> Option<MemDisk> {
     let image = crashed(alloc, &stored())?;
-    let bytes = changed(alloc, &image, changes)?;
-    let mut image = MemDisk::from_bytes(alloc, &bytes).ok()?;
-    Some(is_shown(alloc, &mut image, lines))
+    let bytes = changed(alloc, &image, changes);
+    drop(image);
+    let bytes = bytes?;
+    let image = MemDisk::from_bytes(alloc, &bytes);
+    drop(bytes);
+    image.ok()
+}
+
+// Whether the lines of that are these.
+fn is_change_shown(alloc: Global, changes: &[Change], lines: &[u8]) -> Option<bool> {
+    let mut image = stored_and_changed(alloc, changes)?;
+    let is_shown = is_shown(alloc, &mut image, lines);
+    drop(image);
+    Some(is_shown)
 }
 
 // Recovery refuses the control's sequence; the inspector shows it.
@@ -326,7 +357,10 @@ fn is_change_refused(
     changes: &[Change],
     why: RecoverError,
 ) -> Option<[bool; 4]> {
-    is_refused(alloc, &changed(alloc, image, changes)?, why)
+    let bytes = changed(alloc, image, changes)?;
+    let is_refused = is_refused(alloc, &bytes, why);
+    drop(bytes);
+    is_refused
 }
 
 // The first of these changes that isn't refused so.
@@ -345,8 +379,10 @@ fn told_of_refused(
     cases: &[([Change; 2], RecoverError)],
 ) -> Option<([bool; 4], Option<usize>)> {
     let image = crashed(alloc, &stored())?;
-    let short = is_short_refused(alloc, &image)?;
-    Some((short, first_other(alloc, &image, cases)))
+    let short = is_short_refused(alloc, &image);
+    let other = first_other(alloc, &image, cases);
+    drop(image);
+    Some((short?, other))
 }
 
 #[test]
@@ -377,14 +413,13 @@ fn refused_images_are_not_shown(rt: HostRuntime) {
 fn is_cut_off(alloc: Global, image: &mut MemDisk, lines: &[u8], graph: &[u8]) -> [bool; 4] {
     let mut shown = writer_failing(alloc, 9);
     let is_not_shown = inspect(alloc, image, &mut shown) == Err(InspectError::Write);
+    let is_begun = shown.taken.as_slice() == lines;
+    drop(shown);
     let mut drawn = writer_failing(alloc, 9);
     let is_not_drawn = draw(alloc, image, &mut drawn) == Err(InspectError::Write);
-    [
-        is_not_shown,
-        shown.taken.as_slice() == lines,
-        is_not_drawn,
-        drawn.taken.as_slice() == graph,
-    ]
+    let is_graph_begun = drawn.taken.as_slice() == graph;
+    drop(drawn);
+    [is_not_shown, is_begun, is_not_drawn, is_graph_begun]
 }
 
 // Whether a read that fails is told, and nothing is written.
@@ -392,13 +427,18 @@ fn is_fault_told(alloc: Global, image: &mut MemDisk) -> [bool; 2] {
     let mut out = writer_failing(alloc, 0);
     image.fail_call(1);
     let fault = Err(InspectError::Study(RecoverError::Fault));
-    [inspect(alloc, image, &mut out) == fault, out.calls == 0]
+    let is_told = inspect(alloc, image, &mut out) == fault;
+    let is_silent = out.calls == 0;
+    drop(out);
+    [is_told, is_silent]
 }
 
 fn told_of_faults(alloc: Global) -> Option<([bool; 4], [bool; 2])> {
     let mut image = crashed(alloc, &two_stores())?;
     let cut_off = is_cut_off(alloc, &mut image, b"image lanes 2 c", b"digraph sections");
-    Some((cut_off, is_fault_told(alloc, &mut image)))
+    let is_told = is_fault_told(alloc, &mut image);
+    drop(image);
+    Some((cut_off, is_told))
 }
 
 #[test]

@@ -78,5 +78,5 @@ pub returns-in-Drive : goal.returns-in-Drive
 returns-in-Drive o c =
     let read = o.S.Read.remaining c.args.reader.now in
     let written = o.W.Write.contents c.args.writer.now in
-    let now = o.W.Write.contents c.drive.new.writer in
-    subst (λ (w : Words). Obeys w c.drive.result read read written now) (sym c.in-Drive.is) c.drive.ensures
+    let now = o.W.Write.contents c.drive-driven.new.writer in
+    subst (λ (w : Words). Obeys w c.drive-driven.result read read written now) (sym c.in-Drive.is) c.drive-driven.ensures

@@ -21,25 +21,25 @@ not_both b is isnt = absurd (let both : true ≡ false = sym is ∙ isnt in cc)
 pub returns : goal.returns
 returns c =
     let layout : layout_with c.build-schema.result c.in-Some.lanes c.in-Some.capacity ≡ layout_with c.args.declaring c.args.lanes c.args.capacity = λ i. layout_with (c.build-schema.ensures i) (c.in-Some.ensures.same.0 i) (c.in-Some.ensures.same.1 i) in
-    let schema = c.in_ok-monitors.ensures.schema in
+    let schema = c.in-Ok-new.ensures.schema in
     record {
       refused = λ empty. absurd (not_both c.is_empty.result (c.is_empty.ensures.1 empty) c.if-is_empty.false);
       passed = λ some. record {
         refused = λ bad. absurd (bad (c.format_numbers.ensures.limits.0 (subst IsSome (sym c.in-Some.is) refl)));
         passed = λ good. record {
-          live = record { monitors = c.in_ok-monitors.monitors; store = c.in_ok-store.store };
-          answers = ap Formatted (c.in_ok-store.ensures.size ∙ ap size_of layout);
+          live = record { monitors = c.in-Ok-new.monitors; store = c.in-Ok.made.0 };
+          answers = ap Formatted (c.in-Ok.ensures.size ∙ ap size_of layout);
           runs = ap machine.Running c.new-running.ensures;
-          layout = c.in_ok-store.ensures.layout ∙ layout;
+          layout = c.in-Ok.ensures.layout ∙ layout;
           fresh_monitors = record {
             schema_is = schema ∙ c.build-schema.ensures;
-            last = c.in_ok-monitors.ensures.last;
-            lanes_are = c.in_ok-monitors.ensures.lanes ∙ c.in-Some.ensures.same.0;
-            state = c.in_ok-monitors.ensures.state ∙ ap (λ (d : Declarations). initial_state (first_of d)) c.build-schema.ensures;
+            last = c.in-Ok-new.ensures.last;
+            lanes_are = c.in-Ok-new.ensures.lanes ∙ c.in-Some.ensures.same.0;
+            state = c.in-Ok-new.ensures.state ∙ ap (λ (d : Declarations). initial_state (first_of d)) c.build-schema.ensures;
           };
-          tells = subst (λ (s : Setting). Tells c.in_ok-store.store s no_past) (λ i. setting_in (sym schema i) (sym c.in_ok-monitors.ensures.last i)) c.in_ok-store.ensures.tells;
-          running = c.in_ok-store.ensures.running;
-          of_schema = subst (λ (d : Declarations). IsDiskOf d c.in_ok-store.store.disk) c.build-schema.ensures c.in_ok-store.ensures.of_schema;
+          tells = subst (λ (s : Setting). Tells c.in-Ok.made.0 s no_past) (λ i. setting_in (sym schema i) (sym c.in-Ok-new.ensures.last i)) c.in-Ok.ensures.tells;
+          running = c.in-Ok.ensures.running;
+          of_schema = subst (λ (d : Declarations). IsDiskOf d c.in-Ok.made.0.disk) c.build-schema.ensures c.in-Ok.ensures.of_schema;
         };
       };
     }
@@ -52,7 +52,7 @@ format_store-requires c =
 
 pub new-running-requires : goal.new-running-requires
 new-running-requires c =
-    let monitors = c.in_ok-monitors.ensures in
-    let store = c.in_ok-store.ensures in
-    agree-formatted c.build-schema.result c.in_ok-monitors.monitors c.in_ok-store.store monitors.schema monitors.last monitors.state store.tells
+    let monitors = c.in-Ok-new.ensures in
+    let store = c.in-Ok.ensures in
+    agree-formatted c.build-schema.result c.in-Ok-new.monitors c.in-Ok.made.0 monitors.schema monitors.last monitors.state store.tells
     (ap (λ (l : Layout). l.lanes) store.layout ∙ sym monitors.lanes) store.running store.of_schema

@@ -6,8 +6,8 @@ use Rattle.plain_monitors.specs.Table.{state_of}
 use Rattle.plain_monitors.proofs.StateLemmas.{same-values}
 use Rattle.plain_monitors.proofs.monitors.Monitors.new.Goals as goal
 
-pub returns-clause-state : goal.returns-clause-state
-returns-clause-state c =
+pub returns-in-Ok-clause-state : goal.returns-in-Ok-clause-state
+returns-in-Ok-clause-state c =
     let long : length (firsts_of c.args.schema.fields) ≡ field_count c.args.schema = length-map c.args.schema.fields (λ f. f.first) in
-    let values : slice_index c.in_ok-values.values.items ≡ first_of c.args.schema = same-values c.in_ok-values.values.items (firsts_of c.args.schema.fields) (c.in_ok-values.ensures.count ∙ sym long) (λ f below. c.in_ok-values.ensures.firsts f (omega arith)) in
+    let values : slice_index c.in-Ok.values.items ≡ first_of c.args.schema = same-values c.in-Ok.values.items (firsts_of c.args.schema.fields) (c.in-Ok.ensures.count ∙ sym long) (λ f below. c.in-Ok.ensures.firsts f (omega arith)) in
     subst (λ (value : ℕ → ℕ). IfOk c.holding.result (λ m. state_of m ≡ initial_state value)) values c.holding.ensures.state

@@ -11,7 +11,7 @@ use Rattle.script_machine.proofs.AgreementLemmas.{refused-log, same-told}
 use Rattle.script_machine.proofs.SchemaLemmas.{called_of}
 use Rattle.script_machine.proofs.StoreLemmas.{live, told-unchanged, refused-line}
 use Rattle.script_machine.proofs.running.Running.log.Goals as goal
-use Rattle.script_machine.proofs.running.Running.log.Goals.{in-Ok, in-Err+in_ok-refused_call-in-Err}
+use Rattle.script_machine.proofs.running.Running.log.Goals.{in-Ok, in-Err+in-Ok-refused_call}
 
 pub refused_call-requires : goal.refused_call-requires
 refused_call-requires c =
@@ -28,9 +28,9 @@ invariant_of-result c =
     elim c.match-log_step.branch [
       | in-Ok w ↦ same-told a x y g (after_log g.past) refl (rw w.in-Ok.is at step.ok (setting_from a g.first) g.past g.tells) step.layout (rw w.in-Ok.is at step.running).1
           (called_of a g.first g.past Logging x y.disk g.tells g.running (step.shown (setting_from a g.first) g.past g.tells) g.of_schema)
-      | in-Err+in_ok-refused_call-in-Err w ↦
-          let told = sym w.refused_call.ensures ∙ w.in_ok-refused_call-in-Err.was in
-          let same : y ≡ x = told-unchanged x y w.in-Err.why w.in_ok-refused_call-in-Err.field-0 told (rw w.in-Err.is at step.refused) in
+      | in-Err+in-Ok-refused_call w ↦
+          let told = sym w.refused_call.ensures ∙ w.in-Ok-refused_call.is in
+          let same : y ≡ x = told-unchanged x y w.in-Err.why w.in-Ok-refused_call.refusal told (rw w.in-Err.is at step.refused) in
           subst (λ (z : Parts Memory). Agrees a z) (sym same) g
     ]
 
@@ -50,8 +50,8 @@ returns c =
         count = λ s p t. (rw w.in-Ok.is at step.answer s p t).1;
         after = λ s p t. rw w.in-Ok.is at step.ok s p t;
       }))
-      | in-Err+in_ok-refused_call-in-Err w ↦
-          let told = sym w.refused_call.ensures ∙ w.in_ok-refused_call-in-Err.was in
-          rw w.answer-is (inr (refused-line a x y (λ s p reason. RefusesLog x.known p reason) w.in-Err.why w.in_ok-refused_call-in-Err.field-0 told
-          (told-unchanged x y w.in-Err.why w.in_ok-refused_call-in-Err.field-0 told (rw w.in-Err.is at step.refused)) (λ s p t. rw w.in-Err.is at step.answer s p t)))
+      | in-Err+in-Ok-refused_call w ↦
+          let told = sym w.refused_call.ensures ∙ w.in-Ok-refused_call.is in
+          rw w.answer-is (inr (refused-line a x y (λ s p reason. RefusesLog x.known p reason) w.in-Err.why w.in-Ok-refused_call.refusal told
+          (told-unchanged x y w.in-Err.why w.in-Ok-refused_call.refusal told (rw w.in-Err.is at step.refused)) (λ s p t. rw w.in-Err.is at step.answer s p t)))
     ])

@@ -33,7 +33,7 @@ invariant_of-self-2 c =
     let may : MayDo (setting_of a) (state_of a) t e = subst (λ (m : Live). MayDo (setting_of m.monitors) (state_of m.monitors) t e) (sym c.self.view_is) c.requires.allowed in
     let is : IsEventOf (setting_of a) e = step-event a e (subst (λ (m : Live). IsStepOf (setting_of m.monitors) e) (sym c.self.view_is) c.requires.kind) in
     goes-on a c.perform.new.self c.self.inside.store c.keep_record.new.store t e c.self.invariant may is c.in_default.ensures.kept (c.keep_record.ensures.running c.self.invariant.running)
-    c.in_ok-perform.ensures.ok
+    c.in_default-perform.ensures.ok
 
 pub returns-in-Err : goal.returns-in-Err
 returns-in-Err c =
@@ -64,5 +64,5 @@ returns c =
     (record {
       allowed = may;
       named = is;
-      outcome = inl (record { live = live b y; answers = refl; runs = refl; after = c.in_ok-perform.ensures.ok; kept = c.in_default.ensures.kept });
+      outcome = inl (record { live = live b y; answers = refl; runs = refl; after = c.in_default-perform.ensures.ok; kept = c.in_default.ensures.kept });
     })

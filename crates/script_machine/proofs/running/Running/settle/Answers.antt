@@ -13,7 +13,7 @@ use Rattle.script_machine.proofs.AgreementLemmas.{refused-settle, same-told}
 use Rattle.script_machine.proofs.SchemaLemmas.{called_of}
 use Rattle.script_machine.proofs.StoreLemmas.{live, told-unchanged, refused-line}
 use Rattle.script_machine.proofs.running.Running.settle.Goals as goal
-use Rattle.script_machine.proofs.running.Running.settle.Goals.{in-Ok+in_ok-acknowledged_counts-in-Ok, in-Err+in_ok-refused_call-in-Err}
+use Rattle.script_machine.proofs.running.Running.settle.Goals.{in-Ok+in-Ok-acknowledged_counts, in-Err+in-Ok-refused_call}
 
 pub refused_call-requires : goal.refused_call-requires
 refused_call-requires c =
@@ -29,14 +29,14 @@ invariant_of-result c =
     let g = c.self.invariant in
     let step = c.settle.ensures in
     elim c.match-settle.branch [
-      | in-Ok+in_ok-acknowledged_counts-in-Ok w ↦
+      | in-Ok+in-Ok-acknowledged_counts w ↦
           let stable = c.stable_law.ensures.exists (actions g.past.logged) in
           same-told a x y g (after_settle g.past stable.0) refl (rw w.in-Ok.is at step.ok (setting_from a g.first) g.past stable.0 g.tells stable.1) step.layout
           (rw w.in-Ok.is at step.running).1
           (called_of a g.first g.past Settling x y.disk g.tells g.running (step.shown (setting_from a g.first) g.past g.tells) g.of_schema)
-      | in-Err+in_ok-refused_call-in-Err w ↦
-          let told = sym w.refused_call.ensures ∙ w.in_ok-refused_call-in-Err.was in
-          let same : y ≡ x = told-unchanged x y w.in-Err.why w.in_ok-refused_call-in-Err.field-0 told (rw w.in-Err.is at step.refused) in
+      | in-Err+in-Ok-refused_call w ↦
+          let told = sym w.refused_call.ensures ∙ w.in-Ok-refused_call.is in
+          let same : y ≡ x = told-unchanged x y w.in-Err.why w.in-Ok-refused_call.refusal told (rw w.in-Err.is at step.refused) in
           subst (λ (z : Parts Memory). Agrees a z) (sym same) g
     ]
 
@@ -49,11 +49,11 @@ returns c =
     let lanes : y.known.layout.lanes ≡ x.known.layout.lanes = ap (λ (l : Layout). l.lanes) step.layout in
     subst (λ (m : Live). Settles (Running m) c.match-settle.answer (Running (live a y)) m) c.self.view_is
     (elim c.match-settle.branch [
-      | in-Ok+in_ok-acknowledged_counts-in-Ok w ↦
-          let told = w.in_ok-acknowledged_counts-in-Ok.ensures in
+      | in-Ok+in-Ok-acknowledged_counts w ↦
+          let told = w.in-Ok-acknowledged_counts.ensures in
           rw w.answer-is (inl (record {
             store = y;
-            sections = w.in_ok-acknowledged_counts-in-Ok.field-0.items;
+            sections = w.in-Ok-acknowledged_counts.counts.items;
             answers = refl;
             runs = refl;
             layout = step.layout;
@@ -66,8 +66,8 @@ returns c =
             after = λ s p cut t stable. rw w.in-Ok.is at step.ok s p cut t stable;
             counts = λ s p cut t stable l in'. told.counts s (after_settle p cut) (rw w.in-Ok.is at step.ok s p cut t stable) l (subst (λ n. l < n) (sym lanes) in');
           }))
-      | in-Err+in_ok-refused_call-in-Err w ↦
-          let told = sym w.refused_call.ensures ∙ w.in_ok-refused_call-in-Err.was in
-          rw w.answer-is (inr (refused-line a x y (RefusesSettle x.known) w.in-Err.why w.in_ok-refused_call-in-Err.field-0 told
-          (told-unchanged x y w.in-Err.why w.in_ok-refused_call-in-Err.field-0 told (rw w.in-Err.is at step.refused)) (λ s p t. rw w.in-Err.is at step.answer s p t)))
+      | in-Err+in-Ok-refused_call w ↦
+          let told = sym w.refused_call.ensures ∙ w.in-Ok-refused_call.is in
+          rw w.answer-is (inr (refused-line a x y (RefusesSettle x.known) w.in-Err.why w.in-Ok-refused_call.refusal told
+          (told-unchanged x y w.in-Err.why w.in-Ok-refused_call.refusal told (rw w.in-Err.is at step.refused)) (λ s p t. rw w.in-Err.is at step.answer s p t)))
     ])
