@@ -22,12 +22,27 @@ fn declare_objects(builder: &mut SchemaBuilder) -> Option<ObjectId> {
     Some(first)
 }
 
+// Declares them, and the field of the first.
+fn declare_nine(builder: &mut SchemaBuilder) -> Option<()> {
+    let first = declare_objects(builder)?;
+    builder.field(first, "f0", first, 10).ok()?;
+    Some(())
+}
+
 // Nine objects, and the field of the first.
 fn schema_of_nine(alloc: Global) -> Option<Schema> {
     let mut builder = SchemaBuilder::new(alloc);
-    let first = declare_objects(&mut builder)?;
-    builder.field(first, "f0", first, 10).ok()?;
-    builder.build().ok()
+    if declare_nine(&mut builder).is_none() {
+        drop(builder);
+        return None;
+    }
+    match builder.build() {
+        Ok(schema) => Some(schema),
+        Err((builder, _why)) => {
+            drop(builder);
+            None
+        }
+    }
 }
 
 // Whether these are the words of that heap.
@@ -54,10 +69,19 @@ pub fn nine_objects(alloc: Global) -> Option<(Shared, HelperSeat)>
 {
     let schema = schema_of_nine(alloc)?;
     if schema.fields() != 1 {
+        drop(schema);
         return None;
     }
-    let (shared, helper) = Shared::open(alloc, schema, &[10], 9, LAST).ok()?;
-    is_of_nine(&shared).then_some((shared, helper))
+    let Ok((shared, helper)) = Shared::open(alloc, schema, &[10], 9, LAST) else {
+        return None;
+    };
+    if is_of_nine(&shared) {
+        Some((shared, helper))
+    } else {
+        drop(helper);
+        drop(shared);
+        None
+    }
 }
 
 /// Gives out the seat of the next lane, which is idle.

@@ -61,7 +61,11 @@ pub fn open<D: Disk>(
     } = opened;
     let (sessions, rings) = match open_sessions(alloc, &shared, seats, layout.capacity) {
         Ok(made) => made,
-        Err(error) => return Err((store.into_disk(), error)),
+        Err(error) => {
+            drop(seat);
+            drop(shared);
+            return Err((store.into_disk(), error));
+        }
     };
     let helper = Helper::new(store, rings, seat);
     Ok(RunningHeap {

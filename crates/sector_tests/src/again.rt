@@ -21,14 +21,41 @@ fn live(alloc: Global, size: SectorSize, damage: Damage, chance: &mut Chance) ->
     let len = (2 * COUNT + 2) * size.bytes();
     let under = MemDisk::new(alloc, len as u64).ok()?;
     let mut disk = TwoPlaces::create(alloc, SectorsOf::new(under, size), COUNT).ok()?;
+    let wrong = live_on(alloc, &mut disk, size, damage, chance);
+    drop(disk);
+    wrong
+}
+
+fn live_on(
+    alloc: Global,
+    disk: &mut Tried,
+    size: SectorSize,
+    damage: Damage,
+    chance: &mut Chance,
+) -> Option<u64> {
     let mut truth = Truth::zeros(alloc, COUNT * size.bytes())?;
+    let wrong = live_twice(alloc, disk, &mut truth, size, damage, chance);
+    drop(truth);
+    wrong
+}
+
+fn live_twice(
+    alloc: Global,
+    disk: &mut Tried,
+    truth: &mut Truth,
+    size: SectorSize,
+    damage: Damage,
+    chance: &mut Chance,
+) -> Option<u64> {
     for _ in 0..chance.below(3) {
-        sync_some(&mut disk, &mut truth, chance)?;
+        sync_some(disk, truth, chance)?;
         truth.settle();
     }
-    let (stop, is_done) = sync_some(&mut disk, &mut truth, chance)?;
+    let (stop, is_done) = sync_some(disk, truth, chance)?;
     let left = crashed_bytes(alloc, disk.sectors().disk(), stop, size, damage, chance)?;
-    live_again(alloc, &left, size, damage, &truth, is_done, chance)
+    let wrong = live_again(alloc, &left, size, damage, truth, is_done, chance);
+    drop(left);
+    wrong
 }
 
 // Writes some bytes and syncs: a stop in that by chance or behind it, and whether it is behind.
@@ -57,19 +84,48 @@ fn live_again(
 ) -> Option<u64> {
     let under = MemDisk::from_bytes(alloc, left).ok()?;
     let mut disk = TwoPlaces::open(alloc, SectorsOf::new(under, size), COUNT).ok()?;
+    let wrong = go_on(alloc, &mut disk, size, damage, truth, is_done, chance);
+    drop(disk);
+    wrong
+}
+
+fn go_on(
+    alloc: Global,
+    disk: &mut Tried,
+    size: SectorSize,
+    damage: Damage,
+    truth: &Truth,
+    is_done: bool,
+    chance: &mut Chance,
+) -> Option<u64> {
     let mut found = vec![in alloc; 0u8; truth.bytes.len()].ok()?;
     if disk.read_at(0, &mut found).is_err() || !truth.allows(&found, is_done) {
+        drop(found);
         return Some(1);
     }
     let mut now = Truth::holding(alloc, found)?;
-    if !write_some(&mut disk, &mut now, chance) || disk.sync().is_err() {
+    let wrong = crash_again(alloc, disk, &mut now, size, damage, chance);
+    drop(now);
+    wrong
+}
+
+// What a second crash loses, behind some writes and a sync.
+fn crash_again(
+    alloc: Global,
+    disk: &mut Tried,
+    now: &mut Truth,
+    size: SectorSize,
+    damage: Damage,
+    chance: &mut Chance,
+) -> Option<u64> {
+    if !write_some(disk, now, chance) || disk.sync().is_err() {
         return None;
     }
     // From the opening on.
     let after = disk.sectors().disk().stops();
     let stop = stop_between(0, after, chance);
     let last = crashed(alloc, disk.sectors().disk(), stop, size, damage, chance)?;
-    if holds(alloc, last, &now, stop > after) {
+    if holds(alloc, last, now, stop > after) {
         Some(0)
     } else {
         Some(1)

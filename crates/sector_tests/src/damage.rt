@@ -27,8 +27,14 @@ pub(crate) fn crashed(
     chance: &mut Chance,
 ) -> Option<MemSectors> {
     let (bytes, lost) = hurt_all(alloc, disk, stop, size, damage, chance)?;
-    let mut sectors = MemSectors::from_bytes(alloc, size, &bytes).ok()?;
+    let sectors = MemSectors::from_bytes(alloc, size, &bytes);
+    drop(bytes);
+    let Ok(mut sectors) = sectors else {
+        drop(lost);
+        return None;
+    };
     lose_each(&mut sectors, &lost);
+    drop(lost);
     Some(sectors)
 }
 
@@ -47,6 +53,7 @@ pub(crate) fn crashed_bytes(
             part_mut(&mut bytes, i, size).fill(0);
         }
     }
+    drop(lost);
     Some(bytes)
 }
 
@@ -59,27 +66,69 @@ fn hurt_all(
     damage: Damage,
     chance: &mut Chance,
 ) -> Option<(Vec<u8>, Vec<bool>)> {
-    let mut bytes = image(alloc, disk, stop, Fill::Lost)?;
     let new = image(alloc, disk, stop, Fill::Kept)?;
-    let zeros = image(alloc, disk, stop, Fill::Byte(0))?;
-    let ones = image(alloc, disk, stop, Fill::Byte(1))?;
+    let hurt = hurt_by(alloc, disk, stop, size, &new, damage, chance);
+    drop(new);
+    hurt
+}
+
+// The same, where the sectors were to be these.
+fn hurt_by(
+    alloc: Global,
+    disk: &MemDisk,
+    stop: u64,
+    size: SectorSize,
+    new: &[u8],
+    damage: Damage,
+    chance: &mut Chance,
+) -> Option<(Vec<u8>, Vec<bool>)> {
+    let mut bytes = image(alloc, disk, stop, Fill::Lost)?;
     let count = bytes.len() / size.bytes();
-    let mut lost = vec![in alloc; false; count].ok()?;
-    for i in 0..count {
-        let is_in_flight = part(&zeros, i, size) != part(&ones, i, size);
-        if is_in_flight {
-            let is_lost = hurt(
-                part_mut(&mut bytes, i, size),
-                part(&new, i, size),
-                damage,
-                chance,
-            );
-            if is_lost && i < lost.len() {
-                lost[i] = true;
-            }
+    let Some(mut lost) = in_flight(alloc, disk, stop, size, count) else {
+        drop(bytes);
+        return None;
+    };
+    for i in 0..lost.len() {
+        if lost[i] {
+            let old = part_mut(&mut bytes, i, size);
+            lost[i] = hurt(old, part(new, i, size), damage, chance);
         }
     }
     Some((bytes, lost))
+}
+
+// Which of so many sectors are in flight in this stop.
+fn in_flight(
+    alloc: Global,
+    disk: &MemDisk,
+    stop: u64,
+    size: SectorSize,
+    count: usize,
+) -> Option<Vec<bool>> {
+    let zeros = image(alloc, disk, stop, Fill::Byte(0))?;
+    let Some(ones) = image(alloc, disk, stop, Fill::Byte(1)) else {
+        drop(zeros);
+        return None;
+    };
+    let found = differing(alloc, &zeros, &ones, size, count);
+    drop(zeros);
+    drop(ones);
+    found
+}
+
+// Which of so many sectors differ in these.
+fn differing(
+    alloc: Global,
+    one: &[u8],
+    other: &[u8],
+    size: SectorSize,
+    count: usize,
+) -> Option<Vec<bool>> {
+    let mut found = vec![in alloc; false; count].ok()?;
+    for i in 0..found.len() {
+        found[i] = part(one, i, size) != part(other, i, size);
+    }
+    Some(found)
 }
 
 fn lose_each(sectors: &mut MemSectors, lost: &[bool]) {
@@ -92,7 +141,11 @@ fn lose_each(sectors: &mut MemSectors, lost: &[bool]) {
 
 fn image(alloc: Global, disk: &MemDisk, stop: u64, fill: Fill) -> Option<Vec<u8>> {
     match disk.crash_image(stop, fill) {
-        Ok(Some(left)) => left.bytes().to_vec(alloc).ok(),
+        Ok(Some(left)) => {
+            let bytes = left.bytes().to_vec(alloc);
+            drop(left);
+            bytes.ok()
+        }
         _ => None,
     }
 }

@@ -28,7 +28,9 @@ fn live(alloc: Global, size: SectorSize, damage: Damage, chance: &mut Chance) ->
     let len = COUNT * size.bytes();
     let under = MemDisk::new(alloc, len as u64).ok()?;
     let mut sectors = SectorsOf::new(under, size);
-    live_on(alloc, &mut sectors, size, damage, chance)
+    let wrong = live_on(alloc, &mut sectors, size, damage, chance);
+    drop(sectors);
+    wrong
 }
 
 fn live_on(
@@ -39,17 +41,30 @@ fn live_on(
     chance: &mut Chance,
 ) -> Option<u64> {
     let mut truth = Truth::zeros(alloc, COUNT * size.bytes())?;
+    let wrong = live_by(alloc, sectors, &mut truth, size, damage, chance);
+    drop(truth);
+    wrong
+}
+
+fn live_by(
+    alloc: Global,
+    sectors: &mut Tried,
+    truth: &mut Truth,
+    size: SectorSize,
+    damage: Damage,
+    chance: &mut Chance,
+) -> Option<u64> {
     let mut wrong: u64 = 0;
     for _ in 0..SYNCS {
-        let _run = change(&mut truth, chance);
+        let _run = change(truth, chance);
         let before = sectors.disk().stops();
-        if !sync(sectors, size, &truth) {
+        if !sync(sectors, size, truth) {
             return None;
         }
         let after = sectors.disk().stops();
         let stop = stop_between(before, after, chance);
         let left = crashed(alloc, sectors.disk(), stop, size, damage, chance)?;
-        if !holds(alloc, left, &truth, stop > after) {
+        if !holds(alloc, left, truth, stop > after) {
             wrong = wrong.saturating_add(1);
         }
         truth.settle();
@@ -85,8 +100,16 @@ fn put(sectors: &mut Tried, i: usize, bytes: &[u8]) -> bool {
 // Whether what a crash has left can be read, and is right.
 fn holds(alloc: Global, mut left: MemSectors, truth: &Truth, are_all_durable: bool) -> bool {
     match vec![in alloc; 0u8; truth.bytes.len()] {
-        Ok(mut found) => read_all(&mut left, &mut found) && truth.allows(&found, are_all_durable),
-        Err(_) => false,
+        Ok(mut found) => {
+            let is_right = read_all(&mut left, &mut found) && truth.allows(&found, are_all_durable);
+            drop(found);
+            drop(left);
+            is_right
+        }
+        Err(_) => {
+            drop(left);
+            false
+        }
     }
 }
 

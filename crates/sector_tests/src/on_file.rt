@@ -24,13 +24,27 @@ fn wrong(alloc: Global, files: u64) -> Option<u64> {
 fn live(alloc: Global, chance: &mut Chance) -> Option<u64> {
     let medium = Medium::empty();
     let made = ImageBytes::blank(alloc, medium.file(), Some(SectorSize::Bytes512), LEN as u64);
-    if made.is_err() {
-        return None;
-    }
+    let is_made = made.is_ok();
     drop(made);
+    let wrong = if is_made {
+        live_on(alloc, &medium, chance)
+    } else {
+        None
+    };
+    drop(medium);
+    wrong
+}
+
+fn live_on(alloc: Global, medium: &Medium, chance: &mut Chance) -> Option<u64> {
     let mut truth = Truth::zeros(alloc, LEN)?;
+    let wrong = live_by(alloc, medium, &mut truth, chance);
+    drop(truth);
+    wrong
+}
+
+fn live_by(alloc: Global, medium: &Medium, truth: &mut Truth, chance: &mut Chance) -> Option<u64> {
     for _ in 0..8 {
-        if !is_right(alloc, &medium, &mut truth, chance)? {
+        if !is_right(alloc, medium, truth, chance)? {
             return Some(1);
         }
     }
@@ -56,15 +70,23 @@ fn is_right(
     drop(bytes);
     medium.come_back(chance);
     let mut found = vec![in alloc; 0u8; LEN].ok()?;
-    let is_read = match ImageBytes::found(alloc, medium.file()) {
-        Ok(mut bytes) => bytes.read_from(0, &mut found).is_ok(),
-        Err(_) => false,
-    };
-    if !is_read || !truth.allows(&found, is_done) {
+    if !read_back(alloc, medium, &mut found) || !truth.allows(&found, is_done) {
+        drop(found);
         return Some(false);
     }
     *truth = Truth::holding(alloc, found)?;
     Some(true)
+}
+
+fn read_back(alloc: Global, medium: &Medium, out: &mut [u8]) -> bool {
+    match ImageBytes::found(alloc, medium.file()) {
+        Ok(mut bytes) => {
+            let read = bytes.read_from(0, out);
+            drop(bytes);
+            read.is_ok()
+        }
+        Err(_) => false,
+    }
 }
 
 // Writes a few runs of bytes and settles them; whether that is done.

@@ -14,14 +14,18 @@ impl Truth {
     /// A disk of so many zeros.
     pub(crate) fn zeros(alloc: Global, len: usize) -> Option<Truth> {
         let bytes = vec![in alloc; 0u8; len].ok()?;
-        let pending = vec![in alloc; false; len].ok()?;
-        Some(Truth { bytes, pending })
+        Truth::holding(alloc, bytes)
     }
 
     /// A disk of these bytes, durably.
     pub(crate) fn holding(alloc: Global, bytes: Vec<u8>) -> Option<Truth> {
-        let pending = vec![in alloc; false; bytes.len()].ok()?;
-        Some(Truth { bytes, pending })
+        match vec![in alloc; false; bytes.len()] {
+            Ok(pending) => Some(Truth { bytes, pending }),
+            Err(_) => {
+                drop(bytes);
+                None
+            }
+        }
     }
 
     /// All is durable.

@@ -27,7 +27,9 @@ fn live(alloc: Global, size: SectorSize, damage: Damage, chance: &mut Chance) ->
     let len = (2 * COUNT + 2) * size.bytes();
     let under = MemDisk::new(alloc, len as u64).ok()?;
     let mut disk = TwoPlaces::create(alloc, SectorsOf::new(under, size), COUNT).ok()?;
-    live_on(alloc, &mut disk, size, damage, chance)
+    let wrong = live_on(alloc, &mut disk, size, damage, chance);
+    drop(disk);
+    wrong
 }
 
 fn live_on(
@@ -38,9 +40,22 @@ fn live_on(
     chance: &mut Chance,
 ) -> Option<u64> {
     let mut truth = Truth::zeros(alloc, COUNT * size.bytes())?;
+    let wrong = live_by(alloc, disk, &mut truth, size, damage, chance);
+    drop(truth);
+    wrong
+}
+
+fn live_by(
+    alloc: Global,
+    disk: &mut Tried,
+    truth: &mut Truth,
+    size: SectorSize,
+    damage: Damage,
+    chance: &mut Chance,
+) -> Option<u64> {
     let mut wrong: u64 = 0;
     for _ in 0..SYNCS {
-        if !write_some(disk, &mut truth, chance) {
+        if !write_some(disk, truth, chance) {
             return None;
         }
         let before = disk.sectors().disk().stops();
@@ -50,7 +65,7 @@ fn live_on(
         let after = disk.sectors().disk().stops();
         let stop = stop_between(before, after, chance);
         let left = crashed(alloc, disk.sectors().disk(), stop, size, damage, chance)?;
-        if !holds(alloc, left, &truth, stop > after) {
+        if !holds(alloc, left, truth, stop > after) {
             wrong = wrong.saturating_add(1);
         }
         truth.settle();
@@ -72,15 +87,23 @@ pub(crate) fn write_some<D: Disk>(disk: &mut D, truth: &mut Truth, chance: &mut 
 /// Whether what a crash has left is opened, and is right.
 pub(crate) fn holds(alloc: Global, left: MemSectors, truth: &Truth, are_all_durable: bool) -> bool {
     match TwoPlaces::open(alloc, left, COUNT) {
-        Ok(mut disk) => reads(alloc, &mut disk, truth, are_all_durable),
+        Ok(mut disk) => {
+            let is_right = reads(alloc, &mut disk, truth, are_all_durable);
+            drop(disk);
+            is_right
+        }
         Err(_) => false,
     }
 }
 
 fn reads<D: Disk>(alloc: Global, disk: &mut D, truth: &Truth, are_all_durable: bool) -> bool {
     match vec![in alloc; 0u8; truth.bytes.len()] {
-        Ok(mut found) => disk.read_at(0, &mut found).is_ok()
-            && truth.allows(&found, are_all_durable),
+        Ok(mut found) => {
+            let is_right = disk.read_at(0, &mut found).is_ok()
+                && truth.allows(&found, are_all_durable);
+            drop(found);
+            is_right
+        }
         Err(_) => false,
     }
 }

@@ -1,8 +1,9 @@
 //! Heaps for workers. Object 0 guards field 0, which is for all; object i + 1 guards field i + 1, which is for worker i. Behind
 //! these comes a transient field, which object 0 guards too.
 
-ghost use Rattle.std.specs.Prelude.{◌≤◌, All, IfSome};
+ghost use Rattle.std.specs.Prelude.{◌≡◌, ◌≤◌, All, IfSome, map};
 ghost use Rattle.guards.specs.Schema.{field_count};
+ghost use Rattle.monitor.specs.Seats.{IsSeatOf, fresh_views};
 ghost use Rattle.running_heap.specs.Joined.{IsHelping};
 ghost use Rattle.session.specs.Sessions.{IsSessionOf};
 
@@ -13,7 +14,7 @@ use guards::{Schema, SchemaBuilder};
 use heap_model::MOST_CAPACITY;
 use image::Layout;
 use lane_rings::Receiver;
-use monitor::Shared;
+use monitor::{Seat, Shared};
 use running_heap::{RunningHeap, open};
 use session::{Session, open_sessions};
 use std::alloc::Global;
@@ -47,8 +48,17 @@ fn declare_all(alloc: Global, builder: &mut SchemaBuilder, workers: u8) -> Optio
 
 fn schema_of(alloc: Global, workers: u8) -> Option<Schema> {
     let mut builder = SchemaBuilder::new(alloc);
-    declare_all(alloc, &mut builder, workers)?;
-    builder.build().ok()
+    if declare_all(alloc, &mut builder, workers).is_none() {
+        drop(builder);
+        return None;
+    }
+    match builder.build() {
+        Ok(schema) => Some(schema),
+        Err((builder, _why)) => {
+            drop(builder);
+            None
+        }
+    }
 }
 
 fn size_of(schema: &Schema, workers: u8) -> Option<u64> {
@@ -59,7 +69,9 @@ fn size_of(schema: &Schema, workers: u8) -> Option<u64> {
 /// The bytes of an image with such a heap.
 pub fn image_size(alloc: Global, workers: u8) -> Option<u64> {
     let schema = schema_of(alloc, workers)?;
-    size_of(&schema, workers)
+    let size = size_of(&schema, workers);
+    drop(schema);
+    size
 }
 
 /// A heap with a lane for each worker, which begins to run on this disk. `None` is a refusal.
@@ -68,11 +80,20 @@ pub fn open_on<D: Disk + Drop>(alloc: Global, disk: D, workers: u8) -> Option<Ru
     ensures helping { IfSome result (λ o. IsHelping D.device o.shared o.helper) }
 {
     let schema = schema_of(alloc, workers)?;
-    let Ok(made) = Store::format(alloc, disk, &schema, workers, CAPACITY) else {
-        return None;
+    let made = match Store::format(alloc, disk, &schema, workers, CAPACITY) {
+        Ok(made) => made,
+        Err((disk, _why)) => {
+            drop(disk);
+            drop(schema);
+            return None;
+        }
     };
-    let Ok(heap) = open(alloc, schema, made, LAST) else {
-        return None;
+    let heap = match open(alloc, schema, made, LAST) {
+        Ok(heap) => heap,
+        Err((disk, _why)) => {
+            drop(disk);
+            return None;
+        }
     };
     Some(heap)
 }
@@ -88,17 +109,36 @@ pub struct Unserved {
     pub rings: Vec<Receiver>,
 }
 
+// The shared words of such a heap, and the seats of its workers.
+fn share(alloc: Global, workers: u8) -> Option<(Shared, Vec<Seat>)>
+    requires workers { workers ≤ 32 }
+    ensures views { IfSome result (λ r. map (λ s. s.view) r.1.items ≡ fresh_views r.0.plan workers) }
+    ensures seats { IfSome result (λ r. All (IsSeatOf r.0) r.1.items) }
+{
+    let schema = schema_of(alloc, workers)?;
+    let Ok(first) = vec![in alloc; 0u64; schema.fields() as usize] else {
+        drop(schema);
+        return None;
+    };
+    let opened = Shared::new(alloc, schema, &first, workers, LAST);
+    drop(first);
+    match opened {
+        Ok((shared, seats, helper)) => {
+            drop(helper);
+            Some((shared, seats))
+        }
+        Err(_) => None,
+    }
+}
+
 /// The same without a disk, and so without a helper. `None` is a refusal.
 pub fn open_unserved(alloc: Global, workers: u8) -> Option<Unserved>
     requires workers { workers ≤ 32 }
     ensures of { IfSome result (λ o. All (IsSessionOf o.shared) o.sessions.items) }
 {
-    let schema = schema_of(alloc, workers)?;
-    let first = vec![in alloc; 0u64; schema.fields() as usize].ok()?;
-    let Ok((shared, seats, _helper)) = Shared::new(alloc, schema, &first, workers, LAST) else {
-        return None;
-    };
+    let (shared, seats) = share(alloc, workers)?;
     let Ok((sessions, rings)) = open_sessions(alloc, &shared, seats, MOST_CAPACITY) else {
+        drop(shared);
         return None;
     };
     Some(Unserved {

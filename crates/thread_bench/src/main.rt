@@ -43,7 +43,9 @@ use words::{Words, read_words};
 
 fn main(rt: HostRuntime) -> io::Result<()> {
     let texts = env::args(&rt)?.collect::<Vec<String>>(rt.alloc())?;
-    match read_words(&texts) {
+    let words = read_words(&texts);
+    drop(texts);
+    match words {
         Some(Words::StepCosts) => print_step_costs(&rt),
         Some(Words::Race { seconds }) => print_race(&rt, seconds),
         Some(Words::SectionCosts) => print_section_costs(&rt),

@@ -109,8 +109,16 @@ fn race_on<R: Clock + Print + AllocGlobal + Threads + Sync>(
 {
     let mut seat = deal(shared, helper);
     match racers(rt.alloc(), shared, helper, RACERS) {
-        Ok(mut all) => race_all(rt, shared, &mut seat, &mut all, seconds),
-        Err(_) => println!(rt; "no memory"),
+        Ok(mut all) => {
+            let raced = race_all(rt, shared, &mut seat, &mut all, seconds);
+            drop(all);
+            drop(seat);
+            raced
+        }
+        Err(_) => {
+            drop(seat);
+            println!(rt; "no memory")
+        }
     }
 }
 
@@ -121,7 +129,12 @@ pub fn print_race<R: Clock + Print + AllocGlobal + Threads + Sync>(
     seconds: u64,
 ) -> io::Result<()> {
     match nine_objects(rt.alloc()) {
-        Some((shared, mut helper)) => race_on(rt, &shared, &mut helper, seconds),
+        Some((shared, mut helper)) => {
+            let raced = race_on(rt, &shared, &mut helper, seconds);
+            drop(helper);
+            drop(shared);
+            raced
+        }
         None => println!(rt; "no memory"),
     }
 }

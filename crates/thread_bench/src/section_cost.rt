@@ -111,8 +111,14 @@ fn best_by_last<R: Clock + Wait>(
     requires of { All (IsSessionOf shared.now) sessions.old.items }
 {
     let mut session = sessions.pop()?;
-    let mut ring = rings.pop()?;
-    best_by_session(rt, shared, &mut session, &mut ring, repeated)
+    let Some(mut ring) = rings.pop() else {
+        drop(session);
+        return None;
+    };
+    let best = best_by_session(rt, shared, &mut session, &mut ring, repeated);
+    drop(ring);
+    drop(session);
+    best
 }
 
 // By a session of a heap of its own.
@@ -122,7 +128,11 @@ fn cost_by_session<R: Clock + AllocGlobal + Wait>(rt: &R, repeated: Repeated) ->
         mut sessions,
         mut rings,
     } = open_unserved(rt.alloc(), 1)?;
-    best_by_last(rt, &shared, &mut sessions, &mut rings, repeated)
+    let best = best_by_last(rt, &shared, &mut sessions, &mut rings, repeated);
+    drop(rings);
+    drop(sessions);
+    drop(shared);
+    best
 }
 
 // Takes all records that wait in the bare ring.

@@ -33,7 +33,9 @@ pub fn time_with_helper<D: Disk + Drop, R: Threads + Wait + Sync + Clock + CpuCl
         sessions,
         helper,
     } = open_on(alloc, disk, workers)?;
-    beside_helper(rt, &shared, sessions, helper)
+    let took = beside_helper(rt, &shared, sessions, helper);
+    drop(shared);
+    took
 }
 
 // The workers, and the helper in this thread.
@@ -75,7 +77,9 @@ pub fn time_with_sinks<S: Sink + Drop, R: Threads + Wait + Sync + Clock + CpuClo
         sessions,
         rings,
     } = open_unserved(alloc, workers)?;
-    beside_sinks(rt, &shared, sessions, rings, sinks)
+    let took = beside_sinks(rt, &shared, sessions, rings, sinks);
+    drop(shared);
+    took
 }
 
 // The workers, and in this thread what empties their rings.

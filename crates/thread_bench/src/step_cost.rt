@@ -133,7 +133,11 @@ fn best_of_seat<R: Clock>(rt: &R, shared: &Shared, seat: &mut Seat) -> Option<Co
 fn best_of_steps<R: Clock + AllocGlobal>(rt: &R) -> Option<Costs> {
     let (shared, mut helper) = nine_objects(rt.alloc())?;
     let mut seat = deal(&shared, &mut helper);
-    best_of_seat(rt, &shared, &mut seat)
+    let best = best_of_seat(rt, &shared, &mut seat);
+    drop(seat);
+    drop(helper);
+    drop(shared);
+    best
 }
 
 // The same on one bare word.

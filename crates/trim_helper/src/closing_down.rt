@@ -112,9 +112,13 @@ fn finish<D: Disk>(
     let layout = store.layout();
     meet(&shared, ended, rings, &mut seat, layout.capacity);
     if let Err(reason) = drain_known(store, rings, waiting) {
+        drop(seat);
+        drop(shared);
         return Err(close_error(reason));
     }
     if let Err(reason) = settle_applied(store) {
+        drop(seat);
+        drop(shared);
         return Err(close_error(reason));
     }
     let words = close(shared, seat);
@@ -149,10 +153,21 @@ pub fn close_down<D: Disk>(
     } = helper;
     let lanes = store.layout().lanes;
     if let Err(reason) = check_ended(&ended, lanes) {
+        drop(seat);
+        drop(waiting);
+        drop(rings);
+        drop(ended);
+        drop(shared);
         return Err((store.into_disk(), reason));
     }
-    match finish(shared, ended, &mut store, &mut rings, &mut waiting, seat) {
-        Ok(_) => Ok(store.into_disk()),
+    let finished = finish(shared, ended, &mut store, &mut rings, &mut waiting, seat);
+    drop(waiting);
+    drop(rings);
+    match finished {
+        Ok(finals) => {
+            drop(finals);
+            Ok(store.into_disk())
+        }
         Err(reason) => Err((store.into_disk(), reason)),
     }
 }

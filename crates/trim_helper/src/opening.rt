@@ -60,6 +60,11 @@ pub fn open_heap<D: Disk>(
             store,
             seat,
         }),
-        Err(back) => Err(back),
+        Err(back) => {
+            drop(seat);
+            drop(seats);
+            drop(shared);
+            Err(back)
+        }
     }
 }

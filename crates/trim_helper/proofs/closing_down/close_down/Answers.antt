@@ -13,23 +13,23 @@ use Rattle.trim_helper.proofs.Rounds.{parts_from, stood_still}
 use Rattle.trim_helper.proofs.Sent.{never_refused}
 use Rattle.trim_helper.proofs.closing_down.close_down.Goals as goal
 
-pub finish-requires-clause-helper : goal.finish-requires-clause-helper
-finish-requires-clause-helper g c = subst (λ v. IsHelper c.args.shared v.seat) (sym c.helper.view_is) c.requires.helper
+pub finish-finished-requires-clause-helper : goal.finish-finished-requires-clause-helper
+finish-finished-requires-clause-helper g c = subst (λ v. IsHelper c.args.shared v.seat) (sym c.helper.view_is) c.requires.helper
 
-pub finish-requires-clause-lanes : goal.finish-requires-clause-lanes
-finish-requires-clause-lanes g c = subst (λ v. c.args.shared.plan.lanes ≡ v.store.known.layout.lanes) (sym c.helper.view_is) c.requires.lanes
+pub finish-finished-requires-clause-lanes : goal.finish-finished-requires-clause-lanes
+finish-finished-requires-clause-lanes g c = subst (λ v. c.args.shared.plan.lanes ≡ v.store.known.layout.lanes) (sym c.helper.view_is) c.requires.lanes
 
-pub finish-requires-clause-ended : goal.finish-requires-clause-ended
-finish-requires-clause-ended g c = subst (λ rings. AreEnded c.args.shared c.helper.inside.store.known.layout.capacity rings c.args.ended.items) (sym c.deref_mut.ensures.value)
+pub finish-finished-requires-clause-ended : goal.finish-finished-requires-clause-ended
+finish-finished-requires-clause-ended g c = subst (λ rings. AreEnded c.args.shared c.helper.inside.store.known.layout.capacity rings c.args.ended.items) (sym c.deref_mut.ensures.value)
     (subst (λ v. AreEnded c.args.shared v.store.known.layout.capacity v.rings c.args.ended.items) (sym c.helper.view_is) c.requires.ended)
 
-pub finish-requires-clause-complete : goal.finish-requires-clause-complete
-finish-requires-clause-complete g c =
+pub finish-finished-requires-clause-complete : goal.finish-finished-requires-clause-complete
+finish-finished-requires-clause-complete g c =
     let lanes = ap (λ l. l.lanes) c.layout-lanes.ensures in
     subst (λ n. IsComplete n c.args.ended.items) lanes (subst (λ es. IsComplete c.layout-lanes.result.lanes es) c.deref.ensures.value c.in_default.ensures.1)
 
-pub finish-requires-clause-nothing : goal.finish-requires-clause-nothing
-finish-requires-clause-nothing g c = subst (λ v. taken_in v.seat ≡ []) (sym c.helper.view_is) c.requires.nothing
+pub finish-finished-requires-clause-nothing : goal.finish-finished-requires-clause-nothing
+finish-finished-requires-clause-nothing g c = subst (λ v. taken_in v.seat ≡ []) (sym c.helper.view_is) c.requires.nothing
 
 pub returns-in-Ok : goal.returns-in-Ok
 returns-in-Ok g c = record {
@@ -53,8 +53,8 @@ returns-in-Ok g c = record {
       });
 }
 
-pub returns : goal.returns
-returns g c = record {
+pub returns-in-Err-finished : goal.returns-in-Err-finished
+returns-in-Err-finished g c = record {
   closes = λ p serving.
       let inside = c.helper.inside in
       let x = parts_from inside.store inside.rings.items inside.waiting inside.is_settled inside.seat in
@@ -62,16 +62,16 @@ returns g c = record {
       let has = subst (λ v. IsServing g.D.Disk.device v s p) (sym c.helper.view_is) serving in
       let lanes = ap (λ l. l.lanes) c.layout-lanes.ensures in
       let taken = subst (λ rings. HasTaken g.D.Disk.device (with_rings x.store rings x.waiting) s p) (sym c.deref_mut.ensures.value) has.taken in
-      let finished = c.in-Err-finish.ensures p taken in
-      let disk = c.into_disk-in-Err-finish.ensures.disk in
-      subst (λ v. Closes g.D.Disk.device c.args.shared c.args.ended.items p v (Err (c.into_disk-in-Err-finish.result, c.in-Err-finish.reason))) c.helper.view_is (record {
+      let finished = c.in-Err-finished.ensures p taken in
+      let disk = c.into_disk-in-Err-finished.ensures.disk in
+      subst (λ v. Closes g.D.Disk.device c.args.shared c.args.ended.items p v (Err (c.into_disk-in-Err-finished.result, c.in-Err-finished.reason))) c.helper.view_is (record {
         ok = tt;
-        refused = closing_refused x.store.known.layout.lanes c.args.ended.items c.in-Err-finish.reason
+        refused = closing_refused x.store.known.layout.lanes c.args.ended.items c.in-Err-finished.reason
             (subst HoldNone c.deref.ensures.value c.in_default.ensures.0) (subst (λ n. IsComplete n c.args.ended.items) lanes (subst (λ es. IsComplete c.layout-lanes.result.lanes es) c.deref.ensures.value c.in_default.ensures.1))
             finished.stop;
-        failed = λ off none complete. let is = finished.failed off in let same : Err c.in-Err-finish.reason ≡ Err CloseFailed = is in cc;
-        why = subst (λ d. IsCloseWhy x.store.known (g.D.Disk.device x.store.disk) (g.D.Disk.device d) c.in-Err-finish.reason) (sym disk) finished.why;
-        untouched = λ is. absurd (not_sessions c.in-Err-finish.reason finished.stop is);
+        failed = λ off none complete. let is = finished.failed off in let same : Err c.in-Err-finished.reason ≡ Err CloseFailed = is in cc;
+        why = subst (λ d. IsCloseWhy x.store.known (g.D.Disk.device x.store.disk) (g.D.Disk.device d) c.in-Err-finished.reason) (sym disk) finished.why;
+        untouched = λ is. absurd (not_sessions c.in-Err-finished.reason finished.stop is);
         stood = subst (λ d. Stood x.store.known.layout s p c.args.ended.items (g.D.Disk.device x.store.disk) (g.D.Disk.device d)) (sym disk) finished.stood;
         later = tt;
       });
