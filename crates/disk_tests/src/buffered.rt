@@ -9,7 +9,11 @@ use std::fs;
 fn go_so_over(alloc: Global, file: &[u8], size: u64, steps: &[Step<'_>]) -> bool {
     let medium = Medium::of(file);
     match BufferedDisk::filled(alloc, medium.file(), size) {
-        Ok(mut disk) => go_so(&medium, &mut disk, steps),
+        Ok(mut disk) => {
+            let is_so = go_so(&medium, &mut disk, steps);
+            drop(disk);
+            is_so
+        }
         Err(_) => false,
     }
 }
@@ -65,7 +69,11 @@ const AT_THE_END: &[Step<'_>] = &[
 
 fn go_so_on_a_volatile_disk(alloc: Global) -> bool {
     match VolatileDisk::new(alloc, 16) {
-        Ok(mut disk) => go_so_alone(&mut disk, AT_THE_END),
+        Ok(mut disk) => {
+            let is_so = go_so_alone(&mut disk, AT_THE_END);
+            drop(disk);
+            is_so
+        }
         Err(_) => false,
     }
 }
@@ -120,7 +128,10 @@ fn a_fault_at_each_call_of_a_sync_is_mended_by_the_next(rt: HostRuntime) {
 fn is_not_filled(alloc: Global, call: u64) -> bool {
     let medium = Medium::failing(&[1, 2], call);
     match BufferedDisk::filled(alloc, medium.file(), 4) {
-        Ok(_) => false,
+        Ok(disk) => {
+            drop(disk);
+            false
+        }
         Err(why) => why == FileError::Fault,
     }
 }
@@ -128,7 +139,10 @@ fn is_not_filled(alloc: Global, call: u64) -> bool {
 fn is_not_found(alloc: Global, call: u64) -> bool {
     let medium = Medium::failing(&[1, 2], call);
     match BufferedDisk::found(alloc, medium.file()) {
-        Ok(_) => false,
+        Ok(disk) => {
+            drop(disk);
+            false
+        }
         Err(why) => why == FileError::Fault,
     }
 }
@@ -149,14 +163,22 @@ const WRITTEN: &[Step<'_>] = &[
 
 fn is_written_to_a_file(rt: &HostRuntime) -> bool {
     match BufferedDisk::create(rt, rt.alloc(), "buffered", 4) {
-        Ok(mut disk) => go_so_alone(&mut disk, WRITTEN),
+        Ok(mut disk) => {
+            let is_so = go_so_alone(&mut disk, WRITTEN);
+            drop(disk);
+            is_so
+        }
         Err(_) => false,
     }
 }
 
 fn is_read_of_a_file(rt: &HostRuntime) -> bool {
     match BufferedDisk::attach(rt, rt.alloc(), "buffered") {
-        Ok(mut disk) => go_so_alone(&mut disk, &[Step::Read(0, &[0, 5, 6, 0])]),
+        Ok(mut disk) => {
+            let is_so = go_so_alone(&mut disk, &[Step::Read(0, &[0, 5, 6, 0])]);
+            drop(disk);
+            is_so
+        }
         Err(_) => false,
     }
 }

@@ -9,7 +9,11 @@ use std::fs;
 // Whether these steps go so on a new disk of so many bytes.
 fn go_so_in(rt: &HostRuntime, path: &str, size: u64, steps: &[Step<'_>]) -> bool {
     match FileDisk::create(rt, rt.alloc(), path, size) {
-        Ok(mut disk) => go_so_alone(&mut disk, steps),
+        Ok(mut disk) => {
+            let is_so = go_so_alone(&mut disk, steps);
+            drop(disk);
+            is_so
+        }
         Err(_) => false,
     }
 }
@@ -17,14 +21,22 @@ fn go_so_in(rt: &HostRuntime, path: &str, size: u64, steps: &[Step<'_>]) -> bool
 // The same on the disk in the file.
 fn go_so_again(rt: &HostRuntime, path: &str, steps: &[Step<'_>]) -> bool {
     match FileDisk::attach(rt, rt.alloc(), path) {
-        Ok(mut disk) => go_so_alone(&mut disk, steps),
+        Ok(mut disk) => {
+            let is_so = go_so_alone(&mut disk, steps);
+            drop(disk);
+            is_so
+        }
         Err(_) => false,
     }
 }
 
 fn file_has(rt: &HostRuntime, bytes: &[u8]) -> bool {
     match fs::read(rt, "image") {
-        Ok(image) => image.as_slice() == bytes,
+        Ok(image) => {
+            let is_so = image.as_slice() == bytes;
+            drop(image);
+            is_so
+        }
         Err(_) => false,
     }
 }
@@ -71,7 +83,11 @@ fn go_so_over_two_files<D: Disk>(rt: &HostRuntime, disk: &mut D) -> bool {
 
 fn is_told(rt: &HostRuntime) -> bool {
     match FileDisk::attach(rt, rt.alloc(), "image") {
-        Ok(mut disk) => go_so_over_two_files(rt, &mut disk),
+        Ok(mut disk) => {
+            let is_so = go_so_over_two_files(rt, &mut disk);
+            drop(disk);
+            is_so
+        }
         Err(_) => false,
     }
 }
@@ -84,7 +100,10 @@ fn a_file_that_differs_is_a_fault(rt: HostRuntime) {
 
 fn is_missing(rt: &HostRuntime) -> bool {
     match FileDisk::attach(rt, rt.alloc(), "missing") {
-        Ok(_) => false,
+        Ok(disk) => {
+            drop(disk);
+            false
+        }
         Err(why) => why == FileError::Fault,
     }
 }
@@ -128,7 +147,11 @@ const MENDED: &[Step<'_>] = &[
 fn is_mended(alloc: Global) -> bool {
     let medium = Medium::of(&[9, 9, 9, 9, 9]);
     match FileDisk::filled(alloc, medium.file(), 4) {
-        Ok(mut disk) => go_so(&medium, &mut disk, MENDED),
+        Ok(mut disk) => {
+            let is_so = go_so(&medium, &mut disk, MENDED);
+            drop(disk);
+            is_so
+        }
         Err(_) => false,
     }
 }
@@ -142,7 +165,10 @@ fn a_fault_of_the_file_is_counted_and_mended_by_the_next_sync(rt: HostRuntime) {
 fn is_not_filled(alloc: Global, call: u64) -> bool {
     let medium = Medium::failing(&[1, 2], call);
     match FileDisk::filled(alloc, medium.file(), 4) {
-        Ok(_) => false,
+        Ok(disk) => {
+            drop(disk);
+            false
+        }
         Err(why) => why == FileError::Fault,
     }
 }
@@ -150,7 +176,10 @@ fn is_not_filled(alloc: Global, call: u64) -> bool {
 fn is_not_found(alloc: Global, call: u64) -> bool {
     let medium = Medium::failing(&[1, 2], call);
     match FileDisk::found(alloc, medium.file()) {
-        Ok(_) => false,
+        Ok(disk) => {
+            drop(disk);
+            false
+        }
         Err(why) => why == FileError::Fault,
     }
 }
@@ -172,7 +201,11 @@ const GOING_ON: &[Step<'_>] = &[
 fn is_going_on(alloc: Global) -> bool {
     let medium = Medium::failing(&[1, 2, 3, 4], 3);
     match FileDisk::found(alloc, medium.file()) {
-        Ok(mut disk) => go_so(&medium, &mut disk, GOING_ON),
+        Ok(mut disk) => {
+            let is_so = go_so(&medium, &mut disk, GOING_ON);
+            drop(disk);
+            is_so
+        }
         Err(_) => false,
     }
 }
@@ -185,7 +218,11 @@ fn a_disk_that_was_found_goes_on_after_a_fault(rt: HostRuntime) {
 // Whether the file of three bytes is attached, or there is no memory for it.
 fn is_attached_or_refused(rt: &HostRuntime) -> bool {
     match FileDisk::attach(rt, rt.alloc(), "image") {
-        Ok(disk) => disk.size() == 3,
+        Ok(disk) => {
+            let is_so = disk.size() == 3;
+            drop(disk);
+            is_so
+        }
         Err(error) => error == FileError::NoMemory,
     }
 }
@@ -193,7 +230,11 @@ fn is_attached_or_refused(rt: &HostRuntime) -> bool {
 // Whether a disk is made in it, or there is no memory for it and the file is as it was.
 fn is_created_or_refused(rt: &HostRuntime) -> bool {
     match FileDisk::create(rt, rt.alloc(), "image", 2) {
-        Ok(disk) => disk.size() == 2,
+        Ok(disk) => {
+            let is_so = disk.size() == 2;
+            drop(disk);
+            is_so
+        }
         Err(error) => error == FileError::NoMemory && file_has_three_bytes(rt),
     }
 }
@@ -220,7 +261,11 @@ fn a_refused_allocation_makes_no_disk(rt: HostRuntime) {
 
 fn reads_as(alloc: Global, error: FileError, words: &str) -> bool {
     match format!(in alloc; "{error}") {
-        Ok(text) => text.as_str() == words,
+        Ok(text) => {
+            let is_so = text.as_str() == words;
+            drop(text);
+            is_so
+        }
         Err(_) => false,
     }
 }

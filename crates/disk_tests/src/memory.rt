@@ -21,6 +21,7 @@ fn left(disk: &MemDisk, k: u64, fill: Fill) -> Option<MemDisk> {
     if image.stops() == 0 {
         Some(image)
     } else {
+        drop(image);
         None
     }
 }
@@ -28,7 +29,11 @@ fn left(disk: &MemDisk, k: u64, fill: Fill) -> Option<MemDisk> {
 // Whether a crash at stop `k` leaves these bytes.
 fn leaves_with(disk: &MemDisk, k: u64, fill: Fill, bytes: &[u8]) -> bool {
     match left(disk, k, fill) {
-        Some(image) => image.bytes() == bytes,
+        Some(image) => {
+            let is_so = image.bytes() == bytes;
+            drop(image);
+            is_so
+        }
         None => false,
     }
 }
@@ -56,13 +61,23 @@ fn are_left(disk: &MemDisk, stops: &[Left<'_>]) -> bool {
 }
 
 fn is_no_stop(disk: &MemDisk, k: u64) -> bool {
-    left(disk, k, Fill::Kept).is_none()
+    match left(disk, k, Fill::Kept) {
+        Some(image) => {
+            drop(image);
+            false
+        }
+        None => true,
+    }
 }
 
 // Whether these steps go so on a disk of these bytes, and each of its stops leaves then what it is to.
 fn lives_so(alloc: Global, bytes: &[u8], steps: &[Step<'_>], stops: &[Left<'_>]) -> bool {
     match MemDisk::from_bytes(alloc, bytes) {
-        Ok(mut disk) => go_so_alone(&mut disk, steps) && are_left(&disk, stops),
+        Ok(mut disk) => {
+            let is_so = go_so_alone(&mut disk, steps) && are_left(&disk, stops);
+            drop(disk);
+            is_so
+        }
         Err(_) => false,
     }
 }
@@ -156,7 +171,11 @@ fn runs_go_so(disk: &mut MemDisk, runs: &[(u64, &[Step<'_>])]) -> bool {
 
 fn fails_so(alloc: Global, stops: &[Left<'_>]) -> bool {
     match MemDisk::from_bytes(alloc, &[1, 2, 3, 4]) {
-        Ok(mut disk) => runs_go_so(&mut disk, &FAILING) && are_left(&disk, stops),
+        Ok(mut disk) => {
+            let is_so = runs_go_so(&mut disk, &FAILING) && are_left(&disk, stops);
+            drop(disk);
+            is_so
+        }
         Err(_) => false,
     }
 }
@@ -185,6 +204,7 @@ fn failing_read(alloc: Global) -> Option<(Answer, u8)> {
     let mut out = [0];
     fail(&mut disk, 1);
     let answer = disk.read_at(0, &mut out);
+    drop(disk);
     Some((answer, out[0]))
 }
 
@@ -230,14 +250,22 @@ fn calls_within_a_disk_write_sync_and_read(rt: HostRuntime) {
 
 fn disk_error_reads(alloc: Global, error: DiskError, words: &str) -> bool {
     match format!(in alloc; "{error}") {
-        Ok(text) => text.as_str() == words,
+        Ok(text) => {
+            let is_so = text.as_str() == words;
+            drop(text);
+            is_so
+        }
         Err(_) => false,
     }
 }
 
 fn fault_reads(alloc: Global, words: &str) -> bool {
     match format!(in alloc; "{}", Fault) {
-        Ok(text) => text.as_str() == words,
+        Ok(text) => {
+            let is_so = text.as_str() == words;
+            drop(text);
+            is_so
+        }
         Err(_) => false,
     }
 }
@@ -296,19 +324,30 @@ fn framed_disk(alloc: Global) -> Option<MemDisk> {
     MemDisk::from_bytes(alloc, &framed(2)).ok()
 }
 
+// The same, the second time at the latest.
+fn framed_disk_again(alloc: Global) -> Option<MemDisk> {
+    match framed_disk(alloc) {
+        Some(disk) => Some(disk),
+        None => framed_disk(alloc),
+    }
+}
+
 // The stops, the calls that were made but for the failures, and whether the disk and a crash have the bytes that they are to.
-fn made_again(alloc: Global) -> Option<([u64; 2], [bool; 2])> {
-    let mut disk = match framed_disk(alloc) {
-        Some(disk) => disk,
-        None => framed_disk(alloc)?,
-    };
-    let made = forty_calls(&mut disk)?;
-    let is_left = leaves_with(&disk, 40, Fill::Lost, &framed(35))
-        || leaves_with(&disk, 40, Fill::Lost, &framed(35));
+fn made_on(disk: &mut MemDisk) -> Option<([u64; 2], [bool; 2])> {
+    let made = forty_calls(disk)?;
+    let is_left = leaves_with(disk, 40, Fill::Lost, &framed(35))
+        || leaves_with(disk, 40, Fill::Lost, &framed(35));
     Some((
         [disk.stops(), made.saturating_sub(disk.failures())],
         [disk.bytes() == framed(38).as_slice(), is_left],
     ))
+}
+
+fn made_again(alloc: Global) -> Option<([u64; 2], [bool; 2])> {
+    let mut disk = framed_disk_again(alloc)?;
+    let made = made_on(&mut disk);
+    drop(disk);
+    made
 }
 
 // Run with each allocation refused in turn: whichever it is, the call says so, has done nothing, and works the next time.
@@ -337,11 +376,10 @@ fn stops_as_chosen(disk: &mut MemDisk) -> Option<u8> {
 }
 
 fn chosen_again(alloc: Global) -> Option<u8> {
-    let mut disk = match framed_disk(alloc) {
-        Some(disk) => disk,
-        None => framed_disk(alloc)?,
-    };
-    stops_as_chosen(&mut disk)
+    let mut disk = framed_disk_again(alloc)?;
+    let found = stops_as_chosen(&mut disk);
+    drop(disk);
+    found
 }
 
 // Whichever allocation is refused: room for the call that is chosen to fail was kept by the one before it.
@@ -352,7 +390,11 @@ fn a_chosen_failure_is_a_stop(rt: HostRuntime) {
 
 fn has_two_zeros(alloc: Global) -> bool {
     match MemDisk::new(alloc, 2) {
-        Ok(disk) => disk.bytes() == [0, 0].as_slice(),
+        Ok(disk) => {
+            let is_so = disk.bytes() == [0, 0].as_slice();
+            drop(disk);
+            is_so
+        }
         Err(_) => false,
     }
 }

@@ -28,11 +28,16 @@ fn written(alloc: Global, call: u64) -> Option<(MemDisk, Result<(), Fault>)>
     Some((disk, answer))
 }
 
+fn three_of(bytes: &[u8]) -> Option<[u8; 3]> {
+    Some([*bytes.get(10)?, *bytes.get(26)?, *bytes.get(42)?])
+}
+
 // The bytes in the middle of the three places, behind a crash with stop `k` begun.
 fn middles(disk: &MemDisk, k: u64, fill: Fill) -> Option<[u8; 3]> {
     let image = disk.crash_image(k, fill).ok()??;
-    let bytes = image.bytes();
-    Some([*bytes.get(10)?, *bytes.get(26)?, *bytes.get(42)?])
+    let found = three_of(image.bytes());
+    drop(image);
+    found
 }
 
 // Whether they are written, how many stops there are, and what crashes leave with each stop begun and with all ended.
@@ -45,7 +50,9 @@ fn told_of_stops(alloc: Global) -> Option<(bool, u64, [Option<[u8; 3]>; 5])> {
         middles(&disk, 4, Fill::Kept),
         middles(&disk, 4, Fill::Lost),
     ];
-    Some((answer == Ok(()), disk.stops(), found))
+    let stops = disk.stops();
+    drop(disk);
+    Some((answer == Ok(()), stops, found))
 }
 
 // Each unit's range is pending from its own stop on.
@@ -64,11 +71,9 @@ fn each_unit_is_a_stop(rt: HostRuntime) {
 // Whether the second of them fails, how many stops there are, and what the disk reads and a crash leaves.
 fn told_of_fault(alloc: Global) -> Option<(bool, u64, Option<[u8; 3]>)> {
     let (disk, answer) = written(alloc, 2)?;
-    Some((
-        answer == Err(Fault),
-        disk.stops(),
-        middles(&disk, 3, Fill::Byte(7)),
-    ))
+    let (stops, found) = (disk.stops(), middles(&disk, 3, Fill::Byte(7)));
+    drop(disk);
+    Some((answer == Err(Fault), stops, found))
 }
 
 // The unit that fails is a stop, its range may hold any bytes, and none is written behind it.

@@ -31,8 +31,10 @@ fn works<R: Threads + Wait + Sync>(rt: &R, alloc: Global, sections: u64) -> bool
     };
     match drive_with(rt, alloc, &few, 1, 100) {
         Ok(driven) => {
-            driven.acknowledged.as_slice() == [sections].as_slice()
-                && driven.heap.as_slice() == [sections, sections].as_slice()
+            let is_so = driven.acknowledged.as_slice() == [sections].as_slice()
+                && driven.heap.as_slice() == [sections, sections].as_slice();
+            drop(driven);
+            is_so
         }
         Err(_) => false,
     }

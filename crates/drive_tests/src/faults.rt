@@ -30,8 +30,14 @@ fn refusal_at<R: Threads + Wait + Sync>(
     };
     disk.fail_call(call);
     match drive_new(rt, alloc, &Apart, disk, 2, rounds) {
-        Ok(_) => None,
-        Err((_disk, refusal)) => Some(refusal),
+        Ok(done) => {
+            drop(done);
+            None
+        }
+        Err((disk, refusal)) => {
+            drop(disk);
+            Some(refusal)
+        }
     }
 }
 

@@ -10,10 +10,18 @@ use std::thread::Threads;
 // A disk on which two workers have worked so many rounds.
 fn worked_on<R: Threads + Wait + Sync>(rt: &R, alloc: Global, rounds: u32) -> Option<MemDisk> {
     let size = image_size(alloc, 2).ok()?;
-    let disk = MemDisk::new(alloc, size).ok()?;
+    let Ok(disk) = MemDisk::new(alloc, size) else {
+        return None;
+    };
     match drive_new(rt, alloc, &Apart, disk, 2, rounds) {
-        Ok((recovered, _driven)) => Some(recovered.into_disk()),
-        Err(_) => None,
+        Ok((recovered, driven)) => {
+            drop(driven);
+            Some(recovered.into_disk())
+        }
+        Err((disk, _)) => {
+            drop(disk);
+            None
+        }
     }
 }
 
@@ -26,8 +34,16 @@ fn left_later<R: Threads + Wait + Sync>(
 ) -> Option<Result<(u64, u64), DriveError>> {
     let disk = worked_on(rt, alloc, 300)?;
     match drive_on(rt, alloc, &Apart, disk, workers, rounds) {
-        Ok((_recovered, driven)) => Some(Ok(told(&driven))),
-        Err((_disk, refusal)) => Some(Err(refusal)),
+        Ok((recovered, driven)) => {
+            let left = told(&driven);
+            drop(driven);
+            drop(recovered);
+            Some(Ok(left))
+        }
+        Err((disk, refusal)) => {
+            drop(disk);
+            Some(Err(refusal))
+        }
     }
 }
 

@@ -58,7 +58,13 @@ impl Meet for Flags {
 // Whether each of two workers met the other in its one section.
 fn meetings<R: Threads + Wait + Sync>(rt: &R, alloc: Global) -> (bool, bool, bool) {
     let flags = Flags::new();
-    let done = drive_with(rt, alloc, &flags, 2, 1).is_ok();
+    let done = match drive_with(rt, alloc, &flags, 2, 1) {
+        Ok(driven) => {
+            drop(driven);
+            true
+        }
+        Err(_) => false,
+    };
     (
         done,
         flags.seen[0].load(Ordering::SeqCst),

@@ -19,7 +19,11 @@ fn left_by<R: Threads + Wait + Sync>(
     rounds: u32,
 ) -> Result<Row, DriveError> {
     match drive_with(rt, alloc, &Apart, workers, rounds) {
-        Ok(driven) => Ok(told(&driven)),
+        Ok(driven) => {
+            let row = told(&driven);
+            drop(driven);
+            Ok(row)
+        }
         Err(refusal) => Err(refusal),
     }
 }
