@@ -34,13 +34,27 @@ fn declare_objects(builder: &mut SchemaBuilder) -> Option<()> {
     declare_object(builder, "o2")
 }
 
+// The schema that was declared.
+fn built(builder: SchemaBuilder) -> Option<Schema> {
+    match builder.build() {
+        Ok(schema) => Some(schema),
+        Err((builder, _why)) => {
+            drop(builder);
+            None
+        }
+    }
+}
+
 /// Three objects, each of which guards the field of its number. The fields begin with 0. Object 0 is for all, and object i + 1 for
 /// lane i.
 pub fn declare(alloc: Global) -> Option<Schema> {
     let mut builder = SchemaBuilder::new(alloc);
     match declare_objects(&mut builder) {
-        Some(()) => builder.build().ok(),
-        None => None,
+        Some(()) => built(builder),
+        None => {
+            drop(builder);
+            None
+        }
     }
 }
 
@@ -55,18 +69,34 @@ fn begin<D: Disk + Drop>(
     ensures joined { IfSome result (λ o. All (IsJoined o.shared o.helper.store.known.layout.capacity o.helper.rings) o.sessions.items) }
     ensures helping { IfSome result (λ o. IsHelping D.device o.shared o.helper) }
 {
-    let Ok(made) = Store::format(alloc, disk, &schema, lanes, capacity) else {
-        return None;
+    let made = match Store::format(alloc, disk, &schema, lanes, capacity) {
+        Ok(made) => made,
+        Err((disk, _why)) => {
+            drop(disk);
+            drop(schema);
+            return None;
+        }
     };
-    let Ok(heap) = open(alloc, schema, made, LAST) else {
-        return None;
+    let heap = match open(alloc, schema, made, LAST) {
+        Ok(heap) => heap,
+        Err((disk, _why)) => {
+            drop(disk);
+            return None;
+        }
     };
     Some(heap)
 }
 
 /// The disk of the heap, which ends.
 pub fn disk_of<D: Disk + Drop>(heap: RunningHeap<D>) -> D {
-    heap.helper.into_store().into_disk()
+    let RunningHeap {
+        shared,
+        sessions,
+        helper,
+    } = heap;
+    drop(sessions);
+    drop(shared);
+    helper.into_store().into_disk()
 }
 
 // Takes the session of the last lane of which it is there.
@@ -141,7 +171,10 @@ pub fn open_two(alloc: Global, schema: Schema) -> Option<TwoLanes>
     ensures second { IfSome result (λ o. IsJoined o.0.shared o.0.helper.store.known.layout.capacity o.0.helper.rings o.2) }
     ensures helping { IfSome result (λ o. IsHelping device_of o.0.shared o.0.helper) }
 {
-    let disk = new_disk(alloc)?;
+    let Some(disk) = new_disk(alloc) else {
+        drop(schema);
+        return None;
+    };
     match begin(alloc, disk, schema, 2, 2_000) {
         Some(heap) => both_lanes(heap),
         None => None,

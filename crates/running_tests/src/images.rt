@@ -29,8 +29,16 @@ pub trait Expected {
 // Whether recovery gives of this disk what is expected.
 fn recovers<E: Expected>(alloc: Global, disk: MemDisk, expected: &E) -> bool {
     match recover(alloc, disk) {
-        Ok((recovered, report)) => expected.is_met(recovered.heap(), &report.kept),
-        Err(_) => false,
+        Ok((recovered, report)) => {
+            let is_met = expected.is_met(recovered.heap(), &report.kept);
+            drop(recovered);
+            drop(report);
+            is_met
+        }
+        Err((disk, _why)) => {
+            drop(disk);
+            false
+        }
     }
 }
 

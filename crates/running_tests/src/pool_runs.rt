@@ -46,7 +46,10 @@ fn built(builder: SchemaBuilder, pool: Pool) -> Option<(Schema, Pool)>
 {
     match builder.build() {
         Ok(schema) => Some((schema, pool)),
-        Err(_) => None,
+        Err((builder, _why)) => {
+            drop(builder);
+            None
+        }
     }
 }
 
@@ -57,7 +60,10 @@ fn declare(alloc: Global) -> Option<(Schema, Pool)>
     let mut builder = SchemaBuilder::new(alloc);
     match lay_out(&mut builder) {
         Some(pool) => built(builder, pool),
-        None => None,
+        None => {
+            drop(builder);
+            None
+        }
     }
 }
 
@@ -125,6 +131,8 @@ fn take_turns(
         }
         let _ = serve(shared, helper);
     }
+    drop(first);
+    drop(second);
 }
 
 // The disk of the heap behind these turns.

@@ -98,10 +98,13 @@ fn race_of<R: Threads + Wait + Sync>(
 {
     let RunningHeap {
         shared,
-        sessions: _,
+        sessions,
         helper,
     } = heap;
-    race(rt, &shared, first, second, helper)
+    drop(sessions);
+    let raced = race(rt, &shared, first, second, helper);
+    drop(shared);
+    raced
 }
 
 // The same of a heap that begins to run.

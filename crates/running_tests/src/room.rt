@@ -56,7 +56,12 @@ fn measure_heap(heap: &mut RunningHeap<MemDisk>, session: &mut Session) -> Room
 fn room_about_a_round(alloc: Global) -> Option<Room> {
     let disk = new_disk(alloc)?;
     match open_one(alloc, disk) {
-        Some((mut heap, mut session)) => Some(measure_heap(&mut heap, &mut session)),
+        Some((mut heap, mut session)) => {
+            let room = measure_heap(&mut heap, &mut session);
+            drop(session);
+            drop(heap);
+            Some(room)
+        }
         None => None,
     }
 }

@@ -66,7 +66,10 @@ fn counts<R: Wait>(rt: &R, alloc: Global, sections: u32, rounds: u32) -> Option<
     match open_one(alloc, disk) {
         Some((mut heap, mut session)) => {
             let is_ok = serve_heap(rt, &mut heap, &mut session, sections, rounds);
-            let counts = disk_of(heap).counts;
+            drop(session);
+            let disk = disk_of(heap);
+            let counts = disk.counts;
+            drop(disk);
             if is_ok { Some(counts) } else { None }
         }
         None => None,

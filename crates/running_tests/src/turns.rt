@@ -96,6 +96,8 @@ fn play<R: Wait>(
     let mut first = first;
     let mut second = second;
     let did = take_turns_of(rt, &mut heap, &mut first, &mut second, turns);
+    drop(first);
+    drop(second);
     (disk_of(heap), did)
 }
 

@@ -17,7 +17,10 @@ fn told_of<R: Threads + Sync>(rt: &R, alloc: Global, threads: u8, rounds: u64) -
     requires { threads ≤ 8 }
 {
     let (shared, mut helper) = nine_objects(alloc)?;
-    run(rt, alloc, &shared, &mut helper, threads, rounds)
+    let told = run(rt, alloc, &shared, &mut helper, threads, rounds);
+    drop(helper);
+    drop(shared);
+    told
 }
 
 // The same of a fresh heap's helper.
@@ -35,8 +38,16 @@ fn run<R: Threads + Sync>(
 {
     let mut seat = deal(shared, helper);
     match racers(alloc, shared, helper, threads) {
-        Ok(mut all) => Some(is_whole_race(rt, shared, &mut seat, &mut all, rounds)),
-        Err(_) => None,
+        Ok(mut all) => {
+            let is_whole = is_whole_race(rt, shared, &mut seat, &mut all, rounds);
+            drop(all);
+            drop(seat);
+            Some(is_whole)
+        }
+        Err(_) => {
+            drop(seat);
+            None
+        }
     }
 }
 

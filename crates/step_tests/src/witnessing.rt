@@ -59,13 +59,20 @@ fn tell_of_three(shared: &Shared, helper: &mut HelperSeat) -> ([bool; 2], u64)
     let mut a = deal(shared, helper);
     let mut b = deal(shared, helper);
     let mut c = deal(shared, helper);
-    take_and_tell(shared, helper, &mut a, &mut b, &mut c)
+    let told = take_and_tell(shared, helper, &mut a, &mut b, &mut c);
+    drop(a);
+    drop(b);
+    drop(c);
+    told
 }
 
 // The same of a fresh heap.
 fn told_of_three(alloc: Global) -> Option<([bool; 2], u64)> {
     let (shared, mut helper) = nine_objects(alloc)?;
-    Some(tell_of_three(&shared, &mut helper))
+    let told = tell_of_three(&shared, &mut helper);
+    drop(helper);
+    drop(shared);
+    Some(told)
 }
 
 // The object was free twice, and the helper's steps changed no word.

@@ -142,6 +142,8 @@ fn count_by_two(
     let mut b = deal(shared, helper);
     let found = fill_count(shared, &mut a, &mut b);
     let met = try_word(shared, &mut b);
+    drop(a);
+    drop(b);
     match found {
         Some(words) => Some((words, met)),
         None => None,
@@ -151,7 +153,10 @@ fn count_by_two(
 // The same of a fresh heap.
 fn told_of_count(alloc: Global) -> Option<((Words, Words, u64, Words), Option<u64>)> {
     let (shared, mut helper) = nine_objects(alloc)?;
-    count_by_two(&shared, &mut helper)
+    let told = count_by_two(&shared, &mut helper);
+    drop(helper);
+    drop(shared);
+    told
 }
 
 // 256 locks fill the thin word of the first thread, and the 257th needs a slot, which is the first. 257 exits free the
@@ -174,13 +179,20 @@ fn slots_of_three(shared: &Shared, helper: &mut HelperSeat) -> Option<(Words, Wo
     let mut c = deal(shared, helper);
     use_slots(shared, &mut a);
     take_often(shared, &mut b, OBJECT, 7);
-    fill_and_inflate(shared, &mut c, &mut a)
+    let words = fill_and_inflate(shared, &mut c, &mut a);
+    drop(a);
+    drop(b);
+    drop(c);
+    words
 }
 
 // The same of a fresh heap.
 fn told_of_slots(alloc: Global) -> Option<(Words, Words)> {
     let (shared, mut helper) = nine_objects(alloc)?;
-    slots_of_three(&shared, &mut helper)
+    let told = slots_of_three(&shared, &mut helper);
+    drop(helper);
+    drop(shared);
+    told
 }
 
 // The third thread holds an object, which has become free 7 times, by 256 locks; then it takes the sixth slot.
@@ -200,13 +212,19 @@ fn wait_by_two(
 {
     let mut a = deal(shared, helper);
     let mut b = deal(shared, helper);
-    wait_and_wake(shared, &mut a, &mut b)
+    let told = wait_and_wake(shared, &mut a, &mut b);
+    drop(a);
+    drop(b);
+    told
 }
 
 // The same of a fresh heap.
 fn told_of_wait(alloc: Global) -> Option<(Option<Lane>, Words, u64, Words)> {
     let (shared, mut helper) = nine_objects(alloc)?;
-    wait_by_two(&shared, &mut helper)
+    let told = wait_by_two(&shared, &mut helper);
+    drop(helper);
+    drop(shared);
+    told
 }
 
 #[test]

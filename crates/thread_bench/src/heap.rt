@@ -74,6 +74,28 @@ pub fn image_size(alloc: Global, workers: u8) -> Option<u64> {
     size
 }
 
+// The shared words of a heap for so many workers, and their seats.
+fn share(alloc: Global, workers: u8) -> Option<(Shared, Vec<Seat>)>
+    requires workers { workers ≤ 32 }
+    ensures views { IfSome result (λ r. map (λ s. s.view) r.1.items ≡ fresh_views r.0.plan workers) }
+    ensures seats { IfSome result (λ r. All (IsSeatOf r.0) r.1.items) }
+{
+    let schema = schema_of(alloc, workers)?;
+    let Ok(first) = vec![in alloc; 0u64; schema.fields() as usize] else {
+        drop(schema);
+        return None;
+    };
+    let opened = Shared::new(alloc, schema, &first, workers, LAST);
+    drop(first);
+    match opened {
+        Ok((shared, seats, helper)) => {
+            drop(helper);
+            Some((shared, seats))
+        }
+        Err(_) => None,
+    }
+}
+
 /// A heap with a lane for each worker, which begins to run on this disk. `None` is a refusal.
 pub fn open_on<D: Disk + Drop>(alloc: Global, disk: D, workers: u8) -> Option<RunningHeap<D>>
     ensures of { IfSome result (λ o. All (IsSessionOf o.shared) o.sessions.items) }
@@ -107,28 +129,6 @@ pub struct Unserved {
     pub sessions: Vec<Session>,
     /// The other ends of their rings.
     pub rings: Vec<Receiver>,
-}
-
-// The shared words of such a heap, and the seats of its workers.
-fn share(alloc: Global, workers: u8) -> Option<(Shared, Vec<Seat>)>
-    requires workers { workers ≤ 32 }
-    ensures views { IfSome result (λ r. map (λ s. s.view) r.1.items ≡ fresh_views r.0.plan workers) }
-    ensures seats { IfSome result (λ r. All (IsSeatOf r.0) r.1.items) }
-{
-    let schema = schema_of(alloc, workers)?;
-    let Ok(first) = vec![in alloc; 0u64; schema.fields() as usize] else {
-        drop(schema);
-        return None;
-    };
-    let opened = Shared::new(alloc, schema, &first, workers, LAST);
-    drop(first);
-    match opened {
-        Ok((shared, seats, helper)) => {
-            drop(helper);
-            Some((shared, seats))
-        }
-        Err(_) => None,
-    }
 }
 
 /// The same without a disk, and so without a helper. `None` is a refusal.
