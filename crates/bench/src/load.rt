@@ -25,8 +25,17 @@ fn declare(builder: &mut SchemaBuilder) -> Option<()> {
 /// An object with a field for each lane, and one with a field for all.
 pub fn schema_of(alloc: Global) -> Option<Schema> {
     let mut builder = SchemaBuilder::new(alloc);
-    declare(&mut builder)?;
-    builder.build().ok()
+    if declare(&mut builder).is_none() {
+        drop(builder);
+        return None;
+    }
+    match builder.build() {
+        Ok(schema) => Some(schema),
+        Err((builder, _why)) => {
+            drop(builder);
+            None
+        }
+    }
 }
 
 /// Which lanes have turns.

@@ -93,7 +93,9 @@ fn with_one_open<R: Clock + CpuClock>(
     plan: &Plan,
 ) -> Result<HeldBack, Stopped> {
     let mut store = long_store(alloc)?;
-    hold_back(rt, &mut store, plan)
+    let held = hold_back(rt, &mut store, plan);
+    drop(store);
+    held
 }
 
 // Measures rounds that are trimmed, with sections left out in the logs.
@@ -103,7 +105,9 @@ fn with_others_left<R: Clock + CpuClock>(
     plan: &Plan,
 ) -> Result<Trimmed, Stopped> {
     let mut store = long_store(alloc)?;
-    trim_beside(rt, &mut store, plan)
+    let trimmed = trim_beside(rt, &mut store, plan);
+    drop(store);
+    trimmed
 }
 
 // There is no disk over the file.

@@ -30,7 +30,11 @@ fn size_of(schema: &Schema, capacity: u32) -> Option<u64> {
 /// The bytes of an image whose lanes' logs have so many records.
 pub fn image_size(alloc: Global, capacity: u32) -> Result<u64, Stopped> {
     match schema_of(alloc) {
-        Some(schema) => size_of(&schema, capacity).ok_or(Stopped::Format),
+        Some(schema) => {
+            let size = size_of(&schema, capacity);
+            drop(schema);
+            size.ok_or(Stopped::Format)
+        }
         None => Err(Stopped::Memory),
     }
 }
@@ -46,7 +50,10 @@ fn format<D: Disk + Drop>(
 {
     match Store::format(alloc, disk, schema, LANES, capacity) {
         Ok(made) => Ok(made),
-        Err(_) => Err(Stopped::Format),
+        Err((disk, _why)) => {
+            drop(disk);
+            Err(Stopped::Format)
+        }
     }
 }
 
@@ -56,7 +63,10 @@ fn adopt<D: Disk + Drop>(alloc: Global, made: Recovered<D>) -> Result<Store<D>, 
 {
     match Store::adopt(alloc, made, LAST) {
         Ok(store) => Ok(store),
-        Err(_) => Err(Stopped::Memory),
+        Err((made, _why)) => {
+            drop(made);
+            Err(Stopped::Memory)
+        }
     }
 }
 
@@ -78,8 +88,15 @@ pub fn open<D: Disk + Drop>(alloc: Global, disk: D, capacity: u32) -> Result<Sto
     ensures { IfOk result (λ store. 4 ≤ store.known.layout.lanes) }
 {
     match schema_of(alloc) {
-        Some(schema) => open_with(alloc, disk, &schema, capacity),
-        None => Err(Stopped::Memory),
+        Some(schema) => {
+            let opened = open_with(alloc, disk, &schema, capacity);
+            drop(schema);
+            opened
+        }
+        None => {
+            drop(disk);
+            Err(Stopped::Memory)
+        }
     }
 }
 
@@ -141,5 +158,7 @@ pub fn measure<R: Clock + CpuClock + Print, D: Disk + Drop>(
     ensures { IfOk result (λ figures. plan.now.sections ≤ figures.sections) }
 {
     let mut store = open(alloc, disk, CAPACITY)?;
-    live(rt, &mut store, plan, is_telling)
+    let figures = live(rt, &mut store, plan, is_telling);
+    drop(store);
+    figures
 }

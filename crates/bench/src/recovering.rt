@@ -14,8 +14,17 @@ pub fn recovered_heap<D: Disk + Drop>(alloc: Global, disk: D) -> Result<Vec<u64>
 {
     one_study_law();
     match recover(alloc, disk) {
-        Ok((recovered, _report)) => Ok(recovered.into_parts().heap),
-        Err(_) => Err(Stopped::Recovery),
+        Ok((recovered, report)) => {
+            drop(report);
+            let parts = recovered.into_parts();
+            drop(parts.disk);
+            drop(parts.guards);
+            Ok(parts.heap)
+        }
+        Err((disk, _why)) => {
+            drop(disk);
+            Err(Stopped::Recovery)
+        }
     }
 }
 

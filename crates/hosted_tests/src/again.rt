@@ -16,7 +16,11 @@ fn again(heap: &mut HostedHeap) -> Option<HostedSession> {
 // The lane of such a session, and how many sections of it have ended.
 fn told_again(heap: &mut HostedHeap) -> Option<(u8, u64)> {
     match again(heap) {
-        Some(session) => Some((session.lane().0, session.sections())),
+        Some(session) => {
+            let told = (session.lane().0, session.sections());
+            drop(session);
+            Some(told)
+        }
         None => None,
     }
 }
@@ -61,13 +65,20 @@ fn answered(heap: &mut HostedHeap) -> Option<Answered> {
     let first = heap.session()?;
     match heap.session() {
         Some(second) => Some(end_both(heap, first, second)),
-        None => None,
+        None => {
+            drop(first);
+            None
+        }
     }
 }
 
 fn two_lanes(alloc: Global) -> Option<Answered> {
     match format(alloc, 2, &ROWS, 2, 2_000) {
-        Ok(mut heap) => answered(&mut heap),
+        Ok(mut heap) => {
+            let found = answered(&mut heap);
+            drop(heap);
+            found
+        }
         Err(_) => None,
     }
 }
@@ -82,7 +93,11 @@ fn end_often(heap: &mut HostedHeap) -> Option<(u32, Option<(u8, u64)>)> {
 
 fn one_lane(alloc: Global) -> Option<(u32, Option<(u8, u64)>)> {
     match format(alloc, 2, &ROWS, 1, 2_000) {
-        Ok(mut heap) => end_often(&mut heap),
+        Ok(mut heap) => {
+            let found = end_often(&mut heap);
+            drop(heap);
+            found
+        }
         Err(_) => None,
     }
 }

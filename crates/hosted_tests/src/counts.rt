@@ -91,7 +91,9 @@ fn second_round(heap: &mut HostedHeap) -> Option<(u64, Counts)> {
     match heap.session() {
         Some(mut session) => {
             let _ = round(heap, &mut session, 500);
-            Some(round(heap, &mut session, 500))
+            let second = round(heap, &mut session, 500);
+            drop(session);
+            Some(second)
         }
         None => None,
     }
@@ -100,7 +102,11 @@ fn second_round(heap: &mut HostedHeap) -> Option<(u64, Counts)> {
 // The same of a heap of one lane that is made.
 fn counted(alloc: Global) -> Option<(u64, Counts)> {
     match format(alloc, 2, &ROWS, 1, 4_000) {
-        Ok(mut heap) => second_round(&mut heap),
+        Ok(mut heap) => {
+            let found = second_round(&mut heap);
+            drop(heap);
+            found
+        }
         Err(_) => None,
     }
 }

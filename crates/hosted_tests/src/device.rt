@@ -16,8 +16,13 @@ impl Device {
     /// A device of so many zero bytes, durably.
     pub fn zeros(alloc: Global, size: u64) -> Option<Device> {
         let written = vec![in alloc; 0u8; size as usize].ok()?;
-        let synced = written.to_vec(alloc).ok()?;
-        Some(Device { written, synced })
+        match written.to_vec(alloc) {
+            Ok(synced) => Some(Device { written, synced }),
+            Err(_) => {
+                drop(written);
+                None
+            }
+        }
     }
 
     /// Makes the call. Answers whether it could be made.
@@ -50,10 +55,20 @@ fn write(image: &mut [u8], at: u64, bytes: &[u8]) -> bool {
 
 /// The values of the first two fields that recovery gives of these bytes. `None` is a refusal.
 pub fn values_of(alloc: Global, bytes: &[u8]) -> Option<(u64, u64)> {
-    let disk = MemDisk::from_bytes(alloc, bytes).ok()?;
+    let Ok(disk) = MemDisk::from_bytes(alloc, bytes) else {
+        return None;
+    };
     match recover(alloc, disk) {
-        Ok((recovered, _report)) => first_two(recovered.heap()),
-        Err(_) => None,
+        Ok((recovered, report)) => {
+            let values = first_two(recovered.heap());
+            drop(report);
+            drop(recovered);
+            values
+        }
+        Err((disk, _)) => {
+            drop(disk);
+            None
+        }
     }
 }
 

@@ -72,7 +72,13 @@ fn serve_session(alloc: Global, heap: &mut HostedHeap, host: &mut Host) -> Serve
 
 // What is left of the heap once it is closed. `None` where it isn't.
 fn closed(heap: HostedHeap) -> Option<Closed> {
-    heap.close().ok()
+    match heap.close() {
+        Ok(closed) => Some(closed),
+        Err(open) => {
+            drop(open);
+            None
+        }
+    }
 }
 
 // Closes the heap, and makes the calls that are left.
@@ -80,6 +86,7 @@ fn close(alloc: Global, heap: HostedHeap, host: &mut Host) -> bool {
     match closed(heap) {
         Some(mut left) => {
             finish(alloc, &mut left.calls, host);
+            drop(left);
             true
         }
         None => false,
@@ -126,7 +133,10 @@ fn made(alloc: Global, host: &mut Host) -> Option<Life> {
 // The life of a heap that is opened on what that left.
 fn opened(alloc: Global, host: &mut Host) -> Option<Life> {
     match open(alloc, &host.device.written, Versions::Current) {
-        Ok((heap, _report)) => Some(live(alloc, heap, host)),
+        Ok((heap, report)) => {
+            drop(report);
+            Some(live(alloc, heap, host))
+        }
         Err(_) => None,
     }
 }
@@ -134,7 +144,11 @@ fn opened(alloc: Global, host: &mut Host) -> Option<Life> {
 // How many bytes the image of the heap has that is made.
 fn size_of_made(alloc: Global) -> Option<u64> {
     match format(alloc, 2, &ROWS, 1, 2_000) {
-        Ok(heap) => Some(heap.size()),
+        Ok(heap) => {
+            let size = heap.size();
+            drop(heap);
+            Some(size)
+        }
         Err(_) => None,
     }
 }
@@ -145,7 +159,9 @@ fn both(alloc: Global) -> Option<[Option<Life>; 2]> {
     match Host::of_zeros(alloc, size) {
         Some(mut host) => {
             let first = made(alloc, &mut host);
-            Some([first, opened(alloc, &mut host)])
+            let second = opened(alloc, &mut host);
+            drop(host);
+            Some([first, second])
         }
         None => None,
     }

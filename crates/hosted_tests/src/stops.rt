@@ -55,14 +55,26 @@ fn fail_all(heap: &mut HostedHeap) -> Option<[Told; 4]> {
     make(heap, true);
     let mut one = heap.session()?;
     match heap.session() {
-        Some(mut two) => Some(fail_each(heap, &mut one, &mut two)),
-        None => None,
+        Some(mut two) => {
+            let told = fail_each(heap, &mut one, &mut two);
+            drop(two);
+            drop(one);
+            Some(told)
+        }
+        None => {
+            drop(one);
+            None
+        }
     }
 }
 
 fn failed(alloc: Global) -> Option<[Told; 4]> {
     match format(alloc, 2, &ROWS, 2, 2_000) {
-        Ok(mut heap) => fail_all(&mut heap),
+        Ok(mut heap) => {
+            let told = fail_all(&mut heap);
+            drop(heap);
+            told
+        }
         Err(_) => None,
     }
 }
