@@ -23,9 +23,15 @@ pub fn declare(alloc: Global, objects: u32, rows: &[GuardRow]) -> Result<Schema,
     match declare_all(alloc, &mut builder, objects, rows) {
         Ok(()) => match builder.build() {
             Ok(schema) => Ok(schema),
-            Err((_, refusal)) => Err(refusal),
+            Err((builder, refusal)) => {
+                drop(builder);
+                Err(refusal)
+            }
         },
-        Err(refusal) => Err(refusal),
+        Err(refusal) => {
+            drop(builder);
+            Err(refusal)
+        }
     }
 }
 

@@ -3,7 +3,7 @@ use block_disk::Fill;
 use heap_model::Lane;
 
 /// What a line asks for. Names are those of the line, and numbers are as written there.
-#[derive(Clone, Copy)]
+#[derive(Clone, Copy, PartialEq, Eq)]
 pub enum Command<'a> {
     /// Declares an object.
     Object {
@@ -52,7 +52,7 @@ pub enum Command<'a> {
 }
 
 /// A step of a thread, on an object's monitor or on a field.
-#[derive(Clone, Copy)]
+#[derive(Clone, Copy, PartialEq, Eq)]
 pub enum Step<'a> {
     /// Takes the object's monitor, once more where the thread has it.
     Enter(&'a str),
