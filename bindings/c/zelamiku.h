@@ -19,9 +19,9 @@
  * Everything else is answered by a status. No call waits, blocks, starts a thread or panics; each out-parameter is always set.
  *
  * The device. The library has no file: it works in memory, and asks the host to write and sync. On a file of the system zelamiku_file.h
- * does that: zelamiku_open_file, zelamiku_upgrade_file, zelamiku_format_file, zelamiku_make_calls; and on a network block device
- * zelamiku_nbd.h. Elsewhere zelamiku_next_call tells the next call, the host makes it on a device of its own (a volume, a ring of
- * requests), and zelamiku_call_done says that it has:
+ * does that: zelamiku_open_file, zelamiku_upgrade_file, zelamiku_format_file, zelamiku_make_calls; on a network block device
+ * zelamiku_nbd.h; on whole sectors zelamiku_sectors.h. Elsewhere zelamiku_next_call tells the next call, the host makes it on a device
+ * of its own (a volume, a ring of requests), and zelamiku_call_done says that it has:
  *     uint8_t buffer[ZELAMIKU_MOST_BYTES];
  *     zelamiku_call call = {0};
  *     for (;;) {
@@ -139,7 +139,7 @@ typedef enum {
     ZELAMIKU_BAD_CONTROL = 29,    /* the image's control can't be read */
     ZELAMIKU_BAD_RECORD = 30,     /* the image has a record that can't be read */
     ZELAMIKU_ILLEGAL_LOG = 31,    /* no threads can have left the image's log */
-    ZELAMIKU_DEVICE = 32,         /* of zelamiku_file.h, zelamiku_nbd.h: a call of the file or the server has failed */
+    ZELAMIKU_DEVICE = 32,         /* of zelamiku_file.h, zelamiku_nbd.h, zelamiku_sectors.h: a call of the file, the server or the sectors has failed */
     ZELAMIKU_LOST = 33,           /* of zelamiku_file.h, zelamiku_nbd.h: a sync has failed, or the connection has ended, and the heap has stopped */
     ZELAMIKU_BUSY = 34,           /* of zelamiku_file.h alone: another open of the file has its heap, or the file was replaced or removed */
     ZELAMIKU_STOPPED = 35,        /* the heap has stopped since the host told that it couldn't make a sync (zelamiku_call_failed) */

@@ -1,7 +1,7 @@
 /* Zelamiku on a device of sectors: a heap on whatever reads, writes and flushes whole sectors, over zelamiku.h.
  *
  * As zelamiku_file.h does for a file, these functions make the calls that the library tells: they are C, and nothing proves them. How two
- * places lie on a device is in docs/FORMAT.md, "Sectors in two places"; heapctl reads no such image.
+ * places lie on a device is in docs/FORMAT.md, "Sectors in two places"; heapctl reads one that is in a file.
  *
  *     zelamiku_sectors host = {.device = {&disk, read, write, flush, sectors}, .sector = 4096, .layout = ZELAMIKU_TWO_PLACES};
  *     if (zelamiku_open_sectors(&heap, &host, &found) != ZELAMIKU_OK) ...                  or zelamiku_format_sectors
