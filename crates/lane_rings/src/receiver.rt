@@ -96,6 +96,7 @@ impl Receiver {
         ensures some { IfSome result (λ x. received self.new ≡ received self.old ++ x ∷ []) }
         ensures none { IfNone result ((received self.new ≡ received self.old) × (known_records self.new ≡ [])) }
         ensures whose { whose_received self.new ≡ whose_received self.old }
+        ensures untold { self.new.told ≡ [] → (self.old.told ≡ []) × (to_release (received self.new) ≡ to_release (received self.old)) }
     {
         if self.cached_slots() == 0 {
             if self.slots() == 0 {
