@@ -22,7 +22,7 @@ pub enum DriveError {
     /// A round of the helper stopped. The workers have stopped after it.
     #[error("{0}")]
     Helper(StoreError),
-    /// A worker's session refused a call; it isn't that the helper was behind.
+    /// A worker's session refused a call. It is `Behind` only once the helper has stopped: before that a worker tries again.
     #[error("{0}")]
     Session(SessionError),
     /// The heap wasn't closed.

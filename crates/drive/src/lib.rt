@@ -1,5 +1,5 @@
-//! Real threads on a heap: workers, each in a thread of its own with a session of its own, beside the helper that makes durable
-//! what they do.
+//! Real threads on a heap: workers, each with a session of its own, in threads of their own as far as the system gives them, beside
+//! the helper that makes durable what they do.
 //!
 //! [`drive_with`] lets them work on a disk in memory, [`drive_new`] and [`drive_on`] on any device, and [`drive_heap`] on a heap that
 //! was recovered. What each answers is what [`recover`](recover::recover) gives of the device that

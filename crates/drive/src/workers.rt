@@ -56,7 +56,8 @@ fn number_of(lane: usize) -> u8
     u8::try_from(lane).unwrap_or(u8::MAX)
 }
 
-/// All work beside one another, each in a thread of its own. An error is want of memory; then some haven't worked.
+/// All work, in threads of their own as far as the system gives them; for want of one, some work one after another. An error is want of
+/// memory; then some haven't worked.
 pub fn work_all<R: Threads + Wait + Sync, M: Meet + Sync>(
     rt: &R,
     shared: &Shared,

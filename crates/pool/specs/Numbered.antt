@@ -15,7 +15,7 @@ abbrev pub cell_first : (slots cell : ℕ) → ℕ
 cell_first n zero = 1
 cell_first n (suc s) = first_link n s
 
--- Where a pool's fields have the values with which they begin, all slots are free, in their order.
+-- Where a pool has a slot, and its fields the values with which they begin, all slots are free, in their order.
 abbrev pub FreeLaw : Type 0
 FreeLaw = (p : Place) (known : Values) → 0 < p.slots → ((cell : ℕ) → cell ≤ p.slots → known (p.head + cell) ≡ Some (cell_first p.slots cell))
     → IsFreeList p known (range_with_len 0 p.slots)

@@ -5,7 +5,8 @@ use steps::Seen;
 use thiserror::Error;
 
 /// Why a call is refused. The reasons are tried in this order, as far as a call has them. A refused call leaves what is held,
-/// what was sent and the shared words as they were, but for a monitor that may have become fat; what it looked at it was told.
+/// what was sent and the shared words as they were, but for two: a monitor may have become fat; and the count of fat slots has risen
+/// by one where a call that is refused by `NoFat` claimed a slot too late, behind the last one. What it looked at it was told.
 #[derive(Clone, Copy, Debug, Drop, Error, PartialEq, Eq)]
 pub enum SessionError {
     /// There is no such object.

@@ -1,4 +1,4 @@
-//! How much a session may hold, and where its lane ends. Where no source is named a limit is this project's own.
+//! How much a session may hold. Where no source is named a limit is this project's own.
 
 /// How many monitors a session holds at most.
 pub const MOST_HELD: usize = 16;
