@@ -1,13 +1,15 @@
 -- Making a device stand for a disk in two places, step by step.
 use Rattle.std.proofs.Common.{◌≡◌, ◌⊎◌, inl, inr, ℕ, ◌+◌, ◌<◌, ◌≤◌, Bool, true, false, List, [], ◌∷◌, length, get_or, replicate, sym, ◌∙◌, ap, subst, arith, nat_eq}
 use Rattle.std.proofs.lemmas.List.{length-replicate}
-use Rattle.block_disk.specs.Device.{Device, Moment, SameMoments, SameOutside, synced}
+use Rattle.block_disk.specs.Device.{Device, Moment, Range, SameMoments, SameOutside, synced}
+use Rattle.block_disk.specs.Images.{ImageBut, LeavesOnly}
+use Rattle.block_disk.proofs.Images.{begin}
 use Rattle.block_disk.proofs.Ranges.{outside_trans, outside_wider}
 use Rattle.sector_disk.specs.declared.size.SectorSize.{SectorSize}
 use Rattle.sector_disk.specs.Size.{place_of}
 use Rattle.sector_disk.specs.Places.{IsAsFound, IsKept, Matches, area, first_sector, one_sector, sectors_from, turn_of}
 use Rattle.sector_disk.proofs.Beginnings.{all_marked, kept_found}
-use Rattle.sector_disk.proofs.Sizes.{apart_gate, apart_label, area_fits_all, first_among, gate_among, gate_clear_label, label_among, place_le, sector_apart_gate, sector_apart_label}
+use Rattle.sector_disk.proofs.Sizes.{area_among, apart_gate, apart_label, area_fits_all, first_among, gate_among, gate_clear_label, label_among, leaves_then, place_le, sector_apart_gate, sector_apart_label}
 use Rattle.sector_disk.proofs.TwoAreas.{area_same, matches_same}
 
 -- What was written lies among the sectors that the disk takes.
@@ -23,6 +25,30 @@ among_gate size count xs ys same =
 pub among_first : (size : SectorSize) (count n : ℕ) (xs ys : List ℕ) → n ≡ count → SameOutside (sectors_from size 2 n ∷ []) xs ys → SameOutside (sectors_from size 0 (count + count + 2) ∷ []) xs ys
 among_first size count n xs ys is same =
     outside_wider (sectors_from size 2 n) (sectors_from size 0 (count + count + 2)) xs ys (place_le size 0 2 (omega arith)) (first_among size count n is) same
+
+pub among_area : (size : SectorSize) (count : ℕ) (turn : Bool) (first n : ℕ) (xs ys : List ℕ) → first ≡ first_sector count turn → n ≡ count
+    → SameOutside (sectors_from size first n ∷ []) xs ys → SameOutside (sectors_from size 0 (count + count + 2) ∷ []) xs ys
+among_area size count turn first n xs ys is many same =
+    outside_wider (sectors_from size (first_sector count turn) count) (sectors_from size 0 (count + count + 2)) xs ys (place_le size 0 (first_sector count turn) (omega arith)) (area_among size count turn)
+    (subst (λ (r : Range). SameOutside (r ∷ []) xs ys) (λ i. sectors_from size (is i) (many i)) same)
+
+-- And so does what a crash leaves of it.
+
+pub leaves_gate : (size : SectorSize) (count : ℕ) (old new : Device) → LeavesOnly old new (ImageBut old (one_sector size 1 ∷ []))
+    → LeavesOnly old new (ImageBut old (sectors_from size 0 (count + count + 2) ∷ []))
+leaves_gate size count old new leaves =
+    leaves_then old old new (one_sector size 1) (sectors_from size 0 (count + count + 2)) (place_le size 0 1 (omega arith)) (gate_among size count)
+    (begin old (ImageBut old (sectors_from size 0 (count + count + 2) ∷ []))) leaves
+
+pub leaves_area : (size : SectorSize) (count : ℕ) (turn : Bool) (first n : ℕ) (old new : Device) → first ≡ first_sector count turn → n ≡ count
+    → LeavesOnly old new (ImageBut old (sectors_from size first n ∷ [])) → LeavesOnly old new (ImageBut old (sectors_from size 0 (count + count + 2) ∷ []))
+leaves_area size count turn first n old new is many leaves =
+    leaves_then old old new (sectors_from size (first_sector count turn) count) (sectors_from size 0 (count + count + 2)) (place_le size 0 (first_sector count turn) (omega arith)) (area_among size count turn)
+    (begin old (ImageBut old (sectors_from size 0 (count + count + 2) ∷ [])))
+    (subst (λ (r : Range). LeavesOnly old new (ImageBut old (r ∷ []))) (λ i. sectors_from size (is i) (many i)) leaves)
+
+pub leaves_both : (old mid new : Device) (r : Range) → LeavesOnly old mid (ImageBut old (r ∷ [])) → LeavesOnly mid new (ImageBut mid (r ∷ [])) → LeavesOnly old new (ImageBut old (r ∷ []))
+leaves_both old mid new r a b = leaves_then old mid new r r (omega arith) (omega arith) a b
 
 -- The first area was filled, then the gate turned to it, and then the label written.
 pub kept_laid : (size : SectorSize) (count : ℕ) (fresh stale : List Bool) (image : List ℕ) (filled turned d : Device) → d.now.pending ≡ [] → place_of size (count + count + 2) ≤ length filled.now.bytes

@@ -6,14 +6,14 @@ use Rattle.block_disk.specs.Bytes.{part, spliced}
 use Rattle.block_disk.specs.Device.{Device, Image, IsClear, Moment, Range, SameMoments, SameOutside, range_of, synced, written}
 use Rattle.block_disk.proofs.Bytes.{get_or_part, length_part, length_spliced, part_part}
 use Rattle.block_disk.specs.declared.error.Fault.{Fault}
-use Rattle.block_disk.proofs.Ranges.{outside_refl, part_same, spliced_same}
+use Rattle.block_disk.proofs.Ranges.{outside_refl, outside_trans, outside_wider, part_same, spliced_same}
 use Rattle.sector_disk.specs.declared.size.SectorSize.{SectorSize}
 use Rattle.sector_disk.specs.declared.size.SectorSize.TheVariants.{Bytes512, Bytes4096}
 use Rattle.sector_disk.specs.OnePlace.{Agrees, EachSince, IsInPlace, held}
-use Rattle.sector_disk.specs.Places.{Matches, one_sector}
+use Rattle.sector_disk.specs.Places.{Matches, one_sector, sectors_from}
 use Rattle.sector_disk.specs.Size.{bytes_in, place_of, sector}
 use Rattle.sector_disk.specs.Whole.{IsOldOrNew, IsSince}
-use Rattle.sector_disk.proofs.Sizes.{ends_before, find_sector, place_add, sector_apart, sector_fits, sector_written}
+use Rattle.sector_disk.proofs.Sizes.{ends_before, find_sector, place_add, sector_apart, sector_fits, sector_high, sector_low, sector_written}
 use Rattle.sector_disk.proofs.TwoAreas.{unmarked_within}
 
 -- The moments since a flush.
@@ -237,20 +237,27 @@ one_since size first i count ranges image content old new (Err x) long whole is 
 one_since size first i count ranges image content old new (Err x) long whole is fits ok (inr same) e =
     since_sector size first i count ranges image content old new long whole is fits same e
 
--- The first sectors hold what the image does, and each moment since the flush agrees with it.
+-- The first sectors hold what the image does, nothing else was written, and each moment since the flush agrees with it.
 pub record Laid (size : SectorSize) (first i : ℕ) (marks : List Bool) (image : List ℕ) (old new : Device) : Type 0 where
   pub all : (j : ℕ) → j < i → sector size (first + j) new.now.bytes ≡ sector size j image
-  pub wide : length new.now.bytes ≡ length old.now.bytes
+  pub same : SameOutside (sectors_from size first (length marks) ∷ []) old.now.bytes new.now.bytes
   pub matches : Matches size first marks image new.now.bytes
   pub since : (ranges : List Range) → EachSince (Agrees (place_of size first) ranges image) old.now old.past → EachSince (Agrees (place_of size first) ranges image) new.now new.past
 
 pub laid_none : (size : SectorSize) (first : ℕ) (marks : List Bool) (image : List ℕ) (old : Device) → Matches size first marks image old.now.bytes → Laid size first 0 marks image old old
 laid_none size first marks image old matches = record {
   all = λ j less. absurd (omega arith);
-  wide = refl;
+  same = outside_refl (sectors_from size first (length marks) ∷ []) old.now.bytes;
   matches = matches;
   since = λ ranges e. e;
 }
+
+-- what was written since, whatever it answered
+pub laid_same : (size : SectorSize) (first i : ℕ) (marks : List Bool) (image : List ℕ) (old mid new : Device) → i < length marks → Laid size first i marks image old mid
+    → SameOutside (one_sector size (first + i) ∷ []) mid.now.bytes new.now.bytes → SameOutside (sectors_from size first (length marks) ∷ []) old.now.bytes new.now.bytes
+laid_same size first i marks image old mid new less laid same =
+    outside_trans (sectors_from size first (length marks) ∷ []) old.now.bytes mid.now.bytes new.now.bytes laid.same
+    (outside_wider (one_sector size (first + i)) (sectors_from size first (length marks)) mid.now.bytes new.now.bytes (sector_low size first i) (sector_high size first i (length marks) less) same)
 
 pub laid_more : (size : SectorSize) (first i : ℕ) (marks : List Bool) (image : List ℕ) (old mid new : Device) → i < length marks → place_of size (first + length marks) ≤ length old.now.bytes
     → Laid size first i marks image old mid → sector size (first + i) new.now.bytes ≡ sector size i image → Matches size first marks image new.now.bytes
@@ -260,13 +267,13 @@ pub laid_more : (size : SectorSize) (first i : ℕ) (marks : List Bool) (image :
 laid_more size first i marks image old mid new less fits laid this matches same since = record {
   all = below_more (λ (j : ℕ). sector size (first + j) new.now.bytes ≡ sector size j image) i
       (λ j low.
-      let long : place_of size (first + length marks) ≤ length mid.now.bytes = omega (arith, laid.wide, fits) in
+      let long : place_of size (first + length marks) ≤ length mid.now.bytes = omega (arith, laid.same.size, fits) in
       let there : j < length marks = omega arith in
       part_same (place_of size (first + j)) (bytes_in size) (one_sector size (first + i) ∷ []) mid.now.bytes new.now.bytes same (sector_apart size (first + j) (first + i) (inl (omega arith)))
       (sector_fits size first j (length marks) (length mid.now.bytes) there long)
       ∙ laid.all j low)
       this;
-  wide = same.size ∙ laid.wide;
+  same = laid_same size first i marks image old mid new less laid same;
   matches = matches;
   since = λ ranges e. since ranges (laid.since ranges e);
 }

@@ -238,3 +238,9 @@ gate_among Bytes4096 count = omega arith
 pub first_among : (size : SectorSize) (count n : ℕ) → n ≡ count → place_of size 2 + place_of size n ≤ place_of size 0 + place_of size (count + count + 2)
 first_among Bytes512 count n is = omega (arith, is)
 first_among Bytes4096 count n is = omega (arith, is)
+
+pub area_among : (size : SectorSize) (count : ℕ) (turn : Bool) → place_of size (first_sector count turn) + place_of size count ≤ place_of size 0 + place_of size (count + count + 2)
+area_among Bytes512 count false = omega arith
+area_among Bytes512 count true = omega arith
+area_among Bytes4096 count false = omega arith
+area_among Bytes4096 count true = omega arith

@@ -35,6 +35,8 @@ pub(crate) fn confirm<S: Sectors>(
         → Always (S.device sectors.new) (Holds size count gate.new.is_firm gate.new.turn label m) }
     ensures any_moment { (count : ℕ) (label : List ℕ) (m : Moment) → Always (S.device sectors.old) (Holds size count gate.old.is_firm gate.old.turn label m)
         → LeavesOnly (S.device sectors.old) (S.device sectors.new) (Shows size count label m) }
+    ensures within { LeavesOnly (S.device sectors.old) (S.device sectors.new)
+        (ImageBut (S.device sectors.old) (one_sector size 1 ∷ [])) }
     ensures size { S.of_size sectors.new ≡ size }
 {
     let is_firm = gate.is_firm;
@@ -62,6 +64,8 @@ pub(crate) fn turn_gate<S: Sectors>(
         → Always (S.device sectors.new) (Holds size count gate.new.is_firm gate.new.turn label m) }
     ensures any_moment { (count : ℕ) (label : List ℕ) (m : Moment) → Always (S.device sectors.old) (Holds size count false gate.old.turn label m)
         → LeavesOnly (S.device sectors.old) (S.device sectors.new) (Shows size count label m) }
+    ensures within { LeavesOnly (S.device sectors.old) (S.device sectors.new)
+        (ImageBut (S.device sectors.old) (one_sector size 1 ∷ [])) }
     ensures size { S.of_size sectors.new ≡ size }
 {
     put_gate(sectors, size, gate.turn)?;

@@ -1,10 +1,10 @@
 //! A disk in one place on a device of sectors that tears none.
-ghost use Rattle.std.specs.Prelude.{◌≡◌, ◌≢◌, ◌⊎◌, ◌+◌, ◌<◌, ◌≤◌, ℕ, List, IfErr, IfOk, IsErrAnd, IsErrOf, OnErr, OnOk, [], length};
+ghost use Rattle.std.specs.Prelude.{◌≡◌, ◌≢◌, ◌⊎◌, ◌+◌, ◌<◌, ◌≤◌, ℕ, List, IfErr, IfOk, IsErrAnd, IsErrOf, OnErr, OnOk, [], ◌∷◌, length};
 ghost use Rattle.block_disk.specs.Bytes.{part, spliced};
-ghost use Rattle.block_disk.specs.Device.{HasFailed, Image, SameMoments, TornWrite, synced, written};
+ghost use Rattle.block_disk.specs.Device.{HasFailed, Image, SameMoments, SameOutside, TornWrite, synced, written};
 ghost use Rattle.block_disk.specs.declared.error.DiskError.TheVariants.{Fault, OutOfRange};
 ghost use Rattle.sector_disk.specs.OnePlace.{IsInPlace, held};
-ghost use Rattle.sector_disk.specs.Places.{IsAsFound};
+ghost use Rattle.sector_disk.specs.Places.{IsAsFound, sectors_from};
 ghost use Rattle.sector_disk.specs.Size.{place_of};
 ghost use Rattle.sector_disk.specs.Trace.{new_device};
 ghost use Rattle.sector_disk.specs.Whole.{IsOldOrNew};
@@ -62,6 +62,7 @@ impl<S: WholeSectors + Drop> InPlace<S> {
     ) -> Result<InPlace<S>, (S, PlacesError)>
         ensures ok { IfOk result (λ disk. disk.device ≡ new_device (held (S.of_size sectors) first count (S.device sectors).now.bytes)) }
         ensures size { IfOk result (λ disk. (disk.size ≡ S.of_size sectors) × (disk.first ≡ first) × (disk.count ≡ count)) }
+        ensures found { IfOk result (λ disk. IsAsFound (S.device sectors) disk.sectors) }
         ensures too_small { length (S.device sectors).now.bytes < place_of (S.of_size sectors) (first + count)
             → IsErrAnd result (λ back. back.1 ≡ TooSmall) }
         ensures room { place_of (S.of_size sectors) (first + count) ≤ length (S.device sectors).now.bytes
@@ -81,6 +82,7 @@ impl<S: WholeSectors + Drop> InPlace<S> {
         requires size { S.of_size sectors ≡ size }
         requires kept { IsInPlace size first found.marks found.image.items (record { bytes = found.image.items; pending = [] }) (S.device sectors) }
         ensures device { result.device ≡ new_device found.image.items }
+        ensures sectors { result.sectors ≡ S.device sectors }
         ensures size { (result.size ≡ size) × (result.first ≡ first) × (result.count ≡ length found.marks) }
     {
         let trace = Trace::of(&found.image);
@@ -129,6 +131,7 @@ impl<S: WholeSectors + Drop> Disk for InPlace<S> {
         ensures cause { IsErrOf result Fault → HasFailed self.old.device.failures self.new.device.failures }
         ensures no_fault { ¬ IsErrOf result Fault }
         ensures sectors { self.new.sectors ≡ self.old.sectors }
+        ensures place { (self.new.size ≡ self.old.size) × (self.new.first ≡ self.old.first) × (self.new.count ≡ self.old.count) }
     {
         if !lies_within(at, out.len(), self.image.len()) {
             return Err(DiskError::OutOfRange);
@@ -148,6 +151,7 @@ impl<S: WholeSectors + Drop> Disk for InPlace<S> {
         ensures cause { IsErrOf result Fault → HasFailed self.old.device.failures self.new.device.failures }
         ensures no_fault { ¬ IsErrOf result Fault }
         ensures sectors { self.new.sectors ≡ self.old.sectors }
+        ensures place { (self.new.size ≡ self.old.size) × (self.new.first ≡ self.old.first) × (self.new.count ≡ self.old.count) }
     {
         if !lies_within(at, bytes.len(), self.image.len()) {
             return Err(DiskError::OutOfRange);
@@ -157,8 +161,16 @@ impl<S: WholeSectors + Drop> Disk for InPlace<S> {
         Ok(())
     }
 
-    /// Writes each sector that the device may not hold, and flushes.
-    fn sync(&mut self) -> Result<(), DiskError> {
+    /// Writes each sector that the device may not hold, and flushes. No other sector is written.
+    fn sync(&mut self) -> Result<(), DiskError>
+        ensures ok { OnOk result (self.new.device ≡ synced self.old.device) }
+        ensures in_range { ¬ IsErrOf result OutOfRange }
+        ensures fault { IsErrOf result Fault → SameMoments self.old.device self.new.device }
+        ensures cause { IsErrOf result Fault → HasFailed self.old.device.failures self.new.device.failures }
+        ensures place { (self.new.size ≡ self.old.size) × (self.new.first ≡ self.old.first) × (self.new.count ≡ self.old.count) }
+        ensures beyond { SameOutside (sectors_from self.old.size self.old.first self.old.count ∷ [])
+            self.old.sectors.now.bytes self.new.sectors.now.bytes }
+    {
         match sync_place(
             &mut self.sectors,
             self.size,

@@ -3,7 +3,7 @@ ghost use Rattle.std.specs.Prelude.{◌≡◌, ◌⊎◌, ◌↔◌, ◌+◌, �
 ghost use Rattle.block_disk.specs.Bytes.{spliced};
 ghost use Rattle.block_disk.specs.Device.{Range, SameMoments, SameOutside, range_of, written};
 ghost use Rattle.sector_disk.specs.OnePlace.{Agrees, EachSince, IsInPlace, held};
-ghost use Rattle.sector_disk.specs.Places.{IsAsFound, Matches, one_sector};
+ghost use Rattle.sector_disk.specs.Places.{IsAsFound, Matches, one_sector, sectors_from};
 ghost use Rattle.sector_disk.specs.Size.{bytes_in, place_of, sector};
 ghost use Rattle.sector_disk.specs.declared.error.PlacesError.TheVariants.{TooSmall};
 
@@ -125,7 +125,7 @@ pub(crate) fn sync_place<S: WholeSectors>(
     requires fits { place_of size (first + length marks.old) ≤ length (S.device sectors.old).now.bytes }
     requires matches { Matches size first marks.old image.now (S.device sectors.old).now.bytes }
     ensures count { length marks.new ≡ length marks.old }
-    ensures fits { length (S.device sectors.new).now.bytes ≡ length (S.device sectors.old).now.bytes }
+    ensures same { SameOutside (sectors_from size first (length marks.old) ∷ []) (S.device sectors.old).now.bytes (S.device sectors.new).now.bytes }
     ensures matches { Matches size first marks.new image.now (S.device sectors.new).now.bytes }
     ensures since { (ranges : List Range) → EachSince (Agrees (place_of size first) ranges image.now) (S.device sectors.old).now (S.device sectors.old).past
         → EachSince (Agrees (place_of size first) ranges image.now) (S.device sectors.new).now (S.device sectors.new).past }
@@ -152,7 +152,7 @@ fn write_marks<S: WholeSectors>(
     requires matches { Matches size first marks.now image.now (S.device sectors.old).now.bytes }
     ensures all { OnOk result ((i : ℕ) → i < length marks.now
         → sector size (first + i) (S.device sectors.new).now.bytes ≡ sector size i image.now) }
-    ensures fits { length (S.device sectors.new).now.bytes ≡ length (S.device sectors.old).now.bytes }
+    ensures same { SameOutside (sectors_from size first (length marks.now) ∷ []) (S.device sectors.old).now.bytes (S.device sectors.new).now.bytes }
     ensures matches { Matches size first marks.now image.now (S.device sectors.new).now.bytes }
     ensures since { (ranges : List Range) → EachSince (Agrees (place_of size first) ranges image.now) (S.device sectors.old).now (S.device sectors.old).past
         → EachSince (Agrees (place_of size first) ranges image.now) (S.device sectors.new).now (S.device sectors.new).past }

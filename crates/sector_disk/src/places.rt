@@ -1,9 +1,9 @@
 //! Two areas by turns: what a sync makes of them.
-ghost use Rattle.std.specs.Prelude.{◌≡◌, ◌+◌, ◌^◌, ◌<◌, ◌≤◌, ℕ, List, [], Bool, true, false, length, OnErr, OnOk};
+ghost use Rattle.std.specs.Prelude.{◌≡◌, ◌+◌, ◌^◌, ◌<◌, ◌≤◌, ℕ, List, [], ◌∷◌, Bool, true, false, length, OnErr, OnOk};
 ghost use Rattle.block_disk.specs.Bytes.{spliced};
-ghost use Rattle.block_disk.specs.Device.{Moment};
-ghost use Rattle.block_disk.specs.Images.{Always, LeavesOnly};
-ghost use Rattle.sector_disk.specs.Places.{Holds, Reads, Shows, area, first_sector};
+ghost use Rattle.block_disk.specs.Device.{Moment, SameOutside};
+ghost use Rattle.block_disk.specs.Images.{Always, ImageBut, LeavesOnly};
+ghost use Rattle.sector_disk.specs.Places.{Holds, Reads, Shows, area, first_sector, sectors_from};
 ghost use Rattle.sector_disk.specs.Size.{place_of};
 
 use crate::area::fill_area;
@@ -38,6 +38,10 @@ pub(crate) fn sync_places<S: Sectors>(
     ensures any_moment { (label : List ℕ) (m : Moment) → m.bytes ≡ image.now
         → Always (S.device sectors.old) (Holds size (length fresh.old) gate.old.is_firm gate.old.turn label m)
         → LeavesOnly (S.device sectors.old) (S.device sectors.new) (Shows size (length fresh.old) label m) }
+    ensures within { LeavesOnly (S.device sectors.old) (S.device sectors.new)
+        (ImageBut (S.device sectors.old) (sectors_from size 0 (length fresh.old + length fresh.old + 2) ∷ [])) }
+    ensures beyond { SameOutside (sectors_from size 0 (length fresh.old + length fresh.old + 2) ∷ [])
+        (S.device sectors.old).now.bytes (S.device sectors.new).now.bytes }
     ensures size { S.of_size sectors.new ≡ size }
 {
     // Where the gate may say either, both areas may be shown: it has to be firm before one of them is written.
@@ -69,6 +73,10 @@ fn fill_other<S: Sectors>(
     ensures any_moment { (label : List ℕ) (m : Moment)
         → Always (S.device sectors.old) (Holds size (length fresh.old) true gate.old.turn label m)
         → LeavesOnly (S.device sectors.old) (S.device sectors.new) (Shows size (length fresh.old) label m) }
+    ensures within { LeavesOnly (S.device sectors.old) (S.device sectors.new)
+        (ImageBut (S.device sectors.old) (sectors_from size 0 (length fresh.old + length fresh.old + 2) ∷ [])) }
+    ensures beyond { SameOutside (sectors_from size 0 (length fresh.old + length fresh.old + 2) ∷ [])
+        (S.device sectors.old).now.bytes (S.device sectors.new).now.bytes }
     ensures size { S.of_size sectors.new ≡ size }
 {
     let _sectors = sectors.count();

@@ -2,7 +2,7 @@
 ghost use Rattle.std.specs.Prelude.{◌≡◌, ◌≢◌, ◌⊎◌, ◌+◌, ◌*◌, ◌^◌, ◌<◌, ◌≤◌, ℕ, List, IfErr, IfOk, IsErrAnd, IsErrOf, OnErr, OnOk, [], ◌∷◌, length, replicate, take};
 ghost use Rattle.block_disk.specs.Bytes.{part, spliced};
 ghost use Rattle.block_disk.specs.Device.{HasFailed, SameMoments, SameOutside, TornWrite, synced, written};
-ghost use Rattle.block_disk.specs.Images.{Always, LeavesOnly};
+ghost use Rattle.block_disk.specs.Images.{Always, ImageBut, LeavesOnly};
 ghost use Rattle.block_disk.specs.declared.error.DiskError.TheVariants.{Fault, OutOfRange};
 ghost use Rattle.sector_disk.specs.Labels.{label_bytes};
 ghost use Rattle.sector_disk.specs.Places.{IsAsFound, IsKept, Shows, sectors_from, shown};
@@ -26,8 +26,9 @@ use std::marker::Model;
 /// it is right too where a sector that was being written holds any bytes after a crash, or can't be read. No number and no sum
 /// tells which area is whole, but the order of flushes alone (docs/FORMAT.md, "Sectors in two places").
 ///
-/// Its bytes are in memory, and reach the device at each sync, by two flushes. A `Fault` is one of the device in a sync; the
-/// next one writes again what was written since the last that succeeded.
+/// Its bytes are in memory, and reach the device at each sync, by two flushes, and by one more before them where the last sync failed and
+/// left the gate so that it may say either. A `Fault` is one of the device in a sync; the next one writes again what was written since the
+/// last that succeeded.
 #[derive(Drop)]
 pub struct TwoPlaces<S: Sectors + Drop> {
     sectors: S,
@@ -69,6 +70,7 @@ impl<S: Sectors + Drop> TwoPlaces<S> {
     ) -> Result<TwoPlaces<S>, (S, PlacesError)>
         ensures ok { IfOk result (λ disk. disk.device ≡ new_device (shown (S.of_size sectors) count (S.device sectors).now.bytes)) }
         ensures size { IfOk result (λ disk. (disk.size ≡ S.of_size sectors) × (disk.count ≡ count)) }
+        ensures found { IfOk result (λ disk. IsAsFound (S.device sectors) disk.sectors) }
         ensures too_small { length (S.device sectors).now.bytes < place_of (S.of_size sectors) (count + count + 2)
             → IsErrAnd result (λ back. back.1 ≡ TooSmall) }
         ensures room { place_of (S.of_size sectors) (count + count + 2) ≤ length (S.device sectors).now.bytes
@@ -207,7 +209,8 @@ impl<S: Sectors + Drop> Disk for TwoPlaces<S> {
     }
 
     /// Writes to the area whose turn it isn't what it lacks, flushes, turns the gate, and flushes. A crash at any moment of it leaves what
-    /// stands for what a crash of the disk may leave that comes before the sync.
+    /// stands for what a crash of the disk may leave that comes before the sync. No sector behind the areas is
+    /// written.
     fn sync(&mut self) -> Result<(), DiskError>
         ensures ok { OnOk result (self.new.device ≡ synced self.old.device) }
         ensures in_range { ¬ IsErrOf result OutOfRange }
@@ -215,6 +218,10 @@ impl<S: Sectors + Drop> Disk for TwoPlaces<S> {
         ensures cause { IsErrOf result Fault → HasFailed self.old.device.failures self.new.device.failures }
         ensures any_moment { LeavesOnly self.old.sectors self.new.sectors
             (Shows self.old.size self.old.count (sector self.old.size 0 self.old.sectors.now.bytes) self.old.device.now) }
+        ensures within { LeavesOnly self.old.sectors self.new.sectors
+            (ImageBut self.old.sectors (sectors_from self.old.size 0 (self.old.count + self.old.count + 2) ∷ [])) }
+        ensures beyond { SameOutside (sectors_from self.old.size 0 (self.old.count + self.old.count + 2) ∷ [])
+            self.old.sectors.now.bytes self.new.sectors.now.bytes }
         ensures count { (self.new.size ≡ self.old.size) × (self.new.count ≡ self.old.count) }
     {
         match sync_places(

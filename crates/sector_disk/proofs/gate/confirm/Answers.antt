@@ -1,5 +1,5 @@
 use Rattle.std.proofs.Common.{Bool, [], ◌∷◌, subst}
-use Rattle.block_disk.specs.Images.{Always}
+use Rattle.block_disk.specs.Images.{Always, ImageBut}
 use Rattle.block_disk.proofs.Images.{begin}
 use Rattle.block_disk.proofs.Ranges.{outside_refl}
 use Rattle.sector_disk.specs.Places.{Holds, Shows, one_sector}
@@ -14,6 +14,11 @@ returns-then-is_firm-clause-crash g c = λ count label m always. always
 pub returns-then-is_firm-clause-any_moment : goal.returns-then-is_firm-clause-any_moment
 returns-then-is_firm-clause-any_moment g c = λ count label m always.
     begin (g.S.Sectors.device c.args.sectors.now) (Shows c.args.size count label m)
+
+pub returns-then-is_firm-clause-within : goal.returns-then-is_firm-clause-within
+returns-then-is_firm-clause-within g c =
+    let old = g.S.Sectors.device c.args.sectors.now in
+    begin old (ImageBut old (one_sector c.args.size 1 ∷ []))
 
 pub returns-clause-crash : goal.returns-clause-crash
 returns-clause-crash g c = λ count label m always.

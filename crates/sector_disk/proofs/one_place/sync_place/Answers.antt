@@ -1,13 +1,16 @@
-use Rattle.std.proofs.Common.{◌≡◌, ◌+◌, ◌<◌, ℕ, List, [], length, sym, ◌∙◌, ap, subst}
+use Rattle.std.proofs.Common.{◌≡◌, ◌+◌, ◌<◌, ℕ, List, [], ◌∷◌, length, sym, ◌∙◌, ap, subst}
+use Rattle.block_disk.specs.Device.{SameOutside}
 use Rattle.sector_disk.specs.OnePlace.{Agrees}
-use Rattle.sector_disk.specs.Places.{Matches}
+use Rattle.sector_disk.specs.Places.{Matches, sectors_from}
 use Rattle.sector_disk.specs.Size.{place_of, sector}
 use Rattle.sector_disk.proofs.Filling.{matches_all}
 use Rattle.sector_disk.proofs.OnePlace.{agrees_all, each_same, each_settled}
 use Rattle.sector_disk.proofs.one_place.sync_place.Goals as goal
 
-pub returns-in_err-settle-clause-fits : goal.returns-in_err-settle-clause-fits
-returns-in_err-settle-clause-fits g c = ap (λ (xs : List ℕ). length xs) c.settle.ensures.same ∙ c.write_marks.ensures.fits
+pub returns-in_err-settle-clause-same : goal.returns-in_err-settle-clause-same
+returns-in_err-settle-clause-same g c =
+    subst (λ (xs : List ℕ). SameOutside (sectors_from c.args.size c.args.first (length c.args.marks.now) ∷ []) (g.S.Sectors.device c.args.sectors.now).now.bytes xs) (sym c.settle.ensures.same)
+    c.write_marks.ensures.same
 
 pub returns-in_err-settle-clause-matches : goal.returns-in_err-settle-clause-matches
 returns-in_err-settle-clause-matches g c =
@@ -18,8 +21,10 @@ returns-in_err-settle-clause-since g c = λ ranges e.
     each_same (Agrees (place_of c.args.size c.args.first) ranges c.args.image.now) (g.S.Sectors.device c.write_marks.new.sectors) (g.S.Sectors.device c.settle.new.sectors) c.in_err-settle.ensures.err
     (c.write_marks.ensures.since ranges e)
 
-pub returns-clause-fits : goal.returns-clause-fits
-returns-clause-fits g c = ap (λ (xs : List ℕ). length xs) c.settle.ensures.same ∙ c.write_marks.ensures.fits
+pub returns-clause-same : goal.returns-clause-same
+returns-clause-same g c =
+    subst (λ (xs : List ℕ). SameOutside (sectors_from c.args.size c.args.first (length c.args.marks.now) ∷ []) (g.S.Sectors.device c.args.sectors.now).now.bytes xs) (sym c.settle.ensures.same)
+    c.write_marks.ensures.same
 
 pub returns-clause-matches : goal.returns-clause-matches
 returns-clause-matches g c =

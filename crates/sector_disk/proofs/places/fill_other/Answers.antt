@@ -2,6 +2,7 @@ use Rattle.std.proofs.Common.{◌≡◌, ℕ, Bool, not, length, refl, sym, ◌�
 use Rattle.block_disk.specs.Images.{Always}
 use Rattle.sector_disk.specs.Places.{Holds, first_sector}
 use Rattle.sector_disk.specs.Size.{place_of}
+use Rattle.sector_disk.proofs.Laying.{among_area, leaves_area}
 use Rattle.sector_disk.proofs.Sizes.{few_count}
 use Rattle.sector_disk.proofs.TwoAreas.{leaves_filled, made_ready, other_fits, other_matches, reads_filled, reads_turned, whole_filled}
 use Rattle.sector_disk.proofs.places.fill_other.Goals as goal
@@ -61,6 +62,20 @@ returns-in_err-fill_area-clause-any_moment g c = λ label m always.
     (leaves_filled size (length c.args.fresh.now) c.args.gate.now.turn label m (g.S.Sectors.device c.args.sectors.now) (g.S.Sectors.device c.fill_area.new.sectors) c.first_of-first.result
     (length c.args.stale.now) first c.requires.count c.fill_area.ensures.any_moment always).0
 
+pub returns-in_err-fill_area-clause-within : goal.returns-in_err-fill_area-clause-within
+returns-in_err-fill_area-clause-within g c =
+    let first : c.first_of-first.result ≡ first_sector (length c.args.fresh.now) (not c.args.gate.now.turn) =
+    c.first_of-first.ensures ∙ ap (λ (n : ℕ). first_sector n (not c.args.gate.now.turn)) (c.count-count.ensures ∙ c.requires.count) in
+    leaves_area c.args.size (length c.args.fresh.now) (not c.args.gate.now.turn) c.first_of-first.result (length c.args.stale.now) (g.S.Sectors.device c.args.sectors.now)
+    (g.S.Sectors.device c.fill_area.new.sectors) first c.requires.count c.fill_area.ensures.any_moment
+
+pub returns-in_err-fill_area-clause-beyond : goal.returns-in_err-fill_area-clause-beyond
+returns-in_err-fill_area-clause-beyond g c =
+    let first : c.first_of-first.result ≡ first_sector (length c.args.fresh.now) (not c.args.gate.now.turn) =
+    c.first_of-first.ensures ∙ ap (λ (n : ℕ). first_sector n (not c.args.gate.now.turn)) (c.count-count.ensures ∙ c.requires.count) in
+    among_area c.args.size (length c.args.fresh.now) (not c.args.gate.now.turn) c.first_of-first.result (length c.args.stale.now) (g.S.Sectors.device c.args.sectors.now).now.bytes
+    (g.S.Sectors.device c.fill_area.new.sectors).now.bytes first c.requires.count c.fill_area.ensures.same
+
 pub returns-clause-count : goal.returns-clause-count
 returns-clause-count g c = rw (c.swap.ensures.x_after, c.swap.ensures.y_after) (c.fill_area.ensures.count ∙ c.requires.count, refl)
 
@@ -104,3 +119,17 @@ returns-clause-any_moment g c = λ label m always.
     c.first_of-first.ensures ∙ ap (λ (n : ℕ). first_sector n (not c.args.gate.now.turn)) (c.count-count.ensures ∙ c.requires.count) in
     (leaves_filled size (length c.args.fresh.now) c.args.gate.now.turn label m (g.S.Sectors.device c.args.sectors.now) (g.S.Sectors.device c.fill_area.new.sectors) c.first_of-first.result
     (length c.args.stale.now) first c.requires.count c.fill_area.ensures.any_moment always).0
+
+pub returns-clause-within : goal.returns-clause-within
+returns-clause-within g c =
+    let first : c.first_of-first.result ≡ first_sector (length c.args.fresh.now) (not c.args.gate.now.turn) =
+    c.first_of-first.ensures ∙ ap (λ (n : ℕ). first_sector n (not c.args.gate.now.turn)) (c.count-count.ensures ∙ c.requires.count) in
+    leaves_area c.args.size (length c.args.fresh.now) (not c.args.gate.now.turn) c.first_of-first.result (length c.args.stale.now) (g.S.Sectors.device c.args.sectors.now)
+    (g.S.Sectors.device c.fill_area.new.sectors) first c.requires.count c.fill_area.ensures.any_moment
+
+pub returns-clause-beyond : goal.returns-clause-beyond
+returns-clause-beyond g c =
+    let first : c.first_of-first.result ≡ first_sector (length c.args.fresh.now) (not c.args.gate.now.turn) =
+    c.first_of-first.ensures ∙ ap (λ (n : ℕ). first_sector n (not c.args.gate.now.turn)) (c.count-count.ensures ∙ c.requires.count) in
+    among_area c.args.size (length c.args.fresh.now) (not c.args.gate.now.turn) c.first_of-first.result (length c.args.stale.now) (g.S.Sectors.device c.args.sectors.now).now.bytes
+    (g.S.Sectors.device c.fill_area.new.sectors).now.bytes first c.requires.count c.fill_area.ensures.same

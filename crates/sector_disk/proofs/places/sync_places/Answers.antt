@@ -1,8 +1,10 @@
-use Rattle.std.proofs.Common.{◌≡◌, Bool, true, false, [], length, refl, sym, subst}
+use Rattle.std.proofs.Common.{◌≡◌, ◌+◌, Bool, true, false, [], ◌∷◌, length, refl, sym, subst}
 use Rattle.block_disk.specs.Images.{Always}
 use Rattle.block_disk.proofs.Images.{and_then}
-use Rattle.sector_disk.specs.Places.{Holds, Reads, Shows}
+use Rattle.block_disk.proofs.Ranges.{outside_trans}
+use Rattle.sector_disk.specs.Places.{Holds, Reads, Shows, sectors_from}
 use Rattle.sector_disk.proofs.Calls.{on_ok_two}
+use Rattle.sector_disk.proofs.Laying.{among_gate, leaves_both, leaves_gate}
 use Rattle.sector_disk.proofs.Sizes.{gate_fits}
 use Rattle.sector_disk.proofs.TwoAreas.{finished, reads_gate}
 use Rattle.sector_disk.proofs.places.sync_places.Goals as goal
@@ -35,6 +37,14 @@ returns-in_err-confirm-clause-crash g c = λ label m is always. c.confirm.ensure
 pub returns-in_err-confirm-clause-any_moment : goal.returns-in_err-confirm-clause-any_moment
 returns-in_err-confirm-clause-any_moment g c = λ label m is always. c.confirm.ensures.any_moment (length c.args.fresh.now) label m always
 
+pub returns-in_err-confirm-clause-within : goal.returns-in_err-confirm-clause-within
+returns-in_err-confirm-clause-within g c =
+    leaves_gate c.args.size (length c.args.fresh.now) (g.S.Sectors.device c.args.sectors.now) (g.S.Sectors.device c.confirm.new.sectors) c.confirm.ensures.within
+
+pub returns-in_err-confirm-clause-beyond : goal.returns-in_err-confirm-clause-beyond
+returns-in_err-confirm-clause-beyond g c =
+    among_gate c.args.size (length c.args.fresh.now) (g.S.Sectors.device c.args.sectors.now).now.bytes (g.S.Sectors.device c.confirm.new.sectors).now.bytes c.confirm.ensures.same
+
 pub returns-in_err-fill_other-clause-crash : goal.returns-in_err-fill_other-clause-crash
 returns-in_err-fill_other-clause-crash g c = λ label m is always.
     let count = length c.args.fresh.now in
@@ -51,6 +61,22 @@ returns-in_err-fill_other-clause-any_moment g c = λ label m is always.
     subst (λ (f : Bool). Always mid (Holds c.args.size count f c.confirm.new.gate.turn label m)) c.in_ok-confirm.ensures.ok (c.confirm.ensures.crash count label m always) in
     and_then (g.S.Sectors.device c.args.sectors.now) mid (g.S.Sectors.device c.fill_other.new.sectors) (Shows c.args.size count label m)
     (c.confirm.ensures.any_moment count label m always) (c.fill_other.ensures.any_moment label m firm)
+
+pub returns-in_err-fill_other-clause-within : goal.returns-in_err-fill_other-clause-within
+returns-in_err-fill_other-clause-within g c =
+    let count = length c.args.fresh.now in
+    let old = g.S.Sectors.device c.args.sectors.now in
+    let mid = g.S.Sectors.device c.confirm.new.sectors in
+    leaves_both old mid (g.S.Sectors.device c.fill_other.new.sectors) (sectors_from c.args.size 0 (count + count + 2)) (leaves_gate c.args.size count old mid c.confirm.ensures.within)
+    c.fill_other.ensures.within
+
+pub returns-in_err-fill_other-clause-beyond : goal.returns-in_err-fill_other-clause-beyond
+returns-in_err-fill_other-clause-beyond g c =
+    let count = length c.args.fresh.now in
+    let a = (g.S.Sectors.device c.args.sectors.now).now.bytes in
+    let b = (g.S.Sectors.device c.confirm.new.sectors).now.bytes in
+    outside_trans (sectors_from c.args.size 0 (count + count + 2) ∷ []) a b (g.S.Sectors.device c.fill_other.new.sectors).now.bytes (among_gate c.args.size count a b c.confirm.ensures.same)
+    c.fill_other.ensures.beyond
 
 pub returns-clause-reads : goal.returns-clause-reads
 returns-clause-reads g c =
@@ -102,3 +128,26 @@ returns-clause-any_moment g c = λ label m is always.
     and_then old late new P
     (and_then old mid late P (c.confirm.ensures.any_moment count label m always) (c.fill_other.ensures.any_moment label m firm))
     (c.turn_gate.ensures.any_moment count label m loose)
+
+pub returns-clause-within : goal.returns-clause-within
+returns-clause-within g c =
+    let size = c.args.size in
+    let count = length c.args.fresh.now in
+    let old = g.S.Sectors.device c.args.sectors.now in
+    let mid = g.S.Sectors.device c.confirm.new.sectors in
+    let late = g.S.Sectors.device c.fill_other.new.sectors in
+    let new = g.S.Sectors.device c.turn_gate.new.sectors in
+    let all = sectors_from size 0 (count + count + 2) in
+    leaves_both old late new all (leaves_both old mid late all (leaves_gate size count old mid c.confirm.ensures.within) c.fill_other.ensures.within)
+    (leaves_gate size count late new c.turn_gate.ensures.within)
+
+pub returns-clause-beyond : goal.returns-clause-beyond
+returns-clause-beyond g c =
+    let size = c.args.size in
+    let count = length c.args.fresh.now in
+    let all = sectors_from size 0 (count + count + 2) ∷ [] in
+    let a = (g.S.Sectors.device c.args.sectors.now).now.bytes in
+    let b = (g.S.Sectors.device c.confirm.new.sectors).now.bytes in
+    let d = (g.S.Sectors.device c.fill_other.new.sectors).now.bytes in
+    let e = (g.S.Sectors.device c.turn_gate.new.sectors).now.bytes in
+    outside_trans all a d e (outside_trans all a b d (among_gate size count a b c.confirm.ensures.same) c.fill_other.ensures.beyond) (among_gate size count d e c.turn_gate.ensures.same)

@@ -1,6 +1,7 @@
-use Rattle.std.proofs.Common.{◌≡◌, ℕ, List, [], length, refl, sym, ◌∙◌, ap, subst}
-use Rattle.sector_disk.specs.OnePlace.{Agrees, EachSince}
-use Rattle.sector_disk.specs.Places.{Matches}
+use Rattle.std.proofs.Common.{◌≡◌, ℕ, List, [], ◌∷◌, length, refl, sym, ◌∙◌, ap, subst}
+use Rattle.block_disk.specs.Device.{SameOutside}
+use Rattle.sector_disk.specs.OnePlace.{Agrees, EachSince, InOne}
+use Rattle.sector_disk.specs.Places.{Matches, sectors_from}
 use Rattle.sector_disk.specs.Size.{place_of}
 use Rattle.sector_disk.proofs.OnePlace.{in_place_step}
 use Rattle.sector_disk.proofs.in_place.InPlaceDisk.sync.Goals as goal
@@ -29,7 +30,7 @@ invariant_of-self g c =
     subst (λ (xs : List ℕ). EachSince (Agrees (place_of d.size d.first) m.pending xs) new.now new.past) is
     (c.sync_place.ensures.since m.pending (subst (λ (xs : List ℕ). EachSince (Agrees (place_of d.size d.first) m.pending xs) old.now old.past) (sym is) k.since)) in (
       c.sync_place.ensures.size,
-      in_place_step d.size d.first d.marks marks d.image.items m m old new refl c.sync_place.ensures.count c.sync_place.ensures.fits
+      in_place_step d.size d.first d.marks marks d.image.items m m old new refl c.sync_place.ensures.count c.sync_place.ensures.same.size
           (subst (λ (xs : List ℕ). Matches d.size d.first marks xs new.now.bytes) is c.sync_place.ensures.matches) since k,
     )
 
@@ -44,7 +45,17 @@ invariant_of-self-2 g c =
     let is = c.deref.ensures.value in
     rw c.sync.ensures (
       c.sync_place.ensures.size,
-      in_place_step d.size d.first d.marks marks d.image.items m (record { bytes = m.bytes; pending = [] }) old new refl c.sync_place.ensures.count c.sync_place.ensures.fits
+      in_place_step d.size d.first d.marks marks d.image.items m (record { bytes = m.bytes; pending = [] }) old new refl c.sync_place.ensures.count c.sync_place.ensures.same.size
           (subst (λ (xs : List ℕ). Matches d.size d.first marks xs new.now.bytes) is c.sync_place.ensures.matches)
           (subst (λ (xs : List ℕ). EachSince (Agrees (place_of d.size d.first) [] xs) new.now new.past) is c.in-Ok.ensures.durable) k,
     )
+
+pub returns-in-Err-clause-beyond : goal.returns-in-Err-clause-beyond
+returns-in-Err-clause-beyond g c =
+    let new = g.S.Sectors.device c.sync_place.new.sectors in
+    subst (λ (l : InOne). SameOutside (sectors_from l.size l.first l.count ∷ []) l.sectors.now.bytes new.now.bytes) c.self.view_is c.sync_place.ensures.same
+
+pub returns-clause-beyond : goal.returns-clause-beyond
+returns-clause-beyond g c =
+    let new = g.S.Sectors.device c.sync_place.new.sectors in
+    subst (λ (l : InOne). SameOutside (sectors_from l.size l.first l.count ∷ []) l.sectors.now.bytes new.now.bytes) c.self.view_is c.sync_place.ensures.same

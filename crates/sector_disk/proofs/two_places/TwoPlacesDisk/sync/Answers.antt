@@ -1,7 +1,8 @@
-use Rattle.std.proofs.Common.{◌≡◌, ℕ, List, ◌∙◌, [], length, sym, subst}
-use Rattle.block_disk.specs.Images.{LeavesOnly}
+use Rattle.std.proofs.Common.{◌≡◌, ℕ, ◌+◌, List, ◌∙◌, [], ◌∷◌, length, sym, subst}
+use Rattle.block_disk.specs.Device.{SameOutside}
+use Rattle.block_disk.specs.Images.{ImageBut, LeavesOnly}
 use Rattle.sector_disk.specs.Disks.{Layered}
-use Rattle.sector_disk.specs.Places.{Reads, Shows}
+use Rattle.sector_disk.specs.Places.{Reads, Shows, sectors_from}
 use Rattle.sector_disk.specs.Size.{sector}
 use Rattle.sector_disk.proofs.TwoAreas.{kept_step, leaves_label}
 use Rattle.sector_disk.proofs.two_places.TwoPlacesDisk.sync.Goals as goal
@@ -60,3 +61,23 @@ returns-clause-any_moment g c =
     subst (λ (l : Layered). LeavesOnly l.sectors new (Shows l.size l.count (sector l.size 0 l.sectors.now.bytes) l.device.now)) c.self.view_is
     (leaves_label d.size (length d.fresh) d.gate.is_firm d.gate.turn k.label d.trace.device.now (g.S.Sectors.device d.sectors) new k.crash
     (c.sync_places.ensures.any_moment k.label d.trace.device.now is k.crash))
+
+pub returns-in-Err-clause-within : goal.returns-in-Err-clause-within
+returns-in-Err-clause-within g c =
+    let new = g.S.Sectors.device c.sync_places.new.sectors in
+    subst (λ (l : Layered). LeavesOnly l.sectors new (ImageBut l.sectors (sectors_from l.size 0 (l.count + l.count + 2) ∷ []))) c.self.view_is c.sync_places.ensures.within
+
+pub returns-in-Err-clause-beyond : goal.returns-in-Err-clause-beyond
+returns-in-Err-clause-beyond g c =
+    let new = g.S.Sectors.device c.sync_places.new.sectors in
+    subst (λ (l : Layered). SameOutside (sectors_from l.size 0 (l.count + l.count + 2) ∷ []) l.sectors.now.bytes new.now.bytes) c.self.view_is c.sync_places.ensures.beyond
+
+pub returns-clause-within : goal.returns-clause-within
+returns-clause-within g c =
+    let new = g.S.Sectors.device c.sync_places.new.sectors in
+    subst (λ (l : Layered). LeavesOnly l.sectors new (ImageBut l.sectors (sectors_from l.size 0 (l.count + l.count + 2) ∷ []))) c.self.view_is c.sync_places.ensures.within
+
+pub returns-clause-beyond : goal.returns-clause-beyond
+returns-clause-beyond g c =
+    let new = g.S.Sectors.device c.sync_places.new.sectors in
+    subst (λ (l : Layered). SameOutside (sectors_from l.size 0 (l.count + l.count + 2) ∷ []) l.sectors.now.bytes new.now.bytes) c.self.view_is c.sync_places.ensures.beyond
