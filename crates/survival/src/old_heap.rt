@@ -1,7 +1,7 @@
 //! A heap of version 1 and its upgrade.
-ghost use Rattle.std.specs.Prelude.{◌≡◌, ℕ, List, IfErr, IfOk, MatchResult};
+ghost use Rattle.std.specs.Prelude.{◌≡◌, ◌⊎◌, ℕ, List, IfErr, IfOk, MatchResult};
 ghost use Rattle.heap_model.specs.Setting.{Setting};
-ghost use Rattle.block_disk.specs.Device.{HasFailed};
+ghost use Rattle.block_disk.specs.Device.{HasFailed, SameMoments, synced};
 ghost use Rattle.image.specs.declared.layout.Layout.{Layout};
 ghost use Rattle.store_past.specs.Past.{Past};
 ghost use Rattle.recover.specs.Recovery.{IsCutOff, IsRecovery, RefusesUpgrade};
@@ -26,7 +26,8 @@ use std::alloc::Global;
 /// device failed: heap, report and reasons are those of the first try, until the control of version 2 shows; then nothing is left
 /// to keep or to drop. However a try ends, it counts as one that was cut off, and another may follow.
 ///
-/// The device is refused only where a call of it fails, memory is wanting, or the control's sequence is at its last value.
+/// The device is refused only where a call of it fails, memory is wanting, or the control's sequence is at its last value. But for the
+/// first of these nothing was done then but a sync.
 pub fn upgrade_left<E: Disk>(
     alloc: Global,
     left: E,
@@ -37,6 +38,7 @@ pub fn upgrade_left<E: Disk>(
         → (first : Shape) × IsStudyOf image first × IfOk result (λ r. TellsAgain first r.0.sequence r.0.heap r.1) }
     ensures upgraded { MatchResult result (λ r. IsRecovery (E.device left) (E.device r.0.disk) r.0 r.1) (λ back. RefusesUpgrade (E.device left).now.bytes back.1) }
     ensures cut_off { MatchResult result (λ r. IsCutOff (E.device left) (E.device r.0.disk)) (λ back. IsCutOff (E.device left) (E.device back.0)) }
+    ensures untouched { IfErr result (λ back. (back.1 ≡ Fault) ⊎ SameMoments (synced (E.device left)) (E.device back.0)) }
     ensures cause { IfErr result (λ back. back.1 ≡ Fault → HasFailed (E.device left).failures (E.device back.0).failures) }
 {
     again_law();
