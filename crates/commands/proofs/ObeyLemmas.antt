@@ -30,6 +30,6 @@ told text (Ok done) written now all part = all
 told text (Err error) written now all part = part
 
 pub told_named : {P : Type 0} (text : Option Declarations → Study → List ℕ) (path : Option P) (r : Result (Unit {0}) NamedFault) (written now : Option (List ℕ))
-    → OnOk r (TellsNamed text path written now) → OnErr r (TellsLessNamed text written now) → TellsOfNamed text path (told_of_named r) written now
+    → OnOk r (TellsNamed text path written now) → OnErr r (TellsLessNamed text path written now) → TellsOfNamed text path (told_of_named r) written now
 told_named text path (Ok done) written now all part = all
 told_named text path (Err error) written now all part = part

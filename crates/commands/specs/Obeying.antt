@@ -82,7 +82,7 @@ TellsOf text (Err _) written now = ⊥
 -- this text of a study of an image is written, by the names of the schema file where one is named
 abbrev pub TellsOfNamed : {P : Type 0} (text : Option Declarations → Study → List ℕ) (path : Option P) → Result (Unit {0}) WorkFault → (written now : Option (List ℕ)) → Type 0
 TellsOfNamed text path (Ok done) written now = TellsNamed text path written now
-TellsOfNamed text path (Err (fault.Named error)) written now = TellsLessNamed text written now
+TellsOfNamed text path (Err (fault.Named error)) written now = TellsLessNamed text path written now
 TellsOfNamed text path (Err _) written now = ⊥
 
 -- what the words ask for is done, with this result: by what the reader had before and has now, and what was written before and is now

@@ -26,26 +26,40 @@ pub some_err : {T E Q : Type 0} (P : E → Type 0) (r : Result T E) → ((e : E)
 some_err P (Ok x) f h = tt
 some_err P (Err e) f h = f e h
 
+-- a schema that was given is the image's
+fits_given : (given : Option Declarations) (s : Studied) → FitsImage (named_as given s) s.layout s.guards.items → FitsGiven given s
+fits_given None s fits = tt
+fits_given (Some schema) s fits = fits
+
 module _ (given : Option Declarations) (last : ℕ) (image : List ℕ) (old new : Option (List ℕ)) (fault : NamedFault) where
   draw_silent : (reason : DumpError) → fault ≡ told_of_naming reason → RefusesDrawing given last image old new reason → (IsLate fault → ⊥) → Appends old new []
   draw_silent (Study why) told h early = h.1
   draw_silent OtherSchema told h early = h.1
   draw_silent Write told h early = absurd (early told)
 
-  draw_part : (reason : DumpError) → RefusesDrawing given last image old new reason → TellsLessNamed (λ g s. picture_text g last s) old new
-  draw_part (Study why) h = inl h.1
-  draw_part OtherSchema h = inl h.1
-  draw_part Write h = inr (given, image, record { study = h.study; studied = h.studied; written = h.written })
+  draw_part : {P : Type 0} (path : Option P) → IsNamedBy path given → (reason : DumpError) → RefusesDrawing given last image old new reason
+      → TellsLessNamed (λ g s. picture_text g last s) path old new
+  draw_part path named (Study why) h = inl h.1
+  draw_part path named OtherSchema h = inl h.1
+  draw_part path named Write h = inr record { given = given; named = named; image = image; study = h.study; studied = h.studied; fits = h.fits; written = h.written }
 
   dump_silent : (reason : DumpError) → fault ≡ told_of_naming reason → RefusesDump given image old new reason → (IsLate fault → ⊥) → Appends old new []
   dump_silent (Study why) told h early = h.1
   dump_silent OtherSchema told h early = h.1
   dump_silent Write told h early = absurd (early told)
 
-  dump_part : (reason : DumpError) → RefusesDump given image old new reason → TellsLessNamed dump_text old new
-  dump_part (Study why) h = inl h.1
-  dump_part OtherSchema h = inl h.1
-  dump_part Write h = inr (given, image, record { study = h.study; studied = h.studied; written = h.written })
+  dump_part : {P : Type 0} (path : Option P) → IsNamedBy path given → (reason : DumpError) → RefusesDump given image old new reason → TellsLessNamed dump_text path old new
+  dump_part path named (Study why) h = inl h.1
+  dump_part path named OtherSchema h = inl h.1
+  dump_part path named Write h = inr record {
+    given = given;
+    named = named;
+    image = image;
+    study = h.study;
+    studied = h.studied;
+    fits = fits_given given h.study h.fits;
+    written = h.written;
+  }
 
 module _ (given : Option Declarations) (last : ℕ) (r_old r_new old new : Option (List ℕ)) where
   pub draws_told : {P : Type 0} (path : Option P) → IsNamedBy path given → DrawsRead given last r_old r_new old new → TellsNamed (λ g s. picture_text g last s) path old new
@@ -63,14 +77,10 @@ module _ (given : Option Declarations) (last : ℕ) (r_old r_new old new : Optio
   draws_silent fault (inl h) early = h.unread.silent
   draws_silent fault (inr h) early = draw_silent given last h.image old new fault h.reason h.told h.refused early
 
-  pub draws_part : (fault : NamedFault) → RefusesToDraw given last r_old r_new old new fault → TellsLessNamed (λ g s. picture_text g last s) old new
-  draws_part fault (inl h) = inl h.unread.silent
-  draws_part fault (inr h) = draw_part given last h.image old new fault h.reason h.refused
-
--- a schema that was given is the image's
-fits_given : (given : Option Declarations) (s : Studied) → FitsImage (named_as given s) s.layout s.guards.items → FitsGiven given s
-fits_given None s fits = tt
-fits_given (Some schema) s fits = fits
+  pub draws_part : {P : Type 0} (path : Option P) → IsNamedBy path given → (fault : NamedFault) → RefusesToDraw given last r_old r_new old new fault
+      → TellsLessNamed (λ g s. picture_text g last s) path old new
+  draws_part path named fault (inl h) = inl h.unread.silent
+  draws_part path named fault (inr h) = draw_part given last h.image old new fault path named h.reason h.refused
 
 module _ (given : Option Declarations) (r_old r_new old new : Option (List ℕ)) where
   pub dumps_told : {P : Type 0} (path : Option P) → IsNamedBy path given → DumpsRead given r_old r_new old new → TellsNamed dump_text path old new
@@ -88,6 +98,6 @@ module _ (given : Option Declarations) (r_old r_new old new : Option (List ℕ))
   dumps_silent fault (inl h) early = h.unread.silent
   dumps_silent fault (inr h) early = dump_silent given 0 h.image old new fault h.reason h.told h.refused early
 
-  pub dumps_part : (fault : NamedFault) → RefusesToDump given r_old r_new old new fault → TellsLessNamed dump_text old new
-  dumps_part fault (inl h) = inl h.unread.silent
-  dumps_part fault (inr h) = dump_part given 0 h.image old new fault h.reason h.refused
+  pub dumps_part : {P : Type 0} (path : Option P) → IsNamedBy path given → (fault : NamedFault) → RefusesToDump given r_old r_new old new fault → TellsLessNamed dump_text path old new
+  dumps_part path named fault (inl h) = inl h.unread.silent
+  dumps_part path named fault (inr h) = dump_part given 0 h.image old new fault path named h.reason h.refused

@@ -8,7 +8,7 @@ use Rattle.declarations.specs.declared.schema_fault.SchemaFaultKind.TheVariants 
 use Rattle.image_schema.specs.Drawing.{FitsGiven}
 use Rattle.image_schema.specs.declared.error.DumpError.{DumpError}
 use Rattle.image_schema.specs.declared.error.DumpError.TheVariants as dumps
-use Rattle.inspect.specs.Inspection.{InspectsPart}
+use Rattle.inspect.specs.Written.{AppendsPart}
 use Rattle.recover.specs.Study.{IsStudyOf}
 use Rattle.recover.specs.declared.error.RecoverError.TheVariants.{Fault, NoMemory}
 use Rattle.recover.specs.declared.studied.Study.{Study}
@@ -31,9 +31,19 @@ pub record TellsNamed {P : Type 0} (text : Option Declarations → Study → Lis
   pub fits : FitsGiven given study
   pub written : Appends old new (text given study)
 
+-- a beginning of it was written
+pub record TellsNamedPart {P : Type 0} (text : Option Declarations → Study → List ℕ) (path : Option P) (old new : Option (List ℕ)) : Type 0 where
+  pub given : Option Declarations
+  pub named : IsNamedBy path given
+  pub image : List ℕ
+  pub study : Study
+  pub studied : IsStudyOf image study
+  pub fits : FitsGiven given study
+  pub written : AppendsPart old new (text given study)
+
 -- nothing was written, or a beginning of it
-abbrev pub TellsLessNamed : (text : Option Declarations → Study → List ℕ) → (old new : Option (List ℕ)) → Type 0
-TellsLessNamed text old new = Appends old new [] ⊎ ((given : Option Declarations) × (image : List ℕ) × InspectsPart (text given) image old new)
+abbrev pub TellsLessNamed : {P : Type 0} (text : Option Declarations → Study → List ℕ) (path : Option P) (old new : Option (List ℕ)) → Type 0
+TellsLessNamed text path old new = Appends old new [] ⊎ TellsNamedPart text path old new
 
 -- how a refusal to tell by these names is told
 abbrev pub told_of_naming : DumpError → NamedFault

@@ -72,7 +72,7 @@ pub fn dump_file<F: BackingFile + Read + Drop, R: Files<File = F>, W: Write>(
 ) -> Result<(), NamedFault>
     ensures printed { OnOk result (TellsNamed dump_text schema_path.entry (W.contents writer.old) (W.contents writer.new)) }
     ensures silent { IfErr result (λ error. error ≢ Image (images.Image Fault) → Appends (W.contents writer.old) (W.contents writer.new) []) }
-    ensures part { OnErr result (TellsLessNamed dump_text (W.contents writer.old) (W.contents writer.new)) }
+    ensures part { OnErr result (TellsLessNamed dump_text schema_path.entry (W.contents writer.old) (W.contents writer.new)) }
 {
     let given = match schema_at(rt, alloc, trouble, schema_path) {
         Ok(given) => given,

@@ -75,7 +75,7 @@ pub fn draw_named_file<F: BackingFile + Read + Drop, R: Files<File = F>, W: Writ
 ) -> Result<(), NamedFault>
     ensures printed { OnOk result (TellsNamed (λ given s. picture_text given last s) schema_path.entry (W.contents writer.old) (W.contents writer.new)) }
     ensures silent { IfErr result (λ error. error ≢ Image (images.Image Fault) → Appends (W.contents writer.old) (W.contents writer.new) []) }
-    ensures part { OnErr result (TellsLessNamed (λ given s. picture_text given last s) (W.contents writer.old) (W.contents writer.new)) }
+    ensures part { OnErr result (TellsLessNamed (λ given s. picture_text given last s) schema_path.entry (W.contents writer.old) (W.contents writer.new)) }
 {
     let given = match schema_at(rt, alloc, trouble, schema_path) {
         Ok(given) => given,

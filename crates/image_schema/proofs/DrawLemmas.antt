@@ -16,7 +16,7 @@ module _ (given : Option Declarations) (last : ℕ) (image : List ℕ) (old new 
   refuses : (e : DumpError) → RefusesDrawnStudy given last s old new e → RefusesDrawing given last image old new e
   refuses (Study why) h = (subst (RefusesImage image) (sym h.0) tt, h.1)
   refuses OtherSchema h = (record { study = s; studied = of; other = h.0 }, h.1)
-  refuses Write h = record { study = s; studied = of; written = h }
+  refuses Write h = record { study = s; studied = of; fits = h.fits; written = h.written }
 
   pub refuses_all : (r : Result (Unit {0}) DumpError) → IfErr r (RefusesDrawnStudy given last s old new) → IfErr r (RefusesDrawing given last image old new)
   refuses_all (Ok done) h = tt

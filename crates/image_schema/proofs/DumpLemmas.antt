@@ -17,7 +17,7 @@ module _ (given : Option Declarations) (image : List ℕ) (old new : Option (Lis
   refuses : (e : DumpError) → RefusesStudy given s old new e → RefusesDump given image old new e
   refuses (Study why) h = (subst (RefusesImage image) (sym h.0) tt, h.1)
   refuses OtherSchema h = (record { study = s; studied = of; other = h.0 }, h.1)
-  refuses Write h = record { study = s; studied = of; written = h }
+  refuses Write h = record { study = s; studied = of; fits = h.fits; written = h.written }
 
   pub refuses_all : (r : Result (Unit {0}) DumpError) → IfErr r (RefusesStudy given s old new) → IfErr r (RefusesDump given image old new)
   refuses_all (Ok done) h = tt

@@ -22,11 +22,16 @@ pub record DrawsStudy (given : Option Declarations) (last : ℕ) (s : Study) (ol
   pub fits : FitsGiven given s
   pub written : Appends old new (picture_text given last s)
 
+-- a beginning of it was written
+pub record DrawsStudyPart (given : Option Declarations) (last : ℕ) (s : Study) (old new : Option (List ℕ)) : Type 0 where
+  pub fits : FitsGiven given s
+  pub written : AppendsPart old new (picture_text given last s)
+
 -- what each refusal says of the study
 abbrev pub RefusesDrawnStudy : Option Declarations → (last : ℕ) → Study → (old new : Option (List ℕ)) → DumpError → Type 0
 RefusesDrawnStudy given last s old new (dump_error.Study why) = (why ≡ NoMemory) × Appends old new []
 RefusesDrawnStudy given last s old new dump_error.OtherSchema = (FitsGiven given s → ⊥) × Appends old new []
-RefusesDrawnStudy given last s old new dump_error.Write = AppendsPart old new (picture_text given last s)
+RefusesDrawnStudy given last s old new dump_error.Write = DrawsStudyPart given last s old new
 
 -- the graph of the image was written
 pub record Draws (given : Option Declarations) (last : ℕ) (image : List ℕ) (old new : Option (List ℕ)) : Type 0 where
@@ -39,6 +44,7 @@ pub record Draws (given : Option Declarations) (last : ℕ) (image : List ℕ) (
 pub record DrawsPart (given : Option Declarations) (last : ℕ) (image : List ℕ) (old new : Option (List ℕ)) : Type 0 where
   pub study : Study
   pub studied : IsStudyOf image study
+  pub fits : FitsGiven given study
   pub written : AppendsPart old new (picture_text given last study)
 
 -- the schema that was given isn't the image's

@@ -27,11 +27,16 @@ pub record DumpsStudy (given : Option Declarations) (s : Study) (old new : Optio
   pub fits : FitsImage (named_as given s) s.layout s.guards.items
   pub written : Appends old new (dump_text given s)
 
+-- a beginning of it was written
+pub record DumpsStudyPart (given : Option Declarations) (s : Study) (old new : Option (List ℕ)) : Type 0 where
+  pub fits : FitsImage (named_as given s) s.layout s.guards.items
+  pub written : AppendsPart old new (dump_text given s)
+
 -- what each refusal says of the study
 abbrev pub RefusesStudy : Option Declarations → Study → (old new : Option (List ℕ)) → DumpError → Type 0
 RefusesStudy given s old new (dump_error.Study why) = (why ≡ NoMemory) × Appends old new []
 RefusesStudy given s old new dump_error.OtherSchema = (FitsImage (named_as given s) s.layout s.guards.items → ⊥) × Appends old new []
-RefusesStudy given s old new dump_error.Write = AppendsPart old new (dump_text given s)
+RefusesStudy given s old new dump_error.Write = DumpsStudyPart given s old new
 
 -- it is the file of the image's own schema that was written
 pub record Dumps (given : Option Declarations) (image : List ℕ) (old new : Option (List ℕ)) : Type 0 where
@@ -44,6 +49,7 @@ pub record Dumps (given : Option Declarations) (image : List ℕ) (old new : Opt
 pub record DumpsPart (given : Option Declarations) (image : List ℕ) (old new : Option (List ℕ)) : Type 0 where
   pub study : Study
   pub studied : IsStudyOf image study
+  pub fits : FitsImage (named_as given study) study.layout study.guards.items
   pub written : AppendsPart old new (dump_text given study)
 
 -- the schema that was given isn't the image's

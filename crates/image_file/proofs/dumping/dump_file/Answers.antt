@@ -17,4 +17,4 @@ returns-clause-silent g c =
 
 pub returns-clause-part : goal.returns-clause-part
 returns-clause-part g c =
-    some_err _ c.dump_image-dumped.result (dumps_part c.in-Ok.given _ _ (g.W.Write.contents c.args.writer.now) (g.W.Write.contents c.dump_image-dumped.new.writer)) c.dump_image-dumped.ensures.refused
+    some_err _ c.dump_image-dumped.result (dumps_part c.in-Ok.given _ _ (g.W.Write.contents c.args.writer.now) (g.W.Write.contents c.dump_image-dumped.new.writer) c.args.schema_path c.in-Ok.ensures) c.dump_image-dumped.ensures.refused

@@ -17,4 +17,4 @@ returns-clause-silent g c =
 
 pub returns-clause-part : goal.returns-clause-part
 returns-clause-part g c =
-    some_err _ c.draw_named_image-drawn.result (draws_part c.in-Ok.given c.args.last _ _ (g.W.Write.contents c.args.writer.now) (g.W.Write.contents c.draw_named_image-drawn.new.writer)) c.draw_named_image-drawn.ensures.refused
+    some_err _ c.draw_named_image-drawn.result (draws_part c.in-Ok.given c.args.last _ _ (g.W.Write.contents c.args.writer.now) (g.W.Write.contents c.draw_named_image-drawn.new.writer) c.args.schema_path c.in-Ok.ensures) c.draw_named_image-drawn.ensures.refused

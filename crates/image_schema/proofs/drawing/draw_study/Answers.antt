@@ -28,4 +28,7 @@ pub returns-in-Err-Write-clause-refused : goal.returns-in-Err-Write-clause-refus
 returns-in-Err-Write-clause-refused g c =
     let old = g.W.Write.contents c.args.writer.now in
     let new = g.W.Write.contents c.write_graph-drawn.new.writer in
-    subst (λ (names : Option Declarations). AppendsPart old new (picture_text names c.args.last c.args.study.now)) c.as_ref.ensures.value (c.in-Err-Write.ensures-1.part (rw c.in-Err-Write.is at c.in-Err-Write.field-0-is))
+    record {
+      fits = c.fits_given.ensures.0 c.if-not-fits_given.false;
+      written = subst (λ (names : Option Declarations). AppendsPart old new (picture_text names c.args.last c.args.study.now)) c.as_ref.ensures.value (c.in-Err-Write.ensures-1.part (rw c.in-Err-Write.is at c.in-Err-Write.field-0-is));
+    }
