@@ -10,7 +10,7 @@ use Rattle.heap_model.specs.Cuts.{counts_of, IsStable}
 -- the lanes, numbered from 0; by lane, how many of its sections were forgotten;
 -- what the lanes' records did since, the newest first; how many records more there is room for;
 -- by lane, how many of its sections the last answered cut has, or were forgotten since;
--- and how many sections were taken up for that answer
+-- and the number that was told of the sections on which that answer decided
 pub record Trace : Type 0 where
   pub lanes : ℕ
   pub base : List ℕ

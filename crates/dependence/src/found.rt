@@ -15,7 +15,7 @@ use crate::section::Dependence;
 use crate::step::Step;
 use heap_model::Cut;
 
-/// The stable cut, and how many sections were taken up to find it.
+/// The stable cut, and the number that is told of the sections on which it decided.
 #[derive(Clone, Copy)]
 pub struct Found {
     pub cut: Cut,
@@ -53,7 +53,8 @@ pub fn at_hand(
 ///
 /// Where all sections that have ended are candidates, what is outside alone is taken up. Else each candidate is taken up once
 /// with its dependences, and those that are out once more: so that one which is in is taken up once, and a section
-/// whose cause is out isn't taken up.
+/// whose cause is out isn't taken up. The number told is that of the candidates, with those that are out once more, whichever
+/// of them were taken up.
 pub fn find(
     lanes: u8,
     steps: &[Step],

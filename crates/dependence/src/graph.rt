@@ -33,7 +33,7 @@ pub struct Graph {
     // Its spare capacity is the room.
     steps: Vec<Step>,
     links: Links,
-    // The cut that was last answered, with what was forgotten since, and the looks that it took.
+    // The cut that was last answered, with what was forgotten since, and the number told of that answer.
     answered: Cut,
     looks: u64,
     // By lane: a dependence that keeps its first section beyond that cut out, if it is known.

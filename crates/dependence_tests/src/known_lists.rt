@@ -360,22 +360,28 @@ fn push_brick(told: &mut Told, section: u64)
     push_all(told, &records);
 }
 
-// How many sections are taken up, in a chain of so many whose last has not ended.
-fn looks_at_bricks(alloc: Global, sections: u32) -> Option<u64> {
-    let mut told = Told::of(alloc, 2, 12_000)?;
+// The number told of a chain of so many sections whose last has not ended, with room for so many records.
+fn looks_at_bricks(alloc: Global, sections: u32, records: usize) -> Option<u64> {
+    let mut told = Told::of(alloc, 2, records)?;
     push_bricks(&mut told, sections);
     let is_none = is_so(&mut told, Stable(0, 0));
     Some(if is_none { told.last_looks() } else { 0 })
 }
 
 #[test]
-fn the_search_is_linear(rt: HostRuntime) {
-    let shorter = looks_at_bricks(rt.alloc(), 1_000);
-    let longer = looks_at_bricks(rt.alloc(), 2_000);
+fn the_number_told_of_a_chain_is_linear(rt: HostRuntime) {
+    let shorter = looks_at_bricks(rt.alloc(), 1_000, 12_000);
+    let longer = looks_at_bricks(rt.alloc(), 2_000, 12_000);
     assert!(rt; [shorter, longer] == [Some(1_998), Some(3_998)]);
 }
 
-// How many sections an answer takes up, if it has one.
+// So is the search: one that took up for each section those that it depends on would take up 10^10, which no test's minute has.
+#[test]
+fn a_long_chain_is_searched_in_time(rt: HostRuntime) {
+    assert!(rt; looks_at_bricks(rt.alloc(), 150_000, 900_000) == Some(299_998));
+}
+
+// The number told of an answer, if there is one.
 fn looks(told: &mut Told) -> Option<u64> {
     told.stable_cut()?;
     Some(told.last_looks())
@@ -384,14 +390,16 @@ fn looks(told: &mut Told) -> Option<u64> {
 // Lane 0's section, which stays open.
 const OPEN: [(u8, Record); 3] = [acq!(0, 0, 0), acq!(0, 1, 0), rel!(0, 1, 0)];
 
-// Tells of an open section, and of 2,000 of lane 1 that depend on it, with an answer after each 100. Answers how many are taken
-// up until it ends, and for the answer then.
-fn looks_behind_open(told: &mut Told) -> Option<[u64; 2]> {
+// Tells of an open section, and of so many of lane 1 that depend on it, with an answer after each group. Answers the numbers told
+// until it ends, and of the answer then.
+fn looks_behind_open(told: &mut Told, sections: u64, group: u64) -> Option<[u64; 2]>
+    requires { 0 < group }
+{
     push_all(told, &OPEN);
     let mut taken_up = 0u64;
-    for number in 1..2_001u64 {
+    for number in 1..=sections {
         push_all(told, &[acq!(1, 1, number), rel!(1, 1, number)]);
-        if number % 100 == 0 {
+        if number % group == 0 {
             taken_up = taken_up.wrapping_add(looks(told)?);
         }
     }
@@ -399,12 +407,20 @@ fn looks_behind_open(told: &mut Told) -> Option<[u64; 2]> {
     Some([taken_up, looks(told)?])
 }
 
-fn looks_with_one_open(alloc: Global) -> Option<[u64; 2]> {
-    let mut told = Told::of(alloc, 2, 4_004)?;
-    looks_behind_open(&mut told)
+fn looks_with_one_open(alloc: Global, sections: u64, group: u64, records: usize) -> Option<[u64; 2]>
+    requires { 0 < group }
+{
+    let mut told = Told::of(alloc, 2, records)?;
+    looks_behind_open(&mut told, sections, group)
 }
 
 #[test]
-fn what_is_left_out_is_not_taken_up_again(rt: HostRuntime) {
-    assert!(rt; looks_with_one_open(rt.alloc()) == Some([200, 2_001]));
+fn what_is_left_out_is_not_told_again(rt: HostRuntime) {
+    assert!(rt; looks_with_one_open(rt.alloc(), 2_000, 100, 4_004) == Some([200, 2_001]));
+}
+
+// Nor is it taken up again: one that did so for each answer would take up 10^10 sections.
+#[test]
+fn what_is_left_out_takes_no_time_again(rt: HostRuntime) {
+    assert!(rt; looks_with_one_open(rt.alloc(), 200_000, 1, 400_004) == Some([2, 200_001]));
 }

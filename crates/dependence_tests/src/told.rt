@@ -72,7 +72,7 @@ impl Told {
         self.graph.reason(lane, section)
     }
 
-    /// How many sections the last answer took up.
+    /// The number told of the sections on which the last answer decided.
     pub fn last_looks(&self) -> u64 {
         self.graph.last_looks()
     }
