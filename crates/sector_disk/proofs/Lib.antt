@@ -6,3 +6,4 @@ pub mod Laying
 pub mod OnePlace
 pub mod Sizes
 pub mod TwoAreas
+pub mod InUnits

@@ -1,7 +1,8 @@
 //! A disk in one place on a device of sectors that tears none.
-ghost use Rattle.std.specs.Prelude.{◌≡◌, ◌≢◌, ◌⊎◌, ◌+◌, ◌<◌, ◌≤◌, ℕ, List, IfErr, IfOk, IsErrAnd, IsErrOf, OnErr, OnOk, [], ◌∷◌, length};
+ghost use Rattle.std.specs.Prelude.{◌≡◌, ◌≢◌, ◌⊎◌, ◌+◌, ◌*◌, ◌<◌, ◌≤◌, ℕ, List, IfErr, IfOk, IsErrAnd, IsErrOf, IsOk, OnErr, OnOk, [], ◌∷◌, length};
 ghost use Rattle.block_disk.specs.Bytes.{part, spliced};
-ghost use Rattle.block_disk.specs.Device.{HasFailed, Image, SameMoments, SameOutside, TornWrite, synced, written};
+ghost use Rattle.block_disk.specs.Device.{HasFailed, Image, SameMoments, SameOutside, TornWrite, synced, unit_ranges, written, written_units};
+ghost use Rattle.block_disk.specs.Images.{ImageBut, LeavesOnly};
 ghost use Rattle.block_disk.specs.declared.error.DiskError.TheVariants.{Fault, OutOfRange};
 ghost use Rattle.sector_disk.specs.OnePlace.{IsInPlace, held};
 ghost use Rattle.sector_disk.specs.Places.{IsAsFound, sectors_from};
@@ -158,6 +159,29 @@ impl<S: WholeSectors + Drop> Disk for InPlace<S> {
         }
         write_here(&mut self.marks, self.size, &mut self.image, at, bytes);
         self.trace.write(at, bytes);
+        Ok(())
+    }
+
+    /// Writes the memory, a unit after the other, and leaves the device as it is. It never fails.
+    fn write_units(&mut self, at: u64, units: &[u8], count: usize) -> Result<(), block_disk::Fault>
+        requires some { 0 < count }
+        requires whole { length units.now ≡ count * 16 }
+        requires fits { at + length units.now ≤ length self.old.device.now.bytes }
+        ensures ok { OnOk result (self.new.device ≡ written_units count at units.now self.old.device) }
+        ensures any_moment { LeavesOnly self.old.device self.new.device (ImageBut self.old.device (unit_ranges count at)) }
+        ensures cause { OnErr result (HasFailed self.old.device.failures self.new.device.failures) }
+        ensures no_fault { IsOk result }
+        ensures sectors { self.new.sectors ≡ self.old.sectors }
+        ensures place { (self.new.size ≡ self.old.size) × (self.new.first ≡ self.old.first) × (self.new.count ≡ self.old.count) }
+    {
+        let _size = self.size();
+        for i in 0..count {
+            let from = i * 16;
+            match self.write_at(at + from as u64, &units[from..from + 16]) {
+                Ok(()) => {}
+                Err(_) => return Err(block_disk::Fault),
+            }
+        }
         Ok(())
     }
 

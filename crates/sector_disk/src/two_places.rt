@@ -1,7 +1,7 @@
 //! A disk in two places on a device of sectors.
-ghost use Rattle.std.specs.Prelude.{◌≡◌, ◌≢◌, ◌⊎◌, ◌+◌, ◌*◌, ◌^◌, ◌<◌, ◌≤◌, ℕ, List, IfErr, IfOk, IsErrAnd, IsErrOf, OnErr, OnOk, [], ◌∷◌, length, replicate, take};
+ghost use Rattle.std.specs.Prelude.{◌≡◌, ◌≢◌, ◌⊎◌, ◌+◌, ◌*◌, ◌^◌, ◌<◌, ◌≤◌, ℕ, List, IfErr, IfOk, IsErrAnd, IsErrOf, IsOk, OnErr, OnOk, [], ◌∷◌, length, replicate, take};
 ghost use Rattle.block_disk.specs.Bytes.{part, spliced};
-ghost use Rattle.block_disk.specs.Device.{HasFailed, SameMoments, SameOutside, TornWrite, synced, written};
+ghost use Rattle.block_disk.specs.Device.{HasFailed, SameMoments, SameOutside, TornWrite, synced, unit_ranges, written, written_units};
 ghost use Rattle.block_disk.specs.Images.{Always, ImageBut, LeavesOnly};
 ghost use Rattle.block_disk.specs.declared.error.DiskError.TheVariants.{Fault, OutOfRange};
 ghost use Rattle.sector_disk.specs.Labels.{label_bytes};
@@ -208,9 +208,31 @@ impl<S: Sectors + Drop> Disk for TwoPlaces<S> {
         Ok(())
     }
 
+    /// Writes the memory, a unit after the other, and leaves the device as it is. It never fails.
+    fn write_units(&mut self, at: u64, units: &[u8], count: usize) -> Result<(), block_disk::Fault>
+        requires some { 0 < count }
+        requires whole { length units.now ≡ count * 16 }
+        requires fits { at + length units.now ≤ length self.old.device.now.bytes }
+        ensures ok { OnOk result (self.new.device ≡ written_units count at units.now self.old.device) }
+        ensures any_moment { LeavesOnly self.old.device self.new.device (ImageBut self.old.device (unit_ranges count at)) }
+        ensures cause { OnErr result (HasFailed self.old.device.failures self.new.device.failures) }
+        ensures no_fault { IsOk result }
+        ensures sectors { self.new.sectors ≡ self.old.sectors }
+        ensures count { (self.new.size ≡ self.old.size) × (self.new.count ≡ self.old.count) }
+    {
+        let _size = self.size();
+        for i in 0..count {
+            let from = i * 16;
+            match self.write_at(at + from as u64, &units[from..from + 16]) {
+                Ok(()) => {}
+                Err(_) => return Err(block_disk::Fault),
+            }
+        }
+        Ok(())
+    }
+
     /// Writes to the area whose turn it isn't what it lacks, flushes, turns the gate, and flushes. A crash at any moment of it leaves what
-    /// stands for what a crash of the disk may leave that comes before the sync. No sector behind the areas is
-    /// written.
+    /// stands for what a crash of the disk may leave that comes before the sync. No sector behind the areas is written.
     fn sync(&mut self) -> Result<(), DiskError>
         ensures ok { OnOk result (self.new.device ≡ synced self.old.device) }
         ensures in_range { ¬ IsErrOf result OutOfRange }
