@@ -28,8 +28,8 @@ pub const SYNCS: usize = 64;
 ///
 /// A write that goes on where the one before it ended, with no sync between them, becomes one call with it, of
 /// [`MOST_BYTES`](crate::MOST_BYTES) at most. The disk takes its bytes and the calls that the host hasn't taken yet, and no more, however
-/// long it runs. `Fault` is want of
-/// memory for one more call, or, at a sync, [`SYNCS`] syncs that the host hasn't taken; the call has done nothing then, and the
+/// long it runs. `Fault` is want of memory for one more call, or, at a sync, [`SYNCS`] syncs that the host hasn't taken. A write
+/// or a sync has done nothing then; a [`write_units`](Disk::write_units) has written and kept the units before those of that call. The
 /// disk goes on to work.
 ///
 /// Contracts see it as the memory of a [`MemDisk`](block_disk::MemDisk) that keeps all stops, each write by itself.

@@ -10,7 +10,7 @@ use std::marker::Model;
 
 /// A disk in memory, which takes its bytes and no more, however long it runs. It never fails.
 ///
-/// It shows no crashes, as [`MemDisk`](crate::MemDisk) does.
+/// It shows no crashes, as [`MemDisk`](block_disk::MemDisk) does.
 #[derive(Drop)]
 pub struct VolatileDisk {
     bytes: Vec<u8>,

@@ -89,7 +89,7 @@ impl<F: BackingFile + Drop> FileSectors<F> {
 
     /// Sectors of zeros in this file, whatever it had, for a disk of so many in two places.
     ///
-    /// `NoMemory` is tried first, then `Fault`; `TooSmall` says that no file has so many.
+    /// `TooSmall` is tried first, and says that no file has so many; then `NoMemory`, then `Fault`.
     pub fn blank(
         alloc: Global,
         mut file: F,
