@@ -1,5 +1,5 @@
 -- Why a heap isn't closed, step by step.
-use Rattle.std.proofs.Common.{◌≡◌, Result, Ok, Err, IfErr, sym, ◌∙◌, subst}
+use Rattle.std.proofs.Common.{◌≡◌, All, List, Result, Ok, Err, IfErr, sym, ◌∙◌, subst}
 use Rattle.deferred_disk.specs.Deferred.{Deferred}
 use Rattle.deferred_disk.specs.Host.{HasLooked, Host}
 use Rattle.monitor.specs.Seats.{Home}
@@ -8,9 +8,11 @@ use Rattle.trim_helper.specs.declared.close_error.CloseError.{CloseError}
 use Rattle.trim_helper.specs.declared.close_error.CloseError.TheVariants.{Missing, Unfinished, Failed, Worn, Fault}
 use Rattle.hosted_heap.specs.Closing.{GoesOn, GoesOnWithout, HasStopped, IsNotClosed, IsNotFinished, StopsBy, StopsFor}
 use Rattle.hosted_heap.specs.Hosting.{Hosting, SameHeap}
+use Rattle.hosted_heap.specs.Lanes.{HasCome}
 use Rattle.hosted_heap.specs.declared.closing.Closed.{Closed}
 use Rattle.hosted_heap.specs.declared.closing.NotClosed.{NotClosed}
 use Rattle.hosted_heap.specs.declared.closing.NotClosed.TheVariants.{Running, CallsLeft, InUse, Stopped}
+use Rattle.hosted_heap.specs.declared.lane_end.LaneEnd.{LaneEnd}
 use Rattle.hosted_heap.specs.declared.error.CloseRefusal.TheVariants.{Close}
 
 pub stopped : (x : Hosting) (h : Home) (r : Result Closed NotClosed) → h ≡ x.home → IfErr r (HasStopped h x.helper x.calls) → IfErr r (IsNotFinished x)
@@ -27,7 +29,7 @@ not_closed x y z w (Ok closed) on calls same looked without kept why = tt
 not_closed x y z w (Err (Running v)) on calls same looked without kept why = absurd why
 not_closed x y z w (Err (CallsLeft v)) on calls same looked without kept why = absurd why
 not_closed x y z w (Err (InUse v)) on calls same looked without kept why = (
-  record { home = why.0.home ∙ without.home ∙ same.home ∙ on.home; helper = why.0.helper ∙ without.helper ∙ same.helper ∙ on.helper; unused = why.0.unused ∙ without.unused; stop = why.0.stop ∙ without.stop ∙ same.stop ∙ on.stop },
+  record { home = why.0.home ∙ without.home ∙ same.home ∙ on.home; helper = why.0.helper ∙ without.helper ∙ same.helper ∙ on.helper; unused = why.0.unused ∙ without.unused; came = subst (λ (ends : List LaneEnd). All HasCome ends) (sym why.0.out) without.came; stop = why.0.stop ∙ without.stop ∙ same.stop ∙ on.stop },
   subst (λ (c : Host). HasLooked x.calls c) (sym (why.1 ∙ kept)) (subst (λ (c : Host). HasLooked c z.calls) calls looked),
 )
 not_closed x y z w (Err (Stopped closed e)) on calls same looked without kept why = (

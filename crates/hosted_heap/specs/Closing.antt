@@ -11,7 +11,7 @@ use Rattle.trim_helper.specs.declared.close_error.CloseError.{CloseError}
 use Rattle.trim_helper.specs.declared.close_error.CloseError.TheVariants.{Missing}
 use Rattle.trim_helper.specs.declared.ended.Ended.{Ended}
 use Rattle.hosted_heap.specs.Hosting.{Hosting, SameHeap, hosted_device}
-use Rattle.hosted_heap.specs.Lanes.{IsAwaited}
+use Rattle.hosted_heap.specs.Lanes.{HasCome, IsAwaited}
 use Rattle.hosted_heap.specs.declared.closing.NotClosed.{NotClosed}
 use Rattle.hosted_heap.specs.declared.closing.NotClosed.TheVariants.{Running, CallsLeft, InUse, Stopped}
 use Rattle.hosted_heap.specs.declared.error.CloseRefusal.{CloseRefusal}
@@ -26,11 +26,12 @@ pub record GoesOn (x y : Hosting) : Type 0 where
   pub out : length y.out ≡ length x.out
   pub stop : y.stop ≡ x.stop
 
--- so it does, and its other sessions have ended
+-- so it does, but that none of its sessions is left to hand out: each has come back, also of those that weren't handed out
 pub record GoesOnWithout (x y : Hosting) : Type 0 where
   pub home : y.home ≡ x.home
   pub helper : y.helper ≡ x.helper
   pub unused : y.unused ≡ []
+  pub came : All HasCome y.out
   pub stop : y.stop ≡ x.stop
 
 -- Sessions have ended, one a lane, and one of them holds a monitor, with the disk as it was; or the device is the reason.

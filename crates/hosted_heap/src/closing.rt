@@ -101,7 +101,6 @@ impl HostedHeap {
     // Ends the sessions that weren't handed out: each has come back to its lane's end then.
     fn end_unused(&mut self)
         requires { All HasCome self.old.out }
-        ensures came { All HasCome self.new.out }
         ensures without { GoesOnWithout self.old self.new × (self.new.calls ≡ self.old.calls) }
     {
         bring_back(&mut self.unused, &mut self.lanes);

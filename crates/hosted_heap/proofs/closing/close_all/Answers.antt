@@ -24,5 +24,13 @@ returns-in-Err-clause-refused c =
 
 pub returns-in-Ok-close-clause-ok : goal.returns-in-Ok-close-clause-ok
 returns-in-Ok-close-clause-ok c =
+    let x = c.args.helper in
     let closes = c.in-Ok-close.ensures.closes c.requires.helping.past c.requires.helping.serving in
-    record { ended = c.in-Ok.ended.items; none = closes.refused.0; complete = closes.refused.1; closed = c.in-Ok-close.ensures.ok; from = c.in-Ok-close.ensures.from }
+    record {
+      ended = c.in-Ok.ended.items;
+      are = (c.in-Ok.ensures.ended c.args.shared x.store.known.layout.capacity x.rings c.requires.lanes).0;
+      none = closes.refused.0;
+      complete = closes.refused.1;
+      closed = c.in-Ok-close.ensures.ok;
+      from = c.in-Ok-close.ensures.from;
+    }

@@ -1,7 +1,7 @@
-use Rattle.std.proofs.Common.{All, List, ◌≤◌, length, refl, sym, ◌∙◌, subst, arith}
+use Rattle.std.proofs.Common.{All, List, ◌≤◌, length, refl, sym, ◌∙◌, ap, subst, arith}
 use Rattle.std.proofs.lemmas.List.Elements.{All-nil}
 use Rattle.std.specs.Arc.{arc_value}
-use Rattle.hosted_heap.specs.Hosting.{Hosting, handed_out}
+use Rattle.hosted_heap.specs.Hosting.{Hosting, handed_out, lanes_of}
 use Rattle.hosted_heap.specs.Lanes.{AreNewHere, ArePaired, HasCome, IsJoinedHere, IsNewHere}
 use Rattle.hosted_heap.specs.Sessions.{Seated}
 use Rattle.hosted_heap.proofs.heap.HostedHeap.end_unused.Goals as goal
@@ -29,5 +29,16 @@ invariant_of-self c =
       paired = subst (λ (u : List Seated). ArePaired u c.bring_back.new.lanes.items) none refl;
     }
 
-pub returns-clause-came : goal.returns-clause-came
-returns-clause-came c = subst (λ (u : List Seated). All HasCome (handed_out u c.bring_back.new.lanes.items)) (sym c.bring_back.ensures.none) c.bring_back.ensures.came
+pub returns : goal.returns
+returns c = record {
+  without = (
+    record {
+      home = ap (λ (v : Hosting). v.home) c.self.view_is;
+      helper = ap (λ (v : Hosting). v.helper) c.self.view_is;
+      unused = ap (λ (u : List Seated). lanes_of u) c.bring_back.ensures.none;
+      came = subst (λ (u : List Seated). All HasCome (handed_out u c.bring_back.new.lanes.items)) (sym c.bring_back.ensures.none) c.bring_back.ensures.came;
+      stop = ap (λ (v : Hosting). v.stop) c.self.view_is;
+    },
+    ap (λ (v : Hosting). v.calls) c.self.view_is,
+  );
+}
