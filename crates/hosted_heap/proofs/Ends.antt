@@ -69,7 +69,8 @@ paired_kept xs es fs same long paired =
     let n = length xs in
     paired ∙ front_of n es ∙ ap (λ (ns : List ℕ). drop (length es - n) ns) (sym same) ∙ ap (λ (m : ℕ). drop (m - n) (lanes_at fs)) (sym long) ∙ sym (front_of n fs)
 
-lanes_long : (later : List ℕ) (xs : List Seated) → length (fold (λ (ns : List ℕ) (s : Seated). (view_of s.session).lane.0 ∷ ns) later xs) ≡ length later + length xs
+-- a lane for each session
+pub lanes_long : (later : List ℕ) (xs : List Seated) → length (fold (λ (ns : List ℕ) (s : Seated). (view_of s.session).lane.0 ∷ ns) later xs) ≡ length later + length xs
 lanes_long later [] = omega arith
 lanes_long later (s ∷ xs) = let more = lanes_long ((view_of s.session).lane.0 ∷ later) xs in omega (arith, more)
 

@@ -1,5 +1,6 @@
 mod Begun
 mod Closings
+mod Coming
 mod Ends
 mod Fits
 mod Later

@@ -1,5 +1,5 @@
 -- What is left of a heap that wasn't closed (this project's own).
-use Rattle.std.specs.Prelude.{◌≡◌, ◌+◌, ◌<◌, List, [], All, Any, length}
+use Rattle.std.specs.Prelude.{◌≡◌, ◌+◌, ◌<◌, List, [], All, Any, drop, length}
 use Rattle.deferred_disk.specs.Deferred.{Deferred}
 use Rattle.deferred_disk.specs.Host.{HasLooked, Host}
 use Rattle.deferred_disk.specs.declared.disk.TheConstants.{SYNCS}
@@ -11,26 +11,27 @@ use Rattle.trim_helper.specs.declared.close_error.CloseError.{CloseError}
 use Rattle.trim_helper.specs.declared.close_error.CloseError.TheVariants.{Missing}
 use Rattle.trim_helper.specs.declared.ended.Ended.{Ended}
 use Rattle.hosted_heap.specs.Hosting.{Hosting, SameHeap, hosted_device}
-use Rattle.hosted_heap.specs.Lanes.{HasCome, IsAwaited}
+use Rattle.hosted_heap.specs.Lanes.{HasCome, IsAwaited, KeepCome}
 use Rattle.hosted_heap.specs.declared.closing.NotClosed.{NotClosed}
 use Rattle.hosted_heap.specs.declared.closing.NotClosed.TheVariants.{Running, CallsLeft, InUse, Stopped}
 use Rattle.hosted_heap.specs.declared.error.CloseRefusal.{CloseRefusal}
 use Rattle.hosted_heap.specs.declared.error.CloseRefusal.TheVariants.{NoMemory, Close}
 use Rattle.hosted_heap.specs.declared.room.TheConstants.{CLOSE_SYNCS}
 
--- the heap goes on as it was, but for what it saw come back
+-- the heap goes on as it was, but for what it saw come back, which is where it came back
 pub record GoesOn (x y : Hosting) : Type 0 where
   pub home : y.home ≡ x.home
   pub helper : y.helper ≡ x.helper
   pub unused : y.unused ≡ x.unused
-  pub out : length y.out ≡ length x.out
+  pub out : KeepCome x.out y.out
   pub stop : y.stop ≡ x.stop
 
--- so it does, but that none of its sessions is left to hand out: each has come back, also of those that weren't handed out
+-- So it does, but that none of its sessions is left to hand out: each has come back, also of those that weren't handed out
 pub record GoesOnWithout (x y : Hosting) : Type 0 where
   pub home : y.home ≡ x.home
   pub helper : y.helper ≡ x.helper
   pub unused : y.unused ≡ []
+  pub out : KeepCome x.out (drop (length x.unused) y.out)
   pub came : All HasCome y.out
   pub stop : y.stop ≡ x.stop
 

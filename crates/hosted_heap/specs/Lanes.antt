@@ -1,7 +1,8 @@
 -- Where sessions come back (this project's own).
-use Rattle.std.specs.Prelude.{ℕ, ◌≡◌, ◌<◌, ◌⊎◌, List, ◌∷◌, [], Some, None, All, IfSome, IsSome, fold, length, take}
+use Rattle.std.specs.Prelude.{ℕ, ◌≡◌, ◌<◌, ◌⊎◌, List, ◌∷◌, ◌++◌, [], Some, None, All, IfSome, IsSome, fold, length, option_to_list, take}
+use Rattle.std.specs.List.{AllZip}
 use Rattle.monitor.specs.Seats.{Home}
-use Rattle.rtrb.specs.Ring.{known_items, received}
+use Rattle.rtrb.specs.Ring.{SameConsumer, known_items, received}
 use Rattle.running_heap.specs.Joined.{IsJoined}
 use Rattle.session.specs.Logs.{held_count}
 use Rattle.session.specs.Sessions.{view_of}
@@ -45,6 +46,16 @@ KeepsEnd old new = (h : Home) (capacity : ℕ) (rings : Rings) → IsLaneEnd h c
 -- they are ends of the same lanes
 abbrev pub KeepsEnds : (old new : List LaneEnd) → Type 0
 KeepsEnds old new = (h : Home) (capacity : ℕ) (rings : Rings) → All (IsLaneEnd h capacity rings) old → All (IsLaneEnd h capacity rings) new × (lanes_at new ≡ lanes_at old)
+
+-- What had come back there is there still. Else what its ring has given since then has come back, and nothing that it gave is gone.
+pub record KeepsCome (old new : LaneEnd) : Type 0 where
+  pub ring : SameConsumer old.back new.back
+  pub stays : IsSome old.came → new ≡ old
+  pub since : old.came ≡ None → received new.back ≡ received old.back ++ option_to_list new.came
+
+-- and so at each of these ends
+abbrev pub KeepCome : (old new : List LaneEnd) → Type 0
+KeepCome old new = AllZip KeepsCome old new
 
 -- its session has come back
 abbrev pub HasCome : LaneEnd → Type 0

@@ -1,7 +1,7 @@
 //! A session that has ended is handed out again.
-ghost use Rattle.std.specs.Prelude.{◌≡◌, ◌<◌, ◌≤◌, [], ℕ, All, IfNone, IfOk, IfSome, None, Some, true, false, drop, length, set, slice_index_or};
+ghost use Rattle.std.specs.Prelude.{◌≡◌, ◌<◌, ◌≤◌, ◌∷◌, [], ℕ, All, IfNone, IfOk, IfSome, None, Some, true, false, drop, length, set, slice_index_or};
 ghost use Rattle.std.specs.Arc.{arc_value};
-ghost use Rattle.hosted_heap.specs.Lanes.{IsIdle, IsLaneEnd, IsTaken, KeepsEnds};
+ghost use Rattle.hosted_heap.specs.Lanes.{IsIdle, IsLaneEnd, IsTaken, KeepCome, KeepsEnds};
 ghost use Rattle.hosted_heap.specs.declared.lane_end.LaneEnd.{LaneEnd as End};
 ghost use Rattle.rtrb.specs.Ring.{IsPair, known_free, known_items, received, sent};
 ghost use Rattle.trim_helper.specs.Endings.{Rings};
@@ -47,6 +47,7 @@ impl HostedHeap {
 // The place, from this one on, of an end whose session has come back and holds no monitor.
 fn find_idle(lanes: &mut Vec<LaneEnd>, first: usize) -> Option<usize>
     ensures kept { KeepsEnds lanes.old.items lanes.new.items }
+    ensures come { KeepCome lanes.old.items lanes.new.items }
     ensures count { length lanes.new.items ≡ length lanes.old.items }
     ensures place { IfSome result (λ place. (first ≤ place) × (place < length lanes.new.items)) }
     ensures idle { (d : End) → IfSome result (λ place. IsIdle (slice_index_or lanes.new.items place d)) }
@@ -64,6 +65,7 @@ fn find_idle(lanes: &mut Vec<LaneEnd>, first: usize) -> Option<usize>
 fn is_idle_at(lanes: &mut Vec<LaneEnd>, place: usize) -> bool
     requires { place < length lanes.old.items }
     ensures kept { KeepsEnds lanes.old.items lanes.new.items }
+    ensures come { KeepCome lanes.old.items lanes.new.items }
     ensures taken { (end : End) × (lanes.new.items ≡ set lanes.old.items place end) × (result ≡ false → IsTaken end) }
     ensures count { length lanes.new.items ≡ length lanes.old.items }
     ensures idle { (d : End) → result ≡ true → IsIdle (slice_index_or lanes.new.items place d) }
@@ -89,6 +91,7 @@ fn hand_out_at(
     ensures home { result.home ≡ arc_value shared }
     ensures stop { result.stop ≡ stop }
     ensures session { (d : End) → (slice_index_or lanes.old.items place d).came ≡ Some result.session }
+    ensures new { (end : End) × (lanes.new.items ≡ set lanes.old.items place end) × (end.came ≡ None) × (received end.back ≡ result.session ∷ []) }
     ensures kept { KeepsEnds lanes.old.items lanes.new.items }
     ensures count { length lanes.new.items ≡ length lanes.old.items }
 {

@@ -3,7 +3,7 @@ ghost use Rattle.std.specs.Prelude.{◌≡◌, ◌<◌, ◌≤◌, [], ℕ, All,
 ghost use Rattle.std.specs.List.{range_with_len};
 ghost use Rattle.hosted_heap.specs.Closing.{HasStopped};
 ghost use Rattle.hosted_heap.specs.Hosting.{IsClosedWith, hosted_device};
-ghost use Rattle.hosted_heap.specs.Lanes.{HasCome, IsAwaited, IsLaneEnd, KeepsEnds, TakesBack, lanes_at};
+ghost use Rattle.hosted_heap.specs.Lanes.{HasCome, IsAwaited, IsLaneEnd, KeepCome, KeepsEnds, TakesBack, lanes_at};
 ghost use Rattle.hosted_heap.specs.declared.lane_end.LaneEnd.{LaneEnd as End};
 ghost use Rattle.monitor.specs.Seats.{Home};
 ghost use Rattle.running_heap.specs.Joined.{IsHelping};
@@ -143,6 +143,7 @@ impl HostedHeap {
 // Whether the sessions of the lanes from this place on have come back.
 fn have_come(lanes: &mut Vec<LaneEnd>, first: usize) -> bool
     ensures kept { KeepsEnds lanes.old.items lanes.new.items }
+    ensures come { KeepCome lanes.old.items lanes.new.items }
     ensures came { result ≡ true → All HasCome (drop first lanes.new.items) }
     ensures count { length lanes.new.items ≡ length lanes.old.items }
     ensures awaited { result ≡ false → Any IsAwaited (drop first lanes.new.items) }
@@ -159,6 +160,7 @@ fn have_come(lanes: &mut Vec<LaneEnd>, first: usize) -> bool
 fn has_come_at(lanes: &mut Vec<LaneEnd>, place: usize) -> bool
     requires { place < length lanes.old.items }
     ensures kept { KeepsEnds lanes.old.items lanes.new.items }
+    ensures come { KeepCome lanes.old.items lanes.new.items }
     ensures came { (end : End) × (lanes.new.items ≡ set lanes.old.items place end) × (result ≡ true → HasCome end) }
     ensures count { length lanes.new.items ≡ length lanes.old.items }
     ensures awaited { (d : End) → result ≡ false → IsAwaited (slice_index_or lanes.new.items place d) }
@@ -172,6 +174,7 @@ fn bring_back(unused: &mut Vec<HostedSession>, lanes: &mut Vec<LaneEnd>)
     requires later { All HasCome (drop (length unused.old.items) lanes.old.items) }
     ensures none { unused.new.items ≡ [] }
     ensures came { All HasCome lanes.new.items }
+    ensures others { drop (length unused.old.items) lanes.new.items ≡ drop (length unused.old.items) lanes.old.items }
     ensures kept { TakesBack unused.old.items lanes.old.items lanes.new.items }
 {
     'sessions: while let Some(session) = unused.pop() {

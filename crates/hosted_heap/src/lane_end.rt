@@ -1,8 +1,8 @@
 //! The heap's end of a lane.
-ghost use Rattle.std.specs.Prelude.{◌≡◌, ◌↔◌, ◌∷◌, [], ℕ, true, false, None, IfNone, IfSome, IsSome, IsTrue};
-ghost use Rattle.hosted_heap.specs.Lanes.{BeginsJoined, IsAwaited, IsBack, IsIdle, IsTaken, KeepsEnd, lane_in};
+ghost use Rattle.std.specs.Prelude.{◌≡◌, ◌↔◌, ◌∷◌, ◌++◌, [], ℕ, true, false, None, IfNone, IfSome, IsSome, IsTrue, option_to_list};
+ghost use Rattle.hosted_heap.specs.Lanes.{BeginsJoined, IsAwaited, IsBack, IsIdle, IsTaken, KeepsCome, KeepsEnd, lane_in};
 ghost use Rattle.monitor.specs.Seats.{Home};
-ghost use Rattle.rtrb.specs.Ring.{known_items, received};
+ghost use Rattle.rtrb.specs.Ring.{SameConsumer, known_items, received};
 ghost use Rattle.trim_helper.specs.Endings.{Rings};
 
 use crate::returning::Returning;
@@ -22,6 +22,7 @@ impl LaneEnd {
     /// Whether the lane's session has come back.
     pub fn has_come(&mut self) -> bool
         ensures kept { KeepsEnd self.old self.new }
+        ensures come { KeepsCome self.old self.new }
         ensures came { IsTrue result ↔ IsSome self.new.came }
         ensures awaited { result ≡ false → IsAwaited self.new }
     {
@@ -35,6 +36,7 @@ impl LaneEnd {
     /// Whether it has come back and holds no monitor.
     pub fn is_idle(&mut self) -> bool
         ensures kept { KeepsEnd self.old self.new }
+        ensures come { KeepsCome self.old self.new }
         ensures idle { result ≡ true → IsIdle self.new }
         ensures taken { result ≡ false → IsTaken self.new }
     {
@@ -54,6 +56,8 @@ fn take_one(back: &mut Consumer<Session, Global, Returning>) -> Option<Session>
         → BeginsJoined h capacity rings (received back.new) × (lane_in (received back.new) ≡ lane_in (received back.old)) }
     ensures back { (h : Home) (capacity : ℕ) (rings : Rings) → BeginsJoined h capacity rings (received back.old) → IfSome result (IsBack h capacity rings (lane_in (received back.old))) }
     ensures none { IfNone result (known_items back.new ≡ []) }
+    ensures ring { SameConsumer back.old back.new }
+    ensures received { received back.new ≡ received back.old ++ option_to_list result }
 {
     joined_law();
     match back.pop() {

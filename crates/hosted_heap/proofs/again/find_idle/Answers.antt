@@ -1,11 +1,12 @@
 use Rattle.std.proofs.Common.{ℕ, ◌≡◌, ◌<◌, ◌≤◌, ◌+◌, List, get_or, length, refl, sym, ◌∙◌, subst, arith}
 use Rattle.hosted_heap.specs.Lanes.{IsTaken}
 use Rattle.hosted_heap.specs.declared.lane_end.LaneEnd.{LaneEnd}
+use Rattle.hosted_heap.proofs.Coming.{all_same, all_twice}
 use Rattle.hosted_heap.proofs.Ends.{all_from, each_set}
 use Rattle.hosted_heap.proofs.again.find_idle.Goals as goal
 
 pub loop-place-init : goal.loop-place-init
-loop-place-init c = (λ h k rings all. (all, refl), refl, λ i d low high. absurd (omega (arith, low, high)))
+loop-place-init c = (λ h k rings all. (all, refl), refl, λ i d low high. absurd (omega (arith, low, high)), all_same c.args.lanes.now.items)
 
 pub loop-place-preserved : goal.loop-place-preserved
 loop-place-preserved c =
@@ -22,6 +23,7 @@ loop-place-preserved c =
       c.is_idle_at.ensures.count ∙ was.1,
       subst (λ (ls : List LaneEnd). (i : ℕ) (d : LaneEnd) → c.args.first ≤ i → i < place + 1 → IsTaken (get_or ls i d)) (sym seen.1)
           (each_set IsTaken lanes c.args.first place seen.0 (omega (arith, low, end, same)) was.2 (seen.2 c.if-is_idle_at.false)),
+      all_twice c.args.lanes.now.items lanes c.is_idle_at.new.lanes.items was.3 c.is_idle_at.ensures.come,
     )
 
 pub returns-then-is_idle_at-clause-kept : goal.returns-then-is_idle_at-clause-kept
@@ -47,3 +49,9 @@ returns-clause-none c =
 
 pub returns-clause-kept : goal.returns-clause-kept
 returns-clause-kept c = λ h k rings all. let now = c.loop-place.invariant.0 h k rings all in (now.0, now.1)
+
+pub returns-then-is_idle_at-clause-come : goal.returns-then-is_idle_at-clause-come
+returns-then-is_idle_at-clause-come c = all_twice c.args.lanes.now.items c.loop-place.lanes.items c.is_idle_at.new.lanes.items c.loop-place.invariant.3 c.is_idle_at.ensures.come
+
+pub returns-clause-come : goal.returns-clause-come
+returns-clause-come c = c.loop-place.invariant.3

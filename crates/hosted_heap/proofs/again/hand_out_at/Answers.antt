@@ -1,5 +1,5 @@
-use Rattle.std.proofs.Common.{ℕ, ◌≡◌, ◌<◌, All, IfSome, IsSome, List, Option, Some, None, [], get_or, length, set, ap, refl, sym, ◌∙◌, subst}
-use Rattle.std.proofs.lemmas.List.{get_or-set_same, length-set}
+use Rattle.std.proofs.Common.{ℕ, ◌≡◌, ◌<◌, All, IfSome, IsSome, List, Option, Some, None, [], ◌∷◌, get_or, length, set, ap, refl, sym, ◌∙◌, subst}
+use Rattle.std.proofs.lemmas.List.{get_or-set_same, length-set, set-set}
 use Rattle.std.proofs.lemmas.List.Elements.{All-get_or, All-set}
 use Rattle.monitor.specs.Seats.{Home}
 use Rattle.session.specs.declared.session.Session.{Session}
@@ -74,3 +74,16 @@ returns-clause-count c =
     let left : LaneEnd = record (get_or lanes c.args.place d) { came = None } in
     length-set c.take_at-came.new.lanes.items c.args.place c.seat-session.result.1
     ∙ ap (λ (ls : List LaneEnd). length ls) (c.take_at-came.ensures.left d) ∙ length-set lanes c.args.place left
+
+pub returns-clause-new : goal.returns-clause-new
+returns-clause-new c =
+    let lanes = c.args.lanes.now.items in
+    let place = c.args.place in
+    let d : LaneEnd = end_at lanes place c.requires.place in
+    let left : LaneEnd = record (get_or lanes place d) { came = None } in
+    let end : LaneEnd = c.seat-session.result.1 in (
+      end,
+      ap (λ (ls : List LaneEnd). set ls place end) (c.take_at-came.ensures.left d) ∙ set-set lanes place left end,
+      c.seat-session.ensures.end.1,
+      c.seat-session.ensures.end.0 ∙ ap (λ (s : Session). s ∷ []) (sym c.seat-session.ensures.session.1),
+    )

@@ -1,8 +1,9 @@
 use Rattle.std.proofs.Common.{ap, refl, sym, ◌∙◌, subst}
 use Rattle.std.proofs.lemmas.List.{get_or-set_same}
 use Rattle.std.proofs.lemmas.List.Elements.{All-get_or, All-set}
-use Rattle.hosted_heap.specs.Lanes.{IsIdle, IsLaneEnd, lane_at}
+use Rattle.hosted_heap.specs.Lanes.{IsIdle, IsLaneEnd, KeepsCome, lane_at}
 use Rattle.hosted_heap.specs.declared.lane_end.LaneEnd.{LaneEnd}
+use Rattle.hosted_heap.proofs.Coming.{come_at}
 use Rattle.hosted_heap.proofs.Ends.{lanes_at_set}
 use Rattle.hosted_heap.proofs.again.is_idle_at.Goals as goal
 
@@ -21,3 +22,8 @@ returns-clause-taken c = (c.is_idle.new.self, refl, λ no. c.is_idle.ensures.tak
 pub returns-clause-idle : goal.returns-clause-idle
 returns-clause-idle c = λ d yes.
     subst IsIdle (sym (get_or-set_same c.args.lanes.now.items c.args.place c.is_idle.new.self d c.requires)) (c.is_idle.ensures.idle yes)
+
+pub returns-clause-come : goal.returns-clause-come
+returns-clause-come c =
+    let was = c.index_mut.result.now in
+    come_at c.args.lanes.now.items c.args.place c.is_idle.new.self was c.requires (subst (λ (l : LaneEnd). KeepsCome l c.is_idle.new.self) c.index_mut.ensures.value c.is_idle.ensures.come)

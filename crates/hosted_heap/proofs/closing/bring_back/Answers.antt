@@ -1,5 +1,5 @@
 use Rattle.std.proofs.Common.{ℕ, ◌≡◌, ◌+◌, ◌<◌, ◌≤◌, All, List, Some, [], ◌∷◌, ◌++◌, drop, length, set, get_or, ap, refl, sym, ◌∙◌, subst, arith}
-use Rattle.std.proofs.lemmas.List.{length-set, length_push}
+use Rattle.std.proofs.lemmas.List.{drop-set-lt, length-set, length_push}
 use Rattle.std.proofs.lemmas.List.Elements.{All-get_or, All-pop, All-set}
 use Rattle.hosted_heap.specs.Lanes.{ArePaired, HasCome, IsBack, IsJoinedHere, IsLaneEnd, lane_at, lanes_at}
 use Rattle.hosted_heap.specs.Sessions.{Seated}
@@ -9,7 +9,7 @@ use Rattle.hosted_heap.proofs.Orders.{ends_more}
 use Rattle.hosted_heap.proofs.closing.bring_back.Goals as goal
 
 pub sessions-init : goal.sessions-init
-sessions-init c = (c.requires.count, c.requires.later, λ h k rings paired joined ends. (paired, joined, ends, refl))
+sessions-init c = (c.requires.count, c.requires.later, λ h k rings paired joined ends. (paired, joined, ends, refl), omega arith, refl)
 
 pub sessions-preserved : goal.sessions-preserved
 sessions-preserved c =
@@ -22,6 +22,8 @@ sessions-preserved c =
     let here : place ≡ length left = c.len-place.ensures ∙ c.pop.new.self.ok.0 in
     let more : length c.sessions.unused.items ≡ length left + 1 = ap (λ (l : List Seated). length l) popped ∙ length_push left s in
     let room : length c.sessions.unused.items ≤ length lanes = was.0 in
+    let all = length c.args.unused.now.items in
+    let fewer : length c.sessions.unused.items ≤ all = was.3 in
     let low : place < length lanes = omega (arith, here, more, room) in
     let d : LaneEnd = (ends_more lanes place low).0 in
     let next : LaneEnd = record (get_or lanes place d) { came = Some s.session } in
@@ -43,7 +45,12 @@ sessions-preserved c =
             All-set (IsLaneEnd h k rings) lanes place next end gone.2,
             lanes_at_set lanes place next d refl low ∙ gone.3,
           ),
+      omega (arith, more, fewer),
+      ap (λ (ls : List LaneEnd). drop all ls) is ∙ drop-set-lt all lanes place next (omega (arith, here, more, fewer)) ∙ was.4,
     )
 
 pub returns-clause-kept : goal.returns-clause-kept
 returns-clause-kept c = λ h k rings paired joined ends. let gone = c.sessions.invariant.2 h k rings paired joined ends in (gone.2, gone.3)
+
+pub returns-clause-others : goal.returns-clause-others
+returns-clause-others c = c.sessions.invariant.4

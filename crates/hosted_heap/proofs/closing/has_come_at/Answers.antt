@@ -1,7 +1,8 @@
 use Rattle.std.proofs.Common.{ap, refl, sym, ◌∙◌, subst}
 use Rattle.std.proofs.lemmas.List.Elements.{All-get_or, All-set}
-use Rattle.hosted_heap.specs.Lanes.{IsLaneEnd, lane_at}
+use Rattle.hosted_heap.specs.Lanes.{IsLaneEnd, KeepsCome, lane_at}
 use Rattle.hosted_heap.specs.declared.lane_end.LaneEnd.{LaneEnd}
+use Rattle.hosted_heap.proofs.Coming.{come_at}
 use Rattle.hosted_heap.proofs.Ends.{lanes_at_set}
 use Rattle.hosted_heap.proofs.closing.has_come_at.Goals as goal
 
@@ -16,3 +17,8 @@ returns-clause-kept c = λ h k rings all.
 
 pub returns-clause-came : goal.returns-clause-came
 returns-clause-came c = (c.has_come.new.self, refl, λ yes. c.has_come.ensures.came.0 yes)
+
+pub returns-clause-come : goal.returns-clause-come
+returns-clause-come c =
+    let was = c.index_mut.result.now in
+    come_at c.args.lanes.now.items c.args.place c.has_come.new.self was c.requires (subst (λ (l : LaneEnd). KeepsCome l c.has_come.new.self) c.index_mut.ensures.value c.has_come.ensures.come)

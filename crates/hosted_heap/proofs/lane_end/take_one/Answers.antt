@@ -1,4 +1,4 @@
-use Rattle.std.proofs.Common.{List, ap, ◌∙◌}
+use Rattle.std.proofs.Common.{List, append-nil, ap, sym, ◌∙◌}
 use Rattle.rtrb.specs.Ring.{received}
 use Rattle.session.specs.declared.session.Session.{Session}
 use Rattle.hosted_heap.specs.Lanes.{lane_in}
@@ -16,3 +16,9 @@ returns-in-Ok-clause-back c = λ h k rings begins. joined_back c.joined_law.ensu
 
 pub returns-in-Err-clause-first : goal.returns-in-Err-clause-first
 returns-in-Err-clause-first c = λ h k rings begins. ((begins.0, begins.1, c.in-Err.ensures.empty.0 ∙ begins.2, begins.3), ap (λ (items : List Session). lane_in items) c.in-Err.ensures.empty.0)
+
+pub returns-in-Ok-clause-received : goal.returns-in-Ok-clause-received
+returns-in-Ok-clause-received c = c.in-Ok.ensures.ok.0
+
+pub returns-in-Err-clause-received : goal.returns-in-Err-clause-received
+returns-in-Err-clause-received c = c.in-Err.ensures.empty.0 ∙ sym (append-nil (received c.args.back.now))

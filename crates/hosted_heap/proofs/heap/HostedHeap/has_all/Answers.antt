@@ -1,6 +1,8 @@
-use Rattle.std.proofs.Common.{ℕ, ◌≡◌, All, Any, drop, length, ◌∙◌, subst, arith}
+use Rattle.std.proofs.Common.{ℕ, ◌≡◌, All, Any, drop, length, ap, ◌∙◌, subst, arith}
 use Rattle.std.specs.Arc.{arc_value}
-use Rattle.hosted_heap.specs.Lanes.{HasCome, IsAwaited}
+use Rattle.hosted_heap.specs.Hosting.{Hosting, handed_out}
+use Rattle.hosted_heap.specs.Lanes.{HasCome, IsAwaited, KeepCome}
+use Rattle.hosted_heap.proofs.Coming.{come_from}
 use Rattle.hosted_heap.proofs.Ends.{paired_kept}
 use Rattle.hosted_heap.proofs.heap.HostedHeap.has_all.Goals as goal
 
@@ -31,3 +33,17 @@ pub returns-clause-awaited : goal.returns-clause-awaited
 returns-clause-awaited c = λ no.
     let first : c.len-first.result ≡ length c.self.inside.unused.items = c.len-first.ensures ∙ c.self.inside.unused.ok.0 in
     subst (λ (n : ℕ). Any IsAwaited (drop n c.have_come.new.lanes.items)) first (c.have_come.ensures.awaited no)
+
+pub returns-clause-same : goal.returns-clause-same
+returns-clause-same c =
+    let unused = c.self.inside.unused.items in
+    let lanes = c.have_come.new.lanes.items in (
+      record {
+        home = ap (λ (v : Hosting). v.home) c.self.view_is;
+        helper = ap (λ (v : Hosting). v.helper) c.self.view_is;
+        unused = ap (λ (v : Hosting). v.unused) c.self.view_is;
+        out = subst (λ (v : Hosting). KeepCome v.out (handed_out unused lanes)) c.self.view_is (come_from (length unused) c.self.inside.lanes.items lanes c.have_come.ensures.come);
+        stop = ap (λ (v : Hosting). v.stop) c.self.view_is;
+      },
+      ap (λ (v : Hosting). v.calls) c.self.view_is,
+    )

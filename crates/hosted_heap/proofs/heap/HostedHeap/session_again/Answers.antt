@@ -1,26 +1,24 @@
-use Rattle.std.proofs.Common.{ℕ, ◌≡◌, ◌-◌, ◌<◌, All, IfNone, IfSome, List, Option, Some, drop, get_or, length, ap, sym, ◌∙◌, subst, arith}
-use Rattle.std.proofs.lemmas.List.{length-drop}
+use Rattle.std.proofs.Common.{ℕ, ◌≡◌, ◌+◌, ◌-◌, ◌<◌, ◌≤◌, All, IfNone, IfSome, List, [], ◌∷◌, Option, Some, None, drop, get_or, length, set, ap, sym, ◌∙◌, subst, arith}
+use Rattle.std.proofs.lemmas.List.{drop-set-add, get_or-drop, length-drop}
 use Rattle.std.proofs.lemmas.List.Elements.{All-get_or}
 use Rattle.monitor.specs.Seats.{Home}
+use Rattle.rtrb.specs.Ring.{received}
 use Rattle.running_heap.specs.Joined.{IsJoined}
 use Rattle.session.specs.Logs.{held_count}
 use Rattle.session.specs.Sessions.{view_of}
 use Rattle.session.specs.declared.session.Session.{Session}
 use Rattle.std.specs.Arc.{arc_value}
 use Rattle.trim_helper.specs.Endings.{Rings}
-use Rattle.hosted_heap.specs.Again.{GoesOnQuietly}
+use Rattle.hosted_heap.specs.Again.{LetsGo}
 use Rattle.hosted_heap.specs.Hosting.{Hosting, handed_out}
-use Rattle.hosted_heap.specs.Lanes.{AreNewHere, IsBack, IsIdle, IsLaneEnd, IsTaken, lane_at}
+use Rattle.hosted_heap.specs.Lanes.{AreNewHere, IsBack, IsIdle, IsLaneEnd, IsTaken, KeepCome, lane_at}
 use Rattle.hosted_heap.specs.Sessions.{Seated}
 use Rattle.hosted_heap.specs.Stopping.{Stopping}
 use Rattle.hosted_heap.specs.declared.lane_end.LaneEnd.{LaneEnd}
+use Rattle.hosted_heap.proofs.Coming.{come_from}
 use Rattle.hosted_heap.proofs.Ends.{paired_kept}
 use Rattle.hosted_heap.proofs.Orders.{ends_more}
 use Rattle.hosted_heap.proofs.heap.HostedHeap.session_again.Goals as goal
-
--- as many ends lie behind the sessions that weren't handed out as before
-out_long : (unused : List Seated) (old new : List LaneEnd) → length new ≡ length old → length (handed_out unused new) ≡ length (handed_out unused old)
-out_long unused old new same = length-drop (length unused) new ∙ ap (λ (n : ℕ). n - length unused) same ∙ sym (length-drop (length unused) old)
 
 -- the session that has come back here holds nothing
 idle_of : (l : LaneEnd) (s : Session) → IsIdle l → l.came ≡ Some s → held_count (view_of s) ≡ 0
@@ -52,7 +50,8 @@ invariant_of-self-in_default c =
 
 pub returns-in_default-clause-again : goal.returns-in_default-clause-again
 returns-in_default-clause-again c =
-    let first : c.len-first.result ≡ length c.self.inside.unused.items = c.len-first.ensures ∙ c.self.inside.unused.ok.0 in
+    let unused = c.self.inside.unused.items in
+    let first : c.len-first.result ≡ length unused = c.len-first.ensures ∙ c.self.inside.unused.ok.0 in
     let lanes : List LaneEnd = c.find_idle.new.lanes.items in
     let none : All IsTaken (drop c.len-first.result lanes) = subst (λ (o : Option ℕ). IfNone o (All IsTaken (drop c.len-first.result lanes))) c.in_default.is c.find_idle.ensures.none in
     record {
@@ -62,7 +61,7 @@ returns-in_default-clause-again c =
           home = ap (λ (v : Hosting). v.home) c.self.view_is;
           helper = ap (λ (v : Hosting). v.helper) c.self.view_is;
           unused = ap (λ (v : Hosting). v.unused) c.self.view_is;
-          out = out_long c.self.inside.unused.items c.self.inside.lanes.items lanes c.find_idle.ensures.count ∙ ap (λ (v : Hosting). length v.out) c.self.view_is;
+          out = subst (λ (v : Hosting). KeepCome v.out (handed_out unused lanes)) c.self.view_is (come_from (length unused) c.self.inside.lanes.items lanes c.find_idle.ensures.come);
           stop = c.outfit.ensures.same ∙ ap (λ (v : Hosting). v.stop) c.self.view_is;
         };
         calls = ap (λ (v : Hosting). v.calls) c.self.view_is;
@@ -100,33 +99,52 @@ invariant_of-self-2 c =
       paired = paired_kept c.self.inside.unused.items c.self.inside.lanes.items c.hand_out_at-session.new.lanes.items (later.1 ∙ kept.1) long was.paired;
     }
 
+-- the end at this place, behind the sessions that weren't handed out
+out_at : (n place : ℕ) (old new : List LaneEnd) (s : Session) → n ≤ place → place < length old → ((d : LaneEnd) → (get_or old place d).came ≡ Some s)
+    → (end : LaneEnd) × (new ≡ set old place end) × (end.came ≡ None) × (received end.back ≡ s ∷ []) → LetsGo (drop n old) (drop n new) s
+out_at n place old new s low high came fresh =
+    let at : n + (place - n) ≡ place = omega (arith, low) in
+    let long = length-drop n old in
+    record {
+      place = place - n;
+      low = omega (arith, low, high, long);
+      came = λ d. ap (λ (l : LaneEnd). l.came) (get_or-drop n old (place - n) d ∙ ap (λ (i : ℕ). get_or old i d) at) ∙ came d;
+      end = fresh.0;
+      none = fresh.2;
+      begins = fresh.3;
+      others = ap (λ (ends : List LaneEnd). drop n ends) (fresh.1 ∙ ap (λ (i : ℕ). set old i fresh.0) (sym at)) ∙ drop-set-add n old (place - n) fresh.0;
+    }
+
 pub returns-clause-again : goal.returns-clause-again
 returns-clause-again c =
     let h : Home = arc_value c.self.inside.shared in
     let x = c.self.inside.helper in
     let k = x.store.known.layout.capacity in
+    let unused = c.self.inside.unused.items in
+    let first : c.len-first.result ≡ length unused = c.len-first.ensures ∙ c.self.inside.unused.ok.0 in
     let lanes : List LaneEnd = c.find_idle.new.lanes.items in
     let place = c.in-Some.place in
     let s : Session = c.hand_out_at-session.result.session in
-    let low : place < length lanes = c.in-Some.ensures.place.1 in
-    let d : LaneEnd = (ends_more lanes place low).0 in
+    let high : place < length lanes = c.in-Some.ensures.place.1 in
+    let d : LaneEnd = (ends_more lanes place high).0 in
     let handed = c.hand_out_at-session.ensures in
     let kept = c.find_idle.ensures.kept h k x.rings c.self.invariant.lanes_are in
-    let end : IsLaneEnd h k x.rings (get_or lanes place d) = All-get_or (IsLaneEnd h k x.rings) lanes place d low kept.0 in
-    let long = handed.count ∙ c.find_idle.ensures.count in
+    let end : IsLaneEnd h k x.rings (get_or lanes place d) = All-get_or (IsLaneEnd h k x.rings) lanes place d high kept.0 in
     record {
       home = handed.home ∙ c.in_ok-shared.ensures.home ∙ ap (λ (v : Hosting). v.home) c.self.view_is;
       word = ap (λ (t : Stopping). t.word) (handed.stop ∙ c.in_ok-shared.ensures.word ∙ ap (λ (v : Hosting). v.stop) c.self.view_is);
       joined = subst (λ (v : Hosting). IsJoined v.home v.helper.store.known.layout.capacity v.helper.rings s) c.self.view_is (joined_of h k x.rings (get_or lanes place d) s end (handed.session d));
       idle = idle_of (get_or lanes place d) s (c.in-Some.ensures.idle d) (handed.session d);
+      seen = handed_out unused lanes;
       quietly = record {
         goes_on = record {
           home = ap (λ (v : Hosting). v.home) c.self.view_is;
           helper = ap (λ (v : Hosting). v.helper) c.self.view_is;
           unused = ap (λ (v : Hosting). v.unused) c.self.view_is;
-          out = out_long c.self.inside.unused.items c.self.inside.lanes.items c.hand_out_at-session.new.lanes.items long ∙ ap (λ (v : Hosting). length v.out) c.self.view_is;
+          out = subst (λ (v : Hosting). KeepCome v.out (handed_out unused lanes)) c.self.view_is (come_from (length unused) c.self.inside.lanes.items lanes c.find_idle.ensures.come);
           stop = c.outfit.ensures.same ∙ ap (λ (v : Hosting). v.stop) c.self.view_is;
         };
         calls = ap (λ (v : Hosting). v.calls) c.self.view_is;
       };
+      out = out_at (length unused) place lanes c.hand_out_at-session.new.lanes.items s (subst (λ (n : ℕ). n ≤ place) first c.in-Some.ensures.place.0) high handed.session handed.new;
     }
