@@ -4,6 +4,7 @@ use crate::lane_end::LaneEnd;
 use crate::room::ROUND_SYNCS;
 use crate::seated::HostedSession;
 use crate::stop::Stopper;
+use crate::stop_word::StopWord;
 use deferred_disk::{DeferredDisk, DeviceCall, HostCalls, SYNCS};
 use durable::StoreError;
 use heap_model::Lane;
@@ -142,6 +143,28 @@ impl HostedHeap {
                 Some(FailedCall::Sync)
             }
         }
+    }
+
+    /// Lets the heap go, but for the word by which its sessions learn that it has stopped.
+    pub fn into_stop_word(self) -> StopWord
+        ensures { result ≡ self.stop }
+    {
+        let HostedHeap {
+            alloc: _,
+            shared,
+            helper,
+            calls,
+            layout: _,
+            unused,
+            lanes,
+            stop,
+        } = self;
+        drop(unused);
+        drop(lanes);
+        drop(calls);
+        drop(helper);
+        drop(shared);
+        StopWord { stopper: stop }
     }
 
     /// A round of the helper ([`Helper::round`]): what the sessions sent is made durable and acknowledged on the disk in memory, and

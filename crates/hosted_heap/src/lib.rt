@@ -19,6 +19,7 @@ mod returning;
 mod room;
 mod seated;
 mod stop;
+mod stop_word;
 mod waiting;
 
 pub use closing::{Closed, NotClosed};
@@ -29,4 +30,5 @@ pub use returned::Returned;
 pub use returning::Returning;
 pub use room::{CLOSE_SYNCS, ROUND_SYNCS};
 pub use seated::HostedSession;
+pub use stop_word::StopWord;
 pub use waiting::HostedWaiting;
