@@ -20,9 +20,11 @@ use Rattle.undo_log.specs.Dropped.{IsDropped}
 use Rattle.store_past.specs.Past.{Past, after_home}
 use Rattle.store_image.specs.Consistent.{HasParts, ShowsPast, IsConsistent}
 use Rattle.store_image.specs.KeptHeap.{StandsForCut}
+use Rattle.store_image.specs.Sequences.{ShowsUpTo}
 use Rattle.store_image.specs.Steps.{MayGoHome}
 use Rattle.store_image.specs.declared.committed.Committed.{Committed}
 use Rattle.store_image.proofs.Parts.{Spared, parts_survive}
+use Rattle.store_image.proofs.Sequences.{stays_up_to, steady_up_to}
 use Rattle.store_image.proofs.Stands.{stands, none_logged}
 
 -- cells of two fields lie apart
@@ -75,6 +77,9 @@ module _ (l : Layout) (s : Setting) (p : Past) (c : Committed) (old : Device) (f
 
     pub home_shows : LeavesOnly old new (ShowsPast l s p)
     home_shows = weaker old new (ImageBut old rs) (ShowsPast l s p) shows_home leaves
+
+    pub home_up_to : LeavesOnly old new (ShowsUpTo l c.sequence)
+    home_up_to = (stays_up_to l c.sequence old new rs (inl (omega arith), tt) (steady_up_to l old c.slot (control_of c.sequence c.rows) c.sequence may.consistent.steady (omega arith)) leaves).0
 
     pub home_always : Always new (StandsForCut l s p.logged p.cut)
     home_always image left = stands l s p may.consistent.past (none_logged l s p c old may.consistent) image (shows_home image (but image left))

@@ -14,3 +14,4 @@ pub mod Acknowledging
 pub mod Rewriting
 pub mod Freeing
 pub mod Round
+pub mod Sequences

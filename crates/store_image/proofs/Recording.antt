@@ -28,6 +28,7 @@ use Rattle.store_past.specs.Past.{Past, IsPast, after_log, has_store}
 use Rattle.store_image.specs.Consistent.{TellsCut, HasParts, ShowsPast, ShowsEither, IsConsistent}
 use Rattle.store_image.specs.NewRecords.{HasFresh, fresh_count, fresh_ranges}
 use Rattle.store_image.specs.KeptHeap.{StandsForCut, kept_heap}
+use Rattle.store_image.specs.Sequences.{ShowsUpTo}
 use Rattle.store_image.specs.Steps.{MayLog}
 use Rattle.store_image.specs.declared.committed.Committed.{Committed}
 use Rattle.store_image.proofs.Appending.{front_apart, live_apart}
@@ -39,6 +40,7 @@ use Rattle.store_image.proofs.Growing.{dropped_more, kept_grown, newer_dropped, 
 use Rattle.store_image.proofs.Parts.{Spared, parts_survive}
 use Rattle.store_image.proofs.Places.{live_size}
 use Rattle.store_image.proofs.Rows.{row_is, rest_is, told_rows}
+use Rattle.store_image.proofs.Sequences.{stays_up_to, steady_up_to}
 use Rattle.store_image.proofs.Stands.{same_heap, shows_always, stands, none_logged}
 
 module _ (l : Layout) (s : Setting) (p : Past) (c : Committed) (d : Device) (fresh : ℕ → List UndoRecord) (may : MayLog l s p c d fresh) where
@@ -139,6 +141,15 @@ module _ (l : Layout) (s : Setting) (p : Past) (c : Committed) (d : Device) (fre
     -- whatever the sync answers
     pub sync_leaves : (d2 : Device) → LeavesOnly d1 d2 (ImageBut d1 []) → LeavesOnly d d2 P
     sync_leaves d2 syncing = and_then d d1 d2 P append_leaves (after_sync d1 d2 P one_always syncing).0
+
+    up_to_both : LeavesOnly d d1 (ShowsUpTo l (c.sequence + 1)) × Always d1 (ShowsUpTo l (c.sequence + 1))
+    up_to_both = stays_up_to l (c.sequence + 1) d d1 rs (front 64 2096 (omega arith)) (steady_up_to l d c.slot old (c.sequence + 1) may.consistent.steady (omega arith)) leaves
+
+    pub append_up_to : LeavesOnly d d1 (ShowsUpTo l (c.sequence + 1))
+    append_up_to = up_to_both.0
+
+    pub sync_up_to : (d2 : Device) → LeavesOnly d1 d2 (ImageBut d1 []) → LeavesOnly d d2 (ShowsUpTo l (c.sequence + 1))
+    sync_up_to d2 syncing = and_then d d1 d2 (ShowsUpTo l (c.sequence + 1)) append_up_to (after_sync d1 d2 (ShowsUpTo l (c.sequence + 1)) up_to_both.1 syncing).0
 
     -- what the rows of the new control are
     pub record AreLogged (rows : List LaneRow) : Type 0 where

@@ -5,3 +5,4 @@ pub mod Formatting
 pub mod Steps
 pub mod Laws
 pub mod NewRecords
+pub mod Sequences

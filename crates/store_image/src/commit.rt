@@ -1,11 +1,12 @@
 //! A commit of the next control.
-ghost use Rattle.std.specs.Prelude.{◌≡◌, ◌+◌, ◌-◌, ◌<◌, ◌^◌, [], ◌∷◌, IfErr, OnErr, OnOk};
+ghost use Rattle.std.specs.Prelude.{◌≡◌, ◌+◌, ◌-◌, ◌<◌, ◌≤◌, ◌^◌, [], ◌∷◌, IfErr, OnErr, OnOk};
 ghost use Rattle.block_disk.specs.Device.{HasCause, SameOutside};
 ghost use Rattle.block_disk.specs.Images.{LeavesOnly};
 ghost use Rattle.image.specs.Commit.{IsSteady, OldOrNew, OldOrTurned, slots_range, turned_sequence};
 ghost use Rattle.image.specs.Control.{AreRows, control_of};
 ghost use Rattle.image.specs.Layout.{IsLayout};
 ghost use Rattle.image.specs.Slots.{other, slot_range};
+ghost use Rattle.store_image.specs.Sequences.{ShowsUpTo};
 ghost use Rattle.store_past.specs.declared.error.StoreError.TheVariants.{Fault};
 
 use crate::committed::Committed;
@@ -38,8 +39,10 @@ pub fn commit<D: Disk>(
     ensures same { OnOk result (SameOutside (slot_range (other committed.old.slot) ∷ []) (D.device disk.old).now.bytes (D.device disk.new).now.bytes) }
     ensures only_fault { IfErr result (λ e. e ≡ Fault) }
     ensures err { OnErr result (committed.new ≡ committed.old) }
+    ensures sequence { committed.new.sequence ≤ committed.old.sequence + 1 }
     ensures any_moment { LeavesOnly (D.device disk.old) (D.device disk.new)
         (OldOrNew layout.now (D.device disk.old) committed.old.slot (control_of committed.old.sequence committed.old.rows) (control_of (committed.old.sequence + 1) rows.now)) }
+    ensures any_sequence { LeavesOnly (D.device disk.old) (D.device disk.new) (ShowsUpTo layout.now (committed.old.sequence + 1)) }
     ensures cause { HasCause (D.device disk.old).failures (D.device disk.new).failures Fault result }
 {
     match commit_control(disk, layout, committed.slot, committed.sequence, rows) {
@@ -76,9 +79,11 @@ pub fn commit_written<D: Disk>(
     ensures same { OnOk result (SameOutside (slots_range ∷ []) (D.device disk.old).now.bytes (D.device disk.new).now.bytes) }
     ensures only_fault { IfErr result (λ e. e ≡ Fault) }
     ensures err { OnErr result (committed.new ≡ committed.old) }
+    ensures sequence { committed.new.sequence ≤ committed.old.sequence + 1 }
     ensures any_moment { LeavesOnly (D.device disk.old) (D.device disk.new)
         (OldOrTurned layout.now (D.device disk.old) committed.old.slot (control_of committed.old.sequence committed.old.rows)
         (control_of (turned_sequence committed.old.slot committed.old.sequence (D.device disk.old).now.bytes) rows.now)) }
+    ensures any_sequence { LeavesOnly (D.device disk.old) (D.device disk.new) (ShowsUpTo layout.now (committed.old.sequence + 1)) }
     ensures cause { HasCause (D.device disk.old).failures (D.device disk.new).failures Fault result }
 {
     match commit_by_turning(disk, layout, committed.slot, committed.sequence, rows) {

@@ -9,6 +9,7 @@ ghost use Rattle.store_image.specs.KeptHeap.{StandsForCut};
 ghost use Rattle.store_past.specs.Past.{Past, after_home};
 ghost use Rattle.store_image.specs.Steps.{MayGoHome};
 ghost use Rattle.store_image.specs.declared.committed.Committed.{Committed};
+ghost use Rattle.store_image.specs.Sequences.{ShowsUpTo};
 ghost use Rattle.store_past.specs.declared.error.StoreError.TheVariants.{Fault};
 
 use block_disk::Disk;
@@ -42,6 +43,8 @@ pub fn write_home<D: Disk>(
         → LeavesOnly (D.device disk.old) (D.device disk.new) (StandsForCut layout.now s p.logged p.cut) }
     ensures shown { (s : Setting) (p : Past) (c : Committed) → MayGoHome layout.now s p c (D.device disk.old) field.0 value
         → LeavesOnly (D.device disk.old) (D.device disk.new) (ShowsPast layout.now s p) }
+    ensures any_sequence { (s : Setting) (p : Past) (c : Committed) → MayGoHome layout.now s p c (D.device disk.old) field.0 value
+        → LeavesOnly (D.device disk.old) (D.device disk.new) (ShowsUpTo layout.now c.sequence) }
     ensures crash { (s : Setting) (p : Past) (c : Committed) → MayGoHome layout.now s p c (D.device disk.old) field.0 value
         → Always (D.device disk.new) (StandsForCut layout.now s p.logged p.cut) }
     ensures cause { HasCause (D.device disk.old).failures (D.device disk.new).failures Fault result }

@@ -13,6 +13,7 @@ ghost use Rattle.store_image.specs.NewRecords.{FitsLane, HasFresh, fresh_count, 
 ghost use Rattle.store_image.specs.KeptHeap.{StandsForCut};
 ghost use Rattle.store_past.specs.Past.{Past, after_log};
 ghost use Rattle.store_image.specs.Steps.{MayLog};
+ghost use Rattle.store_image.specs.Sequences.{ShowsUpTo};
 ghost use Rattle.store_past.specs.declared.error.StoreError.TheVariants.{Fault, Worn};
 
 use crate::commit::{Syncs, commit, commit_written};
@@ -51,10 +52,12 @@ pub fn log_records<D: Disk, F: NewRecords>(
     ensures no_call { IsErrOf result Worn → disk.new ≡ disk.old }
     ensures no_other { IfErr result (λ e. (e ≡ Worn) ⊎ (e ≡ Fault)) }
     ensures err { OnErr result (committed.new ≡ committed.old) }
+    ensures sequence { committed.new.sequence ≤ committed.old.sequence + 1 }
     ensures any_moment { (s : Setting) (p : Past) → MayLog layout.now s p committed.old (D.device disk.old) (F.fresh fresh.now)
         → LeavesOnly (D.device disk.old) (D.device disk.new) (StandsForCut layout.now s p.logged p.cut) }
     ensures shown { (s : Setting) (p : Past) → MayLog layout.now s p committed.old (D.device disk.old) (F.fresh fresh.now)
         → LeavesOnly (D.device disk.old) (D.device disk.new) (ShowsEither layout.now s p (after_log p)) }
+    ensures any_sequence { LeavesOnly (D.device disk.old) (D.device disk.new) (ShowsUpTo layout.now (committed.old.sequence + 1)) }
     ensures crash { (s : Setting) (p : Past) → MayLog layout.now s p committed.old (D.device disk.old) (F.fresh fresh.now)
         → Always (D.device disk.new) (StandsForCut layout.now s p.logged p.cut) }
     ensures cause { HasCause (D.device disk.old).failures (D.device disk.new).failures Fault result }
@@ -98,10 +101,12 @@ fn log_all<D: Disk, F: NewRecords>(
         → OnOk result (IsConsistent layout.now s (after_log p) committed.new (D.device disk.new)) }
     ensures only_fault { IfErr result (λ e. e ≡ Fault) }
     ensures err { OnErr result (committed.new ≡ committed.old) }
+    ensures sequence { committed.new.sequence ≤ committed.old.sequence + 1 }
     ensures any_moment { (s : Setting) (p : Past) → MayLog layout.now s p committed.old (D.device disk.old) (F.fresh fresh.now)
         → LeavesOnly (D.device disk.old) (D.device disk.new) (StandsForCut layout.now s p.logged p.cut) }
     ensures shown { (s : Setting) (p : Past) → MayLog layout.now s p committed.old (D.device disk.old) (F.fresh fresh.now)
         → LeavesOnly (D.device disk.old) (D.device disk.new) (ShowsEither layout.now s p (after_log p)) }
+    ensures any_sequence { LeavesOnly (D.device disk.old) (D.device disk.new) (ShowsUpTo layout.now (committed.old.sequence + 1)) }
     ensures cause { HasCause (D.device disk.old).failures (D.device disk.new).failures Fault result }
 {
     append_lanes(disk, layout, &committed.rows, fresh)?;

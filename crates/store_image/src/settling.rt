@@ -1,5 +1,5 @@
 //! The stable cut is acknowledged.
-ghost use Rattle.std.specs.Prelude.{◌≡◌, ◌⊎◌, ◌↔◌, ◌-◌, ◌<◌, ◌≤◌, ◌^◌, ℕ, IfErr, IsErrOf, OnErr, OnOk, length, slice_index};
+ghost use Rattle.std.specs.Prelude.{◌≡◌, ◌⊎◌, ◌↔◌, ◌+◌, ◌-◌, ◌<◌, ◌≤◌, ◌^◌, ℕ, IfErr, IsErrOf, OnErr, OnOk, length, slice_index};
 ghost use Rattle.block_disk.specs.Device.{HasCause};
 ghost use Rattle.block_disk.specs.Images.{Always, LeavesOnly};
 ghost use Rattle.heap_model.specs.Cuts.{counts_of};
@@ -9,6 +9,7 @@ ghost use Rattle.store_image.specs.Consistent.{IsConsistent, ShowsEither};
 ghost use Rattle.store_image.specs.KeptHeap.{StandsForEither};
 ghost use Rattle.store_past.specs.Past.{Past, after_settle};
 ghost use Rattle.store_image.specs.Steps.{MaySettle};
+ghost use Rattle.store_image.specs.Sequences.{ShowsUpTo};
 ghost use Rattle.store_past.specs.declared.error.StoreError.TheVariants.{Fault, Worn};
 
 use crate::commit::commit;
@@ -39,10 +40,12 @@ pub fn settle<D: Disk>(
     ensures no_call { IsErrOf result Worn → disk.new ≡ disk.old }
     ensures no_other { IfErr result (λ e. (e ≡ Worn) ⊎ (e ≡ Fault)) }
     ensures err { OnErr result (committed.new ≡ committed.old) }
+    ensures sequence { committed.new.sequence ≤ committed.old.sequence + 1 }
     ensures any_moment { (s : Setting) (p : Past) → MaySettle layout.now s p committed.old (D.device disk.old) cut.now places.now
         → LeavesOnly (D.device disk.old) (D.device disk.new) (StandsForEither layout.now s p.logged p.cut (counts_of cut.now)) }
     ensures shown { (s : Setting) (p : Past) → MaySettle layout.now s p committed.old (D.device disk.old) cut.now places.now
         → LeavesOnly (D.device disk.old) (D.device disk.new) (ShowsEither layout.now s p (after_settle p (counts_of cut.now))) }
+    ensures any_sequence { LeavesOnly (D.device disk.old) (D.device disk.new) (ShowsUpTo layout.now (committed.old.sequence + 1)) }
     ensures crash { (s : Setting) (p : Past) → MaySettle layout.now s p committed.old (D.device disk.old) cut.now places.now
         → Always (D.device disk.new) (StandsForEither layout.now s p.logged p.cut (counts_of cut.now)) }
     ensures cause { HasCause (D.device disk.old).failures (D.device disk.new).failures Fault result }

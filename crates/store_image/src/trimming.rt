@@ -1,5 +1,5 @@
 //! What is acknowledged is no longer needed of the undo logs.
-ghost use Rattle.std.specs.Prelude.{◌≡◌, ◌⊎◌, ◌↔◌, ◌-◌, ◌<◌, ◌≤◌, ◌^◌, ℕ, IfErr, IsErrOf, IsTrue, OnErr, OnOk, length};
+ghost use Rattle.std.specs.Prelude.{◌≡◌, ◌⊎◌, ◌↔◌, ◌+◌, ◌-◌, ◌<◌, ◌≤◌, ◌^◌, ℕ, IfErr, IsErrOf, IsTrue, OnErr, OnOk, length};
 ghost use Rattle.block_disk.specs.Device.{Device, HasCause};
 ghost use Rattle.block_disk.specs.Images.{Always, LeavesOnly};
 ghost use Rattle.heap_model.specs.Setting.{Setting};
@@ -8,6 +8,7 @@ ghost use Rattle.undo_log.specs.StandsFor.{row_of};
 ghost use Rattle.store_image.specs.Consistent.{IsConsistent, ShowsEither};
 ghost use Rattle.store_image.specs.KeptHeap.{StandsForCut};
 ghost use Rattle.store_past.specs.Past.{Past, IsTrimmed, after_trim};
+ghost use Rattle.store_image.specs.Sequences.{ShowsUpTo};
 ghost use Rattle.store_past.specs.declared.error.StoreError.TheVariants.{Fault, Worn};
 
 use crate::commit::commit;
@@ -53,10 +54,12 @@ pub fn trim<D: Disk>(
     ensures no_call { IsErrOf result Worn → disk.new ≡ disk.old }
     ensures no_other { IfErr result (λ e. (e ≡ Worn) ⊎ (e ≡ Fault)) }
     ensures err { OnErr result (committed.new ≡ committed.old) }
+    ensures sequence { committed.new.sequence ≤ committed.old.sequence + 1 }
     ensures any_moment { (s : Setting) (p : Past) → IsConsistent layout.now s p committed.old (D.device disk.old)
         → LeavesOnly (D.device disk.old) (D.device disk.new) (StandsForCut layout.now s p.logged p.cut) }
     ensures shown { (s : Setting) (p : Past) → IsConsistent layout.now s p committed.old (D.device disk.old)
         → LeavesOnly (D.device disk.old) (D.device disk.new) (ShowsEither layout.now s p (after_trim p)) }
+    ensures any_sequence { LeavesOnly (D.device disk.old) (D.device disk.new) (ShowsUpTo layout.now (committed.old.sequence + 1)) }
     ensures crash { (s : Setting) (p : Past) → IsConsistent layout.now s p committed.old (D.device disk.old)
         → Always (D.device disk.new) (StandsForCut layout.now s p.logged p.cut) }
     ensures cause { HasCause (D.device disk.old).failures (D.device disk.new).failures Fault result }

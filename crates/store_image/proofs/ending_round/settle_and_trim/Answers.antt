@@ -1,10 +1,11 @@
-use Rattle.std.proofs.Common.{sym, subst}
+use Rattle.std.proofs.Common.{◌+◌, sym, subst}
 use Rattle.block_disk.proofs.Images.{begin, now_too}
 use Rattle.heap_model.specs.Cuts.{counts_of}
 use Rattle.image.specs.Commit.{turned_sequence}
 use Rattle.store_past.specs.Past.{after_settle, after_trim}
 use Rattle.store_image.specs.Consistent.{IsConsistent, ShowsEither}
 use Rattle.store_image.specs.KeptHeap.{StandsForEither}
+use Rattle.store_image.specs.Sequences.{ShowsUpTo}
 use Rattle.store_image.specs.declared.committed.Committed.{Committed}
 use Rattle.store_image.proofs.Round.{closed_both, round_before, round_done, round_leaves, round_shows, rows_fit}
 use Rattle.store_image.proofs.Answered.{on_ok_four}
@@ -62,3 +63,6 @@ returns-clause-shown g c = λ s p may.
     (closed_both c.args.layout.now s p c.args.committed.now (g.D.Disk.device c.args.disk.now) c.args.cut.now c.args.places.now may c.settled_rows-settled.result c.trimmed_rows-rows.result
     c.settled_rows-settled.ensures.size c.trimmed_rows-rows.ensures.size c.settled_rows-settled.ensures.lanes c.settled_rows-settled.ensures.rest c.trimmed_rows-rows.ensures.lanes c.trimmed_rows-rows.ensures.rest)
     (turned_sequence c.args.committed.now.slot c.args.committed.now.sequence (g.D.Disk.device c.args.disk.now).now.bytes) (g.D.Disk.device c.commit_written.new.disk) c.commit_written.ensures.any_moment
+
+pub returns-then-committed-clause-any_sequence : goal.returns-then-committed-clause-any_sequence
+returns-then-committed-clause-any_sequence g c = begin (g.D.Disk.device c.args.disk.now) (ShowsUpTo c.args.layout.now (c.args.committed.now.sequence + 1))

@@ -1,4 +1,4 @@
-use Rattle.store_image.proofs.GoingHome.{home_leaves, home_shows, home_always, home_done}
+use Rattle.store_image.proofs.GoingHome.{home_leaves, home_shows, home_always, home_done, home_up_to}
 use Rattle.store_image.proofs.home.write_home.Goals as goal
 
 pub returns-in-Ok-clause-ok : goal.returns-in-Ok-clause-ok
@@ -29,3 +29,11 @@ returns-in-Ok-clause-shown g c = λ s p committed may.
 pub returns-in-Err-clause-shown : goal.returns-in-Err-clause-shown
 returns-in-Err-clause-shown g c = λ s p committed may.
     home_shows c.args.layout.now s p committed (g.D.Disk.device c.args.disk.now) c.args.field.0 c.args.value may (g.D.Disk.device c.put_cell.new.disk) c.put_cell.ensures.any_moment
+
+pub returns-in-Ok-clause-any_sequence : goal.returns-in-Ok-clause-any_sequence
+returns-in-Ok-clause-any_sequence g c = λ s p committed may.
+    home_up_to c.args.layout.now s p committed (g.D.Disk.device c.args.disk.now) c.args.field.0 c.args.value may (g.D.Disk.device c.put_cell.new.disk) c.put_cell.ensures.any_moment
+
+pub returns-in-Err-clause-any_sequence : goal.returns-in-Err-clause-any_sequence
+returns-in-Err-clause-any_sequence g c = λ s p committed may.
+    home_up_to c.args.layout.now s p committed (g.D.Disk.device c.args.disk.now) c.args.field.0 c.args.value may (g.D.Disk.device c.put_cell.new.disk) c.put_cell.ensures.any_moment

@@ -1,9 +1,11 @@
-use Rattle.std.proofs.Common.{sym, subst}
+use Rattle.std.proofs.Common.{◌+◌, sym, subst}
+use Rattle.block_disk.proofs.Images.{and_then, leaves_synced}
 use Rattle.image.specs.Commit.{turned_sequence}
 use Rattle.store_past.specs.Past.{after_log}
 use Rattle.store_image.specs.Consistent.{IsConsistent}
+use Rattle.store_image.specs.Sequences.{ShowsUpTo}
 use Rattle.store_image.specs.declared.committed.Committed.{Committed}
-use Rattle.store_image.proofs.Recording.{each_row, append_leaves, append_shows, sync_leaves, sync_shows, rows_fit, steady_one, steady_two, log_leaves, log_done, log_shows, at_once_shows, at_once_leaves, at_once_done}
+use Rattle.store_image.proofs.Recording.{each_row, append_leaves, append_shows, append_up_to, sync_leaves, sync_shows, sync_up_to, rows_fit, steady_one, steady_two, log_leaves, log_done, log_shows, at_once_shows, at_once_leaves, at_once_done}
 use Rattle.store_image.proofs.Answered.{on_ok_two, on_ok_four}
 use Rattle.store_image.proofs.logging.log_all.Goals as goal
 
@@ -115,3 +117,34 @@ returns-in-Joined-clause-shown g c = λ s p may.
     (g.D.Disk.device c.append_lanes.new.disk) c.append_lanes.ensures.any_moment c.logged_rows-rows.result
     (record { size = c.logged_rows-rows.ensures.size; lanes = c.logged_rows-rows.ensures.lanes; rest = c.logged_rows-rows.ensures.rest })
     c.in_ok-append_lanes.ensures.ok (turned_sequence c.args.committed.now.slot c.args.committed.now.sequence (g.D.Disk.device c.append_lanes.new.disk).now.bytes) (g.D.Disk.device c.commit_written.new.disk) c.commit_written.ensures.any_moment
+
+pub returns-in_err-append_lanes-clause-any_sequence : goal.returns-in_err-append_lanes-clause-any_sequence
+returns-in_err-append_lanes-clause-any_sequence g c =
+    let r = c.requires.logs in
+    append_up_to c.args.layout.now r.0 r.1 c.args.committed.now (g.D.Disk.device c.args.disk.now) (g.F.NewRecords.fresh c.args.fresh.now) r.2
+    (g.D.Disk.device c.append_lanes.new.disk) c.append_lanes.ensures.any_moment
+
+pub returns-in_err-sync-in-Apart-clause-any_sequence : goal.returns-in_err-sync-in-Apart-clause-any_sequence
+returns-in_err-sync-in-Apart-clause-any_sequence g c =
+    let r = c.requires.logs in
+    sync_up_to c.args.layout.now r.0 r.1 c.args.committed.now (g.D.Disk.device c.args.disk.now) (g.F.NewRecords.fresh c.args.fresh.now) r.2
+    (g.D.Disk.device c.append_lanes.new.disk) c.append_lanes.ensures.any_moment (g.D.Disk.device c.sync.new.disk) c.sync.ensures.any_moment
+
+pub returns-in_ok-sync-in-Apart-clause-any_sequence : goal.returns-in_ok-sync-in-Apart-clause-any_sequence
+returns-in_ok-sync-in-Apart-clause-any_sequence g c =
+    let r = c.requires.logs in
+    let d = g.D.Disk.device c.args.disk.now in
+    let d1 = g.D.Disk.device c.append_lanes.new.disk in
+    let d2 = g.D.Disk.device c.sync.new.disk in
+    and_then d d2 (g.D.Disk.device c.commit.new.disk) (ShowsUpTo c.args.layout.now (c.args.committed.now.sequence + 1))
+    (sync_up_to c.args.layout.now r.0 r.1 c.args.committed.now d (g.F.NewRecords.fresh c.args.fresh.now) r.2 d1 c.append_lanes.ensures.any_moment d2 (leaves_synced d1 d2 c.in_ok-sync-in-Apart.ensures.ok))
+    c.commit.ensures.any_sequence
+
+pub returns-in-Joined-clause-any_sequence : goal.returns-in-Joined-clause-any_sequence
+returns-in-Joined-clause-any_sequence g c =
+    let r = c.requires.logs in
+    let d = g.D.Disk.device c.args.disk.now in
+    let d1 = g.D.Disk.device c.append_lanes.new.disk in
+    and_then d d1 (g.D.Disk.device c.commit_written.new.disk) (ShowsUpTo c.args.layout.now (c.args.committed.now.sequence + 1))
+    (append_up_to c.args.layout.now r.0 r.1 c.args.committed.now d (g.F.NewRecords.fresh c.args.fresh.now) r.2 d1 c.append_lanes.ensures.any_moment)
+    c.commit_written.ensures.any_sequence

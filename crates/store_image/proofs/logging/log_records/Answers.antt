@@ -1,9 +1,10 @@
-use Rattle.std.proofs.Common.{◌≡◌, ℕ, List, [], length, refl, ap, ◌∙◌, arith}
+use Rattle.std.proofs.Common.{◌≡◌, ℕ, ◌+◌, List, [], length, refl, ap, ◌∙◌, arith}
 use Rattle.heap_model.specs.declared.record.Record.{Record}
 use Rattle.block_disk.proofs.Images.{begin, now_too}
 use Rattle.store_past.specs.Past.{after_log}
 use Rattle.store_image.specs.Consistent.{ShowsEither}
 use Rattle.store_image.specs.KeptHeap.{StandsForCut}
+use Rattle.store_image.specs.Sequences.{ShowsUpTo}
 use Rattle.store_image.proofs.Recording.{count_is, log_before, nothing_new}
 use Rattle.store_image.proofs.Stands.{empty}
 use Rattle.store_image.proofs.logging.log_records.Goals as goal
@@ -99,3 +100,9 @@ returns-then-count-eq0-clause-shown g c = λ s p may. begin (g.D.Disk.device c.a
 
 pub returns-then-committed-clause-shown : goal.returns-then-committed-clause-shown
 returns-then-committed-clause-shown g c = λ s p may. begin (g.D.Disk.device c.args.disk.now) (ShowsEither c.args.layout.now s p (after_log p))
+
+pub returns-then-count-eq0-clause-any_sequence : goal.returns-then-count-eq0-clause-any_sequence
+returns-then-count-eq0-clause-any_sequence g c = begin (g.D.Disk.device c.args.disk.now) (ShowsUpTo c.args.layout.now (c.args.committed.now.sequence + 1))
+
+pub returns-then-committed-clause-any_sequence : goal.returns-then-committed-clause-any_sequence
+returns-then-committed-clause-any_sequence g c = begin (g.D.Disk.device c.args.disk.now) (ShowsUpTo c.args.layout.now (c.args.committed.now.sequence + 1))

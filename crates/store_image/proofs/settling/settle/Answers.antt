@@ -1,12 +1,15 @@
-use Rattle.std.proofs.Common.{sym, subst}
-use Rattle.block_disk.proofs.Images.{after_sync, begin, now_too}
+use Rattle.std.proofs.Common.{◌+◌, sym, subst, arith}
+use Rattle.block_disk.proofs.Images.{after_sync, and_then, begin, leaves_synced, now_too}
 use Rattle.heap_model.specs.Cuts.{counts_of}
+use Rattle.image.specs.Control.{control_of}
 use Rattle.store_past.specs.Past.{after_settle}
 use Rattle.store_image.specs.Consistent.{IsConsistent, ShowsEither}
 use Rattle.store_image.specs.KeptHeap.{StandsForEither}
+use Rattle.store_image.specs.Sequences.{ShowsUpTo}
 use Rattle.store_image.specs.declared.committed.Committed.{Committed}
 use Rattle.store_image.proofs.Acknowledging.{settle_before, rows_fit, steady_one, settle_leaves, settle_done, settle_shown, settle_shows}
 use Rattle.store_image.proofs.Answered.{on_ok_two}
+use Rattle.store_image.proofs.Sequences.{steady_up_to}
 use Rattle.store_image.proofs.settling.settle.Goals as goal
 
 pub returns-then-committed-clause-any_moment : goal.returns-then-committed-clause-any_moment
@@ -80,3 +83,25 @@ returns-clause-shown g c = λ s p may.
     settle_shows c.args.layout.now s p c.args.committed.now (g.D.Disk.device c.args.disk.now) c.args.cut.now c.args.places.now may c.settled_rows-rows.result
     (record { size = c.settled_rows-rows.ensures.size; lanes = c.settled_rows-rows.ensures.lanes; rest = c.settled_rows-rows.ensures.rest })
     (g.D.Disk.device c.sync.new.disk) c.in_ok-sync.ensures.ok (g.D.Disk.device c.commit.new.disk) c.commit.ensures.any_moment
+
+pub returns-then-committed-clause-any_sequence : goal.returns-then-committed-clause-any_sequence
+returns-then-committed-clause-any_sequence g c = begin (g.D.Disk.device c.args.disk.now) (ShowsUpTo c.args.layout.now (c.args.committed.now.sequence + 1))
+
+pub returns-in_err-sync-clause-any_sequence : goal.returns-in_err-sync-clause-any_sequence
+returns-in_err-sync-clause-any_sequence g c =
+    let l = c.args.layout.now in
+    let d = g.D.Disk.device c.args.disk.now in
+    let was = c.args.committed.now in
+    (after_sync d (g.D.Disk.device c.sync.new.disk) (ShowsUpTo l (was.sequence + 1))
+    (steady_up_to l d was.slot (control_of was.sequence was.rows) (was.sequence + 1) c.requires.settles.2.consistent.steady (omega arith)) c.sync.ensures.any_moment).0
+
+pub returns-clause-any_sequence : goal.returns-clause-any_sequence
+returns-clause-any_sequence g c =
+    let l = c.args.layout.now in
+    let d = g.D.Disk.device c.args.disk.now in
+    let d1 = g.D.Disk.device c.sync.new.disk in
+    let was = c.args.committed.now in
+    and_then d d1 (g.D.Disk.device c.commit.new.disk) (ShowsUpTo l (was.sequence + 1))
+    (after_sync d d1 (ShowsUpTo l (was.sequence + 1))
+    (steady_up_to l d was.slot (control_of was.sequence was.rows) (was.sequence + 1) c.requires.settles.2.consistent.steady (omega arith)) (leaves_synced d d1 c.in_ok-sync.ensures.ok)).0
+    c.commit.ensures.any_sequence

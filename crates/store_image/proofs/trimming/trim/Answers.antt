@@ -1,6 +1,8 @@
-use Rattle.std.proofs.Common.{sym, subst}
+use Rattle.std.proofs.Common.{◌+◌, sym, subst}
+use Rattle.block_disk.proofs.Images.{begin}
 use Rattle.store_past.specs.Past.{after_trim}
 use Rattle.store_image.specs.Consistent.{IsConsistent}
+use Rattle.store_image.specs.Sequences.{ShowsUpTo}
 use Rattle.store_image.specs.declared.committed.Committed.{Committed}
 use Rattle.store_image.proofs.Freeing.{trim_before, rows_fit, trim_shows, trim_leaves, trim_always, trim_done}
 use Rattle.store_image.proofs.Answered.{on_ok_three}
@@ -43,3 +45,6 @@ returns-clause-crash g c = λ s p is.
     trim_always c.args.layout.now s p c.args.committed.now (g.D.Disk.device c.args.disk.now) is c.trimmed_rows-rows.result
     (record { size = c.trimmed_rows-rows.ensures.size; lanes = c.trimmed_rows-rows.ensures.lanes; rest = c.trimmed_rows-rows.ensures.rest })
     (g.D.Disk.device c.commit.new.disk) c.commit.ensures.any_moment
+
+pub returns-then-committed-clause-any_sequence : goal.returns-then-committed-clause-any_sequence
+returns-then-committed-clause-any_sequence g c = begin (g.D.Disk.device c.args.disk.now) (ShowsUpTo c.args.layout.now (c.args.committed.now.sequence + 1))
