@@ -12,6 +12,7 @@ use Rattle.durable.specs.Store.{Parts, HasPast, ShowsStep}
 use Rattle.durable.specs.declared.doubt.Doubt.{Doubt}
 use Rattle.store_image.specs.Consistent.{ShowsPast}
 use Rattle.store_image.specs.KeptHeap.{StandsForCut, StandsForEither}
+use Rattle.store_image.specs.Sequences.{ShowsUpTo}
 use Rattle.store_image.specs.declared.home.Home.{Home}
 use Rattle.store_memory.specs.Apply.{Answers}
 use Rattle.store_past.specs.Past.{Past, IsTrimmed, after_apply, after_log, after_settle, after_trim}
@@ -42,6 +43,10 @@ module _ {D : Type 0} (device : D → Device) where
   -- or for that of the stable cut
   abbrev pub StandsForOneOf : (x y : Parts D) → Type 0
   StandsForOneOf x y = (s : Setting) (p : Past) (cut : ℕ → ℕ) → IsPastOf x s p → IsStable (actions p.logged) cut → LeavesOnly (device x.disk) (device y.disk) (StandsForEither x.known.layout s p.logged p.cut cut)
+
+  -- it shows a control of this sequence at most
+  abbrev pub ShowsUpToMeanwhile : (x y : Parts D) → (last : ℕ) → Type 0
+  ShowsUpToMeanwhile x y last = LeavesOnly (device x.disk) (device y.disk) (ShowsUpTo x.known.layout last)
 
   -- the lane's record is applied
   abbrev pub Applies : (x y : Parts D) → (lane : ℕ) → Record → Result (Unit {0}) StoreError → Type 0

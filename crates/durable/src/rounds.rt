@@ -1,8 +1,8 @@
-//! The two halves of a helper's round, with three syncs each.
-ghost use Rattle.std.specs.Prelude.{◌≡◌, ◌⊎◌, true, false, IfErr, IsErrOf, OnOk};
+//! The two halves of a helper's round, with two syncs each; three where sequence 0 stands behind the other slot's open gate.
+ghost use Rattle.std.specs.Prelude.{◌≡◌, ◌⊎◌, ◌+◌, ◌≤◌, true, false, IfErr, IsErrOf, OnOk};
 ghost use Rattle.store_past.specs.declared.error.StoreError.TheVariants.{Fault};
 ghost use Rattle.durable.specs.declared.doubt.Doubt.TheVariants.{Logging, Acknowledging};
-ghost use Rattle.durable.specs.Steps.{AnswersLog, AnswersSettle, Keeps, Logs, LogsNone, OnlyDeviceFaults, SettlesAndTrims, ShowsMeanwhile, StandsForOneOf, StandsMeanwhile, WearsLog, WearsSettle};
+ghost use Rattle.durable.specs.Steps.{AnswersLog, AnswersSettle, Keeps, Logs, LogsNone, OnlyDeviceFaults, SettlesAndTrims, ShowsMeanwhile, ShowsUpToMeanwhile, StandsForOneOf, StandsMeanwhile, WearsLog, WearsSettle};
 
 use crate::doubt::Doubt;
 use crate::store::{Store, kept_cut, starts};
@@ -29,6 +29,8 @@ impl<D: Disk> Store<D> {
         ensures any_moment { StandsMeanwhile D.device self.old self.new }
         ensures shown { ShowsMeanwhile D.device Logging self.old self.new }
         ensures cause { OnlyDeviceFaults D.device self.old self.new result }
+        ensures sequence { self.new.known.committed.sequence ≤ self.old.known.committed.sequence + 1 }
+        ensures any_sequence { ShowsUpToMeanwhile D.device self.old self.new (self.old.known.committed.sequence + 1) }
         ensures layout { self.new.known.layout ≡ self.old.known.layout }
     {
         self.log_by(Syncs::Joined)
@@ -52,6 +54,8 @@ impl<D: Disk> Store<D> {
         ensures any_moment { StandsForOneOf D.device self.old self.new }
         ensures shown { ShowsMeanwhile D.device Acknowledging self.old self.new }
         ensures cause { OnlyDeviceFaults D.device self.old self.new result }
+        ensures sequence { self.new.known.committed.sequence ≤ self.old.known.committed.sequence + 1 }
+        ensures any_sequence { ShowsUpToMeanwhile D.device self.old self.new (self.old.known.committed.sequence + 1) }
         ensures layout { self.new.known.layout ≡ self.old.known.layout }
     {
         if self.has_failed {

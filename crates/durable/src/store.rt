@@ -1,5 +1,5 @@
 //! The store: a heap whose sections survive a crash whole or not at all (Atlas, OOPSLA 2014).
-ghost use Rattle.std.specs.Prelude.{◌≡◌, ◌≢◌, ◌⊎◌, ◌-◌, ◌<◌, ◌≤◌, ◌^◌, ℕ, [], true, false, length, slice_index, Ok, IfErr, IfOk, IsErrOf, OnErr, OnOk};
+ghost use Rattle.std.specs.Prelude.{◌≡◌, ◌≢◌, ◌⊎◌, ◌+◌, ◌-◌, ◌<◌, ◌≤◌, ◌^◌, ℕ, [], true, false, length, slice_index, Ok, IfErr, IfOk, IsErrOf, OnErr, OnOk};
 ghost use Rattle.heap_model.specs.Setting.{Setting};
 ghost use Rattle.heap_model.specs.Cuts.{counts_of};
 ghost use Rattle.image.specs.Layout.{IsLayout};
@@ -13,7 +13,7 @@ ghost use Rattle.durable.specs.Store.{HasPast};
 ghost use Rattle.store_past.specs.declared.error.StoreError.TheVariants.{Fault};
 ghost use Rattle.store_image.specs.declared.home.Home.TheVariants.{Done};
 ghost use Rattle.durable.specs.declared.doubt.Doubt.TheVariants.{Nothing, Logging, Settling, Trimming};
-ghost use Rattle.durable.specs.Steps.{Applies, AnswersApply, AnswersHomeStep, AnswersLog, AnswersSettle, AnswersTrim, GoesHome, GoesNowhere, Keeps, Logs, LogsNone, OnlyDeviceFaults, Settles, ShowsMeanwhile, ShowsPastMeanwhile, StandsForOneOf, StandsMeanwhile, Trims, TrimsNone, WearsLog, WearsSettle, WearsTrim};
+ghost use Rattle.durable.specs.Steps.{Applies, AnswersApply, AnswersHomeStep, AnswersLog, AnswersSettle, AnswersTrim, GoesHome, GoesNowhere, Keeps, Logs, LogsNone, OnlyDeviceFaults, Settles, ShowsMeanwhile, ShowsPastMeanwhile, ShowsUpToMeanwhile, StandsForOneOf, StandsMeanwhile, Trims, TrimsNone, WearsLog, WearsSettle, WearsTrim};
 ghost use Rattle.durable.specs.Stops.{AnswersClose, BeginsWith, ClosesAtHome, ClosesForGood, ClosesWritten, HasAcknowledged, HasFirstValue, HasTrimmed, HasValue, ReadsAcknowledged, RefusesToClose, RestsAcknowledged, ShowsAtStop, StandsAtStop};
 
 use crate::beginning::fields_of;
@@ -76,6 +76,7 @@ impl<D: Disk> Store<D> {
         ensures running { IfOk result (λ x. x.known.has_failed ≡ false) }
         ensures disk { IfOk result (λ x. x.disk ≡ recovered.disk) }
         ensures layout { IfOk result (λ x. x.known.layout ≡ recovered.layout) }
+        ensures sequence { IfOk result (λ x. x.known.committed.sequence ≡ recovered.sequence) }
         ensures refused { IfErr result (λ back. back.0 ≡ recovered) }
     {
         let RecoveredParts {
@@ -115,6 +116,7 @@ impl<D: Disk> Store<D> {
         ensures no_fault { IfErr result (λ e. e ≢ Fault) }
         ensures err { OnErr result (self.new ≡ self.old) }
         ensures disk { self.new.disk ≡ self.old.disk }
+        ensures sequence { self.new.known.committed.sequence ≡ self.old.known.committed.sequence }
         ensures layout { self.new.known.layout ≡ self.old.known.layout }
     {
         if self.has_failed {
@@ -141,6 +143,8 @@ impl<D: Disk> Store<D> {
         ensures any_moment { StandsMeanwhile D.device self.old self.new }
         ensures shown { ShowsMeanwhile D.device Logging self.old self.new }
         ensures cause { OnlyDeviceFaults D.device self.old self.new result }
+        ensures sequence { self.new.known.committed.sequence ≤ self.old.known.committed.sequence + 1 }
+        ensures any_sequence { ShowsUpToMeanwhile D.device self.old self.new (self.old.known.committed.sequence + 1) }
         ensures layout { self.new.known.layout ≡ self.old.known.layout }
     {
         self.log_by(Syncs::Apart)
@@ -160,6 +164,8 @@ impl<D: Disk> Store<D> {
         ensures any_moment { StandsMeanwhile D.device self.old self.new }
         ensures shown { ShowsMeanwhile D.device Logging self.old self.new }
         ensures cause { OnlyDeviceFaults D.device self.old self.new result }
+        ensures sequence { self.new.known.committed.sequence ≤ self.old.known.committed.sequence + 1 }
+        ensures any_sequence { ShowsUpToMeanwhile D.device self.old self.new (self.old.known.committed.sequence + 1) }
         ensures layout { self.new.known.layout ≡ self.old.known.layout }
     {
         if self.has_failed {
@@ -206,6 +212,8 @@ impl<D: Disk> Store<D> {
         ensures any_moment { StandsMeanwhile D.device self.old self.new }
         ensures shown { ShowsPastMeanwhile D.device self.old self.new }
         ensures cause { OnlyDeviceFaults D.device self.old self.new result }
+        ensures sequence { self.new.known.committed.sequence ≡ self.old.known.committed.sequence }
+        ensures any_sequence { ShowsUpToMeanwhile D.device self.old self.new self.old.known.committed.sequence }
         ensures layout { self.new.known.layout ≡ self.old.known.layout }
     {
         if self.has_failed {
@@ -245,6 +253,8 @@ impl<D: Disk> Store<D> {
         ensures any_moment { StandsForOneOf D.device self.old self.new }
         ensures shown { ShowsMeanwhile D.device Settling self.old self.new }
         ensures cause { OnlyDeviceFaults D.device self.old self.new result }
+        ensures sequence { self.new.known.committed.sequence ≤ self.old.known.committed.sequence + 1 }
+        ensures any_sequence { ShowsUpToMeanwhile D.device self.old self.new (self.old.known.committed.sequence + 1) }
         ensures layout { self.new.known.layout ≡ self.old.known.layout }
     {
         if self.has_failed {
@@ -292,6 +302,8 @@ impl<D: Disk> Store<D> {
         ensures any_moment { StandsMeanwhile D.device self.old self.new }
         ensures shown { ShowsMeanwhile D.device Trimming self.old self.new }
         ensures cause { OnlyDeviceFaults D.device self.old self.new result }
+        ensures sequence { self.new.known.committed.sequence ≤ self.old.known.committed.sequence + 1 }
+        ensures any_sequence { ShowsUpToMeanwhile D.device self.old self.new (self.old.known.committed.sequence + 1) }
         ensures layout { self.new.known.layout ≡ self.old.known.layout }
     {
         if self.has_failed {

@@ -1,4 +1,5 @@
-use Rattle.std.proofs.Common.{refl, sym}
+use Rattle.std.proofs.Common.{refl, sym, ap, ◌∙◌}
+use Rattle.store_image.specs.declared.committed.Committed.{Committed}
 use Rattle.store_past.specs.Past.{no_past}
 use Rattle.durable.proofs.Adopting.{same_setting, adopts, adopts_one}
 use Rattle.durable.proofs.store.Store.adopt.Goals as goal
@@ -21,3 +22,6 @@ returns-in-Ok-clause-past g c = λ s set.
     (λ s set. c.in-Ok.ensures.remembers s (same_setting r.layout r.layout r.guards.items c.deref.result.now r.heap.items c.deref-2.result.now c.args.last s refl (sym c.deref.ensures.value) (sym c.deref-2.ensures.value) set))
     s (same_setting c.args.recovered.layout r.layout c.args.recovered.guards r.guards.items c.args.recovered.heap r.heap.items c.args.last s
     (sym c.into_parts-disk.ensures.layout) (sym c.into_parts-disk.ensures.guards) (sym c.into_parts-disk.ensures.heap) set)
+
+pub returns-in-Ok-clause-sequence : goal.returns-in-Ok-clause-sequence
+returns-in-Ok-clause-sequence g c = ap (λ (k : Committed). k.sequence) c.empty.ensures ∙ c.into_parts-disk.ensures.sequence

@@ -5,6 +5,7 @@ use Rattle.durable.specs.Store.{HasPast}
 use Rattle.durable.specs.declared.doubt.Doubt.TheVariants.{Nothing}
 use Rattle.store_image.specs.Consistent.{ShowsPast}
 use Rattle.store_image.specs.KeptHeap.{StandsForCut}
+use Rattle.store_image.specs.Sequences.{ShowsUpTo}
 use Rattle.store_past.specs.Past.{after_home}
 use Rattle.store_memory.specs.Begin.{IsLeastDirtyOf}
 use Rattle.durable.specs.Calls.{IsClean}
@@ -96,3 +97,18 @@ returns-in-Err-clause-shown g c = λ s p has.
     let was = to_parts g.D.Disk.device _ c.args.self.now (λ x d. HasPast x s p d) c.self.view_is has in
     let may = may_go_home _ s p _ was c.in-Some.field.0 c.logged_value-value.result c.if-self.false (c.in-Some.ensures s p was.remembers) (c.logged_value-value.ensures s p was.remembers) in
     from_parts g.D.Disk.device _ c.args.self.now (λ x d. LeavesOnly d (g.D.Disk.device c.write_home.new.disk) (ShowsPast x.layout s p)) c.self.view_is (c.in-Err.ensures.shown s p _ may)
+
+pub returns-in_default-clause-any_sequence : goal.returns-in_default-clause-any_sequence
+returns-in_default-clause-any_sequence g c = begin (g.D.Disk.device c.args.self.now.disk) (ShowsUpTo c.args.self.now.known.layout c.args.self.now.known.committed.sequence)
+
+pub returns-in-Ok-clause-any_sequence : goal.returns-in-Ok-clause-any_sequence
+returns-in-Ok-clause-any_sequence g c =
+    let was = c.self.invariant in
+    let may = may_go_home _ was.0 was.1 _ was.2 c.in-Some.field.0 c.logged_value-value.result c.if-self.false (c.in-Some.ensures was.0 was.1 was.2.remembers) (c.logged_value-value.ensures was.0 was.1 was.2.remembers) in
+    from_parts g.D.Disk.device _ c.args.self.now (λ x d. LeavesOnly d (g.D.Disk.device c.write_home.new.disk) (ShowsUpTo x.layout x.committed.sequence)) c.self.view_is (c.in-Ok.ensures.any_sequence was.0 was.1 _ may)
+
+pub returns-in-Err-clause-any_sequence : goal.returns-in-Err-clause-any_sequence
+returns-in-Err-clause-any_sequence g c =
+    let was = c.self.invariant in
+    let may = may_go_home _ was.0 was.1 _ was.2 c.in-Some.field.0 c.logged_value-value.result c.if-self.false (c.in-Some.ensures was.0 was.1 was.2.remembers) (c.logged_value-value.ensures was.0 was.1 was.2.remembers) in
+    from_parts g.D.Disk.device _ c.args.self.now (λ x d. LeavesOnly d (g.D.Disk.device c.write_home.new.disk) (ShowsUpTo x.layout x.committed.sequence)) c.self.view_is (c.in-Err.ensures.any_sequence was.0 was.1 _ may)

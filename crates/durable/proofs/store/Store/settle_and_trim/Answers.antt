@@ -1,7 +1,9 @@
-use Rattle.std.proofs.Common.{◌≡◌, inr, ⊎_elim, ℕ, true, false, Err, sym, ◌∙◌, ap, subst}
+use Rattle.std.proofs.Common.{◌≡◌, ◌+◌, ◌≤◌, inr, ⊎_elim, ℕ, true, false, Err, sym, ◌∙◌, ap, subst}
+use Rattle.block_disk.specs.Images.{LeavesOnly}
 use Rattle.block_disk.proofs.Images.{begin}
 use Rattle.durable.specs.Store.{HasPast, ShowsStep}
 use Rattle.durable.specs.declared.doubt.Doubt.TheVariants.{Acknowledging}
+use Rattle.store_image.specs.Sequences.{ShowsUpTo}
 use Rattle.store_past.specs.Past.{after_settle, after_trim}
 use Rattle.heap_model.specs.Sections.{actions}
 use Rattle.heap_model.specs.Cuts.{counts_of}
@@ -122,6 +124,21 @@ returns-in-Fault-clause-any_moment g c = stands_for_one g.D.Disk.device (settlin
 pub returns-in-Fault-clause-shown : goal.returns-in-Fault-clause-shown
 returns-in-Fault-clause-shown g c = shows g.D.Disk.device (settling c.least_dirty.result c.stable-stable.result.cut c.stable-stable.result.places c.self.view_is c.if-self.false (sym c.is_some.ensures ∙ c.if-is_some.false) c.least_dirty.ensures c.stable-stable.ensures.stable c.stable-stable.ensures.behind) (g.D.Disk.device c.settle_and_trim.new.disk) Acknowledging (λ p e. after_trim (after_settle p e)) acknowledges_then c.in-Err.ensures.shown
 
+pub returns-in-Ok-clause-sequence : goal.returns-in-Ok-clause-sequence
+returns-in-Ok-clause-sequence g c = from_parts g.D.Disk.device _ c.args.self.now (λ x d. c.settle_and_trim.new.committed.sequence ≤ x.committed.sequence + 1) c.self.view_is c.in-Ok.ensures.sequence
+
+pub returns-in-Ok-clause-any_sequence : goal.returns-in-Ok-clause-any_sequence
+returns-in-Ok-clause-any_sequence g c = from_parts g.D.Disk.device _ c.args.self.now (λ x d. LeavesOnly d (g.D.Disk.device c.settle_and_trim.new.disk) (ShowsUpTo x.layout (x.committed.sequence + 1))) c.self.view_is c.in-Ok.ensures.any_sequence
+
+pub returns-in-Fault-clause-sequence : goal.returns-in-Fault-clause-sequence
+returns-in-Fault-clause-sequence g c = from_parts g.D.Disk.device _ c.args.self.now (λ x d. c.settle_and_trim.new.committed.sequence ≤ x.committed.sequence + 1) c.self.view_is c.in-Err.ensures.sequence
+
+pub returns-in-Fault-clause-any_sequence : goal.returns-in-Fault-clause-any_sequence
+returns-in-Fault-clause-any_sequence g c = from_parts g.D.Disk.device _ c.args.self.now (λ x d. LeavesOnly d (g.D.Disk.device c.settle_and_trim.new.disk) (ShowsUpTo x.layout (x.committed.sequence + 1))) c.self.view_is c.in-Err.ensures.any_sequence
+
+pub returns-then-is_some-clause-any_sequence : goal.returns-then-is_some-clause-any_sequence
+returns-then-is_some-clause-any_sequence g c = begin (g.D.Disk.device c.args.self.now.disk) (ShowsUpTo c.args.self.now.known.layout (c.args.self.now.known.committed.sequence + 1))
+
 pub returns-in_default : goal.returns-in_default
 returns-in_default g c =
     let worn : c.in-Err.reason ≡ Worn = ⊎_elim (λ is. is) (λ is. absurd (c.in_default.not-Fault is)) c.in-Err.ensures.no_other in
@@ -142,5 +159,7 @@ returns-in_default g c =
       any_moment = stands_for_one g.D.Disk.device (settling c.least_dirty.result c.stable-stable.result.cut c.stable-stable.result.places c.self.view_is c.if-self.false (sym c.is_some.ensures ∙ c.if-is_some.false) c.least_dirty.ensures c.stable-stable.ensures.stable c.stable-stable.ensures.behind) (g.D.Disk.device c.settle_and_trim.new.disk) c.in-Err.ensures.any_moment;
       shown = shows g.D.Disk.device (settling c.least_dirty.result c.stable-stable.result.cut c.stable-stable.result.places c.self.view_is c.if-self.false (sym c.is_some.ensures ∙ c.if-is_some.false) c.least_dirty.ensures c.stable-stable.ensures.stable c.stable-stable.ensures.behind) (g.D.Disk.device c.settle_and_trim.new.disk) Acknowledging (λ p e. after_trim (after_settle p e)) acknowledges_then c.in-Err.ensures.shown;
       cause = from_parts g.D.Disk.device _ c.args.self.now (λ x d. HasCause {T = Unit {0}} d.failures (g.D.Disk.device c.settle_and_trim.new.disk).failures Fault (Err c.in-Err.reason)) c.self.view_is c.in-Err.ensures.cause;
+      sequence = from_parts g.D.Disk.device _ c.args.self.now (λ x d. c.settle_and_trim.new.committed.sequence ≤ x.committed.sequence + 1) c.self.view_is c.in-Err.ensures.sequence;
+      any_sequence = from_parts g.D.Disk.device _ c.args.self.now (λ x d. LeavesOnly d (g.D.Disk.device c.settle_and_trim.new.disk) (ShowsUpTo x.layout (x.committed.sequence + 1))) c.self.view_is c.in-Err.ensures.any_sequence;
       layout = ap (λ z. z.known.layout) c.self.view_is;
     }

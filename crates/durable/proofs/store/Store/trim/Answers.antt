@@ -1,9 +1,10 @@
-use Rattle.std.proofs.Common.{◌≡◌, inr, ⊎_elim, Err, refl, sym, ◌∙◌, ap, subst}
+use Rattle.std.proofs.Common.{◌≡◌, ◌+◌, ◌≤◌, inr, ⊎_elim, Err, refl, sym, ◌∙◌, ap, subst}
 use Rattle.block_disk.specs.Device.{HasCause}
 use Rattle.block_disk.specs.Images.{LeavesOnly}
 use Rattle.block_disk.proofs.Images.{begin}
 use Rattle.heap_model.specs.Cuts.{counts_of}
 use Rattle.store_image.specs.KeptHeap.{StandsForCut}
+use Rattle.store_image.specs.Sequences.{ShowsUpTo}
 use Rattle.store_past.specs.Past.{Past, after_trim}
 use Rattle.store_past.specs.declared.error.StoreError.TheVariants.{Worn, Fault}
 use Rattle.durable.specs.Calls.{RefusesTrim}
@@ -101,6 +102,21 @@ returns-in-Fault-clause-shown g c = λ s p has.
     let was = to_parts g.D.Disk.device _ c.args.self.now (λ x d. HasPast x s p d) c.self.view_is has in
     from_parts g.D.Disk.device _ c.args.self.now (λ x d. LeavesOnly d (g.D.Disk.device c.trim.new.disk) (ShowsStep x.layout s p Trimming)) c.self.view_is (trims_then _ s p _ _ (c.in-Err.ensures.shown s p (was.agrees c.if-self.false)))
 
+pub returns-in-Ok-clause-sequence : goal.returns-in-Ok-clause-sequence
+returns-in-Ok-clause-sequence g c = from_parts g.D.Disk.device _ c.args.self.now (λ x d. c.trim.new.committed.sequence ≤ x.committed.sequence + 1) c.self.view_is c.in-Ok.ensures.sequence
+
+pub returns-in-Ok-clause-any_sequence : goal.returns-in-Ok-clause-any_sequence
+returns-in-Ok-clause-any_sequence g c = from_parts g.D.Disk.device _ c.args.self.now (λ x d. LeavesOnly d (g.D.Disk.device c.trim.new.disk) (ShowsUpTo x.layout (x.committed.sequence + 1))) c.self.view_is c.in-Ok.ensures.any_sequence
+
+pub returns-in-Fault-clause-sequence : goal.returns-in-Fault-clause-sequence
+returns-in-Fault-clause-sequence g c = from_parts g.D.Disk.device _ c.args.self.now (λ x d. c.trim.new.committed.sequence ≤ x.committed.sequence + 1) c.self.view_is c.in-Err.ensures.sequence
+
+pub returns-in-Fault-clause-any_sequence : goal.returns-in-Fault-clause-any_sequence
+returns-in-Fault-clause-any_sequence g c = from_parts g.D.Disk.device _ c.args.self.now (λ x d. LeavesOnly d (g.D.Disk.device c.trim.new.disk) (ShowsUpTo x.layout (x.committed.sequence + 1))) c.self.view_is c.in-Err.ensures.any_sequence
+
+pub returns-then-is_trimmed-clause-any_sequence : goal.returns-then-is_trimmed-clause-any_sequence
+returns-then-is_trimmed-clause-any_sequence g c = begin (g.D.Disk.device c.args.self.now.disk) (ShowsUpTo c.args.self.now.known.layout (c.args.self.now.known.committed.sequence + 1))
+
 pub returns-in_default : goal.returns-in_default
 returns-in_default g c =
     let worn : c.in-Err.reason ≡ Worn = ⊎_elim (λ is. is) (λ is. absurd (c.in_default.not-Fault is)) c.in-Err.ensures.no_other in
@@ -130,5 +146,7 @@ returns-in_default g c =
           let was = to_parts g.D.Disk.device _ c.args.self.now (λ x d. HasPast x s p d) c.self.view_is has in
           from_parts g.D.Disk.device _ c.args.self.now (λ x d. LeavesOnly d (g.D.Disk.device c.trim.new.disk) (ShowsStep x.layout s p Trimming)) c.self.view_is (trims_then _ s p _ _ (c.in-Err.ensures.shown s p (was.agrees c.if-self.false))));
       cause = from_parts g.D.Disk.device _ c.args.self.now (λ x d. HasCause {T = Unit {0}} d.failures (g.D.Disk.device c.trim.new.disk).failures Fault (Err c.in-Err.reason)) c.self.view_is c.in-Err.ensures.cause;
+      sequence = from_parts g.D.Disk.device _ c.args.self.now (λ x d. c.trim.new.committed.sequence ≤ x.committed.sequence + 1) c.self.view_is c.in-Err.ensures.sequence;
+      any_sequence = from_parts g.D.Disk.device _ c.args.self.now (λ x d. LeavesOnly d (g.D.Disk.device c.trim.new.disk) (ShowsUpTo x.layout (x.committed.sequence + 1))) c.self.view_is c.in-Err.ensures.any_sequence;
       layout = ap (λ z. z.known.layout) c.self.view_is;
     }
