@@ -74,13 +74,14 @@ module _ {D : Type 0} (device : D → Device) where
     slots = moves.slots;
     layout = ap (λ (z : stores.Parts D). z.known.layout) same;
     running = ap (λ (z : stores.Parts D). z.known.has_failed) same;
+    sequence = ap (λ (z : stores.Parts D). z.known.committed.sequence) same;
     uncalled = ap (λ (z : stores.Parts D). device z.disk) same;
   }
 
   pub advances_one : (x y : Taking D) (lane : ℕ) (r : Record) → Moves lane (r ∷ []) x.rings x.waiting y.rings y.waiting →
       ((s : Setting) (p : Past) → HasPast x.store.known s p (device x.store.disk) → HasPast y.store.known s (after_apply p lane r) (device y.store.disk)) → y.store.known.layout ≡ x.store.known.layout →
-      y.store.known.has_failed ≡ x.store.known.has_failed → y.store.disk ≡ x.store.disk → Advances device x y 1
-  advances_one x y lane r moves makes layout running same = record {
+      y.store.known.has_failed ≡ x.store.known.has_failed → y.store.known.committed.sequence ≡ x.store.known.committed.sequence → y.store.disk ≡ x.store.disk → Advances device x y 1
+  advances_one x y lane r moves makes layout running sequence same = record {
     made = λ s p has. ((lane, r) ∷ [], refl, applied_has x y lane r s p moves has (makes s p has.has));
     whole = whole_all x.rings y.rings x.waiting y.waiting lane (r ∷ []) moves;
     left = moves.left;
@@ -89,11 +90,12 @@ module _ {D : Type 0} (device : D → Device) where
     slots = moves.slots;
     layout = layout;
     running = running;
+    sequence = sequence;
     uncalled = ap device same;
   }
 
   pub advances_start : (x : Taking D) → Advances device x x 0
-  advances_start x = record { made = λ s p has. ([], refl, has); whole = λ l. refl; left = omega arith; same = same_refl x.rings; told = keeps_refl x.rings; slots = refl; layout = refl; running = refl; uncalled = refl }
+  advances_start x = record { made = λ s p has. ([], refl, has); whole = λ l. refl; left = omega arith; same = same_refl x.rings; told = keeps_refl x.rings; slots = refl; layout = refl; running = refl; sequence = refl; uncalled = refl }
 
   pub advances_then : (x y z : Taking D) (n m : ℕ) → Advances device x y n → Advances device y z m → Advances device x z (n + m)
   advances_then x y z n m one two = record {
@@ -111,6 +113,7 @@ module _ {D : Type 0} (device : D → Device) where
     slots = two.slots ∙ one.slots;
     layout = two.layout ∙ one.layout;
     running = two.running ∙ one.running;
+    sequence = two.sequence ∙ one.sequence;
     uncalled = two.uncalled ∙ one.uncalled;
   }
 

@@ -93,6 +93,7 @@ module _ {D : Type 0} (device : D → Device) (y : Parts D) (rings : List Receiv
     places = r.places;
     ran = r.ran;
     serves = heard_serves s r.now r.serves;
+    takes = r.takes;
     settled = r.settled;
     left = r.left;
     quiet = r.quiet;

@@ -38,6 +38,7 @@ module _ {D : Type 0} (device : D → Device) where
     slots = on.slots;
     layout = on.layout;
     running = on.running;
+    sequence = on.sequence;
     uncalled = on.uncalled;
   }
 
@@ -72,6 +73,7 @@ module _ {D : Type 0} (device : D → Device) where
       slots = refl;
       layout = refl;
       running = refl;
+      sequence = refl;
       uncalled = refl;
     };
     stuck = λ some. absurd (omega arith);
@@ -98,6 +100,7 @@ module _ {D : Type 0} (device : D → Device) where
     slots = two.slots ∙ one.slots;
     layout = two.layout ∙ one.layout;
     running = two.running ∙ one.running;
+    sequence = two.sequence ∙ one.sequence;
     uncalled = two.uncalled ∙ one.uncalled;
   }
 
@@ -115,6 +118,7 @@ module _ {D : Type 0} (device : D → Device) where
     slots = was.slots;
     layout = was.layout;
     running = was.running;
+    sequence = was.sequence;
     uncalled = was.uncalled;
   }
 

@@ -28,7 +28,8 @@ use Rattle.trim_helper.specs.Parts.{HasDrained, IsServing, IsWhole, Parts, takin
 use Rattle.trim_helper.specs.Rings.{received_of, known_of, held_back, waiting_in, stream}
 use Rattle.trim_helper.specs.Moves.{SameRings}
 use Rattle.trim_helper.specs.Taken.{Taking, HasTaken, Advances, AllStuck, applied_more, trimmed_of}
-use Rattle.trim_helper.specs.Settled.{HasSame, IsSettled, RefusesRound, SettlesAndTrimsApplied}
+use Rattle.trim_helper.specs.Settled.{HasSame, IsSettled, RefusesRound, SettlesAndTrimsApplied, TakesSequences}
+use Rattle.trim_helper.proofs.Sequences.{takes_more, takes_none, takes_then}
 use Rattle.heap_model.specs.Log.{IsLegal}
 use Rattle.trim_helper.specs.Closed.{AreSent, Stood}
 use Rattle.trim_helper.specs.declared.ended.Ended.{Ended}
@@ -310,6 +311,7 @@ module _ {D : Type 0} (device : D → Device) (s : Setting) (p : Past) (x : Part
         places = was.places;
         ran = was.ran;
         serves = was.serves;
+        takes = takes_more 0 2 _ _ _ _ (omega arith) (takes_none x.store.known z.store.known (device x.store.disk) (device z.store.disk) kept.1.sequence kept.1.uncalled);
         settled = tt;
         left = tt;
         quiet = λ settled none. absurd (let no : false ≡ true = sym (serving.running settled) ∙ off in cc);
@@ -327,6 +329,9 @@ module _ {D : Type 0} (device : D → Device) (s : Setting) (p : Past) (x : Part
 
     same_failures : (device z.store.disk).failures ≡ (device x.store.disk).failures
     same_failures = ap (λ (d : Device). d.failures) drains.rings.ok.uncalled
+
+    drained_takes : TakesSequences 0 x.store.known (device x.store.disk) z.store.known (device z.store.disk)
+    drained_takes = takes_none x.store.known z.store.known (device x.store.disk) (device z.store.disk) drains.rings.ok.sequence drains.rings.ok.uncalled
 
     stuck_now : AreStuck x.store.known.layout (device x.store.disk) z.rings z.waiting s drained.now
     stuck_now = stuck_drained device x z n s drained.now drains.rings.ok drained.serves.taken.has drains.rings.stuck
@@ -347,6 +352,7 @@ module _ {D : Type 0} (device : D → Device) (s : Setting) (p : Past) (x : Part
           places = drained.places;
           ran = drained.ran;
           serves = drained.serves;
+          takes = takes_more 0 2 _ _ _ _ (omega arith) drained_takes;
           settled = settled;
           left = left_by z.store.known (device z.store.disk) s drained.now drained.serves.taken.has runs;
           quiet = λ is empty. (ap Ok was_so.1, drains.rings.ok.uncalled);
@@ -362,13 +368,16 @@ module _ {D : Type 0} (device : D → Device) (s : Setting) (p : Past) (x : Part
       ran_to : (q : Past) → HasRun w.known.layout s drained.now (device z.store.disk) q (device w.disk) w.known.has_failed → HasRun w.known.layout s p (device x.store.disk) q (device w.disk) w.known.has_failed
       ran_to q on = applied_then _ _ s p q _ _ _ drained.newer _ drains.rings.ok.uncalled drained.serves.taken.has.past layout on
 
+      takes_on : TakesSequences 2 z.store.known (device z.store.disk) w.known (device w.disk) → TakesSequences 2 x.store.known (device x.store.disk) w.known (device w.disk)
+      takes_on takes = takes_then 0 2 x.store.known z.store.known w.known (device x.store.disk) (device z.store.disk) (device w.disk) drains.rings.ok.layout drained_takes takes
+
       never_quiet : {T : Type 0} → x.is_settled ≡ true → drained.newer ≡ [] → T
       never_quiet is empty =
           let none : n ≡ 0 = sym drained.long ∙ ap (λ (xs : List (ℕ × Record)). length xs) empty in
           absurd (let no : false ≡ true = sym unsettled ∙ drains.stays none is in cc)
 
-      pub rounds_refused : (e : StoreError) → SettlesAndTrimsApplied device z.store w (Err e) → HasCause (device z.store.disk).failures (device w.disk).failures Fault (refusal e) → Rounds device s p x (record z { store = w }) (Err e)
-      rounds_refused e settles cause =
+      pub rounds_refused : (e : StoreError) → SettlesAndTrimsApplied device z.store w (Err e) → TakesSequences 2 z.store.known (device z.store.disk) w.known (device w.disk) → HasCause (device z.store.disk).failures (device w.disk).failures Fault (refusal e) → Rounds device s p x (record z { store = w }) (Err e)
+      rounds_refused e settles takes cause =
           let told = (settles s drained.now drained.serves.taken.has).settles in
           let h = told.same in
           record {
@@ -382,6 +391,7 @@ module _ {D : Type 0} (device : D → Device) (s : Setting) (p : Past) (x : Part
             places = λ l. omega (arith, drained.places l, h.places l);
             ran = ran_to h.now h.ran;
             serves = same_serves device z w s drained.now unsettled layout drained.serves h;
+            takes = takes_on takes;
             settled = tt;
             left = tt;
             quiet = λ is empty. never_quiet is empty;
@@ -392,9 +402,9 @@ module _ {D : Type 0} (device : D → Device) (s : Setting) (p : Past) (x : Part
             cause = cause_since _ _ _ Fault (refusal e) (omega (arith, same_failures)) cause;
           }
 
-      pub rounds_done : {t : Unit {0}} (seat : Helping) → w.known.has_failed ≡ false → SettlesAndTrimsApplied device z.store w (Ok t) → (device z.store.disk).failures ≤ (device w.disk).failures → HasPublished device w seat → AddsCounts device w z.seat seat →
+      pub rounds_done : {t : Unit {0}} (seat : Helping) → w.known.has_failed ≡ false → SettlesAndTrimsApplied device z.store w (Ok t) → TakesSequences 2 z.store.known (device z.store.disk) w.known (device w.disk) → (device z.store.disk).failures ≤ (device w.disk).failures → HasPublished device w seat → AddsCounts device w z.seat seat →
           Rounds device s p x (parts_from w z.rings z.waiting true seat) (Ok n)
-      rounds_done {t} seat runs settles later published added =
+      rounds_done {t} seat runs settles takes later published added =
           let both = settles s drained.now drained.serves.taken.has in
           let told = both.settles in
           let h = told.same in
@@ -409,6 +419,7 @@ module _ {D : Type 0} (device : D → Device) (s : Setting) (p : Past) (x : Part
             places = λ l. omega (arith, drained.places l, h.places l);
             ran = ran_to h.now h.ran;
             serves = published_serves device z w seat s drained.now layout drained.serves h runs told.settled both.trimmed (published s h.now h.has) (added s h.now h.has);
+            takes = takes_on takes;
             settled = refl;
             left = left_by w.known (device w.disk) s h.now h.has runs;
             quiet = λ is empty. never_quiet is empty;

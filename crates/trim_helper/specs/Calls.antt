@@ -5,8 +5,9 @@ use Rattle.heap_model.specs.declared.limits.TheConstants.{RING_RECORDS}
 use Rattle.heap_model.specs.declared.record.Record.{Record}
 use Rattle.heap_model.specs.Setting.{Setting}
 use Rattle.block_disk.specs.Device.{Device, HasCause}
-use Rattle.block_disk.specs.Images.{Always}
+use Rattle.block_disk.specs.Images.{Always, LeavesOnly}
 use Rattle.image.specs.declared.layout.Layout.{Layout}
+use Rattle.store_image.specs.Sequences.{ShowsUpTo}
 use Rattle.store_past.specs.Past.{Past, applied}
 use Rattle.store_past.specs.declared.error.StoreError.{StoreError}
 use Rattle.store_past.specs.declared.error.StoreError.TheVariants.{Failed, Fault}
@@ -23,7 +24,7 @@ use Rattle.trim_helper.specs.Helping.{IsBehind, IsHelper, taken_in}
 use Rattle.trim_helper.specs.Moves.{SameRings}
 use Rattle.trim_helper.specs.Parts.{Parts, IsServing, taking_of}
 use Rattle.trim_helper.specs.Rings.{received_of}
-use Rattle.trim_helper.specs.Settled.{RefusesRound}
+use Rattle.trim_helper.specs.Settled.{RefusesRound, TakesSequences}
 use Rattle.trim_helper.specs.Taken.{Taking, HasTaken, IsLaneStuck, applied_more, trimmed_of}
 use Rattle.trim_helper.specs.declared.draining.TheConstants.{LOOKS}
 use Rattle.trim_helper.specs.declared.close_error.CloseError.{CloseError}
@@ -37,8 +38,8 @@ pub record HasGoneOn {D : Type 0} (h : Home) (x y : Parts D) : Type 0 where
   pub rings : SameRings x.rings y.rings
   pub layout : y.store.known.layout ≡ x.store.known.layout
 
--- No lane goes on, where a store of this layout has this past on this device: the record that waits isn't next, or none waits and none
--- is known to be in the ring.
+-- No lane goes on, where a store of this layout has this past on this device: the store refuses the record that waits, as not next, for
+-- want of room or at an end of numbers, or none waits and none is known to be in the ring.
 pub record AreStuck (l : Layout) (d : Device) (rings : List Receiving) (waiting : List (Option Record)) (s : Setting) (p : Past) : Type 0 where
   pub known : Known
   pub layout : known.layout ≡ l
@@ -75,6 +76,8 @@ module _ {D : Type 0} (device : D → Device) where
     pub places : (l : ℕ) → trimmed_of p l ≤ trimmed_of now l
     pub ran : HasRun y.store.known.layout s p (device x.store.disk) now (device y.store.disk) y.store.known.has_failed
     pub serves : IsServing device y s now
+    -- it commits twice at most
+    pub takes : TakesSequences 2 x.store.known (device x.store.disk) y.store.known (device y.store.disk)
     -- after Ok all is settled and published, and whatever a crash leaves, a store of that past leaves
     pub settled : OnOk answer (y.is_settled ≡ true)
     pub left : OnOk answer (Always (device y.store.disk) (IsLeftBy y.store.known.layout s now))
@@ -98,6 +101,8 @@ module _ {D : Type 0} (device : D → Device) where
     pub untouched : IfErr answer (λ back. IsOfSessions back.1 → back.0 ≡ x.store.disk)
     pub stood : Stood x.store.known.layout (setting_of h.plan) p ended (device x.store.disk) (device (disk_of answer))
     pub later : IfOk answer (λ disk. (device x.store.disk).failures ≤ (device disk).failures)
+    -- it commits twice at most: so far the control of each image is that a crash left meanwhile
+    pub shown : LeavesOnly (device x.store.disk) (device (disk_of answer)) (ShowsUpTo x.store.known.layout (x.store.known.committed.sequence + 2))
 
   -- Sessions that are complete and hold nothing meet the rings of a helper of this past: what they sent is applied, made durable and
   -- acknowledged, and the words at the end are those of its history; or the store stops that.
@@ -109,6 +114,7 @@ module _ {D : Type 0} (device : D → Device) where
     pub failed : x.store.known.has_failed ≡ true → IsErrOf answer close.Failed
     pub stood : Stood x.store.known.layout (setting_of h.plan) p ended (device x.store.disk) now
     pub later : OnOk answer ((device x.store.disk).failures ≤ now.failures)
+    pub shown : LeavesOnly (device x.store.disk) now (ShowsUpTo x.store.known.layout (x.store.known.committed.sequence + 2))
 
   -- so it is, whatever past the store has
   abbrev pub Finishes : Home → Helping → List Ended → Taking D → (now : Device) → Result Final CloseError → Type 0

@@ -74,7 +74,8 @@ module _ {D : Type 0} (device : D → Device) where
     pub slots : length y.waiting ≡ length x.waiting
     pub layout : y.store.known.layout ≡ x.store.known.layout
     pub running : y.store.known.has_failed ≡ x.store.known.has_failed
-    -- the device wasn't called
+    -- the control is as it was, and the device wasn't called
+    pub sequence : y.store.known.committed.sequence ≡ x.store.known.committed.sequence
     pub uncalled : device y.store.disk ≡ device x.store.disk
 
   -- The rings are looked at, at most so often, and each time the lanes go on until none can.

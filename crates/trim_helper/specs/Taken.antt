@@ -37,7 +37,8 @@ trimmed_of p l = records_in (p.base l) (undo_logs p.logged l)
 abbrev pub IsRefused : Known → Setting → Past → (lane : ℕ) → Record → Type 0
 IsRefused x s p l r = (e : StoreError) × (e ≢ Failed) × RefusesApply x s p l r e
 
--- The lane doesn't go on: the record that waits isn't next, or none waits and none is known to be in the ring.
+-- The lane doesn't go on: the store refuses the record that waits, as not next, for want of room or at an end of numbers, or none waits
+-- and none is known to be in the ring.
 abbrev pub IsLaneStuck : Known → List Receiving → List (Option Record) → Setting → Past → (lane : ℕ) → Type 0
 IsLaneStuck x rings waiting s p l = MatchOption (waiting_in waiting l) (known_of rings l ≡ []) (λ r. IsRefused x s p l r)
 
@@ -58,7 +59,8 @@ module _ {D : Type 0} (device : D → Device) where
     pub slots : length y.waiting ≡ length x.waiting
     pub layout : y.store.known.layout ≡ x.store.known.layout
     pub running : y.store.known.has_failed ≡ x.store.known.has_failed
-    -- the device wasn't called
+    -- the control is as it was, and the device wasn't called
+    pub sequence : y.store.known.committed.sequence ≡ x.store.known.committed.sequence
     pub uncalled : device y.store.disk ≡ device x.store.disk
 
   -- whatever past the store has, the lane doesn't go on

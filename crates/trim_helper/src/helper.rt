@@ -83,7 +83,8 @@ impl<D: Disk> Helper<D> {
 
     /// Applies records that are next in their lanes, in memory alone, until none is, and answers how many. It looks at the rings
     /// again as long as it found something, at most `LOOKS` times, and takes what was there then: at most `LOOKS` times
-    /// `RING_RECORDS` of each lane. A record that isn't next waits for the next call.
+    /// `RING_RECORDS` of each lane. A record that the store refuses, as not next, for want of room or at an end of numbers, waits
+    /// for the next call.
     ///
     /// It refuses with `Failed` alone; what it applied before stands.
     pub fn drain(&mut self) -> Result<u64, StoreError>

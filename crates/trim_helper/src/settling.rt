@@ -2,7 +2,7 @@
 ghost use Rattle.std.specs.Prelude.{◌≡◌, OnOk, false};
 ghost use Rattle.block_disk.specs.Device.{HasCause};
 ghost use Rattle.store_past.specs.declared.error.StoreError.TheVariants.{Fault};
-ghost use Rattle.trim_helper.specs.Settled.{SettlesAndTrimsApplied, SettlesApplied, WritesHome};
+ghost use Rattle.trim_helper.specs.Settled.{SettlesAndTrimsApplied, SettlesApplied, TakesSequences, WritesHome};
 
 use block_disk::Disk;
 use cut_laws::{stable_law, stay_law};
@@ -13,6 +13,7 @@ fn write_home<D: Disk>(store: &mut Store<D>) -> Result<(), StoreError>
     ensures home { WritesHome D.device store.old store.new result }
     ensures running { OnOk result (store.new.known.has_failed ≡ store.old.known.has_failed) }
     ensures cause { HasCause (D.device store.old.disk).failures (D.device store.new.disk).failures Fault result }
+    ensures takes { TakesSequences 0 store.old.known (D.device store.old.disk) store.new.known (D.device store.new.disk) }
     ensures layout { store.new.known.layout ≡ store.old.known.layout }
 {
     let fields = store.layout().fields;
@@ -31,6 +32,7 @@ pub fn settle_applied<D: Disk>(store: &mut Store<D>) -> Result<(), StoreError>
     ensures settles { SettlesApplied D.device store.old store.new result }
     ensures running { OnOk result (store.new.known.has_failed ≡ false) }
     ensures cause { HasCause (D.device store.old.disk).failures (D.device store.new.disk).failures Fault result }
+    ensures takes { TakesSequences 2 store.old.known (D.device store.old.disk) store.new.known (D.device store.new.disk) }
     ensures layout { store.new.known.layout ≡ store.old.known.layout }
 {
     stable_law();
@@ -50,6 +52,7 @@ pub fn settle_and_trim<D: Disk>(store: &mut Store<D>) -> Result<(), StoreError>
     ensures settles { SettlesAndTrimsApplied D.device store.old store.new result }
     ensures running { OnOk result (store.new.known.has_failed ≡ false) }
     ensures cause { HasCause (D.device store.old.disk).failures (D.device store.new.disk).failures Fault result }
+    ensures takes { TakesSequences 2 store.old.known (D.device store.old.disk) store.new.known (D.device store.new.disk) }
     ensures layout { store.new.known.layout ≡ store.old.known.layout }
 {
     stable_law();

@@ -1,5 +1,8 @@
-use Rattle.std.proofs.Common.{◌≡◌, ◌≤◌, [], Err, Ok, ap, sym, subst}
+use Rattle.std.proofs.Common.{◌≡◌, ◌+◌, ◌≤◌, [], Err, Ok, ap, sym, subst}
+use Rattle.block_disk.specs.Images.{LeavesOnly}
+use Rattle.block_disk.proofs.Images.{begin}
 use Rattle.monitor.specs.Words.{setting_of}
+use Rattle.store_image.specs.Sequences.{ShowsUpTo}
 use Rattle.trim_helper.specs.Calls.{Closes}
 use Rattle.trim_helper.specs.Closed.{IsClosedDown, Stood}
 use Rattle.trim_helper.specs.Endings.{AreEnded, HoldNone, IsCloseWhy, IsComplete, RefusesEnded, parts_of}
@@ -50,6 +53,7 @@ returns-in-Ok g c = record {
         untouched = tt;
         stood = subst (λ d. Stood x.store.known.layout s p c.args.ended.items (g.D.Disk.device x.store.disk) (g.D.Disk.device d)) (sym disk) finished.stood;
         later = subst (λ d. (g.D.Disk.device x.store.disk).failures ≤ (g.D.Disk.device d).failures) (sym disk) finished.later;
+        shown = subst (λ d. LeavesOnly (g.D.Disk.device x.store.disk) (g.D.Disk.device d) (ShowsUpTo x.store.known.layout (x.store.known.committed.sequence + 2))) (sym disk) finished.shown;
       });
 }
 
@@ -74,6 +78,7 @@ returns-in-Err-finished g c = record {
         untouched = λ is. absurd (not_sessions c.in-Err-finished.reason finished.stop is);
         stood = subst (λ d. Stood x.store.known.layout s p c.args.ended.items (g.D.Disk.device x.store.disk) (g.D.Disk.device d)) (sym disk) finished.stood;
         later = tt;
+        shown = subst (λ d. LeavesOnly (g.D.Disk.device x.store.disk) (g.D.Disk.device d) (ShowsUpTo x.store.known.layout (x.store.known.committed.sequence + 2))) (sym disk) finished.shown;
       });
 }
 
@@ -95,5 +100,7 @@ returns-in-Err g c = record {
         untouched = λ is. c.into_disk.ensures.disk;
         stood = stood_still _ s p c.args.ended.items _ _ has.taken.has.past.legal (λ none complete. absurd (never_refused x.store.known.layout.lanes c.args.ended.items c.in-Err.reason told none complete)) (ap g.D.Disk.device c.into_disk.ensures.disk);
         later = tt;
+        shown = subst (λ d. LeavesOnly (g.D.Disk.device x.store.disk) (g.D.Disk.device d) (ShowsUpTo x.store.known.layout (x.store.known.committed.sequence + 2))) (sym c.into_disk.ensures.disk)
+            (begin (g.D.Disk.device x.store.disk) (ShowsUpTo x.store.known.layout (x.store.known.committed.sequence + 2)));
       });
 }

@@ -14,6 +14,7 @@ use Rattle.trim_helper.proofs.Homes.{stops_round}
 use Rattle.trim_helper.proofs.Looking.{looks_taken}
 use Rattle.trim_helper.proofs.Rounds.{settled_then, stood_round, stood_still, taken_follows}
 use Rattle.trim_helper.proofs.Sent.{HasMet, are_sent}
+use Rattle.trim_helper.proofs.Sequences.{takes_more, takes_none, takes_then}
 use Rattle.trim_helper.specs.Serving.{Among, Part}
 use Rattle.trim_helper.specs.Endings.{parts_of}
 use Rattle.store_past.specs.Past.{applied}
@@ -68,6 +69,7 @@ returns g c = λ p has.
       stood = stood_round g.D.Disk.device met y _ w s p c.args.ended.items on taken (λ log follows. are_sent c.args.shared _ c.args.rings.now c.drain_known.new.rings c.args.ended.items log c.requires.ended each follows) c.settle_applied.ensures.layout
           (λ s p has. (c.in_default-settle_applied.ensures.settles s p has).same);
       later = let rose = c.settle_applied.ensures.cause.later in let same = ap (λ d. d.failures) on.uncalled in omega (arith, rose, same);
+      shown = (takes_then 0 2 c.args.store.now.known y.store.known w.known _ _ _ on.layout (takes_none c.args.store.now.known y.store.known _ _ on.sequence on.uncalled) c.settle_applied.ensures.takes).shown;
     }
 
 pub returns-in-Err : goal.returns-in-Err
@@ -85,6 +87,7 @@ returns-in-Err g c = λ p has.
       stood = stood_still _ s p c.args.ended.items _ _ has.has.past.legal
           (λ none complete. are_sent c.args.shared _ c.args.rings.now c.meet.new.rings c.args.ended.items (applied p) c.requires.ended each (taken_follows g.D.Disk.device _ s p taken)) takes.kept.1.uncalled;
       later = tt;
+      shown = (takes_more 0 2 c.args.store.now.known _ _ _ (omega arith) (takes_none c.args.store.now.known c.drain_known.new.store.known _ _ takes.kept.1.sequence takes.kept.1.uncalled)).shown;
     }
 
 pub returns-in-Err-settle_applied : goal.returns-in-Err-settle_applied
@@ -99,15 +102,17 @@ returns-in-Err-settle_applied g c = λ p has.
     let made = on.made s p taken in
     let left = c.in-Err-settle_applied.ensures.settles s (applied_more made.0 p) made.2.has in
     let told = c.close_error-in-Err-settle_applied.ensures in
+    let took = takes_then 0 2 c.args.store.now.known y.store.known w.known _ _ _ on.layout (takes_none c.args.store.now.known y.store.known _ _ on.sequence on.uncalled) c.settle_applied.ensures.takes in
     let each : (x : Part) → Among (parts_of c.args.ended.items) x → HasMet c.args.shared c.drain_known.new.rings x = λ x among. on.whole x.lane ∙ c.meet.ensures.met.whole x (subst (λ parts. Among parts x) (sym c.meet.ensures.gathered) among) in
     record {
       ok = λ places stand. tt;
       stop = told.stop;
       why = why_settled c.args.store.now.known (g.D.Disk.device c.args.store.now.disk) _ c.in-Err-settle_applied.reason c.close_error-in-Err-settle_applied.result (stops_round y.store.known w.known c.in-Err-settle_applied.reason left.refused) told.failed told.worn told.fault
-          y.store.known w.known s left.same.now on.running left.refused left.same.has
+          y.store.known w.known s left.same.now on.running left.refused left.same.has took.known
           (λ is. subst (λ d. HasFailed d.failures (g.D.Disk.device w.disk).failures) on.uncalled (c.settle_applied.ensures.cause.failed (c.in-Err-settle_applied.is ∙ ap Err is)));
       failed = λ off. let is = left.failed (on.running ∙ off) in ap Err (told.from_failed (let same : Err c.in-Err-settle_applied.reason ≡ Err StoreFailed = is in cc));
       stood = stood_round g.D.Disk.device met y _ w s p c.args.ended.items on taken (λ log follows. are_sent c.args.shared _ c.args.rings.now c.drain_known.new.rings c.args.ended.items log c.requires.ended each follows) c.settle_applied.ensures.layout
           (λ s p has. (c.in-Err-settle_applied.ensures.settles s p has).same);
       later = tt;
+      shown = took.shown;
     }

@@ -6,6 +6,7 @@ use Rattle.trim_helper.proofs.Homes.{not_home, not_logged, passed_on, homes_then
 use Rattle.trim_helper.proofs.Trims.{acknowledged_now}
 use Rattle.block_disk.proofs.Failures.{cause_since}
 use Rattle.durable.proofs.Running.{ran_both, ran_both_refused}
+use Rattle.trim_helper.proofs.Sequences.{takes_more, takes_then}
 use Rattle.trim_helper.proofs.settling.settle_and_trim.Goals as goal
 
 pub returns-in-Err-clause-cause : goal.returns-in-Err-clause-cause
@@ -56,3 +57,16 @@ returns-clause-settles g c = λ s p has.
     (ran_both_refused z w s now f e c.settle_and_trim.ensures.layout was.has why (c.settle_and_trim.ensures.shown s now was.has))))
     (c.settle_and_trim.ensures.kept s now was.has))
     (settle_refused x.known c.write_home.new.store c.settle_and_trim.new.self s now c.settle_and_trim.result c.in_default.ensures.running.0 runs was.clean (c.settle_and_trim.ensures.answer s now was.has) c.settle_and_trim.ensures.refused c.settle_and_trim.ensures.failed)
+
+pub returns-in-Err-clause-takes : goal.returns-in-Err-clause-takes
+returns-in-Err-clause-takes g c = takes_more 1 2 _ _ _ _ (omega arith) (record { known = c.log_at_once.ensures.sequence; shown = c.log_at_once.ensures.any_sequence })
+
+pub returns-in-Err-write_home-clause-takes : goal.returns-in-Err-write_home-clause-takes
+returns-in-Err-write_home-clause-takes g c =
+    takes_more 1 2 _ _ _ _ (omega arith) (takes_then 1 0 _ _ _ _ _ _ c.log_at_once.ensures.layout (record { known = c.log_at_once.ensures.sequence; shown = c.log_at_once.ensures.any_sequence }) c.write_home.ensures.takes)
+
+pub returns-clause-takes : goal.returns-clause-takes
+returns-clause-takes g c =
+    takes_then 1 1 _ _ _ _ _ _ (c.write_home.ensures.layout ∙ c.log_at_once.ensures.layout)
+    (takes_then 1 0 _ _ _ _ _ _ c.log_at_once.ensures.layout (record { known = c.log_at_once.ensures.sequence; shown = c.log_at_once.ensures.any_sequence }) c.write_home.ensures.takes)
+    (record { known = c.settle_and_trim.ensures.sequence; shown = c.settle_and_trim.ensures.any_sequence })

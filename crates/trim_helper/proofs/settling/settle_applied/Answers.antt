@@ -6,6 +6,7 @@ use Rattle.trim_helper.proofs.Homes.{not_home, not_logged, passed_on, homes_then
 use Rattle.block_disk.proofs.Failures.{cause_since}
 use Rattle.durable.proofs.Running.{ran_one, ran_refused}
 use Rattle.durable.specs.declared.store_call.StoreCall.TheVariants.{Settle}
+use Rattle.trim_helper.proofs.Sequences.{takes_more, takes_then}
 use Rattle.trim_helper.proofs.settling.settle_applied.Goals as goal
 
 pub returns-in-Err-clause-cause : goal.returns-in-Err-clause-cause
@@ -52,3 +53,16 @@ returns-clause-settles g c = λ s p has.
     (ran_refused z w s now f e c.settle.ensures.layout was.has Settle tt why (c.settle.ensures.shown s now was.has))))
     (c.settle.ensures.kept s now was.has))
     (settle_refused x.known c.write_home.new.store c.settle.new.self s now c.settle.result c.in_default.ensures.running.0 runs was.clean (c.settle.ensures.answer s now was.has) c.settle.ensures.refused c.settle.ensures.failed)
+
+pub returns-in-Err-clause-takes : goal.returns-in-Err-clause-takes
+returns-in-Err-clause-takes g c = takes_more 1 2 _ _ _ _ (omega arith) (record { known = c.log_step.ensures.sequence; shown = c.log_step.ensures.any_sequence })
+
+pub returns-in-Err-write_home-clause-takes : goal.returns-in-Err-write_home-clause-takes
+returns-in-Err-write_home-clause-takes g c =
+    takes_more 1 2 _ _ _ _ (omega arith) (takes_then 1 0 _ _ _ _ _ _ c.log_step.ensures.layout (record { known = c.log_step.ensures.sequence; shown = c.log_step.ensures.any_sequence }) c.write_home.ensures.takes)
+
+pub returns-clause-takes : goal.returns-clause-takes
+returns-clause-takes g c =
+    takes_then 1 1 _ _ _ _ _ _ (c.write_home.ensures.layout ∙ c.log_step.ensures.layout)
+    (takes_then 1 0 _ _ _ _ _ _ c.log_step.ensures.layout (record { known = c.log_step.ensures.sequence; shown = c.log_step.ensures.any_sequence }) c.write_home.ensures.takes)
+    (record { known = c.settle.ensures.sequence; shown = c.settle.ensures.any_sequence })

@@ -2,10 +2,11 @@ use Rattle.std.proofs.Common.{◌∙◌, ◌≡◌, Err, ap, refl, sym, arith}
 use Rattle.store_past.specs.declared.error.StoreError.TheVariants.{Fault}
 use Rattle.durable.proofs.Running.{failed_or_still}
 use Rattle.trim_helper.proofs.Homes.{no_fault, err_same, passed_on, clean_none, clean_most, clean_done, clean_more, clean_kept, dirtied, home_moved}
+use Rattle.trim_helper.proofs.Sequences.{takes_home, takes_none, takes_then}
 use Rattle.trim_helper.proofs.settling.write_home.Goals as goal
 
 pub loop-field-init : goal.loop-field-init
-loop-field-init g c = record { clean = λ s p has. clean_none _ _ s p has; later = omega arith; running = refl; layout = refl }
+loop-field-init g c = record { clean = λ s p has. clean_none _ _ s p has; later = omega arith; takes = takes_none _ _ _ _ refl refl; running = refl; layout = refl }
 
 pub returns-in-Ok-Done-clause-home : goal.returns-in-Ok-Done-clause-home
 returns-in-Ok-Done-clause-home g c = λ s p has.
@@ -44,6 +45,7 @@ loop-field-preserved g c = record {
       (c.in-Ok-Wrote.ensures.ok s (dirtied p was.dirty) was.has) (c.in-Ok-Wrote.ensures.answer s (dirtied p was.dirty) was.has).1 in
       (more, more.ran.whole c.in-Ok-Wrote.ensures.running.1);
   later = omega (arith, c.loop-field.invariant.later, c.home_step.ensures.cause.later);
+  takes = takes_then 0 0 _ _ _ _ _ _ c.loop-field.invariant.layout c.loop-field.invariant.takes (takes_home _ _ _ _ c.home_step.ensures.sequence c.home_step.ensures.any_sequence);
   running = c.in-Ok-Wrote.ensures.running.1 ∙ sym c.in-Ok-Wrote.ensures.running.0 ∙ c.loop-field.invariant.running;
   layout = c.home_step.ensures.layout ∙ c.loop-field.invariant.layout;
 }
@@ -74,3 +76,12 @@ returns-in-Ok-Done-clause-running g c = c.in-Ok-Done.ensures.running.1 ∙ sym c
 
 pub returns-clause-running : goal.returns-clause-running
 returns-clause-running g c = c.loop-field.invariant.running
+
+pub returns-in-Ok-Done-clause-takes : goal.returns-in-Ok-Done-clause-takes
+returns-in-Ok-Done-clause-takes g c = takes_then 0 0 _ _ _ _ _ _ c.loop-field.invariant.layout c.loop-field.invariant.takes (takes_home _ _ _ _ c.home_step.ensures.sequence c.home_step.ensures.any_sequence)
+
+pub returns-in-Err-clause-takes : goal.returns-in-Err-clause-takes
+returns-in-Err-clause-takes g c = takes_then 0 0 _ _ _ _ _ _ c.loop-field.invariant.layout c.loop-field.invariant.takes (takes_home _ _ _ _ c.home_step.ensures.sequence c.home_step.ensures.any_sequence)
+
+pub returns-clause-takes : goal.returns-clause-takes
+returns-clause-takes g c = c.loop-field.invariant.takes

@@ -55,7 +55,7 @@ returns-in-Err-settle_and_trim-clause-rounds g c = λ s p serving.
     let drains = subst (λ k. Drains g.D.Disk.device c.args.self.now k (Ok c.in-Ok.count)) (drained_parts g.D.Disk.device c.args.shared.now d y hears) c.in-Ok.ensures in
     let w = c.settle_and_trim.new.store in
     rounds_heard g.D.Disk.device (parts_from w d.rings x.waiting x.is_settled d.seat) x.rings.items x.seat hears.records hears.noted s p c.args.self.now _
-    (rounds_refused g.D.Disk.device s p c.args.self.now serving z c.in-Ok.count drains w c.if-self.false c.settle_and_trim.ensures.layout c.in-Err-settle_and_trim.reason c.in-Err-settle_and_trim.ensures.settles
+    (rounds_refused g.D.Disk.device s p c.args.self.now serving z c.in-Ok.count drains w c.if-self.false c.settle_and_trim.ensures.layout c.in-Err-settle_and_trim.reason c.in-Err-settle_and_trim.ensures.settles c.settle_and_trim.ensures.takes
     (passed_on _ _ _ c.settle_and_trim.result (Err c.in-Err-settle_and_trim.reason) Fault c.in-Err-settle_and_trim.reason c.in-Err-settle_and_trim.is refl (omega arith) c.settle_and_trim.ensures.cause))
 
 pub returns-in-Err-settle_and_trim-clause-goes_on : goal.returns-in-Err-settle_and_trim-clause-goes_on
@@ -106,7 +106,7 @@ returns-clause-rounds g c = λ s p serving.
     let w = c.settle_and_trim.new.store in
     let seat = c.publish_all.new.seat in
     rounds_heard g.D.Disk.device (parts_from w d.rings x.waiting true seat) x.rings.items seat hears.records (noted_same seat seat refl) s p c.args.self.now (Ok c.in-Ok.count)
-    (rounds_done g.D.Disk.device s p c.args.self.now serving z c.in-Ok.count drains w c.if-self.false c.settle_and_trim.ensures.layout seat c.in_default.ensures.running c.in_default.ensures.settles
+    (rounds_done g.D.Disk.device s p c.args.self.now serving z c.in-Ok.count drains w c.if-self.false c.settle_and_trim.ensures.layout seat c.in_default.ensures.running c.in_default.ensures.settles c.settle_and_trim.ensures.takes
     c.settle_and_trim.ensures.cause.later c.publish_all.ensures.published (added_noted g.D.Disk.device w d.seat x.seat seat hears.noted c.publish_all.ensures.counts))
 
 pub returns-clause-goes_on : goal.returns-clause-goes_on
