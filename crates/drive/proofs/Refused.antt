@@ -1,5 +1,5 @@
 -- What a refusal says, by the refusal of a part.
-use Rattle.std.proofs.Common.{ℕ, suc, ◌≡◌, ◌≤◌, ◌<◌, ◌⊎◌, List, [], ◌∷◌, Result, Ok, Err, IfErr, IfOk, inl, inr, length, slice_index, refl, ap, subst, ◌∙◌, arith}
+use Rattle.std.proofs.Common.{ℕ, suc, ◌≡◌, ◌≤◌, ◌⊎◌, List, [], ◌∷◌, Result, Ok, Err, IfErr, IfOk, inl, inr, length, refl, ap, subst, ◌∙◌, arith}
 use Rattle.block_disk.specs.Device.{Device, HasFailed, Moment, SameMoments}
 use Rattle.guards.specs.Schema.{Declarations, field_count, guard_of, object_count}
 use Rattle.image.specs.Calls.{Call, Write, Sync, after, after_one}
@@ -21,7 +21,8 @@ use Rattle.session.specs.declared.error.SessionError.{SessionError}
 use Rattle.session.specs.declared.error.SessionError.TheVariants as sessions
 use Rattle.store_image.specs.Formatting.{RefusesFormat, layout_with}
 use Rattle.drive.specs.Crashes.{CrashesOf}
-use Rattle.drive.specs.Refusals.{IsMakingRefused, IsOwnStop, IsStoppedFirst, IsStoppedLater, RefusesFinding, RefusesGoingOn, RefusesLook, RefusesNew, RefusesOn, RefusesStudy, RefusesWith, blank_device}
+use Rattle.drive.specs.Driven.{IsMadeOf, blank_device}
+use Rattle.drive.specs.Refusals.{IsMakingRefused, IsOwnStop, IsStoppedFirst, IsStoppedLater, RefusesFinding, RefusesGoingOn, RefusesLook, RefusesNew, RefusesOn, RefusesStudy, RefusesWith}
 use Rattle.drive.specs.Schemas.{HoldsWorkers, IsOfWorkers, MayHaveImage, schema_of}
 use Rattle.drive.specs.Stops.{IsHomeOf, StopsBy, StopsRun}
 use Rattle.drive.specs.Working.{StopsWorker}
@@ -205,16 +206,16 @@ module _ {D : Type 0} (device : D → Device) where
   making_new schema workers old new OtherSchema is refused = elim refused [ ]
 
   -- behind the image that was made
-  pub made_new : (workers : ℕ) (old : Device) (was : Parts D) (new : Device) (e : DriveError) → MayHaveImage workers → ((f : ℕ) → f < field_count (schema_of workers) → slice_index was.heap f ≡ 0) → IsOfWorkers workers was.layout was.guards → old.failures ≤ (device was.disk).failures
+  pub made_new : (workers : ℕ) (old : Device) (was : Parts D) (new : Device) (e : DriveError) → MayHaveImage workers → IsMadeOf device workers old was → IsOfWorkers workers was.layout was.guards → old.failures ≤ (device was.disk).failures
       → StopsRun device (schema_of workers) was new e → IsOwnStop e → RefusesNew device workers old new e
-  made_new workers old was new NoMemory may first theirs later stops own = (may, record { was = was; first = first; stopped = record { theirs = theirs; later = later; stops = stops; own = own } })
-  made_new workers old was new (Schema e) may first theirs later stops own = elim stops.stops [ ]
-  made_new workers old was new (Image e) may first theirs later stops own = elim stops.stops [ ]
-  made_new workers old was new (Helper e) may first theirs later stops own = (may, record { was = was; first = first; stopped = record { theirs = theirs; later = later; stops = stops; own = own } })
-  made_new workers old was new (Session e) may first theirs later stops own = (may, record { was = was; first = first; stopped = record { theirs = theirs; later = later; stops = stops; own = own } })
-  made_new workers old was new (Close e) may first theirs later stops own = (may, record { was = was; first = first; stopped = record { theirs = theirs; later = later; stops = stops; own = own } })
-  made_new workers old was new (Recover e) may first theirs later stops own = (may, record { was = was; first = first; stopped = record { theirs = theirs; later = later; stops = stops; own = own } })
-  made_new workers old was new OtherSchema may first theirs later stops own = elim stops.stops [ ]
+  made_new workers old was new NoMemory may made theirs later stops own = (may, record { was = was; made = made; stopped = record { theirs = theirs; later = later; stops = stops; own = own } })
+  made_new workers old was new (Schema e) may made theirs later stops own = elim stops.stops [ ]
+  made_new workers old was new (Image e) may made theirs later stops own = elim stops.stops [ ]
+  made_new workers old was new (Helper e) may made theirs later stops own = (may, record { was = was; made = made; stopped = record { theirs = theirs; later = later; stops = stops; own = own } })
+  made_new workers old was new (Session e) may made theirs later stops own = (may, record { was = was; made = made; stopped = record { theirs = theirs; later = later; stops = stops; own = own } })
+  made_new workers old was new (Close e) may made theirs later stops own = (may, record { was = was; made = made; stopped = record { theirs = theirs; later = later; stops = stops; own = own } })
+  made_new workers old was new (Recover e) may made theirs later stops own = (may, record { was = was; made = made; stopped = record { theirs = theirs; later = later; stops = stops; own = own } })
+  made_new workers old was new OtherSchema may made theirs later stops own = elim stops.stops [ ]
 
   -- on a new device of the image's size
   image_with : (workers : ℕ) (old new : Device) (e : ImageError) → length old.now.bytes ≡ size_of (layout_with (schema_of workers) workers 4000)

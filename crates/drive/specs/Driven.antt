@@ -1,9 +1,12 @@
 -- What workers leave of a heap.
-use Rattle.std.specs.Prelude.{ℕ, ◌≡◌, ◌<◌, List, slice_index, take}
+use Rattle.std.specs.Prelude.{ℕ, ◌≡◌, ◌<◌, List, [], replicate, slice_index, take}
 use Rattle.block_disk.specs.Device.{Device, synced}
 use Rattle.block_disk.specs.Images.{LeavesOnly}
 use Rattle.guards.specs.Schema.{Declarations, field_count}
 use Rattle.heap_model.specs.declared.limits.TheConstants.{LAST_NUMBER}
+use Rattle.image.specs.Calls.{after}
+use Rattle.image.specs.Format.{format_calls}
+use Rattle.image.specs.Layout.{size_of}
 use Rattle.image.specs.Recovered.{Parts}
 use Rattle.image.specs.declared.layout.Layout.{Layout}
 use Rattle.monitor.specs.Seats.{Home}
@@ -12,6 +15,7 @@ use Rattle.recover.specs.Study.{IsStudyOf}
 use Rattle.recover.specs.declared.report.Report.{Report}
 use Rattle.recover.specs.declared.studied.Study.{Study}
 use Rattle.running_heap.specs.Closed.{IsClosed}
+use Rattle.store_image.specs.Formatting.{layout_with}
 use Rattle.store_past.specs.Past.{Past}
 use Rattle.trim_helper.specs.Parts as helpers
 use Rattle.trim_helper.specs.declared.ended.Ended.{Ended}
@@ -20,6 +24,10 @@ use Rattle.drive.specs.Crashes.{KeepsEach}
 use Rattle.drive.specs.Serving.{IsLiving}
 use Rattle.drive.specs.Schemas.{IsOfWorkers, schema_of}
 use Rattle.drive.specs.declared.driven.Driven.{Driven}
+
+-- zero bytes, of the size of so many workers' image, of which nothing was asked yet
+abbrev pub blank_device : (workers : ℕ) → Device
+blank_device workers = record { name = []; now = record { bytes = replicate (size_of (layout_with (schema_of workers) workers 4000)) 0; pending = [] }; past = []; failures = 0 }
 
 module _ {D : Type 0} (device : D → Device) where
   -- Recovery has this of a device that was recovered, and tells what workers have done. A crash of it leaves images on its way.
@@ -52,11 +60,17 @@ module _ {D : Type 0} (device : D → Device) where
     pub plan : shared.plan ≡ record { schema = schema; first = was.heap; last = LAST_NUMBER; lanes = was.layout.lanes }
     pub run : IsRunBy shared was.layout (device was.disk) now driven
 
-  -- A heap of so many workers ran from its beginning: each value was 0. This is what was left.
-  pub record HasDriven (workers : ℕ) (now : Parts D) (driven : Driven) : Type 0 where
+  -- Formatting this device has made this image for so many workers, with lanes of 4,000 records: each value is 0. Nothing else was asked of it.
+  pub record IsMadeOf (workers : ℕ) (old : Device) (made : Parts D) : Type 0 where
+    pub layout : made.layout ≡ layout_with (schema_of workers) workers 4000
+    pub first : (f : ℕ) → f < field_count (schema_of workers) → slice_index made.heap f ≡ 0
+    pub calls : device made.disk ≡ after (format_calls made.layout (schema_of workers)) old
+
+  -- A heap of so many workers ran from its beginning: on the image that formatting this device had made. This is what was left.
+  pub record HasDriven (workers : ℕ) (old : Device) (now : Parts D) (driven : Driven) : Type 0 where
     pub was : Parts D
+    pub made : IsMadeOf workers old was
     pub theirs : IsOfWorkers workers was.layout was.guards
-    pub first : (f : ℕ) → f < field_count (schema_of workers) → slice_index was.heap f ≡ 0
     pub driven_so : IsDriven (schema_of workers) was now driven
 
   -- A heap of so many workers ran on: from what recovery found on this device. This is what was left.

@@ -1,9 +1,8 @@
 -- Which refusal of workers comes when.
-use Rattle.std.specs.Prelude.{ℕ, ◌≡◌, ◌⊎◌, ◌<◌, ◌≤◌, [], replicate, slice_index}
+use Rattle.std.specs.Prelude.{ℕ, ◌≡◌, ◌⊎◌, ◌≤◌}
 use Rattle.block_disk.specs.Device.{Device, HasFailed, SameMoments}
-use Rattle.guards.specs.Schema.{Declarations, field_count}
+use Rattle.guards.specs.Schema.{Declarations}
 use Rattle.guards.specs.declared.error.SchemaError.TheVariants as schemas
-use Rattle.image.specs.Layout.{size_of}
 use Rattle.image.specs.Recovered.{Parts}
 use Rattle.image.specs.declared.error.ImageError.TheVariants as images
 use Rattle.recover.specs.Reading.{IsOfOldVersion, RefusesImage}
@@ -12,7 +11,8 @@ use Rattle.recover.specs.declared.error.RecoverError.{RecoverError}
 use Rattle.recover.specs.declared.error.RecoverError.TheVariants as recover
 use Rattle.recover.specs.declared.report.Report.{Report}
 use Rattle.session.specs.declared.error.SessionError.TheVariants as sessions
-use Rattle.store_image.specs.Formatting.{RefusesFormat, layout_with}
+use Rattle.store_image.specs.Formatting.{RefusesFormat}
+use Rattle.drive.specs.Driven.{IsMadeOf, blank_device}
 use Rattle.drive.specs.Schemas.{HoldsOthers, HoldsWorkers, IsOfWorkers, MayHaveImage, schema_of}
 use Rattle.drive.specs.Stops.{StopsRun}
 use Rattle.drive.specs.declared.error.DriveError.{DriveError}
@@ -53,10 +53,6 @@ abbrev pub IsOwnStop : DriveError → Type 0
 IsOwnStop (Session e) = (e ≡ sessions.Behind) ⊎ (e ≡ sessions.Worn)
 IsOwnStop _ = Unit {0}
 
--- zero bytes, of the size of so many workers' image, of which nothing was asked yet
-abbrev pub blank_device : (workers : ℕ) → Device
-blank_device workers = record { name = []; now = record { bytes = replicate (size_of (layout_with (schema_of workers) workers 4000)) 0; pending = [] }; past = []; failures = 0 }
-
 module _ {D : Type 0} (device : D → Device) where
   -- A run of so many workers was stopped, on an image of theirs in this state. Until it began the device had failed no less often than at first.
   pub record IsStoppedOf (workers : ℕ) (old : Device) (was : Parts D) (new : Device) (e : DriveError) : Type 0 where
@@ -65,10 +61,10 @@ module _ {D : Type 0} (device : D → Device) where
     pub stops : StopsRun device (schema_of workers) was new e
     pub own : IsOwnStop e
 
-  -- it had begun with each value 0
+  -- it had begun on the image that formatting the device had made
   pub record IsStoppedFirst (workers : ℕ) (old new : Device) (e : DriveError) : Type 0 where
     pub was : Parts D
-    pub first : (f : ℕ) → f < field_count (schema_of workers) → slice_index was.heap f ≡ 0
+    pub made : IsMadeOf device workers old was
     pub stopped : IsStoppedOf workers old was new e
 
   -- it had begun from what recovery found on the device

@@ -1,12 +1,11 @@
 //! Workers on a device: one in memory, one on which an image is made, and one that has an image of theirs.
-ghost use Rattle.std.specs.Prelude.{ℕ, ◌≡◌, ◌<◌, ◌≤◌, ◌↔◌, IfErr, IfOk, IsTrue, OnOk, length, slice_index};
+ghost use Rattle.std.specs.Prelude.{◌≡◌, ◌≤◌, ◌↔◌, IfErr, IfOk, IsTrue, OnOk, length};
 ghost use Rattle.block_disk.specs.Device.{SameMoments};
 ghost use Rattle.block_disk.specs.Memory.{Memory, device_of};
-ghost use Rattle.drive.specs.Driven.{HasDriven, HasDrivenOn, IsDriven};
+ghost use Rattle.drive.specs.Driven.{HasDriven, HasDrivenOn, IsDriven, IsMadeOf, blank_device};
 ghost use Rattle.drive.specs.Refusals.{IsMakingRefused, IsOwnStop, RefusesFinding, RefusesGoingOn, RefusesLook, RefusesNew, RefusesOn, RefusesSize, RefusesWith};
 ghost use Rattle.drive.specs.Schemas.{HoldsWorkers, IsOfWorkers, MayHaveImage, schema_of};
 ghost use Rattle.drive.specs.Stops.{StopsRun};
-ghost use Rattle.guards.specs.Schema.{field_count, first_of};
 ghost use Rattle.image.specs.Layout.{size_of};
 ghost use Rattle.image.specs.Recovered.{Parts};
 ghost use Rattle.recover.specs.Recovery.{IsRecovery};
@@ -43,7 +42,7 @@ pub fn drive_with<M: Meet + Sync, R: Threads + Wait + Sync>(
     workers: u8,
     rounds: u32,
 ) -> Result<Driven, DriveError>
-    ensures ok { IfOk result (λ d. (now : Parts Memory) × HasDriven device_of workers now d) }
+    ensures ok { IfOk result (λ d. (now : Parts Memory) × HasDriven device_of workers (blank_device workers) now d) }
     ensures workers { IfOk result (λ d. MayHaveImage workers) }
     ensures refused { IfErr result (RefusesWith device_of workers) }
 {
@@ -105,7 +104,7 @@ pub fn drive_new<D: Disk + Drop, M: Meet + Sync, R: Threads + Wait + Sync>(
     workers: u8,
     rounds: u32,
 ) -> Result<(Recovered<D>, Driven), (D, DriveError)>
-    ensures ok { IfOk result (λ r. HasDriven D.device workers r.0 r.1) }
+    ensures ok { IfOk result (λ r. HasDriven D.device workers (D.device disk) r.0 r.1) }
     ensures workers { IfOk result (λ r. MayHaveImage workers) }
     ensures refused { IfErr result (λ back. RefusesNew D.device workers (D.device disk) (D.device back.0) back.1) }
 {
@@ -129,9 +128,10 @@ fn make<D: Disk>(
     schema: &Schema,
     workers: u8,
 ) -> Result<Recovered<D>, (D, DriveError)>
+    requires schema { schema.now ≡ schema_of workers }
+    ensures made { IfOk result (λ made. IsMadeOf D.device workers (D.device disk) made) }
     ensures fits { IfOk result (λ made. FitsSchema schema.now made.layout made.guards) }
     ensures lanes { IfOk result (λ made. made.layout.lanes ≡ workers) }
-    ensures first { IfOk result (λ made. (f : ℕ) → f < field_count schema.now → slice_index made.heap f ≡ first_of schema.now f) }
     ensures workers { IfOk result (λ made. MayHaveImage workers) }
     ensures failures { IfOk result (λ made. (D.device disk).failures ≤ (D.device made.disk).failures) }
     ensures refused { IfErr result (λ back. IsMakingRefused schema.now workers (D.device disk) (D.device back.0) back.1) }

@@ -1,9 +1,8 @@
-use Rattle.std.proofs.Common.{◌≡◌, ◌∙◌, ◌<◌, ap, sym, subst}
+use Rattle.std.proofs.Common.{◌≡◌, subst}
 use Rattle.std.proofs.lemmas.Result.{IfOk-weaker}
-use Rattle.guards.specs.Schema.{Declarations, field_count, first_of}
+use Rattle.guards.specs.Schema.{Declarations}
 use Rattle.trim_helper.specs.Opening.{FitsSchema}
 use Rattle.drive.specs.Schemas.{schema_of}
-use Rattle.drive.proofs.SchemaLemmas.{first_is_zero}
 use Rattle.drive.specs.Refusals.{IsOwnStop, RefusesNew}
 use Rattle.drive.specs.Stops.{StopsRun}
 use Rattle.drive.proofs.Refused.{anyway, made_new, weaker_both}
@@ -16,8 +15,8 @@ returns-in-Ok-make-clause-ok g c =
     IfOk-weaker c.drive_made.result _ _
     (λ r so. record {
       was = made;
+      made = c.in-Ok-make.ensures.made;
       theirs = record { lanes_are = c.in-Ok-make.ensures.lanes; fits = subst (λ (s : Declarations). FitsSchema s made.layout made.guards) is c.in-Ok-make.ensures.fits };
-      first = λ f below. c.in-Ok-make.ensures.first f (subst (λ (s : Declarations). f < field_count s) (sym is) below) ∙ ap (λ (s : Declarations). first_of s f) is ∙ first_is_zero c.args.workers f;
       driven_so = so;
     })
     c.drive_made.ensures.ok
@@ -34,7 +33,7 @@ returns-in-Ok-make-clause-refused g c =
     let is : c.in-Ok.schema ≡ schema_of workers = c.in-Ok.ensures.ok in
     weaker_both c.drive_made.result (λ back. StopsRun device (schema_of workers) made (device back.0) back.1) (λ back. IsOwnStop back.1) (λ back. RefusesNew device workers old (device back.0) back.1)
     (λ back stops own. made_new device workers old made (device back.0) back.1 c.in-Ok-make.ensures.workers
-    (λ f below. c.in-Ok-make.ensures.first f (subst (λ (s : Declarations). f < field_count s) (sym is) below) ∙ ap (λ (s : Declarations). first_of s f) is ∙ first_is_zero workers f)
+    c.in-Ok-make.ensures.made
     (record { lanes_are = c.in-Ok-make.ensures.lanes; fits = subst (λ (s : Declarations). FitsSchema s made.layout made.guards) is c.in-Ok-make.ensures.fits })
     c.in-Ok-make.ensures.failures stops own)
     c.drive_made.ensures.cause c.drive_made.ensures.own
