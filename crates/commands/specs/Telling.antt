@@ -3,7 +3,7 @@ use Rattle.std.specs.Prelude.{ℕ, ◌≡◌, ◌⊎◌, List, [], Option, None,
 use Rattle.std.specs.Io.KnownBytes.{Appends}
 use Rattle.block_disk.specs.Device.{Device}
 use Rattle.block_disk.specs.Memory.{Memory, device_of}
-use Rattle.drive.specs.Driven.{HasDriven, HasDrivenOn}
+use Rattle.drive.specs.Driven.{HasDriven, HasDrivenOn, blank_device}
 use Rattle.drive.specs.declared.driven.Driven.{Driven}
 use Rattle.file_disk.specs.Backing.{Held, Reads}
 use Rattle.file_disk.specs.Mirror.{Mirror, new_device}
@@ -23,9 +23,9 @@ pub record HasDrivenImageOf (workers : ℕ) (file : Option Held) (now : Parts Mi
   pub reads : Reads image file
   pub so : HasDrivenOn file_device workers (new_device image) now driven
 
--- so many workers have worked on a file: from the beginning where it is empty, or on from the image that it holds
+-- so many workers have worked on a file: from the beginning where it is empty, on an image that is made of zeros, or on from the image that it holds
 abbrev pub HasDrivenFile : (workers : ℕ) (file : Option Held) (now : Parts Mirror) (driven : Driven) → Type 0
-HasDrivenFile workers file now driven = (Reads [] file × HasDriven file_device workers now driven) ⊎ HasDrivenImageOf workers file now driven
+HasDrivenFile workers file now driven = (Reads [] file × HasDriven file_device workers (blank_device workers) now driven) ⊎ HasDrivenImageOf workers file now driven
 
 -- this was left, on this disk, whose file reads it
 pub record HasLeft (so : Parts Mirror → Type 0) (disk : Mirror) : Type 0 where
@@ -36,7 +36,7 @@ pub record HasLeft (so : Parts Mirror → Type 0) (disk : Mirror) : Type 0 where
 
 -- so many workers have worked on an image file where one was named, and else in memory
 abbrev pub WorkedAt : {P : Type 0} (image : Option P) (workers : ℕ) → Driven → Type 0
-WorkedAt None workers driven = (now : Parts Memory) × HasDriven device_of workers now driven
+WorkedAt None workers driven = (now : Parts Memory) × HasDriven device_of workers (blank_device workers) now driven
 WorkedAt (Some path) workers driven = (file : Option Held) × (disk : Mirror) × HasLeft (λ now. HasDrivenFile workers file now driven) disk
 
 -- workers have worked so, and the lines that tell it are written

@@ -1,7 +1,7 @@
 //! Workers on an image file.
 ghost use Rattle.std.specs.Prelude.{◌≡◌, ◌⊎◌, [], Option, IfErr, IfOk, IfSome};
 ghost use Rattle.block_disk.specs.Device.{Device};
-ghost use Rattle.drive.specs.Driven.{HasDriven};
+ghost use Rattle.drive.specs.Driven.{HasDriven, blank_device};
 ghost use Rattle.drive.specs.Schemas.{HoldsWorkers};
 ghost use Rattle.commands.specs.Faults.{HasNoFile, RefusesFile, RefusesLeftFile, RefusesNewFile};
 ghost use Rattle.commands.specs.Telling.{HasDrivenFile, HasDrivenImageOf, HasLeft, file_device};
@@ -210,7 +210,7 @@ where
     F: BackingFile + Drop,
     R: Threads + Wait + Sync,
     M: Meet + Sync,
-    ensures ok { IfOk result (λ r. HasLeft (λ now. HasDriven file_device workers now r.1) r.0) }
+    ensures ok { IfOk result (λ r. HasLeft (λ now. HasDriven file_device workers (blank_device workers) now r.1) r.0) }
     ensures refused { IfErr result (RefusesNewFile workers) }
 {
     let size = match image_size(alloc, workers) {
