@@ -26,7 +26,7 @@ pub record GoesOn (x y : Hosting) : Type 0 where
   pub out : KeepCome x.out y.out
   pub stop : y.stop ≡ x.stop
 
--- So it does, but that none of its sessions is left to hand out: each has come back, also of those that weren't handed out
+-- so it does, but that none of its sessions is left to hand out: each has come back, also of those that weren't handed out
 pub record GoesOnWithout (x y : Hosting) : Type 0 where
   pub home : y.home ≡ x.home
   pub helper : y.helper ≡ x.helper

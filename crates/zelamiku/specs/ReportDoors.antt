@@ -57,6 +57,11 @@ told_at None = record { section = 0; after_section = 0; lane = NOBODY; why = 0; 
 abbrev pub TellsEach : List Section → List Dropped → Type 0
 TellsEach sections told = (i : ℕ) (d : Dropped) → i < length told → slice_index_or told i d ≡ told_at (slice_get sections i)
 
+-- Nothing is told of an opening that was refused since something was behind the handle.
+pub record TellsNothing (told : Told) (dropped : List Dropped) : Type 0 where
+  pub told_is : told ≡ nothing_told
+  pub none : TellsEach [] dropped
+
 -- `zelamiku_open_telling` of the current version, and `zelamiku_upgrade_telling` of both, where nothing was behind the handle: the heap that
 -- recovery finds in these bytes, and what it reports; or none, and why
 pub data OpensTelling (versions : Versions) (bytes : List ℕ) (told : Told) (dropped : List Dropped) (after : Held) (status : ℕ) : Type 0 where

@@ -1,8 +1,8 @@
 //! What C calls to open a heap, and to be told what recovery did.
-ghost use Rattle.std.specs.Prelude.{◌≡◌};
+ghost use Rattle.std.specs.Prelude.{◌≡◌, IsSome};
 ghost use Rattle.recover.specs.declared.versions.Versions.TheVariants.{Current, Both};
 ghost use Rattle.zelamiku.specs.HeapDoors.{PutsNew};
-ghost use Rattle.zelamiku.specs.ReportDoors.{OpensTelling};
+ghost use Rattle.zelamiku.specs.ReportDoors.{OpensTelling, TellsNothing};
 
 use crate::slot::{Slot, put_new};
 use crate::state::Open;
@@ -21,6 +21,7 @@ pub extern "C" fn zelamiku_open_telling(
     dropped: &mut [Dropped],
 ) -> u32
     ensures told { PutsNew (OpensTelling Current image.now told.new dropped.new) place.old.handle.state place.new.handle.state result }
+    ensures refused { IsSome place.old.handle.state → TellsNothing told.new dropped.new }
 {
     open_at(alloc, place, Versions::Current, image, told, dropped)
 }
@@ -35,6 +36,7 @@ pub extern "C" fn zelamiku_upgrade_telling(
     dropped: &mut [Dropped],
 ) -> u32
     ensures told { PutsNew (OpensTelling Both image.now told.new dropped.new) place.old.handle.state place.new.handle.state result }
+    ensures refused { IsSome place.old.handle.state → TellsNothing told.new dropped.new }
 {
     open_at(alloc, place, Versions::Both, image, told, dropped)
 }
@@ -49,6 +51,7 @@ fn open_at(
     dropped: &mut [Dropped],
 ) -> u32
     ensures told { PutsNew (OpensTelling versions image.now told.new dropped.new) place.old.handle.state place.new.handle.state result }
+    ensures refused { IsSome place.old.handle.state → TellsNothing told.new dropped.new }
 {
     *told = report_calls::nothing();
     report_calls::tell_dropped(&[], dropped);
