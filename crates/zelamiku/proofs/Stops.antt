@@ -1,13 +1,12 @@
 -- What a session answers by what it has seen of a stop.
-use Rattle.std.proofs.Common.{◌≡◌, ℕ, Bool, true, false, Option, Some, None, IsSome, refl, ◌∙◌, subst}
+use Rattle.std.proofs.Common.{◌≡◌, ℕ, Bool, true, false, Option, Some, None, refl, ◌∙◌, subst}
 use Rattle.std.specs.Option.{is_some}
-use Rattle.hosted_heap.specs.Failing.{HasTold, failed_call}
+use Rattle.hosted_heap.specs.Failing.{failed_call}
 use Rattle.hosted_heap.specs.Hosting.{Hosting}
 use Rattle.hosted_heap.specs.declared.error.FailedCall.{FailedCall}
-use Rattle.hosted_heap.specs.declared.error.FailedCall.TheVariants.{Sync}
 use Rattle.zelamiku.specs.Behind.{heap_behind}
 use Rattle.zelamiku.specs.Own.{Held}
-use Rattle.zelamiku.specs.StopDoors.{AfterFailure, FailsCallAt, UnlessSeen}
+use Rattle.zelamiku.specs.StopDoors.{AfterFailure, FailsCallAt, LeavesWord, UnlessSeen}
 use Rattle.zelamiku.specs.declared.state.Open.TheVariants as kind
 use Rattle.zelamiku.specs.declared.status.TheConstants.{STOPPED}
 
@@ -20,8 +19,6 @@ pub unseen_stop : (seen : Option Bool) (there : Held) (call : Held → ℕ → T
 unseen_stop None there call after status is told = told
 unseen_stop (Some written) there call after status is told = absurd cc
 
--- a heap was told of the call that is the first of those that are left
-pub failed_at : (x y : Hosting) (o : Option FailedCall) (after : Held) (status : ℕ) → o ≡ failed_call x.calls.left → HasTold x y → (o ≡ Some Sync → IsSome y.stop.seen) → AfterFailure o (heap_behind x) after status
-    → FailsCallAt (kind.Heap x) after status
-failed_at x y o after status is same written told =
-    (record { told = y; same = same; written = λ sync. written (is ∙ sync) }, subst (λ (p : Option FailedCall). AfterFailure p (heap_behind x) after status) is told)
+-- of the call that is the first of those that are left
+pub failed_at : (x : Hosting) (o : Option FailedCall) (after : Held) (status : ℕ) → o ≡ failed_call x.calls.left → AfterFailure o (heap_behind x) (LeavesWord x) after status → FailsCallAt (kind.Heap x) after status
+failed_at x o after status is told = subst (λ (p : Option FailedCall). AfterFailure p (heap_behind x) (LeavesWord x) after status) is told

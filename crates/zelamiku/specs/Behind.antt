@@ -1,7 +1,8 @@
 -- What is behind a handle, by its kind, and what a call of it is answered (this project's own).
-use Rattle.std.specs.Prelude.{ℕ, ◌≡◌, Some, None}
+use Rattle.std.specs.Prelude.{ℕ, ◌≡◌, Option, Some, None}
 use Rattle.hosted_heap.specs.Hosting.{Hosting}
 use Rattle.hosted_heap.specs.Sessions.{Seated, SeatedWaiting}
+use Rattle.hosted_heap.specs.Stopping.{Stopping}
 use Rattle.hosted_heap.specs.declared.closing.Closed.{Closed}
 use Rattle.zelamiku.specs.Own.{Held}
 use Rattle.zelamiku.specs.declared.state.Open.{Open}
@@ -24,9 +25,9 @@ heap_behind x = behind (kind.Heap x)
 abbrev pub closed_behind : Closed → Held
 closed_behind x = behind (kind.Closed x)
 
--- a heap that has stopped
-abbrev pub stopped_behind : Held
-stopped_behind = behind kind.Stopped
+-- a heap that has stopped, of which this word is left, or nothing
+abbrev pub stopped_behind : Option Stopping → Held
+stopped_behind word = behind (kind.Stopped word)
 
 -- a session
 abbrev pub session_behind : Seated → Held

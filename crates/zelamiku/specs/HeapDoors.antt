@@ -122,7 +122,7 @@ pub data HandsOne (x : Hosting) (handed after : Held) (status : ℕ) : Type 0 wh
 abbrev pub HandsOutAt : (handed : Held) → Open → (after : Held) → (status : ℕ) → Type 0
 HandsOutAt handed (kind.Heap x) after status = HandsOne x handed after status
 HandsOutAt handed (kind.Closed x) after status = (status ≡ CLOSED) × (after ≡ closed_behind x)
-HandsOutAt handed kind.Stopped after status = (status ≡ STOPPED) × (after ≡ stopped_behind)
+HandsOutAt handed (kind.Stopped word) after status = (status ≡ STOPPED) × (after ≡ stopped_behind word)
 HandsOutAt handed other after status = (status ≡ WRONG_KIND) × (after ≡ behind other)
 
 -- and where something was behind the session's handle
@@ -157,7 +157,7 @@ pub record TellsFirst (left : List DeviceCall) (call : Call) (buffer filled : Li
 abbrev pub TellsNextAt : (call : Call) (buffer filled : List ℕ) → Open → (after : Held) → (status : ℕ) → Type 0
 TellsNextAt call buffer filled (kind.Heap x) after status = (y : Hosting) × SameHeap x y × Fetches x.calls y.calls × TellsFirst y.calls.left call buffer filled status × (after ≡ heap_behind y)
 TellsNextAt call buffer filled (kind.Closed x) after status = (y : Closed) × (y.disk ≡ x.disk) × Fetches x.calls y.calls × TellsFirst y.calls.left call buffer filled status × (after ≡ closed_behind y)
-TellsNextAt call buffer filled kind.Stopped after status = (status ≡ STOPPED) × (after ≡ stopped_behind)
+TellsNextAt call buffer filled (kind.Stopped word) after status = (status ≡ STOPPED) × (after ≡ stopped_behind word)
 TellsNextAt call buffer filled other after status = (status ≡ WRONG_KIND) × (after ≡ behind other)
 
 -- of the calls that are left, these, the first is made, if there is one
@@ -169,14 +169,14 @@ MakesFirst (call ∷ later) x y status = (status ≡ OK) × (y.left ≡ later) �
 abbrev pub MakesCallAt : Open → (after : Held) → (status : ℕ) → Type 0
 MakesCallAt (kind.Heap x) after status = (y : Hosting) × SameHeap x y × MakesFirst x.calls.left x.calls y.calls status × (after ≡ heap_behind y)
 MakesCallAt (kind.Closed x) after status = (y : Closed) × (y.disk ≡ x.disk) × MakesFirst x.calls.left x.calls y.calls status × (after ≡ closed_behind y)
-MakesCallAt kind.Stopped after status = (status ≡ STOPPED) × (after ≡ stopped_behind)
+MakesCallAt (kind.Stopped word) after status = (status ≡ STOPPED) × (after ≡ stopped_behind word)
 MakesCallAt other after status = (status ≡ WRONG_KIND) × (after ≡ behind other)
 
 -- `zelamiku_round`
 abbrev pub RoundsAt : (applied : ℕ) → Open → (after : Held) → (status : ℕ) → Type 0
 RoundsAt applied (kind.Heap x) after status = (y : Hosting) × (answer : Result ℕ RoundError) × HasRound x y answer × IsSeen round_status answer applied status × (after ≡ heap_behind y)
 RoundsAt applied (kind.Closed x) after status = (status ≡ CLOSED) × (after ≡ closed_behind x)
-RoundsAt applied kind.Stopped after status = (status ≡ STOPPED) × (after ≡ stopped_behind)
+RoundsAt applied (kind.Stopped word) after status = (status ≡ STOPPED) × (after ≡ stopped_behind word)
 RoundsAt applied other after status = (status ≡ WRONG_KIND) × (after ≡ behind other)
 
 -- How many sections of the lane are acknowledged, where each call was made, or why that isn't told. Recovery takes whatever a crash of the
@@ -198,7 +198,7 @@ abbrev pub AcknowledgesAt : (lane sections : ℕ) → Open → (after : Held) �
 AcknowledgesAt lane sections (kind.Heap x) after status =
     (y : Hosting) × (answer : Result ℕ AcknowledgedError) × HasAcknowledged x y lane answer × IsSeen acknowledged_status answer sections status × (after ≡ heap_behind y)
 AcknowledgesAt lane sections (kind.Closed x) after status = (status ≡ CLOSED) × (after ≡ closed_behind x)
-AcknowledgesAt lane sections kind.Stopped after status = (status ≡ STOPPED) × (after ≡ stopped_behind)
+AcknowledgesAt lane sections (kind.Stopped word) after status = (status ≡ STOPPED) × (after ≡ stopped_behind word)
 AcknowledgesAt lane sections other after status = (status ≡ WRONG_KIND) × (after ≡ behind other)
 
 -- what is behind the handle of a heap that wasn't closed: the heap, which goes on, or what is left of it
@@ -217,5 +217,5 @@ pub data ClosesOne (x : Hosting) (after : Held) (status : ℕ) : Type 0 where
 abbrev pub ClosesAt : Open → (after : Held) → (status : ℕ) → Type 0
 ClosesAt (kind.Heap x) after status = ClosesOne x after status
 ClosesAt (kind.Closed x) after status = (status ≡ CLOSED) × (after ≡ closed_behind x)
-ClosesAt kind.Stopped after status = (status ≡ STOPPED) × (after ≡ stopped_behind)
+ClosesAt (kind.Stopped word) after status = (status ≡ STOPPED) × (after ≡ stopped_behind word)
 ClosesAt other after status = (status ≡ WRONG_KIND) × (after ≡ behind other)

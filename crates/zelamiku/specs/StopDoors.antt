@@ -1,8 +1,9 @@
 -- What C's calls do where a call of the device couldn't be made, and once a heap has stopped since (this project's own).
 use Rattle.std.specs.Prelude.{ℕ, ◌≡◌, Bool, Option, Some, None, IsSome}
-use Rattle.hosted_heap.specs.Failing.{HasTold, failed_call}
+use Rattle.hosted_heap.specs.Failing.{failed_call}
 use Rattle.hosted_heap.specs.Hosting.{Hosting}
 use Rattle.hosted_heap.specs.Sessions.{HasLookedAt, HasLookedWaiting, Seated, SeatedWaiting}
+use Rattle.hosted_heap.specs.Stopping.{Stopping}
 use Rattle.hosted_heap.specs.declared.error.FailedCall.{FailedCall}
 use Rattle.hosted_heap.specs.declared.error.FailedCall.TheVariants.{Write, Sync}
 use Rattle.zelamiku.specs.Own.{Held}
@@ -25,26 +26,27 @@ abbrev pub UnlessStoppedWaiting : (SeatedWaiting → Held → ℕ → Type 0) �
 UnlessStoppedWaiting p w after status = (v : SeatedWaiting) × HasLookedWaiting w v
     × UnlessSeen v.stop.seen (waiting_behind v) (p v) after status
 
--- What is there once a call couldn't be made: behind a write what was there, since it may be made again; behind a sync nothing is
--- left, as no call may follow.
-abbrev pub AfterFailure : Option FailedCall → (there after : Held) (status : ℕ) → Type 0
-AfterFailure None there after status = (status ≡ NONE_LEFT) × (after ≡ there)
-AfterFailure (Some Write) there after status = (status ≡ OK) × (after ≡ there)
-AfterFailure (Some Sync) there after status = (status ≡ STOPPED) × (after ≡ stopped_behind)
+-- What is there once a call couldn't be made: behind a write what was there, since it may be made again; behind a sync what is left of a
+-- heap that has stopped, as no call may follow.
+abbrev pub AfterFailure : Option FailedCall → (there : Held) (stopped : Held → Type 0) (after : Held) (status : ℕ) → Type 0
+AfterFailure None there stopped after status = (status ≡ NONE_LEFT) × (after ≡ there)
+AfterFailure (Some Write) there stopped after status = (status ≡ OK) × (after ≡ there)
+AfterFailure (Some Sync) there stopped after status = (status ≡ STOPPED) × stopped after
 
--- and the word by which the sessions learn of it is written
-pub record TellsSessions (x : Hosting) (failed : Option FailedCall) : Type 0 where
-  pub told : Hosting
-  pub same : HasTold x told
-  pub written : failed ≡ Some Sync → IsSome told.stop.seen
+-- of a heap that ran the word is left by which its sessions learn of it, and it is written
+pub record LeavesWord (x : Hosting) (after : Held) : Type 0 where
+  pub stop : Stopping
+  pub word : stop.word ≡ x.stop.word
+  pub written : IsSome stop.seen
+  pub left : after ≡ stopped_behind (Some stop)
 
--- so of a heap that runs
-abbrev pub FailsHeapCall : Option FailedCall → Hosting → (after : Held) → (status : ℕ) → Type 0
-FailsHeapCall failed x after status = TellsSessions x failed × AfterFailure failed (heap_behind x) after status
+-- of one that was closed nothing is, as it has no session
+abbrev pub LeavesNothing : (after : Held) → Type 0
+LeavesNothing after = after ≡ stopped_behind None
 
 -- `zelamiku_call_failed`
 abbrev pub FailsCallAt : Open → (after : Held) → (status : ℕ) → Type 0
-FailsCallAt (kind.Heap x) after status = FailsHeapCall (failed_call x.calls.left) x after status
-FailsCallAt (kind.Closed x) after status = AfterFailure (failed_call x.calls.left) (closed_behind x) after status
-FailsCallAt kind.Stopped after status = (status ≡ STOPPED) × (after ≡ stopped_behind)
+FailsCallAt (kind.Heap x) after status = AfterFailure (failed_call x.calls.left) (heap_behind x) (LeavesWord x) after status
+FailsCallAt (kind.Closed x) after status = AfterFailure (failed_call x.calls.left) (closed_behind x) LeavesNothing after status
+FailsCallAt (kind.Stopped word) after status = (status ≡ STOPPED) × (after ≡ stopped_behind word)
 FailsCallAt other after status = (status ≡ WRONG_KIND) × (after ≡ behind other)

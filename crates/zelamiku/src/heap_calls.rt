@@ -100,7 +100,7 @@ pub fn session(alloc: Global, state: &mut Inner, place: &mut Slot) -> u32
     match &mut state.open {
         Open::Heap(heap) => hand_out(alloc, heap, place),
         Open::Closed(_) => status::CLOSED,
-        Open::Stopped => status::STOPPED,
+        Open::Stopped(_) => status::STOPPED,
         _ => status::WRONG_KIND,
     }
 }
@@ -149,7 +149,7 @@ pub fn next_call(state: &mut Inner, bytes: &mut [u8]) -> (Call, u32)
             closed.calls.fetch();
             (tell(closed.calls.next_call(), bytes), status::OK)
         }
-        Open::Stopped => (no_call(), status::STOPPED),
+        Open::Stopped(_) => (no_call(), status::STOPPED),
         _ => (no_call(), status::WRONG_KIND),
     }
 }
@@ -195,7 +195,7 @@ pub fn call_done(state: &mut Inner) -> u32
     match &mut state.open {
         Open::Heap(heap) => of_done(heap.done()),
         Open::Closed(closed) => of_done(closed.calls.done()),
-        Open::Stopped => status::STOPPED,
+        Open::Stopped(_) => status::STOPPED,
         _ => status::WRONG_KIND,
     }
 }
@@ -221,7 +221,7 @@ pub fn round(state: &mut Inner) -> (u64, u32)
             Err(refusal) => (0, status::of_round(refusal)),
         },
         Open::Closed(_) => (0, status::CLOSED),
-        Open::Stopped => (0, status::STOPPED),
+        Open::Stopped(_) => (0, status::STOPPED),
         _ => (0, status::WRONG_KIND),
     }
 }
@@ -237,7 +237,7 @@ pub fn acknowledged(state: &mut Inner, lane: u32) -> (u64, u32)
             Err(refusal) => (0, status::of_acknowledged(refusal)),
         },
         Open::Closed(_) => (0, status::CLOSED),
-        Open::Stopped => (0, status::STOPPED),
+        Open::Stopped(_) => (0, status::STOPPED),
         _ => (0, status::WRONG_KIND),
     }
 }
@@ -276,7 +276,7 @@ fn closed_of(content: Open) -> (Open, u32)
             }
         },
         Open::Closed(closed) => (Open::Closed(closed), status::CLOSED),
-        Open::Stopped => (Open::Stopped, status::STOPPED),
+        Open::Stopped(word) => (Open::Stopped(word), status::STOPPED),
         other => (other, status::WRONG_KIND),
     }
 }

@@ -2,7 +2,7 @@
 ghost use Rattle.std.specs.Prelude.{◌≡◌, IfOk};
 ghost use Rattle.zelamiku.specs.declared.state.Open.TheVariants as kind;
 
-use hosted_heap::{Closed, HostedHeap, HostedSession, HostedWaiting};
+use hosted_heap::{Closed, HostedHeap, HostedSession, HostedWaiting, StopWord};
 use std::alloc::{AllocError, Global};
 
 /// What is behind a handle: one kind of handle serves all.
@@ -14,8 +14,9 @@ pub enum Open {
     Heap(HostedHeap),
     /// A heap that was closed, whose last calls the host is yet to make.
     Closed(Closed),
-    /// A heap that has stopped since its host couldn't make a sync: nothing is left of it.
-    Stopped,
+    /// A heap that has stopped since its host couldn't make a sync: nothing is left of it but the word by which its sessions learn
+    /// that. One that was closed had no session, and nothing is left of it.
+    Stopped(Option<StopWord>),
     /// A session.
     Session(HostedSession),
     /// A session that waits for a monitor.

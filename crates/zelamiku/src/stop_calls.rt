@@ -26,7 +26,7 @@ fn after_failure(found: Open) -> (Open, u32)
     match found {
         Open::Heap(heap) => heap_after_failure(heap),
         Open::Closed(closed) => closed_after_failure(closed),
-        Open::Stopped => (Open::Stopped, status::STOPPED),
+        Open::Stopped(word) => (Open::Stopped(word), status::STOPPED),
         other => (other, status::WRONG_KIND),
     }
 }
@@ -39,8 +39,8 @@ fn heap_after_failure(heap: HostedHeap) -> (Open, u32)
         None => (Open::Heap(heap), status::NONE_LEFT),
         Some(FailedCall::Write) => (Open::Heap(heap), status::OK),
         Some(FailedCall::Sync) => {
-            drop(heap);
-            (Open::Stopped, status::STOPPED)
+            let word = heap.into_stop_word();
+            (Open::Stopped(Some(word)), status::STOPPED)
         }
     }
 }
@@ -53,7 +53,7 @@ fn closed_after_failure(closed: Closed) -> (Open, u32)
         Some(FailedCall::Write) => (Open::Closed(closed), status::OK),
         Some(FailedCall::Sync) => {
             drop(closed);
-            (Open::Stopped, status::STOPPED)
+            (Open::Stopped(None), status::STOPPED)
         }
     }
 }
