@@ -51,6 +51,10 @@ LeftIn t (m ∷ before) image = ((t ≤ length before) × Image m image) ⊎ Lef
 abbrev pub LeftSince : ℕ → Device → List ℕ → Type 0
 LeftSince t d image = LeftIn t (d.now ∷ d.past) image
 
+-- a device of these bytes that nothing was asked of yet, with no name of its own
+abbrev pub new_device : List ℕ → Device
+new_device bytes = record { name = []; now = record { bytes = bytes; pending = [] }; past = []; failures = 0 }
+
 -- what a write that succeeds makes of the device
 abbrev pub written : ℕ → List ℕ → Device → Device
 written at bytes d = record {

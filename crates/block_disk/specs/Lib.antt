@@ -5,5 +5,6 @@ pub mod Images
 pub mod Memory
 pub mod Crash
 pub mod Laws
+pub mod Traced
 -- Scaffold: what proofs need.
 pub mod Calls

@@ -1,5 +1,5 @@
 -- A disk in memory: the device that its writes and syncs make of its first bytes (this project's own).
-use Rattle.std.specs.Prelude.{◌≡◌, ◌⊎◌, ℕ, ◌+◌, ◌-◌, ◌^◌, ◌<◌, ◌≤◌, List, [], ◌∷◌, length, min, Option, Some, None, nat_le, if◌then◌else◌}
+use Rattle.std.specs.Prelude.{◌≡◌, ◌⊎◌, ℕ, zero, suc, ◌+◌, ◌-◌, ◌^◌, ◌<◌, ◌≤◌, List, [], ◌∷◌, length, take, drop, min, Option, Some, None, nat_le, if◌then◌else◌}
 use Rattle.block_disk.specs.Bytes.{spliced}
 use Rattle.block_disk.specs.Device.{Range, Moment, Device, range_of}
 
@@ -81,6 +81,11 @@ failed m = record m { failures = min (m.failures + 1) (2 ^ 64 - 1); fails_in = n
 -- the disk with one more stop
 abbrev pub stopped : Stop → Memory → Memory
 stopped stop m = record m { stops = stop ∷ m.stops }
+
+-- these stops, and n more writes of 16 bytes each, one right behind the other
+abbrev pub units_onto : (n at : ℕ) → List ℕ → List Stop → List Stop
+units_onto zero at bytes stops = stops
+units_onto (suc n) at bytes stops = units_onto n (at + 16) (drop 16 bytes) (Wrote at (take 16 bytes) ∷ stops)
 
 -- the newest stop has failed
 abbrev pub HasJustFailed : List Stop → Type 0

@@ -15,6 +15,7 @@ mod meets;
 mod memory;
 mod place;
 mod short;
+mod trace;
 
 pub use access::{make_durable, read_within, write_through, write_within};
 pub use crash::Fill;
@@ -24,3 +25,4 @@ pub use laws::{image_but_law, image_law, sync_law};
 pub use meets::Meets;
 pub use memory::MemDisk;
 pub use place::{copy_out, lies_within, overwrite};
+pub use trace::Trace;

@@ -1,12 +1,11 @@
 -- Why workers haven't worked, by where they were to.
 use Rattle.std.specs.Prelude.{ℕ, ◌⊎◌, List, [], Option, None, Some}
-use Rattle.block_disk.specs.Device.{Device}
+use Rattle.block_disk.specs.Device.{Device, new_device}
 use Rattle.block_disk.specs.Memory.{device_of}
 use Rattle.drive.specs.Refusals.{RefusesOn, RefusesWith}
 use Rattle.drive.specs.Schemas.{MayHaveImage}
 use Rattle.drive.specs.declared.error.DriveError.{DriveError}
 use Rattle.file_disk.specs.Backing.{Held, Reads}
-use Rattle.file_disk.specs.Mirror.{new_device}
 use Rattle.image_file.specs.Formatting.{IsBeforeFile}
 use Rattle.commands.specs.Telling.{file_device}
 use Rattle.commands.specs.declared.fault.WorkFault.{WorkFault}

@@ -1,12 +1,12 @@
 -- How a run of workers ends, and what is written of it.
 use Rattle.std.specs.Prelude.{ℕ, ◌≡◌, ◌⊎◌, List, [], Option, None, Some, Result, Ok, Err}
 use Rattle.std.specs.Io.KnownBytes.{Appends}
-use Rattle.block_disk.specs.Device.{Device}
+use Rattle.block_disk.specs.Device.{Device, new_device}
 use Rattle.block_disk.specs.Memory.{Memory, device_of}
 use Rattle.drive.specs.Driven.{HasDriven, HasDrivenOn, blank_device}
 use Rattle.drive.specs.declared.driven.Driven.{Driven}
 use Rattle.file_disk.specs.Backing.{Held, Reads}
-use Rattle.file_disk.specs.Mirror.{Mirror, new_device}
+use Rattle.file_disk.specs.Mirror.{Mirror}
 use Rattle.image.specs.Recovered.{Parts}
 use Rattle.inspect.specs.Written.{AppendsPart}
 use Rattle.commands.specs.DrivenText.{driven_text}

@@ -5,12 +5,12 @@ use Rattle.std.proofs.lemmas.List.{append-nil, append_assoc, drop-drop, drop-tak
 use Rattle.block_disk.specs.Bytes.{spliced}
 use Rattle.block_disk.specs.Device.{Device, IsClear, unit_ranges, written_units}
 use Rattle.block_disk.specs.Images.{ImageBut, LeavesOnly}
-use Rattle.block_disk.specs.Memory.{Memory, Stop, Wrote, WriteFailed, Synced, SyncFailed, bytes_after, device_of}
+use Rattle.block_disk.specs.Memory.{Memory, Stop, Wrote, WriteFailed, Synced, SyncFailed, bytes_after, device_of, units_onto}
 use Rattle.block_disk.proofs.Images.{besides_wider, weaker}
 use Rattle.block_disk.proofs.InUnits.{head_long, rest_long, units_bytes, units_leave}
 use Rattle.block_disk.proofs.Ranges.{outside_more}
 use Rattle.deferred_disk.specs.Deferred.{IsDeferring, first_in, onto, stops_in}
-use Rattle.deferred_disk.specs.Joined.{AllFit, TakesAllOrNone, at_sync, goes_on_with, join_units, join_write, joined, longer, units_onto}
+use Rattle.deferred_disk.specs.Joined.{AllFit, TakesAllOrNone, at_sync, goes_on_with, join_units, join_write, joined, longer}
 use Rattle.deferred_disk.specs.declared.call.DeviceCall.{DeviceCall}
 use Rattle.deferred_disk.specs.declared.call.Handed.{Handed}
 use Rattle.deferred_disk.specs.declared.call.TheConstants.{MOST_BYTES}

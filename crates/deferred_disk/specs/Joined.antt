@@ -44,11 +44,6 @@ abbrev pub joined : List Stop → List Stop
 joined [] = []
 joined (stop ∷ older) = join stop (joined older)
 
--- these stops, and n more writes of 16 bytes each, one right behind the other
-abbrev pub units_onto : (n at : ℕ) → List ℕ → List Stop → List Stop
-units_onto zero at bytes stops = stops
-units_onto (suc n) at bytes stops = units_onto n (at + 16) (drop 16 bytes) (Wrote at (take 16 bytes) ∷ stops)
-
 -- the newest call is a sync, if there is one
 abbrev pub IsAtSync : List Stop → Type 0
 IsAtSync [] = Unit {0}

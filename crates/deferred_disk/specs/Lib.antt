@@ -5,5 +5,3 @@ pub mod Deferred
 pub mod Syncs
 pub mod Host
 pub mod Handing
--- Scaffold: what proofs need.
-pub mod Told

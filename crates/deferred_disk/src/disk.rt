@@ -15,8 +15,7 @@ ghost use Rattle.rtrb.specs.Ring.{SameProducer, known_free, sent};
 use crate::call::{DeviceCall, Handed, MOST_BYTES};
 use crate::handing::Handing;
 use crate::host::HostCalls;
-use crate::told::Told;
-use block_disk::{Disk, DiskError, copy_out, fail, lies_within, overwrite};
+use block_disk::{Disk, DiskError, Trace, copy_out, fail, lies_within, overwrite};
 use rtrb::{Producer, RingBuffer};
 use std::alloc::{AllocError, Global};
 use std::marker::Model;
@@ -41,7 +40,7 @@ pub struct DeferredDisk {
     unsent: Vec<DeviceCall>,
     pub(crate) ring: Producer<Handed, Global, Handing>,
     failures: u64,
-    told: Told,
+    trace: Trace,
 }
 
 impl Model for DeferredDisk {
@@ -50,9 +49,9 @@ impl Model for DeferredDisk {
 
     ghost Value = { Deferred };
 
-    ghost view = { λ d. record { memory = memory_of (sent d.ring) d.told.stops d.failures; ring = d.ring } };
+    ghost view = { λ d. record { memory = memory_of (sent d.ring) d.trace.past.stops d.failures; ring = d.ring } };
 
-    ghost invariant = { λ d. IsDeferring (sent d.ring) d.unsent.items d.bytes.items d.told.stops };
+    ghost invariant = { λ d. IsDeferring (sent d.ring) d.unsent.items d.bytes.items d.trace.past.stops };
 }
 
 impl DeferredDisk {
@@ -88,7 +87,7 @@ impl DeferredDisk {
             unsent: Vec::new(alloc),
             ring,
             failures: 0,
-            told: Told::new(),
+            trace: Trace::of(&[]),
         };
         Ok((disk, HostCalls::of(alloc, other)))
     }
@@ -142,7 +141,7 @@ impl Disk for DeferredDisk {
             return Err(fail(&mut self.failures));
         }
         put(&mut self.bytes, at, bytes);
-        self.told.write(at, bytes);
+        self.trace.write(at, bytes);
         Ok(())
     }
 
@@ -161,7 +160,7 @@ impl Disk for DeferredDisk {
         let kept = keep_units(self.alloc, &mut self.unsent, at, units, count);
         let done = &units[..kept * 16];
         put(&mut self.bytes, at, done);
-        self.told.write_units(at, done, kept);
+        self.trace.write_units(at, done, kept);
         if kept < count {
             fail(&mut self.failures);
             return Err(block_disk::Fault);
@@ -186,7 +185,7 @@ impl Disk for DeferredDisk {
         }
         let batch = std::mem::replace(&mut self.unsent, Vec::new(self.alloc));
         self.ring.push_reserved(Handed::Calls(batch));
-        self.told.sync();
+        self.trace.sync();
         Ok(())
     }
 

@@ -13,7 +13,6 @@ mod handing;
 mod host;
 mod laws;
 mod meeting;
-mod told;
 
 pub use call::{DeviceCall, MOST_BYTES};
 pub use disk::{DeferredDisk, SYNCS};

@@ -6,7 +6,7 @@ use Rattle.std.proofs.lemmas.Bool.{cases_lt}
 use Rattle.block_disk.specs.Device.{Range, Device, range_of, written, written_units, Image, IsClear, IsOutside, SameOutside}
 use Rattle.block_disk.proofs.Bytes.{length_spliced}
 use Rattle.block_disk.proofs.InUnits.{head_long, rest_long, head_size, units_bytes}
-use Rattle.file_disk.specs.Trace.{failing}
+use Rattle.block_disk.specs.Traced.{failing}
 use Rattle.block_disk.proofs.Ranges.{outside_sym, outside_trans, outside_more, outside_rest, outside_first, spliced_same}
 use Rattle.file_disk.specs.Buffered.{AllWithin, GoesOn, HasNewest, IsBuffered, IsDeferred, IsMirrored, LastCovers}
 

@@ -1,6 +1,5 @@
 -- The promise: what public clauses state.
 pub mod Backing
 pub mod Mirror
--- Scaffold: what the disks' invariants say, and the device that no memory holds.
+-- Scaffold: what the disks' invariants say.
 pub mod Buffered
-pub mod Trace

@@ -7,7 +7,3 @@ use Rattle.file_disk.specs.Backing.{Held}
 pub record Mirror : Type 0 where
   pub device : Device
   pub file : Option Held
-
--- a device of these bytes that nothing was asked of yet; files have no names of their own here
-abbrev pub new_device : List ℕ → Device
-new_device bytes = record { name = []; now = record { bytes = bytes; pending = [] }; past = []; failures = 0 }

@@ -2,18 +2,16 @@
 ghost use Rattle.std.specs.Prelude.{◌≡◌, ◌⊎◌, ◌+◌, ◌-◌, ◌*◌, ◌^◌, ◌<◌, ◌≤◌, ◌∷◌, ◌++◌, [], ℕ, List, length, min, replicate, IfOk, IfSome, IsErrOf, IsOk, OnErr, OnOk};
 ghost use Rattle.block_disk.specs.Bytes.{part, spliced};
 ghost use Rattle.file_disk.specs.Backing.{Reads, ReadsBut, ReadsForGood};
-ghost use Rattle.block_disk.specs.Device.{Image, Range, HasFailed, SameMoments, TornWrite, synced, unit_ranges, written, written_units};
+ghost use Rattle.block_disk.specs.Device.{HasFailed, Image, Range, SameMoments, TornWrite, new_device, synced, unit_ranges, written, written_units};
 ghost use Rattle.block_disk.specs.Images.{ImageBut, LeavesOnly};
-ghost use Rattle.file_disk.specs.Mirror.{new_device};
 ghost use Rattle.block_disk.specs.declared.error.DiskError.TheVariants.{Fault, OutOfRange};
 ghost use Rattle.file_disk.specs.Buffered.{AllWithin, GoesOn, IsWithin};
 
 use crate::backing::BackingFile;
 use crate::error::FileError;
 use crate::span::{Span, add};
-use crate::trace::Trace;
 use crate::whole::{create_file, fill, find_file, read_whole};
-use block_disk::{Disk, DiskError, copy_out, fail, lies_within, overwrite};
+use block_disk::{Disk, DiskError, Trace, copy_out, fail, lies_within, overwrite};
 use std::alloc::Global;
 use std::fs::Files;
 use std::io;
@@ -40,13 +38,13 @@ pub struct BufferedDisk<F: BackingFile + Drop> {
 impl<F: BackingFile + Drop> Model for BufferedDisk<F> {
     ghost use Rattle.file_disk.specs.Mirror.{Mirror};
     ghost use Rattle.file_disk.specs.Buffered.{IsDeferred};
-    ghost use Rattle.file_disk.specs.Trace.{failing};
+    ghost use Rattle.block_disk.specs.Traced.{failing};
 
     ghost Value = { Mirror };
 
-    ghost view = { λ d. record { device = failing d.failures d.trace.device; file = F.holds d.file } };
+    ghost view = { λ d. record { device = failing d.failures d.trace.past.device; file = F.holds d.file } };
 
-    ghost invariant = { λ d. IsDeferred d.trace.device d.bytes.items d.unwritten.items (F.holds d.file) };
+    ghost invariant = { λ d. IsDeferred d.trace.past.device d.bytes.items d.unwritten.items (F.holds d.file) };
 }
 
 impl<F: BackingFile + Drop> BufferedDisk<F> {

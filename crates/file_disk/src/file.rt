@@ -1,19 +1,17 @@
 //! A disk each of whose writes reaches its file at once.
 ghost use Rattle.std.specs.Prelude.{◌≡◌, ◌⊎◌, ◌+◌, ◌<◌, ◌≤◌, ◌↔◌, IsTrue, IsFalse, length, replicate, OnOk, OnErr, IfOk, IfSome, IsErrOf};
 ghost use Rattle.block_disk.specs.Bytes.{part};
-ghost use Rattle.block_disk.specs.Device.{HasFailed, SameMoments, TornWrite, synced, written};
+ghost use Rattle.block_disk.specs.Device.{HasFailed, SameMoments, TornWrite, new_device, synced, written};
 ghost use Rattle.block_disk.specs.declared.error.DiskError.TheVariants.{Fault, OutOfRange};
 ghost use Rattle.file_disk.specs.Backing.{Reads, ReadsBut, ReadsForGood};
 ghost use Rattle.file_disk.specs.Buffered.{AllWithin};
-ghost use Rattle.file_disk.specs.Mirror.{new_device};
 
 use crate::backing::BackingFile;
 use crate::buffered::{flush, put};
 use crate::error::FileError;
 use crate::span::{Span, add};
-use crate::trace::Trace;
 use crate::whole::{create_file, fill, find_file, read_whole};
-use block_disk::{Disk, DiskError, fail, lies_within};
+use block_disk::{Disk, DiskError, Trace, fail, lies_within};
 use std::alloc::Global;
 use std::fs::Files;
 use std::io;
@@ -45,13 +43,13 @@ pub struct FileDisk<F: BackingFile + Drop> {
 impl<F: BackingFile + Drop> Model for FileDisk<F> {
     ghost use Rattle.file_disk.specs.Buffered.{IsMirrored};
     ghost use Rattle.file_disk.specs.Mirror.{Mirror};
-    ghost use Rattle.file_disk.specs.Trace.{failing};
+    ghost use Rattle.block_disk.specs.Traced.{failing};
 
     ghost Value = { Mirror };
 
-    ghost view = { λ d. record { device = failing d.failures d.trace.device; file = F.holds d.file } };
+    ghost view = { λ d. record { device = failing d.failures d.trace.past.device; file = F.holds d.file } };
 
-    ghost invariant = { λ d. IsMirrored d.behind d.trace.device d.bytes.items d.unsynced.items (F.holds d.file) };
+    ghost invariant = { λ d. IsMirrored d.behind d.trace.past.device d.bytes.items d.unsynced.items (F.holds d.file) };
 }
 
 impl<F: BackingFile + Drop> FileDisk<F> {

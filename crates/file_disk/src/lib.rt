@@ -12,7 +12,6 @@ mod buffered;
 mod error;
 mod file;
 mod span;
-mod trace;
 mod volatile;
 mod whole;
 

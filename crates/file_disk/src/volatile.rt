@@ -1,10 +1,9 @@
 //! A disk in memory that forgets.
 ghost use Rattle.std.specs.Prelude.{◌≡◌, replicate, IfOk};
-ghost use Rattle.file_disk.specs.Mirror.{new_device};
+ghost use Rattle.block_disk.specs.Device.{new_device};
 
 use crate::buffered::put;
-use crate::trace::Trace;
-use block_disk::{Disk, DiskError, Fault, copy_out, lies_within, overwrite};
+use block_disk::{Disk, DiskError, Fault, Trace, copy_out, lies_within, overwrite};
 use std::alloc::{AllocError, Global};
 use std::marker::Model;
 
@@ -23,9 +22,9 @@ impl Model for VolatileDisk {
 
     ghost Value = { Device };
 
-    ghost view = { λ d. d.trace.device };
+    ghost view = { λ d. d.trace.past.device };
 
-    ghost invariant = { λ d. (d.trace.device.now.bytes ≡ d.bytes.items) × (d.trace.device.failures ≡ 0) };
+    ghost invariant = { λ d. (d.trace.past.device.now.bytes ≡ d.bytes.items) × (d.trace.past.device.failures ≡ 0) };
 }
 
 impl VolatileDisk {

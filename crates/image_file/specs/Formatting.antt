@@ -2,8 +2,7 @@
 use Rattle.std.specs.Prelude.{◌≡◌, ℕ, List, ◌++◌, Option, codes, replicate}
 use Rattle.std.specs.Fmt.{decimal}
 use Rattle.std.specs.Io.KnownBytes.{Appends}
-use Rattle.block_disk.specs.Device.{Device}
-use Rattle.file_disk.specs.Mirror.{new_device}
+use Rattle.block_disk.specs.Device.{Device, new_device}
 use Rattle.file_disk.specs.declared.error.FileError.{FileError}
 use Rattle.file_disk.specs.declared.error.FileError.TheVariants as disks
 use Rattle.sector_disk.specs.declared.error.PlacesError.{PlacesError}

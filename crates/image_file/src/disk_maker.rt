@@ -1,6 +1,6 @@
 //! What makes the device of a new image.
 ghost use Rattle.std.specs.Prelude.{◌≡◌, Bool, true, replicate, IfOk};
-ghost use Rattle.file_disk.specs.Mirror.{new_device};
+ghost use Rattle.block_disk.specs.Device.{new_device};
 
 use crate::error::FileFault;
 use block_disk::Disk;

@@ -1,6 +1,6 @@
 //! A device in a new file.
 ghost use Rattle.std.specs.Prelude.{◌≡◌, false, replicate, IfOk};
-ghost use Rattle.file_disk.specs.Mirror.{new_device};
+ghost use Rattle.block_disk.specs.Device.{new_device};
 
 use crate::claiming::{Content, claim, claim_at, content_of};
 use crate::disk_maker::DiskMaker;

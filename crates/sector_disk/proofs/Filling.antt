@@ -1,10 +1,9 @@
 -- Filling an area, a sector after the other.
 use Rattle.std.proofs.Common.{◌≡◌, inl, inr, ◌⊎◌, ℕ, ◌+◌, ◌<◌, ◌≤◌, Bool, true, false, List, [], ◌∷◌, length, get_or, sym, ◌∙◌, subst, arith, below_more}
 use Rattle.std.proofs.lemmas.Bool.{cases_lt}
-use Rattle.block_disk.specs.Device.{Device, SameOutside}
+use Rattle.block_disk.specs.Device.{Device, Range, SameOutside}
 use Rattle.block_disk.specs.Images.{ImageBut, LeavesOnly}
 use Rattle.block_disk.proofs.Images.{and_then, after_sync, begin, besides_none, now_too}
-use Rattle.block_disk.specs.Device.{Range}
 use Rattle.block_disk.proofs.Ranges.{outside_refl, outside_trans, outside_wider, part_same}
 use Rattle.sector_disk.specs.declared.size.SectorSize.{SectorSize}
 use Rattle.sector_disk.specs.Size.{bytes_in, place_of, sector}

@@ -2,9 +2,8 @@
 use Rattle.std.proofs.Common.{◌≡◌, inl, inr, ◌⊎◌, ℕ, ◌+◌, ◌/◌, ◌%◌, ◌<◌, ◌≤◌, Bool, true, false, not, List, [], ◌∷◌, length, get_or, sym, ◌∙◌, ap, subst, arith, nat_eq, take}
 use Rattle.std.proofs.lemmas.List.{ext_get_or, take-take}
 use Rattle.block_disk.specs.Bytes.{part, spliced}
-use Rattle.block_disk.specs.Device.{IsClear, Device, written}
+use Rattle.block_disk.specs.Device.{Device, IsClear, Range, written}
 use Rattle.block_disk.specs.Images.{ImageBut, IsApart, LeavesOnly, Always}
-use Rattle.block_disk.specs.Device.{Range}
 use Rattle.block_disk.proofs.Bytes.{length_part, get_or_part, part_spliced, spliced_at}
 use Rattle.block_disk.proofs.Ranges.{outside_wider}
 use Rattle.block_disk.proofs.Images.{besides_none, besides_then, besides_wider, follows, now_too}

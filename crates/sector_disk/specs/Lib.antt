@@ -7,5 +7,3 @@ pub mod Places
 pub mod Labels
 pub mod Whole
 pub mod OnePlace
--- Scaffold: the device that no memory holds.
-pub mod Trace

@@ -1,13 +1,12 @@
 //! A disk in one place on a device of sectors that tears none.
 ghost use Rattle.std.specs.Prelude.{◌≡◌, ◌≢◌, ◌⊎◌, ◌+◌, ◌*◌, ◌<◌, ◌≤◌, ℕ, List, IfErr, IfOk, IsErrAnd, IsErrOf, IsOk, OnErr, OnOk, [], ◌∷◌, length};
 ghost use Rattle.block_disk.specs.Bytes.{part, spliced};
-ghost use Rattle.block_disk.specs.Device.{HasFailed, Image, SameMoments, SameOutside, TornWrite, synced, unit_ranges, written, written_units};
+ghost use Rattle.block_disk.specs.Device.{HasFailed, Image, SameMoments, SameOutside, TornWrite, new_device, synced, unit_ranges, written, written_units};
 ghost use Rattle.block_disk.specs.Images.{ImageBut, LeavesOnly};
 ghost use Rattle.block_disk.specs.declared.error.DiskError.TheVariants.{Fault, OutOfRange};
 ghost use Rattle.sector_disk.specs.OnePlace.{IsInPlace, held};
 ghost use Rattle.sector_disk.specs.Places.{IsAsFound, sectors_from};
 ghost use Rattle.sector_disk.specs.Size.{place_of};
-ghost use Rattle.sector_disk.specs.Trace.{new_device};
 ghost use Rattle.sector_disk.specs.Whole.{IsOldOrNew};
 ghost use Rattle.sector_disk.specs.declared.error.PlacesError.TheVariants.{TooSmall};
 
@@ -15,9 +14,8 @@ use crate::error::PlacesError;
 use crate::marks::Marks;
 use crate::one_place::{FoundHere, find_place, sync_place, write_here};
 use crate::size::SectorSize;
-use crate::trace::Trace;
 use crate::whole::WholeSectors;
-use block_disk::{Disk, DiskError, copy_out, fail, lies_within};
+use block_disk::{Disk, DiskError, Trace, copy_out, fail, lies_within};
 use std::alloc::Global;
 use std::marker::Model;
 
@@ -40,13 +38,13 @@ pub struct InPlace<S: WholeSectors + Drop> {
 impl<S: WholeSectors + Drop> Model for InPlace<S> {
     ghost use Rattle.std.specs.Prelude.{◌≡◌, length};
     ghost use Rattle.sector_disk.specs.OnePlace.{InOne, IsInPlace};
-    ghost use Rattle.sector_disk.specs.Trace.{failing};
+    ghost use Rattle.block_disk.specs.Traced.{failing};
 
     ghost Value = { InOne };
 
-    ghost view = { λ d. record { device = failing d.failures d.trace.device; sectors = S.device d.sectors; size = d.size; first = d.first; count = length d.marks } };
+    ghost view = { λ d. record { device = failing d.failures d.trace.past.device; sectors = S.device d.sectors; size = d.size; first = d.first; count = length d.marks } };
 
-    ghost invariant = { λ d. (S.of_size d.sectors ≡ d.size) × IsInPlace d.size d.first d.marks d.image.items d.trace.device.now (S.device d.sectors) };
+    ghost invariant = { λ d. (S.of_size d.sectors ≡ d.size) × IsInPlace d.size d.first d.marks d.image.items d.trace.past.device.now (S.device d.sectors) };
 }
 
 impl<S: WholeSectors + Drop> InPlace<S> {

@@ -20,7 +20,6 @@ mod over_disk;
 mod places;
 mod sectors;
 mod size;
-mod trace;
 mod two_places;
 mod whole;
 
@@ -31,6 +30,5 @@ pub use memory::MemSectors;
 pub use over_disk::SectorsOf;
 pub use sectors::Sectors;
 pub use size::SectorSize;
-pub use trace::Trace;
 pub use two_places::TwoPlaces;
 pub use whole::WholeSectors;

@@ -1,16 +1,14 @@
 //! A device of sectors in memory.
 ghost use Rattle.std.specs.Prelude.{◌≡◌, ◌↔◌, ◌+◌, ◌≤◌, IsTrue, length, replicate, IfOk};
 ghost use Rattle.block_disk.specs.Bytes.{spliced};
-ghost use Rattle.block_disk.specs.Device.{written};
+ghost use Rattle.block_disk.specs.Device.{new_device, written};
 ghost use Rattle.sector_disk.specs.Size.{bytes_in, place_of};
-ghost use Rattle.sector_disk.specs.Trace.{new_device};
 
 use crate::error::SectorError;
 use crate::sectors::Sectors;
 use crate::size::SectorSize;
-use crate::trace::Trace;
 use crate::whole::WholeSectors;
-use block_disk::Fault;
+use block_disk::{Fault, Trace};
 use std::alloc::{AllocError, Global};
 use std::marker::Model;
 
@@ -32,9 +30,9 @@ impl Model for MemSectors {
 
     ghost Value = { Memory };
 
-    ghost view = { λ s. record { device = s.trace.device; size = s.size } };
+    ghost view = { λ s. record { device = s.trace.past.device; size = s.size } };
 
-    ghost invariant = { λ s. s.trace.device.now.bytes ≡ s.numbers.items };
+    ghost invariant = { λ s. s.trace.past.device.now.bytes ≡ s.numbers.items };
 }
 
 impl MemSectors {

@@ -1,13 +1,12 @@
 //! A disk in two places on a device of sectors.
 ghost use Rattle.std.specs.Prelude.{◌≡◌, ◌≢◌, ◌⊎◌, ◌+◌, ◌*◌, ◌^◌, ◌<◌, ◌≤◌, ℕ, List, IfErr, IfOk, IsErrAnd, IsErrOf, IsOk, OnErr, OnOk, [], ◌∷◌, length, replicate, take};
 ghost use Rattle.block_disk.specs.Bytes.{part, spliced};
-ghost use Rattle.block_disk.specs.Device.{HasFailed, SameMoments, SameOutside, TornWrite, synced, unit_ranges, written, written_units};
+ghost use Rattle.block_disk.specs.Device.{HasFailed, SameMoments, SameOutside, TornWrite, new_device, synced, unit_ranges, written, written_units};
 ghost use Rattle.block_disk.specs.Images.{Always, ImageBut, LeavesOnly};
 ghost use Rattle.block_disk.specs.declared.error.DiskError.TheVariants.{Fault, OutOfRange};
 ghost use Rattle.sector_disk.specs.Labels.{label_bytes};
 ghost use Rattle.sector_disk.specs.Places.{IsAsFound, IsKept, Shows, sectors_from, shown};
 ghost use Rattle.sector_disk.specs.Size.{place_of, sector};
-ghost use Rattle.sector_disk.specs.Trace.{new_device};
 ghost use Rattle.sector_disk.specs.declared.error.PlacesError.TheVariants.{Fault as PlacesFault, TooSmall};
 
 use crate::error::PlacesError;
@@ -17,8 +16,7 @@ use crate::opening::{Found, find_places, make_places};
 use crate::places::{sync_places, write_image};
 use crate::sectors::Sectors;
 use crate::size::SectorSize;
-use crate::trace::Trace;
-use block_disk::{Disk, DiskError, copy_out, fail, lies_within};
+use block_disk::{Disk, DiskError, Trace, copy_out, fail, lies_within};
 use std::alloc::Global;
 use std::marker::Model;
 
@@ -47,13 +45,13 @@ impl<S: Sectors + Drop> Model for TwoPlaces<S> {
     ghost use Rattle.std.specs.Prelude.{◌≡◌, length};
     ghost use Rattle.sector_disk.specs.Disks.{Layered};
     ghost use Rattle.sector_disk.specs.Places.{IsKept};
-    ghost use Rattle.sector_disk.specs.Trace.{failing};
+    ghost use Rattle.block_disk.specs.Traced.{failing};
 
     ghost Value = { Layered };
 
-    ghost view = { λ d. record { device = failing d.failures d.trace.device; sectors = S.device d.sectors; size = d.size; count = length d.fresh } };
+    ghost view = { λ d. record { device = failing d.failures d.trace.past.device; sectors = S.device d.sectors; size = d.size; count = length d.fresh } };
 
-    ghost invariant = { λ d. (S.of_size d.sectors ≡ d.size) × IsKept d.size d.gate.is_firm d.gate.turn d.fresh d.stale d.image.items d.trace.device.now (S.device d.sectors) };
+    ghost invariant = { λ d. (S.of_size d.sectors ≡ d.size) × IsKept d.size d.gate.is_firm d.gate.turn d.fresh d.stale d.image.items d.trace.past.device.now (S.device d.sectors) };
 }
 
 impl<S: Sectors + Drop> TwoPlaces<S> {

@@ -4,9 +4,9 @@ ghost use Rattle.block_disk.specs.Device.{SameMoments, TornWrite, synced, writte
 ghost use Rattle.file_disk.specs.Backing.{put_at, settled};
 ghost use Rattle.sector_disk.specs.Size.{bytes_in, place_of};
 
-use block_disk::{Fault, copy_out};
+use block_disk::{Fault, Trace, copy_out};
 use file_disk::{BackingFile, Claim};
-use sector_disk::{PlacesError, SectorError, SectorSize, Sectors, Trace};
+use sector_disk::{PlacesError, SectorError, SectorSize, Sectors};
 use std::alloc::Global;
 use std::io;
 use std::marker::Model;
@@ -41,9 +41,9 @@ impl<F: BackingFile + Drop> Model for FileSectors<F> {
 
     ghost Value = { OnFile };
 
-    ghost view = { λ s. record { device = s.trace.device; size = s.size; file = F.holds s.file } };
+    ghost view = { λ s. record { device = s.trace.past.device; size = s.size; file = F.holds s.file } };
 
-    ghost invariant = { λ s. AreSectors s.size s.count (option_map (λ known. known.items) s.known) s.trace.device };
+    ghost invariant = { λ s. AreSectors s.size s.count (option_map (λ known. known.items) s.known) s.trace.past.device };
 }
 
 impl<F: BackingFile + Drop> FileSectors<F> {

@@ -1,10 +1,9 @@
 use Rattle.std.proofs.Common.{subst, sym}
-use Rattle.block_disk.specs.Device.{Device}
+use Rattle.block_disk.specs.Device.{Device, new_device}
 use Rattle.drive.specs.Driven.{HasDrivenOn}
 use Rattle.drive.specs.Refusals.{RefusesOn}
 use Rattle.drive.specs.declared.driven.Driven.{Driven}
 use Rattle.drive.specs.declared.error.DriveError.{DriveError}
-use Rattle.file_disk.specs.Mirror.{new_device}
 use Rattle.commands.specs.Telling.{file_device}
 use Rattle.commands.proofs.FileLemmas.{reads_image, reads_theirs}
 use Rattle.commands.proofs.files.drive_left_file.Goals as goal

@@ -1,8 +1,7 @@
 use Rattle.std.proofs.Common.{ℕ, ◌≡◌, ◌∙◌, ap, replicate, subst, sym}
-use Rattle.block_disk.specs.Device.{Device}
+use Rattle.block_disk.specs.Device.{Device, new_device}
 use Rattle.drive.specs.Driven.{HasDriven, blank_device}
 use Rattle.drive.specs.declared.driven.Driven.{Driven}
-use Rattle.file_disk.specs.Mirror.{new_device}
 use Rattle.commands.specs.Telling.{file_device}
 use Rattle.commands.proofs.files.drive_new_file.Goals as goal
 

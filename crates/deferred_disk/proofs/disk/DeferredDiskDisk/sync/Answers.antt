@@ -14,10 +14,10 @@ returns-clause-ok c =
     let looked = c.slots.new.self in
     let last = c.push_reserved.new.self in
     let batch : Handed = Calls c.replace-batch.result in
-    let x : Deferred = record { memory = memory_of (sent ring) c.self.inside.told.stops c.self.inside.failures; ring = ring } in
-    let y : Deferred = record { memory = memory_of (sent last) c.sync.new.self.stops c.self.inside.failures; ring = last } in
+    let x : Deferred = record { memory = memory_of (sent ring) c.self.inside.trace.past.stops c.self.inside.failures; ring = ring } in
+    let y : Deferred = record { memory = memory_of (sent last) c.sync.new.self.past.stops c.self.inside.failures; ring = last } in
     let first : first_in (sent last) ≡ first_in (sent ring) =
     ap first_in (c.push_reserved.ensures.sent.0 ∙ ap (λ (h : List Handed). h ++ batch ∷ []) c.slots.ensures.looked.1) ∙ first_more (sent ring) batch c.self.invariant.begun in
-    let same : y.memory ≡ stopped Synced x.memory = λ i. record { first = first i; stops = c.sync.ensures i; failures = c.self.inside.failures; fails_in = None } in
+    let same : y.memory ≡ stopped Synced x.memory = λ i. record { first = first i; stops = (c.sync.ensures i).stops; failures = c.self.inside.failures; fails_in = None } in
     subst (λ (d : Deferred). deferred_device y ≡ synced (deferred_device d)) c.self.view_is
     (device_synced x y same (producer_name looked last c.push_reserved.ensures.ring ∙ producer_name ring looked c.slots.ensures.looked.0))

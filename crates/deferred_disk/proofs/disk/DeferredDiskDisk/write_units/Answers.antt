@@ -2,7 +2,8 @@ use Rattle.std.proofs.Common.{◌≡◌, ◌+◌, ◌*◌, ◌≤◌, ◌∙◌,
 use Rattle.std.proofs.lemmas.List.{take_all}
 use Rattle.block_disk.specs.Device.{Device, unit_ranges, written_units}
 use Rattle.block_disk.specs.Images.{ImageBut, LeavesOnly}
-use Rattle.block_disk.specs.Memory.{Memory, Stop}
+use Rattle.block_disk.specs.Memory.{Memory}
+use Rattle.block_disk.specs.Traced.{Traced}
 use Rattle.deferred_disk.specs.Deferred.{Deferred, deferred_device, memory_of, onto, stops_in}
 use Rattle.deferred_disk.specs.Names.{name_of}
 use Rattle.rtrb.specs.Ring.{sent}
@@ -21,8 +22,8 @@ invariant_of-self c =
     let run : List ℕ = take (n * 16) units in
     let long : length run ≡ n * 16 = omega (arith, length-take (n * 16) units, few, whole) in
     let fits : c.args.at + length units ≤ length d.bytes.items = search rules in
-    wrote_units handed d.unsent.items c.keep_units-kept.new.calls.items d.bytes.items c.put.new.bytes.items d.told.stops c.write_units.new.self.stops n c.args.at run c.self.invariant
-    long (omega (arith, long, few, whole, fits)) (c.keep_units-kept.ensures.kept (stops_in handed) c.self.invariant.synced ∙ sym (join_taken n c.args.at units (onto (stops_in handed) d.unsent.items))) c.put.ensures c.write_units.ensures
+    wrote_units handed d.unsent.items c.keep_units-kept.new.calls.items d.bytes.items c.put.new.bytes.items d.trace.past.stops c.write_units.new.self.past.stops n c.args.at run c.self.invariant
+    long (omega (arith, long, few, whole, fits)) (c.keep_units-kept.ensures.kept (stops_in handed) c.self.invariant.synced ∙ sym (join_taken n c.args.at units (onto (stops_in handed) d.unsent.items))) c.put.ensures (ap (λ (t : Traced). t.stops) c.write_units.ensures)
 
 pub invariant_of-self-else-kept-count : goal.invariant_of-self-else-kept-count
 invariant_of-self-else-kept-count c =
@@ -35,8 +36,8 @@ invariant_of-self-else-kept-count c =
     let run : List ℕ = take (n * 16) units in
     let long : length run ≡ n * 16 = omega (arith, length-take (n * 16) units, few, whole) in
     let fits : c.args.at + length units ≤ length d.bytes.items = search rules in
-    wrote_units handed d.unsent.items c.keep_units-kept.new.calls.items d.bytes.items c.put.new.bytes.items d.told.stops c.write_units.new.self.stops n c.args.at run c.self.invariant
-    long (omega (arith, long, few, whole, fits)) (c.keep_units-kept.ensures.kept (stops_in handed) c.self.invariant.synced ∙ sym (join_taken n c.args.at units (onto (stops_in handed) d.unsent.items))) c.put.ensures c.write_units.ensures
+    wrote_units handed d.unsent.items c.keep_units-kept.new.calls.items d.bytes.items c.put.new.bytes.items d.trace.past.stops c.write_units.new.self.past.stops n c.args.at run c.self.invariant
+    long (omega (arith, long, few, whole, fits)) (c.keep_units-kept.ensures.kept (stops_in handed) c.self.invariant.synced ∙ sym (join_taken n c.args.at units (onto (stops_in handed) d.unsent.items))) c.put.ensures (ap (λ (t : Traced). t.stops) c.write_units.ensures)
 
 pub returns-clause-ok : goal.returns-clause-ok
 returns-clause-ok c =
@@ -45,11 +46,11 @@ returns-clause-ok c =
     let at = c.args.at in
     let units : List ℕ = c.args.units.now in
     let name : List ℕ = name_of d.ring.end in
-    let m : Memory = memory_of (sent d.ring) d.told.stops d.failures in
+    let m : Memory = memory_of (sent d.ring) d.trace.past.stops d.failures in
     let few = c.keep_units-kept.ensures.few in
     let all : n ≡ c.args.count = omega (arith, few, c.if-kept-count.false) in
     let whole = c.requires.whole in
-    ap (λ (s : List Stop). named name (with_stops s m)) c.write_units.ensures
+    ap (λ (t : Traced). named name (with_stops t.stops m)) c.write_units.ensures
     ∙ device_units name n at (take (n * 16) units) m
     ∙ ap (λ (k : ℕ). written_units k at (take (k * 16) units) (named name m)) all
     ∙ ap (λ (xs : List ℕ). written_units c.args.count at xs (named name m)) (take_all (c.args.count * 16) units (omega (arith, whole)))
@@ -69,12 +70,12 @@ returns-then-kept-count-clause-any_moment c =
     let units : List ℕ = c.args.units.now in
     let run : List ℕ = take (n * 16) units in
     let name : List ℕ = name_of d.ring.end in
-    let m : Memory = memory_of (sent d.ring) d.told.stops d.failures in
+    let m : Memory = memory_of (sent d.ring) d.trace.past.stops d.failures in
     let old : Device = deferred_device c.args.self.now in
     let few = c.keep_units-kept.ensures.few in
     let whole = c.requires.whole in
     let fits = c.requires.fits in
     let long : length run ≡ n * 16 = omega (arith, length-take (n * 16) units, few, whole) in
-    let made : named name (with_stops c.write_units.new.self.stops m) ≡ written_units n at run old =
-    ap (λ (s : List Stop). named name (with_stops s m)) c.write_units.ensures ∙ device_units name n at run m ∙ ap (λ (e : Deferred). written_units n at run (deferred_device e)) c.self.view_is in
+    let made : named name (with_stops c.write_units.new.self.past.stops m) ≡ written_units n at run old =
+    ap (λ (t : Traced). named name (with_stops t.stops m)) c.write_units.ensures ∙ device_units name n at run m ∙ ap (λ (e : Deferred). written_units n at run (deferred_device e)) c.self.view_is in
     some_leave n c.args.count at run old _ few long (omega (arith, long, few, whole, fits)) c.fail.new.failures (ap (λ (x : Device). record x { failures = c.fail.new.failures }) made)

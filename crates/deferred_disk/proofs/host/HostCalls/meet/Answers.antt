@@ -45,10 +45,10 @@ slots_beside-requires c =
 pub returns-clause-device : goal.returns-clause-device
 returns-clause-device c =
     let p = c.slots_beside.new.producer in
-    let x : Deferred = record { memory = memory_of (sent c.disk.inside.ring) c.disk.inside.told.stops c.disk.inside.failures; ring = c.disk.inside.ring } in
-    let y : Deferred = record { memory = memory_of (sent p) c.disk.inside.told.stops c.disk.inside.failures; ring = p } in
+    let x : Deferred = record { memory = memory_of (sent c.disk.inside.ring) c.disk.inside.trace.past.stops c.disk.inside.failures; ring = c.disk.inside.ring } in
+    let y : Deferred = record { memory = memory_of (sent p) c.disk.inside.trace.past.stops c.disk.inside.failures; ring = p } in
     subst (λ (d : Deferred). deferred_device y ≡ deferred_device d) c.disk.view_is
-    (device_same x y (ap (λ (h : List Handed). memory_of h c.disk.inside.told.stops c.disk.inside.failures) c.slots_beside.ensures.producer.1)
+    (device_same x y (ap (λ (h : List Handed). memory_of h c.disk.inside.trace.past.stops c.disk.inside.failures) c.slots_beside.ensures.producer.1)
     (producer_name c.disk.inside.ring p c.slots_beside.ensures.producer.0))
 
 pub returns-clause-pair : goal.returns-clause-pair
@@ -65,7 +65,7 @@ returns-clause-met c =
     let handed = sent c.slots_beside.new.producer in
     let left = c.self.inside.left.items in
     let unsent = c.disk.inside.unsent.items in
-    let stops = c.disk.inside.told.stops in
+    let stops = c.disk.inside.trace.past.stops in
     let first = first_in handed in
     let more_than = all_in (known_items now) ++ unsent in
     let order : IsInOrder (received now) left = subst (λ (h : List Handed). IsInOrder h left) (sym c.slots_beside.ensures.looked.1) c.self.invariant.order in

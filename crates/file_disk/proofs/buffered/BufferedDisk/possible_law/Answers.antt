@@ -8,4 +8,4 @@ pub returns : goal.returns
 returns g c =
     let d = c.self.inside in
     subst (λ (m : Mirror). IfSome m.file (λ h. Image m.device.now h.reads)) c.self.view_is
-    (possible d.trace.device d.bytes.items d.unwritten.items (g.F.BackingFile.holds d.file) c.self.invariant.buffered)
+    (possible d.trace.past.device d.bytes.items d.unwritten.items (g.F.BackingFile.holds d.file) c.self.invariant.buffered)

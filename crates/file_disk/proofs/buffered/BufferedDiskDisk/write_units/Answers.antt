@@ -4,7 +4,7 @@ use Rattle.block_disk.specs.Images.{ImageBut, LeavesOnly}
 use Rattle.block_disk.proofs.InUnits.{units_leave}
 use Rattle.file_disk.specs.Buffered.{AllWithin, GoesOn}
 use Rattle.file_disk.specs.Mirror.{Mirror}
-use Rattle.file_disk.specs.Trace.{failing}
+use Rattle.block_disk.specs.Traced.{Traced, failing}
 use Rattle.file_disk.proofs.Unwritten.{deferred_units, goes_on_last, units_failing}
 use Rattle.file_disk.proofs.buffered.BufferedDiskDisk.write_units.Goals as goal
 
@@ -15,14 +15,14 @@ invariant_of-self-2 g c =
     let fits : c.args.at + length c.args.units.now ≤ length d.bytes.items = search rules in
     let within = subst (λ (n : ℕ). AllWithin n c.add.new.spans.items) size c.add.ensures.within in
     rw (c.put.ensures, c.write_units.ensures)
-    (deferred_units c.args.count d.trace.device d.bytes.items c.args.units.now d.unwritten.items c.add.new.spans.items (g.F.BackingFile.holds d.file) c.args.at
+    (deferred_units c.args.count d.trace.past.device d.bytes.items c.args.units.now d.unwritten.items c.add.new.spans.items (g.F.BackingFile.holds d.file) c.args.at
     c.requires.some c.requires.whole fits c.self.invariant within (c.add.ensures.covered c.if-not-add.false) (c.add.ensures.exact c.if-not-add.false)
     (c.add.ensures.newest c.if-not-add.false))
 
 pub returns-clause-ok : goal.returns-clause-ok
 returns-clause-ok g c =
     let d = c.self.inside in
-    ap (failing d.failures) c.write_units.ensures ∙ units_failing c.args.count c.args.at d.failures c.args.units.now d.trace.device
+    ap (λ (t : Traced). failing d.failures t.device) c.write_units.ensures ∙ units_failing c.args.count c.args.at d.failures c.args.units.now d.trace.past.device
     ∙ ap (λ (m : Mirror). written_units c.args.count c.args.at c.args.units.now m.device) c.self.view_is
 
 pub returns-clause-any_moment : goal.returns-clause-any_moment
@@ -35,6 +35,6 @@ pub returns-then-not-add-clause-goes_on : goal.returns-then-not-add-clause-goes_
 returns-then-not-add-clause-goes_on g c goes =
     let d = c.self.inside in
     let here = subst (λ (m : Mirror). GoesOn c.args.at m.device.now.pending) (sym c.self.view_is) goes in
-    let r = goes_on_last c.args.at d.trace.device.now.pending d.unwritten.items here c.self.invariant.newest in
+    let r = goes_on_last c.args.at d.trace.past.device.now.pending d.unwritten.items here c.self.invariant.newest in
     let clash : false ≡ true = c.if-not-add.ensures.goes_on r.0 r.1 r.2 r.3 in
     absurd cc

@@ -9,4 +9,4 @@ pub returns : goal.returns
 returns g c =
     let d = c.self.inside in
     subst (λ (l : InOne). (image : List ℕ) → IsOldOrNew l.size l.sectors image → Image l.device.now (held l.size l.first l.count image)) c.self.view_is
-    (λ image whole. old_or_new_law d.size d.first d.marks d.image.items d.trace.device.now (g.S.Sectors.device d.sectors) image c.self.invariant.1 whole)
+    (λ image whole. old_or_new_law d.size d.first d.marks d.image.items d.trace.past.device.now (g.S.Sectors.device d.sectors) image c.self.invariant.1 whole)

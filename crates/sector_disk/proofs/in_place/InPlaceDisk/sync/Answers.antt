@@ -21,7 +21,7 @@ pub invariant_of-self : goal.invariant_of-self
 invariant_of-self g c =
     let d = c.self.inside in
     let k = c.self.invariant.1 in
-    let m = d.trace.device.now in
+    let m = d.trace.past.device.now in
     let old = g.S.Sectors.device d.sectors in
     let new = g.S.Sectors.device c.sync_place.new.sectors in
     let marks = c.sync_place.new.marks in
@@ -38,7 +38,7 @@ pub invariant_of-self-2 : goal.invariant_of-self-2
 invariant_of-self-2 g c =
     let d = c.self.inside in
     let k = c.self.invariant.1 in
-    let m = d.trace.device.now in
+    let m = d.trace.past.device.now in
     let old = g.S.Sectors.device d.sectors in
     let new = g.S.Sectors.device c.sync_place.new.sectors in
     let marks = c.sync_place.new.marks in

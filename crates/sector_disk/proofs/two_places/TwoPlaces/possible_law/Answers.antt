@@ -10,4 +10,4 @@ pub returns : goal.returns
 returns g c =
     let d = c.self.inside in
     subst (λ (l : Layered). Always l.sectors (Shows l.size l.count (sector l.size 0 l.sectors.now.bytes) l.device.now)) c.self.view_is
-    (always_shows d.size d.gate.is_firm d.gate.turn d.fresh d.stale d.image.items d.trace.device.now (g.S.Sectors.device d.sectors) c.self.invariant.1)
+    (always_shows d.size d.gate.is_firm d.gate.turn d.fresh d.stale d.image.items d.trace.past.device.now (g.S.Sectors.device d.sectors) c.self.invariant.1)

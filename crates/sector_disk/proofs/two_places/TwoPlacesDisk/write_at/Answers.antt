@@ -10,7 +10,7 @@ invariant_of-self g c =
     let fits : c.args.at + length c.args.bytes.now ≤ length d.image.items = search rules in
     rw (c.write_image.ensures.image, c.write.ensures) (
       c.self.invariant.0,
-      kept_written d.size d.gate.is_firm d.gate.turn d.fresh d.stale c.write_image.new.fresh c.write_image.new.stale d.image.items d.trace.device.now (g.S.Sectors.device d.sectors)
+      kept_written d.size d.gate.is_firm d.gate.turn d.fresh d.stale c.write_image.new.fresh c.write_image.new.stale d.image.items d.trace.past.device.now (g.S.Sectors.device d.sectors)
           c.args.at c.args.bytes.now fits c.write_image.ensures.count.0 c.write_image.ensures.count.1
           (λ reads. subst (λ (xs : List ℕ). Reads d.size (length d.fresh) d.gate.turn c.write_image.new.fresh c.write_image.new.stale xs on) c.write_image.ensures.image
           (c.write_image.ensures.reads d.gate.turn on reads))

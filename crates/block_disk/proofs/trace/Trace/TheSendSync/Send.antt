@@ -1,6 +1,6 @@
--- It owns nothing, so it may go to another thread.
+-- A trace owns nothing, so it may go to another thread.
 use denote.Param.Send.{IsSend, owning_send, sendable}
-use Rattle.deferred_disk.specs.contracts.told.Told.{the_row, the_type}
+use Rattle.block_disk.specs.contracts.trace.Trace.{the_row, the_type}
 
 pub send : IsSend the_row
 send = owning_send the_type (search sendable, tt) (λ d. tt) (λ k x w. tt)

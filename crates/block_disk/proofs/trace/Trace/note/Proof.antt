@@ -25,13 +25,13 @@ use denote.Triple.Entry.{on_entry}
 use denote.Triple.Spec.{Meets, triple_of}
 use denote.Triple.Table.{entered}
 use denote.Triple.Walked.{says, Stays, stay_ref, walk_of, AllGo, Goes-ref, Walks, ends_at, walked, walk_Meets}
-use Rattle.file_disk.specs.declared.trace.Trace.{Trace}
-use Rattle.file_disk.specs.Trace.{noted}
-use Rattle.file_disk.specs.contracts.trace.Trace as T
-use Rattle.file_disk.specs.contracts.trace.Trace.note.Key.{name as #it}
-use Rattle.file_disk.specs.contracts.trace.Trace.note as it
-use Rattle.file_disk.proofs.trace.Trace.note.Statement as stated
-use Rattle.file_disk.proofs.trace.Trace.note.Code as code
+use Rattle.block_disk.specs.declared.trace.Trace.{Trace}
+use Rattle.block_disk.specs.Traced.{noted}
+use Rattle.block_disk.specs.contracts.trace.Trace as T
+use Rattle.block_disk.specs.contracts.trace.Trace.note.Key.{name as #it}
+use Rattle.block_disk.specs.contracts.trace.Trace.note as it
+use Rattle.block_disk.proofs.trace.Trace.note.Statement as stated
+use Rattle.block_disk.proofs.trace.Trace.note.Code as code
 use denote.Ref.{Bor}
 use denote.Builtin.{u8, u64}
 use denote.Exit.{yes}
@@ -52,7 +52,7 @@ module _ {M : Type 1} {𝓤 : Ura M} (𝓛 : Logic 𝓤) (at_mem : Memory → SP
   x = (record { ref_ptr = (b, o); ghost_name = γ; now = h }, (k, (s, tt)))
 
   abbrev h' : Trace
-  h' = record { marker = h.marker; device = noted k.now s.now h.device }
+  h' = record { marker = h.marker; past = noted k.now s.now h.past }
 
   abbrev at : List Val × (List Val × (List Val × Unit {0}))
   at = (vptr b o ∷ [], (slice_val k.ref_ptr (length k.now) ∷ [], (slice_val s.ref_ptr (length s.now) ∷ [], tt)))

@@ -21,19 +21,19 @@ use denote.Triple.Entry.{on_entry}
 use denote.Triple.Spec.{Meets, triple_of}
 use denote.Triple.Table.{entered}
 use denote.Triple.Walked.{says, ends_at, walked, walk_Meets}
-use Rattle.sector_disk.specs.Trace.{new_device}
-use Rattle.sector_disk.specs.declared.trace.Trace.{Trace}
-use Rattle.sector_disk.specs.contracts.trace.Trace as T
-use Rattle.sector_disk.specs.contracts.trace.Trace.new.Key.{name as #it}
-use Rattle.sector_disk.specs.contracts.trace.Trace.new as it
-use Rattle.sector_disk.proofs.trace.Trace.new.Statement as stated
-use Rattle.sector_disk.proofs.trace.Trace.new.Code as code
+use Rattle.block_disk.specs.Traced.{begun}
+use Rattle.block_disk.specs.declared.trace.Trace.{Trace}
+use Rattle.block_disk.specs.contracts.trace.Trace as T
+use Rattle.block_disk.specs.contracts.trace.Trace.new.Key.{name as #it}
+use Rattle.block_disk.specs.contracts.trace.Trace.new as it
+use Rattle.block_disk.proofs.trace.Trace.new.Statement as stated
+use Rattle.block_disk.proofs.trace.Trace.new.Code as code
 
 abbrev v : Val
 v = vstruct (vcons (vstruct vnil) vnil)
 
 abbrev r : Trace
-r = record { marker = record {}; device = new_device [] }
+r = record { marker = record {}; past = begun [] }
 
 meets : {M : Type 1} {𝓤 : Ura M} (𝓛 : Logic 𝓤) → (at_mem : Memory → SProp 𝓤) (run : Routine → Fun 𝓤) (𝓣 : Tables 𝓤 𝓛.H)
     → Meets 𝓛 it.signature (WpFn 𝓤 𝓛.H 𝓣.C 𝓣.Λ code.function) (it.spec 𝓛 at_mem run)
