@@ -1,6 +1,6 @@
 -- A block device that a crash may stop at any moment (after the asynchronous disk of FSCQ, SOSP 2015; ours tears writes anywhere).
 -- Between two syncs each written range may hold any bytes after a crash, and every other byte stays.
-use Rattle.std.specs.Prelude.{◌<◌, ◌≡◌, ◌⊎◌, ℕ, zero, suc, ◌+◌, ◌-◌, ◌^◌, ◌≤◌, List, [], ◌∷◌, length, take, drop, slice_index, Result, IsErrOf}
+use Rattle.std.specs.Prelude.{◌<◌, ◌≡◌, ◌⊎◌, ℕ, zero, suc, ◌+◌, ◌-◌, ◌^◌, ◌≤◌, List, [], ◌∷◌, length, take, drop, min, slice_index, Result, IsErrOf}
 use Rattle.block_disk.specs.Bytes.{spliced}
 
 -- the bytes from start on, len of them
@@ -82,6 +82,10 @@ synced d = record {
   past = d.now ∷ d.past;
   failures = d.failures;
 }
+
+-- the count of failures once there was one more, which stays at its last value
+abbrev pub one_more : ℕ → ℕ
+one_more failures = min (failures + 1) (2 ^ 64 - 1)
 
 -- the count of failures rose, or stands at its last value
 pub record HasFailed (before after : ℕ) : Type 0 where

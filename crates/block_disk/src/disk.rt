@@ -1,7 +1,7 @@
 //! The contract of a block device.
 ghost use Rattle.std.specs.Prelude.{◌≡◌, ◌⊎◌, ◌+◌, ◌*◌, ◌<◌, ◌≤◌, length, OnOk, OnErr, IsErrOf};
 ghost use Rattle.block_disk.specs.Bytes.{part};
-ghost use Rattle.block_disk.specs.Device.{Device, written, written_units, unit_ranges, synced, HasFailed, SameMoments, TornWrite};
+ghost use Rattle.block_disk.specs.Device.{Device, written, written_units, unit_ranges, synced, HasFailed, SameMoments, TornWrite, one_more};
 ghost use Rattle.block_disk.specs.Images.{ImageBut, LeavesOnly};
 ghost use Rattle.block_disk.specs.declared.error.DiskError.TheVariants.{Fault, OutOfRange};
 
@@ -10,7 +10,8 @@ use crate::DiskError;
 /// A block device. Places and lengths count bytes, from 0.
 ///
 /// A crash between two syncs may leave any bytes in each range that was written since the first of them; every other
-/// byte stays. Calls are refused in this order: `Fault`, `OutOfRange`. A disk goes on to work after either.
+/// byte stays. A call out of range is refused as `OutOfRange`, or as `Fault` where the device fails first. A disk goes on to work after
+/// either.
 pub trait Disk {
     /// What the device reads, what a crash may leave now and might have left before, and how often it has failed.
     ghost device: { Self → Device };
@@ -27,7 +28,8 @@ pub trait Disk {
         ensures out_of_range { IsErrOf result OutOfRange → (length (device self.old).now.bytes < at + length out.old)
             × (out.new ≡ out.old) × (device self.new ≡ device self.old) }
         ensures fault { IsErrOf result Fault → SameMoments (device self.old) (device self.new) }
-        ensures cause { IsErrOf result Fault → HasFailed (device self.old).failures (device self.new).failures };
+        ensures cause { IsErrOf result Fault → HasFailed (device self.old).failures (device self.new).failures }
+        ensures counted { IsErrOf result Fault → (device self.new).failures ≡ one_more (device self.old).failures };
 
     /// Writes these bytes at `at`. A crash before the next sync that succeeds may leave any bytes in their range, and
     /// so may a write that answers `Fault`.
@@ -38,7 +40,8 @@ pub trait Disk {
             × (device self.new ≡ device self.old) }
         ensures fault { IsErrOf result Fault → SameMoments (device self.old) (device self.new)
             ⊎ TornWrite at (length bytes.now) (device self.old) (device self.new) }
-        ensures cause { IsErrOf result Fault → HasFailed (device self.old).failures (device self.new).failures };
+        ensures cause { IsErrOf result Fault → HasFailed (device self.old).failures (device self.new).failures }
+        ensures counted { IsErrOf result Fault → (device self.new).failures ≡ one_more (device self.old).failures };
 
     /// Writes these bytes, `count` units of 16 each, from `at` on. Each unit is a write of its own, the first one first: a crash
     /// or a fault may come in any of them, and until the next sync that succeeds a crash may leave any bytes in the range of
@@ -50,6 +53,7 @@ pub trait Disk {
         ensures ok { OnOk result (device self.new ≡ written_units count at bytes.now (device self.old)) }
         ensures any_moment { LeavesOnly (device self.old) (device self.new) (ImageBut (device self.old) (unit_ranges count at)) }
         ensures cause { OnErr result (HasFailed (device self.old).failures (device self.new).failures) }
+        ensures counted { OnErr result ((device self.new).failures ≡ one_more (device self.old).failures) }
     {
         let _size = self.size();
         for i in 0..count {
@@ -67,7 +71,8 @@ pub trait Disk {
         ensures ok { OnOk result (device self.new ≡ synced (device self.old)) }
         ensures in_range { ¬ IsErrOf result OutOfRange }
         ensures fault { IsErrOf result Fault → SameMoments (device self.old) (device self.new) }
-        ensures cause { IsErrOf result Fault → HasFailed (device self.old).failures (device self.new).failures };
+        ensures cause { IsErrOf result Fault → HasFailed (device self.old).failures (device self.new).failures }
+        ensures counted { IsErrOf result Fault → (device self.new).failures ≡ one_more (device self.old).failures };
 
     /// How often the device has failed. The count stays at 2^64 - 1 once it is there.
     fn failures(&self) -> u64

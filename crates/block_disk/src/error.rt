@@ -3,7 +3,7 @@ ghost use Rattle.std.specs.Prelude.{◌≡◌, ◌+◌, ◌-◌, ◌^◌, min};
 
 use thiserror::Error;
 
-/// Why a disk refuses a call. `Fault` is tried first.
+/// Why a disk refuses a call.
 #[derive(Clone, Copy, Debug, PartialEq, Eq, Error)]
 pub enum DiskError {
     /// The device has failed. A write that was begun may have left any bytes in its range; a sync has fixed nothing.

@@ -24,5 +24,5 @@ pub use error::{DiskError, Fault, fail};
 pub use laws::{image_but_law, image_law, sync_law};
 pub use meets::Meets;
 pub use memory::MemDisk;
-pub use place::{copy_out, lies_within, overwrite};
+pub use place::{copy_out, lies_within, overwrite, put};
 pub use trace::Trace;

@@ -3,14 +3,14 @@ ghost use Rattle.std.specs.Prelude.{◌≡◌, ◌⊎◌, ◌+◌, ◌<◌, ◌�
 ghost use Rattle.block_disk.specs.Bytes.{part, spliced};
 ghost use Rattle.block_disk.specs.Calls.{stops_of};
 ghost use Rattle.block_disk.specs.Crash.{crash_bytes, done_at, LeftSinceStop};
-ghost use Rattle.block_disk.specs.Device.{Image, written, synced, HasFailed, SameMoments, TornWrite};
+ghost use Rattle.block_disk.specs.Device.{Image, written, synced, HasFailed, SameMoments, TornWrite, one_more};
 ghost use Rattle.block_disk.specs.Memory.{Wrote, Synced, fresh, bytes_after, moment_after, device_of, IsDue, next_failure, called, failed, stopped, FailsWrite, FailsSync};
 ghost use Rattle.block_disk.specs.declared.error.DiskError.TheVariants.{Fault, OutOfRange};
 
 use crate::call::{Call, keep, keep_failed, keep_write};
 use crate::crash::{Fill, image_at};
 use crate::error::fail;
-use crate::place::{copy_out, lies_within, overwrite};
+use crate::place::{copy_out, lies_within, put};
 use crate::{Disk, DiskError};
 use std::alloc::{AllocError, Global};
 use std::marker::Model;
@@ -129,6 +129,7 @@ impl Disk for MemDisk {
             × (out.new ≡ out.old) × (device_of self.new ≡ device_of self.old) }
         ensures fault { IsErrOf result Fault → SameMoments (device_of self.old) (device_of self.new) }
         ensures cause { IsErrOf result Fault → HasFailed (device_of self.old).failures (device_of self.new).failures }
+        ensures counted { IsErrOf result Fault → (device_of self.new).failures ≡ one_more (device_of self.old).failures }
         ensures due { IsErrOf result Fault ↔ IsDue self.old }
         ensures called { ¬ IsErrOf result Fault → self.new ≡ called self.old }
         ensures failed { IsErrOf result Fault → self.new ≡ failed self.old }
@@ -155,6 +156,7 @@ impl Disk for MemDisk {
         ensures fault { IsErrOf result Fault → SameMoments (device_of self.old) (device_of self.new)
             ⊎ TornWrite at (length bytes.now) (device_of self.old) (device_of self.new) }
         ensures cause { IsErrOf result Fault → HasFailed (device_of self.old).failures (device_of self.new).failures }
+        ensures counted { IsErrOf result Fault → (device_of self.new).failures ≡ one_more (device_of self.old).failures }
         ensures due { IsDue self.old → IsErrOf result Fault }
         ensures beyond { ¬ IsDue self.old → length (device_of self.old).now.bytes < at + length bytes.now → IsErrOf result OutOfRange }
         ensures called { IsErrOf result OutOfRange → self.new ≡ called self.old }
@@ -188,6 +190,7 @@ impl Disk for MemDisk {
         ensures in_range { ¬ IsErrOf result OutOfRange }
         ensures fault { IsErrOf result Fault → SameMoments (device_of self.old) (device_of self.new) }
         ensures cause { IsErrOf result Fault → HasFailed (device_of self.old).failures (device_of self.new).failures }
+        ensures counted { IsErrOf result Fault → (device_of self.new).failures ≡ one_more (device_of self.old).failures }
         ensures due { IsDue self.old → IsErrOf result Fault }
         ensures stopped { OnOk result (self.new ≡ stopped Synced (called self.old)) }
         ensures failed { IsErrOf result Fault → FailsSync self.old self.new }
@@ -228,12 +231,4 @@ fn put_off_unless(kept: bool, fails_in: &mut Option<u64>)
     if !kept {
         *fails_in = Some(1);
     }
-}
-
-// Puts these bytes at `at`.
-fn put(bytes: &mut Vec<u8>, at: u64, content: &[u8])
-    requires { at + length content.now ≤ length bytes.old.items }
-    ensures { bytes.new.items ≡ spliced bytes.old.items at content.now }
-{
-    overwrite(bytes, at, content);
 }

@@ -18,6 +18,14 @@ pub fn overwrite(image: &mut [u8], at: u64, bytes: &[u8])
     image[start..start + bytes.len()].copy_from_slice(bytes);
 }
 
+/// Puts these bytes at `at` of what the vector has.
+pub fn put(bytes: &mut Vec<u8>, at: u64, content: &[u8])
+    requires { at + length content.now ≤ length bytes.old.items }
+    ensures { bytes.new.items ≡ spliced bytes.old.items at content.now }
+{
+    overwrite(bytes, at, content);
+}
+
 /// Copies the bytes from `at` on into `out`, whole.
 pub fn copy_out(image: &[u8], at: u64, out: &mut [u8])
     requires { at + length out.old ≤ length image.now }

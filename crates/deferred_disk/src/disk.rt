@@ -1,7 +1,7 @@
 //! A disk in memory that hands its calls over.
 ghost use Rattle.std.specs.Prelude.{◌≡◌, ◌⊎◌, ◌+◌, ◌*◌, ◌^◌, ◌<◌, ◌≤◌, List, [], ◌∷◌, ◌++◌, length, replicate, OnOk, OnErr, IfOk, IsErrOf, if◌then◌else◌};
 ghost use Rattle.block_disk.specs.Bytes.{part, spliced};
-ghost use Rattle.block_disk.specs.Device.{HasFailed, SameMoments, TornWrite, synced, unit_ranges, written, written_units};
+ghost use Rattle.block_disk.specs.Device.{HasFailed, SameMoments, TornWrite, one_more, synced, unit_ranges, written, written_units};
 ghost use Rattle.block_disk.specs.Images.{ImageBut, LeavesOnly};
 ghost use Rattle.block_disk.specs.Memory.{Stop, Synced, Wrote, bytes_after, failed, fresh, stopped};
 ghost use Rattle.block_disk.specs.declared.error.DiskError.TheVariants.{Fault, OutOfRange};
@@ -15,7 +15,7 @@ ghost use Rattle.rtrb.specs.Ring.{SameProducer, known_free, sent};
 use crate::call::{DeviceCall, Handed, MOST_BYTES};
 use crate::handing::Handing;
 use crate::host::HostCalls;
-use block_disk::{Disk, DiskError, Trace, copy_out, fail, lies_within, overwrite};
+use block_disk::{Disk, DiskError, Trace, copy_out, fail, lies_within, put};
 use rtrb::{Producer, RingBuffer};
 use std::alloc::{AllocError, Global};
 use std::marker::Model;
@@ -109,6 +109,7 @@ impl Disk for DeferredDisk {
             × (out.new ≡ out.old) × (deferred_device self.new ≡ deferred_device self.old) }
         ensures fault { IsErrOf result Fault → SameMoments (deferred_device self.old) (deferred_device self.new) }
         ensures cause { IsErrOf result Fault → HasFailed (deferred_device self.old).failures (deferred_device self.new).failures }
+        ensures counted { IsErrOf result Fault → (deferred_device self.new).failures ≡ one_more (deferred_device self.old).failures }
         ensures no_fault { ¬ IsErrOf result Fault }
         ensures untouched { self.new ≡ self.old }
     {
@@ -128,6 +129,7 @@ impl Disk for DeferredDisk {
         ensures fault { IsErrOf result Fault → SameMoments (deferred_device self.old) (deferred_device self.new)
             ⊎ TornWrite at (length bytes.now) (deferred_device self.old) (deferred_device self.new) }
         ensures cause { IsErrOf result Fault → HasFailed (deferred_device self.old).failures (deferred_device self.new).failures }
+        ensures counted { IsErrOf result Fault → (deferred_device self.new).failures ≡ one_more (deferred_device self.old).failures }
         ensures beyond { length (deferred_device self.old).now.bytes < at + length bytes.now → IsErrOf result OutOfRange }
         ensures stopped { OnOk result (self.new.memory ≡ stopped (Wrote at bytes.now) self.old.memory) }
         ensures failed { IsErrOf result Fault → self.new.memory ≡ failed self.old.memory }
@@ -154,6 +156,7 @@ impl Disk for DeferredDisk {
         ensures ok { OnOk result (deferred_device self.new ≡ written_units count at units.now (deferred_device self.old)) }
         ensures any_moment { LeavesOnly (deferred_device self.old) (deferred_device self.new) (ImageBut (deferred_device self.old) (unit_ranges count at)) }
         ensures cause { OnErr result (HasFailed (deferred_device self.old).failures (deferred_device self.new).failures) }
+        ensures counted { OnErr result ((deferred_device self.new).failures ≡ one_more (deferred_device self.old).failures) }
         ensures ring { SameProducer self.old.ring self.new.ring }
     {
         let _size = self.bytes.len();
@@ -175,6 +178,7 @@ impl Disk for DeferredDisk {
         ensures in_range { ¬ IsErrOf result OutOfRange }
         ensures fault { IsErrOf result Fault → SameMoments (deferred_device self.old) (deferred_device self.new) }
         ensures cause { IsErrOf result Fault → HasFailed (deferred_device self.old).failures (deferred_device self.new).failures }
+        ensures counted { IsErrOf result Fault → (deferred_device self.new).failures ≡ one_more (deferred_device self.old).failures }
         ensures stopped { OnOk result (self.new.memory ≡ stopped Synced self.old.memory) }
         ensures failed { IsErrOf result Fault → self.new.memory ≡ failed self.old.memory }
         ensures handed { OnOk result (joined self.new.memory.stops ≡ stops_in (sent self.new.ring)) }
@@ -291,12 +295,4 @@ fn keep_new_write(alloc: Global, calls: &mut Vec<DeviceCall>, at: u64, bytes: &[
         Ok(bytes) => keep(calls, DeviceCall::Write { at, bytes }),
         Err(_) => false,
     }
-}
-
-// Puts these bytes at `at`.
-fn put(bytes: &mut Vec<u8>, at: u64, content: &[u8])
-    requires { at + length content.now ≤ length bytes.old.items }
-    ensures { bytes.new.items ≡ spliced bytes.old.items at content.now }
-{
-    overwrite(bytes, at, content);
 }

@@ -2,7 +2,7 @@
 ghost use Rattle.std.specs.Prelude.{◌≡◌, ◌⊎◌, ◌+◌, ◌-◌, ◌*◌, ◌^◌, ◌<◌, ◌≤◌, ◌∷◌, ◌++◌, [], ℕ, List, length, min, replicate, IfOk, IfSome, IsErrOf, IsOk, OnErr, OnOk};
 ghost use Rattle.block_disk.specs.Bytes.{part, spliced};
 ghost use Rattle.file_disk.specs.Backing.{Reads, ReadsBut, ReadsForGood};
-ghost use Rattle.block_disk.specs.Device.{HasFailed, Image, Range, SameMoments, TornWrite, new_device, synced, unit_ranges, written, written_units};
+ghost use Rattle.block_disk.specs.Device.{HasFailed, Image, Range, SameMoments, TornWrite, new_device, one_more, synced, unit_ranges, written, written_units};
 ghost use Rattle.block_disk.specs.Images.{ImageBut, LeavesOnly};
 ghost use Rattle.block_disk.specs.declared.error.DiskError.TheVariants.{Fault, OutOfRange};
 ghost use Rattle.file_disk.specs.Buffered.{AllWithin, GoesOn, IsWithin};
@@ -11,7 +11,7 @@ use crate::backing::BackingFile;
 use crate::error::FileError;
 use crate::span::{Span, add};
 use crate::whole::{create_file, fill, find_file, read_whole};
-use block_disk::{Disk, DiskError, Trace, copy_out, fail, lies_within, overwrite};
+use block_disk::{Disk, DiskError, Trace, copy_out, fail, lies_within, put};
 use std::alloc::Global;
 use std::fs::Files;
 use std::io;
@@ -137,6 +137,7 @@ impl<F: BackingFile + Drop> Disk for BufferedDisk<F> {
             × (out.new ≡ out.old) × (self.new.device ≡ self.old.device) }
         ensures fault { IsErrOf result Fault → SameMoments self.old.device self.new.device }
         ensures cause { IsErrOf result Fault → HasFailed self.old.device.failures self.new.device.failures }
+        ensures counted { IsErrOf result Fault → self.new.device.failures ≡ one_more self.old.device.failures }
         ensures no_fault { ¬ IsErrOf result Fault }
         ensures file { self.new.file ≡ self.old.file }
     {
@@ -157,6 +158,7 @@ impl<F: BackingFile + Drop> Disk for BufferedDisk<F> {
         ensures fault { IsErrOf result Fault → SameMoments self.old.device self.new.device
             ⊎ TornWrite at (length bytes.now) self.old.device self.new.device }
         ensures cause { IsErrOf result Fault → HasFailed self.old.device.failures self.new.device.failures }
+        ensures counted { IsErrOf result Fault → self.new.device.failures ≡ one_more self.old.device.failures }
         ensures untorn { IsErrOf result Fault → SameMoments self.old.device self.new.device }
         ensures beyond { length self.old.device.now.bytes < at + length bytes.now → IsErrOf result OutOfRange }
         ensures goes_on { GoesOn at self.old.device.now.pending → ¬ IsErrOf result Fault }
@@ -182,6 +184,7 @@ impl<F: BackingFile + Drop> Disk for BufferedDisk<F> {
         ensures ok { OnOk result (self.new.device ≡ written_units count at units.now self.old.device) }
         ensures any_moment { LeavesOnly self.old.device self.new.device (ImageBut self.old.device (unit_ranges count at)) }
         ensures cause { OnErr result (HasFailed self.old.device.failures self.new.device.failures) }
+        ensures counted { OnErr result (self.new.device.failures ≡ one_more self.old.device.failures) }
         ensures untorn { OnErr result (SameMoments self.old.device self.new.device) }
         ensures goes_on { GoesOn at self.old.device.now.pending → IsOk result }
         ensures file { self.new.file ≡ self.old.file }
@@ -203,6 +206,7 @@ impl<F: BackingFile + Drop> Disk for BufferedDisk<F> {
         ensures in_range { ¬ IsErrOf result OutOfRange }
         ensures fault { IsErrOf result Fault → SameMoments self.old.device self.new.device }
         ensures cause { IsErrOf result Fault → HasFailed self.old.device.failures self.new.device.failures }
+        ensures counted { IsErrOf result Fault → self.new.device.failures ≡ one_more self.old.device.failures }
         ensures durable { OnOk result (ReadsForGood self.new.device.now.bytes self.new.file) }
     {
         if flush(&mut self.file, &self.unwritten, &self.bytes).is_err() {
@@ -216,14 +220,6 @@ impl<F: BackingFile + Drop> Disk for BufferedDisk<F> {
     fn failures(&self) -> u64 {
         self.failures
     }
-}
-
-/// Puts these bytes at `at`.
-pub(crate) fn put(bytes: &mut Vec<u8>, at: u64, content: &[u8])
-    requires { at + length content.now ≤ length bytes.old.items }
-    ensures { bytes.new.items ≡ spliced bytes.old.items at content.now }
-{
-    overwrite(bytes, at, content);
 }
 
 /// Makes the file read these bytes, durably; it reads them but for these ranges.

@@ -1,17 +1,17 @@
 //! A disk each of whose writes reaches its file at once.
 ghost use Rattle.std.specs.Prelude.{◌≡◌, ◌⊎◌, ◌+◌, ◌<◌, ◌≤◌, ◌↔◌, IsTrue, IsFalse, length, replicate, OnOk, OnErr, IfOk, IfSome, IsErrOf};
 ghost use Rattle.block_disk.specs.Bytes.{part};
-ghost use Rattle.block_disk.specs.Device.{HasFailed, SameMoments, TornWrite, new_device, synced, written};
+ghost use Rattle.block_disk.specs.Device.{HasFailed, SameMoments, TornWrite, new_device, one_more, synced, written};
 ghost use Rattle.block_disk.specs.declared.error.DiskError.TheVariants.{Fault, OutOfRange};
 ghost use Rattle.file_disk.specs.Backing.{Reads, ReadsBut, ReadsForGood};
 ghost use Rattle.file_disk.specs.Buffered.{AllWithin};
 
 use crate::backing::BackingFile;
-use crate::buffered::{flush, put};
+use crate::buffered::flush;
 use crate::error::FileError;
 use crate::span::{Span, add};
 use crate::whole::{create_file, fill, find_file, read_whole};
-use block_disk::{Disk, DiskError, Trace, fail, lies_within};
+use block_disk::{Disk, DiskError, Trace, fail, lies_within, put};
 use std::alloc::Global;
 use std::fs::Files;
 use std::io;
@@ -137,6 +137,7 @@ impl<F: BackingFile + Drop> Disk for FileDisk<F> {
             × (out.new ≡ out.old) × (self.new.device ≡ self.old.device) }
         ensures fault { IsErrOf result Fault → SameMoments self.old.device self.new.device }
         ensures cause { IsErrOf result Fault → HasFailed self.old.device.failures self.new.device.failures }
+        ensures counted { IsErrOf result Fault → self.new.device.failures ≡ one_more self.old.device.failures }
         ensures beyond { length self.old.device.now.bytes < at + length out.old → IsErrOf result OutOfRange }
         ensures agrees { OnOk result (IfSome self.old.file (λ h. out.new ≡ part at (length out.old) h.reads)) }
         ensures file { self.new.file ≡ self.old.file }
@@ -162,7 +163,9 @@ impl<F: BackingFile + Drop> Disk for FileDisk<F> {
         ensures fault { IsErrOf result Fault → SameMoments self.old.device self.new.device
             ⊎ TornWrite at (length bytes.now) self.old.device self.new.device }
         ensures cause { IsErrOf result Fault → HasFailed self.old.device.failures self.new.device.failures }
+        ensures counted { IsErrOf result Fault → self.new.device.failures ≡ one_more self.old.device.failures }
         ensures beyond { length self.old.device.now.bytes < at + length bytes.now → IsErrOf result OutOfRange }
+        ensures untouched { IsErrOf result OutOfRange → self.new ≡ self.old }
         ensures mirrored { OnOk result (Reads self.old.device.now.bytes self.old.file → Reads self.new.device.now.bytes self.new.file) }
     {
         let size = self.bytes.len();
@@ -189,6 +192,7 @@ impl<F: BackingFile + Drop> Disk for FileDisk<F> {
         ensures in_range { ¬ IsErrOf result OutOfRange }
         ensures fault { IsErrOf result Fault → SameMoments self.old.device self.new.device }
         ensures cause { IsErrOf result Fault → HasFailed self.old.device.failures self.new.device.failures }
+        ensures counted { IsErrOf result Fault → self.new.device.failures ≡ one_more self.old.device.failures }
         ensures durable { OnOk result (ReadsForGood self.new.device.now.bytes self.new.file) }
     {
         if catch_up(&mut self.file, self.behind, &self.unsynced, &self.bytes).is_err() {

@@ -2,8 +2,7 @@
 ghost use Rattle.std.specs.Prelude.{◌≡◌, replicate, IfOk};
 ghost use Rattle.block_disk.specs.Device.{new_device};
 
-use crate::buffered::put;
-use block_disk::{Disk, DiskError, Fault, Trace, copy_out, lies_within, overwrite};
+use block_disk::{Disk, DiskError, Fault, Trace, copy_out, lies_within, put};
 use std::alloc::{AllocError, Global};
 use std::marker::Model;
 
@@ -63,7 +62,7 @@ impl Disk for VolatileDisk {
         if !lies_within(at, bytes.len(), self.bytes.len()) {
             return Err(DiskError::OutOfRange);
         }
-        overwrite(&mut self.bytes, at, bytes);
+        put(&mut self.bytes, at, bytes);
         self.trace.write(at, bytes);
         Ok(())
     }

@@ -1,7 +1,7 @@
 //! A disk in one place on a device of sectors that tears none.
 ghost use Rattle.std.specs.Prelude.{◌≡◌, ◌≢◌, ◌⊎◌, ◌+◌, ◌*◌, ◌<◌, ◌≤◌, ℕ, List, IfErr, IfOk, IsErrAnd, IsErrOf, IsOk, OnErr, OnOk, [], ◌∷◌, length};
 ghost use Rattle.block_disk.specs.Bytes.{part, spliced};
-ghost use Rattle.block_disk.specs.Device.{HasFailed, Image, SameMoments, SameOutside, TornWrite, new_device, synced, unit_ranges, written, written_units};
+ghost use Rattle.block_disk.specs.Device.{HasFailed, Image, SameMoments, SameOutside, TornWrite, new_device, one_more, synced, unit_ranges, written, written_units};
 ghost use Rattle.block_disk.specs.Images.{ImageBut, LeavesOnly};
 ghost use Rattle.block_disk.specs.declared.error.DiskError.TheVariants.{Fault, OutOfRange};
 ghost use Rattle.sector_disk.specs.OnePlace.{IsInPlace, held};
@@ -128,6 +128,7 @@ impl<S: WholeSectors + Drop> Disk for InPlace<S> {
             × (out.new ≡ out.old) × (self.new.device ≡ self.old.device) }
         ensures fault { IsErrOf result Fault → SameMoments self.old.device self.new.device }
         ensures cause { IsErrOf result Fault → HasFailed self.old.device.failures self.new.device.failures }
+        ensures counted { IsErrOf result Fault → self.new.device.failures ≡ one_more self.old.device.failures }
         ensures no_fault { ¬ IsErrOf result Fault }
         ensures sectors { self.new.sectors ≡ self.old.sectors }
         ensures place { (self.new.size ≡ self.old.size) × (self.new.first ≡ self.old.first) × (self.new.count ≡ self.old.count) }
@@ -148,6 +149,7 @@ impl<S: WholeSectors + Drop> Disk for InPlace<S> {
         ensures fault { IsErrOf result Fault → SameMoments self.old.device self.new.device
             ⊎ TornWrite at (length bytes.now) self.old.device self.new.device }
         ensures cause { IsErrOf result Fault → HasFailed self.old.device.failures self.new.device.failures }
+        ensures counted { IsErrOf result Fault → self.new.device.failures ≡ one_more self.old.device.failures }
         ensures no_fault { ¬ IsErrOf result Fault }
         ensures sectors { self.new.sectors ≡ self.old.sectors }
         ensures place { (self.new.size ≡ self.old.size) × (self.new.first ≡ self.old.first) × (self.new.count ≡ self.old.count) }
@@ -168,6 +170,7 @@ impl<S: WholeSectors + Drop> Disk for InPlace<S> {
         ensures ok { OnOk result (self.new.device ≡ written_units count at units.now self.old.device) }
         ensures any_moment { LeavesOnly self.old.device self.new.device (ImageBut self.old.device (unit_ranges count at)) }
         ensures cause { OnErr result (HasFailed self.old.device.failures self.new.device.failures) }
+        ensures counted { OnErr result (self.new.device.failures ≡ one_more self.old.device.failures) }
         ensures no_fault { IsOk result }
         ensures sectors { self.new.sectors ≡ self.old.sectors }
         ensures place { (self.new.size ≡ self.old.size) × (self.new.first ≡ self.old.first) × (self.new.count ≡ self.old.count) }
@@ -189,6 +192,7 @@ impl<S: WholeSectors + Drop> Disk for InPlace<S> {
         ensures in_range { ¬ IsErrOf result OutOfRange }
         ensures fault { IsErrOf result Fault → SameMoments self.old.device self.new.device }
         ensures cause { IsErrOf result Fault → HasFailed self.old.device.failures self.new.device.failures }
+        ensures counted { IsErrOf result Fault → self.new.device.failures ≡ one_more self.old.device.failures }
         ensures place { (self.new.size ≡ self.old.size) × (self.new.first ≡ self.old.first) × (self.new.count ≡ self.old.count) }
         ensures beyond { SameOutside (sectors_from self.old.size self.old.first self.old.count ∷ [])
             self.old.sectors.now.bytes self.new.sectors.now.bytes }

@@ -12,11 +12,10 @@ use crate::area::sector_at;
 use crate::error::PlacesError;
 use crate::marks::Marks;
 use crate::opening::{Halt, mark_each, read_area, told_of};
-use crate::places::put;
 use crate::sectors::Sectors;
 use crate::size::SectorSize;
 use crate::whole::WholeSectors;
-use block_disk::Fault;
+use block_disk::{Fault, put};
 use std::alloc::Global;
 
 /// A disk's bytes, and what is known of the sectors that it lies on.

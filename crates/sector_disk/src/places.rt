@@ -11,7 +11,7 @@ use crate::gate::{Gate, confirm, turn_gate};
 use crate::marks::Marks;
 use crate::sectors::Sectors;
 use crate::size::SectorSize;
-use block_disk::{Fault, overwrite};
+use block_disk::{Fault, put};
 use std::mem::swap;
 
 /// Makes the image durable. `fresh` are the marks of the area whose turn it is, `stale` those of the other. After a fault
@@ -118,12 +118,4 @@ pub(crate) fn write_image(
     fresh.mark(size, at as usize, bytes.len());
     stale.mark(size, at as usize, bytes.len());
     put(image, at, bytes);
-}
-
-/// Puts these bytes at `at`.
-pub(crate) fn put(image: &mut Vec<u8>, at: u64, bytes: &[u8])
-    requires { at + length bytes.now ≤ length image.old.items }
-    ensures { image.new.items ≡ spliced image.old.items at bytes.now }
-{
-    overwrite(image, at, bytes);
 }

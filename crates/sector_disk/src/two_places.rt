@@ -1,7 +1,7 @@
 //! A disk in two places on a device of sectors.
 ghost use Rattle.std.specs.Prelude.{◌≡◌, ◌≢◌, ◌⊎◌, ◌+◌, ◌*◌, ◌^◌, ◌<◌, ◌≤◌, ℕ, List, IfErr, IfOk, IsErrAnd, IsErrOf, IsOk, OnErr, OnOk, [], ◌∷◌, length, replicate, take};
 ghost use Rattle.block_disk.specs.Bytes.{part, spliced};
-ghost use Rattle.block_disk.specs.Device.{HasFailed, SameMoments, SameOutside, TornWrite, new_device, synced, unit_ranges, written, written_units};
+ghost use Rattle.block_disk.specs.Device.{HasFailed, SameMoments, SameOutside, TornWrite, new_device, one_more, synced, unit_ranges, written, written_units};
 ghost use Rattle.block_disk.specs.Images.{Always, ImageBut, LeavesOnly};
 ghost use Rattle.block_disk.specs.declared.error.DiskError.TheVariants.{Fault, OutOfRange};
 ghost use Rattle.sector_disk.specs.Labels.{label_bytes};
@@ -167,6 +167,7 @@ impl<S: Sectors + Drop> Disk for TwoPlaces<S> {
             × (out.new ≡ out.old) × (self.new.device ≡ self.old.device) }
         ensures fault { IsErrOf result Fault → SameMoments self.old.device self.new.device }
         ensures cause { IsErrOf result Fault → HasFailed self.old.device.failures self.new.device.failures }
+        ensures counted { IsErrOf result Fault → self.new.device.failures ≡ one_more self.old.device.failures }
         ensures no_fault { ¬ IsErrOf result Fault }
         ensures sectors { self.new.sectors ≡ self.old.sectors }
         ensures count { (self.new.size ≡ self.old.size) × (self.new.count ≡ self.old.count) }
@@ -187,6 +188,7 @@ impl<S: Sectors + Drop> Disk for TwoPlaces<S> {
         ensures fault { IsErrOf result Fault → SameMoments self.old.device self.new.device
             ⊎ TornWrite at (length bytes.now) self.old.device self.new.device }
         ensures cause { IsErrOf result Fault → HasFailed self.old.device.failures self.new.device.failures }
+        ensures counted { IsErrOf result Fault → self.new.device.failures ≡ one_more self.old.device.failures }
         ensures no_fault { ¬ IsErrOf result Fault }
         ensures sectors { self.new.sectors ≡ self.old.sectors }
         ensures count { (self.new.size ≡ self.old.size) × (self.new.count ≡ self.old.count) }
@@ -214,6 +216,7 @@ impl<S: Sectors + Drop> Disk for TwoPlaces<S> {
         ensures ok { OnOk result (self.new.device ≡ written_units count at units.now self.old.device) }
         ensures any_moment { LeavesOnly self.old.device self.new.device (ImageBut self.old.device (unit_ranges count at)) }
         ensures cause { OnErr result (HasFailed self.old.device.failures self.new.device.failures) }
+        ensures counted { OnErr result (self.new.device.failures ≡ one_more self.old.device.failures) }
         ensures no_fault { IsOk result }
         ensures sectors { self.new.sectors ≡ self.old.sectors }
         ensures count { (self.new.size ≡ self.old.size) × (self.new.count ≡ self.old.count) }
@@ -236,6 +239,7 @@ impl<S: Sectors + Drop> Disk for TwoPlaces<S> {
         ensures in_range { ¬ IsErrOf result OutOfRange }
         ensures fault { IsErrOf result Fault → SameMoments self.old.device self.new.device }
         ensures cause { IsErrOf result Fault → HasFailed self.old.device.failures self.new.device.failures }
+        ensures counted { IsErrOf result Fault → self.new.device.failures ≡ one_more self.old.device.failures }
         ensures any_moment { LeavesOnly self.old.sectors self.new.sectors
             (Shows self.old.size self.old.count (sector self.old.size 0 self.old.sectors.now.bytes) self.old.device.now) }
         ensures within { LeavesOnly self.old.sectors self.new.sectors
