@@ -8,10 +8,11 @@ use Rattle.block_disk.specs.Memory.{Stop, Wrote, WriteFailed, Synced, SyncFailed
 use Rattle.block_disk.proofs.Bytes.{length_spliced}
 use Rattle.block_disk.proofs.InUnits.{spliced_twice}
 use Rattle.deferred_disk.specs.Deferred.{IsDeferring, first_in, onto, stop_of, stops_in}
-use Rattle.deferred_disk.specs.Joined.{AllFit, IsAtSync, goes_on_with, join_write, joined, longer}
+use Rattle.deferred_disk.specs.Joined.{AllFit, AreShortWrites, IsAtSync, goes_on_with, join_write, joined, longer}
 use Rattle.deferred_disk.specs.declared.call.DeviceCall.{DeviceCall}
 use Rattle.deferred_disk.specs.declared.call.Handed.{Handed}
 use Rattle.deferred_disk.specs.declared.call.TheConstants.{MOST_BYTES}
+use Rattle.deferred_disk.proofs.Short.{one_short}
 
 -- a write is joined with the newest call, or is one of its own
 pub join_either : (at : ℕ) (more : List ℕ) (newest : Stop) (older : List Stop) (P : List Stop → Type 0) → (goes_on_with newest at (length more) ≡ true → P (longer newest more ∷ older))
@@ -190,8 +191,9 @@ taken before cs k c d other false at more last is is' goes made =
 
 -- one write more was asked for
 pub wrote_more : (handed : List Handed) (unsent calls : List DeviceCall) (bytes now : List ℕ) (stops later : List Stop) (at : ℕ) (more : List ℕ) → IsDeferring handed unsent bytes stops → at + length more ≤ length bytes
+    → length more ≤ MOST_BYTES → onto [] calls ≡ join_write at more (onto [] unsent)
     → onto (stops_in handed) calls ≡ join_write at more (onto (stops_in handed) unsent) → now ≡ spliced bytes at more → later ≡ Wrote at more ∷ stops → IsDeferring handed calls now later
-wrote_more handed unsent calls bytes now stops later at more was within joins made is =
+wrote_more handed unsent calls bytes now stops later at more was within few alone joins made is =
     let first = first_in handed in
     let same : length bytes ≡ length first = ap (λ (xs : List ℕ). length xs) was.reads ∙ length_after first stops was.fits in
     subst (λ (s : List Stop). IsDeferring handed calls now s) (sym is) record {
@@ -199,6 +201,7 @@ wrote_more handed unsent calls bytes now stops later at more was within joins ma
       told = ap (join_write at more) was.told ∙ sym joins;
       handed_are = was.handed_are;
       synced = was.synced;
+      short = subst AreShortWrites (sym alone) (one_short at more (onto [] unsent) few was.short);
       fits = (omega (arith, same, within), was.fits);
       begun = was.begun;
     }

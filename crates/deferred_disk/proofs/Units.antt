@@ -10,11 +10,12 @@ use Rattle.block_disk.proofs.Images.{besides_wider, weaker}
 use Rattle.block_disk.proofs.InUnits.{head_long, rest_long, units_bytes, units_leave}
 use Rattle.block_disk.proofs.Ranges.{outside_more}
 use Rattle.deferred_disk.specs.Deferred.{IsDeferring, first_in, onto, stops_in}
-use Rattle.deferred_disk.specs.Joined.{AllFit, TakesAllOrNone, at_sync, goes_on_with, join_units, join_write, joined, longer}
+use Rattle.deferred_disk.specs.Joined.{AllFit, AreShortWrites, TakesAllOrNone, at_sync, goes_on_with, join_units, join_write, joined, longer}
 use Rattle.deferred_disk.specs.declared.call.DeviceCall.{DeviceCall}
 use Rattle.deferred_disk.specs.declared.call.Handed.{Handed}
 use Rattle.deferred_disk.specs.declared.call.TheConstants.{MOST_BYTES}
 use Rattle.deferred_disk.proofs.Joins.{join_on, length_after}
+use Rattle.deferred_disk.proofs.Short.{units_short}
 
 goes_on : (from : ℕ) (b : List ℕ) (at more : ℕ) → from + length b ≡ at → length b + more ≤ MOST_BYTES → goes_on_with (Wrote from b) at more ≡ true
 goes_on from b at more ends fits = and_from (from + length b == at) (nat_le (length b + more) MOST_BYTES) (eq-eqb (from + length b) at ends) (le-leb (length b + more) MOST_BYTES fits)
@@ -137,6 +138,17 @@ fit_units size (suc n) at bytes stops long within fits =
 abbrev pub named : List ℕ → Memory → Device
 named name m = record (device_of m) { name = name }
 
+-- n of them take the first of the bytes alone
+pub units_taken : (n at : ℕ) (bytes : List ℕ) (stops : List Stop) → units_onto n at (take (n * 16) bytes) stops ≡ units_onto n at bytes stops
+units_taken zero at bytes stops = refl
+units_taken (suc n) at bytes stops =
+    let all : suc n * 16 ≡ 16 + n * 16 = omega arith in
+    let first : take 16 (take (suc n * 16) bytes) ≡ take 16 bytes = take-take 16 (suc n * 16) bytes (omega arith) in
+    let others : drop 16 (take (suc n * 16) bytes) ≡ take (n * 16) (drop 16 bytes) = ap (λ (k : ℕ). drop 16 (take k bytes)) all ∙ drop-take 16 (n * 16) bytes in
+    ap (λ (xs : List ℕ). units_onto n (at + 16) xs (Wrote at (take 16 (take (suc n * 16) bytes)) ∷ stops)) others
+    ∙ ap (λ (xs : List ℕ). units_onto n (at + 16) (take (n * 16) (drop 16 bytes)) (Wrote at xs ∷ stops)) first
+    ∙ units_taken n (at + 16) (drop 16 bytes) (Wrote at (take 16 bytes) ∷ stops)
+
 -- a memory with these stops
 abbrev pub with_stops : List Stop → Memory → Memory
 with_stops stops m = record m { stops = stops }
@@ -147,9 +159,9 @@ device_units name (suc n) at bytes m = device_units name n (at + 16) (drop 16 by
 
 -- so many more units were asked for
 pub wrote_units : (handed : List Handed) (unsent calls : List DeviceCall) (bytes now : List ℕ) (stops later : List Stop) (n at : ℕ) (more : List ℕ) → IsDeferring handed unsent bytes stops
-    → length more ≡ n * 16 → at + length more ≤ length bytes → onto (stops_in handed) calls ≡ join_units n at more (onto (stops_in handed) unsent) → now ≡ spliced bytes at more
+    → length more ≡ n * 16 → at + length more ≤ length bytes → onto [] calls ≡ join_units n at more (onto [] unsent) → onto (stops_in handed) calls ≡ join_units n at more (onto (stops_in handed) unsent) → now ≡ spliced bytes at more
     → later ≡ units_onto n at more stops → IsDeferring handed calls now later
-wrote_units handed unsent calls bytes now stops later n at more was long within joins made is =
+wrote_units handed unsent calls bytes now stops later n at more was long within alone joins made is =
     let first = first_in handed in
     let m : Memory = record { first = first; stops = stops; failures = 0; fails_in = None } in
     let same : length bytes ≡ length first = ap (λ (xs : List ℕ). length xs) was.reads ∙ length_after first stops was.fits in
@@ -159,6 +171,7 @@ wrote_units handed unsent calls bytes now stops later n at more was long within 
       told = joined_units n at more stops ∙ ap (join_units n at more) was.told ∙ sym joins;
       handed_are = ap joined (at_sync_units n at more stops) ∙ was.handed_are;
       synced = was.synced;
+      short = subst AreShortWrites (sym alone) (units_short n at more (onto [] unsent) was.short);
       fits = fit_units (length first) n at more stops long (omega (arith, same, within)) was.fits;
       begun = was.begun;
     }

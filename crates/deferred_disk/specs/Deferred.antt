@@ -4,7 +4,7 @@ use Rattle.std.specs.Global.{Global}
 use Rattle.rtrb.specs.declared.producer.Producer.{Producer}
 use Rattle.block_disk.specs.Device.{Device}
 use Rattle.block_disk.specs.Memory.{Memory, Stop, Wrote, Synced, bytes_after, device_of}
-use Rattle.deferred_disk.specs.Joined.{AllFit, IsAtSync, at_sync, joined}
+use Rattle.deferred_disk.specs.Joined.{AllFit, AreShortWrites, IsAtSync, at_sync, joined}
 use Rattle.deferred_disk.specs.Names.{name_of}
 use Rattle.deferred_disk.specs.declared.call.DeviceCall.{DeviceCall}
 use Rattle.deferred_disk.specs.declared.call.DeviceCall.TheVariants.{Write, Sync}
@@ -50,11 +50,12 @@ abbrev pub memory_of : List Handed → List Stop → ℕ → Memory
 memory_of handed stops failures = record { first = first_in handed; stops = stops; failures = failures; fails_in = None }
 
 -- The bytes are those that it reads; what was handed over, and then the calls that are yet to be, are what its stops are told as; what was
--- handed over is all up to the last sync, with which it ends; each stop lies within it; and it has begun.
+-- handed over is all up to the last sync, with which it ends; what is yet to be are short writes; each stop lies within it; and it has begun.
 pub record IsDeferring (handed : List Handed) (unsent : List DeviceCall) (bytes : List ℕ) (stops : List Stop) : Type 0 where
   pub reads : bytes ≡ bytes_after (first_in handed) stops
   pub told : joined stops ≡ onto (stops_in handed) unsent
   pub handed_are : joined (at_sync stops) ≡ stops_in handed
   pub synced : IsAtSync (stops_in handed)
+  pub short : AreShortWrites (onto [] unsent)
   pub fits : AllFit (length (first_in handed)) stops
   pub begun : 0 < length handed

@@ -9,6 +9,7 @@ use Rattle.deferred_disk.specs.declared.call.DeviceCall.{DeviceCall}
 use Rattle.deferred_disk.specs.declared.call.Handed.{Handed}
 use Rattle.deferred_disk.specs.declared.handing.Handing.{Handing}
 use Rattle.deferred_disk.specs.Deferred.{Deferred, calls_in, deferred_device, onto, stops_in}
+use Rattle.deferred_disk.specs.Handing.{AreLeft}
 use Rattle.deferred_disk.specs.Joined.{joined}
 use Rattle.deferred_disk.specs.Names.{name_of}
 use Rattle.deferred_disk.specs.Syncs.{LeftAt, durable_moments, moments_of, syncs_in}
@@ -34,9 +35,10 @@ made_of handed left = drop (length left) (stops_in handed)
 abbrev pub IsInOrder : List Handed → List DeviceCall → Type 0
 IsInOrder handed left = onto (made_of handed left) left ≡ stops_in handed
 
--- so it is, and the host has taken what the disk began with
+-- so it is, what is left goes on to a sync, and the host has taken what the disk began with
 pub record IsTaking (handed : List Handed) (left : List DeviceCall) : Type 0 where
   pub order : IsInOrder handed left
+  pub to_sync : AreLeft left
   pub begun : 0 < length handed
 
 -- a look at the ring: no call is made or fetched

@@ -1,5 +1,5 @@
 -- How the writes of a disk are told to its host: one that goes on where the last one ended is told with it (this project's own).
-use Rattle.std.specs.Prelude.{ℕ, zero, suc, ◌+◌, ◌*◌, ◌==◌, ◌≡◌, ◌⊎◌, ◌&&◌, nat_le, if◌then◌else◌, Bool, true, false, List, [], ◌∷◌, ◌++◌, length, take, drop}
+use Rattle.std.specs.Prelude.{ℕ, zero, suc, ◌+◌, ◌*◌, ◌==◌, ◌≡◌, ◌≤◌, ◌⊎◌, ◌&&◌, nat_le, if◌then◌else◌, Bool, true, false, List, [], ◌∷◌, ◌++◌, length, take, drop}
 use Rattle.block_disk.specs.Memory.{Stop, Wrote, WriteFailed, Synced, SyncFailed, Fits}
 use Rattle.deferred_disk.specs.declared.call.TheConstants.{MOST_BYTES}
 
@@ -16,6 +16,14 @@ longer (Wrote from bytes) more = Wrote from (bytes ++ more)
 longer (WriteFailed from len) more = WriteFailed from len
 longer Synced more = Synced
 longer SyncFailed more = SyncFailed
+
+-- each of them is a write of MOST_BYTES at most
+abbrev pub AreShortWrites : List Stop → Type 0
+AreShortWrites [] = Unit {0}
+AreShortWrites (Wrote at bytes ∷ older) = (length bytes ≤ MOST_BYTES) × AreShortWrites older
+AreShortWrites (WriteFailed at len ∷ older) = ⊥
+AreShortWrites (Synced ∷ older) = ⊥
+AreShortWrites (SyncFailed ∷ older) = ⊥
 
 -- these calls, the newest first, and one more write: as one with the newest, if it goes on where that ended
 abbrev pub join_write : (at : ℕ) → List ℕ → List Stop → List Stop

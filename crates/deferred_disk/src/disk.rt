@@ -1,14 +1,15 @@
 //! A disk in memory that hands its calls over.
-ghost use Rattle.std.specs.Prelude.{◌≡◌, ◌⊎◌, ◌+◌, ◌*◌, ◌^◌, ◌<◌, ◌≤◌, List, [], ◌∷◌, ◌++◌, length, replicate, OnOk, OnErr, IfOk, IsErrOf, if◌then◌else◌};
+ghost use Rattle.std.specs.Prelude.{◌≡◌, ◌⊎◌, ◌+◌, ◌*◌, ◌^◌, ◌<◌, ◌≤◌, ℕ, List, [], ◌∷◌, ◌++◌, length, replicate, OnOk, OnErr, IfOk, IsErrOf, if◌then◌else◌};
 ghost use Rattle.block_disk.specs.Bytes.{part, spliced};
 ghost use Rattle.block_disk.specs.Device.{HasFailed, SameMoments, TornWrite, one_more, synced, unit_ranges, written, written_units};
 ghost use Rattle.block_disk.specs.Images.{ImageBut, LeavesOnly};
-ghost use Rattle.block_disk.specs.Memory.{Stop, Synced, Wrote, bytes_after, failed, fresh, stopped};
+ghost use Rattle.block_disk.specs.Memory.{Stop, Synced, Wrote, bytes_after, failed, fresh, stopped, units_onto};
 ghost use Rattle.block_disk.specs.declared.error.DiskError.TheVariants.{Fault, OutOfRange};
 ghost use Rattle.deferred_disk.specs.Deferred.{deferred_device, onto, stop_of, stops_in, first_in};
 ghost use Rattle.deferred_disk.specs.Host.{IsHostOf};
 ghost use Rattle.deferred_disk.specs.Joined.{IsAtSync, TakesAllOrNone, join_units, join_write, joined};
 ghost use Rattle.deferred_disk.specs.declared.call.DeviceCall.TheVariants as calls;
+ghost use Rattle.deferred_disk.specs.declared.disk.TheConstants.{SYNCS};
 ghost use Rattle.deferred_disk.specs.declared.call.Handed.TheVariants as handed;
 ghost use Rattle.rtrb.specs.Ring.{SameProducer, known_free, sent};
 
@@ -27,7 +28,7 @@ pub const SYNCS: usize = 64;
 ///
 /// A write that goes on where the one before it ended, with no sync between them, becomes one call with it, of
 /// [`MOST_BYTES`](crate::MOST_BYTES) at most. The disk takes its bytes and the calls that the host hasn't taken yet, and no more, however
-/// long it runs. `Fault` is want of memory for one more call, or, at a sync, [`SYNCS`] syncs that the host hasn't taken. A write
+/// long it runs. `Fault` is want of memory for one more call, a write of more bytes than a call may have, or, at a sync, [`SYNCS`] syncs that the host hasn't taken. A write
 /// or a sync has done nothing then; a [`write_units`](Disk::write_units) has written and kept the units before those of that call. The
 /// disk goes on to work.
 ///
@@ -58,6 +59,7 @@ impl DeferredDisk {
     /// A disk of `size` zero bytes, and the calls that the host of a device of such bytes has to make.
     pub fn new(alloc: Global, size: u64) -> Result<(DeferredDisk, HostCalls), AllocError>
         ensures disk { IfOk result (λ r. r.0.memory ≡ fresh (replicate size 0)) }
+        ensures room { IfOk result (λ r. r.0.ring.capacity ≡ SYNCS) }
         ensures host { IfOk result (λ r. (r.1.made ≡ []) × (r.1.left ≡ []) × IsHostOf r.0 r.1) }
     {
         DeferredDisk::holding(alloc, vec![in alloc; 0u8; size as usize]?)
@@ -66,6 +68,7 @@ impl DeferredDisk {
     /// The disk of these bytes, which the host's device has, durably, and the calls that the host has to make from then on.
     pub fn from_bytes(alloc: Global, bytes: &[u8]) -> Result<(DeferredDisk, HostCalls), AllocError>
         ensures disk { IfOk result (λ r. r.0.memory ≡ fresh bytes.now) }
+        ensures room { IfOk result (λ r. r.0.ring.capacity ≡ SYNCS) }
         ensures host { IfOk result (λ r. (r.1.made ≡ []) × (r.1.left ≡ []) × IsHostOf r.0 r.1) }
     {
         DeferredDisk::holding(alloc, bytes.to_vec(alloc)?)
@@ -74,6 +77,7 @@ impl DeferredDisk {
     // The disk of these bytes.
     fn holding(alloc: Global, first: Vec<u8>) -> Result<(DeferredDisk, HostCalls), AllocError>
         ensures disk { IfOk result (λ r. r.0.memory ≡ fresh first.items) }
+        ensures room { IfOk result (λ r. r.0.ring.capacity ≡ SYNCS) }
         ensures host { IfOk result (λ r. (r.1.made ≡ []) × (r.1.left ≡ []) × IsHostOf r.0 r.1) }
     {
         let bytes = first.to_vec(alloc)?;
@@ -120,7 +124,7 @@ impl Disk for DeferredDisk {
         Ok(())
     }
 
-    /// `Fault` is want of memory for the call; nothing is written then.
+    /// `Fault` is want of memory for the call, or one of more than [`MOST_BYTES`](crate::MOST_BYTES); nothing is written then.
     fn write_at(&mut self, at: u64, bytes: &[u8]) -> Result<(), DiskError>
         ensures in_range { OnOk result (at + length bytes.now ≤ length (deferred_device self.old).now.bytes) }
         ensures ok { OnOk result (deferred_device self.new ≡ written at bytes.now (deferred_device self.old)) }
@@ -139,6 +143,10 @@ impl Disk for DeferredDisk {
         if !lies_within(at, bytes.len(), self.bytes.len()) {
             return Err(DiskError::OutOfRange);
         }
+        let is_long = bytes.len() > MOST_BYTES;
+        if is_long {
+            return Err(fail(&mut self.failures));
+        }
         if !keep_write(self.alloc, &mut self.unsent, at, bytes) {
             return Err(fail(&mut self.failures));
         }
@@ -156,6 +164,9 @@ impl Disk for DeferredDisk {
         ensures ok { OnOk result (deferred_device self.new ≡ written_units count at units.now (deferred_device self.old)) }
         ensures any_moment { LeavesOnly (deferred_device self.old) (deferred_device self.new) (ImageBut (deferred_device self.old) (unit_ranges count at)) }
         ensures cause { OnErr result (HasFailed (deferred_device self.old).failures (deferred_device self.new).failures) }
+        ensures stopped { OnOk result (self.new.memory ≡ record self.old.memory { stops = units_onto count at units.now self.old.memory.stops }) }
+        ensures failed { OnErr result ((kept : ℕ) × (kept < count)
+            × (self.new.memory ≡ failed (record self.old.memory { stops = units_onto kept at units.now self.old.memory.stops }))) }
         ensures counted { OnErr result ((deferred_device self.new).failures ≡ one_more (deferred_device self.old).failures) }
         ensures ring { SameProducer self.old.ring self.new.ring }
     {

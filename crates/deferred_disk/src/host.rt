@@ -1,6 +1,7 @@
 //! The host's end of a deferred disk.
-ghost use Rattle.std.specs.Prelude.{◌≡◌, ◌<◌, [], ◌∷◌, List, ℕ, true, false, length, IsSomeAnd, MatchOption};
+ghost use Rattle.std.specs.Prelude.{◌≡◌, ◌<◌, [], ◌∷◌, List, ℕ, true, false, length, IfSome, IsSomeAnd, MatchOption};
 ghost use Rattle.deferred_disk.specs.Deferred.{calls_in, deferred_device, onto, stop_of, stops_in};
+ghost use Rattle.deferred_disk.specs.Handing.{AreLeft, AreToSync, IsSmall};
 ghost use Rattle.deferred_disk.specs.Host.{Fetches, HasLooked, HaveMet, IsHostOf};
 ghost use Rattle.deferred_disk.specs.declared.call.Handed.{Handed as Batch};
 ghost use Rattle.rtrb.specs.Ring.{SameConsumer, SameProducer, received, known_items};
@@ -51,6 +52,7 @@ impl HostCalls {
     /// Where none is left, takes the calls up to the next sync, if they were handed over. There is at least one, the sync.
     pub fn fetch(&mut self)
         ensures fetches { Fetches self.old self.new }
+        ensures to_sync { AreLeft self.new.left }
         ensures ring { SameConsumer self.old.ring self.new.ring }
     {
         if !self.left.is_empty() {
@@ -69,9 +71,10 @@ impl HostCalls {
         self.ring.slots()
     }
 
-    /// The call that the host has to make next, of those that it fetched.
+    /// The call that the host has to make next, of those that it fetched. A write has [`MOST_BYTES`](crate::MOST_BYTES) at most.
     pub fn next_call(&self) -> Option<&DeviceCall>
-        ensures { MatchOption result (self.now.left ≡ []) (λ call. (later : List DeviceCall) × (self.now.left ≡ call.now ∷ later)) }
+        ensures first { MatchOption result (self.now.left ≡ []) (λ call. (later : List DeviceCall) × (self.now.left ≡ call.now ∷ later)) }
+        ensures small { IfSome result (λ call. IsSmall call.now) }
     {
         self.left.front()
     }
@@ -104,7 +107,7 @@ impl HostCalls {
 fn next_batch(ring: &mut Consumer<Handed, Global, Handing>) -> Option<Vec<DeviceCall>>
     requires begun { 0 < length (received ring.old) }
     ensures taken { MatchOption result (stops_in (received ring.new) ≡ stops_in (received ring.old)) (λ calls. stops_in (received ring.new) ≡ onto (stops_in (received ring.old)) calls.items) }
-    ensures some { MatchOption result (known_items ring.new ≡ []) (λ calls. 0 < length calls.items) }
+    ensures some { MatchOption result (known_items ring.new ≡ []) (λ calls. AreToSync calls.items) }
     ensures known { (next : Batch) (more : List Batch) → known_items ring.old ≡ next ∷ more → IsSomeAnd result (λ calls. calls.items ≡ calls_in next) }
     ensures begun { 0 < length (received ring.new) }
     ensures ring { SameConsumer ring.old ring.new }

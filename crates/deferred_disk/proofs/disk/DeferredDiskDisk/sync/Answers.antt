@@ -1,12 +1,23 @@
-use Rattle.std.proofs.Common.{◌≡◌, ◌∷◌, ◌++◌, ◌∙◌, [], List, None, ap, subst}
+use Rattle.std.proofs.Common.{◌≡◌, ◌∷◌, ◌++◌, ◌∙◌, [], Bool, if◌then◌else◌, List, None, ap, rules, subst, sym}
 use Rattle.block_disk.specs.Device.{synced}
 use Rattle.block_disk.specs.Memory.{Synced, stopped}
 use Rattle.deferred_disk.specs.Deferred.{Deferred, deferred_device, first_in, memory_of}
+use Rattle.deferred_disk.specs.Handing.{AreToSync}
+use Rattle.deferred_disk.specs.declared.call.DeviceCall.TheVariants.{Sync}
 use Rattle.deferred_disk.specs.declared.call.Handed.{Handed}
 use Rattle.deferred_disk.specs.declared.call.Handed.TheVariants.{Calls}
 use Rattle.rtrb.specs.Ring.{sent}
 use Rattle.deferred_disk.proofs.Names.{device_synced, first_more, producer_name}
+use Rattle.deferred_disk.proofs.Short.{up_to_sync}
 use Rattle.deferred_disk.proofs.disk.DeferredDiskDisk.sync.Goals as goal
+
+pub push_reserved-requires : goal.push_reserved-requires
+push_reserved-requires c =
+    let unsent = c.self.inside.unsent.items in
+    let calls = c.keep.new.calls.items in
+    let is : calls ≡ unsent ++ Sync ∷ [] = subst (λ (b : Bool). calls ≡ (if b then unsent ++ Sync ∷ [] else unsent)) c.if-not-keep.false c.keep.ensures in
+    let same : c.replace-batch.result.items ≡ calls = search rules in
+    (search rules, subst AreToSync (sym (same ∙ is)) (up_to_sync [] unsent c.self.invariant.short))
 
 pub returns-clause-ok : goal.returns-clause-ok
 returns-clause-ok c =

@@ -1,14 +1,14 @@
-use Rattle.std.proofs.Common.{◌≡◌, ◌+◌, ◌*◌, ◌≤◌, ◌∙◌, ℕ, List, length, take, sym, ap, subst, arith, rules, length-take}
+use Rattle.std.proofs.Common.{◌≡◌, ◌+◌, ◌*◌, ◌≤◌, ◌∙◌, ℕ, List, [], length, take, refl, sym, ap, subst, arith, rules, length-take}
 use Rattle.std.proofs.lemmas.List.{take_all}
 use Rattle.block_disk.specs.Device.{Device, unit_ranges, written_units}
 use Rattle.block_disk.specs.Images.{ImageBut, LeavesOnly}
-use Rattle.block_disk.specs.Memory.{Memory}
-use Rattle.block_disk.specs.Traced.{Traced}
+use Rattle.block_disk.specs.Memory.{Memory, Stop, failed, units_onto}
+use Rattle.block_disk.specs.Traced.{Traced, and_units}
 use Rattle.deferred_disk.specs.Deferred.{Deferred, deferred_device, memory_of, onto, stops_in}
 use Rattle.deferred_disk.specs.Names.{name_of}
 use Rattle.rtrb.specs.Ring.{sent}
 use Rattle.block_disk.proofs.InUnits.{units_leave}
-use Rattle.deferred_disk.proofs.Units.{device_units, join_taken, named, some_leave, with_stops, wrote_units}
+use Rattle.deferred_disk.proofs.Units.{device_units, join_taken, named, some_leave, units_taken, with_stops, wrote_units}
 use Rattle.deferred_disk.proofs.disk.DeferredDiskDisk.write_units.Goals as goal
 
 pub invariant_of-self : goal.invariant_of-self
@@ -23,7 +23,8 @@ invariant_of-self c =
     let long : length run ≡ n * 16 = omega (arith, length-take (n * 16) units, few, whole) in
     let fits : c.args.at + length units ≤ length d.bytes.items = search rules in
     wrote_units handed d.unsent.items c.keep_units-kept.new.calls.items d.bytes.items c.put.new.bytes.items d.trace.past.stops c.write_units.new.self.past.stops n c.args.at run c.self.invariant
-    long (omega (arith, long, few, whole, fits)) (c.keep_units-kept.ensures.kept (stops_in handed) c.self.invariant.synced ∙ sym (join_taken n c.args.at units (onto (stops_in handed) d.unsent.items))) c.put.ensures (ap (λ (t : Traced). t.stops) c.write_units.ensures)
+    long (omega (arith, long, few, whole, fits)) (c.keep_units-kept.ensures.kept [] tt ∙ sym (join_taken n c.args.at units (onto [] d.unsent.items)))
+    (c.keep_units-kept.ensures.kept (stops_in handed) c.self.invariant.synced ∙ sym (join_taken n c.args.at units (onto (stops_in handed) d.unsent.items))) c.put.ensures (ap (λ (t : Traced). t.stops) c.write_units.ensures)
 
 pub invariant_of-self-else-kept-count : goal.invariant_of-self-else-kept-count
 invariant_of-self-else-kept-count c =
@@ -37,7 +38,8 @@ invariant_of-self-else-kept-count c =
     let long : length run ≡ n * 16 = omega (arith, length-take (n * 16) units, few, whole) in
     let fits : c.args.at + length units ≤ length d.bytes.items = search rules in
     wrote_units handed d.unsent.items c.keep_units-kept.new.calls.items d.bytes.items c.put.new.bytes.items d.trace.past.stops c.write_units.new.self.past.stops n c.args.at run c.self.invariant
-    long (omega (arith, long, few, whole, fits)) (c.keep_units-kept.ensures.kept (stops_in handed) c.self.invariant.synced ∙ sym (join_taken n c.args.at units (onto (stops_in handed) d.unsent.items))) c.put.ensures (ap (λ (t : Traced). t.stops) c.write_units.ensures)
+    long (omega (arith, long, few, whole, fits)) (c.keep_units-kept.ensures.kept [] tt ∙ sym (join_taken n c.args.at units (onto [] d.unsent.items)))
+    (c.keep_units-kept.ensures.kept (stops_in handed) c.self.invariant.synced ∙ sym (join_taken n c.args.at units (onto (stops_in handed) d.unsent.items))) c.put.ensures (ap (λ (t : Traced). t.stops) c.write_units.ensures)
 
 pub returns-clause-ok : goal.returns-clause-ok
 returns-clause-ok c =
@@ -79,3 +81,31 @@ returns-then-kept-count-clause-any_moment c =
     let made : named name (with_stops c.write_units.new.self.past.stops m) ≡ written_units n at run old =
     ap (λ (t : Traced). named name (with_stops t.stops m)) c.write_units.ensures ∙ device_units name n at run m ∙ ap (λ (e : Deferred). written_units n at run (deferred_device e)) c.self.view_is in
     some_leave n c.args.count at run old _ few long (omega (arith, long, few, whole, fits)) c.fail.new.failures (ap (λ (x : Device). record x { failures = c.fail.new.failures }) made)
+
+-- the disk's stops behind those that were kept
+kept_stops : (n at : ℕ) (units : List ℕ) (stops : List Stop) (t u : Traced) → u ≡ and_units n at (take (n * 16) units) t → t.stops ≡ stops → u.stops ≡ units_onto n at units stops
+kept_stops n at units stops t u is was = ap (λ (x : Traced). x.stops) is ∙ units_taken n at units t.stops ∙ ap (λ (s : List Stop). units_onto n at units s) was
+
+pub returns-clause-stopped : goal.returns-clause-stopped
+returns-clause-stopped c =
+    let d = c.self.inside in
+    let n = c.keep_units-kept.result in
+    let few = c.keep_units-kept.ensures.few in
+    let all : n ≡ c.args.count = omega (arith, few, c.if-kept-count.false) in
+    let m : Memory = memory_of (sent d.ring) d.trace.past.stops d.failures in
+    ap (λ (s : List Stop). with_stops s m) (kept_stops n c.args.at c.args.units.now d.trace.past.stops d.trace.past c.write_units.new.self.past c.write_units.ensures refl)
+    ∙ ap (λ (k : ℕ). with_stops (units_onto k c.args.at c.args.units.now m.stops) m) all
+    ∙ ap (λ (e : Deferred). with_stops (units_onto c.args.count c.args.at c.args.units.now e.memory.stops) e.memory) c.self.view_is
+
+pub returns-then-kept-count-clause-failed : goal.returns-then-kept-count-clause-failed
+returns-then-kept-count-clause-failed c =
+    let d = c.self.inside in
+    let n = c.keep_units-kept.result in
+    let m : Memory = memory_of (sent d.ring) d.trace.past.stops d.failures in
+    let stops = kept_stops n c.args.at c.args.units.now d.trace.past.stops d.trace.past c.write_units.new.self.past c.write_units.ensures refl in (
+      n,
+      c.if-kept-count.true,
+      ap (λ (s : List Stop). record (with_stops s m) { failures = c.fail.new.failures }) stops
+          ∙ ap (λ (k : ℕ). record (with_stops (units_onto n c.args.at c.args.units.now m.stops) m) { failures = k }) c.fail.ensures.counted
+          ∙ ap (λ (e : Deferred). failed (with_stops (units_onto n c.args.at c.args.units.now e.memory.stops) e.memory)) c.self.view_is,
+    )

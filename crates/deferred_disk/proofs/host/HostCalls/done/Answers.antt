@@ -1,14 +1,22 @@
 use Rattle.std.proofs.Common.{◌≡◌, ◌∷◌, ◌++◌, refl, sym, ◌∙◌, ap, subst, List, length, drop, true, Option, Some, None, option_to_list, is_some, arith}
 use Rattle.deferred_disk.specs.Deferred.{stop_of}
+use Rattle.deferred_disk.specs.Handing.{AreLeft}
 use Rattle.deferred_disk.specs.Host.{Host, made_of, IsInOrder}
 use Rattle.deferred_disk.specs.declared.call.DeviceCall.{DeviceCall}
 use Rattle.rtrb.specs.Ring.{received}
 use Rattle.deferred_disk.proofs.Onto.{made_more, order_popped}
+use Rattle.deferred_disk.proofs.Short.{left_behind}
 use Rattle.deferred_disk.proofs.host.HostCalls.done.Goals as goal
+
+-- what is left behind the first of them, if there is one
+left_after : (o : Option DeviceCall) (old new : List DeviceCall) → old ≡ option_to_list o ++ new → AreLeft old → AreLeft new
+left_after None old new items left = subst AreLeft items left
+left_after (Some call) old new items left = left_behind call new (subst AreLeft items left)
 
 pub invariant_of-self : goal.invariant_of-self
 invariant_of-self c = record {
   order = order_popped (received c.self.inside.ring) c.pop_front.result c.self.inside.left.items c.pop_front.new.self.items c.pop_front.ensures.items c.self.invariant.order;
+  to_sync = left_after c.pop_front.result c.self.inside.left.items c.pop_front.new.self.items c.pop_front.ensures.items c.self.invariant.to_sync;
   begun = c.self.invariant.begun;
 }
 

@@ -1,6 +1,7 @@
-use Rattle.std.proofs.Common.{◌≡◌, ◌<◌, [], ◌∷◌, refl, sym, ◌∙◌, ap, length, arith, List}
+use Rattle.std.proofs.Common.{◌≡◌, inr, [], ◌∷◌, refl, sym, ◌∙◌, ap, subst, length, arith, List}
 use Rattle.std.proofs.lemmas.Bool.{eqb-true}
 use Rattle.deferred_disk.specs.Deferred.{onto, stops_in}
+use Rattle.deferred_disk.specs.Handing.{AreToSync}
 use Rattle.deferred_disk.specs.Host.{Host, made_of}
 use Rattle.deferred_disk.specs.declared.call.DeviceCall.{DeviceCall}
 use Rattle.rtrb.specs.Ring.{received, known_items}
@@ -16,7 +17,7 @@ pub invariant_of-self : goal.invariant_of-self
 invariant_of-self c =
     let is : stops_in (received c.next_batch.new.ring) ≡ onto (stops_in (received c.self.inside.ring)) c.from.result.items =
     c.in-Some.ensures.taken ∙ ap (onto (stops_in (received c.self.inside.ring))) (sym c.from.ensures.0) in
-    record { order = order_fetched (received c.self.inside.ring) (received c.next_batch.new.ring) c.from.result.items is; begun = c.next_batch.ensures.begun }
+    record { order = order_fetched (received c.self.inside.ring) (received c.next_batch.new.ring) c.from.result.items is; to_sync = inr (subst AreToSync (sym c.from.ensures.0) c.in-Some.ensures.some); begun = c.next_batch.ensures.begun }
 
 pub returns-in-Some-clause-fetches : goal.returns-in-Some-clause-fetches
 returns-in-Some-clause-fetches c =
@@ -28,6 +29,5 @@ returns-in-Some-clause-fetches c =
       made = made_fetched ring (received c.next_batch.new.ring) c.from.result.items is ∙ ap (made_of ring) (sym none) ∙ ap (λ (h : Host). h.made) c.self.view_is;
       left = λ some. absurd (some (ap (λ (h : Host). h.left) (sym c.self.view_is) ∙ none));
       takes = λ next more was known. calls ∙ c.in-Some.ensures.known next more (ap (λ (h : Host). known_items h.ring) c.self.view_is ∙ known);
-      empty = λ gone. let some : 0 < length c.in-Some.calls.items = c.in-Some.ensures.some in
-          let no : length c.in-Some.calls.items ≡ 0 = ap (λ (cs : List DeviceCall). length cs) (sym calls ∙ gone) in absurd (omega (arith, some, no));
+      empty = λ gone. absurd (subst AreToSync (sym calls ∙ gone) c.in-Some.ensures.some);
     }
