@@ -20,3 +20,4 @@ pub use buffered::BufferedDisk;
 pub use error::FileError;
 pub use file::FileDisk;
 pub use volatile::VolatileDisk;
+pub use whole::fill;

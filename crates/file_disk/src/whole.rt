@@ -28,8 +28,8 @@ fn fault(_error: io::Error) -> FileError {
     FileError::Fault
 }
 
-/// Makes these the file's bytes, durably.
-pub(crate) fn fill<F: BackingFile>(file: &mut F, bytes: &[u8]) -> Result<(), FileError>
+/// Makes these the file's bytes, durably, whatever it had, by writes of 4,096 bytes at most. After a `Fault` it may have any bytes.
+pub fn fill<F: BackingFile>(file: &mut F, bytes: &[u8]) -> Result<(), FileError>
     ensures { OnOk result (ReadsForGood bytes.now (F.holds file.new)) }
 {
     file.empty().map_err(fault)?;

@@ -1,18 +1,17 @@
 //! The sectors of a file.
-ghost use Rattle.std.specs.Prelude.{◌≡◌, ◌⊎◌, ◌+◌, ◌^◌, ◌<◌, ◌≤◌, length, option_map, IfOk, IfSome, OnErr, OnOk};
+ghost use Rattle.std.specs.Prelude.{◌≡◌, ◌⊎◌, ◌+◌, ◌^◌, ◌<◌, ◌≤◌, length, option_map, IfOk, IfSome, IsErrOf, OnErr, OnOk};
 ghost use Rattle.block_disk.specs.Device.{SameMoments, TornWrite, synced, written};
-ghost use Rattle.file_disk.specs.Backing.{put_at, settled};
-ghost use Rattle.sector_disk.specs.Size.{bytes_in, place_of};
+ghost use Rattle.file_disk.specs.Backing.{ReadsAsBefore, ReadsForGood, TornFile, put_at, settled};
+ghost use Rattle.sector_disk.specs.Readable.{IsLost};
+ghost use Rattle.sector_disk.specs.Size.{bytes_in, place_of, sector};
+ghost use Rattle.sector_disk.specs.declared.error.SectorError.TheVariants.{Unreadable};
 
 use block_disk::{Fault, Trace, copy_out};
-use file_disk::{BackingFile, Claim};
+use file_disk::{BackingFile, Claim, fill};
 use sector_disk::{PlacesError, SectorError, SectorSize, Sectors};
 use std::alloc::Global;
 use std::io;
 use std::marker::Model;
-
-// How many bytes are written at a time where a file is filled.
-const PAGE: usize = 4096;
 
 /// The sectors of a file, for a disk in two places on it.
 ///
@@ -57,7 +56,8 @@ impl<F: BackingFile + Drop> FileSectors<F> {
         size: SectorSize,
         count: usize,
     ) -> Result<FileSectors<F>, PlacesError>
-        ensures { IfOk result (λ sectors. sectors.size ≡ size) }
+        ensures size { IfOk result (λ sectors. sectors.size ≡ size) }
+        ensures file { IfOk result (λ sectors. sectors.file ≡ option_map settled (F.holds file)) }
     {
         if file.settle().is_err() {
             return Err(PlacesError::Fault);
@@ -96,7 +96,8 @@ impl<F: BackingFile + Drop> FileSectors<F> {
         size: SectorSize,
         count: usize,
     ) -> Result<FileSectors<F>, PlacesError>
-        ensures { IfOk result (λ sectors. sectors.size ≡ size) }
+        ensures size { IfOk result (λ sectors. sectors.size ≡ size) }
+        ensures file { IfOk result (λ sectors. ReadsForGood sectors.device.now.bytes sectors.file) }
     {
         let Some(all) = sectors_for(count, i64::MAX as u64, size) else {
             return Err(PlacesError::TooSmall);
@@ -158,7 +159,8 @@ fn read_areas<F: BackingFile>(
     bytes: &mut [u8],
 ) -> io::Result<usize>
     requires { length bytes.old ≡ place_of size (count + count + 2) }
-    ensures { length bytes.new ≡ length bytes.old }
+    ensures long { length bytes.new ≡ length bytes.old }
+    ensures same { F.holds file.new ≡ F.holds file.old }
 {
     let len = size.bytes();
     let turn = read_gate(file, size, &mut bytes[len..len + len]);
@@ -171,23 +173,13 @@ fn read_areas<F: BackingFile>(
 // Reads the gate: whether it is the second area's turn.
 fn read_gate<F: BackingFile>(file: &mut F, size: SectorSize, gate: &mut [u8]) -> bool
     requires { length gate.old ≡ bytes_in size }
-    ensures { length gate.new ≡ length gate.old }
+    ensures long { length gate.new ≡ length gate.old }
+    ensures same { F.holds file.new ≡ F.holds file.old }
 {
     if file.read_from(size.bytes() as u64, gate).is_err() {
         gate.fill(0);
     }
     gate[0] == 1
-}
-
-// Makes these the file's bytes, durably, a page at a time.
-fn fill<F: BackingFile>(file: &mut F, bytes: &[u8]) -> io::Result<()> {
-    file.empty()?;
-    for page in 0..bytes.len() / PAGE + 1 {
-        let from = page * PAGE;
-        let to = bytes.len().min(from + PAGE);
-        file.write_to(from as u64, &bytes[from..to])?;
-    }
-    file.settle()
 }
 
 // Whether this is the gate, or one of so many sectors from the first on.
@@ -208,7 +200,16 @@ impl<F: BackingFile + Drop> Sectors for FileSectors<F> {
         self.count
     }
 
-    fn read_sector(&mut self, number: u64, out: &mut [u8]) -> Result<(), SectorError> {
+    /// Reads what was read as the file was opened, and leaves the file alone.
+    fn read_sector(&mut self, number: u64, out: &mut [u8]) -> Result<(), SectorError>
+        requires whole { length out.old ≡ bytes_in self.old.size }
+        requires fits { place_of self.old.size number + bytes_in self.old.size ≤ length self.old.device.now.bytes }
+        ensures ok { OnOk result (out.new ≡ sector self.old.size number self.old.device.now.bytes) }
+        ensures unreadable { IsErrOf result Unreadable → IsLost (sector self.old.size number self.old.device.now.bytes) }
+        ensures same { SameMoments self.old.device self.new.device }
+        ensures size { self.new.size ≡ self.old.size }
+        ensures file { self.new.file ≡ self.old.file }
+    {
         if !is_among(number, self.first, self.area) {
             return Err(SectorError::Fault);
         }
@@ -230,6 +231,7 @@ impl<F: BackingFile + Drop> Sectors for FileSectors<F> {
             ⊎ TornWrite (place_of self.old.size number) (length bytes.now) self.old.device self.new.device) }
         ensures size { self.new.size ≡ self.old.size }
         ensures file { OnOk result (self.new.file ≡ option_map (put_at (place_of self.old.size number) bytes.now) self.old.file) }
+        ensures torn { OnErr result (TornFile (place_of self.old.size number) (length bytes.now) self.old.file self.new.file) }
     {
         let at = number * self.size.bytes() as u64;
         let answer = self.file.write_to(at, bytes);
@@ -248,6 +250,7 @@ impl<F: BackingFile + Drop> Sectors for FileSectors<F> {
         ensures fault { OnErr result (SameMoments self.old.device self.new.device) }
         ensures size { self.new.size ≡ self.old.size }
         ensures file { OnOk result (self.new.file ≡ option_map settled self.old.file) }
+        ensures unsettled { OnErr result (ReadsAsBefore self.old.file self.new.file) }
     {
         if self.file.settle().is_err() {
             return Err(Fault);
