@@ -86,6 +86,7 @@ pub fn play_and_recover<D: Disk, E: Disk>(
     ensures running { OnOk result.played (store.new.known.has_failed ≡ store.old.known.has_failed) }
     ensures failed { IfErr result.played (λ e. e.1 ≡ StoreFault → store.new.known.has_failed ≡ true) }
     ensures store_cause { IfErr result.played (λ e. e.1 ≡ StoreFault → HasFailed (D.device store.old.disk).failures (D.device store.new.disk).failures) }
+    ensures sequence { store.new.known.committed.sequence ≤ store.old.known.committed.sequence + length calls.now }
     ensures recovered { MatchResult result.recovered (λ r. IsRecovery (E.device left) (E.device r.0.disk) r.0 r.1) (λ back. RefusesRecovery (E.device left).now.bytes back.1) }
     ensures any_moment { IfOk result.recovered (λ r. (s : Shape) → IsStudyOf (E.device left).now.bytes s → LeavesOnly (synced (E.device left)) (E.device r.0.disk) (IsOnTheWay s)) }
     ensures untouched { IfErr result.recovered (λ back. (back.1 ≡ Fault) ⊎ SameMoments (synced (E.device left)) (E.device back.0)) }
