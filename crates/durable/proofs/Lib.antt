@@ -7,6 +7,7 @@ pub mod Loggable
 pub mod Storing
 pub mod Settling
 pub mod Early
+pub mod Sequences
 pub mod Playing
 pub mod Ending
 pub mod AllKept

@@ -18,10 +18,12 @@ use Rattle.store_past.specs.declared.error.StoreError.TheVariants.{Fault}
 use Rattle.durable.specs.declared.store_call.StoreCall.{StoreCall}
 use Rattle.durable.specs.declared.store_call.StoreCall.TheVariants.{Apply, Settle, Trim}
 use Rattle.store_memory.specs.Fresh.{IsOfLanes}
+use Rattle.durable.specs.Runs.{TakesSequences}
 use Rattle.durable.specs.Calls.{AreQuiet, IsClean, IsQuiet, MakeAll, Makes, Reached, RefusesApply, RefusesSettle, RefusesTrim, RefusesCall, ShowsAfterSome, StandsAfterSome, StoppedAt}
 use Rattle.store_past.specs.Past.{Past, applied, after_apply, after_settle, after_trim}
 use Rattle.durable.specs.Store.{Known, HasPast, ShowsStep, StandsForStep, doubt_in}
 use Rattle.durable.specs.declared.doubt.Doubt.{Doubt}
+use Rattle.durable.proofs.Sequences.{takes_none, takes_more, takes_then}
 use Rattle.durable.proofs.Showing.{past_stands}
 use Rattle.durable.proofs.Early.{early, first_of_more, within_more, next_of_more, some_of_more}
 
@@ -81,6 +83,8 @@ pub record Played (old new : Known) (d0 d1 : Device) (calls : List StoreCall) (n
   pub layout : new.layout ≡ old.layout
   pub running : new.has_failed ≡ old.has_failed
   pub later : d0.failures ≤ d1.failures
+  -- each takes one sequence of the control at most
+  pub takes : TakesSequences n old d0 new d1
   pub made : (s : Setting) (p : Past) → HasPast old s p d0 → (q : Past) × MakeAll s p (take n calls) q × HasPast new s q d1
   pub shown : (s : Setting) (p : Past) → HasPast old s p d0 → LeavesOnly d0 d1 (ShowsAfterSome old.layout s p calls)
   pub stands : (s : Setting) (p : Past) → HasPast old s p d0 → LeavesOnly d0 d1 (StandsAfterSome old.layout s p calls)
@@ -92,6 +96,7 @@ played_none old d calls = record {
   layout = refl;
   running = refl;
   later = omega arith;
+  takes = takes_none old old d d refl refl;
   made = λ s p has. (p, refl, has);
   shown = λ s p has. begin d (ShowsAfterSome old.layout s p calls);
   stands = λ s p has. begin d (StandsAfterSome old.layout s p calls);
@@ -148,14 +153,18 @@ module _ (old mid : Known) (d0 d1 d2 : Device) (calls : List StoreCall) (n : ℕ
         stands = subst (λ l. StandsForStep l s made.0 (doubt_in (slice_get calls n)) image) was.layout (past_stands mid s made.0 (doubt_in (slice_get calls n)) d1 made.2 image shown);
       }) (shows s made.0 made.2))
 
-  pub played_more : (new : Known) → new.layout ≡ mid.layout → (mid.has_failed ≡ false) × (new.has_failed ≡ false) → d1.failures ≤ d2.failures →
+  pub takes_on : (new : Known) → TakesSequences 1 mid d1 new d2 → TakesSequences (length calls) old d0 new d2
+  takes_on new takes = takes_more (n + 1) (length calls) old new d0 d2 (omega (arith, lt)) (takes_then n 1 old mid new d0 d1 d2 was.layout was.takes takes)
+
+  pub played_more : (new : Known) → new.layout ≡ mid.layout → (mid.has_failed ≡ false) × (new.has_failed ≡ false) → d1.failures ≤ d2.failures → TakesSequences 1 mid d1 new d2 →
       ((s : Setting) (p : Past) → HasPast mid s p d1 → (q : Past) × Makes s p call q × HasPast new s q d2) →
       ((s : Setting) (p : Past) → HasPast mid s p d1 → IsQuiet s p call → d2 ≡ d1) → Played old new d0 d2 calls (n + 1)
-  played_more new layout running later makes quiet = record {
+  played_more new layout running later takes makes quiet = record {
     within = omega arith;
     layout = layout ∙ was.layout;
     running = running.1 ∙ sym running.0 ∙ was.running;
     later = omega (arith, was.later);
+    takes = takes_then n 1 old mid new d0 d1 d2 was.layout was.takes takes;
     made = λ s p has.
         let made = was.made s p has in
         let next = makes s made.0 made.2 in
@@ -176,6 +185,9 @@ module _ (old mid : Known) (d0 d1 d2 : Device) (calls : List StoreCall) (n : ℕ
 pub played_all : (old new : Known) (d0 d1 : Device) (calls : List StoreCall) (n : ℕ) → Played old new d0 d1 calls n → length calls ≤ n →
     (s : Setting) (p : Past) → HasPast old s p d0 → (q : Past) × MakeAll s p calls q × HasPast new s q d1
 played_all old new d0 d1 calls n was le s p has = subst (λ cs. (q : Past) × MakeAll s p cs q × HasPast new s q d1) (take_all n calls le) (was.made s p has)
+
+pub takes_all : (old new : Known) (d0 d1 : Device) (calls : List StoreCall) (n : ℕ) → Played old new d0 d1 calls n → TakesSequences (length calls) old d0 new d1
+takes_all old new d0 d1 calls n was = takes_more n (length calls) old new d0 d1 was.within was.takes
 
 -- a fault has its cause, whatever was called before
 pub fault_since : {T : Type 0} (a b c : ℕ) (result : Result T StoreError) (reason : StoreError) → a ≤ b → HasCause b c Fault result → result ≡ Err reason → reason ≡ Fault → HasFailed a c
@@ -244,11 +256,11 @@ module _ (old mid : Known) (d0 d1 d2 : Device) (calls : List StoreCall) (n : ℕ
       }) (makes_shown s made.0 made.2)))
 
   -- one call more
-  pub played_on : (new : Known) → new.layout ≡ mid.layout → (mid.has_failed ≡ false) × (new.has_failed ≡ false) → d1.failures ≤ d2.failures →
+  pub played_on : (new : Known) → new.layout ≡ mid.layout → (mid.has_failed ≡ false) × (new.has_failed ≡ false) → d1.failures ≤ d2.failures → TakesSequences 1 mid d1 new d2 →
       ((s : Setting) (p : Past) → HasPast mid s p d1 → (q : Past) × Makes s p call q × HasPast new s q d2) →
       ((s : Setting) (p : Past) → HasPast mid s p d1 → IsQuiet s p call → d2 ≡ d1) → PlayedOn old new d0 d2 calls (n + 1)
-  played_on new layout running later makes quiet =
-      let more : Played old new d0 d2 calls (n + 1) = played_more old mid d0 d1 d2 calls n was.played lt call is makes_shown new layout running later makes quiet in
+  played_on new layout running later takes makes quiet =
+      let more : Played old new d0 d2 calls (n + 1) = played_more old mid d0 d1 d2 calls n was.played lt call is makes_shown new layout running later takes makes quiet in
       record {
         played = more;
         first = first_on;
@@ -272,7 +284,7 @@ module _ (old mid : Known) (d0 d1 d2 : Device) (calls : List StoreCall) (n : ℕ
                 before = split.before;
                 first = split.first;
                 after = subst (Played split.known new split.device d2 (drop k calls)) place
-                    (played_more split.known mid split.device d1 d2 (drop k calls) (n - k) split.after (behind_lt k some) call (call_behind calls n k call some lt is) makes_shown new layout running later makes quiet);
+                    (played_more split.known mid split.device d1 d2 (drop k calls) (n - k) split.after (behind_lt k some) call (call_behind calls n k call some lt is) makes_shown new layout running later takes makes quiet);
               }
         ];
       }

@@ -1,13 +1,15 @@
 -- Calls of a store that were made one after another, whoever made them, and what a crash leaves of them (this project's own).
-use Rattle.std.specs.Prelude.{ℕ, ◌≡◌, ◌≤◌, Bool, false, List, [], ◌∷◌, ◌++◌}
+use Rattle.std.specs.Prelude.{ℕ, ◌≡◌, ◌≤◌, ◌+◌, Bool, false, List, [], ◌∷◌, ◌++◌}
 use Rattle.heap_model.specs.Setting.{Setting}
 use Rattle.block_disk.specs.Device.{Device}
 use Rattle.block_disk.specs.Images.{LeavesOnly}
 use Rattle.image.specs.declared.layout.Layout.{Layout}
 use Rattle.undo_log.specs.Dropped.{undo_logs}
 use Rattle.store_image.specs.Consistent.{ShowsPast}
+use Rattle.store_image.specs.Sequences.{ShowsUpTo}
 use Rattle.store_past.specs.Past.{Past, IsPast}
 use Rattle.durable.specs.Calls.{MakeAll, ShowsAfterSome}
+use Rattle.durable.specs.Store.{Known}
 use Rattle.durable.specs.declared.store_call.StoreCall.{StoreCall}
 use Rattle.durable.specs.declared.store_call.StoreCall.TheVariants.{Log, Home as HomeStep, Settle, Trim}
 
@@ -37,3 +39,8 @@ pub record HasRun (l : Layout) (s : Setting) (p : Past) (old : Device) (q : Past
   pub is_cut : IsCut cut_off
   pub whole : has_failed ≡ false → cut_off ≡ []
   pub shown : LeavesOnly old new (ShowsAfterSome l s p (calls ++ cut_off))
+
+-- The control takes so many sequences at most: the one that counts, and that of each image that a crash left since the first device.
+pub record TakesSequences (most : ℕ) (old : Known) (before : Device) (new : Known) (now : Device) : Type 0 where
+  pub known : new.committed.sequence ≤ old.committed.sequence + most
+  pub shown : LeavesOnly before now (ShowsUpTo old.layout (old.committed.sequence + most))

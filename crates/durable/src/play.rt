@@ -1,10 +1,10 @@
 //! A list of calls, and what each image stands for while they run.
-ghost use Rattle.std.specs.Prelude.{◌≡◌, ◌⊎◌, true, false, Some, slice_get, IfErr, IsErrOf, OnOk};
+ghost use Rattle.std.specs.Prelude.{◌≡◌, ◌⊎◌, ◌+◌, ◌≤◌, true, false, Some, length, slice_get, IfErr, IsErrOf, OnOk};
 ghost use Rattle.block_disk.specs.Device.{HasFailed};
 ghost use Rattle.durable.specs.Plays.{CallsNone, MakesCall, PlaysAll, PlaysQuietly, ReachesEach, RefusesThe, ShowsSomeMeanwhile, StandsForSomeMeanwhile, StopsAt};
 ghost use Rattle.durable.specs.Store.{doubt_in};
 ghost use Rattle.store_past.specs.declared.error.StoreError.TheVariants.{Fault};
-ghost use Rattle.durable.specs.Steps.{Keeps, OnlyDeviceFaults, ShowsMeanwhile};
+ghost use Rattle.durable.specs.Steps.{Keeps, OnlyDeviceFaults, ShowsMeanwhile, ShowsUpToMeanwhile};
 
 use crate::store::Store;
 use crate::store_call::StoreCall;
@@ -18,6 +18,8 @@ impl<D: Disk> Store<D> {
     /// Whatever a crash leaves at any moment stands for the heap that was acknowledged after some of the calls, or that the
     /// next settling acknowledges. At the moment when a call had been made that changes sides: from then on it is of that call
     /// and later ones alone, and up to then of that call and earlier ones alone.
+    ///
+    /// Each call takes one sequence of the control at most.
     pub fn play(&mut self, calls: &[StoreCall]) -> Result<(), (usize, StoreError)>
         ensures ok { PlaysAll D.device self.old self.new calls.now result }
         ensures stopped { StopsAt D.device self.old self.new calls.now result }
@@ -29,6 +31,8 @@ impl<D: Disk> Store<D> {
         ensures failed { IfErr result (λ e. e.1 ≡ Fault → self.new.known.has_failed ≡ true) }
         ensures in_doubt { IfErr result (λ e. e.1 ≡ Fault → self.new.known.doubt ≡ doubt_in (slice_get calls.now e.0)) }
         ensures cause { IfErr result (λ e. e.1 ≡ Fault → HasFailed (D.device self.old.disk).failures (D.device self.new.disk).failures) }
+        ensures sequence { self.new.known.committed.sequence ≤ self.old.known.committed.sequence + length calls.now }
+        ensures any_sequence { ShowsUpToMeanwhile D.device self.old self.new (self.old.known.committed.sequence + length calls.now) }
         ensures layout { self.new.known.layout ≡ self.old.known.layout }
     {
         for (place, call) in calls.iter().enumerate() {
@@ -51,6 +55,8 @@ impl<D: Disk> Store<D> {
         ensures in_doubt { IsErrOf result Fault → self.new.known.doubt ≡ doubt_in (Some call) }
         ensures shown { ShowsMeanwhile D.device (doubt_in (Some call)) self.old self.new }
         ensures cause { OnlyDeviceFaults D.device self.old self.new result }
+        ensures sequence { self.new.known.committed.sequence ≤ self.old.known.committed.sequence + 1 }
+        ensures any_sequence { ShowsUpToMeanwhile D.device self.old self.new (self.old.known.committed.sequence + 1) }
         ensures layout { self.new.known.layout ≡ self.old.known.layout }
     {
         match call {

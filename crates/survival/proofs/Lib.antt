@@ -17,6 +17,7 @@ pub mod Unsettled
 pub mod Earlier
 pub mod SideLemmas
 pub mod RunAgain
+pub mod Unworn
 pub mod Histories
 pub mod Running
 pub mod Upgrades

@@ -1,5 +1,5 @@
 -- What a recovery leaves of an image that stands for the kept heap, wherever it ends.
-use Rattle.std.proofs.Common.{ℕ, Result, Ok, Err, IfOk, IfErr, MatchResult, ◌≡◌, ◌∙◌, ◌+◌, ◌<◌, ⊎_elim, List, [], ◌∷◌, length, refl, sym, ap, subst, inl, inr, arith}
+use Rattle.std.proofs.Common.{ℕ, Result, Ok, Err, IfOk, IfErr, MatchResult, ◌≡◌, ◌∙◌, ◌+◌, ◌<◌, ◌≤◌, ⊎_elim, List, [], ◌∷◌, length, refl, sym, ap, subst, inl, inr, arith}
 use Rattle.heap_model.specs.Setting.{Setting}
 use Rattle.block_disk.specs.Device.{Device, Moment, synced}
 use Rattle.block_disk.specs.Images.{Always, LeavesOnly}
@@ -16,7 +16,7 @@ use Rattle.recover.proofs.RecoveryLemmas.{not_old}
 use Rattle.recover.specs.declared.report.Report.{Report}
 use Rattle.recover.specs.Study.{IsStudyOf, held_by}
 use Rattle.recover.specs.declared.studied.Study.{Study}
-use Rattle.survival.specs.Again.{AreCutOff, Attempt, IsKept, ByStore, ByOldStore, ByRecovery, CurrentOnLaw, KeptAcceptedLaw, KeptAgainLaw, KeptHeapLaw, KeptOnLaw, KeptReportLaw, ReportsKept, StaysKept, TellsAgain, TriedLaw}
+use Rattle.survival.specs.Again.{AreCutOff, Attempt, IsKept, ByStore, ByOldStore, ByRecovery, CurrentOnLaw, KeptAcceptedLaw, KeptAgainLaw, KeptHeapLaw, KeptOnLaw, KeptReportLaw, ReportsKept, StaysKept, StudiedOnLaw, TellsAgain, TriedLaw, TriesTakeLaw}
 use Rattle.survival.specs.WholeRun.{MayBeLeft}
 use Rattle.survival.proofs.Accepts.{accepted, finds, finds_heap, of_today}
 
@@ -52,7 +52,7 @@ leaves_on old new P all way (inr (inr (study, of, leaves))) =
     and_then old (synced old) new P (after_sync old (synced old) P all (leaves_synced old (synced old) refl)).0 (weaker (synced old) new (IsOnTheWay study) P (way study of) leaves)
 
 -- what a crash at any moment of it leaves
-left_on : (old new : Device) (P : List ℕ → Type 0) → Always old P → LeavesOnly old new P → (image : List ℕ) → MayBeLeft old new image → P image
+pub left_on : (old new : Device) (P : List ℕ → Type 0) → Always old P → LeavesOnly old new P → (image : List ℕ) → MayBeLeft old new image → P image
 left_on old new P all leaves image left = ⊎_elim (λ before. all image (left_now old image before)) (λ is. is) (leaves.each (length old.past) image (omega arith) left)
 
 module _ (one : OneStudyLaw) (l : Layout) (s : Setting) (p : Past) (old new : Device) (all : Always old (IsKept l s p)) where
@@ -157,6 +157,45 @@ tried_law one attempts image last first again of tries of_last =
     } in
     let found : IsTried first last = tried_on one first attempts image last begun tries in
     same_told first found.again again (one last again found.again of_last found.of) found.tells
+
+-- The control's sequence over several tries.
+
+-- the image's study is of a control of this sequence at most
+record IsUpTo (most : ℕ) (image : List ℕ) : Type 0 where
+  study : Study
+  of : IsStudyOf image study
+  sequence : study.control.sequence ≤ most
+
+up_to_more : (most more : ℕ) (image : List ℕ) → most ≤ more → IsUpTo most image → IsUpTo more image
+up_to_more most more image le is = record { study = is.study; of = is.of; sequence = omega (arith, is.sequence, le) }
+
+-- of each image on the way it is one more at most
+up_to_way : OneStudyLaw → (most : ℕ) (old : List ℕ) → IsUpTo most old → (study : Study) → IsStudyOf old study → (image : List ℕ) → IsOnTheWay study image → IsUpTo (most + 1) image
+up_to_way one most old is study of image way =
+    let same : study.control.sequence ≡ is.study.control.sequence = ap (λ (c : Control). c.sequence) (one old study is.study of is.of).controls in
+    ⊎_elim
+    (λ there. record { study = study; of = there; sequence = omega (arith, same, is.sequence) })
+    (λ ended. record { study = ended.0; of = ended.2; sequence = omega (arith, same, is.sequence, ap (λ (c : Control). c.sequence) ended.1.control_is) })
+    way
+
+up_to_tries : OneStudyLaw → (attempts : List Attempt) (most : ℕ) (image last : List ℕ) → IsUpTo most image → AreCutOff attempts image last → IsUpTo (most + length attempts) last
+up_to_tries one [] most image last is same = up_to_more most (most + 0) last (omega arith) (subst (IsUpTo most) (sym same) is)
+up_to_tries one (a ∷ later) most image last is (now, cut_off, (next, left, rest)) =
+    let here : IsUpTo most a.old.now.bytes = subst (IsUpTo most) (sym (ap (λ (m : Moment). m.bytes) now)) is in
+    let all : Always a.old (IsUpTo (most + 1)) = left_alone (IsUpTo (most + 1)) image a.old now (up_to_more most (most + 1) image (omega arith) is) in
+    let then : IsUpTo (most + 1) next = left_on a.old a.new (IsUpTo (most + 1)) all (leaves_on a.old a.new (IsUpTo (most + 1)) all (up_to_way one most a.old.now.bytes here) cut_off) next left in
+    up_to_more (most + 1 + length later) (most + length (a ∷ later)) last (omega arith) (up_to_tries one later (most + 1) next last then rest)
+
+tries_up_to : OneStudyLaw → (attempts : List Attempt) (image last : List ℕ) (first : Study) → IsStudyOf image first → AreCutOff attempts image last → IsUpTo (first.control.sequence + length attempts) last
+tries_up_to one attempts image last first of tries = up_to_tries one attempts first.control.sequence image last (record { study = first; of = of; sequence = omega arith }) tries
+
+pub studied_on : OneStudyLaw → StudiedOnLaw
+studied_on one attempts image last first of tries = let found = tries_up_to one attempts image last first of tries in (found.study, found.of)
+
+pub tries_take : OneStudyLaw → TriesTakeLaw
+tries_take one attempts image last first again of tries of_last =
+    let found = tries_up_to one attempts image last first of tries in
+    omega (arith, ap (λ (c : Control). c.sequence) (one last again found.study of_last found.of).controls, found.sequence)
 
 -- The version over several tries.
 

@@ -1,5 +1,5 @@
 -- What survives of a heap of version 1.
-use Rattle.std.proofs.Common.{ℕ, ◌≡◌, ◌∙◌, ◌⊎◌, List, sym, subst, Result, Ok, Err, IfErr, IfOk, MatchResult}
+use Rattle.std.proofs.Common.{ℕ, ◌∙◌, List, sym, subst, Result, Ok, Err, IfErr, IfOk, MatchResult}
 use Rattle.heap_model.specs.History.{log_of}
 use Rattle.heap_model.specs.Setting.{Setting}
 use Rattle.block_disk.specs.Device.{Device}

@@ -1,6 +1,6 @@
 -- Recovery, or an upgrade, that is cut off, or answers a fault, and is run again: any number of times it is of the same heap (this
 -- project's own).
-use Rattle.std.specs.Prelude.{ℕ, ◌≡◌, ◌+◌, ◌⊎◌, ◌<◌, List, [], ◌∷◌}
+use Rattle.std.specs.Prelude.{ℕ, ◌≡◌, ◌+◌, ◌⊎◌, ◌<◌, ◌≤◌, List, [], ◌∷◌, length}
 use Rattle.heap_model.specs.Cuts.{counts_of}
 use Rattle.heap_model.specs.Setting.{Setting}
 use Rattle.block_disk.specs.Device.{Device}
@@ -92,6 +92,14 @@ pub record TellsAgain (first : Study) (sequence : ℕ) (heap : List ℕ) (report
 -- number of fields that take an old value back included.
 abbrev pub TriedLaw : Type 0
 TriedLaw = (attempts : List Attempt) (image last : List ℕ) (first again : Study) → IsStudyOf image first → AreCutOff attempts image last → IsStudyOf last again → TellsAgain first (again.control.sequence + 1) again.heap.items again.report
+
+-- Each image on the way from one that has a study has one too.
+abbrev pub StudiedOnLaw : Type 0
+StudiedOnLaw = (attempts : List Attempt) (image last : List ℕ) (first : Study) → IsStudyOf image first → AreCutOff attempts image last → (again : Study) × IsStudyOf last again
+
+-- A try takes the control's sequence on by one at most.
+abbrev pub TriesTakeLaw : Type 0
+TriesTakeLaw = (attempts : List Attempt) (image last : List ℕ) (first again : Study) → IsStudyOf image first → AreCutOff attempts image last → IsStudyOf last again → again.control.sequence ≤ first.control.sequence + length attempts
 
 -- The heap is one acknowledged after some of the calls, and what is reported as kept are its sections, unless a recovery has ended before.
 pub record SurvivesAgain (x : Known) (s : Setting) (p : Past) (calls : List StoreCall) (heap : List ℕ) (report : Report) : Type 0 where

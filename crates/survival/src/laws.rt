@@ -2,11 +2,11 @@
 ghost use Rattle.survival.specs.Accepted.{AcceptedLaw, CurrentLaw, FoundHeapLaw, FoundLaw, LeftLaw};
 ghost use Rattle.survival.specs.EachImage.{EachImageLaw, HeldStudyLaw};
 ghost use Rattle.survival.specs.History.{HistoryLaw};
-ghost use Rattle.survival.specs.Running.{RunLaw};
+ghost use Rattle.survival.specs.Running.{RunLaw, TakesOnLaw, UnwornLaw};
 ghost use Rattle.survival.specs.Unsettled.{UnsettledLaw};
 ghost use Rattle.survival.specs.Sides.{SidesLaw};
 ghost use Rattle.survival.specs.Upgrade.{OldHistoryLaw};
-ghost use Rattle.survival.specs.Again.{CurrentOnLaw, HasStudyLaw, KeptAcceptedLaw, KeptAgainLaw, KeptHeapLaw, KeptOnLaw, KeptReportLaw, TriedLaw};
+ghost use Rattle.survival.specs.Again.{CurrentOnLaw, HasStudyLaw, KeptAcceptedLaw, KeptAgainLaw, KeptHeapLaw, KeptOnLaw, KeptReportLaw, StudiedOnLaw, TriedLaw, TriesTakeLaw};
 
 use history_laws::{log_law, order_law};
 use recover::{one_study_law, studied_law};
@@ -64,6 +64,13 @@ pub fn run_law()
     has_study_law();
 }
 
+/// No run wears the control out by itself: what calls take of its sequences adds up, whoever made them one after another, and a crash
+/// leaves an image that recovery refuses as worn only where the control began within so many of its last sequence.
+pub fn sequence_law()
+    ensures on { TakesOnLaw }
+    ensures unworn { UnwornLaw }
+{}
+
 /// Each image that a store leaves, or a recovery on the way, has a study. So whatever is said of a study of such an image is said
 /// of one that is there.
 pub fn has_study_law()
@@ -73,7 +80,8 @@ pub fn has_study_law()
 /// Recovery that a crash cuts off, or that answers a fault, may be run again, any number of times, and so may an upgrade, also
 /// of an image that a store of version 1 left: each time it takes the image, finds the kept heap, reports the acknowledged
 /// sections until a try has ended, and leaves only images of which the same may be said. Until then all else that it reports is
-/// what the first try does: what is dropped, why, and how many fields take an old value back. No try makes an image old.
+/// what the first try does: what is dropped, why, and how many fields take an old value back. No try makes an image old, or takes
+/// more than one sequence of the control.
 pub fn again_law()
     ensures heap { KeptHeapLaw }
     ensures report { KeptReportLaw }
@@ -82,6 +90,8 @@ pub fn again_law()
     ensures on { KeptOnLaw }
     ensures current { CurrentOnLaw }
     ensures tried { TriedLaw }
+    ensures studied { StudiedOnLaw }
+    ensures sequences { TriesTakeLaw }
 {
     one_study_law();
     studied_law();

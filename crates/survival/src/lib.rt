@@ -7,7 +7,8 @@
 //! [`play_and_recover`] says the whole of it: the heap after a crash is that of the acknowledged sections, and of nothing else;
 //! calls that acknowledge nothing leave it as it was ([`unsettled_law`]). Where the calls apply the records of a legal history
 //! of threads, in whatever order is allowed, that heap is the history's ([`history_law`]); so it is where the calls were made one
-//! after another by whomever, a thread's helper say ([`run_law`]). Of a heap of version 1, which a store without transient fields
+//! after another by whomever, a thread's helper say ([`run_law`]). Each call takes one sequence of the control at most, and so does
+//! each try to recover; what calls take adds up ([`sequence_law`]). Of a heap of version 1, which a store without transient fields
 //! left, an upgrade gives the same ([`upgrade_left`], [`old_history_law`]).
 #![tactic(auto)]
 
@@ -17,7 +18,7 @@ mod whole_run;
 
 pub use laws::{
     accepted_law, again_law, each_image_law, found_law, has_study_law, history_law,
-    old_history_law, run_law, sides_law, unsettled_law,
+    old_history_law, run_law, sequence_law, sides_law, unsettled_law,
 };
 pub use old_heap::upgrade_left;
 pub use whole_run::{WholeRun, play_and_recover};

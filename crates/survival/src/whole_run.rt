@@ -1,5 +1,5 @@
 //! A whole run: calls, a crash, recovery.
-ghost use Rattle.std.specs.Prelude.{◌≡◌, ◌⊎◌, ◌≤◌, ℕ, List, true, drop, IfErr, IfOk, MatchResult, OnOk};
+ghost use Rattle.std.specs.Prelude.{◌≡◌, ◌⊎◌, ◌+◌, ◌-◌, ◌^◌, ◌≤◌, ℕ, List, true, false, drop, length, IfErr, IfOk, MatchResult, OnOk};
 ghost use Rattle.block_disk.specs.Device.{HasFailed, SameMoments, synced};
 ghost use Rattle.block_disk.specs.Images.{LeavesOnly};
 ghost use Rattle.heap_model.specs.Cuts.{counts_of};
@@ -13,7 +13,7 @@ ghost use Rattle.recover.specs.Recovery.{IsCutOff, IsOnTheWay, IsRecovery, Leave
 ghost use Rattle.recover.specs.Study.{IsStudyOf};
 ghost use Rattle.survival.specs.Again.{AreCutOff, Attempt, SurvivesAgain, TellsAgain};
 ghost use Rattle.survival.specs.WholeRun.{CannotRecover, MayBeLeft, Survives, SurvivesBy};
-ghost use Rattle.recover.specs.declared.error.RecoverError.TheVariants.{Fault};
+ghost use Rattle.recover.specs.declared.error.RecoverError.TheVariants.{Fault, Worn};
 ghost use Rattle.recover.specs.declared.studied.Study.{Study as Shape};
 
 use crate::laws::{again_law, has_study_law};
@@ -49,8 +49,9 @@ pub struct WholeRun<E: Disk> {
 /// follow. Each image on this way has a study, so what is said below of a study of it is said of one that is there.
 ///
 /// The device `left` stands for the machine after the crash: it may be any that holds such bytes. It is refused only where
-/// a call of it fails, memory is wanting, or the control's sequence is at its last value. What a refusal of either leaves is
-/// what [`Store::play`] and [`recover`] say.
+/// a call of it fails, memory is wanting, or the control's sequence is at its last value: of a store that hadn't failed, only
+/// where it began within as many of that value as there were calls and tries. What a refusal of either leaves is what
+/// [`Store::play`] and [`recover`] say.
 pub fn play_and_recover<D: Disk, E: Disk>(
     alloc: Global,
     store: &mut Store<D>,
@@ -75,6 +76,9 @@ pub fn play_and_recover<D: Disk, E: Disk>(
     ensures studied { (s : Setting) (p : Past) → HasPast store.old.known s p (D.device store.old.disk)
         → (image : List ℕ) (attempts : List Attempt) → MayBeLeft (D.device store.old.disk) (D.device store.new.disk) image → AreCutOff attempts image (E.device left).now.bytes
         → (study : Shape) × IsStudyOf (E.device left).now.bytes study }
+    ensures unworn { (s : Setting) (p : Past) → HasPast store.old.known s p (D.device store.old.disk) → store.old.known.has_failed ≡ false
+        → (image : List ℕ) (attempts : List Attempt) → MayBeLeft (D.device store.old.disk) (D.device store.new.disk) image → AreCutOff attempts image (E.device left).now.bytes
+        → IfErr result.recovered (λ back. back.1 ≡ Worn → 2 ^ 64 - 1 ≤ store.old.known.committed.sequence + length calls.now + length attempts) }
     ensures played { (s : Setting) (p : Past) → HasPast store.old.known s p (D.device store.old.disk)
         → OnOk result.played ((q : Past) × MakeAll s p calls.now q × HasPast store.new.known s q (D.device store.new.disk)) }
     ensures stopped { (s : Setting) (p : Past) → HasPast store.old.known s p (D.device store.old.disk)
@@ -82,6 +86,7 @@ pub fn play_and_recover<D: Disk, E: Disk>(
     ensures running { OnOk result.played (store.new.known.has_failed ≡ store.old.known.has_failed) }
     ensures failed { IfErr result.played (λ e. e.1 ≡ StoreFault → store.new.known.has_failed ≡ true) }
     ensures store_cause { IfErr result.played (λ e. e.1 ≡ StoreFault → HasFailed (D.device store.old.disk).failures (D.device store.new.disk).failures) }
+    ensures sequence { store.new.known.committed.sequence ≤ store.old.known.committed.sequence + length calls.now }
     ensures recovered { MatchResult result.recovered (λ r. IsRecovery (E.device left) (E.device r.0.disk) r.0 r.1) (λ back. RefusesRecovery (E.device left).now.bytes back.1) }
     ensures any_moment { IfOk result.recovered (λ r. (s : Shape) → IsStudyOf (E.device left).now.bytes s → LeavesOnly (synced (E.device left)) (E.device r.0.disk) (IsOnTheWay s)) }
     ensures untouched { IfErr result.recovered (λ back. (back.1 ≡ Fault) ⊎ SameMoments (synced (E.device left)) (E.device back.0)) }

@@ -20,4 +20,3 @@ pub mod ClosingReasons
 pub mod Sent
 pub mod Completing
 pub mod Besides
-pub mod Sequences

@@ -15,9 +15,10 @@ use Rattle.monitor.specs.Views.{noted}
 use Rattle.store_past.specs.Past.{Past, IsPast, IsTrimmed, applied}
 use Rattle.store_past.specs.declared.error.StoreError.{StoreError}
 use Rattle.store_past.specs.declared.error.StoreError.TheVariants.{Failed, BadLane, BadId, Worn, NotNext, TooLong, LogFull, Unwritten, Fault, Unfinished}
-use Rattle.durable.specs.Runs.{HasRun, IsLeftBy}
+use Rattle.durable.specs.Runs.{HasRun, IsLeftBy, TakesSequences}
 use Rattle.durable.specs.Store as stores
 use Rattle.durable.specs.Store.{Known, HasPast}
+use Rattle.durable.proofs.Sequences.{takes_more, takes_none, takes_then}
 use Rattle.durable.proofs.Running.{left_always, ran_applied, ran_less, ran_none, ran_then}
 use Rattle.trim_helper.specs.Calls.{AreStuck, Drains, HasGoneOn, Rounds}
 use Rattle.trim_helper.specs.Counts.{AddsCounts, StandForCuts, WasCount}
@@ -28,8 +29,7 @@ use Rattle.trim_helper.specs.Parts.{HasDrained, IsServing, IsWhole, Parts, takin
 use Rattle.trim_helper.specs.Rings.{received_of, known_of, held_back, waiting_in, stream}
 use Rattle.trim_helper.specs.Moves.{SameRings}
 use Rattle.trim_helper.specs.Taken.{Taking, HasTaken, Advances, AllStuck, applied_more, trimmed_of}
-use Rattle.trim_helper.specs.Settled.{HasSame, IsSettled, RefusesRound, SettlesAndTrimsApplied, TakesSequences}
-use Rattle.trim_helper.proofs.Sequences.{takes_more, takes_none, takes_then}
+use Rattle.trim_helper.specs.Settled.{HasSame, IsSettled, RefusesRound, SettlesAndTrimsApplied}
 use Rattle.heap_model.specs.Log.{IsLegal}
 use Rattle.trim_helper.specs.Closed.{AreSent, Stood}
 use Rattle.trim_helper.specs.declared.ended.Ended.{Ended}

@@ -11,7 +11,7 @@ use Rattle.store_image.specs.Sequences.{ShowsUpTo}
 use Rattle.store_past.specs.Past.{Past, applied}
 use Rattle.store_past.specs.declared.error.StoreError.{StoreError}
 use Rattle.store_past.specs.declared.error.StoreError.TheVariants.{Failed, Fault}
-use Rattle.durable.specs.Runs.{HasRun, IsLeftBy}
+use Rattle.durable.specs.Runs.{HasRun, IsLeftBy, TakesSequences}
 use Rattle.durable.specs.Store.{Known, HasPast}
 use Rattle.monitor.specs.Seats.{Final, Helping, Home}
 use Rattle.monitor.specs.Words.{setting_of}
@@ -24,7 +24,7 @@ use Rattle.trim_helper.specs.Helping.{IsBehind, IsHelper, taken_in}
 use Rattle.trim_helper.specs.Moves.{SameRings}
 use Rattle.trim_helper.specs.Parts.{Parts, IsServing, taking_of}
 use Rattle.trim_helper.specs.Rings.{received_of}
-use Rattle.trim_helper.specs.Settled.{RefusesRound, TakesSequences}
+use Rattle.trim_helper.specs.Settled.{RefusesRound}
 use Rattle.trim_helper.specs.Taken.{Taking, HasTaken, IsLaneStuck, applied_more, trimmed_of}
 use Rattle.trim_helper.specs.declared.draining.TheConstants.{LOOKS}
 use Rattle.trim_helper.specs.declared.close_error.CloseError.{CloseError}

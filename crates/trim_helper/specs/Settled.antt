@@ -1,11 +1,9 @@
 -- What making records durable makes of a past.
-use Rattle.std.specs.Prelude.{ℕ, ◌≡◌, ◌<◌, ◌≤◌, ◌⊎◌, ◌+◌, ◌-◌, ◌^◌, if◌then◌else◌, Bool, true, false, [], Result, OnOk, OnErr, IfErr, IsErrOf}
+use Rattle.std.specs.Prelude.{ℕ, ◌≡◌, ◌<◌, ◌≤◌, ◌⊎◌, ◌-◌, ◌^◌, if◌then◌else◌, Bool, true, false, [], Result, OnOk, OnErr, IfErr, IsErrOf}
 use Rattle.heap_model.specs.Setting.{Setting}
 use Rattle.heap_model.specs.Sections.{actions}
 use Rattle.heap_model.specs.Cuts.{IsStable}
 use Rattle.block_disk.specs.Device.{Device}
-use Rattle.block_disk.specs.Images.{LeavesOnly}
-use Rattle.store_image.specs.Sequences.{ShowsUpTo}
 use Rattle.store_past.specs.Past.{Past, IsTrimmed, applied}
 use Rattle.durable.specs.Calls.{RefusesHome}
 use Rattle.durable.specs.Runs.{HasRun}
@@ -36,11 +34,6 @@ pub record IsSettled (s : Setting) (p : Past) : Type 0 where
   pub logged : p.fresh ≡ []
   pub clean : (f : ℕ) → f < s.fields → p.is_dirty f ≡ false
   pub stable : IsStable (actions (applied p)) p.cut
-
--- The control takes so many sequences at most: the one that counts, and that of each image that a crash left since the first device.
-pub record TakesSequences (most : ℕ) (old : Known) (before : Device) (new : Known) (now : Device) : Type 0 where
-  pub known : new.committed.sequence ≤ old.committed.sequence + most
-  pub shown : LeavesOnly before now (ShowsUpTo old.layout (old.committed.sequence + most))
 
 -- why a helper stops
 abbrev pub IsStop : StoreError → Type 0

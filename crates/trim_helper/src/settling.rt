@@ -2,7 +2,8 @@
 ghost use Rattle.std.specs.Prelude.{◌≡◌, OnOk, false};
 ghost use Rattle.block_disk.specs.Device.{HasCause};
 ghost use Rattle.store_past.specs.declared.error.StoreError.TheVariants.{Fault};
-ghost use Rattle.trim_helper.specs.Settled.{SettlesAndTrimsApplied, SettlesApplied, TakesSequences, WritesHome};
+ghost use Rattle.durable.specs.Runs.{TakesSequences};
+ghost use Rattle.trim_helper.specs.Settled.{SettlesAndTrimsApplied, SettlesApplied, WritesHome};
 
 use block_disk::Disk;
 use cut_laws::{stable_law, stay_law};

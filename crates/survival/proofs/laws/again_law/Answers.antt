@@ -1,4 +1,4 @@
-use Rattle.survival.proofs.RunAgain.{current_on, kept_accepted, kept_again, kept_is_found, kept_on, kept_report, tried_law}
+use Rattle.survival.proofs.RunAgain.{current_on, kept_accepted, kept_again, kept_is_found, kept_on, kept_report, studied_on, tried_law, tries_take}
 use Rattle.survival.proofs.laws.again_law.Goals as goal
 
 pub returns-clause-heap : goal.returns-clause-heap
@@ -21,3 +21,9 @@ returns-clause-current c = current_on c.one_study_law.ensures
 
 pub returns-clause-tried : goal.returns-clause-tried
 returns-clause-tried c = tried_law c.one_study_law.ensures
+
+pub returns-clause-studied : goal.returns-clause-studied
+returns-clause-studied c = studied_on c.one_study_law.ensures
+
+pub returns-clause-sequences : goal.returns-clause-sequences
+returns-clause-sequences c = tries_take c.one_study_law.ensures

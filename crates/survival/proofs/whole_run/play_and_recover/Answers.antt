@@ -1,6 +1,7 @@
 use Rattle.survival.proofs.RunAgain.{always_cut_off}
 use Rattle.survival.proofs.WholeRuns.{studied_again, survives, survives_again, survives_since, survives_up_to, tried_again}
 use Rattle.survival.proofs.Earlier.{answers_by}
+use Rattle.survival.proofs.Unworn.{unworn_calls}
 use Rattle.survival.proofs.whole_run.play_and_recover.Goals as goal
 
 pub returns-clause-survives : goal.returns-clause-survives
@@ -33,6 +34,11 @@ pub returns-clause-studied : goal.returns-clause-studied
 returns-clause-studied g c = λ s p has image attempts left tries.
     studied_again c.args.store.now.known s p c.args.calls.now (g.D.Disk.device c.args.store.now.disk) (g.D.Disk.device c.play.new.self.disk) image (g.E.Disk.device c.args.left).now.bytes attempts has
     c.has_study_law.ensures c.again_law.ensures.on (c.play.ensures.shown s p has) left tries
+
+pub returns-clause-unworn : goal.returns-clause-unworn
+returns-clause-unworn g c = λ s p has serves image attempts left tries.
+    unworn_calls c.args.store.now.known s p c.args.calls.now (g.D.Disk.device c.args.store.now.disk) (g.D.Disk.device c.play.new.self.disk) image (g.E.Disk.device c.args.left).now.bytes attempts has serves
+    c.has_study_law.ensures c.again_law.ensures.studied c.again_law.ensures.sequences (c.play.ensures.shown s p has) c.play.ensures.any_sequence left tries c.recover.result c.recover.ensures.refused
 
 pub returns-clause-cut_off : goal.returns-clause-cut_off
 returns-clause-cut_off g c = always_cut_off g.E.Disk.device (g.E.Disk.device c.args.left) c.recover.result c.recover.ensures.ok c.recover.ensures.any_moment c.recover.ensures.cut_off

@@ -14,7 +14,7 @@ use Rattle.trim_helper.proofs.Homes.{stops_round}
 use Rattle.trim_helper.proofs.Looking.{looks_taken}
 use Rattle.trim_helper.proofs.Rounds.{settled_then, stood_round, stood_still, taken_follows}
 use Rattle.trim_helper.proofs.Sent.{HasMet, are_sent}
-use Rattle.trim_helper.proofs.Sequences.{takes_more, takes_none, takes_then}
+use Rattle.durable.proofs.Sequences.{takes_more, takes_none, takes_then}
 use Rattle.trim_helper.specs.Serving.{Among, Part}
 use Rattle.trim_helper.specs.Endings.{parts_of}
 use Rattle.store_past.specs.Past.{applied}

@@ -6,7 +6,7 @@ use Rattle.trim_helper.proofs.Homes.{not_home, not_logged, passed_on, homes_then
 use Rattle.trim_helper.proofs.Trims.{acknowledged_now}
 use Rattle.block_disk.proofs.Failures.{cause_since}
 use Rattle.durable.proofs.Running.{ran_both, ran_both_refused}
-use Rattle.trim_helper.proofs.Sequences.{takes_more, takes_then}
+use Rattle.durable.proofs.Sequences.{takes_more, takes_then}
 use Rattle.trim_helper.proofs.settling.settle_and_trim.Goals as goal
 
 pub returns-in-Err-clause-cause : goal.returns-in-Err-clause-cause

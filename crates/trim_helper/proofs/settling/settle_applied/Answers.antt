@@ -6,7 +6,7 @@ use Rattle.trim_helper.proofs.Homes.{not_home, not_logged, passed_on, homes_then
 use Rattle.block_disk.proofs.Failures.{cause_since}
 use Rattle.durable.proofs.Running.{ran_one, ran_refused}
 use Rattle.durable.specs.declared.store_call.StoreCall.TheVariants.{Settle}
-use Rattle.trim_helper.proofs.Sequences.{takes_more, takes_then}
+use Rattle.durable.proofs.Sequences.{takes_more, takes_then}
 use Rattle.trim_helper.proofs.settling.settle_applied.Goals as goal
 
 pub returns-in-Err-clause-cause : goal.returns-in-Err-clause-cause

@@ -2,7 +2,7 @@ use Rattle.std.proofs.Common.{◌∙◌, ◌≡◌, Err, ap, refl, sym, arith}
 use Rattle.store_past.specs.declared.error.StoreError.TheVariants.{Fault}
 use Rattle.durable.proofs.Running.{failed_or_still}
 use Rattle.trim_helper.proofs.Homes.{no_fault, err_same, passed_on, clean_none, clean_most, clean_done, clean_more, clean_kept, dirtied, home_moved}
-use Rattle.trim_helper.proofs.Sequences.{takes_home, takes_none, takes_then}
+use Rattle.durable.proofs.Sequences.{takes_home, takes_none, takes_then}
 use Rattle.trim_helper.proofs.settling.write_home.Goals as goal
 
 pub loop-field-init : goal.loop-field-init

@@ -1,8 +1,9 @@
 use Rattle.std.proofs.Common.{◌≡◌, ◌≤◌, []}
 use Rattle.heap_model.specs.Setting.{Setting}
 use Rattle.store_past.specs.Past.{Past}
+use Rattle.durable.specs.Runs.{TakesSequences}
 use Rattle.durable.specs.Store.{HasPast}
-use Rattle.trim_helper.specs.Settled.{HasClean, TakesSequences}
+use Rattle.trim_helper.specs.Settled.{HasClean}
 use Rattle.trim_helper.proofs.settling.write_home.Given as goal
 
 abbrev pub invariant-loop-field : goal.invariant-loop-field

@@ -1,4 +1,4 @@
-use Rattle.std.proofs.Common.{◌≡◌, ◌∙◌, Some, Err, false, refl, sym, ap, subst, arith}
+use Rattle.std.proofs.Common.{◌≡◌, ◌∙◌, ◌+◌, Some, Err, false, refl, sym, ap, subst, arith}
 use Rattle.cut_laws.proofs.Existence.{stable_exists}
 use Rattle.heap_model.specs.Sections.{actions}
 use Rattle.durable.specs.declared.store_call.StoreCall.{StoreCall}
@@ -7,7 +7,9 @@ use Rattle.store_past.specs.Past.{after_log}
 use Rattle.store_past.specs.declared.error.StoreError.TheVariants.{Fault}
 use Rattle.block_disk.specs.Images.{LeavesOnly}
 use Rattle.block_disk.proofs.Images.{begin}
+use Rattle.store_image.specs.Sequences.{ShowsUpTo}
 use Rattle.durable.specs.Store.{ShowsStep, doubt_in}
+use Rattle.durable.proofs.Sequences.{shows_more}
 use Rattle.durable.proofs.Storing.{shows_then}
 use Rattle.durable.proofs.Playing.{apply_made, apply_refused, settle_made, settle_refused, trim_made, trim_refused, no_cause}
 use Rattle.durable.proofs.store.Store.make.Goals as goal
@@ -116,3 +118,18 @@ returns-in-Trim-clause-shown g c = λ s p has.
 
 pub returns-in-Trim-clause-in_doubt : goal.returns-in-Trim-clause-in_doubt
 returns-in-Trim-clause-in_doubt g c = λ is. c.trim.ensures.in_doubt is ∙ ap (λ (call : StoreCall). doubt_in (Some call)) (sym c.in-Trim.is)
+
+pub returns-in-Apply-clause-any_sequence : goal.returns-in-Apply-clause-any_sequence
+returns-in-Apply-clause-any_sequence g c =
+    subst (λ x. LeavesOnly (g.D.Disk.device c.args.self.now.disk) x (ShowsUpTo c.args.self.now.known.layout (c.args.self.now.known.committed.sequence + 1))) (sym (ap g.D.Disk.device c.apply.ensures.disk))
+    (begin (g.D.Disk.device c.args.self.now.disk) (ShowsUpTo c.args.self.now.known.layout (c.args.self.now.known.committed.sequence + 1)))
+
+pub returns-in-Ok-home_step-clause-any_sequence : goal.returns-in-Ok-home_step-clause-any_sequence
+returns-in-Ok-home_step-clause-any_sequence g c =
+    shows_more c.args.self.now.known.layout c.args.self.now.known.layout c.args.self.now.known.committed.sequence (c.args.self.now.known.committed.sequence + 1)
+    (g.D.Disk.device c.args.self.now.disk) (g.D.Disk.device c.home_step.new.self.disk) refl (omega arith) c.in-Ok-home_step.ensures.any_sequence
+
+pub returns-in-Err-home_step-clause-any_sequence : goal.returns-in-Err-home_step-clause-any_sequence
+returns-in-Err-home_step-clause-any_sequence g c =
+    shows_more c.args.self.now.known.layout c.args.self.now.known.layout c.args.self.now.known.committed.sequence (c.args.self.now.known.committed.sequence + 1)
+    (g.D.Disk.device c.args.self.now.disk) (g.D.Disk.device c.home_step.new.self.disk) refl (omega arith) c.in-Err-home_step.ensures.any_sequence

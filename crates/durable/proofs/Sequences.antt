@@ -6,12 +6,13 @@ use Rattle.block_disk.proofs.Images.{and_then, begin, weaker}
 use Rattle.image.specs.declared.layout.Layout.{Layout}
 use Rattle.store_image.specs.Sequences.{ShowsUpTo}
 use Rattle.durable.specs.Store.{Known}
-use Rattle.trim_helper.specs.Settled.{TakesSequences}
+use Rattle.durable.specs.Runs.{TakesSequences}
 
+-- what shows a control of some sequence at most shows one of any greater at most
 up_to_more : (l k : Layout) (last more : ℕ) → l ≡ k → last ≤ more → (image : List ℕ) → ShowsUpTo l last image → ShowsUpTo k more image
 up_to_more l k last more same le image was = subst (λ (m : Layout). ShowsUpTo m more image) same (record { slot = was.slot; control = was.control; shows = was.shows; sequence = omega (arith, was.sequence, le) })
 
-shows_more : (l k : Layout) (last more : ℕ) (d e : Device) → l ≡ k → last ≤ more → LeavesOnly d e (ShowsUpTo l last) → LeavesOnly d e (ShowsUpTo k more)
+pub shows_more : (l k : Layout) (last more : ℕ) (d e : Device) → l ≡ k → last ≤ more → LeavesOnly d e (ShowsUpTo l last) → LeavesOnly d e (ShowsUpTo k more)
 shows_more l k last more d e same le leaves = weaker d e (ShowsUpTo l last) (ShowsUpTo k more) (up_to_more l k last more same le) leaves
 
 -- the device wasn't called
