@@ -136,6 +136,10 @@ pub record IsRecovery {D : Type 0} (old new : Device) (r : Parts D) (report : Re
 abbrev pub LeavesOnTheWay : Study → (old new : Device) → Type 0
 LeavesOnTheWay s old new = SameMoments old new ⊎ LeavesOnly (synced old) new (IsOnTheWay s)
 
+-- nothing was done, or a sync alone
+abbrev pub IsLeftAlone : (old new : Device) → Type 0
+IsLeftAlone old new = SameMoments old new ⊎ SameMoments (synced old) new
+
 -- what a recovery that ends in an error has done: nothing, the first sync alone, or it had a study of the image and since its
 -- first sync left only images that are on the way
 abbrev pub IsCutOff : (old new : Device) → Type 0

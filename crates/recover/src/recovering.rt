@@ -8,7 +8,7 @@ ghost use Rattle.image.specs.Slots.{other};
 ghost use Rattle.recover.specs.Ending.{end_calls};
 ghost use Rattle.recover.specs.Logs.{lanes_of};
 ghost use Rattle.recover.specs.Reading.{IsOfOldVersion};
-ghost use Rattle.recover.specs.Recovery.{IsCutOff, IsMadeBy, IsOnTheWay, IsRecovery, IsTooOld, LeavesOnTheWay, RefusesOf, RefusesRecovery, RefusesUpgrade, put_back_on};
+ghost use Rattle.recover.specs.Recovery.{IsCutOff, IsMadeBy, IsOnTheWay, IsLeftAlone, IsRecovery, IsTooOld, LeavesOnTheWay, RefusesOf, RefusesRecovery, RefusesUpgrade, put_back_on};
 ghost use Rattle.recover.specs.Study.{AreUndone, IsStudyOf};
 ghost use Rattle.recover.specs.declared.error.RecoverError.TheVariants.{Fault};
 ghost use Rattle.recover.specs.declared.studied.Study.{Study as Shape};
@@ -51,6 +51,7 @@ pub fn recover<D: Disk>(alloc: Global, disk: D) -> Result<(Recovered<D>, Report)
     ensures untouched { IfErr result (λ back. (back.1 ≡ Fault) ⊎ SameMoments (synced (D.device disk)) (D.device back.0)) }
     ensures interrupted { IfErr result (λ back. (s : Shape) → IsStudyOf (D.device disk).now.bytes s → LeavesOnTheWay s (D.device disk) (D.device back.0)) }
     ensures cut_off { IfErr result (λ back. IsCutOff (D.device disk) (D.device back.0)) }
+    ensures too_old { IfErr result (λ back. IsOfOldVersion (D.device disk).now.bytes → IsLeftAlone (D.device disk) (D.device back.0)) }
     ensures cause { IfErr result (λ back. back.1 ≡ Fault → HasFailed (D.device disk).failures (D.device back.0).failures) }
     ensures failures { IfOk result (λ r. (D.device disk).failures ≤ (D.device r.0.disk).failures) }
 {
@@ -93,6 +94,7 @@ pub fn recover_of<D: Disk>(
     ensures untouched { IfErr result (λ back. (back.1 ≡ Fault) ⊎ SameMoments (synced (D.device disk)) (D.device back.0)) }
     ensures interrupted { IfErr result (λ back. (s : Shape) → IsStudyOf (D.device disk).now.bytes s → LeavesOnTheWay s (D.device disk) (D.device back.0)) }
     ensures cut_off { IfErr result (λ back. IsCutOff (D.device disk) (D.device back.0)) }
+    ensures too_old { IfErr result (λ back. IsTooOld versions (D.device disk).now.bytes → IsLeftAlone (D.device disk) (D.device back.0)) }
     ensures cause { IfErr result (λ back. back.1 ≡ Fault → HasFailed (D.device disk).failures (D.device back.0).failures) }
     ensures failures { IfOk result (λ r. (D.device disk).failures ≤ (D.device r.0.disk).failures) }
 {
@@ -130,6 +132,7 @@ fn recover_in_place<D: Disk>(
     ensures untouched { IfErr result (λ e. (e ≡ Fault) ⊎ SameMoments (synced (D.device disk.old)) (D.device disk.new)) }
     ensures interrupted { OnErr result ((s : Shape) → IsStudyOf (D.device disk.old).now.bytes s → LeavesOnTheWay s (D.device disk.old) (D.device disk.new)) }
     ensures cut_off { OnErr result (IsCutOff (D.device disk.old) (D.device disk.new)) }
+    ensures too_old { OnErr result (IsTooOld versions (D.device disk.old).now.bytes → IsLeftAlone (D.device disk.old) (D.device disk.new)) }
     ensures cause { HasCause (D.device disk.old).failures (D.device disk.new).failures Fault result }
 {
     // What is read has to be what another crash would leave.
