@@ -13,19 +13,38 @@ use Rattle.session.specs.Calls.{IsNews, IsQuiet, IsFull, HasRing, Tries, Begins,
 use Rattle.session.proofs.Lengthening.{after_quiet, seen_later, thin_back}
 
 -- where the ring has room, and the reason is what a look or a try showed
-pub ring_tried : (c k f r : ℕ) (v w : View) (o : ObjectId) (x : Result (Unit {0}) SessionError) → k ≤ f → MatchResult x (λ _. f ≤ r + 1) (λ _. f ≤ r) → Tries v w o x →
-    MatchResult x (λ _. k ≤ r + 1) (HasRing c k r w)
-ring_tried c k f r v w o (Ok done) le same t = omega arith
-ring_tried c k f r v w o (Err Worn) le same t = omega arith
-ring_tried c k f r v w o (Err (Held x)) le same t = omega arith
-ring_tried c k f r v w o (Err UnknownObject) le same t = absurd t
-ring_tried c k f r v w o (Err UnknownField) le same t = absurd t
-ring_tried c k f r v w o (Err NotHeld) le same t = absurd t
-ring_tried c k f r v w o (Err Behind) le same t = absurd t
-ring_tried c k f r v w o (Err SectionFull) le same t = absurd t
-ring_tried c k f r v w o (Err TooMany) le same t = absurd t
-ring_tried c k f r v w o (Err TooDeep) le same t = absurd t
-ring_tried c k f r v w o (Err NoFat) le same t = absurd t
+pub ring_tried : (c k f r : ℕ) (u v w : View) (o : ObjectId) (x : Result (Unit {0}) SessionError) → k ≤ f → MatchResult x (λ _. f ≤ r + 1) (λ _. f ≤ r) → Tries v w o x →
+    MatchResult x (λ _. k ≤ r + 1) (HasRing c k r u w)
+ring_tried c k f r u v w o (Ok done) le same t = omega arith
+ring_tried c k f r u v w o (Err Worn) le same t = omega arith
+ring_tried c k f r u v w o (Err (Held x)) le same t = omega arith
+ring_tried c k f r u v w o (Err UnknownObject) le same t = absurd t
+ring_tried c k f r u v w o (Err UnknownField) le same t = absurd t
+ring_tried c k f r u v w o (Err NotHeld) le same t = absurd t
+ring_tried c k f r u v w o (Err Behind) le same t = absurd t
+ring_tried c k f r u v w o (Err SectionFull) le same t = absurd t
+ring_tried c k f r u v w o (Err TooMany) le same t = absurd t
+ring_tried c k f r u v w o (Err TooDeep) le same t = absurd t
+ring_tried c k f r u v w o (Err NoFat) le same t = absurd t
+
+-- what was read since a later view was read since an earlier one
+pub ring_earlier : (c k r : ℕ) (u v w : View) (e : SessionError) → u.trimmed_looks ≤ v.trimmed_looks → HasRing c k r v w e → HasRing c k r u w e
+ring_earlier c k r u v w Behind le (inl short) = inl short
+ring_earlier c k r u v w Behind le (inr lane) = inr ((let read = lane.0 in omega arith), lane.1)
+ring_earlier c k r u v w UnknownObject le has = has
+ring_earlier c k r u v w UnknownField le has = has
+ring_earlier c k r u v w NotHeld le has = has
+ring_earlier c k r u v w SectionFull le has = has
+ring_earlier c k r u v w TooMany le has = has
+ring_earlier c k r u v w TooDeep le has = has
+ring_earlier c k r u v w NoFat le has = has
+ring_earlier c k r u v w Worn le has = has
+ring_earlier c k r u v w (Held x) le has = has
+
+-- so of an answer
+pub leaves_earlier : (c k r : ℕ) (u v w : View) (x : Result (Unit {0}) SessionError) → u.trimmed_looks ≤ v.trimmed_looks → MatchResult x (λ _. k ≤ r + 1) (HasRing c k r v w) → MatchResult x (λ _. k ≤ r + 1) (HasRing c k r u w)
+leaves_earlier c k r u v w (Ok done) le left = left
+leaves_earlier c k r u v w (Err e) le has = ring_earlier c k r u v w e le has
 
 -- inside a section, with room
 pub went_on : (v w : View) (o : ObjectId) (x : Result (Unit {0}) SessionError) → (IsFull v 2 → ⊥) → held_count v < MOST_HELD → Tries v w o x → GoesOn v w o x

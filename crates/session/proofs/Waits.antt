@@ -71,18 +71,18 @@ wait_answer s t u o h (Err TooDeep) c f k same room no_ = absurd no_
 wait_answer s t u o h (Err (Held x)) c f k same room no_ = absurd no_
 
 -- where the ring has room for a wait that is refused
-pub ring_for : (c k r : ℕ) (v w : View) (o : ObjectId) (h : Hold) (P : Grip → Type 0) (x : Result Grip SessionError) → k ≤ r → MatchResult x P (RefusesFat v w o h) → IfErr x (HasRing c k r w)
-ring_for c k r v w o h P (Ok g) le why = tt
-ring_for c k r v w o h P (Err NoFat) le why = le
-ring_for c k r v w o h P (Err Worn) le why = le
-ring_for c k r v w o h P (Err UnknownObject) le why = absurd why
-ring_for c k r v w o h P (Err UnknownField) le why = absurd why
-ring_for c k r v w o h P (Err NotHeld) le why = absurd why
-ring_for c k r v w o h P (Err Behind) le why = absurd why
-ring_for c k r v w o h P (Err SectionFull) le why = absurd why
-ring_for c k r v w o h P (Err TooMany) le why = absurd why
-ring_for c k r v w o h P (Err TooDeep) le why = absurd why
-ring_for c k r v w o h P (Err (Held x)) le why = absurd why
+pub ring_for : (c k r : ℕ) (u v w : View) (o : ObjectId) (h : Hold) (P : Grip → Type 0) (x : Result Grip SessionError) → k ≤ r → MatchResult x P (RefusesFat v w o h) → IfErr x (HasRing c k r u w)
+ring_for c k r u v w o h P (Ok g) le why = tt
+ring_for c k r u v w o h P (Err NoFat) le why = le
+ring_for c k r u v w o h P (Err Worn) le why = le
+ring_for c k r u v w o h P (Err UnknownObject) le why = absurd why
+ring_for c k r u v w o h P (Err UnknownField) le why = absurd why
+ring_for c k r u v w o h P (Err NotHeld) le why = absurd why
+ring_for c k r u v w o h P (Err Behind) le why = absurd why
+ring_for c k r u v w o h P (Err SectionFull) le why = absurd why
+ring_for c k r u v w o h P (Err TooMany) le why = absurd why
+ring_for c k r u v w o h P (Err TooDeep) le why = absurd why
+ring_for c k r u v w o h P (Err (Held x)) le why = absurd why
 
 -- a wait is begun
 pub begun : (s t : Session) (w : View) (o : ObjectId) (h : Hold) (g : Grip) (c : ℕ) → Lengthens (view_of s) (view_of t) [] → t.parts.capacity ≡ c → MayWait t o h g → Lengthens (view_of t) w (Wait g.object g.number ∷ []) → BeginsWait c (view_of s) w o h

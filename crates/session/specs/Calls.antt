@@ -23,6 +23,7 @@ use Rattle.lock_word.specs.Spelling.{fat_sight, lane_of_thread, sight_of}
 use Rattle.monitor.specs.Seats.{Home}
 use Rattle.steps.specs.Views.{View, IsHeld, IsLasting, IsWhole, hold, plan}
 use Rattle.steps.specs.Views.{Lengthens, slot_in, miss_events, IsAnother, IsLastingSeen, IsOfSlot}
+use Rattle.steps.specs.declared.limits.TheConstants.{THIN_LOCKS, FAT_LOCKS}
 use Rattle.steps.specs.declared.grip.Seen.{Seen}
 use Rattle.steps.specs.declared.grip.Seen.TheVariants as seen
 use Rattle.session.specs.declared.error.SessionError.{SessionError}
@@ -30,7 +31,7 @@ use Rattle.session.specs.declared.error.SessionError.TheVariants.{Behind, Sectio
 use Rattle.session.specs.declared.error.SessionError.TheVariants as error
 use Rattle.session.specs.declared.error.Still.{Still}
 use Rattle.session.specs.declared.error.Still.TheVariants as still
-use Rattle.session.specs.declared.limits.TheConstants.{MOST_HELD, THIN_LOCKS, FAT_LOCKS}
+use Rattle.session.specs.declared.limits.TheConstants.{MOST_HELD}
 use Rattle.session.specs.declared.session.Session.{Session}
 use Rattle.session.specs.declared.waiting.Waiting.{Waiting}
 use Rattle.session.specs.Logs.{held_count, place, section_records}
@@ -53,10 +54,14 @@ Fits c k v w = place v + k ≤ w.trimmed + c
 abbrev pub IsFull : View → (more : ℕ) → Type 0
 IsFull v k = SECTION_RECORDS < section_records v + held_count v + k
 
+-- the lane lacks room for so many records, by the published place, which was read since
+abbrev pub LacksLane : (capacity needed : ℕ) → View → View → Type 0
+LacksLane c k v w = (v.trimmed_looks < w.trimmed_looks) × (w.trimmed + c < place w + k)
+
 -- so many slots of the ring are known to be free; where the reason is that the helper is behind, they aren't, or the lane lacks the room
-abbrev pub HasRing : (capacity needed free : ℕ) → View → SessionError → Type 0
-HasRing c k r w Behind = (r < k) ⊎ (w.trimmed + c < place w + k)
-HasRing c k r w _ = k ≤ r
+abbrev pub HasRing : (capacity needed free : ℕ) → View → View → SessionError → Type 0
+HasRing c k r v w Behind = (r < k) ⊎ LacksLane c k v w
+HasRing c k r v w _ = k ≤ r
 
 -- the monitor isn't fat, as far as the view knows
 abbrev pub IsThin : View → ObjectId → Type 0
@@ -258,7 +263,7 @@ Lacks x o = hold (view_of x) o.0 ≡ None
 
 -- the ring has room for all records of the section that has begun, or that is why none begins
 abbrev pub LeavesRing : Session → Session → Result (Unit {0}) SessionError → Type 0
-LeavesRing x y r = MatchResult r (λ _. SECTION_RECORDS ≤ free_of y + 1) (HasRing (capacity_of x) SECTION_RECORDS (free_of y) (view_of y))
+LeavesRing x y r = MatchResult r (λ _. SECTION_RECORDS ≤ free_of y + 1) (HasRing (capacity_of x) SECTION_RECORDS (free_of y) (view_of x) (view_of y))
 
 -- An enter: one lock more of a monitor that is held, or a first lock, which begins a section where none was held.
 pub record Enters (h : Home) (x y : Session) (o : ObjectId) (r : Result (Unit {0}) SessionError) : Type 0 where
@@ -342,6 +347,7 @@ pub record Looks (h : Home) (x y : Session) (o : ObjectId) (r : Result (Shape ×
 -- A reading of how many sections of the lane were acknowledged at the last publication.
 pub record ReadsStable (x y : Session) (sections : ℕ) : Type 0 where
   pub quiet : IsQuiet (view_of x) (view_of y)
+  pub looked : (view_of x).stable_looks < (view_of y).stable_looks
   pub read : (view_of y).stable ≡ sections
 
 -- the session comes back with this refusal, and nothing was told
@@ -355,7 +361,7 @@ AsksHeld x o k (Err e) = RefusesWait (capacity_of x) (view_of x) (view_of e.0) o
 
 -- the ring of the session that comes back has room for a wait and the section behind it, or that is the reason
 abbrev pub HasRingToWait : Session → Session × SessionError → Type 0
-HasRingToWait x e = HasRing (capacity_of x) (SECTION_RECORDS + 1) (free_of e.0) (view_of e.0) e.1
+HasRingToWait x e = HasRing (capacity_of x) (SECTION_RECORDS + 1) (free_of e.0) (view_of x) (view_of e.0) e.1
 
 -- the ring has room for the section behind the wait, or says why there is no wait
 abbrev pub LeavesRingToWait : Session → Result Waiting (Session × SessionError) → Type 0

@@ -2,13 +2,13 @@
 
 use crate::error::{SessionError, seldom};
 use crate::grips::{put, put_first};
-use crate::limits::{FAT_LOCKS, MOST_HELD, THIN_LOCKS};
+use crate::limits::MOST_HELD;
 use crate::room::{lane_has_room, ring_has_room};
 use crate::session::Session;
 use crate::sights::{first_grip, free_at, shown};
 use heap_model::{LAST_PLACE, ObjectId, Record, SECTION_RECORDS};
 use monitor::Shared;
-use steps::Grip;
+use steps::{FAT_LOCKS, Grip, THIN_LOCKS};
 
 impl Session {
     ghost use Rattle.std.specs.Prelude.{◌≡◌, ◌+◌, ◌<◌, ◌≤◌, length, [], ◌∷◌, None, IfErr, MatchResult};

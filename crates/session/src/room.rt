@@ -53,6 +53,7 @@ pub fn lane_has_room(
     ensures known { trimmed.new ≤ (view seat.new).trimmed }
     ensures rises { trimmed.old ≤ trimmed.new }
     ensures room { MatchBool result (place + needed ≤ trimmed.new + capacity) ((view seat.new).trimmed + capacity < place + needed) }
+    ensures looked { OnFalse result ((view seat.old).trimmed_looks < (view seat.new).trimmed_looks) }
 {
     if is_lane_wide(*trimmed, place, capacity, needed) {
         return true;

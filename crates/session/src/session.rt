@@ -14,7 +14,7 @@ use crate::parts::Parts;
 /// the helper gets its records. It may cross to another thread.
 ///
 /// Contracts see it as the events that its calls have told, the newest first (`specs/Logs`). A call that is refused leaves
-/// it as it was.
+/// what it holds, its fields and its log as they were ([`SessionError`](crate::SessionError)).
 #[derive(Drop)]
 pub struct Session {
     pub(crate) parts: Parts,

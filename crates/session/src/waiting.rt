@@ -3,7 +3,8 @@
 ghost use Rattle.std.specs.Prelude.{◌≡◌, ◌+◌, ◌<◌, ◌≤◌, Some, None, length, true, false};
 ghost use Rattle.rtrb.specs.Ring.{producer_capacity};
 ghost use Rattle.heap_model.specs.declared.limits.TheConstants.{SECTION_RECORDS, RING_RECORDS};
-ghost use Rattle.session.specs.declared.limits.TheConstants.{MOST_HELD, FAT_LOCKS};
+ghost use Rattle.session.specs.declared.limits.TheConstants.{MOST_HELD};
+ghost use Rattle.steps.specs.declared.limits.TheConstants.{FAT_LOCKS};
 ghost use Rattle.lane_rings.specs.Following.{whose};
 ghost use Rattle.lane_rings.specs.Rings.{whose_ring};
 ghost use Rattle.session.specs.Grips.{grip_in};

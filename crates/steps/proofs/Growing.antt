@@ -14,6 +14,7 @@ use Rattle.lock_word.specs.declared.fat_word.FatShape.{FatShape}
 use Rattle.lock_word.specs.declared.fat_word.FatShape.TheVariants as fat
 use Rattle.monitor.specs.declared.view.View as raw
 use Rattle.monitor.specs.declared.view.Named.{Named}
+use Rattle.monitor.specs.declared.view.Note.{Note}
 use Rattle.monitor.specs.declared.view.Mark.{Mark}
 use Rattle.monitor.specs.declared.view.Mark.TheVariants.{Clear, Joined, Knows, Removed}
 use Rattle.monitor.specs.Words.{SLOTS, setting_of}
@@ -24,7 +25,7 @@ use Rattle.monitor.specs.Kinds.{looked, IsNews}
 use Rattle.monitor.specs.Seats.{Home, Sitting}
 use Rattle.monitor.specs.Seats as raw_seats
 use Rattle.steps.specs.declared.grip.Grip.{Grip}
-use Rattle.steps.specs.Views.{View, shown, plan, IsReady, IsSeatOf, hold, slot_in, Keeps, KeepsEach, KeepsOthers, Lengthens, KeepsWords, IsLasting, AgreesWith, Misses}
+use Rattle.steps.specs.Views.{View, shown, times, plan, IsReady, IsSeatOf, hold, slot_in, Keeps, KeepsEach, KeepsOthers, Lengthens, KeepsWords, IsLasting, AgreesWith, Misses}
 use Rattle.steps.specs.declared.grip.Seen.TheVariants as seen
 use Rattle.monitor.proofs.CellLaws.{sight_law, look_law}
 
@@ -108,16 +109,16 @@ words_fattened v o i n only p x h = by_test o.0 p (λ b. ◌≡◌ {A = Option S
 -- events
 
 pub after_told : (v w : raw.View) (e : Event) → w ≡ told v e → Lengthens (shown v) (shown w) (e ∷ [])
-after_told v w e is = subst (λ (x : raw.View). Lengthens (shown v) (shown x) (e ∷ [])) (sym is) (record { events = refl; plan = refl; lane = refl; slots = same v.seen; stable = same (noted (lane_of v).0 v.notes); trimmed = same (noted (32 + (lane_of v).0) v.notes); fats = λ o i s. s; words = λ o x h. h })
+after_told v w e is = subst (λ (x : raw.View). Lengthens (shown v) (shown x) (e ∷ [])) (sym is) (record { events = refl; plan = refl; lane = refl; slots = same v.seen; stable = same (noted (lane_of v).0 v.notes); trimmed = same (noted (32 + (lane_of v).0) v.notes); stable_looks = same (times (lane_of v).0 v.notes); trimmed_looks = same (times (32 + (lane_of v).0) v.notes); fats = λ o i s. s; words = λ o x h. h })
 
 pub after_resumed : (v w : raw.View) (e : Event) → w ≡ resumed v e → Lengthens (shown v) (shown w) (e ∷ [])
-after_resumed v w e is = subst (λ (x : raw.View). Lengthens (shown v) (shown x) (e ∷ [])) (sym is) (record { events = refl; plan = refl; lane = refl; slots = same v.seen; stable = same (noted (lane_of v).0 v.notes); trimmed = same (noted (32 + (lane_of v).0) v.notes); fats = λ o i s. s; words = λ o x h. h })
+after_resumed v w e is = subst (λ (x : raw.View). Lengthens (shown v) (shown x) (e ∷ [])) (sym is) (record { events = refl; plan = refl; lane = refl; slots = same v.seen; stable = same (noted (lane_of v).0 v.notes); trimmed = same (noted (32 + (lane_of v).0) v.notes); stable_looks = same (times (lane_of v).0 v.notes); trimmed_looks = same (times (32 + (lane_of v).0) v.notes); fats = λ o i s. s; words = λ o x h. h })
 
 pub after_removed : (v w : raw.View) (o : ObjectId) → w ≡ removed v o → Lengthens (shown v) (shown w) []
-after_removed v w o is = subst (λ (x : raw.View). Lengthens (shown v) (shown x) []) (sym is) (record { events = refl; plan = refl; lane = refl; slots = same v.seen; stable = same (noted (lane_of v).0 v.notes); trimmed = same (noted (32 + (lane_of v).0) v.notes); fats = λ o i s. s; words = λ o x h. h })
+after_removed v w o is = subst (λ (x : raw.View). Lengthens (shown v) (shown x) []) (sym is) (record { events = refl; plan = refl; lane = refl; slots = same v.seen; stable = same (noted (lane_of v).0 v.notes); trimmed = same (noted (32 + (lane_of v).0) v.notes); stable_looks = same (times (lane_of v).0 v.notes); trimmed_looks = same (times (32 + (lane_of v).0) v.notes); fats = λ o i s. s; words = λ o x h. h })
 
 pub after_counted : (v w : raw.View) (n : ℕ) → w ≡ counted v n → v.seen ≤ n → Lengthens (shown v) (shown w) []
-after_counted v w n is low = subst (λ (x : raw.View). Lengthens (shown v) (shown x) []) (sym is) (record { events = refl; plan = refl; lane = refl; slots = low; stable = same (noted (lane_of v).0 v.notes); trimmed = same (noted (32 + (lane_of v).0) v.notes); fats = λ o i s. s; words = λ o x h. h })
+after_counted v w n is low = subst (λ (x : raw.View). Lengthens (shown v) (shown x) []) (sym is) (record { events = refl; plan = refl; lane = refl; slots = low; stable = same (noted (lane_of v).0 v.notes); trimmed = same (noted (32 + (lane_of v).0) v.notes); stable_looks = same (times (lane_of v).0 v.notes); trimmed_looks = same (times (32 + (lane_of v).0) v.notes); fats = λ o i s. s; words = λ o x h. h })
 
 pub after_both : (v w x : View) (a : List Event) → Lengthens v w [] → Lengthens w x a → Lengthens v x a
 after_both v w x a f s = record {
@@ -127,9 +128,49 @@ after_both v w x a f s = record {
   slots = (let p = f.slots in let q = s.slots in omega arith);
   stable = (let p = f.stable in let q = s.stable in omega arith);
   trimmed = (let p = f.trimmed in let q = s.trimmed in omega arith);
+  stable_looks = (let p = f.stable_looks in let q = s.stable_looks in omega arith);
+  trimmed_looks = (let p = f.trimmed_looks in let q = s.trimmed_looks in omega arith);
   fats = λ o i e. s.fats o i (f.fats o i e);
   words = λ o x h. s.words o x (f.words o x h);
 }
+
+-- a note more
+
+noted_more : (p q n : ℕ) (notes : List Note) → (q ≡ p → noted p notes ≤ n) → noted p notes ≤ noted p (record { post = q; number = n } ∷ notes)
+noted_more p q n notes low = by_test q p (λ b. noted p notes ≤ (if b then n else noted p notes)) low (λ _. same (noted p notes))
+
+times_more : (p q n : ℕ) (notes : List Note) → times p notes ≤ times p (record { post = q; number = n } ∷ notes)
+times_more p q n notes = by_test q p (λ b. times p notes ≤ (if b then times p notes + 1 else times p notes)) (λ _. omega arith) (λ _. omega arith)
+
+times_here : (p n : ℕ) (notes : List Note) → times p notes < times p (record { post = p; number = n } ∷ notes)
+times_here p n notes = by_test p p (λ b. times p notes < (if b then times p notes + 1 else times p notes)) (λ _. omega arith) (λ ne. absurd (ne refl))
+
+-- a published number was read
+after_noted : (v w : raw.View) (q n : ℕ) → w ≡ keeping v q n → (q ≡ (lane_of v).0 → noted (lane_of v).0 v.notes ≤ n) → (q ≡ 32 + (lane_of v).0 → noted (32 + (lane_of v).0) v.notes ≤ n) → Lengthens (shown v) (shown w) []
+after_noted v w q n is stable trimmed = subst (λ (x : raw.View). Lengthens (shown v) (shown x) []) (sym is) (record {
+  events = refl;
+  plan = refl;
+  lane = refl;
+  slots = same v.seen;
+  stable = noted_more (lane_of v).0 q n v.notes stable;
+  trimmed = noted_more (32 + (lane_of v).0) q n v.notes trimmed;
+  stable_looks = times_more (lane_of v).0 q n v.notes;
+  trimmed_looks = times_more (32 + (lane_of v).0) q n v.notes;
+  fats = λ o i s. s;
+  words = λ o x h. h;
+})
+
+pub after_stable : (v w : raw.View) (n : ℕ) → w ≡ keeping v (lane_of v).0 n → noted (lane_of v).0 v.notes ≤ n → Lengthens (shown v) (shown w) []
+after_stable v w n is low = after_noted v w (lane_of v).0 n is (λ _. low) (λ e. absurd (omega (arith, e)))
+
+pub after_trimmed : (v w : raw.View) (n : ℕ) → w ≡ keeping v (32 + (lane_of v).0) n → noted (32 + (lane_of v).0) v.notes ≤ n → Lengthens (shown v) (shown w) []
+after_trimmed v w n is low = after_noted v w (32 + (lane_of v).0) n is (λ e. absurd (omega (arith, e))) (λ _. low)
+
+pub stable_looked : (v w : raw.View) (n : ℕ) → w ≡ keeping v (lane_of v).0 n → (shown v).stable_looks < (shown w).stable_looks
+stable_looked v w n is = subst (λ (x : raw.View). (shown v).stable_looks < (shown x).stable_looks) (sym is) (times_here (lane_of v).0 n v.notes)
+
+pub trimmed_looked : (v w : raw.View) (n : ℕ) → w ≡ keeping v (32 + (lane_of v).0) n → (shown v).trimmed_looks < (shown w).trimmed_looks
+trimmed_looked v w n is = subst (λ (x : raw.View). (shown v).trimmed_looks < (shown x).trimmed_looks) (sym is) (times_here (32 + (lane_of v).0) n v.notes)
 
 -- the slot that a fat lock word names is the one that is known
 IsOnly : raw.View → ObjectId → ℕ → Type 0
@@ -143,6 +184,8 @@ after_fattened v w o i n is only word = subst (λ (x : raw.View). Lengthens (sho
   slots = same v.seen;
   stable = same (noted (lane_of v).0 v.notes);
   trimmed = same (noted (32 + (lane_of v).0) v.notes);
+  stable_looks = same (times (lane_of v).0 v.notes);
+  trimmed_looks = same (times (32 + (lane_of v).0) v.notes);
   fats = λ p j s. by_test o.0 p (λ b. ◌≡◌ {A = Option ℕ} (if b then Some i else slot_of p v.fats) (Some j)) (λ e. ap Some (only j (ap (λ z. slot_of z v.fats) e ∙ s))) (λ _. s);
   words = words_fattened v o i n word;
 })

@@ -23,7 +23,7 @@ pub struct Sighted {
 #[derive(Clone, Copy, Debug, PartialEq, Eq)]
 pub struct Grip {
     pub object: ObjectId,
-    /// By how many locks the thread holds it: 1 to 256 thin, to 65,536 fat.
+    /// By how many locks the thread holds it: 1 to [`THIN_LOCKS`](crate::THIN_LOCKS) thin, to [`FAT_LOCKS`](crate::FAT_LOCKS) fat.
     pub count: u32,
     /// The release number at which it was taken.
     pub number: u64,

@@ -3,6 +3,7 @@
 ghost use Rattle.std.specs.Prelude.{◌≡◌, ◌<◌, ◌≤◌, [], ◌∷◌, Some, None, MatchResult, MatchBool, IfOk, IfErr, ℕ};
 ghost use Rattle.heap_model.specs.declared.event.Event.TheVariants as event;
 ghost use Rattle.heap_model.specs.declared.event.Sight.TheVariants.{StillInSet};
+ghost use Rattle.steps.specs.declared.limits.TheConstants.{FAT_LOCKS};
 ghost use Rattle.steps.specs.Views.{view, plan, IsSeatOf, Keeps, KeepsEach, KeepsOthers, Lengthens, IsClear, IsAwake, IsPaused, IsRemoved, Takes, Misses, IsSlot, IsOfSlot, hold};
 
 use crate::grip::{Grip, Seen};
@@ -59,7 +60,7 @@ pub fn try_retake(
     requires removed { IsRemoved (view seat.old) object }
     requires waits { IsPaused (view seat.old) object count }
     requires free_of { hold (view seat.old) object.0 ≡ None }
-    requires count { (0 < count) × (count ≤ 65536) }
+    requires count { (0 < count) × (count ≤ FAT_LOCKS) }
     requires number { number < (plan shared.now).last }
     requires slot { IsSlot (view seat.old) object (Some slot) }
     ensures seat { IsSeatOf shared.now seat.new }

@@ -4,6 +4,7 @@ use Rattle.session.specs.Calls.{HasRing, EntersFirst}
 use Rattle.session.specs.Sessions.{view_of, free_of}
 use Rattle.session.proofs.Looks.{held_looks, more_looks, looks_hold, looks_count, finds_none_by}
 use Rattle.session.proofs.Fattening.{at_once, waited}
+use Rattle.session.proofs.Enters.{leaves_earlier}
 use Rattle.session.proofs.session.Session.enter_anew.Goals as goal
 
 pub enter_waiting-requires-clause-free : goal.enter_waiting-requires-clause-free
@@ -38,5 +39,6 @@ returns-in-Err-Held-clause-ring_room g c none =
     let looks = held_looks s.parts.capacity (view_of s) (view_of t) c.args.object c.in-Err-Held.field-0-0
     (subst (λ x. EntersFirst s.parts.capacity (view_of s) (view_of t) c.args.object x) is e.first) in
     let u = c.enter_waiting.new.self in
-    subst (λ k. MatchResult c.enter_waiting.result (λ _. SECTION_RECORDS ≤ free_of u + 1) (HasRing k SECTION_RECORDS (free_of u) (view_of u))) e.ring.1
-    (c.enter_waiting.ensures.ring_room (looks_count (view_of s) (view_of t) c.args.object looks ∙ none))
+    leaves_earlier s.parts.capacity SECTION_RECORDS (free_of u) (view_of s) (view_of t) (view_of u) c.enter_waiting.result looks.2.trimmed_looks
+    (subst (λ k. MatchResult c.enter_waiting.result (λ _. SECTION_RECORDS ≤ free_of u + 1) (HasRing k SECTION_RECORDS (free_of u) (view_of t) (view_of u))) e.ring.1
+    (c.enter_waiting.ensures.ring_room (looks_count (view_of s) (view_of t) c.args.object looks ∙ none)))
