@@ -5,6 +5,11 @@ use Rattle.std.specs.Prelude.{ℕ, ◌≡◌, ◌==◌, if◌then◌else◌, Opt
 abbrev pub Values : Type 0
 Values = ℕ → Option ℕ
 
+-- what was done to a field's cell
+pub data Access : Type 0 where
+  Loaded : (field value : ℕ) → Access
+  Stored : (field value : ℕ) → Access
+
 -- The values that are known, and why a load of a field, or a store to two, would fail now, if it would.
 pub record Knowledge (F : Type 0) : Type 0 where
   pub value : Values

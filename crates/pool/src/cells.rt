@@ -1,7 +1,7 @@
 //! The cells in which a pool is kept.
 
-ghost use Rattle.std.specs.Prelude.{IfOk, IfErr, OnOk};
-ghost use Rattle.pool.specs.Knowledge.{Knowledge, Reads, Stores, FailsToLoad, FailsToStore};
+ghost use Rattle.std.specs.Prelude.{[], ◌∷◌, ◌++◌, List, IfOk, IfErr, OnOk, MatchResult};
+ghost use Rattle.pool.specs.Knowledge.{Access, Loaded, Stored, Knowledge, Reads, Stores, FailsToLoad, FailsToStore};
 
 use heap_model::FieldId;
 
@@ -16,14 +16,14 @@ pub trait Cells {
     /// What is known of the cells.
     ghost knows: { Self → Knowledge Self.Fault };
 
-    /// What calls keep beside that, as which cells these are.
-    ghost keeps: { Self → Self → Type 0 };
+    /// What calls keep beside that, as which cells these are, where they loaded and stored this, the newest first.
+    ghost keeps: { Self → Self → List Access → Type 0 };
 
     /// The value of the field's cell: the known one, if it is known.
     fn load(&mut self, field: FieldId) -> Result<u64, Self::Fault>
         ensures ok { IfOk result (λ value. Reads (knows self.old) field.0 value (knows self.new)) }
         ensures fault { IfErr result (λ fault. FailsToLoad (knows self.old) field.0 fault (knows self.new)) }
-        ensures keeps { keeps self.old self.new };
+        ensures keeps { MatchResult result (λ value. keeps self.old self.new (Loaded field.0 value ∷ [])) (λ fault. keeps self.old self.new []) };
 
     /// Stores `one` in the first field's cell and then `two` in the second's, or neither.
     fn store_two(
@@ -35,8 +35,8 @@ pub trait Cells {
     ) -> Result<(), Self::Fault>
         ensures ok { OnOk result (Stores (knows self.old) first.0 one second.0 two (knows self.new)) }
         ensures fault { IfErr result (λ fault. FailsToStore (knows self.old) first.0 second.0 fault (knows self.new)) }
-        ensures keeps { keeps self.old self.new };
+        ensures keeps { MatchResult result (λ done. keeps self.old self.new (Stored second.0 two ∷ Stored first.0 one ∷ [])) (λ fault. keeps self.old self.new []) };
 
     /// What one call keeps and then another, both keep.
-    ghost keeps_both: { (a b c : Self) → keeps a b → keeps b c → keeps a c };
+    ghost keeps_both: { (a b c : Self) (x y : List Access) → keeps a b x → keeps b c y → keeps a c (y ++ x) };
 }

@@ -34,7 +34,8 @@ impl Model for Pool {
 }
 
 impl Pool {
-    ghost use Rattle.std.specs.Prelude.{◌≡◌, ◌<◌, ◌≤◌, ◌+◌, ◌^◌};
+    ghost use Rattle.std.specs.Prelude.{◌≡◌, ◌<◌, ◌≤◌, ◌+◌, ◌^◌, List};
+    ghost use Rattle.pool.specs.Knowledge.{Access};
     ghost use Rattle.pool.specs.FreeList.{cell_of};
     ghost use Rattle.pool.specs.Calls.{TakeAnswers, GiveAnswers};
 
@@ -60,8 +61,7 @@ impl Pool {
     /// Refused, in this order: [`Damaged`](PoolError::Damaged) by the head; [`Empty`](PoolError::Empty);
     /// [`Damaged`](PoolError::Damaged) by the slot's link. Where the cells fail, [`Cells`](PoolError::Cells).
     pub fn take<C: Cells>(&self, cells: &mut C) -> Result<u32, PoolError<C::Fault>>
-        ensures answer { TakeAnswers self.now (C.knows cells.old) (C.knows cells.new) result }
-        ensures keeps { C.keeps cells.old cells.new }
+        ensures answer { (done : List Access) × TakeAnswers self.now (C.knows cells.old) (C.knows cells.new) done result × C.keeps cells.old cells.new done }
     {
         let link = match cells.load(self.head) {
             Ok(link) => link,
@@ -94,8 +94,7 @@ impl Pool {
     /// cells fail, [`Cells`](PoolError::Cells).
     pub fn give<C: Cells>(&self, cells: &mut C, slot: u32) -> Result<(), PoolError<C::Fault>>
         requires { slot < self.now.slots }
-        ensures answer { GiveAnswers self.now (C.knows cells.old) (C.knows cells.new) slot result }
-        ensures keeps { C.keeps cells.old cells.new }
+        ensures answer { (done : List Access) × GiveAnswers self.now (C.knows cells.old) (C.knows cells.new) done slot result × C.keeps cells.old cells.new done }
     {
         let cell = self.cell(slot);
         let mark = match cells.load(cell) {

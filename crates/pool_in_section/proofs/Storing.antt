@@ -12,9 +12,11 @@ use Rattle.session.specs.declared.error.SessionError.TheVariants.{UnknownField, 
 use Rattle.session.specs.Logs.{section_records, held_count}
 use Rattle.session.specs.Calls.{IsQuiet, LacksRoom}
 use Rattle.session.specs.TwoStores.{StoresTwo}
-use Rattle.pool.specs.Knowledge.{Stores, FailsToStore}
-use Rattle.pool_in_section.specs.Knowing.{TellsOfFields, where_held, full_fault_in, records_of_two, store_fault_in, knowledge_in}
-use Rattle.pool_in_section.proofs.Loading.{where_true, where_false}
+use Rattle.session.specs.Sessions.{SameRing, view_of}
+use Rattle.pool.specs.Knowledge.{Stored, Stores, FailsToStore}
+use Rattle.pool_in_section.specs.declared.in_section.InSection.{InSection}
+use Rattle.pool_in_section.specs.Knowing.{session_of, home_of, Keeps, TellsOfFields, where_held, full_fault_in, records_of_two, store_fault_in, knowledge_in}
+use Rattle.pool_in_section.proofs.Loading.{where_true, where_false, quiet_tells}
 
 -- what a store to two answers
 abbrev pub Answers : Setting → View → View → FieldId → ℕ → FieldId → ℕ → Result (Unit {0}) SessionError → Type 0
@@ -94,32 +96,39 @@ pub when_err : (g : Setting) (v w : View) (f : FieldId) (x : ℕ) (h : FieldId) 
 when_err g v w f x h y (Ok done) a = tt
 when_err g v w f x h y (Err e) a = a
 
--- and it tells of fields alone
+-- and it tells of both stores, or of nothing
+abbrev pub Tells : View → View → FieldId → ℕ → FieldId → ℕ → Result (Unit {0}) SessionError → Type 0
+Tells v w f x h y r = MatchResult r (λ _. TellsOfFields v w (Stored h.0 y ∷ Stored f.0 x ∷ [])) (λ e. TellsOfFields v w [])
 
-quiet_tells : (v w : View) → IsQuiet v w → TellsOfFields v w
-quiet_tells v w quiet = ([], tt, quiet)
-
-tells_held : (v w : View) (f : FieldId) (x : ℕ) (h : FieldId) (y : ℕ) (r : Result (Unit {0}) SessionError) → StoresTwo v w f x h y r → TellsOfFields v w
-tells_held v w f x h y (Ok done) s = (Store h s.2 y ∷ Store f s.1 x ∷ [], tt, s.3)
+tells_held : (v w : View) (f : FieldId) (x : ℕ) (h : FieldId) (y : ℕ) (r : Result (Unit {0}) SessionError) → StoresTwo v w f x h y r → Tells v w f x h y r
+tells_held v w f x h y (Ok done) s = (Store h s.2 y ∷ Store f s.1 x ∷ [], tt, refl, s.3)
 tells_held v w f x h y (Err SectionFull) s = quiet_tells v w s.1
 tells_held v w f x h y (Err _) s = absurd s
+
+tells_refused : (v w : View) (f : FieldId) (x : ℕ) (h : FieldId) (y : ℕ) (r : Result (Unit {0}) SessionError) (e : SessionError) → (r ≡ Err e) × IsQuiet v w → Tells v w f x h y r
+tells_refused v w f x h y r e n = subst (Tells v w f x h y) (sym n.0) (quiet_tells v w n.1)
 
 tells_by_holds : (v w : View) (f : FieldId) (x : ℕ) (h : FieldId) (y : ℕ) (r : Result (Unit {0}) SessionError) →
     ((hold v (v.plan.guard f.0) ≡ None) ⊎ (hold v (v.plan.guard h.0) ≡ None) → (r ≡ Err NotHeld) × IsQuiet v w) →
     (IsHeld v (v.plan.guard f.0) → IsHeld v (v.plan.guard h.0) → StoresTwo v w f x h y r) →
-    (a b : Option Hold) → hold v (v.plan.guard f.0) ≡ a → hold v (v.plan.guard h.0) ≡ b → TellsOfFields v w
-tells_by_holds v w f x h y r not_held held None b is_a is_b = quiet_tells v w (not_held (inl is_a)).1
-tells_by_holds v w f x h y r not_held held (Some k) None is_a is_b = quiet_tells v w (not_held (inr is_b)).1
+    (a b : Option Hold) → hold v (v.plan.guard f.0) ≡ a → hold v (v.plan.guard h.0) ≡ b → Tells v w f x h y r
+tells_by_holds v w f x h y r not_held held None b is_a is_b = tells_refused v w f x h y r NotHeld (not_held (inl is_a))
+tells_by_holds v w f x h y r not_held held (Some k) None is_a is_b = tells_refused v w f x h y r NotHeld (not_held (inr is_b))
 tells_by_holds v w f x h y r not_held held (Some k) (Some m) is_a is_b = tells_held v w f x h y r (held (k, is_a) (m, is_b))
 
-tells_own : (v w : View) (f : FieldId) (x : ℕ) (h : FieldId) (y : ℕ) (r : Result (Unit {0}) SessionError) → Clauses v.plan v w f x h y r → TellsOfFields v w
+tells_own : (v w : View) (f : FieldId) (x : ℕ) (h : FieldId) (y : ℕ) (r : Result (Unit {0}) SessionError) → Clauses v.plan v w f x h y r → Tells v w f x h y r
 tells_own v w f x h y r c = elim (cases_lt f.0 v.plan.fields) [
   | inl low ↦ elim (cases_lt h.0 v.plan.fields) [
     | inl low_too ↦ tells_by_holds v w f x h y r (c.not_held low low_too) (c.held low low_too) (hold v (v.plan.guard f.0)) (hold v (v.plan.guard h.0)) refl refl
-    | inr high ↦ quiet_tells v w (c.unknown (inr high)).1
+    | inr high ↦ tells_refused v w f x h y r UnknownField (c.unknown (inr high))
   ]
-  | inr high ↦ quiet_tells v w (c.unknown (inl high)).1
+  | inr high ↦ tells_refused v w f x h y r UnknownField (c.unknown (inl high))
 ]
 
-pub tells_two : (g : Setting) (v w : View) (f : FieldId) (x : ℕ) (h : FieldId) (y : ℕ) (r : Result (Unit {0}) SessionError) → v.plan ≡ g → Clauses g v w f x h y r → TellsOfFields v w
-tells_two g v w f x h y r e = subst (λ (p : Setting). Clauses p v w f x h y r → TellsOfFields v w) e (tells_own v w f x h y r)
+pub tells_two : (g : Setting) (v w : View) (f : FieldId) (x : ℕ) (h : FieldId) (y : ℕ) (r : Result (Unit {0}) SessionError) → v.plan ≡ g → Clauses g v w f x h y r → Tells v w f x h y r
+tells_two g v w f x h y r e = subst (λ (p : Setting). Clauses p v w f x h y r → Tells v w f x h y r) e (tells_own v w f x h y r)
+
+pub keeps_two : (u v : InSection) (f : FieldId) (x : ℕ) (h : FieldId) (y : ℕ) (r : Result (Unit {0}) SessionError) → home_of v ≡ home_of u → SameRing (session_of u) (session_of v) →
+    Tells (view_of (session_of u)) (view_of (session_of v)) f x h y r → MatchResult r (λ _. Keeps u v (Stored h.0 y ∷ Stored f.0 x ∷ [])) (λ e. Keeps u v [])
+keeps_two u v f x h y (Ok done) home ring told = record { home = home; ring = ring; told = told }
+keeps_two u v f x h y (Err e) home ring told = record { home = home; ring = ring; told = told }

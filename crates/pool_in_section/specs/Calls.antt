@@ -1,9 +1,9 @@
 -- A pool's calls, by a session in its section: what they answer, of what the session knows (this project's own).
-use Rattle.std.specs.Prelude.{ℕ, Result}
+use Rattle.std.specs.Prelude.{ℕ, List, Result}
 use Rattle.monitor.specs.Seats.{Home}
 use Rattle.pool.specs.Calls.{TakeAnswers, GiveAnswers}
 use Rattle.pool.specs.FreeList.{Place}
-use Rattle.pool.specs.Knowledge.{Knowledge}
+use Rattle.pool.specs.Knowledge.{Access, Knowledge}
 use Rattle.pool.specs.declared.error.PoolError.{PoolError}
 use Rattle.pool_in_section.specs.Knowing.{TellsOfFields, knowledge_in}
 use Rattle.session.specs.Sessions.{view_of}
@@ -15,12 +15,14 @@ use Rattle.steps.specs.Views.{plan}
 abbrev pub known_to : Home → Session → Knowledge SessionError
 known_to h x = knowledge_in (plan h) (view_of x).events
 
--- A slot is taken, or that is refused, and the session was told nothing but loads and stores.
+-- A slot is taken, or that is refused, and the session was told just the loads and stores that the answer names.
 pub record TakesSlot (h : Home) (x y : Session) (p : Place) (r : Result ℕ (PoolError SessionError)) : Type 0 where
-  pub answer : TakeAnswers p (known_to h x) (known_to h y) r
-  pub told : TellsOfFields (view_of x) (view_of y)
+  pub done : List Access
+  pub answer : TakeAnswers p (known_to h x) (known_to h y) done r
+  pub told : TellsOfFields (view_of x) (view_of y) done
 
 -- A slot is given, or that is refused.
 pub record GivesSlot (h : Home) (x y : Session) (p : Place) (slot : ℕ) (r : Result (Unit {0}) (PoolError SessionError)) : Type 0 where
-  pub answer : GiveAnswers p (known_to h x) (known_to h y) slot r
-  pub told : TellsOfFields (view_of x) (view_of y)
+  pub done : List Access
+  pub answer : GiveAnswers p (known_to h x) (known_to h y) done slot r
+  pub told : TellsOfFields (view_of x) (view_of y) done

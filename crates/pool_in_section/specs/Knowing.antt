@@ -14,7 +14,7 @@ use Rattle.session.specs.declared.error.SessionError.{SessionError}
 use Rattle.session.specs.declared.error.SessionError.TheVariants.{UnknownField, NotHeld, SectionFull}
 use Rattle.session.specs.Calls.{records_of}
 use Rattle.session.specs.Sessions.{SameRing, view_of}
-use Rattle.pool.specs.Knowledge.{Knowledge}
+use Rattle.pool.specs.Knowledge.{Access, Loaded, Stored, Knowledge}
 use Rattle.pool_in_section.specs.declared.in_section.InSection.{InSection}
 
 -- the session, and the shared words that it uses
@@ -63,12 +63,19 @@ AreOfFields (Load f v ∷ older) = AreOfFields older
 AreOfFields (Store f before after ∷ older) = AreOfFields older
 AreOfFields (_ ∷ older) = ⊥
 
--- the thread was told nothing but loads and stores
-abbrev pub TellsOfFields : View → View → Type 0
-TellsOfFields v w = (newer : List Event) × AreOfFields newer × Lengthens v w newer
+-- what they loaded and stored
+abbrev pub accesses_of : List Event → List Access
+accesses_of [] = []
+accesses_of (Load f v ∷ older) = Loaded f.0 v ∷ accesses_of older
+accesses_of (Store f before after ∷ older) = Stored f.0 after ∷ accesses_of older
+accesses_of (_ ∷ older) = accesses_of older
 
--- The heap, the session's end of its ring and its lane are the same, and the thread was told nothing but loads and stores.
-pub record Keeps (u v : InSection) : Type 0 where
+-- the thread was told just these loads and stores, and nothing else
+abbrev pub TellsOfFields : View → View → List Access → Type 0
+TellsOfFields v w done = (newer : List Event) × AreOfFields newer × (accesses_of newer ≡ done) × Lengthens v w newer
+
+-- The heap, the session's end of its ring and its lane are the same, and the thread was told just these loads and stores.
+pub record Keeps (u v : InSection) (done : List Access) : Type 0 where
   pub home : home_of v ≡ home_of u
   pub ring : SameRing (session_of u) (session_of v)
-  pub told : TellsOfFields (view_of (session_of u)) (view_of (session_of v))
+  pub told : TellsOfFields (view_of (session_of u)) (view_of (session_of v)) done

@@ -1,7 +1,7 @@
 use Rattle.std.proofs.Common.{refl}
 use Rattle.steps.specs.Views.{plan}
 use Rattle.session.specs.Sessions.{view_of}
-use Rattle.pool_in_section.proofs.Storing.{when_ok, when_err, stores_two, tells_two}
+use Rattle.pool_in_section.proofs.Storing.{when_ok, when_err, stores_two, tells_two, keeps_two}
 use Rattle.pool_in_section.proofs.in_section.InSectionCells.store_two.Goals as goal
 
 pub returns-clause-ok : goal.returns-clause-ok
@@ -17,9 +17,7 @@ returns-clause-fault c = let e = c.store_two.ensures.told in
     c.args.self.now.seat.1 (record { unknown = e.unknown; not_held = e.not_held; held = e.held }))
 
 pub returns-clause-keeps : goal.returns-clause-keeps
-returns-clause-keeps c = let e = c.store_two.ensures.told in record {
-  home = refl;
-  ring = c.store_two.ensures.ring;
-  told = tells_two (plan c.args.self.now.shared.now) (view_of c.args.self.now.session) (view_of c.store_two.new.self) c.args.first c.args.one c.args.second c.args.two c.store_two.result
-      c.args.self.now.seat.1 (record { unknown = e.unknown; not_held = e.not_held; held = e.held });
-}
+returns-clause-keeps c = let e = c.store_two.ensures.told in
+    keeps_two _ _ c.args.first c.args.one c.args.second c.args.two c.store_two.result refl c.store_two.ensures.ring
+    (tells_two (plan c.args.self.now.shared.now) (view_of c.args.self.now.session) (view_of c.store_two.new.self) c.args.first c.args.one c.args.second c.args.two c.store_two.result
+    c.args.self.now.seat.1 (record { unknown = e.unknown; not_held = e.not_held; held = e.held }))
