@@ -53,6 +53,7 @@ impl Model for HostedHeap {
 impl HostedHeap {
     ghost use Rattle.std.specs.Prelude.{◌≡◌, ◌≢◌, ◌<◌, ◌≤◌, ◌+◌, ◌↔◌, [], ◌∷◌, List, ℕ, None, Some, IsSome, Err, true, false, length, IfOk, IfSome, IsErrOf, OnOk, MatchOption};
     ghost use Rattle.deferred_disk.specs.Deferred.{stop_of};
+    ghost use Rattle.deferred_disk.specs.Handing.{IsSmall};
     ghost use Rattle.block_disk.specs.Device.{Image};
     ghost use Rattle.deferred_disk.specs.Host.{Fetches, HasLooked, HaveMet};
     ghost use Rattle.deferred_disk.specs.declared.call.DeviceCall.{DeviceCall};
@@ -107,9 +108,10 @@ impl HostedHeap {
         self.calls.fetch();
     }
 
-    /// The call that the host has to make next, of those that were fetched.
+    /// The call that the host has to make next, of those that were fetched. A write has [`MOST_BYTES`](deferred_disk::MOST_BYTES) at most.
     pub fn next_call(&self) -> Option<&DeviceCall>
-        ensures { MatchOption result (self.now.calls.left ≡ []) (λ call. (later : List DeviceCall) × (self.now.calls.left ≡ call.now ∷ later)) }
+        ensures small { IfSome result (λ call. IsSmall call.now) }
+        ensures first { MatchOption result (self.now.calls.left ≡ []) (λ call. (later : List DeviceCall) × (self.now.calls.left ≡ call.now ∷ later)) }
     {
         self.calls.next_call()
     }

@@ -5,6 +5,7 @@ use Rattle.deferred_disk.specs.Deferred.{stop_of}
 use Rattle.deferred_disk.specs.Host.{Fetches, HasLooked, HaveMet, Host}
 use Rattle.deferred_disk.specs.declared.call.DeviceCall.{DeviceCall}
 use Rattle.deferred_disk.specs.declared.call.DeviceCall.TheVariants.{Write, Sync}
+use Rattle.deferred_disk.specs.declared.call.TheConstants.{MOST_BYTES}
 use Rattle.deferred_disk.specs.declared.disk.TheConstants.{SYNCS}
 use Rattle.hosted_heap.specs.Again.{HandsAgain, HasNoneIdle}
 use Rattle.hosted_heap.specs.Closing.{IsNotClosed}
@@ -147,9 +148,10 @@ filled_of None buffer = buffer
 filled_of (Some (Write at content)) buffer = take (length buffer) content.items ++ drop (length content.items) buffer
 filled_of (Some Sync) buffer = buffer
 
--- the first of the calls that are left is told, and its bytes are in the buffer
+-- the first of the calls that are left is told, which has MOST_BYTES at most, and its bytes are in the buffer
 pub record TellsFirst (left : List DeviceCall) (call : Call) (buffer filled : List ℕ) (status : ℕ) : Type 0 where
   pub told : call ≡ told_of (first_of left)
+  pub small : call.size ≤ MOST_BYTES
   pub bytes : filled ≡ filled_of (first_of left) buffer
   pub ok : status ≡ OK
 
