@@ -25,6 +25,8 @@ tells_both v w x a b = let f = a.2 in let s = b.2 in (
     slots = (let p = f.slots in let q = s.slots in omega arith);
     stable = (let p = f.stable in let q = s.stable in omega arith);
     trimmed = (let p = f.trimmed in let q = s.trimmed in omega arith);
+    stable_looks = (let p = f.stable_looks in let q = s.stable_looks in omega arith);
+    trimmed_looks = (let p = f.trimmed_looks in let q = s.trimmed_looks in omega arith);
     fats = λ o i e. s.fats o i (f.fats o i e);
     words = λ o x h. s.words o x (f.words o x h);
   },
