@@ -46,6 +46,7 @@ lacks_section s some low = record {
   shorter = held;
   last = (0, Rel object 0);
   is_last = refl;
+  release = refl;
   cut = one;
   legal = ((tt, (refl, refl, low), tt, some), (refl, refl), tt, some);
   shorter_legal = (tt, (refl, refl, low), tt, some);

@@ -1,12 +1,12 @@
 -- What a cut keeps of a log, by what each lane has logged up to its last release (this project's own).
-use Rattle.std.specs.Prelude.{ℕ, ◌≡◌, ◌<◌, List, ◌∷◌, ◌++◌}
+use Rattle.std.specs.Prelude.{ℕ, ◌≡◌, ◌<◌, true, List, ◌∷◌, ◌++◌}
 use Rattle.heap_model.specs.declared.record.Record.{Record}
 use Rattle.heap_model.specs.Setting.{Setting}
 use Rattle.heap_model.specs.Log.{lane, IsLegal}
 use Rattle.heap_model.specs.Sections.{actions}
 use Rattle.heap_model.specs.Cuts.{IsWhole, IsClosed}
 use Rattle.heap_model.specs.KeptHeap.{kept_value}
-use Rattle.lane_rings.specs.Following.{from_release}
+use Rattle.lane_rings.specs.Following.{from_release, is_release}
 
 -- each lane of the log, up to its last release, is the beginning of that lane of the other, whatever the order of the lanes among one another
 abbrev pub IsReleasedPrefix : (log longer : List (ℕ × Record)) → Type 0
@@ -28,12 +28,13 @@ ReleasedLaw = (s : Setting) (log longer : List (ℕ × Record)) (cut : ℕ → �
 abbrev pub OlderLaw : Type 0
 OlderLaw = (newer log longer : List (ℕ × Record)) → IsReleasedPrefix (newer ++ log) longer → IsReleasedPrefix log longer
 
--- the one log has a record more than the other, and its cut a section that the other lacks
+-- the one log has a record more than the other, a release, and its cut a section that the other lacks
 pub record LacksSection (s : Setting) : Type 0 where
   pub log : List (ℕ × Record)
   pub shorter : List (ℕ × Record)
   pub last : ℕ × Record
   pub is_last : log ≡ last ∷ shorter
+  pub release : is_release last.1 ≡ true
   pub cut : ℕ → ℕ
   pub legal : IsLegal s log
   pub shorter_legal : IsLegal s shorter
