@@ -24,7 +24,7 @@ impl Cells for Row {
 
     ghost knows = { λ row. row_knows row.values.items row.broken row.stuck };
 
-    ghost keeps = { λ before after. Unit {0} };
+    ghost keeps = { λ before after done. Unit {0} };
 
     fn load(&mut self, field: FieldId) -> Result<u64, ()> {
         if field.0 == self.broken {
@@ -54,7 +54,7 @@ impl Cells for Row {
         Ok(())
     }
 
-    ghost keeps_both = { λ a b c x y. tt };
+    ghost keeps_both = { λ a b c d e x y. tt };
 }
 
 /// No cell is broken.
