@@ -366,7 +366,10 @@ static inline void zelamiku_threads_tell(zelamiku_threads *all, zelamiku_status 
         __atomic_store_n(&all->error, error, __ATOMIC_SEQ_CST);
         __atomic_add_fetch(&all->troubles, 1, __ATOMIC_SEQ_CST);
     } else if (status != ZELAMIKU_OK) {
-        __atomic_store_n(&all->over, status, __ATOMIC_SEQ_CST);
+        /* Not while a stop looks, which would write over it. */
+        pthread_mutex_lock(&all->mutex);
+        __atomic_store_n(&all->over, (uint32_t)status, __ATOMIC_SEQ_CST);
+        pthread_mutex_unlock(&all->mutex);
     }
     __atomic_add_fetch(&all->rounds, 1, __ATOMIC_SEQ_CST);
     for (uint32_t lane = 0; lane < all->lanes; lane++) {
@@ -441,11 +444,35 @@ static inline void zelamiku_threads_let_go(zelamiku_threads *all) {
     pthread_mutex_destroy(&all->mutex);
 }
 
+/* Takes the sessions of all lanes, each for the seat of its lane: one that was used before is handed out behind those that weren't, and has
+ * ended sections. RUNNING: a lane's session is still out. */
+static inline zelamiku_status zelamiku_threads_take_lanes(zelamiku_threads *all, zelamiku_handle *heap) {
+    zelamiku_handle session = ZELAMIKU_NONE;
+    zelamiku_status status = ZELAMIKU_OK;
+    uint64_t ended = 0;
+    while (all->lanes < ZELAMIKU_MOST_LANES && (status = zelamiku_session(heap, &session)) == ZELAMIKU_OK) {
+        uint32_t lane = ZELAMIKU_NOBODY;
+        status = zelamiku_lane(&session, &lane, &ended);
+        if (status != ZELAMIKU_OK) {
+            zelamiku_free(&session);
+            return status;
+        }
+        all->seats[lane].session = session;
+        all->seats[lane].ended = ended;
+        memset(&session, 0, sizeof session);
+        all->lanes++;
+    }
+    if (status != ZELAMIKU_OK && status != ZELAMIKU_NONE_LEFT) return status;
+    /* Where the heap has a lane more than were handed out. */
+    return zelamiku_acknowledged(heap, all->lanes, &ended) == ZELAMIKU_BAD_LANE ? ZELAMIKU_OK : ZELAMIKU_RUNNING;
+}
+
 /* ---- the heap ---- */
 
 /* Takes over a heap that was opened or made on a device, whose calls `make_calls` makes, and starts its helper. A section that nobody waits
  * for is durable at the latest so many microseconds, and a round, after its end; 5,000 is a good number, and a less one makes more syncs.
- * NOTHING, CLOSED, WRONG_KIND, NO_MEMORY (no thread could be started, too: errno says why): the heap's handle may only be freed. */
+ * RUNNING: a session that was handed out before hasn't ended, or held a monitor when it did. NOTHING, CLOSED, STOPPED, WRONG_KIND,
+ * NO_MEMORY (no thread could be started, too: errno says why). The heap's handle may only be freed then. */
 ZELAMIKU_MUST_USE static inline zelamiku_status zelamiku_threads_start_over(zelamiku_threads *all, zelamiku_handle *heap,
                                                                             zelamiku_threads_calls *make_calls, void *device,
                                                                             uint32_t linger) {
@@ -455,12 +482,9 @@ ZELAMIKU_MUST_USE static inline zelamiku_status zelamiku_threads_start_over(zela
     all->linger = (uint64_t)linger * 1000;
     long processors = sysconf(_SC_NPROCESSORS_ONLN);
     all->processors = processors > 1 ? (uint32_t)processors : 1;
-    zelamiku_status status = ZELAMIKU_OK;
-    while (all->lanes < ZELAMIKU_MOST_LANES &&
-           (status = zelamiku_session(heap, &all->seats[all->lanes].session)) == ZELAMIKU_OK)
-        all->lanes++;
-    if (status != ZELAMIKU_OK && status != ZELAMIKU_NONE_LEFT) {
-        for (uint32_t lane = 0; lane < all->lanes; lane++) zelamiku_free(&all->seats[lane].session);
+    zelamiku_status status = zelamiku_threads_take_lanes(all, heap);
+    if (status != ZELAMIKU_OK) {
+        for (uint32_t lane = 0; lane < ZELAMIKU_MOST_LANES; lane++) zelamiku_free(&all->seats[lane].session);
         return status;
     }
     pthread_condattr_t monotonic;
