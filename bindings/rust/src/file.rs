@@ -148,8 +148,9 @@ impl Heap {
     // Locks a file, syncs it, and opens the heap of its bytes so.
     fn of_file(file: &File, open: fn(&[u8]) -> Result<(Heap, Report), NotOpened>) -> Result<(Heap, Report), FileError> {
         lock(file)?;
-        // What a process before this one wrote may be in the system's cache alone.
+        // What a process before this one wrote may be in the system's cache alone: it is made durable, and then read from the device.
         file.sync_all()?;
+        raw::forget_pages(file);
         let size = file.metadata()?.len();
         let header = first_bytes(file, size.min(HEADER_BYTES))?;
         // No image is so small: of an image's header alone it is told, and what isn't one is refused by it.

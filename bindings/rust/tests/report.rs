@@ -75,6 +75,9 @@ fn each_section_is_kept_or_dropped_for_a_reason() {
         assert!(kept == 1 || kept == 3, "{report:?}");
         for Dropped { lane, section, why } in &report.dropped {
             assert!((*lane, *section) == (0, 2) || (*lane, *section) == (1, 1), "{report:?}");
+            if let Why::Depended { lane: on, section: of } = why {
+                assert_eq!(((*lane, *section), (*on, *of)), ((1, 1), (0, 2)), "{report:?}");
+            }
             seen.push(*why);
         }
     }
