@@ -63,7 +63,11 @@ static void measure(const char *path, unsigned rounds, unsigned sections, calls 
     zelamiku_handle heap = ZELAMIKU_NONE, sessions[LANES];
     zelamiku_field fields[LANES + 1];
     double round_time = 0, calls_time = 0;
-    int file = open(path, O_RDWR | O_CREAT | O_TRUNC, 0644);
+    int file = open(path, O_RDWR | O_CREAT | O_CLOEXEC, 0644);
+    if (file < 0) {
+        perror(path);
+        exit(2);
+    }
     for (uint32_t i = 0; i <= LANES; i++) fields[i] = (zelamiku_field){.owner = i, .guard = i};
     must(zelamiku_format_file(&heap, file, LANES + 1, fields, LANES + 1, LANES, CAPACITY), path);
     make_calls(&heap, file, which);

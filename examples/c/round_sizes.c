@@ -131,7 +131,11 @@ int main(int count, char **words) {
     zelamiku_handle handle = ZELAMIKU_NONE;
     zelamiku_field fields[SHARED + 1];
     for (uint32_t i = 0; i <= SHARED; i++) fields[i] = (zelamiku_field){.owner = i, .guard = i};
-    int file = open(words[1], O_RDWR | O_CREAT | O_TRUNC, 0644);
+    int file = open(words[1], O_RDWR | O_CREAT | O_CLOEXEC, 0644);
+    if (file < 0) {
+        perror(words[1]);
+        return 2;
+    }
     must(zelamiku_format_file(&handle, file, SHARED + 1, fields, SHARED + 1, threads, capacity), words[1]);
     must(zelamiku_threads_start_over(&heap, &handle, slow_calls, (void *)(intptr_t)file, 5000), "start");
     double before = processor_time();
