@@ -220,17 +220,33 @@ ZELAMIKU_MUST_USE static inline zelamiku_status zelamiku_format_sectors(zelamiku
     return status;
 }
 
+/* Opens a heap of its bytes: zelamiku_open, or what upgrades. */
+typedef zelamiku_status zelamiku_sectors_opening(zelamiku_handle *heap, const uint8_t *image, size_t size, zelamiku_found *found);
+
+/* Flushes the device, reads the image, and opens the heap of it so. */
+static inline zelamiku_status zelamiku_sectors_open(zelamiku_handle *heap, zelamiku_sectors *host, zelamiku_found *found,
+                                                    zelamiku_sectors_opening *opening) {
+    memset(found, 0, sizeof *found);
+    /* What an open heap has written and not flushed is in the host's image alone. */
+    if (heap->is_open) return ZELAMIKU_OPEN;
+    if (!host->device.flush(host->device.at)) return ZELAMIKU_DEVICE;
+    zelamiku_status status = zelamiku_sectors_load(host);
+    return status == ZELAMIKU_OK ? opening(heap, host->image, (size_t)(host->count * host->sector), found) : status;
+}
+
 /* Flushes the device, reads the image, and opens the heap of it as zelamiku_open does. The calls of its recovery are left to
  * zelamiku_make_calls_sectors.
  * As zelamiku_open; NOT_FORMATTED, where no label of this sector size is there; TOO_SMALL; NO_MEMORY; and DEVICE: a call of the device has
  * failed, or a sector can't be read. The handle is as it was, and nothing was written. */
 ZELAMIKU_MUST_USE static inline zelamiku_status zelamiku_open_sectors(zelamiku_handle *heap, zelamiku_sectors *host,
                                                                       zelamiku_found *found) {
-    memset(found, 0, sizeof *found);
-    if (heap->is_open) return ZELAMIKU_OPEN;
-    if (!host->device.flush(host->device.at)) return ZELAMIKU_DEVICE;
-    zelamiku_status status = zelamiku_sectors_load(host);
-    return status == ZELAMIKU_OK ? zelamiku_open(heap, host->image, (size_t)(host->count * host->sector), found) : status;
+    return zelamiku_sectors_open(heap, host, found, zelamiku_open);
+}
+
+/* The same, as zelamiku_upgrade does: the image has version 2 once zelamiku_make_calls_sectors has made the calls that are left to it. */
+ZELAMIKU_MUST_USE static inline zelamiku_status zelamiku_upgrade_sectors(zelamiku_handle *heap, zelamiku_sectors *host,
+                                                                         zelamiku_found *found) {
+    return zelamiku_sectors_open(heap, host, found, zelamiku_upgrade);
 }
 
 /* Makes all calls of the device that are left, in their order. `made` gets how many there were: a write counts once it is noted, a sync

@@ -229,6 +229,37 @@ static void open_twice(zelamiku_layout layout) {
     end_device();
 }
 
+/* Where the two controls begin in an image, by their gates, and the last byte of their version behind each (docs/FORMAT.md). */
+static const uint64_t SLOTS[2] = {64, 1112};
+#define VERSION_BYTE 19
+
+/* An image of version 1, as a library from before there were transient fields left it, isn't opened; it is upgraded, and goes on. */
+static void upgrade(zelamiku_layout layout) {
+    zelamiku_handle heap = ZELAMIKU_NONE, session = ZELAMIKU_NONE;
+    zelamiku_found found;
+    uint64_t made = 0, number = 0;
+    begin_device();
+    zelamiku_sectors host = host_of(layout);
+    make_heap(&heap, &host);
+    MUST(zelamiku_session(&heap, &session) == ZELAMIKU_OK);
+    begin_one(&session, 2), count_one(&session, 2);
+    MUST(zelamiku_end(&session) == ZELAMIKU_OK && zelamiku_round(&heap, &number) == ZELAMIKU_OK);
+    MUST(zelamiku_make_calls_sectors(&heap, &host, &made) == ZELAMIKU_OK);
+    zelamiku_free(&heap);
+    uint8_t *image = now + zelamiku_sectors_area(&host, host.turn) * sector;
+    for (int i = 0; i < 2; i++)
+        if (image[SLOTS[i]] == 0xa5) image[SLOTS[i] + VERSION_BYTE] = 1;
+    zelamiku_end_sectors(&host);
+    MUST(zelamiku_open_sectors(&heap, &host, &found) == ZELAMIKU_OLD_VERSION && !heap.is_open && found.lanes == 0);
+    MUST(zelamiku_upgrade_sectors(&heap, &host, &found) == ZELAMIKU_OK && found.lanes == WORKERS + 1);
+    MUST(zelamiku_upgrade_sectors(&heap, &host, &found) == ZELAMIKU_OPEN && heap.is_open);
+    MUST(zelamiku_make_calls_sectors(&heap, &host, &made) == ZELAMIKU_OK && made > 0);
+    zelamiku_free(&heap);
+    zelamiku_end_sectors(&host);
+    MUST(look(layout, 1, 1) == NULL);
+    end_device();
+}
+
 /* ---- crashes ---- */
 
 enum { WHOLE, TORN, ANY_BYTES, UNREADABLE, MODELS };
@@ -329,6 +360,8 @@ int main(int argc, char **argv) {
     for (sector = 512; sector <= 4096; sector *= 8) {
         open_twice(ZELAMIKU_IN_PLACE);
         open_twice(ZELAMIKU_TWO_PLACES);
+        upgrade(ZELAMIKU_IN_PLACE);
+        upgrade(ZELAMIKU_TWO_PLACES);
         for (int model = 0; model < MODELS; model++) {
             failed += wrong_of(ZELAMIKU_TWO_PLACES, model, crashes) > 0;
             /* In place bytes are lost by the last two models: a test that finds none there would find none anywhere. */
