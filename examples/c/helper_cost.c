@@ -53,7 +53,7 @@ static void make_calls(zelamiku_handle *heap, int file, calls which) {
         must(zelamiku_next_call(heap, &call, bytes, sizeof bytes), "next call");
         if (call.kind == ZELAMIKU_NO_CALL) return;
         if (which == WRITES && call.kind == ZELAMIKU_WRITE &&
-            pwrite(file, bytes, (size_t)call.size, (off_t)call.at) != (ssize_t)call.size)
+            (call.size > sizeof bytes || pwrite(file, bytes, (size_t)call.size, (off_t)call.at) != (ssize_t)call.size))
             exit(2);
         must(zelamiku_call_done(heap), "call done");
     }

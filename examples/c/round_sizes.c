@@ -48,7 +48,7 @@ static zelamiku_status slow_calls(zelamiku_handle *of, void *descriptor, uint64_
         if (status != ZELAMIKU_OK || call.kind == ZELAMIKU_NO_CALL) return status;
         if (call.kind == ZELAMIKU_SYNC)
             nanosleep(&sync_time, NULL);
-        else if (!zelamiku_file_write((int)(intptr_t)descriptor, bytes, (size_t)call.size, call.at))
+        else if (call.size > sizeof bytes || !zelamiku_file_write((int)(intptr_t)descriptor, bytes, (size_t)call.size, call.at))
             return zelamiku_call_failed(of) == ZELAMIKU_OK ? ZELAMIKU_DEVICE : ZELAMIKU_LOST;
         status = zelamiku_call_done(of);
         if (status != ZELAMIKU_OK) return status;
