@@ -489,8 +489,9 @@ static void *take_turn(void *data) {
     return NULL;
 }
 
-/* Threads that sleep for one monitor get it in the order in which they came. */
-static void turns(void) {
+/* Threads that sleep for one monitor get it in the order in which they came, also where the one that has it gives it back before, takes it
+ * again so often, and keeps it until all that it has woken sleep again. */
+static void turns(unsigned takes_between) {
     begin_anew();
     zelamiku_thread own;
     pthread_t threads[LANES - 1];
@@ -502,6 +503,9 @@ static void turns(void) {
         /* One that only stands in its place may try once more. */
         while (__atomic_load_n(&sleeps, __ATOMIC_SEQ_CST) - before <= i) usleep(100);
     }
+    for (unsigned i = 0; i < takes_between; i++)
+        MUST(zelamiku_thread_exit(&own, TOTAL) == ZELAMIKU_OK && zelamiku_thread_enter(&own, TOTAL) == ZELAMIKU_OK);
+    if (takes_between > 0) usleep(20000);
     MUST(zelamiku_thread_exit(&own, TOTAL) == ZELAMIKU_OK);
     for (unsigned i = 0; i < LANES - 1; i++) MUST(pthread_join(threads[i], NULL) == 0 && order[i] == i);
     MUST(zelamiku_thread_end(&own) == ZELAMIKU_OK && zelamiku_threads_stop(&all) == ZELAMIKU_OK);
@@ -558,7 +562,8 @@ int main(int argc, char **argv) {
     deadlines();
     stops_beside_failing_syncs();
     behind_a_session();
-    turns();
+    turns(0);
+    for (int i = 0; i < 5; i++) turns(20);
     rest(argc > 2 ? (unsigned)strtoul(argv[2], NULL, 10) : 200);
     printf("threads: lives of %d threads, room, refusals, writes and syncs that fail, deadlines, stops beside these, sessions before, turns, "
            "and rest\n",
