@@ -121,8 +121,8 @@ fn first_bytes(file: &File, count: u64) -> io::Result<Vec<u8>> {
 /// and this lock, and what went there would be lost. Open it again then.
 impl Heap {
     /// Locks a file that is open for reading and writing, syncs it, reads it, past what the system keeps of it where that can be, and opens
-    /// the heap of its bytes as [`open`](Heap::open) does. It takes memory for 64 bytes where the file begins with no header of an image, and else for the image. The calls of the recovery
-    /// are left to [`make_calls`](Heap::make_calls) on the same file.
+    /// the heap of its bytes as [`open`](Heap::open) does. It takes memory for 64 bytes where the file begins with no header of an image,
+    /// and else for the image. The calls of the recovery are left to [`make_calls`](Heap::make_calls) on the same file.
     pub fn open_file(file: &File) -> Result<(Heap, Found), FileError> {
         let (heap, report) = Heap::open_file_telling(file)?;
         Ok((heap, report.found))
