@@ -67,9 +67,16 @@ static zelamiku_sector_answer read_one(void *at, uint64_t number, uint8_t *bytes
     return ZELAMIKU_SECTOR_READ;
 }
 
+static int refused_in; /* which write or flush from now on is refused; 0: none */
+
+static bool is_refused(void) {
+    return refused_in > 0 && --refused_in == 0;
+}
+
 static bool write_some(void *at, uint64_t number, const uint8_t *bytes, uint64_t count) {
     (void)at;
     MUST(count > 0 && number < sectors && count <= sectors - number);
+    if (is_refused()) return false;
     memcpy(now + number * sector, bytes, (size_t)(count * sector));
     memset(is_lost + number, 0, (size_t)count);
     if (records) {
@@ -81,14 +88,9 @@ static bool write_some(void *at, uint64_t number, const uint8_t *bytes, uint64_t
     return true;
 }
 
-static int refusals; /* how many flushes are refused from now on */
-
 static bool flush(void *at) {
     (void)at;
-    if (refusals > 0) {
-        refusals--;
-        return false;
-    }
+    if (is_refused()) return false;
     if (records) note((event){FLUSHED, 0, 0, NULL, 0});
     return true;
 }
@@ -205,8 +207,9 @@ static void end_device(void) {
     free(now), free(is_lost);
 }
 
-/* An open that is answered OPEN leaves the open heap's batch, which a flush was refused of, as it was: the next try writes it. */
-static void open_twice(zelamiku_layout layout) {
+/* An open that is answered OPEN leaves the open heap's batch as it was, of which a write or a flush was refused: the next try writes it.
+ * Answers whether the round has so many calls. */
+static bool open_twice(zelamiku_layout layout, int call) {
     zelamiku_handle heap = ZELAMIKU_NONE, session = ZELAMIKU_NONE;
     zelamiku_found found;
     uint64_t made = 0, number = 0;
@@ -216,17 +219,21 @@ static void open_twice(zelamiku_layout layout) {
     MUST(zelamiku_session(&heap, &session) == ZELAMIKU_OK);
     begin_one(&session, 1), count_one(&session, 1);
     MUST(zelamiku_end(&session) == ZELAMIKU_OK && zelamiku_round(&heap, &number) == ZELAMIKU_OK);
-    refusals = 1;
-    MUST(zelamiku_make_calls_sectors(&heap, &host, &made) == ZELAMIKU_DEVICE && refusals == 0);
+    refused_in = call;
+    zelamiku_status status = zelamiku_make_calls_sectors(&heap, &host, &made);
+    bool was_refused = refused_in == 0;
+    refused_in = 0;
+    MUST(status == (was_refused ? ZELAMIKU_DEVICE : ZELAMIKU_OK));
     MUST(zelamiku_open_sectors(&heap, &host, &found) == ZELAMIKU_OPEN && heap.is_open && found.lanes == 0);
     MUST(zelamiku_make_calls_sectors(&heap, &host, &made) == ZELAMIKU_OK);
     MUST(zelamiku_acknowledged(&heap, 0, &number) == ZELAMIKU_OK && number == 1);
     zelamiku_free(&heap);
     zelamiku_end_sectors(&host);
     const char *what = look(layout, 1, 1);
-    if (what != NULL) fprintf(stderr, "opened twice: %s\n", what);
+    if (what != NULL) fprintf(stderr, "opened twice, call %d refused: %s\n", call, what);
     MUST(what == NULL);
     end_device();
+    return was_refused;
 }
 
 /* Where the two controls begin in an image, by their gates, and the last byte of their version behind each (docs/FORMAT.md). */
@@ -358,10 +365,12 @@ int main(int argc, char **argv) {
     MUST(crashes > 0);
     state = (argc > 2 ? strtoull(argv[2], NULL, 0) : 7) * 2654435761u + 1;
     for (sector = 512; sector <= 4096; sector *= 8) {
-        open_twice(ZELAMIKU_IN_PLACE);
-        open_twice(ZELAMIKU_TWO_PLACES);
-        upgrade(ZELAMIKU_IN_PLACE);
-        upgrade(ZELAMIKU_TWO_PLACES);
+        for (int layout = ZELAMIKU_IN_PLACE; layout <= ZELAMIKU_TWO_PLACES; layout++) {
+            int calls = 1;
+            while (open_twice((zelamiku_layout)layout, calls)) calls++;
+            MUST(calls > 4);
+            upgrade((zelamiku_layout)layout);
+        }
         for (int model = 0; model < MODELS; model++) {
             failed += wrong_of(ZELAMIKU_TWO_PLACES, model, crashes) > 0;
             /* In place bytes are lost by the last two models: a test that finds none there would find none anywhere. */

@@ -391,12 +391,14 @@ static void deadlines(void) {
     MUST(zelamiku_threads_stop(&all) == ZELAMIKU_LOST);
 }
 
-/* Hangs the syncs of the first round, which has nothing of a thread's. */
+/* The helper hangs in a sync of the first round, which has nothing of a thread's. */
 static void begin_hanging(void) {
     zelamiku_handle heap = ZELAMIKU_NONE;
     MUST(zelamiku_format_file(&heap, file, 2, FIELDS, 3, LANES, 2000) == ZELAMIKU_OK);
+    unsigned before = __atomic_load_n(&syncs, __ATOMIC_SEQ_CST);
     __atomic_store_n(&syncs_hang, 1, __ATOMIC_SEQ_CST);
     MUST(zelamiku_threads_start(&all, &heap, file, 1000) == ZELAMIKU_OK);
+    while (__atomic_load_n(&syncs, __ATOMIC_SEQ_CST) == before) usleep(100);
 }
 
 static void *fail_soon(void *data) {
