@@ -27,6 +27,7 @@
  *     for (;;) {
  *         if (zelamiku_next_call(&heap, &call, buffer, sizeof buffer) != ZELAMIKU_OK) return -1;
  *         if (call.kind == ZELAMIKU_NO_CALL) return 0;
+ *         if (call.size > sizeof buffer) return -1; // it isn't whole in the buffer
  *         bool made = call.kind == ZELAMIKU_WRITE ? pwrite(fd, buffer, call.size, (off_t)call.at) == (ssize_t)call.size
  *                                                 : fdatasync(fd) == 0;
  *         if (!made) return zelamiku_call_failed(&heap) == ZELAMIKU_OK ? 1 : -1; // and never zelamiku_call_done for it
@@ -57,7 +58,8 @@
  *     while ((answer = zelamiku_try_resume(&session)) == ZELAMIKU_IN_SET || answer == ZELAMIKU_HELD) pthread_cond_wait(&changed, &m);
  *     pthread_mutex_unlock(&m);
  *     if (answer != ZELAMIKU_OK) ...
- *     zelamiku_exit(&session, object); pthread_mutex_lock(&m); pthread_cond_broadcast(&changed); pthread_mutex_unlock(&m);
+ *     if (zelamiku_exit(&session, object) != ZELAMIKU_OK) ...
+ *     pthread_mutex_lock(&m); pthread_cond_broadcast(&changed); pthread_mutex_unlock(&m);
  */
 #ifndef ZELAMIKU_H
 #define ZELAMIKU_H
@@ -344,7 +346,7 @@ ZELAMIKU_MUST_USE zelamiku_status zelamiku_call_failed(zelamiku_handle *heap);
 
 /* Takes what the sessions have done, writes it to the log, acknowledges each section that has ended and depends on none that hasn't,
  * and leaves the calls of that to zelamiku_next_call: make them after each round, or in a thread that orders its calls with this one.
- * `applied` gets how many records were taken. With none there is no call.
+ * `applied` gets how many records were taken. With none there is no call, but in the first round after an opening.
  * CLOSED: nothing was done. CALLS_LEFT: the host hasn't made its calls for so many rounds
  * that those of one more might have no room: nothing was done; make them, and go on. FAULT, FAILED, WORN: the heap has stopped; what
  * was acknowledged stays: free the handles, and open it again. */

@@ -3,14 +3,14 @@
  * The library itself reaches no file. These functions make the calls that it tells, as a host does: they are C, and nothing proves
  * them. Define _POSIX_C_SOURCE as 200809L, or _GNU_SOURCE, before the first #include.
  *
- *     int file = open("accounts", O_RDWR | O_CREAT, 0644);
+ *     int file = open("accounts", O_RDWR | O_CREAT | O_CLOEXEC, 0644);
  *     if (zelamiku_open_file(&heap, file, &found) != ZELAMIKU_OK) ...                      or zelamiku_format_file
  *     if (zelamiku_make_calls(&heap, file, &made) != ZELAMIKU_OK) ...                      then, and after each round and the closing
  *
  * One open has a file's heap at a time. Opening and making lock the file (flock, for its open alone), as heapctl and the Rust crate do,
  * and answer ZELAMIKU_BUSY where another open has locked it. The lock stays, also after another refusal, until the descriptor and its
- * copies are closed: a child that is forked and keeps one keeps the lock. A file that has no name any more is BUSY too: heapctl may
- * have replaced it between the caller's open and this lock, and what went there would be lost. Open it again then.
+ * copies are closed: a child that keeps one keeps the lock, so open the file with O_CLOEXEC. A file that has no name any more is BUSY too:
+ * heapctl may have replaced it between the caller's open and this lock, and what went there would be lost. Open it again then.
  *
  * What the caller upholds besides the rules of zelamiku.h, for each call:
  *  - the descriptor is that of a regular file with a name, open for reading and writing and not for appending, always the same for one
@@ -48,6 +48,7 @@ static inline bool zelamiku_file_write(int descriptor, const uint8_t *bytes, siz
     while (size > 0) {
         ssize_t count = pwrite(descriptor, bytes, size, (off_t)at);
         if (count < 0 && errno == EINTR) continue;
+        if (count == 0) errno = EIO;
         if (count <= 0) return false;
         bytes += count;
         size -= (size_t)count;
@@ -60,6 +61,7 @@ static inline bool zelamiku_file_read(int descriptor, uint8_t *bytes, size_t siz
     for (off_t at = 0; size > 0;) {
         ssize_t count = pread(descriptor, bytes, size, at);
         if (count < 0 && errno == EINTR) continue;
+        if (count == 0) errno = EIO; /* the file was cut meanwhile */
         if (count <= 0) return false;
         bytes += count;
         size -= (size_t)count;
@@ -159,6 +161,8 @@ ZELAMIKU_MUST_USE static inline zelamiku_status zelamiku_file_open(zelamiku_hand
     memset(told, 0, sizeof *told);
     told->bad_lane = ZELAMIKU_NOBODY;
     memset(dropped, 0, count * sizeof *dropped);
+    /* Before the sync, which would be told of a write of the open heap's that has failed, as that heap's own sync has to be. */
+    if (heap->is_open) return ZELAMIKU_OPEN;
     struct stat info;
     uint8_t header[ZELAMIKU_HEADER_BYTES] = {0};
     zelamiku_status status = zelamiku_file_lock(descriptor);

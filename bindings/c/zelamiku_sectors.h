@@ -15,8 +15,8 @@
  *                        sector that was being written has any bytes after a crash, or can't be read. Twice the space and two sectors, two
  *                        flushes for each sync, and each sector that was written is written again with the next sync.
  *
- * The image is kept in memory, so that nothing is read to fill a sector. What the caller upholds besides the rules of zelamiku.h: nobody
- * else writes the device; what it says is flushed is durable; and a device that has once refused a flush and goes on has kept what was
+ * The image is kept in memory, so that nothing is read to fill a sector. What the caller upholds besides the rules of zelamiku.h: one heap
+ * at a time is on a host, and one call at a time has them; nobody else writes the device; what it says is flushed is durable; and a device that has once refused a flush and goes on has kept what was
  * written before, or takes it again: the batch is written whole with the next try. A device that is gone is the caller's to see. */
 #ifndef ZELAMIKU_SECTORS_H
 #define ZELAMIKU_SECTORS_H
@@ -40,7 +40,8 @@ typedef struct {
 
 typedef enum { ZELAMIKU_IN_PLACE, ZELAMIKU_TWO_PLACES } zelamiku_layout;
 
-/* The host of a heap. The caller sets the first three, and reads and writes none of the others. */
+/* The host of a heap. The caller sets the first three, where all others are 0 (by an initializer, or memset before), and reads and writes
+ * none of the others. */
 typedef struct {
     zelamiku_device device;
     uint32_t sector; /* bytes: 512 or 4,096 */
@@ -219,16 +220,33 @@ ZELAMIKU_MUST_USE static inline zelamiku_status zelamiku_format_sectors(zelamiku
     return status;
 }
 
+/* Opens a heap of its bytes: zelamiku_open, or what upgrades. */
+typedef zelamiku_status zelamiku_sectors_opening(zelamiku_handle *heap, const uint8_t *image, size_t size, zelamiku_found *found);
+
+/* Flushes the device, reads the image, and opens the heap of it so. */
+static inline zelamiku_status zelamiku_sectors_open(zelamiku_handle *heap, zelamiku_sectors *host, zelamiku_found *found,
+                                                    zelamiku_sectors_opening *opening) {
+    memset(found, 0, sizeof *found);
+    /* What an open heap has written and not flushed is in the host's image alone. */
+    if (heap->is_open) return ZELAMIKU_OPEN;
+    if (!host->device.flush(host->device.at)) return ZELAMIKU_DEVICE;
+    zelamiku_status status = zelamiku_sectors_load(host);
+    return status == ZELAMIKU_OK ? opening(heap, host->image, (size_t)(host->count * host->sector), found) : status;
+}
+
 /* Flushes the device, reads the image, and opens the heap of it as zelamiku_open does. The calls of its recovery are left to
  * zelamiku_make_calls_sectors.
  * As zelamiku_open; NOT_FORMATTED, where no label of this sector size is there; TOO_SMALL; NO_MEMORY; and DEVICE: a call of the device has
  * failed, or a sector can't be read. The handle is as it was, and nothing was written. */
 ZELAMIKU_MUST_USE static inline zelamiku_status zelamiku_open_sectors(zelamiku_handle *heap, zelamiku_sectors *host,
                                                                       zelamiku_found *found) {
-    memset(found, 0, sizeof *found);
-    if (!host->device.flush(host->device.at)) return ZELAMIKU_DEVICE;
-    zelamiku_status status = zelamiku_sectors_load(host);
-    return status == ZELAMIKU_OK ? zelamiku_open(heap, host->image, (size_t)(host->count * host->sector), found) : status;
+    return zelamiku_sectors_open(heap, host, found, zelamiku_open);
+}
+
+/* The same, as zelamiku_upgrade does: the image has version 2 once zelamiku_make_calls_sectors has made the calls that are left to it. */
+ZELAMIKU_MUST_USE static inline zelamiku_status zelamiku_upgrade_sectors(zelamiku_handle *heap, zelamiku_sectors *host,
+                                                                         zelamiku_found *found) {
+    return zelamiku_sectors_open(heap, host, found, zelamiku_upgrade);
 }
 
 /* Makes all calls of the device that are left, in their order. `made` gets how many there were: a write counts once it is noted, a sync

@@ -15,19 +15,20 @@
  *     if (zelamiku_thread_store(&own, BALANCE, 90) != ZELAMIKU_OK) ...
  *     if (zelamiku_thread_exit(&own, ACCOUNT) != ZELAMIKU_OK) ...            the section ends
  *     if (zelamiku_thread_await(&own) != ZELAMIKU_OK) ...                    sleeps until no crash loses it; _await_until takes a deadline
- *     zelamiku_thread_end(&own);
+ *     if (zelamiku_thread_end(&own) != ZELAMIKU_OK) ...
  *     if (zelamiku_threads_stop(&all) != ZELAMIKU_OK) ...                    closes the heap; then close the file
  *
  * What the caller upholds besides the rules of zelamiku.h and zelamiku_file.h:
- *  - between start and stop nothing else uses the heap's handle or the file;
+ *  - between start and stop nothing else uses the heap's handle or the file, and sessions from before the start have ended;
  *  - one call at a time has a zelamiku_thread, which may go to another thread, as a handle may;
  *  - a thread ends the sections that it begins: one that holds a monitor for ever keeps all that depends on its section from ever being
  *    acknowledged, and zelamiku_threads_stop answers RUNNING.
  *
  * When the heap ends. A write that fails is answered DEVICE by those that wait for a round, with errno as the system left it. Nothing is
  * lost: it is made again by the next call that waits for a round, and by the helper each second. A sync that fails is never made again:
- * the heap has stopped, and every call answers LOST from then on (zelamiku_make_calls). FAULT, FAILED and WORN of a round end it too. What
- * was acknowledged stays. Then zelamiku_threads_stop answers the same, and lets all go. */
+ * the heap has stopped, and every call answers LOST from then on (zelamiku_make_calls), with errno as the system left it, or EIO where the
+ * helper hasn't told it yet. FAULT, FAILED and WORN of a round end it too. What was acknowledged stays. Then zelamiku_threads_stop answers
+ * the same, and lets all go. */
 #ifndef ZELAMIKU_THREADS_H
 #define ZELAMIKU_THREADS_H
 #include <pthread.h>
@@ -51,7 +52,7 @@ enum {
     ZELAMIKU_THREADS_PART = 8,     /* of the time that a round's calls take: so long those without room look while the next takes records */
     ZELAMIKU_THREADS_MOST = 20000000, /* nanoseconds, of that part, also behind calls that hung */
     ZELAMIKU_THREADS_NAP = 20000,  /* nanoseconds between two looks, for each thread that waits for a round, where many do */
-    ZELAMIKU_THREADS_RECORDS = 1000, /* of a lane, after which a round is asked for at a section's end: about a quarter of its ring */
+    ZELAMIKU_THREADS_RECORDS = 1000, /* of a lane, after which a round is asked for at a section's end: about a quarter of a ring of 4,096 */
     ZELAMIKU_THREADS_CLOSING = 255 /* no status: zelamiku_threads_stop looks whether it may */
 };
 
@@ -101,7 +102,7 @@ typedef struct {
     uint64_t haste;      /* atomic: until when those without room look again, by CLOCK_MONOTONIC */
     uint64_t steps;      /* atomic: odd while the helper takes records from the lanes' rings, each of which gives room */
     uint64_t troubles;   /* atomic: of how many a write has failed */
-    int error;           /* atomic: the errno of the last of these */
+    int error;           /* atomic: the errno of the last of these, or of what the heap has ended with */
     uint64_t calls_time; /* of the helper: how many nanoseconds the calls of the last round took */
     uint64_t turns;      /* mutex: how many turns were given */
     bool is_urgent, is_ending, is_troubled, is_asleep; /* mutex: of the helper */
@@ -126,12 +127,14 @@ typedef struct {
 #define ZELAMIKU_IS_SELDOM(is_so) (is_so)
 #endif
 
-/* The status with which the heap has ended. While a stop looks, the answer is awaited. */
+/* The status with which the heap has ended, and after LOST its cause in errno. While a stop looks, the answer is awaited. */
 ZELAMIKU_SELDOM zelamiku_status zelamiku_threads_ended(zelamiku_threads *all, uint32_t over) {
-    if (over != ZELAMIKU_THREADS_CLOSING) return (zelamiku_status)over;
-    pthread_mutex_lock(&all->mutex);
-    over = __atomic_load_n(&all->over, __ATOMIC_SEQ_CST);
-    pthread_mutex_unlock(&all->mutex);
+    if (over == ZELAMIKU_THREADS_CLOSING) {
+        pthread_mutex_lock(&all->mutex);
+        over = __atomic_load_n(&all->over, __ATOMIC_SEQ_CST);
+        pthread_mutex_unlock(&all->mutex);
+    }
+    if (over == ZELAMIKU_LOST) errno = __atomic_load_n(&all->error, __ATOMIC_SEQ_CST);
     return (zelamiku_status)over;
 }
 
@@ -362,11 +365,14 @@ static inline bool zelamiku_seat_is_durable(zelamiku_seat *seat) {
 
 /* Wakes those that waited for this round, and all where it went wrong. */
 static inline void zelamiku_threads_tell(zelamiku_threads *all, zelamiku_status status, int error) {
+    if (status != ZELAMIKU_OK) __atomic_store_n(&all->error, error, __ATOMIC_SEQ_CST);
     if (status == ZELAMIKU_DEVICE) {
-        __atomic_store_n(&all->error, error, __ATOMIC_SEQ_CST);
         __atomic_add_fetch(&all->troubles, 1, __ATOMIC_SEQ_CST);
     } else if (status != ZELAMIKU_OK) {
-        __atomic_store_n(&all->over, status, __ATOMIC_SEQ_CST);
+        /* Not while a stop looks, which would write over it. */
+        pthread_mutex_lock(&all->mutex);
+        __atomic_store_n(&all->over, (uint32_t)status, __ATOMIC_SEQ_CST);
+        pthread_mutex_unlock(&all->mutex);
     }
     __atomic_add_fetch(&all->rounds, 1, __ATOMIC_SEQ_CST);
     for (uint32_t lane = 0; lane < all->lanes; lane++) {
@@ -441,11 +447,35 @@ static inline void zelamiku_threads_let_go(zelamiku_threads *all) {
     pthread_mutex_destroy(&all->mutex);
 }
 
+/* Takes the sessions of all lanes, each for the seat of its lane: a lane that had a session before comes behind those that had none, and
+ * may have ended sections. RUNNING: a lane's session is still out. */
+static inline zelamiku_status zelamiku_threads_take_lanes(zelamiku_threads *all, zelamiku_handle *heap) {
+    zelamiku_handle session = ZELAMIKU_NONE;
+    zelamiku_status status = ZELAMIKU_OK;
+    uint64_t ended = 0;
+    while (all->lanes < ZELAMIKU_MOST_LANES && (status = zelamiku_session(heap, &session)) == ZELAMIKU_OK) {
+        uint32_t lane = ZELAMIKU_NOBODY;
+        status = zelamiku_lane(&session, &lane, &ended);
+        if (status != ZELAMIKU_OK) {
+            zelamiku_free(&session);
+            return status;
+        }
+        all->seats[lane].session = session;
+        all->seats[lane].ended = ended;
+        memset(&session, 0, sizeof session);
+        all->lanes++;
+    }
+    if (status != ZELAMIKU_OK && status != ZELAMIKU_NONE_LEFT) return status;
+    /* Where the heap has a lane more than were handed out. */
+    return zelamiku_acknowledged(heap, all->lanes, &ended) == ZELAMIKU_BAD_LANE ? ZELAMIKU_OK : ZELAMIKU_RUNNING;
+}
+
 /* ---- the heap ---- */
 
 /* Takes over a heap that was opened or made on a device, whose calls `make_calls` makes, and starts its helper. A section that nobody waits
  * for is durable at the latest so many microseconds, and a round, after its end; 5,000 is a good number, and a less one makes more syncs.
- * NOTHING, CLOSED, WRONG_KIND, NO_MEMORY (no thread could be started, too: errno says why): the heap's handle may only be freed. */
+ * RUNNING: a session that was handed out before hasn't ended, or held a monitor when it did. NOTHING, CLOSED, STOPPED, WRONG_KIND,
+ * NO_MEMORY (no thread could be started, too: errno says why). The heap's handle may only be freed then. */
 ZELAMIKU_MUST_USE static inline zelamiku_status zelamiku_threads_start_over(zelamiku_threads *all, zelamiku_handle *heap,
                                                                             zelamiku_threads_calls *make_calls, void *device,
                                                                             uint32_t linger) {
@@ -455,12 +485,9 @@ ZELAMIKU_MUST_USE static inline zelamiku_status zelamiku_threads_start_over(zela
     all->linger = (uint64_t)linger * 1000;
     long processors = sysconf(_SC_NPROCESSORS_ONLN);
     all->processors = processors > 1 ? (uint32_t)processors : 1;
-    zelamiku_status status = ZELAMIKU_OK;
-    while (all->lanes < ZELAMIKU_MOST_LANES &&
-           (status = zelamiku_session(heap, &all->seats[all->lanes].session)) == ZELAMIKU_OK)
-        all->lanes++;
-    if (status != ZELAMIKU_OK && status != ZELAMIKU_NONE_LEFT) {
-        for (uint32_t lane = 0; lane < all->lanes; lane++) zelamiku_free(&all->seats[lane].session);
+    zelamiku_status status = zelamiku_threads_take_lanes(all, heap);
+    if (status != ZELAMIKU_OK) {
+        for (uint32_t lane = 0; lane < ZELAMIKU_MOST_LANES; lane++) zelamiku_free(&all->seats[lane].session);
         return status;
     }
     pthread_condattr_t monotonic;
@@ -529,7 +556,7 @@ static inline zelamiku_status zelamiku_threads_try_stop(zelamiku_threads *all) {
 /* Closes the heap, whose sections have all ended, makes all of them durable, ends the helper and lets all go. Other threads' calls answer
  * CLOSED from then on, and no thread may be in one when this returns.
  * RUNNING: a section is open or a session waits; DEVICE: a write has failed: the heap goes on, and may be stopped later. What the heap
- * has ended with, as LOST: all was let go. */
+ * has ended with, as LOST: all was let go. After any answer but RUNNING and DEVICE no call of it may come any more, this one neither. */
 ZELAMIKU_MUST_USE static inline zelamiku_status zelamiku_threads_stop(zelamiku_threads *all) {
     pthread_mutex_lock(&all->mutex);
     uint64_t troubles = __atomic_load_n(&all->troubles, __ATOMIC_SEQ_CST);
@@ -548,11 +575,17 @@ ZELAMIKU_MUST_USE static inline zelamiku_status zelamiku_threads_stop(zelamiku_t
     pthread_mutex_unlock(&all->mutex);
     if (status == ZELAMIKU_RUNNING || status == ZELAMIKU_DEVICE) return status;
     (void)pthread_join(all->helper, NULL);
+    bool is_lost = status == ZELAMIKU_LOST;
     for (uint32_t lane = 0; status == ZELAMIKU_OK && lane < all->lanes; lane++) status = zelamiku_end(&all->seats[lane].session);
     if (status == ZELAMIKU_OK) status = zelamiku_close(&all->heap);
     uint64_t made = 0;
     if (status == ZELAMIKU_OK) status = all->make_calls(&all->heap, all->device, &made);
     int error = errno;
+    /* By a sync of the helper's, before this looked or since. */
+    if (is_lost || status == ZELAMIKU_STOPPED) {
+        status = ZELAMIKU_LOST;
+        error = __atomic_load_n(&all->error, __ATOMIC_SEQ_CST);
+    }
     zelamiku_threads_let_go(all);
     errno = error;
     /* All sections are durable, whatever became of the closing's own calls: what they leave is recovered. */
@@ -562,7 +595,7 @@ ZELAMIKU_MUST_USE static inline zelamiku_status zelamiku_threads_stop(zelamiku_t
 /* ---- a thread's use of the heap ---- */
 
 /* Each call of a thread also answers CLOSED once the heap was stopped, and what it has ended with, as LOST; nothing was done then, but
- * that a wait is over, after which the thread doesn't hold that monitor. */
+ * that an exit has given its lock back, and that a wait is over, after which the thread doesn't hold that monitor. */
 
 /* Hands out a lane that nobody has. NONE_LEFT: each is lent. */
 ZELAMIKU_MUST_USE static inline zelamiku_status zelamiku_thread_begin(zelamiku_thread *thread, zelamiku_threads *all) {
@@ -598,9 +631,11 @@ ZELAMIKU_MUST_USE static inline zelamiku_status zelamiku_thread_end(zelamiku_thr
     return ZELAMIKU_OK;
 }
 
-/* The library may tell a session that a sync has failed before the helper has told what the heap has ended with. */
+/* The library may tell a session that a sync has failed before the helper has told what the heap has ended with, and why. */
 static inline zelamiku_status zelamiku_thread_told(zelamiku_status status) {
-    return status == ZELAMIKU_STOPPED ? ZELAMIKU_LOST : status;
+    if (status != ZELAMIKU_STOPPED) return status;
+    errno = EIO;
+    return ZELAMIKU_LOST;
 }
 
 /* Sleeps until the monitor can be taken. */

@@ -152,7 +152,7 @@ int main(int argc, char **argv) {
     }
     ZELAMIKU_IS_ATOMIC(stopping);
     setvbuf(stdout, NULL, _IOLBF, 0);
-    file = open(argv[1], O_RDWR | O_CREAT, 0644);
+    file = open(argv[1], O_RDWR | O_CREAT | O_CLOEXEC, 0644);
     must_do(file >= 0, argv[1]);
     begin(argv[1]);
     zelamiku_thread own;

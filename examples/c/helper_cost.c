@@ -53,7 +53,7 @@ static void make_calls(zelamiku_handle *heap, int file, calls which) {
         must(zelamiku_next_call(heap, &call, bytes, sizeof bytes), "next call");
         if (call.kind == ZELAMIKU_NO_CALL) return;
         if (which == WRITES && call.kind == ZELAMIKU_WRITE &&
-            pwrite(file, bytes, (size_t)call.size, (off_t)call.at) != (ssize_t)call.size)
+            (call.size > sizeof bytes || pwrite(file, bytes, (size_t)call.size, (off_t)call.at) != (ssize_t)call.size))
             exit(2);
         must(zelamiku_call_done(heap), "call done");
     }
@@ -63,7 +63,11 @@ static void measure(const char *path, unsigned rounds, unsigned sections, calls 
     zelamiku_handle heap = ZELAMIKU_NONE, sessions[LANES];
     zelamiku_field fields[LANES + 1];
     double round_time = 0, calls_time = 0;
-    int file = open(path, O_RDWR | O_CREAT | O_TRUNC, 0644);
+    int file = open(path, O_RDWR | O_CREAT | O_CLOEXEC, 0644);
+    if (file < 0) {
+        perror(path);
+        exit(2);
+    }
     for (uint32_t i = 0; i <= LANES; i++) fields[i] = (zelamiku_field){.owner = i, .guard = i};
     must(zelamiku_format_file(&heap, file, LANES + 1, fields, LANES + 1, LANES, CAPACITY), path);
     make_calls(&heap, file, which);

@@ -72,7 +72,7 @@ static void z_open(void) {
     zelamiku_handle handle = ZELAMIKU_NONE;
     zelamiku_field fields[MOST + 1];
     for (uint32_t i = 0; i <= (uint32_t)threads; i++) fields[i] = (zelamiku_field){.owner = i, .guard = i};
-    file = open(path, O_RDWR | O_CREAT, 0644);
+    file = open(path, O_RDWR | O_CREAT | O_CLOEXEC, 0644);
     must(file >= 0, path);
     z(zelamiku_format_file(&handle, file, threads + 1, fields, threads + 1, threads, 4096), "format");
     z(zelamiku_threads_start(&heap, &handle, file, 5000), "start");

@@ -48,7 +48,7 @@ static zelamiku_status slow_calls(zelamiku_handle *of, void *descriptor, uint64_
         if (status != ZELAMIKU_OK || call.kind == ZELAMIKU_NO_CALL) return status;
         if (call.kind == ZELAMIKU_SYNC)
             nanosleep(&sync_time, NULL);
-        else if (!zelamiku_file_write((int)(intptr_t)descriptor, bytes, (size_t)call.size, call.at))
+        else if (call.size > sizeof bytes || !zelamiku_file_write((int)(intptr_t)descriptor, bytes, (size_t)call.size, call.at))
             return zelamiku_call_failed(of) == ZELAMIKU_OK ? ZELAMIKU_DEVICE : ZELAMIKU_LOST;
         status = zelamiku_call_done(of);
         if (status != ZELAMIKU_OK) return status;
@@ -131,7 +131,11 @@ int main(int count, char **words) {
     zelamiku_handle handle = ZELAMIKU_NONE;
     zelamiku_field fields[SHARED + 1];
     for (uint32_t i = 0; i <= SHARED; i++) fields[i] = (zelamiku_field){.owner = i, .guard = i};
-    int file = open(words[1], O_RDWR | O_CREAT | O_TRUNC, 0644);
+    int file = open(words[1], O_RDWR | O_CREAT | O_CLOEXEC, 0644);
+    if (file < 0) {
+        perror(words[1]);
+        return 2;
+    }
     must(zelamiku_format_file(&handle, file, SHARED + 1, fields, SHARED + 1, threads, capacity), words[1]);
     must(zelamiku_threads_start_over(&heap, &handle, slow_calls, (void *)(intptr_t)file, 5000), "start");
     double before = processor_time();

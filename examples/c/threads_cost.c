@@ -96,7 +96,11 @@ static double processor_time(void) {
 
 /* A heap of so many lanes in a file that is replaced. */
 static int make(zelamiku_handle *handle, const char *path, uint32_t lanes) {
-    int file = open(path, O_RDWR | O_CREAT | O_TRUNC, 0644);
+    int file = open(path, O_RDWR | O_CREAT | O_CLOEXEC, 0644);
+    if (file < 0) {
+        perror(path);
+        exit(2);
+    }
     zelamiku_field fields[MOST + 1];
     for (uint32_t i = 0; i <= MOST; i++) fields[i] = (zelamiku_field){.owner = i, .guard = i};
     must(zelamiku_format_file(handle, file, MOST + 1, fields, MOST + 1, lanes, 4096), path);

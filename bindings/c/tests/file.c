@@ -149,6 +149,10 @@ static void life(void) {
     MUST(zelamiku_format_file(&heap, file, 1, &FIELD, 1, 2, 2000) == ZELAMIKU_OPEN && heap.is_open);
     MUST(zelamiku_make_calls(&heap, file, &made) == ZELAMIKU_OK && made == 0);
     store(&heap, 7);
+    /* An open of a handle that has a heap syncs nothing: it would be told of what that heap's own sync has to be. */
+    fails_in = 1;
+    MUST(zelamiku_open_file(&heap, file, &what) == ZELAMIKU_OPEN && fails_in == 1);
+    fails_in = 0;
     MUST(zelamiku_acknowledged(&heap, 0, &sections) == ZELAMIKU_CALLS_LEFT);
     MUST(zelamiku_make_calls(&heap, file, &made) == ZELAMIKU_OK && made > 0);
     MUST(zelamiku_acknowledged(&heap, 0, &sections) == ZELAMIKU_OK && sections == 1);
@@ -355,7 +359,8 @@ static void bytes(void) {
     MUST(ftruncate(file, 0) == 0);
     MUST(zelamiku_file_write(file, written, 1000, 0) && zelamiku_file_write(file, written + 1000, sizeof written - 1000, 1000));
     MUST(zelamiku_file_read(file, seen, sizeof seen) && memcmp(seen, written, sizeof seen) == 0);
-    MUST(ftruncate(file, 999) == 0 && !zelamiku_file_read(file, seen, 1000));
+    errno = 0;
+    MUST(ftruncate(file, 999) == 0 && !zelamiku_file_read(file, seen, 1000) && errno == EIO);
     MUST(zelamiku_file_write(file, written, sizeof written, 0));
     zelamiku_handle heap = ZELAMIKU_NONE;
     MUST(zelamiku_format_file(&heap, file, 1, &FIELD, 1, 2, 2000) == ZELAMIKU_OK);

@@ -67,9 +67,16 @@ static zelamiku_sector_answer read_one(void *at, uint64_t number, uint8_t *bytes
     return ZELAMIKU_SECTOR_READ;
 }
 
+static int refused_in; /* which write or flush from now on is refused; 0: none */
+
+static bool is_refused(void) {
+    return refused_in > 0 && --refused_in == 0;
+}
+
 static bool write_some(void *at, uint64_t number, const uint8_t *bytes, uint64_t count) {
     (void)at;
     MUST(count > 0 && number < sectors && count <= sectors - number);
+    if (is_refused()) return false;
     memcpy(now + number * sector, bytes, (size_t)(count * sector));
     memset(is_lost + number, 0, (size_t)count);
     if (records) {
@@ -83,6 +90,7 @@ static bool write_some(void *at, uint64_t number, const uint8_t *bytes, uint64_t
 
 static bool flush(void *at) {
     (void)at;
+    if (is_refused()) return false;
     if (records) note((event){FLUSHED, 0, 0, NULL, 0});
     return true;
 }
@@ -127,16 +135,21 @@ static void make_round(zelamiku_handle *heap, zelamiku_sectors *host) {
     note((event){TOLD, 0, 0, NULL, sum});
 }
 
-/* Answers how many events there were once the heap was made. */
-static size_t run(zelamiku_sectors *host) {
-    zelamiku_handle heap = ZELAMIKU_NONE, sessions[WORKERS + 1] = {ZELAMIKU_NONE, ZELAMIKU_NONE, ZELAMIKU_NONE};
+static void make_heap(zelamiku_handle *heap, zelamiku_sectors *host) {
     zelamiku_field fields[FIELDS];
     uint64_t made = 0;
     for (uint32_t i = 0; i < FIELDS; i++)
         fields[i] = (zelamiku_field){i % (WORKERS + 1), i % (WORKERS + 1), i <= WORKERS ? 0 : 1000 + i, 0};
+    MUST(zelamiku_format_sectors(heap, host, WORKERS + 1, fields, FIELDS, WORKERS + 1, CAPACITY) == ZELAMIKU_OK);
+    MUST(zelamiku_make_calls_sectors(heap, host, &made) == ZELAMIKU_OK);
+}
+
+/* Answers how many events there were once the heap was made. */
+static size_t run(zelamiku_sectors *host) {
+    zelamiku_handle heap = ZELAMIKU_NONE, sessions[WORKERS + 1] = {ZELAMIKU_NONE, ZELAMIKU_NONE, ZELAMIKU_NONE};
+    uint64_t made = 0;
     records = 1;
-    MUST(zelamiku_format_sectors(&heap, host, WORKERS + 1, fields, FIELDS, WORKERS + 1, CAPACITY) == ZELAMIKU_OK);
-    MUST(zelamiku_make_calls_sectors(&heap, host, &made) == ZELAMIKU_OK);
+    make_heap(&heap, host);
     size_t begun = event_count;
     for (uint32_t lane = 0; lane <= WORKERS; lane++) MUST(zelamiku_session(&heap, &sessions[lane]) == ZELAMIKU_OK);
     for (int round = 0; round < ROUNDS; round++) {
@@ -181,6 +194,77 @@ static const char *look(zelamiku_layout layout, uint64_t least, uint64_t most) {
     for (uint32_t i = WORKERS + 1; i < FIELDS; i++)
         if (values[i] != 1000 + i) return "a field that nobody stores has changed";
     return NULL;
+}
+
+static void begin_device(void) {
+    now = (uint8_t *)calloc(1, DEVICE_BYTES);
+    sectors = DEVICE_BYTES / sector;
+    is_lost = (uint8_t *)calloc((size_t)sectors, 1);
+    MUST(now != NULL && is_lost != NULL);
+}
+
+static void end_device(void) {
+    free(now), free(is_lost);
+}
+
+/* An open that is answered OPEN leaves the open heap's batch as it was, of which a write or a flush was refused: the next try writes it.
+ * Answers whether the round has so many calls. */
+static bool open_twice(zelamiku_layout layout, int call) {
+    zelamiku_handle heap = ZELAMIKU_NONE, session = ZELAMIKU_NONE;
+    zelamiku_found found;
+    uint64_t made = 0, number = 0;
+    begin_device();
+    zelamiku_sectors host = host_of(layout);
+    make_heap(&heap, &host);
+    MUST(zelamiku_session(&heap, &session) == ZELAMIKU_OK);
+    begin_one(&session, 1), count_one(&session, 1);
+    MUST(zelamiku_end(&session) == ZELAMIKU_OK && zelamiku_round(&heap, &number) == ZELAMIKU_OK);
+    refused_in = call;
+    zelamiku_status status = zelamiku_make_calls_sectors(&heap, &host, &made);
+    bool was_refused = refused_in == 0;
+    refused_in = 0;
+    MUST(status == (was_refused ? ZELAMIKU_DEVICE : ZELAMIKU_OK));
+    MUST(zelamiku_open_sectors(&heap, &host, &found) == ZELAMIKU_OPEN && heap.is_open && found.lanes == 0);
+    MUST(zelamiku_make_calls_sectors(&heap, &host, &made) == ZELAMIKU_OK);
+    MUST(zelamiku_acknowledged(&heap, 0, &number) == ZELAMIKU_OK && number == 1);
+    zelamiku_free(&heap);
+    zelamiku_end_sectors(&host);
+    const char *what = look(layout, 1, 1);
+    if (what != NULL) fprintf(stderr, "opened twice, call %d refused: %s\n", call, what);
+    MUST(what == NULL);
+    end_device();
+    return was_refused;
+}
+
+/* Where the two controls begin in an image, by their gates, and the last byte of their version behind each (docs/FORMAT.md). */
+static const uint64_t SLOTS[2] = {64, 1112};
+#define VERSION_BYTE 19
+
+/* An image of version 1, as a library from before there were transient fields left it, isn't opened; it is upgraded, and goes on. */
+static void upgrade(zelamiku_layout layout) {
+    zelamiku_handle heap = ZELAMIKU_NONE, session = ZELAMIKU_NONE;
+    zelamiku_found found;
+    uint64_t made = 0, number = 0;
+    begin_device();
+    zelamiku_sectors host = host_of(layout);
+    make_heap(&heap, &host);
+    MUST(zelamiku_session(&heap, &session) == ZELAMIKU_OK);
+    begin_one(&session, 2), count_one(&session, 2);
+    MUST(zelamiku_end(&session) == ZELAMIKU_OK && zelamiku_round(&heap, &number) == ZELAMIKU_OK);
+    MUST(zelamiku_make_calls_sectors(&heap, &host, &made) == ZELAMIKU_OK);
+    zelamiku_free(&heap);
+    uint8_t *image = now + zelamiku_sectors_area(&host, host.turn) * sector;
+    for (int i = 0; i < 2; i++)
+        if (image[SLOTS[i]] == 0xa5) image[SLOTS[i] + VERSION_BYTE] = 1;
+    zelamiku_end_sectors(&host);
+    MUST(zelamiku_open_sectors(&heap, &host, &found) == ZELAMIKU_OLD_VERSION && !heap.is_open && found.lanes == 0);
+    MUST(zelamiku_upgrade_sectors(&heap, &host, &found) == ZELAMIKU_OK && found.lanes == WORKERS + 1);
+    MUST(zelamiku_upgrade_sectors(&heap, &host, &found) == ZELAMIKU_OPEN && heap.is_open);
+    MUST(zelamiku_make_calls_sectors(&heap, &host, &made) == ZELAMIKU_OK && made > 0);
+    zelamiku_free(&heap);
+    zelamiku_end_sectors(&host);
+    MUST(look(layout, 1, 1) == NULL);
+    end_device();
 }
 
 /* ---- crashes ---- */
@@ -234,11 +318,9 @@ static size_t settle(size_t from, size_t at) {
 
 /* How many crashes, first or second ones, left something wrong. */
 static int wrong_of(zelamiku_layout layout, int model, int crashes) {
-    now = (uint8_t *)calloc(1, DEVICE_BYTES);
-    sectors = DEVICE_BYTES / sector;
-    is_lost = (uint8_t *)calloc((size_t)sectors, 1);
+    begin_device();
     uint8_t *kept = (uint8_t *)malloc(DEVICE_BYTES), *kept_lost = (uint8_t *)malloc((size_t)sectors);
-    MUST(now != NULL && is_lost != NULL && kept != NULL && kept_lost != NULL);
+    MUST(kept != NULL && kept_lost != NULL);
     counted = 0;
     zelamiku_sectors host = host_of(layout);
     size_t begun = run(&host), made = event_count;
@@ -273,7 +355,8 @@ static int wrong_of(zelamiku_layout layout, int model, int crashes) {
     printf("%s of %" PRIu32 ", %s: %d of %d crashes wrong, %d of them opened%s%s\n", layout == ZELAMIKU_IN_PLACE ? "in place" : "two places",
            sector, NAMES[model], wrong, crashes, opened, first[0] ? "; the first: " : "", first);
     forget(0);
-    free(now), free(is_lost), free(kept), free(kept_lost);
+    end_device();
+    free(kept), free(kept_lost);
     return wrong;
 }
 
@@ -281,13 +364,20 @@ int main(int argc, char **argv) {
     int crashes = argc > 1 ? atoi(argv[1]) : 2000, failed = 0;
     MUST(crashes > 0);
     state = (argc > 2 ? strtoull(argv[2], NULL, 0) : 7) * 2654435761u + 1;
-    for (sector = 512; sector <= 4096; sector *= 8)
+    for (sector = 512; sector <= 4096; sector *= 8) {
+        for (int layout = ZELAMIKU_IN_PLACE; layout <= ZELAMIKU_TWO_PLACES; layout++) {
+            int calls = 1;
+            while (open_twice((zelamiku_layout)layout, calls)) calls++;
+            MUST(calls > 4);
+            upgrade((zelamiku_layout)layout);
+        }
         for (int model = 0; model < MODELS; model++) {
             failed += wrong_of(ZELAMIKU_TWO_PLACES, model, crashes) > 0;
             /* In place bytes are lost by the last two models: a test that finds none there would find none anywhere. */
             int wrong = wrong_of(ZELAMIKU_IN_PLACE, model, crashes);
             failed += model < ANY_BYTES ? wrong > 0 : wrong == 0;
         }
+    }
     free(events);
     printf("%s\n", failed == 0 ? "all as it must be" : "WRONG");
     return failed > 0;

@@ -329,13 +329,18 @@ static void failing_syncs(void) {
     /* A round may have taken a part of the section, so that its end is told already. */
     zelamiku_status status = zelamiku_thread_exit(&own, TOTAL);
     MUST(status == ZELAMIKU_OK || status == ZELAMIKU_LOST);
-    MUST(zelamiku_thread_await(&own) == ZELAMIKU_LOST);
+    errno = 0;
+    MUST(zelamiku_thread_await(&own) == ZELAMIKU_LOST && errno == EIO);
     __atomic_store_n(&syncs_fail, 0, __ATOMIC_SEQ_CST);
     unsigned before = __atomic_load_n(&syncs, __ATOMIC_SEQ_CST);
     MUST(pthread_join(waiter, &answer) == 0 && (uintptr_t)answer == ZELAMIKU_LOST);
     zelamiku_thread other;
-    MUST(zelamiku_thread_enter(&own, TOTAL) == ZELAMIKU_LOST && zelamiku_thread_begin(&other, &all) == ZELAMIKU_LOST);
-    MUST(zelamiku_thread_await(&own) == ZELAMIKU_LOST && zelamiku_threads_stop(&all) == ZELAMIKU_LOST);
+    errno = 0;
+    MUST(zelamiku_thread_enter(&own, TOTAL) == ZELAMIKU_LOST && errno == EIO);
+    errno = 0;
+    MUST(zelamiku_thread_begin(&other, &all) == ZELAMIKU_LOST && errno == EIO && zelamiku_thread_await(&own) == ZELAMIKU_LOST);
+    errno = 0;
+    MUST(zelamiku_threads_stop(&all) == ZELAMIKU_LOST && errno == EIO);
     MUST(__atomic_load_n(&syncs, __ATOMIC_SEQ_CST) == before);
     begin_again();
     uint64_t value = look(TOTAL, 0);
@@ -386,6 +391,96 @@ static void deadlines(void) {
     MUST(zelamiku_threads_stop(&all) == ZELAMIKU_LOST);
 }
 
+/* The helper hangs in a sync of the first round, which has nothing of a thread's. */
+static void begin_hanging(void) {
+    zelamiku_handle heap = ZELAMIKU_NONE;
+    MUST(zelamiku_format_file(&heap, file, 2, FIELDS, 3, LANES, 2000) == ZELAMIKU_OK);
+    unsigned before = __atomic_load_n(&syncs, __ATOMIC_SEQ_CST);
+    __atomic_store_n(&syncs_hang, 1, __ATOMIC_SEQ_CST);
+    MUST(zelamiku_threads_start(&all, &heap, file, 1000) == ZELAMIKU_OK);
+    while (__atomic_load_n(&syncs, __ATOMIC_SEQ_CST) == before) usleep(100);
+}
+
+static void *fail_soon(void *data) {
+    usleep(20000);
+    __atomic_store_n(&syncs_fail, 1, __ATOMIC_SEQ_CST);
+    __atomic_store_n(&syncs_hang, 0, __ATOMIC_SEQ_CST);
+    return data;
+}
+
+/* A stop that looks just when a sync fails doesn't hide that: sooner or later it is answered LOST. */
+static void stops_beside_failing_syncs(void) {
+    for (unsigned tries = 0; tries < 100; tries++) {
+        zelamiku_thread own;
+        zelamiku_status status;
+        begin_hanging();
+        MUST(zelamiku_thread_begin(&own, &all) == ZELAMIKU_OK && zelamiku_thread_enter(&own, TOTAL) == ZELAMIKU_OK);
+        MUST(zelamiku_threads_stop(&all) == ZELAMIKU_RUNNING);
+        struct timespec due = after(10000);
+        __atomic_store_n(&syncs_fail, 1, __ATOMIC_SEQ_CST);
+        __atomic_store_n(&syncs_hang, 0, __ATOMIC_SEQ_CST);
+        while ((status = zelamiku_threads_stop(&all)) == ZELAMIKU_RUNNING) MUST(!is_past(&due));
+        MUST(status == ZELAMIKU_LOST && errno == EIO);
+        __atomic_store_n(&syncs_fail, 0, __ATOMIC_SEQ_CST);
+    }
+    /* And where all is durable, so that it has closed the heap meanwhile. */
+    pthread_t other;
+    begin_hanging();
+    MUST(pthread_create(&other, NULL, fail_soon, NULL) == 0);
+    errno = 0;
+    MUST(zelamiku_threads_stop(&all) == ZELAMIKU_LOST && errno == EIO && pthread_join(other, NULL) == 0);
+    __atomic_store_n(&syncs_fail, 0, __ATOMIC_SEQ_CST);
+}
+
+/* Whether the thread ends within ten seconds. */
+static bool ends(pthread_t thread) {
+    struct timespec due;
+    MUST(clock_gettime(CLOCK_REALTIME, &due) == 0);
+    due.tv_sec += 10;
+    return pthread_timedjoin_np(thread, NULL, &due) == 0;
+}
+
+/* Where a session had a lane before, its sections aren't taken for a thread's, and each thread has the lane that it is known by. */
+static void behind_a_session(void) {
+    zelamiku_handle heap = ZELAMIKU_NONE, session = ZELAMIKU_NONE;
+    uint64_t number = 0;
+    zelamiku_thread own;
+    pthread_t waiter;
+    bool is = true;
+    MUST(zelamiku_format_file(&heap, file, 2, FIELDS, 3, LANES, 2000) == ZELAMIKU_OK);
+    MUST(zelamiku_session(&heap, &session) == ZELAMIKU_OK && zelamiku_try_enter(&session, LIST) == ZELAMIKU_OK);
+    MUST(zelamiku_store(&session, COUNT, 7) == ZELAMIKU_OK && zelamiku_exit(&session, LIST) == ZELAMIKU_OK);
+    MUST(zelamiku_end(&session) == ZELAMIKU_OK && zelamiku_round(&heap, &number) == ZELAMIKU_OK);
+    MUST(zelamiku_make_calls(&heap, file, &number) == ZELAMIKU_OK);
+    MUST(zelamiku_threads_start(&all, &heap, file, 1000) == ZELAMIKU_OK && all.lanes == LANES);
+    MUST(zelamiku_thread_begin(&own, &all) == ZELAMIKU_OK && zelamiku_thread_sections(&own) == 0);
+    while (__atomic_load_n(&all.rounds, __ATOMIC_SEQ_CST) == 0) usleep(100);
+    __atomic_store_n(&syncs_hang, 1, __ATOMIC_SEQ_CST);
+    add(&own, LIST, COUNT, 1);
+    struct timespec due = after(50);
+    MUST(zelamiku_thread_await_until(&own, &due, &is) == ZELAMIKU_OK && !is && zelamiku_thread_durable(&own) == 0);
+    __atomic_store_n(&syncs_hang, 0, __ATOMIC_SEQ_CST);
+    MUST(zelamiku_thread_await(&own) == ZELAMIKU_OK && zelamiku_thread_durable(&own) == 1 && zelamiku_thread_sections(&own) == 1);
+    MUST(pthread_create(&waiter, NULL, wait_once, NULL) == 0);
+    await_waiter(&own);
+    MUST(zelamiku_thread_enter(&own, TOTAL) == ZELAMIKU_OK);
+    MUST(zelamiku_thread_notify(&own, TOTAL, &is) == ZELAMIKU_OK && is && zelamiku_thread_exit(&own, TOTAL) == ZELAMIKU_OK);
+    MUST(ends(waiter));
+    MUST(zelamiku_thread_end(&own) == ZELAMIKU_OK && zelamiku_threads_stop(&all) == ZELAMIKU_OK);
+    begin_again();
+    MUST(look(LIST, COUNT) == 8 && zelamiku_threads_stop(&all) == ZELAMIKU_OK);
+    /* One that is out still, whichever lane it has. */
+    for (unsigned ended = 0; ended < 2; ended++) {
+        zelamiku_handle sessions[2] = {ZELAMIKU_NONE, ZELAMIKU_NONE};
+        MUST(zelamiku_format_file(&heap, file, 2, FIELDS, 3, LANES, 2000) == ZELAMIKU_OK);
+        for (unsigned i = 0; i < 2; i++) MUST(zelamiku_session(&heap, &sessions[i]) == ZELAMIKU_OK);
+        MUST(zelamiku_end(&sessions[ended]) == ZELAMIKU_OK);
+        MUST(zelamiku_threads_start(&all, &heap, file, 1000) == ZELAMIKU_RUNNING && heap.is_open);
+        zelamiku_free(&sessions[1 - ended]);
+        zelamiku_free(&heap);
+    }
+}
+
 static unsigned order[LANES], in_order; /* under TOTAL's monitor */
 
 static void *take_turn(void *data) {
@@ -396,8 +491,9 @@ static void *take_turn(void *data) {
     return NULL;
 }
 
-/* Threads that sleep for one monitor get it in the order in which they came. */
-static void turns(void) {
+/* Threads that sleep for one monitor get it in the order in which they came, also where the one that has it gives it back before, takes it
+ * again so often, and keeps it until all that it has woken sleep again. */
+static void turns(unsigned takes_between) {
     begin_anew();
     zelamiku_thread own;
     pthread_t threads[LANES - 1];
@@ -409,6 +505,9 @@ static void turns(void) {
         /* One that only stands in its place may try once more. */
         while (__atomic_load_n(&sleeps, __ATOMIC_SEQ_CST) - before <= i) usleep(100);
     }
+    for (unsigned i = 0; i < takes_between; i++)
+        MUST(zelamiku_thread_exit(&own, TOTAL) == ZELAMIKU_OK && zelamiku_thread_enter(&own, TOTAL) == ZELAMIKU_OK);
+    if (takes_between > 0) usleep(20000);
     MUST(zelamiku_thread_exit(&own, TOTAL) == ZELAMIKU_OK);
     for (unsigned i = 0; i < LANES - 1; i++) MUST(pthread_join(threads[i], NULL) == 0 && order[i] == i);
     MUST(zelamiku_thread_end(&own) == ZELAMIKU_OK && zelamiku_threads_stop(&all) == ZELAMIKU_OK);
@@ -463,8 +562,13 @@ int main(int argc, char **argv) {
     failing_writes();
     failing_syncs();
     deadlines();
-    turns();
+    stops_beside_failing_syncs();
+    behind_a_session();
+    turns(0);
+    for (int i = 0; i < 5; i++) turns(20);
     rest(argc > 2 ? (unsigned)strtoul(argv[2], NULL, 10) : 200);
-    printf("threads: lives of %d threads, room, refusals, writes and syncs that fail, deadlines, turns, and rest\n", LANES);
+    printf("threads: lives of %d threads, room, refusals, writes and syncs that fail, deadlines, stops beside these, sessions before, turns, "
+           "and rest\n",
+           LANES);
     return 0;
 }

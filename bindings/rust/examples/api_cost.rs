@@ -66,7 +66,7 @@ fn new_heap(path: &str, threads: u32) -> (File, Heap) {
         .read(true)
         .write(true)
         .create(true)
-        .truncate(true)
+        .truncate(false)
         .open(path)
         .expect("a file");
     let fields: Vec<Field> = (0..=threads)
@@ -82,8 +82,28 @@ fn new_heap(path: &str, threads: u32) -> (File, Heap) {
     (file, heap)
 }
 
+// Leaves the file without a heap, for the service to make one. It is refused where another process has the file's heap.
+fn clear(path: &str) {
+    let file = File::options()
+        .read(true)
+        .write(true)
+        .create(true)
+        .truncate(false)
+        .open(path)
+        .expect("a file");
+    let field = Field {
+        owner: 0,
+        guard: 0,
+        first: 0,
+        is_transient: false,
+    };
+    // The calls of this heap are never made: so the file has zeros.
+    let made = Heap::format_file(&file, 1, &[field], 1, 2_000);
+    made.map(|_| ()).expect("a file that no process has");
+}
+
 fn new_service(path: &str, threads: u32, linger: Duration) -> service::Heap {
-    File::create(path).expect("a file");
+    clear(path);
     let options = service::Heap::options().lanes(threads).objects(threads + 1).linger(linger);
     let options = (0..=threads).fold(options, |options, object| options.field(object, object, 0));
     options.open(path).expect("a heap")

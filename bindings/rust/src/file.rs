@@ -120,9 +120,9 @@ fn first_bytes(file: &File, count: u64) -> io::Result<Vec<u8>> {
 /// clones are dropped. A file that has no name any more is busy too: `heapctl` may have replaced it between the caller's opening of it
 /// and this lock, and what went there would be lost. Open it again then.
 impl Heap {
-    /// Locks a file that is open for reading and writing, syncs it, and opens the heap of its bytes as [`open`](Heap::open) does. It
-    /// takes memory for 64 bytes where the file begins with no header of an image, and else for the image. The calls of the recovery
-    /// are left to [`make_calls`](Heap::make_calls) on the same file.
+    /// Locks a file that is open for reading and writing, syncs it, reads it, past what the system keeps of it where that can be, and opens
+    /// the heap of its bytes as [`open`](Heap::open) does. It takes memory for 64 bytes where the file begins with no header of an image,
+    /// and else for the image. The calls of the recovery are left to [`make_calls`](Heap::make_calls) on the same file.
     pub fn open_file(file: &File) -> Result<(Heap, Found), FileError> {
         let (heap, report) = Heap::open_file_telling(file)?;
         Ok((heap, report.found))
@@ -148,8 +148,9 @@ impl Heap {
     // Locks a file, syncs it, and opens the heap of its bytes so.
     fn of_file(file: &File, open: fn(&[u8]) -> Result<(Heap, Report), NotOpened>) -> Result<(Heap, Report), FileError> {
         lock(file)?;
-        // What a process before this one wrote may be in the system's cache alone.
+        // What a process before this one wrote may be in the system's cache alone: it is made durable, and then read from the device.
         file.sync_all()?;
+        raw::forget_pages(file);
         let size = file.metadata()?.len();
         let header = first_bytes(file, size.min(HEADER_BYTES))?;
         // No image is so small: of an image's header alone it is told, and what isn't one is refused by it.

@@ -33,6 +33,26 @@ pub fn lock_alone(file: &std::fs::File) -> bool {
     unsafe { flock(std::os::fd::AsRawFd::as_raw_fd(file), LOCK_EX | LOCK_NB) == 0 }
 }
 
+// For `posix_fadvise`, on the Linux of the processors that the library is made for, where an `off_t` has 64 bits.
+#[cfg(target_os = "linux")]
+const DONT_NEED: i32 = 4;
+
+#[cfg(target_os = "linux")]
+extern "C" {
+    fn posix_fadvise(descriptor: i32, at: i64, size: i64, advice: i32) -> i32;
+}
+
+/// Drops what the system keeps of the file in its cache, as far as that is on the device, so that it is read from there. It is advice:
+/// whether it was taken isn't told.
+#[cfg(target_os = "linux")]
+pub fn forget_pages(file: &std::fs::File) {
+    // SAFETY: the descriptor is open while the file is borrowed, and the call has no pointers.
+    let _ = unsafe { posix_fadvise(std::os::fd::AsRawFd::as_raw_fd(file), 0, 0, DONT_NEED) };
+}
+
+#[cfg(not(target_os = "linux"))]
+pub fn forget_pages(_: &std::fs::File) {}
+
 #[repr(C)]
 pub struct Handle {
     at: *mut c_void,
@@ -109,6 +129,11 @@ pub struct Sight {
     pub locks: u32,
     pub number: u64,
 }
+
+// The library was built for these sizes, and zelamiku.h has them.
+const _: () = assert!(std::mem::size_of::<Handle>() == 16 && std::mem::size_of::<Field>() == 24 && std::mem::size_of::<Found>() == 40);
+const _: () = assert!(std::mem::size_of::<Told>() == 312 && std::mem::size_of::<Dropped>() == 32);
+const _: () = assert!(std::mem::size_of::<Call>() == 24 && std::mem::size_of::<Sight>() == 16);
 
 extern "C" {
     // An older name is of a library whose fields are shorter.

@@ -97,16 +97,19 @@ fn found_in(bytes: &[u8]) -> u64 {
 
 #[test]
 fn a_write_that_failed_is_made_again() {
+    let mut failed = 0;
     for failing in 0..10 {
         let (mut heap, mut device) = make();
         store(&mut heap, 7);
         device.writes_left = Some(failing);
         let error = heap.make_calls(&mut device).err();
+        failed += usize::from(error.is_some());
         assert_eq!(heap.acknowledged(0), if error.is_some() { Err(Refusal::CallsLeft) } else { Ok(1) });
         heap.make_calls(&mut device).unwrap();
         assert_eq!(heap.acknowledged(0), Ok(1));
         assert_eq!(found_in(&device.durable), 7);
     }
+    assert!(failed > 0);
 }
 
 #[test]

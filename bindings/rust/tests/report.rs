@@ -27,20 +27,25 @@ impl Device for Cut {
     }
 }
 
-// The bytes after so many calls of a round of two sections, of which the second depends on the first; none where it has fewer calls. Lane
-// 0 has one section that is acknowledged before.
-fn cut_after(calls: usize) -> Option<Vec<u8>> {
+fn make() -> (Heap, Cut) {
     let fields = [0, 1].map(|object| Field {
         owner: object,
         guard: object,
         first: 0,
         is_transient: false,
     });
-    let (mut heap, size) = Heap::format(2, &fields, 2, 2000).unwrap();
-    let mut device = Cut {
+    let (heap, size) = Heap::format(2, &fields, 2, 2000).unwrap();
+    let device = Cut {
         bytes: vec![0; size as usize],
         left: usize::MAX,
     };
+    (heap, device)
+}
+
+// The bytes after so many calls of a round of two sections, of which the second depends on the first; none where it has fewer calls. Lane
+// 0 has one section that is acknowledged before.
+fn cut_after(calls: usize) -> Option<Vec<u8>> {
+    let (mut heap, mut device) = make();
     let mut sessions = [heap.session().unwrap(), heap.session().unwrap()];
     for (place, session) in [(0, 0), (1, 0), (1, 1)] {
         let session = &mut sessions[session];
@@ -75,10 +80,34 @@ fn each_section_is_kept_or_dropped_for_a_reason() {
         assert!(kept == 1 || kept == 3, "{report:?}");
         for Dropped { lane, section, why } in &report.dropped {
             assert!((*lane, *section) == (0, 2) || (*lane, *section) == (1, 1), "{report:?}");
+            // Both have ended, so neither waits for the other.
+            assert_eq!(*why, Why::Unsettled, "{report:?}");
             seen.push(*why);
         }
     }
-    assert!(seen.contains(&Why::Unsettled), "{seen:?}");
+    assert!(!seen.is_empty());
+}
+
+#[test]
+fn a_section_that_depends_on_an_open_one_is_dropped_for_that_one() {
+    let (mut heap, mut device) = make();
+    let (mut first, mut second) = (heap.session().unwrap(), heap.session().unwrap());
+    // Lane 1 ends a section that stays. Then lane 0 frees object 0, holds 1 on, and lane 1 has seen what it stored.
+    second.enter(0).unwrap();
+    second.exit(0).unwrap();
+    first.enter(1).unwrap();
+    first.enter(0).unwrap();
+    first.store(0, 7).unwrap();
+    first.exit(0).unwrap();
+    second.enter(0).unwrap();
+    second.store(0, 8).unwrap();
+    second.exit(0).unwrap();
+    heap.round().unwrap();
+    heap.make_calls(&mut device).unwrap();
+    let report = opened(&device.bytes);
+    let dropped: Vec<_> = report.dropped.iter().map(|it| (it.lane, it.section, it.why)).collect();
+    assert_eq!(dropped, [(0, 1, Why::NotEnded), (1, 2, Why::Depended { lane: 0, section: 1 })]);
+    assert_eq!(report.kept, [0, 1]);
 }
 
 #[test]

@@ -127,14 +127,24 @@ fn header_number(name: &str) -> u64 {
 
 // Of the library: `pub const NAME: TYPE = NUMBER;`.
 fn library_number(path: &str, name: &str) -> u64 {
-    let source = read(&format!("../../crates/{path}"));
-    let start = format!("pub const {name}: ");
-    let rest = source.lines().find_map(|line| line.strip_prefix(&start));
-    let number = rest.and_then(|rest| rest.split_once(" = ")).unwrap().1.trim_end_matches(';');
-    match number {
+    number_in(&format!("../../crates/{path}"), name)
+}
+
+// Of a source: `const NAME: TYPE = NUMBER;`.
+fn number_in(path: &str, name: &str) -> u64 {
+    match constant_in(path, name).as_str() {
         "u32::MAX" => u32::MAX.into(),
-        digits => digits.replace('_', "").parse().unwrap(),
+        digits => digits.parse().unwrap_or_else(|_| panic!("{path}: {name} is {digits}")),
     }
+}
+
+// What stands behind it, without the marks that part digits.
+fn constant_in(path: &str, name: &str) -> String {
+    let source = read(path);
+    let start = format!("const {name}: ");
+    let rest = source.lines().find_map(|line| line.trim_start_matches("pub ").strip_prefix(&start));
+    let value = rest.and_then(|rest| rest.split_once(" = ")).unwrap_or_else(|| panic!("{path} has no {name}")).1;
+    value.trim_end_matches(';').replace('_', "")
 }
 
 #[test]
@@ -161,4 +171,24 @@ fn the_header_has_the_limits_and_numbers_of_the_library() {
     }
     // And the library that is linked is this header's.
     assert_eq!(u64::from(zelamiku::library_version()), header_number("VERSION_NUMBER"));
+}
+
+#[test]
+fn this_crate_has_the_numbers_of_the_headers() {
+    let numbers = [
+        ("NOBODY", "src/raw.rs", "NOBODY"),
+        ("MOST_BYTES", "src/raw.rs", "MOST_BYTES"),
+        ("NO_SLOT", "src/raw.rs", "NO_SLOT"),
+        ("MOST_SLOTS", "src/pool.rs", "MOST_SLOTS"),
+    ];
+    for (name, path, constant) in numbers {
+        assert_eq!(header_number(name), number_in(path, constant), "{name}");
+    }
+    // A file's image: by a sum, in both.
+    let header = read("../c/zelamiku_file.h");
+    for name in ["HEADER_BYTES", "MOST_IMAGE_BYTES"] {
+        let start = format!("#define ZELAMIKU_{name} ");
+        let rest = header.lines().find_map(|line| line.strip_prefix(&start)).unwrap();
+        assert_eq!(rest.trim_matches(|c| c == '(' || c == ')'), constant_in("src/file.rs", name));
+    }
 }

@@ -203,7 +203,7 @@ fn rest(until: Option<Instant>, signs: &Signs) {
     }
 }
 
-fn run(path: &str, seconds: Option<f64>) -> Result<(), Failure> {
+fn run(path: &str, seconds: Option<Duration>) -> Result<(), Failure> {
     let mut file = OpenOptions::new().read(true).write(true).create(true).truncate(false).open(path)?;
     let mut heap = begin(&mut file)?;
     let signs = Signs::default();
@@ -212,7 +212,7 @@ fn run(path: &str, seconds: Option<f64>) -> Result<(), Failure> {
     let first = look(&mut own, &signs)?;
     must_be_since(&first, 0)?;
     tell(&first)?;
-    let until = seconds.map(|seconds| Instant::now() + Duration::from_secs_f64(seconds));
+    let until = seconds.and_then(|seconds| Instant::now().checked_add(seconds));
     let sessions = (0..WORKERS).map(|_| heap.session()).collect::<Result<Vec<_>, _>>()?;
     let last = thread::scope(|scope| {
         let (signs, helped, helped_file) = (&signs, &mut heap, &mut file);
@@ -239,9 +239,14 @@ fn run(path: &str, seconds: Option<f64>) -> Result<(), Failure> {
     tell(&last)
 }
 
+// None where the word isn't a time in seconds.
+fn time(word: &str) -> Option<Duration> {
+    Duration::try_from_secs_f64(word.parse().ok()?).ok()
+}
+
 fn main() -> ExitCode {
     let words: Vec<String> = std::env::args().collect();
-    let seconds = words.get(2).map(|word| word.parse()).transpose();
+    let seconds = words.get(2).map(|word| time(word).ok_or(word)).transpose();
     let (Some(path), Ok(seconds)) = (words.get(1), seconds) else {
         eprintln!("counters FILE [SECONDS]");
         return ExitCode::from(2);

@@ -50,9 +50,6 @@ pub fn open(path: &Arc<Path>, plan: &Plan) -> Result<Opened, Error> {
         Err(error) => return Err(refused(path, error)),
     };
     heap.make_calls(&mut file).map_err(system)?;
-    if report.is_none() {
-        sync_folder(path).map_err(system)?;
-    }
     Ok(Opened {
         heap,
         device: Box::new(file),
@@ -107,11 +104,14 @@ fn must_be_ours(path: &Arc<Path>, plan: &Plan, found: Found) -> Result<(), Error
     Err(Error::told(ErrorKind::OtherHeap, path, text))
 }
 
-// The file is written with zeros, so that its space is there before anything is kept in it.
+// The file is written with zeros, so that its space is there before anything is kept in it. And its folder is synced before the heap's first
+// calls make it one: so a file that has a heap is found after a power failure, also where its making was cut off here.
 fn make(path: &Arc<Path>, plan: &Plan, file: &mut File) -> Result<handles::Heap, Error> {
     let made = handles::Heap::format_file(file, plan.objects, &plan.fields, plan.lanes, plan.capacity);
     let (heap, size) = made.map_err(|error| refused(path, error))?;
-    write_zeros(file, size).map_err(|error| Error::system(ErrorKind::File, path, error))?;
+    let system = |error| Error::system(ErrorKind::File, path, error);
+    write_zeros(file, size).map_err(system)?;
+    sync_folder(path).map_err(system)?;
     Ok(heap)
 }
 

@@ -214,7 +214,7 @@ impl Options {
     }
 
     /// Opens the heap of the file, and recovers it, or makes one where there is no file, an empty one, one of zeros, or one whose
-    /// making was cut off. Any other file is left as it is.
+    /// making was cut off. Any other file is left as it is. Where no such heap can be made, a file that wasn't there is left empty.
     ///
     /// That the file's heap is this one is known by its numbers of objects, fields and lanes alone.
     ///
@@ -429,13 +429,19 @@ impl Heap {
     /// # Ok::<(), Box<dyn std::error::Error>>(())
     /// ```
     pub fn close(&self) -> Result<(), Error> {
-        self.shared.must_go_on()?;
+        let answer = self.shared.must_go_on().and_then(|()| self.ask_to_close());
+        // The helper has the file until it has ended.
+        if answer.as_ref().map_or_else(|error| error.kind().is_final(), |()| true) {
+            self.join();
+        }
+        answer
+    }
+
+    fn ask_to_close(&self) -> Result<(), Error> {
         let (reply, answer) = mpsc::channel();
         self.shared.ask_to_close(reply);
         // One that is asked for while the helper ends isn't answered.
-        answer.recv().unwrap_or_else(|_| Err(self.shared.why()))?;
-        self.join();
-        Ok(())
+        answer.recv().unwrap_or_else(|_| Err(self.shared.why()))
     }
 
     /// Stops the heap for all its sessions: those that sleep, for a monitor or in a wait, answer [`ErrorKind::Closed`], and each call

@@ -28,19 +28,16 @@ impl Queue {
         self.counts.get(object as usize)
     }
 
-    /// Puts the lane down for the object's monitor, at the front where it was woken and came too late. The caller tries once more then.
-    pub fn put(&self, object: u32, lane: usize, at_front: bool) {
-        let Some(count) = self.count(object) else { return };
+    /// Puts the lane down for the object's monitor, behind all others; whether it wasn't there before. The caller tries once more then.
+    pub fn put(&self, object: u32, lane: usize) -> bool {
+        let Some(count) = self.count(object) else { return false };
         let mut waiting = lock(&self.waiting);
         if waiting.iter().any(|(_, other)| *other == lane) {
-            return;
+            return false;
         }
-        if at_front {
-            waiting.push_front((object, lane));
-        } else {
-            waiting.push_back((object, lane));
-        }
+        waiting.push_back((object, lane));
         count.fetch_add(1, Ordering::SeqCst);
+        true
     }
 
     /// Takes the lane out, which waits no more; whether it was still there.
@@ -62,13 +59,11 @@ impl Queue {
             .is_some_and(|count| count.load(Ordering::SeqCst) > 0)
     }
 
-    /// Takes out the first lane that waits for the object's monitor.
-    pub fn take_first(&self, object: u32) -> Option<usize> {
-        let mut waiting = lock(&self.waiting);
-        let place = waiting.iter().position(|(other, _)| *other == object)?;
-        let (_, lane) = waiting.remove(place)?;
-        self.lower(object);
-        Some(lane)
+    /// The first lane that waits for the object's monitor. It stays in its place until it has the monitor or waits no more: so it may be
+    /// woken twice, and another one not at all, which whoever has the monitor then wakes.
+    pub fn first(&self, object: u32) -> Option<usize> {
+        let waiting = lock(&self.waiting);
+        waiting.iter().find(|(other, _)| *other == object).map(|(_, lane)| *lane)
     }
 
     fn lower(&self, object: u32) {

@@ -98,8 +98,12 @@ impl Session {
     #[cold]
     #[inline(never)]
     fn refused(&self, status: u32) -> Error {
-        if self.is_lost || self.shared.is_over() {
+        if self.shared.is_over() {
             return self.shared.why();
+        }
+        if self.is_lost {
+            // A wait was cut off by the same.
+            return Error::refused(ErrorKind::Sync, &self.shared.path, Refusal::Stopped);
         }
         let refusal = Refusal::from(status);
         // The library may tell a session that a sync has failed before the helper has told why the heap has ended.
@@ -371,27 +375,22 @@ impl Session {
     }
 
     fn sleep_for_monitor(&mut self, object: u32) -> Result<(), Error> {
-        let (mut is_down, mut was_woken, mut demands) = (false, false, 0);
+        let mut demands = 0;
         loop {
             let step = self.shared.step();
             let status = self.call(|handle| handle.try_enter(object));
             match answer(status) {
                 Ok(()) => return Ok(()),
-                Err(Refusal::Held) if is_down => {
-                    self.seat.sleep();
-                    (is_down, was_woken) = (false, true);
-                }
                 // It is put down before the next try, so that whoever has the monitor then finds it there.
                 Err(Refusal::Held) => {
-                    self.shared.queue.put(object, self.lane, was_woken);
-                    is_down = true;
+                    if !self.shared.queue.put(object, self.lane) {
+                        self.seat.sleep();
+                    }
                 }
                 Err(Refusal::Behind) => {
-                    let was_down = (is_down || was_woken) && self.shared.queue.remove(self.lane);
-                    if was_down || was_woken {
+                    if self.shared.queue.remove(self.lane) {
                         self.shared.wake_first(object);
                     }
-                    (is_down, was_woken) = (false, false);
                     self.await_room(step, &mut demands)?;
                 }
                 Err(_) => return Err(self.refused(status)),
@@ -536,21 +535,15 @@ impl Session {
     }
 
     fn sleep_for_notice(&mut self, object: u32) -> Result<(), Error> {
-        let (mut is_down, mut was_woken) = (false, false);
         loop {
             let status = self.call(Owned::try_resume);
-            let refusal = match answer(status) {
+            match answer(status) {
                 Ok(()) => return Ok(()),
-                Err(Refusal::Held) if !is_down => {
-                    self.shared.queue.put(object, self.lane, was_woken);
-                    is_down = true;
-                    continue;
-                }
-                Err(refusal @ (Refusal::Held | Refusal::InSet)) => refusal,
+                // It tries once more where it wasn't down before: whoever notified it may have put it there.
+                Err(Refusal::Held) if self.shared.queue.put(object, self.lane) => {}
+                Err(Refusal::Held | Refusal::InSet) => self.seat.sleep(),
                 Err(_) => return Err(self.refused(status)),
-            };
-            self.seat.sleep();
-            (is_down, was_woken) = (false, refusal == Refusal::Held);
+            }
         }
     }
 }
@@ -775,7 +768,8 @@ impl Held<'_> {
     /// isn't woken by anything else. Where no other monitor is held the section ends with it, and the next one begins when it goes on:
     /// what was loaded before may be otherwise by then.
     ///
-    /// [`ErrorKind::Refused`] by `Behind`, `SectionFull`, `NoFat` or `Worn`: the monitor is held as before. Each final kind: it isn't.
+    /// [`ErrorKind::Refused`] by `Behind`, `SectionFull`, `NoFat` or `Worn`, and [`ErrorKind::Write`] where a round that was waited for
+    /// can't write: the monitor is held as before. Each final kind: it isn't.
     ///
     /// ```
     /// # use zelamiku::service::Heap;
@@ -853,7 +847,7 @@ impl Held<'_> {
     // Those that were notified wait for the monitor from now on: they are woken when it is free, and not before.
     fn put_notified(&self, lanes: impl IntoIterator<Item = u32>) {
         for lane in lanes {
-            self.session.shared.queue.put(self.object, lane as usize, false);
+            self.session.shared.queue.put(self.object, lane as usize);
         }
     }
 

@@ -158,7 +158,7 @@ impl Shared {
     /// Wakes the first that waits for the object's monitor, which was freed.
     #[cold]
     pub fn wake_first(&self, object: u32) {
-        if let Some(seat) = self.queue.take_first(object).and_then(|lane| self.seats.get(lane)) {
+        if let Some(seat) = self.queue.first(object).and_then(|lane| self.seats.get(lane)) {
             seat.ring();
         }
     }

@@ -324,12 +324,13 @@ fn a_deadline_that_passes_leaves_all_as_it_was() {
     assert_eq!(told.unwrap_err().kind(), ErrorKind::Sync);
 }
 
-#[test]
-fn threads_that_sleep_for_one_monitor_get_it_in_turn() {
+// Threads that have come one after the other take the monitor in turn; before that the one that has it gives it back and takes it again so
+// often, and keeps it until all sleep again.
+fn take_turns(takes_between: usize) {
     const THREADS: usize = 7;
     let (heap, _device) = make(THREADS as u32 + 1);
     let mut session = heap.session().unwrap();
-    let held = session.enter(0).unwrap();
+    let mut held = session.enter(0).unwrap();
     let turns = Arc::new(Mutex::new(Vec::new()));
     let mut threads = Vec::new();
     for number in 0..THREADS {
@@ -343,9 +344,27 @@ fn threads_that_sleep_for_one_monitor_get_it_in_turn() {
             std::thread::yield_now();
         }
     }
+    for _ in 0..takes_between {
+        held.exit().unwrap();
+        held = session.enter(0).unwrap();
+    }
+    if takes_between > 0 {
+        // Those that were woken find it held, and sleep again.
+        std::thread::sleep(Duration::from_millis(20));
+    }
     held.exit().unwrap();
     for thread in threads {
         thread.join().unwrap();
     }
     assert_eq!(*turns.lock().unwrap(), (0..THREADS).collect::<Vec<_>>());
+}
+
+#[test]
+fn threads_that_sleep_for_one_monitor_get_it_in_turn() {
+    take_turns(0);
+}
+
+#[test]
+fn one_that_takes_the_monitor_in_between_leaves_the_others_in_turn() {
+    (0..5).for_each(|_| take_turns(20));
 }
