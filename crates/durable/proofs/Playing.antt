@@ -10,13 +10,15 @@ use Rattle.heap_model.specs.Setting.{Setting}
 use Rattle.heap_model.specs.Sections.{actions}
 use Rattle.heap_model.specs.Cuts.{IsStable}
 use Rattle.block_disk.specs.Device.{Device, HasCause, HasFailed}
-use Rattle.block_disk.specs.Images.{LeavesOnly}
+use Rattle.block_disk.specs.Images.{ImageBut, LeavesOnly}
 use Rattle.block_disk.proofs.Failures.{failed_since}
 use Rattle.block_disk.proofs.Images.{and_then, begin, weaker}
 use Rattle.store_past.specs.declared.error.StoreError.{StoreError}
 use Rattle.store_past.specs.declared.error.StoreError.TheVariants.{Fault}
 use Rattle.durable.specs.declared.store_call.StoreCall.{StoreCall}
 use Rattle.durable.specs.declared.store_call.StoreCall.TheVariants.{Apply, Settle, Trim}
+use Rattle.store_image.specs.Steps.{step_ranges}
+use Rattle.store_image.proofs.Within.{within_then}
 use Rattle.store_memory.specs.Fresh.{IsOfLanes}
 use Rattle.durable.specs.Runs.{TakesSequences}
 use Rattle.durable.specs.Calls.{AreQuiet, IsClean, IsQuiet, MakeAll, Makes, Reached, RefusesApply, RefusesSettle, RefusesTrim, RefusesCall, ShowsAfterSome, StandsAfterSome, StoppedAt}
@@ -85,6 +87,8 @@ pub record Played (old new : Known) (d0 d1 : Device) (calls : List StoreCall) (n
   pub later : d0.failures ≤ d1.failures
   -- each takes one sequence of the control at most
   pub takes : TakesSequences n old d0 new d1
+  -- and none writes elsewhere than steps do
+  pub writes : LeavesOnly d0 d1 (ImageBut d0 (step_ranges old.layout))
   pub made : (s : Setting) (p : Past) → HasPast old s p d0 → (q : Past) × MakeAll s p (take n calls) q × HasPast new s q d1
   pub shown : (s : Setting) (p : Past) → HasPast old s p d0 → LeavesOnly d0 d1 (ShowsAfterSome old.layout s p calls)
   pub stands : (s : Setting) (p : Past) → HasPast old s p d0 → LeavesOnly d0 d1 (StandsAfterSome old.layout s p calls)
@@ -97,6 +101,7 @@ played_none old d calls = record {
   running = refl;
   later = omega arith;
   takes = takes_none old old d d refl refl;
+  writes = begin d (ImageBut d (step_ranges old.layout));
   made = λ s p has. (p, refl, has);
   shown = λ s p has. begin d (ShowsAfterSome old.layout s p calls);
   stands = λ s p has. begin d (StandsAfterSome old.layout s p calls);
@@ -156,15 +161,19 @@ module _ (old mid : Known) (d0 d1 d2 : Device) (calls : List StoreCall) (n : ℕ
   pub takes_on : (new : Known) → TakesSequences 1 mid d1 new d2 → TakesSequences (length calls) old d0 new d2
   takes_on new takes = takes_more (n + 1) (length calls) old new d0 d2 (omega (arith, lt)) (takes_then n 1 old mid new d0 d1 d2 was.layout was.takes takes)
 
-  pub played_more : (new : Known) → new.layout ≡ mid.layout → (mid.has_failed ≡ false) × (new.has_failed ≡ false) → d1.failures ≤ d2.failures → TakesSequences 1 mid d1 new d2 →
+  pub writes_on : LeavesOnly d1 d2 (ImageBut d1 (step_ranges mid.layout)) → LeavesOnly d0 d2 (ImageBut d0 (step_ranges old.layout))
+  writes_on writes = within_then (step_ranges old.layout) d0 d1 d2 was.writes (subst (λ l. LeavesOnly d1 d2 (ImageBut d1 (step_ranges l))) was.layout writes)
+
+  pub played_more : (new : Known) → new.layout ≡ mid.layout → (mid.has_failed ≡ false) × (new.has_failed ≡ false) → d1.failures ≤ d2.failures → TakesSequences 1 mid d1 new d2 → LeavesOnly d1 d2 (ImageBut d1 (step_ranges mid.layout)) →
       ((s : Setting) (p : Past) → HasPast mid s p d1 → (q : Past) × Makes s p call q × HasPast new s q d2) →
       ((s : Setting) (p : Past) → HasPast mid s p d1 → IsQuiet s p call → d2 ≡ d1) → Played old new d0 d2 calls (n + 1)
-  played_more new layout running later takes makes quiet = record {
+  played_more new layout running later takes writes makes quiet = record {
     within = omega arith;
     layout = layout ∙ was.layout;
     running = running.1 ∙ sym running.0 ∙ was.running;
     later = omega (arith, was.later);
     takes = takes_then n 1 old mid new d0 d1 d2 was.layout was.takes takes;
+    writes = writes_on writes;
     made = λ s p has.
         let made = was.made s p has in
         let next = makes s made.0 made.2 in
@@ -256,11 +265,11 @@ module _ (old mid : Known) (d0 d1 d2 : Device) (calls : List StoreCall) (n : ℕ
       }) (makes_shown s made.0 made.2)))
 
   -- one call more
-  pub played_on : (new : Known) → new.layout ≡ mid.layout → (mid.has_failed ≡ false) × (new.has_failed ≡ false) → d1.failures ≤ d2.failures → TakesSequences 1 mid d1 new d2 →
+  pub played_on : (new : Known) → new.layout ≡ mid.layout → (mid.has_failed ≡ false) × (new.has_failed ≡ false) → d1.failures ≤ d2.failures → TakesSequences 1 mid d1 new d2 → LeavesOnly d1 d2 (ImageBut d1 (step_ranges mid.layout)) →
       ((s : Setting) (p : Past) → HasPast mid s p d1 → (q : Past) × Makes s p call q × HasPast new s q d2) →
       ((s : Setting) (p : Past) → HasPast mid s p d1 → IsQuiet s p call → d2 ≡ d1) → PlayedOn old new d0 d2 calls (n + 1)
-  played_on new layout running later takes makes quiet =
-      let more : Played old new d0 d2 calls (n + 1) = played_more old mid d0 d1 d2 calls n was.played lt call is makes_shown new layout running later takes makes quiet in
+  played_on new layout running later takes writes makes quiet =
+      let more : Played old new d0 d2 calls (n + 1) = played_more old mid d0 d1 d2 calls n was.played lt call is makes_shown new layout running later takes writes makes quiet in
       record {
         played = more;
         first = first_on;
@@ -284,7 +293,7 @@ module _ (old mid : Known) (d0 d1 d2 : Device) (calls : List StoreCall) (n : ℕ
                 before = split.before;
                 first = split.first;
                 after = subst (Played split.known new split.device d2 (drop k calls)) place
-                    (played_more split.known mid split.device d1 d2 (drop k calls) (n - k) split.after (behind_lt k some) call (call_behind calls n k call some lt is) makes_shown new layout running later takes makes quiet);
+                    (played_more split.known mid split.device d1 d2 (drop k calls) (n - k) split.after (behind_lt k some) call (call_behind calls n k call some lt is) makes_shown new layout running later takes writes makes quiet);
               }
         ];
       }

@@ -6,13 +6,14 @@ use Rattle.heap_model.specs.Setting.{Setting}
 use Rattle.heap_model.specs.Sections.{actions}
 use Rattle.heap_model.specs.Cuts.{IsStable}
 use Rattle.block_disk.specs.Device.{Device, HasCause}
-use Rattle.block_disk.specs.Images.{LeavesOnly}
+use Rattle.block_disk.specs.Images.{ImageBut, LeavesOnly}
 use Rattle.durable.specs.Calls.{AnswersHome, IsClean, RefusesApply, RefusesHome, RefusesLog, RefusesSettle, RefusesTrim, after_home_step}
 use Rattle.durable.specs.Store.{Parts, HasPast, ShowsStep}
 use Rattle.durable.specs.declared.doubt.Doubt.{Doubt}
 use Rattle.store_image.specs.Consistent.{ShowsPast}
 use Rattle.store_image.specs.KeptHeap.{StandsForCut, StandsForEither}
 use Rattle.store_image.specs.Sequences.{ShowsUpTo}
+use Rattle.store_image.specs.Steps.{step_ranges}
 use Rattle.store_image.specs.declared.home.Home.{Home}
 use Rattle.store_memory.specs.Apply.{Answers}
 use Rattle.store_past.specs.Past.{Past, IsTrimmed, after_apply, after_log, after_settle, after_trim}
@@ -47,6 +48,10 @@ module _ {D : Type 0} (device : D → Device) where
   -- it shows a control of this sequence at most
   abbrev pub ShowsUpToMeanwhile : (x y : Parts D) → (last : ℕ) → Type 0
   ShowsUpToMeanwhile x y last = LeavesOnly (device x.disk) (device y.disk) (ShowsUpTo x.known.layout last)
+
+  -- nothing is written but the control's slots, home cells and the lanes' areas: header, guard rows, and what lies behind the image, stay
+  abbrev pub WritesWithin : (x y : Parts D) → Type 0
+  WritesWithin x y = LeavesOnly (device x.disk) (device y.disk) (ImageBut (device x.disk) (step_ranges x.known.layout))
 
   -- the lane's record is applied
   abbrev pub Applies : (x y : Parts D) → (lane : ℕ) → Record → Result (Unit {0}) StoreError → Type 0

@@ -4,7 +4,7 @@ ghost use Rattle.block_disk.specs.Device.{HasFailed};
 ghost use Rattle.durable.specs.Plays.{CallsNone, MakesCall, PlaysAll, PlaysQuietly, ReachesEach, RefusesThe, ShowsSomeMeanwhile, StandsForSomeMeanwhile, StopsAt};
 ghost use Rattle.durable.specs.Store.{doubt_in};
 ghost use Rattle.store_past.specs.declared.error.StoreError.TheVariants.{Fault};
-ghost use Rattle.durable.specs.Steps.{Keeps, OnlyDeviceFaults, ShowsMeanwhile, ShowsUpToMeanwhile};
+ghost use Rattle.durable.specs.Steps.{Keeps, OnlyDeviceFaults, ShowsMeanwhile, ShowsUpToMeanwhile, WritesWithin};
 
 use crate::store::Store;
 use crate::store_call::StoreCall;
@@ -33,6 +33,7 @@ impl<D: Disk> Store<D> {
         ensures cause { IfErr result (λ e. e.1 ≡ Fault → HasFailed (D.device self.old.disk).failures (D.device self.new.disk).failures) }
         ensures sequence { self.new.known.committed.sequence ≤ self.old.known.committed.sequence + length calls.now }
         ensures any_sequence { ShowsUpToMeanwhile D.device self.old self.new (self.old.known.committed.sequence + length calls.now) }
+        ensures within { WritesWithin D.device self.old self.new }
         ensures layout { self.new.known.layout ≡ self.old.known.layout }
     {
         for (place, call) in calls.iter().enumerate() {
@@ -57,6 +58,7 @@ impl<D: Disk> Store<D> {
         ensures cause { OnlyDeviceFaults D.device self.old self.new result }
         ensures sequence { self.new.known.committed.sequence ≤ self.old.known.committed.sequence + 1 }
         ensures any_sequence { ShowsUpToMeanwhile D.device self.old self.new (self.old.known.committed.sequence + 1) }
+        ensures within { WritesWithin D.device self.old self.new }
         ensures layout { self.new.known.layout ≡ self.old.known.layout }
     {
         match call {

@@ -2,7 +2,7 @@
 ghost use Rattle.std.specs.Prelude.{◌≡◌, ◌⊎◌, ◌+◌, ◌≤◌, true, false, IfErr, IsErrOf, OnOk};
 ghost use Rattle.store_past.specs.declared.error.StoreError.TheVariants.{Fault};
 ghost use Rattle.durable.specs.declared.doubt.Doubt.TheVariants.{Logging, Acknowledging};
-ghost use Rattle.durable.specs.Steps.{AnswersLog, AnswersSettle, Keeps, Logs, LogsNone, OnlyDeviceFaults, SettlesAndTrims, ShowsMeanwhile, ShowsUpToMeanwhile, StandsForOneOf, StandsMeanwhile, WearsLog, WearsSettle};
+ghost use Rattle.durable.specs.Steps.{AnswersLog, AnswersSettle, Keeps, Logs, LogsNone, OnlyDeviceFaults, SettlesAndTrims, ShowsMeanwhile, ShowsUpToMeanwhile, StandsForOneOf, StandsMeanwhile, WearsLog, WearsSettle, WritesWithin};
 
 use crate::doubt::Doubt;
 use crate::store::{Store, kept_cut, starts};
@@ -31,6 +31,7 @@ impl<D: Disk> Store<D> {
         ensures cause { OnlyDeviceFaults D.device self.old self.new result }
         ensures sequence { self.new.known.committed.sequence ≤ self.old.known.committed.sequence + 1 }
         ensures any_sequence { ShowsUpToMeanwhile D.device self.old self.new (self.old.known.committed.sequence + 1) }
+        ensures within { WritesWithin D.device self.old self.new }
         ensures layout { self.new.known.layout ≡ self.old.known.layout }
     {
         self.log_by(Syncs::Joined)
@@ -56,6 +57,7 @@ impl<D: Disk> Store<D> {
         ensures cause { OnlyDeviceFaults D.device self.old self.new result }
         ensures sequence { self.new.known.committed.sequence ≤ self.old.known.committed.sequence + 1 }
         ensures any_sequence { ShowsUpToMeanwhile D.device self.old self.new (self.old.known.committed.sequence + 1) }
+        ensures within { WritesWithin D.device self.old self.new }
         ensures layout { self.new.known.layout ≡ self.old.known.layout }
     {
         if self.has_failed {

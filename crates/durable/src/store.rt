@@ -13,7 +13,7 @@ ghost use Rattle.durable.specs.Store.{HasPast};
 ghost use Rattle.store_past.specs.declared.error.StoreError.TheVariants.{Fault};
 ghost use Rattle.store_image.specs.declared.home.Home.TheVariants.{Done};
 ghost use Rattle.durable.specs.declared.doubt.Doubt.TheVariants.{Nothing, Logging, Settling, Trimming};
-ghost use Rattle.durable.specs.Steps.{Applies, AnswersApply, AnswersHomeStep, AnswersLog, AnswersSettle, AnswersTrim, GoesHome, GoesNowhere, Keeps, Logs, LogsNone, OnlyDeviceFaults, Settles, ShowsMeanwhile, ShowsPastMeanwhile, ShowsUpToMeanwhile, StandsForOneOf, StandsMeanwhile, Trims, TrimsNone, WearsLog, WearsSettle, WearsTrim};
+ghost use Rattle.durable.specs.Steps.{Applies, AnswersApply, AnswersHomeStep, AnswersLog, AnswersSettle, AnswersTrim, GoesHome, GoesNowhere, Keeps, Logs, LogsNone, OnlyDeviceFaults, Settles, ShowsMeanwhile, ShowsPastMeanwhile, ShowsUpToMeanwhile, StandsForOneOf, StandsMeanwhile, Trims, TrimsNone, WearsLog, WearsSettle, WearsTrim, WritesWithin};
 ghost use Rattle.durable.specs.Stops.{AnswersClose, BeginsWith, ClosesAtHome, ClosesForGood, ClosesWritten, HasAcknowledged, HasFirstValue, HasTrimmed, HasValue, ReadsAcknowledged, RefusesToClose, RestsAcknowledged, ShowsAtStop, StandsAtStop};
 
 use crate::beginning::fields_of;
@@ -32,8 +32,9 @@ use store_past::StoreError;
 /// It is told the lanes' records as they come ([`apply`](Store::apply)), makes them durable ([`log_step`](Store::log_step)), writes
 /// logged values home ([`home_step`](Store::home_step)) and acknowledges the stable cut ([`settle`](Store::settle)). What is acknowledged may be
 /// forgotten ([`trim`](Store::trim)), so that its memory and its area of the device last for ever. Whatever a crash leaves of its
-/// device, at any moment of any call, stands for the heap of the acknowledged cut, in `settle` for that of the old one or
-/// of the new one. All its memory is taken by [`adopt`](Store::adopt).
+/// device, at any moment of any call, stands for the heap of the acknowledged cut, or while it settles ([`settle`](Store::settle),
+/// [`settle_and_trim`](Store::settle_and_trim)) for that of the old one or of the new one. It writes nothing but its image, and of
+/// that neither header nor guard rows. All its memory is taken by [`adopt`](Store::adopt).
 ///
 /// Contracts see what it knows as plain data beside its device, and say which pasts it has: what it was told, and what
 /// became of that. After a `Fault` every call that applies or writes answers `Failed`; what there is to read stays.
@@ -145,6 +146,7 @@ impl<D: Disk> Store<D> {
         ensures cause { OnlyDeviceFaults D.device self.old self.new result }
         ensures sequence { self.new.known.committed.sequence ≤ self.old.known.committed.sequence + 1 }
         ensures any_sequence { ShowsUpToMeanwhile D.device self.old self.new (self.old.known.committed.sequence + 1) }
+        ensures within { WritesWithin D.device self.old self.new }
         ensures layout { self.new.known.layout ≡ self.old.known.layout }
     {
         self.log_by(Syncs::Apart)
@@ -166,6 +168,7 @@ impl<D: Disk> Store<D> {
         ensures cause { OnlyDeviceFaults D.device self.old self.new result }
         ensures sequence { self.new.known.committed.sequence ≤ self.old.known.committed.sequence + 1 }
         ensures any_sequence { ShowsUpToMeanwhile D.device self.old self.new (self.old.known.committed.sequence + 1) }
+        ensures within { WritesWithin D.device self.old self.new }
         ensures layout { self.new.known.layout ≡ self.old.known.layout }
     {
         if self.has_failed {
@@ -197,8 +200,8 @@ impl<D: Disk> Store<D> {
 
     /// Writes the least dirty field's logged value into its home cell, in one write, or answers that no field is dirty.
     ///
-    /// With no dirty field it takes no call of the device. The time is amortized constant. Refusals, in this order: `Failed`,
-    /// after which nothing has changed; `Fault`.
+    /// With no dirty field it takes no call of the device. It looks at one word for each 4,096 fields. Refusals, in this order:
+    /// `Failed`, after which nothing has changed; `Fault`.
     pub fn home_step(&mut self) -> Result<Home, StoreError>
         ensures ok { GoesHome D.device self.old self.new result }
         ensures running { OnOk result ((self.old.known.has_failed ≡ false) × (self.new.known.has_failed ≡ false)) }
@@ -214,6 +217,7 @@ impl<D: Disk> Store<D> {
         ensures cause { OnlyDeviceFaults D.device self.old self.new result }
         ensures sequence { self.new.known.committed.sequence ≡ self.old.known.committed.sequence }
         ensures any_sequence { ShowsUpToMeanwhile D.device self.old self.new self.old.known.committed.sequence }
+        ensures within { WritesWithin D.device self.old self.new }
         ensures layout { self.new.known.layout ≡ self.old.known.layout }
     {
         if self.has_failed {
@@ -255,6 +259,7 @@ impl<D: Disk> Store<D> {
         ensures cause { OnlyDeviceFaults D.device self.old self.new result }
         ensures sequence { self.new.known.committed.sequence ≤ self.old.known.committed.sequence + 1 }
         ensures any_sequence { ShowsUpToMeanwhile D.device self.old self.new (self.old.known.committed.sequence + 1) }
+        ensures within { WritesWithin D.device self.old self.new }
         ensures layout { self.new.known.layout ≡ self.old.known.layout }
     {
         if self.has_failed {
@@ -304,6 +309,7 @@ impl<D: Disk> Store<D> {
         ensures cause { OnlyDeviceFaults D.device self.old self.new result }
         ensures sequence { self.new.known.committed.sequence ≤ self.old.known.committed.sequence + 1 }
         ensures any_sequence { ShowsUpToMeanwhile D.device self.old self.new (self.old.known.committed.sequence + 1) }
+        ensures within { WritesWithin D.device self.old self.new }
         ensures layout { self.new.known.layout ≡ self.old.known.layout }
     {
         if self.has_failed {

@@ -1,5 +1,5 @@
 -- The control that frees the places of what is acknowledged.
-use Rattle.std.proofs.Common.{◌≡◌, ◌≢◌, ◌⊎◌, inl, inr, ⊎_elim, ℕ, zero, suc, ◌+◌, ◌-◌, ◌^◌, ◌<◌, ◌≤◌, List, [], ◌∷◌, ◌++◌, length, map, reverse, refl, sym, ◌∙◌, ap, subst, arith, length-append}
+use Rattle.std.proofs.Common.{◌≡◌, inl, inr, ⊎_elim, ℕ, ◌+◌, ◌<◌, ◌≤◌, List, [], ◌∷◌, ◌++◌, length, map, reverse, refl, sym, ◌∙◌, ap, subst, arith, length-append}
 use Rattle.std.specs.Prelude.{drop}
 use Rattle.std.proofs.lemmas.Bool.{cases_lt}
 use Rattle.std.proofs.lemmas.List.{length-reverse, map-append, reverse-append}
@@ -14,7 +14,6 @@ use Rattle.history_laws.proofs.Reorder.{split_lane}
 use Rattle.block_disk.specs.Device.{Device, SameOutside}
 use Rattle.block_disk.specs.Images.{Always, LeavesOnly}
 use Rattle.block_disk.proofs.Images.{image_now, now_too, weaker}
-use Rattle.image.specs.Cells.{HasCell}
 use Rattle.image.specs.Commit.{IsSteady, OldOrNew}
 use Rattle.image.specs.Control.{AreRows, control_of}
 use Rattle.image.specs.Layout.{cell_at}
@@ -27,13 +26,13 @@ use Rattle.undo_log.specs.Area.{HasRecords}
 use Rattle.undo_log.specs.Dropped.{undo_logs, records_in}
 use Rattle.undo_log.specs.StandsFor.{row_of}
 use Rattle.store_past.specs.Past.{Past, IsPast, IsTrimmed, after_trim}
-use Rattle.store_image.specs.Consistent.{TellsCut, HasParts, ShowsPast, ShowsEither, IsConsistent}
+use Rattle.store_image.specs.Consistent.{TellsCut, HasParts, ShowsEither, IsConsistent}
 use Rattle.store_image.specs.KeptHeap.{StandsForCut}
 use Rattle.store_image.specs.declared.committed.Committed.{Committed}
 use Rattle.store_image.proofs.Committing.{slot_before, commit_shows, commit_has}
 use Rattle.store_image.proofs.Places.{in_sections, past_sections, records_within, one_more, ended_undo, live_size, cut_place}
 use Rattle.store_image.proofs.Rows.{row_is, rest_is, told_rows}
-use Rattle.store_image.proofs.Stands.{stands, none_logged, shows_always, stands_always}
+use Rattle.store_image.proofs.Stands.{stands, none_logged, stands_always}
 
 -- of two lists that are the beginning of one, the longer goes on from the shorter
 longer : (xs us ys vs : List UndoRecord) → xs ++ us ≡ ys ++ vs → length xs ≤ length ys → ys ≡ xs ++ drop (length xs) ys

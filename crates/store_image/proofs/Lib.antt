@@ -15,3 +15,4 @@ pub mod Rewriting
 pub mod Freeing
 pub mod Round
 pub mod Sequences
+pub mod Within

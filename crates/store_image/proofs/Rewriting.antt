@@ -1,5 +1,5 @@
 -- A commit that has ended leaves all bytes outside of the slot that it wrote.
-use Rattle.std.proofs.Common.{ℕ, ◌≡◌, ◌+◌, ◌≤◌, ◌==◌, if◌then◌else◌, true, false, List, [], ◌∷◌, ◌++◌, length, Result, Ok, Err, OnOk, sym, ap, subst, arith, length-take}
+use Rattle.std.proofs.Common.{ℕ, ◌≡◌, ◌+◌, ◌≤◌, ◌==◌, if◌then◌else◌, true, false, List, [], ◌∷◌, length, sym, ap, subst, arith, length-take}
 use Rattle.std.specs.Prelude.{slice_index, drop}
 use Rattle.block_disk.specs.Device.{Device, SameOutside, range_of}
 use Rattle.block_disk.specs.Bytes.{spliced}

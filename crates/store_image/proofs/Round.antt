@@ -1,5 +1,5 @@
 -- One commit that acknowledges the stable cut, makes the home cells durable before it, and frees the places of that cut.
-use Rattle.std.proofs.Common.{◌≡◌, ◌⊎◌, inl, inr, ⊎_elim, ℕ, ◌+◌, ◌-◌, ◌<◌, ◌≤◌, true, false, List, [], ◌∷◌, length, refl, sym, ◌∙◌, ap, subst, arith}
+use Rattle.std.proofs.Common.{◌≡◌, ◌⊎◌, inl, inr, ⊎_elim, ℕ, ◌<◌, ◌≤◌, true, false, List, [], ◌∷◌, length, refl, ◌∙◌, ap, subst, arith}
 use Rattle.std.specs.Prelude.{slice_index}
 use Rattle.heap_model.specs.declared.cut.Cut.{Cut}
 use Rattle.heap_model.specs.Setting.{Setting}
@@ -17,7 +17,7 @@ use Rattle.image.specs.Slots.{other}
 use Rattle.image.specs.declared.control.Control.{Control}
 use Rattle.image.specs.declared.lane_row.LaneRow.{LaneRow}
 use Rattle.image.specs.declared.layout.Layout.{Layout}
-use Rattle.undo_log.specs.Dropped.{IsDropped, records_in, undo_logs}
+use Rattle.undo_log.specs.Dropped.{IsDropped}
 use Rattle.undo_log.specs.StandsFor.{row_of}
 use Rattle.undo_log.proofs.Back.{dropped_or_same}
 use Rattle.store_past.specs.Past.{Past, IsPast, after_settle, after_trim}

@@ -1,5 +1,5 @@
 -- What each step of a store needs, and what the images that it leaves stand for.
-use Rattle.std.specs.Prelude.{ℕ, ◌≡◌, ◌<◌, true, false, List, reverse, slice_index}
+use Rattle.std.specs.Prelude.{ℕ, ◌≡◌, ◌-◌, ◌<◌, true, false, List, [], ◌∷◌, reverse, slice_index}
 use Rattle.heap_model.specs.declared.cut.Cut.{Cut}
 use Rattle.heap_model.specs.declared.record.UndoRecord.{UndoRecord}
 use Rattle.heap_model.specs.Setting.{Setting}
@@ -7,7 +7,9 @@ use Rattle.heap_model.specs.Log.{value}
 use Rattle.heap_model.specs.Sections.{actions}
 use Rattle.heap_model.specs.Cuts.{IsStable, counts_of}
 use Rattle.undo_log.specs.Dropped.{undo_logs, records_in}
-use Rattle.block_disk.specs.Device.{Device}
+use Rattle.block_disk.specs.Device.{Device, Range}
+use Rattle.image.specs.Commit.{slots_range}
+use Rattle.image.specs.Layout.{cell_at, size_of}
 use Rattle.image.specs.declared.layout.Layout.{Layout}
 use Rattle.undo_log.specs.StandsFor.{row_of}
 use Rattle.store_image.specs.NewRecords.{FitsLane}
@@ -34,3 +36,7 @@ pub record MayLog (l : Layout) (s : Setting) (p : Past) (c : Committed) (d : Dev
   pub consistent : IsConsistent l s p c d
   pub records : (lane : ℕ) → lane < l.lanes → fresh lane ≡ reverse (undo_logs p.fresh lane)
   pub fits : (lane : ℕ) → lane < l.lanes → FitsLane l (row_of c.rows lane) (fresh lane)
+
+-- where steps write: the slots of the control, and from the home cells to the image's end
+abbrev pub step_ranges : Layout → List Range
+step_ranges l = slots_range ∷ record { start = cell_at l 0; len = size_of l - cell_at l 0 } ∷ []

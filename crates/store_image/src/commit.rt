@@ -1,12 +1,13 @@
 //! A commit of the next control.
 ghost use Rattle.std.specs.Prelude.{◌≡◌, ◌+◌, ◌-◌, ◌<◌, ◌≤◌, ◌^◌, [], ◌∷◌, IfErr, OnErr, OnOk};
 ghost use Rattle.block_disk.specs.Device.{HasCause, SameOutside};
-ghost use Rattle.block_disk.specs.Images.{LeavesOnly};
+ghost use Rattle.block_disk.specs.Images.{ImageBut, LeavesOnly};
 ghost use Rattle.image.specs.Commit.{IsSteady, OldOrNew, OldOrTurned, slots_range, turned_sequence};
 ghost use Rattle.image.specs.Control.{AreRows, control_of};
 ghost use Rattle.image.specs.Layout.{IsLayout};
 ghost use Rattle.image.specs.Slots.{other, slot_range};
 ghost use Rattle.store_image.specs.Sequences.{ShowsUpTo};
+ghost use Rattle.store_image.specs.Steps.{step_ranges};
 ghost use Rattle.store_past.specs.declared.error.StoreError.TheVariants.{Fault};
 
 use crate::committed::Committed;
@@ -43,6 +44,7 @@ pub fn commit<D: Disk>(
     ensures any_moment { LeavesOnly (D.device disk.old) (D.device disk.new)
         (OldOrNew layout.now (D.device disk.old) committed.old.slot (control_of committed.old.sequence committed.old.rows) (control_of (committed.old.sequence + 1) rows.now)) }
     ensures any_sequence { LeavesOnly (D.device disk.old) (D.device disk.new) (ShowsUpTo layout.now (committed.old.sequence + 1)) }
+    ensures within { LeavesOnly (D.device disk.old) (D.device disk.new) (ImageBut (D.device disk.old) (step_ranges layout.now)) }
     ensures cause { HasCause (D.device disk.old).failures (D.device disk.new).failures Fault result }
 {
     match commit_control(disk, layout, committed.slot, committed.sequence, rows) {
@@ -84,6 +86,7 @@ pub fn commit_written<D: Disk>(
         (OldOrTurned layout.now (D.device disk.old) committed.old.slot (control_of committed.old.sequence committed.old.rows)
         (control_of (turned_sequence committed.old.slot committed.old.sequence (D.device disk.old).now.bytes) rows.now)) }
     ensures any_sequence { LeavesOnly (D.device disk.old) (D.device disk.new) (ShowsUpTo layout.now (committed.old.sequence + 1)) }
+    ensures within { LeavesOnly (D.device disk.old) (D.device disk.new) (ImageBut (D.device disk.old) (step_ranges layout.now)) }
     ensures cause { HasCause (D.device disk.old).failures (D.device disk.new).failures Fault result }
 {
     match commit_by_turning(disk, layout, committed.slot, committed.sequence, rows) {

@@ -1,13 +1,13 @@
 //! The stable cut is acknowledged, and its records are given up, by one commit.
 ghost use Rattle.std.specs.Prelude.{◌≡◌, ◌⊎◌, ◌↔◌, ◌+◌, ◌-◌, ◌≤◌, ◌^◌, ℕ, IfErr, IsErrOf, OnErr, OnOk};
 ghost use Rattle.block_disk.specs.Device.{HasCause};
-ghost use Rattle.block_disk.specs.Images.{Always, LeavesOnly};
+ghost use Rattle.block_disk.specs.Images.{Always, ImageBut, LeavesOnly};
 ghost use Rattle.heap_model.specs.Cuts.{counts_of};
 ghost use Rattle.heap_model.specs.Setting.{Setting};
 ghost use Rattle.store_image.specs.Consistent.{IsConsistent, ShowsEither};
 ghost use Rattle.store_image.specs.KeptHeap.{StandsForEither};
 ghost use Rattle.store_past.specs.Past.{Past, after_settle, after_trim};
-ghost use Rattle.store_image.specs.Steps.{MaySettle};
+ghost use Rattle.store_image.specs.Steps.{MaySettle, step_ranges};
 ghost use Rattle.store_image.specs.Sequences.{ShowsUpTo};
 ghost use Rattle.store_past.specs.declared.error.StoreError.TheVariants.{Fault, Worn};
 
@@ -47,6 +47,7 @@ pub fn settle_and_trim<D: Disk>(
     ensures shown { (s : Setting) (p : Past) → MaySettle layout.now s p committed.old (D.device disk.old) cut.now places.now
         → LeavesOnly (D.device disk.old) (D.device disk.new) (ShowsEither layout.now s p (after_trim (after_settle p (counts_of cut.now)))) }
     ensures any_sequence { LeavesOnly (D.device disk.old) (D.device disk.new) (ShowsUpTo layout.now (committed.old.sequence + 1)) }
+    ensures within { LeavesOnly (D.device disk.old) (D.device disk.new) (ImageBut (D.device disk.old) (step_ranges layout.now)) }
     ensures crash { (s : Setting) (p : Past) → MaySettle layout.now s p committed.old (D.device disk.old) cut.now places.now
         → Always (D.device disk.new) (StandsForEither layout.now s p.logged p.cut (counts_of cut.now)) }
     ensures cause { HasCause (D.device disk.old).failures (D.device disk.new).failures Fault result }

@@ -1,8 +1,9 @@
 //! A logged value goes home.
-ghost use Rattle.std.specs.Prelude.{◌≡◌, ◌<◌, ◌≤◌, IfErr, OnOk, length};
+ghost use Rattle.std.specs.Prelude.{◌≡◌, ◌<◌, ◌≤◌, [], ◌∷◌, IfErr, OnOk, length};
 ghost use Rattle.block_disk.specs.Device.{HasCause};
-ghost use Rattle.block_disk.specs.Images.{Always, LeavesOnly};
+ghost use Rattle.block_disk.specs.Images.{Always, ImageBut, LeavesOnly};
 ghost use Rattle.heap_model.specs.Setting.{Setting};
+ghost use Rattle.image.specs.Cells.{cell_range};
 ghost use Rattle.image.specs.Layout.{size_of};
 ghost use Rattle.store_image.specs.Consistent.{IsConsistent, ShowsPast};
 ghost use Rattle.store_image.specs.KeptHeap.{StandsForCut};
@@ -45,6 +46,7 @@ pub fn write_home<D: Disk>(
         → LeavesOnly (D.device disk.old) (D.device disk.new) (ShowsPast layout.now s p) }
     ensures any_sequence { (s : Setting) (p : Past) (c : Committed) → MayGoHome layout.now s p c (D.device disk.old) field.0 value
         → LeavesOnly (D.device disk.old) (D.device disk.new) (ShowsUpTo layout.now c.sequence) }
+    ensures within { LeavesOnly (D.device disk.old) (D.device disk.new) (ImageBut (D.device disk.old) (cell_range layout.now field.0 ∷ [])) }
     ensures crash { (s : Setting) (p : Past) (c : Committed) → MayGoHome layout.now s p c (D.device disk.old) field.0 value
         → Always (D.device disk.new) (StandsForCut layout.now s p.logged p.cut) }
     ensures cause { HasCause (D.device disk.old).failures (D.device disk.new).failures Fault result }

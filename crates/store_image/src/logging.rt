@@ -12,7 +12,7 @@ ghost use Rattle.store_image.specs.Consistent.{IsConsistent, ShowsEither};
 ghost use Rattle.store_image.specs.NewRecords.{FitsLane, HasFresh, fresh_count, fresh_ranges};
 ghost use Rattle.store_image.specs.KeptHeap.{StandsForCut};
 ghost use Rattle.store_past.specs.Past.{Past, after_log};
-ghost use Rattle.store_image.specs.Steps.{MayLog};
+ghost use Rattle.store_image.specs.Steps.{MayLog, step_ranges};
 ghost use Rattle.store_image.specs.Sequences.{ShowsUpTo};
 ghost use Rattle.store_past.specs.declared.error.StoreError.TheVariants.{Fault, Worn};
 
@@ -58,6 +58,7 @@ pub fn log_records<D: Disk, F: NewRecords>(
     ensures shown { (s : Setting) (p : Past) → MayLog layout.now s p committed.old (D.device disk.old) (F.fresh fresh.now)
         → LeavesOnly (D.device disk.old) (D.device disk.new) (ShowsEither layout.now s p (after_log p)) }
     ensures any_sequence { LeavesOnly (D.device disk.old) (D.device disk.new) (ShowsUpTo layout.now (committed.old.sequence + 1)) }
+    ensures within { LeavesOnly (D.device disk.old) (D.device disk.new) (ImageBut (D.device disk.old) (step_ranges layout.now)) }
     ensures crash { (s : Setting) (p : Past) → MayLog layout.now s p committed.old (D.device disk.old) (F.fresh fresh.now)
         → Always (D.device disk.new) (StandsForCut layout.now s p.logged p.cut) }
     ensures cause { HasCause (D.device disk.old).failures (D.device disk.new).failures Fault result }
@@ -107,6 +108,7 @@ fn log_all<D: Disk, F: NewRecords>(
     ensures shown { (s : Setting) (p : Past) → MayLog layout.now s p committed.old (D.device disk.old) (F.fresh fresh.now)
         → LeavesOnly (D.device disk.old) (D.device disk.new) (ShowsEither layout.now s p (after_log p)) }
     ensures any_sequence { LeavesOnly (D.device disk.old) (D.device disk.new) (ShowsUpTo layout.now (committed.old.sequence + 1)) }
+    ensures within { LeavesOnly (D.device disk.old) (D.device disk.new) (ImageBut (D.device disk.old) (step_ranges layout.now)) }
     ensures cause { HasCause (D.device disk.old).failures (D.device disk.new).failures Fault result }
 {
     append_lanes(disk, layout, &committed.rows, fresh)?;

@@ -1,14 +1,14 @@
 //! The stable cut is acknowledged.
 ghost use Rattle.std.specs.Prelude.{◌≡◌, ◌⊎◌, ◌↔◌, ◌+◌, ◌-◌, ◌<◌, ◌≤◌, ◌^◌, ℕ, IfErr, IsErrOf, OnErr, OnOk, length, slice_index};
 ghost use Rattle.block_disk.specs.Device.{HasCause};
-ghost use Rattle.block_disk.specs.Images.{Always, LeavesOnly};
+ghost use Rattle.block_disk.specs.Images.{Always, ImageBut, LeavesOnly};
 ghost use Rattle.heap_model.specs.Cuts.{counts_of};
 ghost use Rattle.heap_model.specs.Setting.{Setting};
 ghost use Rattle.undo_log.specs.StandsFor.{row_of};
 ghost use Rattle.store_image.specs.Consistent.{IsConsistent, ShowsEither};
 ghost use Rattle.store_image.specs.KeptHeap.{StandsForEither};
 ghost use Rattle.store_past.specs.Past.{Past, after_settle};
-ghost use Rattle.store_image.specs.Steps.{MaySettle};
+ghost use Rattle.store_image.specs.Steps.{MaySettle, step_ranges};
 ghost use Rattle.store_image.specs.Sequences.{ShowsUpTo};
 ghost use Rattle.store_past.specs.declared.error.StoreError.TheVariants.{Fault, Worn};
 
@@ -46,6 +46,7 @@ pub fn settle<D: Disk>(
     ensures shown { (s : Setting) (p : Past) → MaySettle layout.now s p committed.old (D.device disk.old) cut.now places.now
         → LeavesOnly (D.device disk.old) (D.device disk.new) (ShowsEither layout.now s p (after_settle p (counts_of cut.now))) }
     ensures any_sequence { LeavesOnly (D.device disk.old) (D.device disk.new) (ShowsUpTo layout.now (committed.old.sequence + 1)) }
+    ensures within { LeavesOnly (D.device disk.old) (D.device disk.new) (ImageBut (D.device disk.old) (step_ranges layout.now)) }
     ensures crash { (s : Setting) (p : Past) → MaySettle layout.now s p committed.old (D.device disk.old) cut.now places.now
         → Always (D.device disk.new) (StandsForEither layout.now s p.logged p.cut (counts_of cut.now)) }
     ensures cause { HasCause (D.device disk.old).failures (D.device disk.new).failures Fault result }

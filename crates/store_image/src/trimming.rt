@@ -1,7 +1,7 @@
 //! What is acknowledged is no longer needed of the undo logs.
 ghost use Rattle.std.specs.Prelude.{◌≡◌, ◌⊎◌, ◌↔◌, ◌+◌, ◌-◌, ◌<◌, ◌≤◌, ◌^◌, ℕ, IfErr, IsErrOf, IsTrue, OnErr, OnOk, length};
 ghost use Rattle.block_disk.specs.Device.{Device, HasCause};
-ghost use Rattle.block_disk.specs.Images.{Always, LeavesOnly};
+ghost use Rattle.block_disk.specs.Images.{Always, ImageBut, LeavesOnly};
 ghost use Rattle.heap_model.specs.Setting.{Setting};
 ghost use Rattle.image.specs.declared.layout.Layout.{Layout as Shape};
 ghost use Rattle.undo_log.specs.StandsFor.{row_of};
@@ -9,6 +9,7 @@ ghost use Rattle.store_image.specs.Consistent.{IsConsistent, ShowsEither};
 ghost use Rattle.store_image.specs.KeptHeap.{StandsForCut};
 ghost use Rattle.store_past.specs.Past.{Past, IsTrimmed, after_trim};
 ghost use Rattle.store_image.specs.Sequences.{ShowsUpTo};
+ghost use Rattle.store_image.specs.Steps.{step_ranges};
 ghost use Rattle.store_past.specs.declared.error.StoreError.TheVariants.{Fault, Worn};
 
 use crate::commit::commit;
@@ -60,6 +61,7 @@ pub fn trim<D: Disk>(
     ensures shown { (s : Setting) (p : Past) → IsConsistent layout.now s p committed.old (D.device disk.old)
         → LeavesOnly (D.device disk.old) (D.device disk.new) (ShowsEither layout.now s p (after_trim p)) }
     ensures any_sequence { LeavesOnly (D.device disk.old) (D.device disk.new) (ShowsUpTo layout.now (committed.old.sequence + 1)) }
+    ensures within { LeavesOnly (D.device disk.old) (D.device disk.new) (ImageBut (D.device disk.old) (step_ranges layout.now)) }
     ensures crash { (s : Setting) (p : Past) → IsConsistent layout.now s p committed.old (D.device disk.old)
         → Always (D.device disk.new) (StandsForCut layout.now s p.logged p.cut) }
     ensures cause { HasCause (D.device disk.old).failures (D.device disk.new).failures Fault result }

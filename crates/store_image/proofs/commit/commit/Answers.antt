@@ -2,6 +2,7 @@ use Rattle.std.proofs.Common.{◌+◌, refl, arith}
 use Rattle.image.specs.Control.{control_of}
 use Rattle.store_image.proofs.Rewriting.{committed_same}
 use Rattle.store_image.proofs.Sequences.{new_up_to}
+use Rattle.store_image.proofs.Within.{commit_within}
 use Rattle.store_image.proofs.commit.commit.Goals as goal
 
 pub returns-in-Ok-clause-any_moment : goal.returns-in-Ok-clause-any_moment
@@ -26,3 +27,15 @@ returns-in-Err-clause-any_sequence g c =
     let old = control_of c.args.committed.now.sequence c.args.committed.now.rows in
     new_up_to c.args.layout.now (g.D.Disk.device c.args.disk.now) (g.D.Disk.device c.commit_control.new.disk) c.args.committed.now.slot old
     (control_of (c.args.committed.now.sequence + 1) c.args.rows.now) (c.args.committed.now.sequence + 1) (omega arith) (omega arith) (c.commit_control.ensures.any_moment old c.requires.steady refl)
+
+pub returns-in-Ok-clause-within : goal.returns-in-Ok-clause-within
+returns-in-Ok-clause-within g c =
+    let old = control_of c.args.committed.now.sequence c.args.committed.now.rows in
+    commit_within c.args.layout.now (g.D.Disk.device c.args.disk.now) (g.D.Disk.device c.commit_control.new.disk) c.args.committed.now.slot old
+    (control_of (c.args.committed.now.sequence + 1) c.args.rows.now) (c.commit_control.ensures.any_moment old c.requires.steady refl)
+
+pub returns-in-Err-clause-within : goal.returns-in-Err-clause-within
+returns-in-Err-clause-within g c =
+    let old = control_of c.args.committed.now.sequence c.args.committed.now.rows in
+    commit_within c.args.layout.now (g.D.Disk.device c.args.disk.now) (g.D.Disk.device c.commit_control.new.disk) c.args.committed.now.slot old
+    (control_of (c.args.committed.now.sequence + 1) c.args.rows.now) (c.commit_control.ensures.any_moment old c.requires.steady refl)

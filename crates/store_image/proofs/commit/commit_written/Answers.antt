@@ -3,6 +3,7 @@ use Rattle.image.specs.Commit.{turned_sequence}
 use Rattle.image.specs.Control.{control_of}
 use Rattle.store_image.proofs.Pending.{turned_same}
 use Rattle.store_image.proofs.Sequences.{turn_up_to, turned_up_to}
+use Rattle.store_image.proofs.Within.{turn_within}
 use Rattle.store_image.proofs.commit.commit_written.Goals as goal
 
 pub returns-in-Ok-clause-any_moment : goal.returns-in-Ok-clause-any_moment
@@ -40,3 +41,17 @@ returns-in-Err-clause-any_sequence g c =
     turn_up_to c.args.layout.now d (g.D.Disk.device c.commit_by_turning.new.disk) c.args.committed.now.slot old
     (control_of (turned_sequence c.args.committed.now.slot c.args.committed.now.sequence d.now.bytes) c.args.rows.now) (c.args.committed.now.sequence + 1) (omega arith)
     (turned_up_to c.args.layout.now d c.args.committed.now.slot old c.requires.steady) (c.commit_by_turning.ensures.any_moment old c.requires.steady refl)
+
+pub returns-in-Ok-clause-within : goal.returns-in-Ok-clause-within
+returns-in-Ok-clause-within g c =
+    let d = g.D.Disk.device c.args.disk.now in
+    let old = control_of c.args.committed.now.sequence c.args.committed.now.rows in
+    turn_within c.args.layout.now d (g.D.Disk.device c.commit_by_turning.new.disk) c.args.committed.now.slot old
+    (control_of (turned_sequence c.args.committed.now.slot c.args.committed.now.sequence d.now.bytes) c.args.rows.now) (c.commit_by_turning.ensures.any_moment old c.requires.steady refl)
+
+pub returns-in-Err-clause-within : goal.returns-in-Err-clause-within
+returns-in-Err-clause-within g c =
+    let d = g.D.Disk.device c.args.disk.now in
+    let old = control_of c.args.committed.now.sequence c.args.committed.now.rows in
+    turn_within c.args.layout.now d (g.D.Disk.device c.commit_by_turning.new.disk) c.args.committed.now.slot old
+    (control_of (turned_sequence c.args.committed.now.slot c.args.committed.now.sequence d.now.bytes) c.args.rows.now) (c.commit_by_turning.ensures.any_moment old c.requires.steady refl)

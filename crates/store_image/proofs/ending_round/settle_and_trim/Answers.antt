@@ -9,6 +9,8 @@ use Rattle.store_image.specs.Sequences.{ShowsUpTo}
 use Rattle.store_image.specs.declared.committed.Committed.{Committed}
 use Rattle.store_image.proofs.Round.{closed_both, round_before, round_done, round_leaves, round_shows, rows_fit}
 use Rattle.store_image.proofs.Answered.{on_ok_four}
+use Rattle.block_disk.specs.Images.{ImageBut}
+use Rattle.store_image.specs.Steps.{step_ranges}
 use Rattle.store_image.proofs.ending_round.settle_and_trim.Goals as goal
 
 pub returns-then-committed-clause-any_moment : goal.returns-then-committed-clause-any_moment
@@ -66,3 +68,6 @@ returns-clause-shown g c = λ s p may.
 
 pub returns-then-committed-clause-any_sequence : goal.returns-then-committed-clause-any_sequence
 returns-then-committed-clause-any_sequence g c = begin (g.D.Disk.device c.args.disk.now) (ShowsUpTo c.args.layout.now (c.args.committed.now.sequence + 1))
+
+pub returns-then-committed-clause-within : goal.returns-then-committed-clause-within
+returns-then-committed-clause-within g c = begin (g.D.Disk.device c.args.disk.now) (ImageBut (g.D.Disk.device c.args.disk.now) (step_ranges c.args.layout.now))

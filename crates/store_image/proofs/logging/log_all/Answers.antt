@@ -1,4 +1,4 @@
-use Rattle.std.proofs.Common.{◌+◌, sym, subst}
+use Rattle.std.proofs.Common.{◌+◌, sym, subst, arith}
 use Rattle.block_disk.proofs.Images.{and_then, leaves_synced}
 use Rattle.image.specs.Commit.{turned_sequence}
 use Rattle.store_past.specs.Past.{after_log}
@@ -7,6 +7,9 @@ use Rattle.store_image.specs.Sequences.{ShowsUpTo}
 use Rattle.store_image.specs.declared.committed.Committed.{Committed}
 use Rattle.store_image.proofs.Recording.{each_row, append_leaves, append_shows, append_up_to, sync_leaves, sync_shows, sync_up_to, rows_fit, steady_one, steady_two, log_leaves, log_done, log_shows, at_once_shows, at_once_leaves, at_once_done}
 use Rattle.store_image.proofs.Answered.{on_ok_two, on_ok_four}
+use Rattle.store_image.specs.NewRecords.{fresh_ranges}
+use Rattle.store_image.specs.Steps.{step_ranges}
+use Rattle.store_image.proofs.Within.{fresh_clear, sync_within, within, within_then}
 use Rattle.store_image.proofs.logging.log_all.Goals as goal
 
 pub append_lanes-requires-clause-rows : goal.append_lanes-requires-clause-rows
@@ -148,3 +151,42 @@ returns-in-Joined-clause-any_sequence g c =
     and_then d d1 (g.D.Disk.device c.commit_written.new.disk) (ShowsUpTo c.args.layout.now (c.args.committed.now.sequence + 1))
     (append_up_to c.args.layout.now r.0 r.1 c.args.committed.now d (g.F.NewRecords.fresh c.args.fresh.now) r.2 d1 c.append_lanes.ensures.any_moment)
     c.commit_written.ensures.any_sequence
+
+pub returns-in_err-append_lanes-clause-within : goal.returns-in_err-append_lanes-clause-within
+returns-in_err-append_lanes-clause-within g c =
+    let l = c.args.layout.now in
+    let rows = c.args.committed.now.rows in
+    let fresh = g.F.NewRecords.fresh c.args.fresh.now in
+    let d = g.D.Disk.device c.args.disk.now in
+    let d1 = g.D.Disk.device c.append_lanes.new.disk in
+    within l d d1 (fresh_ranges l rows fresh l.lanes) (λ i clear. fresh_clear l c.requires.logs.2.consistent.limits rows fresh l.lanes i (omega arith) clear) c.append_lanes.ensures.any_moment
+
+pub returns-in_err-sync-in-Apart-clause-within : goal.returns-in_err-sync-in-Apart-clause-within
+returns-in_err-sync-in-Apart-clause-within g c =
+    let l = c.args.layout.now in
+    let rows = c.args.committed.now.rows in
+    let fresh = g.F.NewRecords.fresh c.args.fresh.now in
+    let d = g.D.Disk.device c.args.disk.now in
+    let d1 = g.D.Disk.device c.append_lanes.new.disk in
+    let d2 = g.D.Disk.device c.sync.new.disk in
+    within_then (step_ranges l) d d1 d2 (within l d d1 (fresh_ranges l rows fresh l.lanes) (λ i clear. fresh_clear l c.requires.logs.2.consistent.limits rows fresh l.lanes i (omega arith) clear) c.append_lanes.ensures.any_moment) (sync_within l d1 d2 c.sync.ensures.any_moment)
+
+pub returns-in_ok-sync-in-Apart-clause-within : goal.returns-in_ok-sync-in-Apart-clause-within
+returns-in_ok-sync-in-Apart-clause-within g c =
+    let l = c.args.layout.now in
+    let rows = c.args.committed.now.rows in
+    let fresh = g.F.NewRecords.fresh c.args.fresh.now in
+    let d = g.D.Disk.device c.args.disk.now in
+    let d1 = g.D.Disk.device c.append_lanes.new.disk in
+    let d2 = g.D.Disk.device c.sync.new.disk in
+    within_then (step_ranges l) d d2 (g.D.Disk.device c.commit.new.disk) (within_then (step_ranges l) d d1 d2 (within l d d1 (fresh_ranges l rows fresh l.lanes) (λ i clear. fresh_clear l c.requires.logs.2.consistent.limits rows fresh l.lanes i (omega arith) clear) c.append_lanes.ensures.any_moment) (sync_within l d1 d2 c.sync.ensures.any_moment))
+    c.commit.ensures.within
+
+pub returns-in-Joined-clause-within : goal.returns-in-Joined-clause-within
+returns-in-Joined-clause-within g c =
+    let l = c.args.layout.now in
+    let rows = c.args.committed.now.rows in
+    let fresh = g.F.NewRecords.fresh c.args.fresh.now in
+    let d = g.D.Disk.device c.args.disk.now in
+    let d1 = g.D.Disk.device c.append_lanes.new.disk in
+    within_then (step_ranges l) d d1 (g.D.Disk.device c.commit_written.new.disk) (within l d d1 (fresh_ranges l rows fresh l.lanes) (λ i clear. fresh_clear l c.requires.logs.2.consistent.limits rows fresh l.lanes i (omega arith) clear) c.append_lanes.ensures.any_moment) c.commit_written.ensures.within

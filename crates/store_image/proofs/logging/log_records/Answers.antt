@@ -7,6 +7,8 @@ use Rattle.store_image.specs.KeptHeap.{StandsForCut}
 use Rattle.store_image.specs.Sequences.{ShowsUpTo}
 use Rattle.store_image.proofs.Recording.{count_is, log_before, nothing_new}
 use Rattle.store_image.proofs.Stands.{empty}
+use Rattle.block_disk.specs.Images.{ImageBut}
+use Rattle.store_image.specs.Steps.{step_ranges}
 use Rattle.store_image.proofs.logging.log_records.Goals as goal
 
 pub returns-then-count-eq0-clause-ok : goal.returns-then-count-eq0-clause-ok
@@ -106,3 +108,9 @@ returns-then-count-eq0-clause-any_sequence g c = begin (g.D.Disk.device c.args.d
 
 pub returns-then-committed-clause-any_sequence : goal.returns-then-committed-clause-any_sequence
 returns-then-committed-clause-any_sequence g c = begin (g.D.Disk.device c.args.disk.now) (ShowsUpTo c.args.layout.now (c.args.committed.now.sequence + 1))
+
+pub returns-then-count-eq0-clause-within : goal.returns-then-count-eq0-clause-within
+returns-then-count-eq0-clause-within g c = begin (g.D.Disk.device c.args.disk.now) (ImageBut (g.D.Disk.device c.args.disk.now) (step_ranges c.args.layout.now))
+
+pub returns-then-committed-clause-within : goal.returns-then-committed-clause-within
+returns-then-committed-clause-within g c = begin (g.D.Disk.device c.args.disk.now) (ImageBut (g.D.Disk.device c.args.disk.now) (step_ranges c.args.layout.now))

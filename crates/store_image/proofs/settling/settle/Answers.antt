@@ -10,6 +10,9 @@ use Rattle.store_image.specs.declared.committed.Committed.{Committed}
 use Rattle.store_image.proofs.Acknowledging.{settle_before, rows_fit, steady_one, settle_leaves, settle_done, settle_shown, settle_shows}
 use Rattle.store_image.proofs.Answered.{on_ok_two}
 use Rattle.store_image.proofs.Sequences.{steady_up_to}
+use Rattle.block_disk.specs.Images.{ImageBut}
+use Rattle.store_image.specs.Steps.{step_ranges}
+use Rattle.store_image.proofs.Within.{sync_within, within_then}
 use Rattle.store_image.proofs.settling.settle.Goals as goal
 
 pub returns-then-committed-clause-any_moment : goal.returns-then-committed-clause-any_moment
@@ -105,3 +108,16 @@ returns-clause-any_sequence g c =
     (after_sync d d1 (ShowsUpTo l (was.sequence + 1))
     (steady_up_to l d was.slot (control_of was.sequence was.rows) (was.sequence + 1) c.requires.settles.2.consistent.steady (omega arith)) (leaves_synced d d1 c.in_ok-sync.ensures.ok)).0
     c.commit.ensures.any_sequence
+
+pub returns-then-committed-clause-within : goal.returns-then-committed-clause-within
+returns-then-committed-clause-within g c = begin (g.D.Disk.device c.args.disk.now) (ImageBut (g.D.Disk.device c.args.disk.now) (step_ranges c.args.layout.now))
+
+pub returns-in_err-sync-clause-within : goal.returns-in_err-sync-clause-within
+returns-in_err-sync-clause-within g c = sync_within c.args.layout.now (g.D.Disk.device c.args.disk.now) (g.D.Disk.device c.sync.new.disk) c.sync.ensures.any_moment
+
+pub returns-clause-within : goal.returns-clause-within
+returns-clause-within g c =
+    let l = c.args.layout.now in
+    let d = g.D.Disk.device c.args.disk.now in
+    let d1 = g.D.Disk.device c.sync.new.disk in
+    within_then (step_ranges l) d d1 (g.D.Disk.device c.commit.new.disk) (sync_within l d d1 c.sync.ensures.any_moment) c.commit.ensures.within

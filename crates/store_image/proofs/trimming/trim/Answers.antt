@@ -6,6 +6,8 @@ use Rattle.store_image.specs.Sequences.{ShowsUpTo}
 use Rattle.store_image.specs.declared.committed.Committed.{Committed}
 use Rattle.store_image.proofs.Freeing.{trim_before, rows_fit, trim_shows, trim_leaves, trim_always, trim_done}
 use Rattle.store_image.proofs.Answered.{on_ok_three}
+use Rattle.block_disk.specs.Images.{ImageBut}
+use Rattle.store_image.specs.Steps.{step_ranges}
 use Rattle.store_image.proofs.trimming.trim.Goals as goal
 
 pub returns-then-committed-clause-crash : goal.returns-then-committed-clause-crash
@@ -48,3 +50,6 @@ returns-clause-crash g c = λ s p is.
 
 pub returns-then-committed-clause-any_sequence : goal.returns-then-committed-clause-any_sequence
 returns-then-committed-clause-any_sequence g c = begin (g.D.Disk.device c.args.disk.now) (ShowsUpTo c.args.layout.now (c.args.committed.now.sequence + 1))
+
+pub returns-then-committed-clause-within : goal.returns-then-committed-clause-within
+returns-then-committed-clause-within g c = begin (g.D.Disk.device c.args.disk.now) (ImageBut (g.D.Disk.device c.args.disk.now) (step_ranges c.args.layout.now))

@@ -1,11 +1,14 @@
-use Rattle.std.proofs.Common.{◌≡◌, true, false, refl, sym, ◌∙◌, arith}
-use Rattle.block_disk.specs.Images.{LeavesOnly}
+use Rattle.std.proofs.Common.{◌≡◌, [], ◌∷◌, true, false, refl, sym, ◌∙◌, arith}
+use Rattle.block_disk.specs.Images.{ImageBut, LeavesOnly}
 use Rattle.block_disk.proofs.Images.{begin}
 use Rattle.durable.specs.Store.{HasPast}
 use Rattle.durable.specs.declared.doubt.Doubt.TheVariants.{Nothing}
 use Rattle.store_image.specs.Consistent.{ShowsPast}
 use Rattle.store_image.specs.KeptHeap.{StandsForCut}
 use Rattle.store_image.specs.Sequences.{ShowsUpTo}
+use Rattle.store_image.specs.Steps.{step_ranges}
+use Rattle.store_image.proofs.Within.{cell_clear, within}
+use Rattle.image.specs.Cells.{cell_range}
 use Rattle.store_past.specs.Past.{after_home}
 use Rattle.store_memory.specs.Begin.{IsLeastDirtyOf}
 use Rattle.durable.specs.Calls.{IsClean}
@@ -112,3 +115,24 @@ returns-in-Err-clause-any_sequence g c =
     let was = c.self.invariant in
     let may = may_go_home _ was.0 was.1 _ was.2 c.in-Some.field.0 c.logged_value-value.result c.if-self.false (c.in-Some.ensures was.0 was.1 was.2.remembers) (c.logged_value-value.ensures was.0 was.1 was.2.remembers) in
     from_parts g.D.Disk.device _ c.args.self.now (λ x d. LeavesOnly d (g.D.Disk.device c.write_home.new.disk) (ShowsUpTo x.layout x.committed.sequence)) c.self.view_is (c.in-Err.ensures.any_sequence was.0 was.1 _ may)
+
+pub returns-in_default-clause-within : goal.returns-in_default-clause-within
+returns-in_default-clause-within g c = begin (g.D.Disk.device c.args.self.now.disk) (ImageBut (g.D.Disk.device c.args.self.now.disk) (step_ranges c.args.self.now.known.layout))
+
+pub returns-in-Ok-clause-within : goal.returns-in-Ok-clause-within
+returns-in-Ok-clause-within g c =
+    let was = c.self.invariant in
+    let l = c.self.inside.layout in
+    let f = c.in-Some.field.0 in
+    from_parts g.D.Disk.device _ c.args.self.now (λ x d. LeavesOnly d (g.D.Disk.device c.write_home.new.disk) (ImageBut d (step_ranges x.layout))) c.self.view_is
+    (within l (g.D.Disk.device c.self.inside.disk) (g.D.Disk.device c.write_home.new.disk) (cell_range l f ∷ [])
+    (λ i clear. cell_clear l f i (omega (arith, (c.in-Some.ensures was.0 was.1 was.2.remembers).field_is, was.2.setting.fields)) clear) c.in-Ok.ensures.within)
+
+pub returns-in-Err-clause-within : goal.returns-in-Err-clause-within
+returns-in-Err-clause-within g c =
+    let was = c.self.invariant in
+    let l = c.self.inside.layout in
+    let f = c.in-Some.field.0 in
+    from_parts g.D.Disk.device _ c.args.self.now (λ x d. LeavesOnly d (g.D.Disk.device c.write_home.new.disk) (ImageBut d (step_ranges x.layout))) c.self.view_is
+    (within l (g.D.Disk.device c.self.inside.disk) (g.D.Disk.device c.write_home.new.disk) (cell_range l f ∷ [])
+    (λ i clear. cell_clear l f i (omega (arith, (c.in-Some.ensures was.0 was.1 was.2.remembers).field_is, was.2.setting.fields)) clear) c.in-Err.ensures.within)

@@ -1,10 +1,11 @@
 use Rattle.std.proofs.Common.{◌≡◌, ◌+◌, ◌≤◌, inr, ⊎_elim, ℕ, false, List, Err, refl, sym, ◌∙◌, ap, subst}
 use Rattle.heap_model.specs.Setting.{Setting}
-use Rattle.block_disk.specs.Images.{LeavesOnly}
+use Rattle.block_disk.specs.Images.{ImageBut, LeavesOnly}
 use Rattle.durable.specs.Store.{HasPast, ShowsStep}
 use Rattle.durable.specs.declared.doubt.Doubt.TheVariants.{Logging}
 use Rattle.store_image.specs.KeptHeap.{StandsForCut}
 use Rattle.store_image.specs.Sequences.{ShowsUpTo}
+use Rattle.store_image.specs.Steps.{step_ranges}
 use Rattle.store_past.specs.Past.{Past, after_log}
 use Rattle.std.proofs.Common.{◌++◌, length}
 use Rattle.heap_model.specs.declared.record.Record.{Record}
@@ -123,6 +124,12 @@ returns-in-Fault-clause-sequence g c = from_parts g.D.Disk.device _ c.args.self.
 pub returns-in-Fault-clause-any_sequence : goal.returns-in-Fault-clause-any_sequence
 returns-in-Fault-clause-any_sequence g c = from_parts g.D.Disk.device _ c.args.self.now (λ x d. LeavesOnly d (g.D.Disk.device c.log_records.new.disk) (ShowsUpTo x.layout (x.committed.sequence + 1))) c.self.view_is c.in-Err.ensures.any_sequence
 
+pub returns-in-Ok-clause-within : goal.returns-in-Ok-clause-within
+returns-in-Ok-clause-within g c = from_parts g.D.Disk.device _ c.args.self.now (λ x d. LeavesOnly d (g.D.Disk.device c.log_records.new.disk) (ImageBut d (step_ranges x.layout))) c.self.view_is c.in-Ok.ensures.within
+
+pub returns-in-Fault-clause-within : goal.returns-in-Fault-clause-within
+returns-in-Fault-clause-within g c = from_parts g.D.Disk.device _ c.args.self.now (λ x d. LeavesOnly d (g.D.Disk.device c.log_records.new.disk) (ImageBut d (step_ranges x.layout))) c.self.view_is c.in-Err.ensures.within
+
 pub returns-in_default : goal.returns-in_default
 returns-in_default g c =
     let worn : c.in-Err.reason ≡ Worn = ⊎_elim (λ is. is) (λ is. absurd (c.in_default.not-Fault is)) c.in-Err.ensures.no_other in
@@ -155,5 +162,6 @@ returns-in_default g c =
       cause = from_parts g.D.Disk.device _ c.args.self.now (λ x d. HasCause {T = ℕ} d.failures (g.D.Disk.device c.log_records.new.disk).failures Fault (Err c.in-Err.reason)) c.self.view_is c.in-Err.ensures.cause;
       sequence = from_parts g.D.Disk.device _ c.args.self.now (λ x d. c.log_records.new.committed.sequence ≤ x.committed.sequence + 1) c.self.view_is c.in-Err.ensures.sequence;
       any_sequence = from_parts g.D.Disk.device _ c.args.self.now (λ x d. LeavesOnly d (g.D.Disk.device c.log_records.new.disk) (ShowsUpTo x.layout (x.committed.sequence + 1))) c.self.view_is c.in-Err.ensures.any_sequence;
+      within = from_parts g.D.Disk.device _ c.args.self.now (λ x d. LeavesOnly d (g.D.Disk.device c.log_records.new.disk) (ImageBut d (step_ranges x.layout))) c.self.view_is c.in-Err.ensures.within;
       layout = ap (λ z. z.known.layout) c.self.view_is;
     }

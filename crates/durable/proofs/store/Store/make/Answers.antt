@@ -5,9 +5,10 @@ use Rattle.durable.specs.declared.store_call.StoreCall.{StoreCall}
 use Rattle.durable.specs.Calls.{IsQuiet, Makes, RefusesCall, after_home_step}
 use Rattle.store_past.specs.Past.{after_log}
 use Rattle.store_past.specs.declared.error.StoreError.TheVariants.{Fault}
-use Rattle.block_disk.specs.Images.{LeavesOnly}
+use Rattle.block_disk.specs.Images.{ImageBut, LeavesOnly}
 use Rattle.block_disk.proofs.Images.{begin}
 use Rattle.store_image.specs.Sequences.{ShowsUpTo}
+use Rattle.store_image.specs.Steps.{step_ranges}
 use Rattle.durable.specs.Store.{ShowsStep, doubt_in}
 use Rattle.durable.proofs.Sequences.{shows_more}
 use Rattle.durable.proofs.Storing.{shows_then}
@@ -133,3 +134,8 @@ pub returns-in-Err-home_step-clause-any_sequence : goal.returns-in-Err-home_step
 returns-in-Err-home_step-clause-any_sequence g c =
     shows_more c.args.self.now.known.layout c.args.self.now.known.layout c.args.self.now.known.committed.sequence (c.args.self.now.known.committed.sequence + 1)
     (g.D.Disk.device c.args.self.now.disk) (g.D.Disk.device c.home_step.new.self.disk) refl (omega arith) c.in-Err-home_step.ensures.any_sequence
+
+pub returns-in-Apply-clause-within : goal.returns-in-Apply-clause-within
+returns-in-Apply-clause-within g c =
+    let d = g.D.Disk.device c.args.self.now.disk in
+    subst (λ x. LeavesOnly d x (ImageBut d (step_ranges c.args.self.now.known.layout))) (sym (ap g.D.Disk.device c.apply.ensures.disk)) (begin d (ImageBut d (step_ranges c.args.self.now.known.layout)))

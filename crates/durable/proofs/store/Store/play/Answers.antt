@@ -1,6 +1,6 @@
 use Rattle.std.proofs.Common.{◌∙◌, ap, inl, inr, ⊎_elim, arith}
 use Rattle.std.proofs.lemmas.Option.{slice_get-get_or}
-use Rattle.durable.proofs.Playing.{begins_on, shown_on, stands_on, played_on, played_all, reached_on, reached_all, quiet_on, stopped, takes_all, takes_on, fault_since, fault_leaves}
+use Rattle.durable.proofs.Playing.{begins_on, shown_on, stands_on, played_on, played_all, reached_on, reached_all, quiet_on, stopped, takes_all, takes_on, writes_on, fault_since, fault_leaves}
 use Rattle.durable.proofs.store.Store.play.Goals as goal
 
 pub loop-place-init : goal.loop-place-init
@@ -42,7 +42,7 @@ pub loop-place-preserved : goal.loop-place-preserved
 loop-place-preserved g c =
     played_on c.args.self.now.known c.loop-place.self.known (g.D.Disk.device c.args.self.now.disk) (g.D.Disk.device c.loop-place.self.disk) (g.D.Disk.device c.make.new.self.disk)
     c.args.calls.now c.loop-place.place c.loop-place.invariant c.loop-place-test.true _ (slice_get-get_or c.args.calls.now c.loop-place.place _ c.loop-place-test.true) c.make.ensures.shown c.make.new.self.known c.make.ensures.layout c.in_default.ensures.running c.make.ensures.cause.later
-    (record { known = c.make.ensures.sequence; shown = c.make.ensures.any_sequence })
+    (record { known = c.make.ensures.sequence; shown = c.make.ensures.any_sequence }) c.make.ensures.within
     c.in_default.ensures.ok c.make.ensures.quiet
 
 pub returns-clause-ok : goal.returns-clause-ok
@@ -87,3 +87,11 @@ returns-clause-sequence g c = (takes_all c.args.self.now.known c.loop-place.self
 
 pub returns-clause-any_sequence : goal.returns-clause-any_sequence
 returns-clause-any_sequence g c = (takes_all c.args.self.now.known c.loop-place.self.known (g.D.Disk.device c.args.self.now.disk) (g.D.Disk.device c.loop-place.self.disk) c.args.calls.now c.loop-place.place c.loop-place.invariant.played).shown
+
+pub returns-in-Err-clause-within : goal.returns-in-Err-clause-within
+returns-in-Err-clause-within g c =
+    writes_on c.args.self.now.known c.loop-place.self.known (g.D.Disk.device c.args.self.now.disk) (g.D.Disk.device c.loop-place.self.disk) (g.D.Disk.device c.make.new.self.disk)
+    c.args.calls.now c.loop-place.place c.loop-place.invariant.played c.loop-place-test.true _ (slice_get-get_or c.args.calls.now c.loop-place.place _ c.loop-place-test.true) c.make.ensures.shown c.make.ensures.within
+
+pub returns-clause-within : goal.returns-clause-within
+returns-clause-within g c = c.loop-place.invariant.played.writes

@@ -1,9 +1,10 @@
 use Rattle.std.proofs.Common.{◌≡◌, ◌+◌, ◌≤◌, inr, ⊎_elim, ℕ, true, false, Err, sym, ◌∙◌, ap, subst}
-use Rattle.block_disk.specs.Images.{LeavesOnly}
+use Rattle.block_disk.specs.Images.{ImageBut, LeavesOnly}
 use Rattle.block_disk.proofs.Images.{begin}
 use Rattle.durable.specs.Store.{HasPast, ShowsStep}
 use Rattle.durable.specs.declared.doubt.Doubt.TheVariants.{Settling}
 use Rattle.store_image.specs.Sequences.{ShowsUpTo}
+use Rattle.store_image.specs.Steps.{step_ranges}
 use Rattle.store_past.specs.Past.{after_settle}
 use Rattle.heap_model.specs.Sections.{actions}
 use Rattle.heap_model.specs.Cuts.{counts_of}
@@ -100,6 +101,15 @@ returns-in-Fault-clause-any_sequence g c = from_parts g.D.Disk.device _ c.args.s
 pub returns-then-is_some-clause-any_sequence : goal.returns-then-is_some-clause-any_sequence
 returns-then-is_some-clause-any_sequence g c = begin (g.D.Disk.device c.args.self.now.disk) (ShowsUpTo c.args.self.now.known.layout (c.args.self.now.known.committed.sequence + 1))
 
+pub returns-in-Ok-clause-within : goal.returns-in-Ok-clause-within
+returns-in-Ok-clause-within g c = from_parts g.D.Disk.device _ c.args.self.now (λ x d. LeavesOnly d (g.D.Disk.device c.settle.new.disk) (ImageBut d (step_ranges x.layout))) c.self.view_is c.in-Ok.ensures.within
+
+pub returns-in-Fault-clause-within : goal.returns-in-Fault-clause-within
+returns-in-Fault-clause-within g c = from_parts g.D.Disk.device _ c.args.self.now (λ x d. LeavesOnly d (g.D.Disk.device c.settle.new.disk) (ImageBut d (step_ranges x.layout))) c.self.view_is c.in-Err.ensures.within
+
+pub returns-then-is_some-clause-within : goal.returns-then-is_some-clause-within
+returns-then-is_some-clause-within g c = begin (g.D.Disk.device c.args.self.now.disk) (ImageBut (g.D.Disk.device c.args.self.now.disk) (step_ranges c.args.self.now.known.layout))
+
 pub returns-in_default : goal.returns-in_default
 returns-in_default g c =
     let worn : c.in-Err.reason ≡ Worn = ⊎_elim (λ is. is) (λ is. absurd (c.in_default.not-Fault is)) c.in-Err.ensures.no_other in
@@ -122,5 +132,6 @@ returns-in_default g c =
       cause = from_parts g.D.Disk.device _ c.args.self.now (λ x d. HasCause {T = Unit {0}} d.failures (g.D.Disk.device c.settle.new.disk).failures Fault (Err c.in-Err.reason)) c.self.view_is c.in-Err.ensures.cause;
       sequence = from_parts g.D.Disk.device _ c.args.self.now (λ x d. c.settle.new.committed.sequence ≤ x.committed.sequence + 1) c.self.view_is c.in-Err.ensures.sequence;
       any_sequence = from_parts g.D.Disk.device _ c.args.self.now (λ x d. LeavesOnly d (g.D.Disk.device c.settle.new.disk) (ShowsUpTo x.layout (x.committed.sequence + 1))) c.self.view_is c.in-Err.ensures.any_sequence;
+      within = from_parts g.D.Disk.device _ c.args.self.now (λ x d. LeavesOnly d (g.D.Disk.device c.settle.new.disk) (ImageBut d (step_ranges x.layout))) c.self.view_is c.in-Err.ensures.within;
       layout = ap (λ z. z.known.layout) c.self.view_is;
     }
