@@ -3,6 +3,7 @@ use Rattle.std.specs.Prelude.{ℕ, ◌≡◌, ◌≢◌, ◌<◌, ◌≤◌, Som
 use Rattle.heap_model.specs.declared.ids.ObjectId.{ObjectId}
 use Rattle.monitor.specs.Seats.{Home, Sitting}
 use Rattle.steps.specs.declared.grip.Grip.{Grip}
+use Rattle.steps.specs.declared.limits.TheConstants.{FAT_LOCKS}
 use Rattle.steps.specs.Views.{view, plan, IsSeatOf, IsClear, IsAwake, IsPaused, IsSlot, Keeps, hold}
 
 -- by its own events it holds this monitor and no other, and isn't in a wait
@@ -20,5 +21,5 @@ pub record IsWaiting (h : Home) (s : Sitting) (o : ObjectId) (count slot : ℕ) 
   pub paused : IsPaused (view s) o count
   pub none : (p : ℕ) → hold (view s) p ≡ None
   pub some : 0 < count
-  pub few : count ≤ 65536
+  pub few : count ≤ FAT_LOCKS
   pub fat : IsSlot (view s) o (Some slot)

@@ -9,7 +9,7 @@ ghost use Rattle.one_monitor.specs.Held.{HasOne, IsWaiting};
 use heap_model::{FieldId, Lane, ObjectId};
 use lock_word::{FAT_SLOTS, FatShape, FatWord, Shape};
 use monitor::{Seat, Shared};
-use steps::{Grip, Seen, Sighted};
+use steps::{FAT_LOCKS, Grip, Seen, Sighted, THIN_LOCKS};
 
 /// A thread in a wait: for which monitor, by how many locks, and in which slot.
 #[derive(Clone, Copy, Debug, PartialEq, Eq)]
@@ -81,8 +81,8 @@ fn room(grip: Grip) -> u32
     ensures { result ≡ room_of grip.slot }
 {
     match grip.slot {
-        None => 256,
-        Some(_) => 65_536,
+        None => THIN_LOCKS,
+        Some(_) => FAT_LOCKS,
     }
 }
 
