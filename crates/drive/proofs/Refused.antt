@@ -147,7 +147,7 @@ session_stops workers h capacity lanes values (sessions.Held x) are home stops =
 module _ {D : Type 0} (device : D → Device) where
   -- a run by the words of a heap, as the heap's
   pub run_stops : (schema : Declarations) (was : Parts D) (h : Home) (l : Layout) (old new : Device) (e : DriveError) → IsHomeOf schema was.heap was.layout.lanes h → l ≡ was.layout → old ≡ device was.disk → CrashesOf h was.layout (device was.disk) new e → StopsBy h l old new e → StopsRun device schema was new e
-  run_stops schema was h l old new NoMemory home layouts devices crashes stops = crashes
+  run_stops schema was h l old new NoMemory home layouts devices crashes stops = inr (record { shared = h; plan = home; crashes = crashes; stops = tt })
   run_stops schema was h l old new (Schema e) home layouts devices crashes stops = absurd stops
   run_stops schema was h l old new (Image e) home layouts devices crashes stops = absurd stops
   run_stops schema was h l old new (Helper e) home layouts devices crashes stops = record { shared = h; plan = home; crashes = crashes; stops = subst (λ (d : Device). StopsBy h was.layout d new (Helper e)) devices stops }
