@@ -1,6 +1,8 @@
 -- What a crash left by the end of a run of workers.
-use Rattle.std.proofs.Common.{ℕ, ◌≡◌, true, false, List, refl, sym, ap, subst}
+use Rattle.std.proofs.Common.{ℕ, ◌≡◌, true, false, List, inl, inr, refl, sym, ap, subst}
+use Rattle.heap_model.specs.Log.{IsLegal}
 use Rattle.heap_model.specs.declared.event.Event.{Event}
+use Rattle.heap_model.specs.declared.record.Record.{Record}
 use Rattle.block_disk.specs.Device.{Device}
 use Rattle.durable.specs.Runs.{HasRun}
 use Rattle.durable.proofs.Running.{ran_then}
@@ -10,12 +12,12 @@ use Rattle.running_heap.specs.Life.{HasLived}
 use Rattle.running_life.specs.Running.{CrashBetweenLaw}
 use Rattle.session.specs.declared.error.SessionError.{SessionError}
 use Rattle.steps.specs.Views.{plan}
-use Rattle.store_past.specs.Past.{Past, no_past}
+use Rattle.store_past.specs.Past.{Past, applied, no_past}
 use Rattle.store_past.specs.declared.error.StoreError.{StoreError}
 use Rattle.trim_helper.specs.Closed.{Stood}
 use Rattle.trim_helper.specs.Parts.{Parts}
 use Rattle.trim_helper.specs.declared.ended.Ended.{Ended}
-use Rattle.drive.specs.Crashes.{CrashesOf, KeepsEach, KeepsSome, RunTakenLaw, TakesEach}
+use Rattle.drive.specs.Crashes.{CrashesOf, IsLeftBehind, IsLeftByCalls, KeepsEach, KeepsSome, RunTakenLaw, TakesEach}
 use Rattle.drive.specs.Serving.{CrashesBy, CrashesSince, HasStayed, IsLiving, LivesOn}
 use Rattle.drive.specs.Stops.{StopsTelling}
 use Rattle.drive.specs.declared.error.DriveError.{DriveError}
@@ -27,22 +29,16 @@ kept_taken h l history old new keeps image left =
     let kept = keeps image left in
     record { study = kept.study; of = kept.of; taken = kept.taken }
 
--- nor is more asked where something is kept of one history
-some_taken : (h : Home) (l : Layout) (old new : Device) → KeepsSome h l old new → TakesEach old new
-some_taken h l old new some image left =
-    let kept = some.each image left in
-    record { study = kept.study; of = kept.of; taken = kept.taken }
-
 -- the recovery behind a closing is stopped by no other part of a run
-pub telling_crashes : (h : Home) (l : Layout) (opened closed new : Device) (e : DriveError) → TakesEach opened new → StopsTelling closed new e → CrashesOf h l opened new e
-telling_crashes h l opened closed new NoMemory takes stops = takes
-telling_crashes h l opened closed new (Schema e) takes stops = takes
-telling_crashes h l opened closed new (Image e) takes stops = takes
-telling_crashes h l opened closed new (Helper e) takes stops = absurd stops
-telling_crashes h l opened closed new (Session e) takes stops = absurd stops
-telling_crashes h l opened closed new (Close e) takes stops = takes
-telling_crashes h l opened closed new (Recover e) takes stops = takes
-telling_crashes h l opened closed new OtherSchema takes stops = takes
+pub telling_crashes : (h : Home) (l : Layout) (opened closed new : Device) (e : DriveError) → IsLeftBehind h l opened new → StopsTelling closed new e → CrashesOf h l opened new e
+telling_crashes h l opened closed new NoMemory left stops = inr left
+telling_crashes h l opened closed new (Schema e) left stops = stops
+telling_crashes h l opened closed new (Image e) left stops = stops
+telling_crashes h l opened closed new (Helper e) left stops = absurd stops
+telling_crashes h l opened closed new (Session e) left stops = absurd stops
+telling_crashes h l opened closed new (Close e) left stops = absurd stops
+telling_crashes h l opened closed new (Recover e) left stops = left
+telling_crashes h l opened closed new OtherSchema left stops = stops
 
 -- layouts are the same
 on_layout : (h : Home) (l k : Layout) (opened new : Device) (e : DriveError) → l ≡ k → CrashesOf h l opened new e → CrashesOf h k opened new e
@@ -55,8 +51,7 @@ module _ {D : Type 0} (device : D → Device) where
 
   -- of a helper whose device is given back: for want of memory, or since a worker's session was refused
   pub back_wanting : (h : Home) (x : Parts D) (disk : D) → CrashBetweenLaw device → disk ≡ x.store.disk → CrashesBy device h x (device disk) NoMemory
-  back_wanting h x disk law is opened p was =
-      subst (λ (d : Device). TakesEach opened d) (sym (ap device is)) (some_taken h x.store.known.layout opened (device x.store.disk) (living_keeps h opened x p law was))
+  back_wanting h x disk law is opened p was = inl (subst (λ (d : Device). KeepsSome h x.store.known.layout opened d) (sym (ap device is)) (living_keeps h opened x p law was))
 
   pub back_refused : (h : Home) (x : Parts D) (disk : D) (e : SessionError) → CrashBetweenLaw device → disk ≡ x.store.disk → CrashesBy device h x (device disk) (Session e)
   back_refused h x disk e law is opened p was = subst (λ (d : Device). KeepsSome h x.store.known.layout opened d) (sym (ap device is)) (living_keeps h opened x p law was)
@@ -77,11 +72,19 @@ module _ {D : Type 0} (device : D → Device) where
   back_same h x y new e same crashes = subst (λ (z : Parts D). CrashesBy device h z new e) same crashes
 
   -- a closing that was stopped
-  pub closing_taken : (h : Home) (opened d : Device) (x : Parts D) (p : Past) (ended : List Ended) → RunTakenLaw → HasLived device h opened x p → Stood x.store.known.layout (plan h) p ended (device x.store.disk) d →
-      TakesEach opened d
-  closing_taken h opened d x p ended law was stood =
+  pub closing_left : (h : Home) (opened d : Device) (x : Parts D) (p : Past) (ended : List Ended) → RunTakenLaw → HasLived device h opened x p → Stood x.store.known.layout (plan h) p ended (device x.store.disk) d →
+      IsLeftByCalls h x.store.known.layout opened d
+  closing_left h opened d x p ended law was stood =
       let life = was.life in
       let l = x.store.known.layout in
       let ran : HasRun l (plan h) no_past opened stood.then d true =
       ran_then l l (plan h) no_past p stood.then opened (device x.store.disk) d false true refl life.ran (life.ran.whole refl) stood.ran in
-      law life.began (plan h) no_past stood.then opened d true life.nothing (subst (λ (k : Layout). HasRun k (plan h) no_past opened stood.then d true) (sym life.layout) ran)
+      record {
+        began = life.began;
+        nothing = life.nothing;
+        layout = life.layout;
+        now = stood.then;
+        ran = ran;
+        legal = subst (λ (rs : List (ℕ × Record)). IsLegal (plan h) rs) (sym stood.same) stood.legal;
+        takes = law life.began (plan h) no_past stood.then opened d true life.nothing (subst (λ (k : Layout). HasRun k (plan h) no_past opened stood.then d true) (sym life.layout) ran);
+      }

@@ -26,6 +26,9 @@ one_same Sync a b same = record {
   past = λ i. same.now i ∷ same.past i;
 }
 
+pub synced_alike : (a b : Device) → SameMoments a b → SameMoments (synced a) (synced b)
+synced_alike a b same = one_same Sync a b same
+
 -- calls make the same of the same moments
 after_same : (calls : List Call) (a b : Device) → SameMoments a b → SameMoments (after calls a) (after calls b)
 after_same [] a b same = same

@@ -1,6 +1,8 @@
 -- What a refusal says, by the refusal of a part.
 use Rattle.std.proofs.Common.{ℕ, suc, ◌≡◌, ◌≤◌, ◌⊎◌, List, [], ◌∷◌, Result, Ok, Err, IfErr, IfOk, inl, inr, length, refl, ap, subst, ◌∙◌, arith}
-use Rattle.block_disk.specs.Device.{Device, HasFailed, Moment, SameMoments}
+use Rattle.block_disk.specs.Device.{Device, HasFailed, Moment, SameMoments, synced}
+use Rattle.block_disk.proofs.Failures.{moments_trans}
+use Rattle.block_disk.proofs.Images.{and_then, stays}
 use Rattle.guards.specs.Schema.{Declarations, field_count, guard_of, object_count}
 use Rattle.image.specs.Calls.{Call, Write, Sync, after, after_one}
 use Rattle.image.specs.Layout.{size_of}
@@ -11,7 +13,7 @@ use Rattle.image.specs.declared.layout.Layout.{Layout}
 use Rattle.monitor.specs.Seats.{Home}
 use Rattle.monitor.specs.declared.view.Plan.{Plan}
 use Rattle.recover.specs.Reading.{IsOfOldVersion, RefusesImage}
-use Rattle.recover.specs.Recovery.{IsRecovery, IsWorn, RefusesRecovery, StudiedLaw}
+use Rattle.recover.specs.Recovery.{IsCutOff, IsOnTheWay, IsRecovery, IsWorn, RefusesRecovery, StudiedLaw}
 use Rattle.recover.specs.Study.{IsStudyOf}
 use Rattle.recover.specs.declared.error.RecoverError.{RecoverError}
 use Rattle.recover.specs.declared.error.RecoverError.TheVariants as recover
@@ -22,13 +24,13 @@ use Rattle.session.specs.declared.error.SessionError.TheVariants as sessions
 use Rattle.store_image.specs.Formatting.{RefusesFormat, layout_with}
 use Rattle.drive.specs.Crashes.{CrashesOf}
 use Rattle.drive.specs.Driven.{IsMadeOf, blank_device}
-use Rattle.drive.specs.Refusals.{IsMakingRefused, IsOwnStop, IsStoppedFirst, IsStoppedLater, RefusesFinding, RefusesGoingOn, RefusesLook, RefusesNew, RefusesOn, RefusesStudy, RefusesWith}
+use Rattle.drive.specs.Refusals.{IsMakingRefused, IsNotFound, IsOwnStop, IsStoppedFirst, IsStoppedLater, RefusesFinding, RefusesGoingOn, RefusesLook, RefusesNew, RefusesOn, RefusesStudy, RefusesWith}
 use Rattle.drive.specs.Schemas.{HoldsWorkers, IsOfWorkers, MayHaveImage, schema_of}
 use Rattle.drive.specs.Stops.{IsHomeOf, StopsBy, StopsRun}
 use Rattle.drive.specs.Working.{StopsWorker}
 use Rattle.drive.specs.declared.error.DriveError.{DriveError}
 use Rattle.drive.specs.declared.error.DriveError.TheVariants.{NoMemory, Schema, Image, Helper, Session, Close, Recover, OtherSchema}
-use Rattle.drive.proofs.Recovered.{recovery_alike}
+use Rattle.drive.proofs.Recovered.{recovery_alike, synced_alike}
 use Rattle.drive.proofs.SchemaLemmas.{fields_are, guards_are, objects_are}
 use Rattle.drive.proofs.Stopped.{failed_since}
 
@@ -98,6 +100,26 @@ finding_alike old seen new (recover.BadRecord lane place) same later refused = a
 finding_alike old seen new (recover.IllegalLog lane place) same later refused = absurd refused
 finding_alike old seen new recover.NoMemory same later refused = tt
 
+-- a recovery that was cut off, of a device that was only read before it
+cut_off_alike : (old seen new : Device) → SameMoments old seen → IsCutOff seen new → IsCutOff old new
+cut_off_alike old seen new same (inl none) = inl (moments_trans old seen new same none)
+cut_off_alike old seen new same (inr (inl one)) = inr (inl (moments_trans (synced old) (synced seen) new (synced_alike old seen same) one))
+cut_off_alike old seen new same (inr (inr (study, of, leaves))) = inr (inr (
+  study,
+  subst (λ (m : Moment). IsStudyOf m.bytes study) same.now of,
+  and_then (synced old) (synced seen) new (IsOnTheWay study) (stays (synced old) (synced seen) (IsOnTheWay study) (synced_alike old seen same)) leaves,
+))
+
+not_found_alike : (old seen new : Device) (e : RecoverError) → SameMoments old seen → old.failures ≤ seen.failures → IsNotFound seen new e → IsNotFound old new e
+not_found_alike old seen new e same later refused = record {
+  why = finding_alike old seen new e same later refused.why;
+  untouched = elim refused.untouched [
+    | inl fault ↦ inl fault
+    | inr one ↦ inr (moments_trans (synced old) (synced seen) new (synced_alike old seen same) one)
+  ];
+  cut_off = cut_off_alike old seen new same refused.cut_off;
+}
+
 -- a session refuses workers of their own schema only as behind or worn
 session_stops : (workers : ℕ) (h : Home) (capacity lanes : ℕ) (values : List ℕ) (e : SessionError) → lanes ≡ workers → IsHomeOf (schema_of workers) values lanes h → StopsWorker h capacity e → (e ≡ sessions.Behind) ⊎ (e ≡ sessions.Worn)
 session_stops workers h capacity lanes values sessions.UnknownObject are home stops =
@@ -125,7 +147,7 @@ session_stops workers h capacity lanes values (sessions.Held x) are home stops =
 module _ {D : Type 0} (device : D → Device) where
   -- a run by the words of a heap, as the heap's
   pub run_stops : (schema : Declarations) (was : Parts D) (h : Home) (l : Layout) (old new : Device) (e : DriveError) → IsHomeOf schema was.heap was.layout.lanes h → l ≡ was.layout → old ≡ device was.disk → CrashesOf h was.layout (device was.disk) new e → StopsBy h l old new e → StopsRun device schema was new e
-  run_stops schema was h l old new NoMemory home layouts devices crashes stops = crashes
+  run_stops schema was h l old new NoMemory home layouts devices crashes stops = inr (record { shared = h; plan = home; crashes = crashes; stops = tt })
   run_stops schema was h l old new (Schema e) home layouts devices crashes stops = absurd stops
   run_stops schema was h l old new (Image e) home layouts devices crashes stops = absurd stops
   run_stops schema was h l old new (Helper e) home layouts devices crashes stops = record { shared = h; plan = home; crashes = crashes; stops = subst (λ (d : Device). StopsBy h was.layout d new (Helper e)) devices stops }
@@ -178,7 +200,7 @@ module _ {D : Type 0} (device : D → Device) where
   going_as_on workers old seen new (Recover e) holds same low refused = inr (
     holds,
     elim refused [
-      | inl first ↦ inl (finding_alike old seen new e same low first)
+      | inl first ↦ inl (not_found_alike old seen new e same low first)
       | inr later ↦ inr (later_alike workers old seen new (Recover e) same low later)
     ],
   )

@@ -1,6 +1,7 @@
 -- What a crash left of a run of workers, at whatever moment it came (this project's own).
-use Rattle.std.specs.Prelude.{ℕ, ◌≤◌, Bool, List, length}
+use Rattle.std.specs.Prelude.{ℕ, ◌≡◌, ◌⊎◌, ◌≤◌, Bool, true, List, length}
 use Rattle.heap_model.specs.declared.event.Event.{Event}
+use Rattle.heap_model.specs.Log.{IsLegal}
 use Rattle.heap_model.specs.Setting.{Setting}
 use Rattle.block_disk.specs.Device.{Device}
 use Rattle.durable.specs.Runs.{HasRun}
@@ -14,13 +15,16 @@ use Rattle.recover.specs.Recovery.{IsCutOff, RefusesRecovery}
 use Rattle.recover.specs.Study.{IsStudyOf}
 use Rattle.recover.specs.declared.error.RecoverError.{RecoverError}
 use Rattle.recover.specs.declared.studied.Study.{Study}
+use Rattle.running_heap.specs.Closed.{IsClosed}
 use Rattle.running_life.specs.Running.{KeepsRunning}
 use Rattle.steps.specs.Views.{plan}
-use Rattle.store_past.specs.Past.{Past, no_past}
+use Rattle.store_past.specs.Past.{Past, applied, no_past}
 use Rattle.survival.specs.Running.{KeepsOfHistory}
 use Rattle.survival.specs.WholeRun.{CannotRecover, MayBeLeft}
+use Rattle.trim_helper.specs.Endings.{HoldNone, IsComplete}
+use Rattle.trim_helper.specs.declared.ended.Ended.{Ended}
 use Rattle.drive.specs.declared.error.DriveError.{DriveError}
-use Rattle.drive.specs.declared.error.DriveError.TheVariants.{Helper, Session}
+use Rattle.drive.specs.declared.error.DriveError.TheVariants.{NoMemory, Helper, Session, Close, Recover}
 
 -- Recovery takes the image, unless a call fails, memory is wanting, or the control's sequence is at its last value.
 pub record IsTaken (image : List ℕ) : Type 0 where
@@ -45,12 +49,41 @@ pub record KeepsSome (h : Home) (l : Layout) (old new : Device) : Type 0 where
   pub seen : List (ℕ × Event)
   pub each : KeepsSeen h l seen old new
 
--- What recovery makes of each image that a crash left at any moment since a heap was opened on the one device, where its run was stopped so on the other: it takes
--- them all; and where a round was refused, or a worker, it keeps whole sections of one history, each with all that it depends on.
+-- Calls of a store that had been told nothing have made the one device of the other; the last of them may be cut off. What they have applied is a legal log.
+-- Recovery takes whatever a crash left meanwhile.
+pub record IsLeftByCalls (h : Home) (l : Layout) (opened new : Device) : Type 0 where
+  pub began : Known
+  pub nothing : HasPast began (plan h) no_past opened
+  pub layout : began.layout ≡ l
+  pub now : Past
+  pub ran : HasRun l (plan h) no_past opened now new true
+  pub legal : IsLegal (plan h) (applied now)
+  pub takes : TakesEach opened new
+
+-- The heap was closed, one session a lane, and none of them held a monitor; one legal history has what each was told as its part, and the device that closing gave
+-- back stands for its heap. Of what a crash left until then recovery keeps whole sections of that same history. Behind it there was a recovery, maybe cut
+-- off, and nothing else; and recovery takes whatever a crash left since the heap was opened.
+pub record IsLeftBehind (h : Home) (l : Layout) (opened new : Device) : Type 0 where
+  pub ended : List Ended
+  pub none : HoldNone ended
+  pub complete : IsComplete l.lanes ended
+  pub closed : Device
+  pub ran : IsClosed h l ended closed
+  pub keeps : KeepsEach h l ran.history opened closed
+  pub cut_off : IsCutOff closed new
+  pub takes : TakesEach opened new
+
+-- What recovery makes of each image that a crash left at any moment since a heap was opened on the one device, where its run was stopped so on the other, and what
+-- that one is. It takes them all. Where a round was refused, or a worker, or memory was wanting before the heap was closed, it keeps whole sections of
+-- one history, each with all that it depends on; where the closing was stopped, the device is what calls of its store have made; and behind the closing it
+-- is what a recovery leaves.
 abbrev pub CrashesOf : Home → Layout → (opened new : Device) → DriveError → Type 0
+CrashesOf h l opened new NoMemory = KeepsSome h l opened new ⊎ IsLeftBehind h l opened new
 CrashesOf h l opened new (Helper e) = KeepsSome h l opened new
 CrashesOf h l opened new (Session e) = KeepsSome h l opened new
-CrashesOf h l opened new e = TakesEach opened new
+CrashesOf h l opened new (Close e) = IsLeftByCalls h l opened new
+CrashesOf h l opened new (Recover e) = IsLeftBehind h l opened new
+CrashesOf h l opened new _ = ⊥
 
 -- Of a device that was recovered, and on which nothing was done since, recovery takes whatever a crash leaves.
 abbrev pub RecoveredLaw : Type 0

@@ -1,12 +1,12 @@
 -- Which refusal of workers comes when.
 use Rattle.std.specs.Prelude.{ℕ, ◌≡◌, ◌⊎◌, ◌≤◌}
-use Rattle.block_disk.specs.Device.{Device, HasFailed, SameMoments}
+use Rattle.block_disk.specs.Device.{Device, HasFailed, SameMoments, synced}
 use Rattle.guards.specs.Schema.{Declarations}
 use Rattle.guards.specs.declared.error.SchemaError.TheVariants as schemas
 use Rattle.image.specs.Recovered.{Parts}
 use Rattle.image.specs.declared.error.ImageError.TheVariants as images
 use Rattle.recover.specs.Reading.{IsOfOldVersion, RefusesImage}
-use Rattle.recover.specs.Recovery.{IsRecovery, IsWorn}
+use Rattle.recover.specs.Recovery.{IsCutOff, IsRecovery, IsWorn}
 use Rattle.recover.specs.declared.error.RecoverError.{RecoverError}
 use Rattle.recover.specs.declared.error.RecoverError.TheVariants as recover
 use Rattle.recover.specs.declared.report.Report.{Report}
@@ -40,13 +40,20 @@ RefusesLook workers old new (Recover e) = RefusesStudy old new e
 RefusesLook workers old new OtherSchema = HoldsOthers workers old.now.bytes
 RefusesLook workers old new _ = ⊥
 
--- an image that was studied isn't recovered
+-- why an image that was studied isn't recovered
 abbrev pub RefusesFinding : (old new : Device) → RecoverError → Type 0
 RefusesFinding old new recover.Fault = HasFailed old.failures new.failures
 RefusesFinding old new recover.OldVersion = IsOfOldVersion old.now.bytes
 RefusesFinding old new recover.Worn = IsWorn old.now.bytes
 RefusesFinding old new recover.NoMemory = Unit {0}
 RefusesFinding old new _ = ⊥
+
+-- An image that was studied isn't recovered, for this reason. Nothing was done then but a sync; behind a fault each image that a crash leaves since then is
+-- one from before, or one on recovery's way.
+pub record IsNotFound (old new : Device) (e : RecoverError) : Type 0 where
+  pub why : RefusesFinding old new e
+  pub untouched : (e ≡ recover.Fault) ⊎ SameMoments (synced old) new
+  pub cut_off : IsCutOff old new
 
 -- Where objects and fields are the workers' own, a session refuses only since the helper is behind, or since numbers have come to their end.
 abbrev pub IsOwnStop : DriveError → Type 0
@@ -76,7 +83,7 @@ module _ {D : Type 0} (device : D → Device) where
 
   -- an image of so many workers isn't recovered, or their run on it was stopped
   abbrev pub RefusesGoingOn : (workers : ℕ) (old new : Device) → DriveError → Type 0
-  RefusesGoingOn workers old new (Recover e) = RefusesFinding old new e ⊎ IsStoppedLater workers old new (Recover e)
+  RefusesGoingOn workers old new (Recover e) = IsNotFound old new e ⊎ IsStoppedLater workers old new (Recover e)
   RefusesGoingOn workers old new e = IsStoppedLater workers old new e
 
   -- so many workers don't work on an image that is to be made of a device

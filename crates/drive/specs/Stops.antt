@@ -1,5 +1,5 @@
 -- Why a run of workers is stopped, by the part of it that was refused.
-use Rattle.std.specs.Prelude.{ℕ, ◌≡◌, ◌≤◌, List}
+use Rattle.std.specs.Prelude.{ℕ, ◌≡◌, ◌⊎◌, ◌≤◌, List}
 use Rattle.block_disk.specs.Device.{Device, HasFailed}
 use Rattle.guards.specs.Schema.{Declarations}
 use Rattle.heap_model.specs.declared.limits.TheConstants.{LAST_NUMBER}
@@ -84,8 +84,8 @@ module _ {D : Type 0} (device : D → Device) where
     pub stops : StopsBy shared was.layout (device was.disk) new e
     pub crashes : CrashesOf shared was.layout (device was.disk) new e
 
-  -- Why a run of a heap of this schema is stopped, on an image in this state: memory was wanting, or there is a cause. Either way recovery takes whatever
-  -- a crash left since then.
+  -- Why a run of a heap of this schema is stopped, on an image in this state: memory was wanting before there was a heap, so that nothing was done; or there
+  -- is a cause. Either way recovery takes whatever a crash left since then.
   abbrev pub StopsRun : (schema : Declarations) → (was : Parts D) → (new : Device) → DriveError → Type 0
-  StopsRun schema was new NoMemory = TakesEach (device was.disk) new
+  StopsRun schema was new NoMemory = ((new ≡ device was.disk) × TakesEach (device was.disk) new) ⊎ IsStopped schema was new NoMemory
   StopsRun schema was new e = IsStopped schema was new e

@@ -3,7 +3,7 @@ ghost use Rattle.std.specs.Prelude.{◌≡◌, ◌≤◌, ◌↔◌, IfErr, IfOk
 ghost use Rattle.block_disk.specs.Device.{SameMoments};
 ghost use Rattle.block_disk.specs.Memory.{Memory, device_of};
 ghost use Rattle.drive.specs.Driven.{HasDriven, HasDrivenOn, IsDriven, IsMadeOf, blank_device};
-ghost use Rattle.drive.specs.Refusals.{IsMakingRefused, IsOwnStop, RefusesFinding, RefusesGoingOn, RefusesLook, RefusesNew, RefusesOn, RefusesSize, RefusesWith};
+ghost use Rattle.drive.specs.Refusals.{IsMakingRefused, IsNotFound, IsOwnStop, RefusesGoingOn, RefusesLook, RefusesNew, RefusesOn, RefusesSize, RefusesWith};
 ghost use Rattle.drive.specs.Schemas.{HoldsWorkers, IsOfWorkers, MayHaveImage, schema_of};
 ghost use Rattle.drive.specs.Stops.{StopsRun};
 ghost use Rattle.image.specs.Layout.{size_of};
@@ -149,7 +149,8 @@ fn make<D: Disk>(
 /// - `Schema`: for want of memory;
 /// - `Recover`: the image is refused by [`study`];
 /// - `OtherSchema`: it isn't one of so many workers;
-/// - `Recover`: it wasn't recovered, for want of memory, by a fault, or since its control is worn;
+/// - `Recover`: it wasn't recovered, for want of memory, by a fault, since it is of version 1, or since its control is worn. It is as it
+///   was then, but that a sync was made; or behind a fault, maybe on recovery's way;
 /// - those of [`drive_heap`].
 pub fn drive_on<D: Disk + Drop, M: Meet + Sync, R: Threads + Wait + Sync>(
     rt: &R,
@@ -233,13 +234,13 @@ fn go_on<D: Disk + Drop, M: Meet + Sync, R: Threads + Wait + Sync>(
     }
 }
 
-// Recovers an image of so many workers: it stays one.
+// Recovers an image of so many workers: it stays one. Refused, it is as it was, or behind a fault maybe on recovery's way.
 fn find<D: Disk>(alloc: Global, disk: D, workers: u8) -> Result<Recovered<D>, (D, RecoverError)>
     requires { HoldsWorkers workers (D.device disk).now.bytes }
     ensures theirs { IfOk result (λ found. IsOfWorkers workers found.layout found.guards) }
     ensures found { IfOk result (λ found. (report : Report) × IsRecovery (D.device disk) (D.device found.disk) found report) }
     ensures failures { IfOk result (λ found. (D.device disk).failures ≤ (D.device found.disk).failures) }
-    ensures refused { IfErr result (λ back. RefusesFinding (D.device disk) (D.device back.0) back.1) }
+    ensures refused { IfErr result (λ back. IsNotFound (D.device disk) (D.device back.0) back.1) }
 {
     one_study_law();
     studied_law();

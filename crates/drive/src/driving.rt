@@ -36,7 +36,8 @@ use trim_helper::{Ended, Helper};
 ///
 /// A crash may come at any moment of it: recovery takes what that leaves, and keeps whole sections, each with all that it depends on.
 /// Where the heap is closed at last, they are of the one history in which each session's answers stand; where a round was refused, or
-/// a worker, of one that the helper had seen.
+/// a worker, or memory was wanting before the closing, of one that the helper had seen. A closing that is stopped leaves what calls of the
+/// store have made, and what comes behind it what a recovery leaves, which may be cut off.
 ///
 /// Refusals, in this order, each with the device as a stop leaves it; it may be recovered:
 /// - `NoMemory`: there was no room for what the threads share, or no thread could be made. No worker has worked then;

@@ -12,4 +12,8 @@ returns-in-Ok-clause-found g c = (c.in-Ok._report, c.in-Ok.ensures.ok)
 pub returns-in-Err-clause-refused : goal.returns-in-Err-clause-refused
 returns-in-Err-clause-refused g c =
     let device = g.D.Disk.device in
-    finding_stops (device c.args.disk) (device c.in-Err.back.0) c.requires.0 c.in-Err.back.1 c.studied_law.ensures c.requires.1 c.in-Err.ensures.refused c.in-Err.ensures.cause
+    record {
+      why = finding_stops (device c.args.disk) (device c.in-Err.back.0) c.requires.0 c.in-Err.back.1 c.studied_law.ensures c.requires.1 c.in-Err.ensures.refused c.in-Err.ensures.cause;
+      untouched = c.in-Err.ensures.untouched;
+      cut_off = c.in-Err.ensures.cut_off;
+    }

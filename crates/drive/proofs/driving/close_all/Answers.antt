@@ -1,10 +1,10 @@
 use Rattle.std.proofs.Common.{◌≤◌, length, arith}
 use Rattle.std.proofs.lemmas.Result.{IfOk-weaker}
 use Rattle.recover.specs.Recovery.{IsCutOff}
-use Rattle.drive.specs.Crashes.{TakesEach}
+use Rattle.drive.specs.Crashes.{IsLeftBehind, KeepsEach, TakesEach}
 use Rattle.drive.specs.Serving.{CrashesBy}
 use Rattle.drive.specs.Stops.{StopsBy, StopsTelling}
-use Rattle.drive.proofs.Ends.{closing_taken, kept_taken, telling_crashes}
+use Rattle.drive.proofs.Ends.{closing_left, kept_taken, telling_crashes}
 use Rattle.drive.proofs.Refused.{weaker, weaker_both}
 use Rattle.drive.proofs.Stopped.{close_stops, told_stops}
 use Rattle.drive.proofs.driving.close_all.Goals as goal
@@ -47,8 +47,19 @@ returns-in-Ok-clause-crashes g c =
     let first = was.lived.life.ran.shown.later in
     let second = from.ran.shown.later in
     let later : length opened.past ≤ length closed.past = omega (arith, first, second) in
-    let takes : TakesEach opened closed = kept_taken h l from.closed.history opened closed (c.crash_law.ensures h opened closed c.args.helper p c.args.ended.items was.lived from) in
-    telling_crashes h l opened closed (device back.0) back.1 (c.taken_law.ensures.recovery opened closed (device back.0) later takes cut_off) stops)
+    let keeps : KeepsEach h l from.closed.history opened closed = c.crash_law.ensures h opened closed c.args.helper p c.args.ended.items was.lived from in
+    let takes : TakesEach opened closed = kept_taken h l from.closed.history opened closed keeps in
+    let left : IsLeftBehind h l opened (device back.0) = record {
+      ended = c.args.ended.items;
+      none = c.requires.none;
+      complete = c.requires.complete;
+      closed = closed;
+      ran = from.closed;
+      keeps = keeps;
+      cut_off = cut_off;
+      takes = c.taken_law.ensures.recovery opened closed (device back.0) later takes cut_off;
+    } in
+    telling_crashes h l opened closed (device back.0) back.1 left stops)
     c.tell.ensures.cut_off c.tell.ensures.cause
 
 pub returns-in-Err-clause-cause : goal.returns-in-Err-clause-cause
@@ -60,4 +71,4 @@ returns-in-Err-clause-cause g c =
 
 pub returns-in-Err-clause-crashes : goal.returns-in-Err-clause-crashes
 returns-in-Err-clause-crashes g c = λ opened p was.
-    closing_taken g.D.Disk.device c.args.shared opened (g.D.Disk.device c.in-Err.disk) c.args.helper p c.args.ended.items c.taken_law.ensures.run was.lived (c.in-Err.ensures.closes p was.lived.serving).stood
+    closing_left g.D.Disk.device c.args.shared opened (g.D.Disk.device c.in-Err.disk) c.args.helper p c.args.ended.items c.taken_law.ensures.run was.lived (c.in-Err.ensures.closes p was.lived.serving).stood

@@ -1,4 +1,4 @@
-use Rattle.std.proofs.Common.{◌≡◌, All, ap, subst, sym, ◌∙◌}
+use Rattle.std.proofs.Common.{◌≡◌, All, ap, inl, subst, sym, ◌∙◌}
 use Rattle.std.proofs.lemmas.Result.{IfOk-weaker}
 use Rattle.block_disk.specs.Device.{Device}
 use Rattle.image.specs.declared.layout.Layout.{Layout}
@@ -52,4 +52,5 @@ pub returns-in-Err-clause-cause : goal.returns-in-Err-clause-cause
 returns-in-Err-clause-cause g c =
     let device = g.D.Disk.device in
     let r = c.args.recovered in
-    subst (λ (d : Device). TakesEach (device r.disk) d) (sym (ap device c.in-Err.ensures.refused)) (c.taken_law.ensures.recovered (device r.disk) c.layout-layout.result r.guards r.slot r.sequence r.heap c.layout-layout.ensures.recovered)
+    let same : device c.in-Err.disk ≡ device r.disk = ap device c.in-Err.ensures.refused in
+    inl (same, subst (λ (d : Device). TakesEach (device r.disk) d) (sym same) (c.taken_law.ensures.recovered (device r.disk) c.layout-layout.result r.guards r.slot r.sequence r.heap c.layout-layout.ensures.recovered))
