@@ -15,9 +15,10 @@
  *                        sector that was being written has any bytes after a crash, or can't be read. Twice the space and two sectors, two
  *                        flushes for each sync, and each sector that was written is written again with the next sync.
  *
- * The image is kept in memory, so that nothing is read to fill a sector. What the caller upholds besides the rules of zelamiku.h: one heap
- * at a time is on a host, and one call at a time has them; nobody else writes the device; what it says is flushed is durable; and a device that has once refused a flush and goes on has kept what was
- * written before, or takes it again: the batch is written whole with the next try. A device that is gone is the caller's to see. */
+ * The image is kept in memory, so that nothing is read to fill a sector. What the caller upholds besides the rules of zelamiku.h: one
+ * heap at a time is on a host, and one call at a time has them; nobody else writes the device; what it says is flushed is durable; and a
+ * device that has once refused a flush and goes on has kept what was written before, or takes it again: the batch is written whole with
+ * the next try. A device that is gone is the caller's to see. */
 #ifndef ZELAMIKU_SECTORS_H
 #define ZELAMIKU_SECTORS_H
 #include <stdlib.h>
