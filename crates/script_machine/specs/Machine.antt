@@ -50,7 +50,7 @@ use Rattle.script_machine.specs.Answers.{heap_in, acknowledged_in, woken_in}
 use Rattle.script_machine.specs.Homes.{BringsHome}
 use Rattle.script_machine.specs.Limits.{IsFormattable}
 use Rattle.script_machine.specs.Lookups.{object_of, field_of}
-use Rattle.script_machine.specs.OfSchema.{IsDiskOf, IsOfSchema}
+use Rattle.script_machine.specs.OfSchema.{IsDiskOf, IsOfSchema, formatted_device}
 use Rattle.script_lines.specs.Orders.{Order, Action}
 use Rattle.script_lines.specs.Orders as order
 use Rattle.script_machine.specs.Refusals.{told_of_declared, told_of_recovery, told_of_store}
@@ -118,7 +118,8 @@ module _ (old : MachineState) (answer : Answer) (new : MachineState) where
     pub answers : answer ≡ told_of_declared said
     pub declaring : new ≡ Declaring declared
 
-  -- an image was formatted: each field has its first value, and the store was told nothing
+  -- an image was formatted: each field has its first value, the store was told nothing, and the disk has had no calls but
+  -- those of formatting
   pub record Formats (d : Declarations) (lanes capacity : ℕ) : Type 0 where
     pub live : Live
     pub answers : answer ≡ Formatted (size_of (layout_with d lanes capacity))
@@ -127,6 +128,7 @@ module _ (old : MachineState) (answer : Answer) (new : MachineState) where
     pub fresh_monitors : IsFresh d lanes (first_of d) live.monitors
     pub tells : Tells live.store (setting_of live.monitors) no_past
     pub running : live.store.known.has_failed ≡ false
+    pub made : device_of live.store.disk ≡ formatted_device d (layout_with d lanes capacity)
     pub of_schema : IsDiskOf d live.store.disk
 
   -- an image is formatted where there is an object and a field, and lanes and capacity are within their limits
