@@ -1,5 +1,5 @@
 -- What a line does to the machine, and which lines are refused, and why (docs/SCRIPTS.md, "Lines" and "Refusals").
-use Rattle.std.specs.Prelude.{ℕ, false, ◌≡◌, ◌≢◌, ◌<◌, ◌≤◌, ◌⊎◌, List, Option, Some, None, Ok, length, take, slice_index}
+use Rattle.std.specs.Prelude.{ℕ, false, ◌+◌, ◌≡◌, ◌≢◌, ◌<◌, ◌≤◌, ◌⊎◌, List, Option, Some, None, Ok, length, take, slice_index}
 use Rattle.guards.specs.Schema.{Declarations, object_count, field_count, names_of, guard_of, first_of, nothing}
 use Rattle.declarations.specs.Declares.{Declares, Tests, Named}
 use Rattle.declarations.specs.declared.declared.Declared.{Declared}
@@ -28,6 +28,7 @@ use Rattle.durable.specs.Calls.{IsClean, RefusesApply, RefusesLog, RefusesSettle
 use Rattle.store_image.specs.Formatting.{layout_with}
 use Rattle.store_image.specs.KeptHeap.{StandsForCut, StandsForEither}
 use Rattle.store_past.specs.Past.{Past, IsTrimmed, applied, no_past, after_apply, after_log, after_settle, after_trim}
+use Rattle.durable.specs.Steps.{ShowsUpToMeanwhile}
 use Rattle.durable.specs.Store.{Parts, ShowsStep}
 use Rattle.durable.specs.declared.doubt.Doubt.{Doubt}
 use Rattle.durable.specs.declared.doubt.Doubt.TheVariants.{Nothing, Logging, Settling, Trimming}
@@ -104,6 +105,11 @@ Keeps old lane (Some next) new = Takes old lane next new
 abbrev pub RefusesRecord : Parts Memory → Setting → Past → (lane : ℕ) → Option Record → StoreError → Type 0
 RefusesRecord x s p lane None reason = ⊥
 RefusesRecord x s p lane (Some next) reason = RefusesApply x.known s p lane next reason
+
+-- the call takes one sequence of controls at most, and a crash inside it shows none beyond that
+pub record TakesSequence (m : Live) (store : Parts Memory) : Type 0 where
+  pub sequence : store.known.committed.sequence ≤ m.store.known.committed.sequence + 1
+  pub any_sequence : ShowsUpToMeanwhile device_of m.store store (m.store.known.committed.sequence + 1)
 
 module _ (old : MachineState) (answer : Answer) (new : MachineState) where
   -- the line is refused for this reason, and changes nothing
@@ -257,6 +263,7 @@ module _ (old : MachineState) (answer : Answer) (new : MachineState) where
     pub store : Parts Memory
     pub records : ℕ
     pub call : Calls m (Logged records) store Logging
+    pub takes : TakesSequence m store
     pub stands : KeepsAcknowledged m store
     pub count : (s : Setting) (p : Past) → Tells m.store s p → records ≡ length p.fresh
     pub after : (s : Setting) (p : Past) → Tells m.store s p → Tells store s (after_log p)
@@ -270,6 +277,7 @@ module _ (old : MachineState) (answer : Answer) (new : MachineState) where
     pub store : Parts Memory
     pub cells : ℕ
     pub call : Calls m (Wrote cells) store Nothing
+    pub sequence : store.known.committed.sequence ≡ m.store.known.committed.sequence
     pub stands : KeepsAcknowledged m store
     pub after : (s : Setting) (p : Past) → Tells m.store s p → BringsHome store s p cells
 
@@ -284,6 +292,7 @@ module _ (old : MachineState) (answer : Answer) (new : MachineState) where
     pub running : store.known.has_failed ≡ false
     pub shown : (s : Setting) (p : Past) → Tells m.store s p
         → LeavesOnly (device_of m.store.disk) (device_of store.disk) (ShowsStep m.store.known.layout s p Settling)
+    pub takes : TakesSequence m store
     -- a crash inside it leaves what stands for the sections that were acknowledged before, or for those that are now
     pub stands : (s : Setting) (p : Past) (cut : ℕ → ℕ) → Tells m.store s p → IsStable (actions p.logged) cut
         → LeavesOnly (device_of m.store.disk) (device_of store.disk) (StandsForEither m.store.known.layout s p.logged p.cut cut)
@@ -301,6 +310,7 @@ module _ (old : MachineState) (answer : Answer) (new : MachineState) where
   pub record Trims (m : Live) : Type 0 where
     pub store : Parts Memory
     pub call : Calls m Done store Trimming
+    pub takes : TakesSequence m store
     pub stands : KeepsAcknowledged m store
     pub after : (s : Setting) (p : Past) → Tells m.store s p → Tells store s (after_trim p)
     pub none : (s : Setting) (p : Past) → Tells m.store s p → IsTrimmed p → store ≡ m.store
