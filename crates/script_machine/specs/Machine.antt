@@ -1,5 +1,5 @@
 -- What a line does to the machine, and which lines are refused, and why (docs/SCRIPTS.md, "Lines" and "Refusals").
-use Rattle.std.specs.Prelude.{ℕ, false, ◌≡◌, ◌≢◌, ◌<◌, ◌≤◌, ◌⊎◌, List, Option, Some, None, Ok, length, take, slice_index}
+use Rattle.std.specs.Prelude.{ℕ, false, ◌+◌, ◌≡◌, ◌≢◌, ◌<◌, ◌≤◌, ◌⊎◌, List, Option, Some, None, Ok, length, take, slice_index}
 use Rattle.guards.specs.Schema.{Declarations, object_count, field_count, names_of, guard_of, first_of, nothing}
 use Rattle.declarations.specs.Declares.{Declares, Tests, Named}
 use Rattle.declarations.specs.declared.declared.Declared.{Declared}
@@ -28,6 +28,7 @@ use Rattle.durable.specs.Calls.{IsClean, RefusesApply, RefusesLog, RefusesSettle
 use Rattle.store_image.specs.Formatting.{layout_with}
 use Rattle.store_image.specs.KeptHeap.{StandsForCut, StandsForEither}
 use Rattle.store_past.specs.Past.{Past, IsTrimmed, applied, no_past, after_apply, after_log, after_settle, after_trim}
+use Rattle.durable.specs.Steps.{ShowsUpToMeanwhile}
 use Rattle.durable.specs.Store.{Parts, ShowsStep}
 use Rattle.durable.specs.declared.doubt.Doubt.{Doubt}
 use Rattle.durable.specs.declared.doubt.Doubt.TheVariants.{Nothing, Logging, Settling, Trimming}
@@ -50,7 +51,7 @@ use Rattle.script_machine.specs.Answers.{heap_in, acknowledged_in, woken_in}
 use Rattle.script_machine.specs.Homes.{BringsHome}
 use Rattle.script_machine.specs.Limits.{IsFormattable}
 use Rattle.script_machine.specs.Lookups.{object_of, field_of}
-use Rattle.script_machine.specs.OfSchema.{IsDiskOf, IsOfSchema}
+use Rattle.script_machine.specs.OfSchema.{IsDiskOf, IsOfSchema, formatted_device}
 use Rattle.script_lines.specs.Orders.{Order, Action}
 use Rattle.script_lines.specs.Orders as order
 use Rattle.script_machine.specs.Refusals.{told_of_declared, told_of_recovery, told_of_store}
@@ -105,6 +106,11 @@ abbrev pub RefusesRecord : Parts Memory → Setting → Past → (lane : ℕ) �
 RefusesRecord x s p lane None reason = ⊥
 RefusesRecord x s p lane (Some next) reason = RefusesApply x.known s p lane next reason
 
+-- the call takes one sequence of controls at most, and a crash inside it shows none beyond that
+pub record TakesSequence (m : Live) (store : Parts Memory) : Type 0 where
+  pub sequence : store.known.committed.sequence ≤ m.store.known.committed.sequence + 1
+  pub any_sequence : ShowsUpToMeanwhile device_of m.store store (m.store.known.committed.sequence + 1)
+
 module _ (old : MachineState) (answer : Answer) (new : MachineState) where
   -- the line is refused for this reason, and changes nothing
   abbrev pub Refuses : Refusal → Type 0
@@ -118,7 +124,8 @@ module _ (old : MachineState) (answer : Answer) (new : MachineState) where
     pub answers : answer ≡ told_of_declared said
     pub declaring : new ≡ Declaring declared
 
-  -- an image was formatted: each field has its first value, and the store was told nothing
+  -- an image was formatted: each field has its first value, the store was told nothing, and the disk has had no calls but
+  -- those of formatting
   pub record Formats (d : Declarations) (lanes capacity : ℕ) : Type 0 where
     pub live : Live
     pub answers : answer ≡ Formatted (size_of (layout_with d lanes capacity))
@@ -127,6 +134,7 @@ module _ (old : MachineState) (answer : Answer) (new : MachineState) where
     pub fresh_monitors : IsFresh d lanes (first_of d) live.monitors
     pub tells : Tells live.store (setting_of live.monitors) no_past
     pub running : live.store.known.has_failed ≡ false
+    pub made : device_of live.store.disk ≡ formatted_device d (layout_with d lanes capacity)
     pub of_schema : IsDiskOf d live.store.disk
 
   -- an image is formatted where there is an object and a field, and lanes and capacity are within their limits
@@ -255,6 +263,7 @@ module _ (old : MachineState) (answer : Answer) (new : MachineState) where
     pub store : Parts Memory
     pub records : ℕ
     pub call : Calls m (Logged records) store Logging
+    pub takes : TakesSequence m store
     pub stands : KeepsAcknowledged m store
     pub count : (s : Setting) (p : Past) → Tells m.store s p → records ≡ length p.fresh
     pub after : (s : Setting) (p : Past) → Tells m.store s p → Tells store s (after_log p)
@@ -268,6 +277,7 @@ module _ (old : MachineState) (answer : Answer) (new : MachineState) where
     pub store : Parts Memory
     pub cells : ℕ
     pub call : Calls m (Wrote cells) store Nothing
+    pub sequence : store.known.committed.sequence ≡ m.store.known.committed.sequence
     pub stands : KeepsAcknowledged m store
     pub after : (s : Setting) (p : Past) → Tells m.store s p → BringsHome store s p cells
 
@@ -282,6 +292,7 @@ module _ (old : MachineState) (answer : Answer) (new : MachineState) where
     pub running : store.known.has_failed ≡ false
     pub shown : (s : Setting) (p : Past) → Tells m.store s p
         → LeavesOnly (device_of m.store.disk) (device_of store.disk) (ShowsStep m.store.known.layout s p Settling)
+    pub takes : TakesSequence m store
     -- a crash inside it leaves what stands for the sections that were acknowledged before, or for those that are now
     pub stands : (s : Setting) (p : Past) (cut : ℕ → ℕ) → Tells m.store s p → IsStable (actions p.logged) cut
         → LeavesOnly (device_of m.store.disk) (device_of store.disk) (StandsForEither m.store.known.layout s p.logged p.cut cut)
@@ -299,6 +310,7 @@ module _ (old : MachineState) (answer : Answer) (new : MachineState) where
   pub record Trims (m : Live) : Type 0 where
     pub store : Parts Memory
     pub call : Calls m Done store Trimming
+    pub takes : TakesSequence m store
     pub stands : KeepsAcknowledged m store
     pub after : (s : Setting) (p : Past) → Tells m.store s p → Tells store s (after_trim p)
     pub none : (s : Setting) (p : Past) → Tells m.store s p → IsTrimmed p → store ≡ m.store

@@ -1,8 +1,11 @@
 -- Images of a schema (this project's own).
-use Rattle.std.specs.Prelude.{ℕ, ◌≡◌, ◌<◌, true, List, slice_index_or}
+use Rattle.std.specs.Prelude.{ℕ, ◌≡◌, ◌<◌, true, List, replicate, slice_index_or}
 use Rattle.guards.specs.Schema.{Declarations, object_count, field_count, first_of, guard_of, is_transient_of}
-use Rattle.block_disk.specs.Device.{LeftSince}
-use Rattle.block_disk.specs.Memory.{Memory, device_of}
+use Rattle.block_disk.specs.Device.{Device, LeftSince}
+use Rattle.block_disk.specs.Memory.{Memory, device_of, fresh}
+use Rattle.image.specs.Calls.{after}
+use Rattle.image.specs.Format.{format_calls}
+use Rattle.image.specs.Layout.{size_of}
 use Rattle.image.specs.declared.guard_row.GuardRow.{GuardRow}
 use Rattle.image.specs.declared.layout.Layout.{Layout}
 use Rattle.recover.specs.Reading.{HasFront}
@@ -23,3 +26,7 @@ IsOfSchema schema image = (l : Layout) (guards : List GuardRow) → HasFront ima
 -- so it is of whatever a crash leaves of the disk, at any moment since it was made
 abbrev pub IsDiskOf : Declarations → Memory → Type 0
 IsDiskOf schema disk = (image : List ℕ) → LeftSince 0 (device_of disk) image → IsOfSchema schema image
+
+-- the device that formatting zeros makes, as many as the image has bytes: a crash counts back these writes and syncs
+abbrev pub formatted_device : Declarations → Layout → Device
+formatted_device schema layout = after (format_calls layout schema) (device_of (fresh (replicate (size_of layout) 0)))

@@ -8,7 +8,7 @@ ghost use Rattle.store_image.specs.Formatting.{layout_with};
 ghost use Rattle.store_past.specs.Past.{no_past};
 ghost use Rattle.recover.specs.Recovery.{IsTooOld};
 ghost use Rattle.script_machine.specs.Limits.{IsFormattable};
-ghost use Rattle.script_machine.specs.OfSchema.{IsDiskOf};
+ghost use Rattle.script_machine.specs.OfSchema.{IsDiskOf, formatted_device};
 ghost use Rattle.script_machine.specs.Reports.{Reopens, Restores, RefusesDisk};
 ghost use Rattle.script_machine.specs.States.{Tells};
 ghost use Rattle.plain_monitors.specs.Table.{setting_in};
@@ -38,6 +38,7 @@ pub(crate) fn format_store(
     ensures layout { IfOk result (λ made. made.0.known.layout ≡ layout_with schema.now lanes capacity) }
     ensures tells { IfOk result (λ made. Tells made.0 (setting_in schema.now LAST_NUMBER) no_past) }
     ensures running { IfOk result (λ made. made.0.known.has_failed ≡ false) }
+    ensures calls { IfOk result (λ made. device_of made.0.disk ≡ formatted_device schema.now (layout_with schema.now lanes capacity)) }
     ensures of_schema { IfOk result (λ made. IsDiskOf schema.now made.0.disk) }
 {
     let Some(layout) = Layout::of(schema, lanes, capacity) else {

@@ -52,6 +52,7 @@ pub(crate) fn write_homes(store: &mut Store<MemDisk>) -> Result<u64, StoreError>
     ensures homes { (s : Setting) (p : Past) → Tells store.old s p → IfOk result (BringsHome store.new s p) }
     ensures running { store.old.known.has_failed ≡ false → OnOk result (store.new.known.has_failed ≡ false) }
     ensures layout { store.new.known.layout ≡ store.old.known.layout }
+    ensures sequence { store.new.known.committed.sequence ≡ store.old.known.committed.sequence }
     ensures shown { (s : Setting) (p : Past) → Tells store.old s p
         → OnOk result (LeavesOnly (device_of store.old.disk) (device_of store.new.disk) (ShowsPast store.old.known.layout s p)) }
     ensures any_moment { (s : Setting) (p : Past) → Tells store.old s p

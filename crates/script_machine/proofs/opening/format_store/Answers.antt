@@ -1,10 +1,11 @@
-use Rattle.std.proofs.Common.{◌≡◌, ◌<◌, refl, sym, ◌∙◌, ap, subst, arith}
-use Rattle.block_disk.specs.Memory.{Memory, device_of}
+use Rattle.std.proofs.Common.{◌≡◌, ◌<◌, replicate, refl, sym, ◌∙◌, ap, subst, arith}
+use Rattle.block_disk.specs.Memory.{Memory, device_of, fresh}
 use Rattle.image.specs.Calls.{after}
 use Rattle.image.specs.Format.{format_calls}
-use Rattle.image.specs.Layout.{IsLayoutOf}
+use Rattle.image.specs.Layout.{IsLayoutOf, size_of}
 use Rattle.image.specs.declared.layout.Layout.{Layout}
 use Rattle.image.specs.declared.guard_row.GuardRow.{GuardRow}
+use Rattle.store_image.specs.Formatting.{layout_with}
 use Rattle.guards.specs.Schema.{is_transient_of}
 use Rattle.heap_model.specs.declared.limits.TheConstants.{LAST_NUMBER}
 use Rattle.plain_monitors.specs.Table.{setting_in}
@@ -24,6 +25,18 @@ returns-in-Ok-clause-tells c =
       values = λ f below. c.in-Ok.ensures.heap f (subst (λ n. f < n) (ap (λ (l : Layout). l.fields) made) below);
       last_is = refl;
     })
+
+pub returns-in-Ok-clause-calls : goal.returns-in-Ok-clause-calls
+returns-in-Ok-clause-calls c =
+    let schema = c.args.schema.now in
+    let wanted : Layout = layout_with schema c.args.lanes c.args.capacity in
+    let l : Layout = c.in-Some.layout in
+    let is : IsLayoutOf schema l = c.in-Some.ensures.schema in
+    let same : l ≡ wanted = λ i. record { objects = is.objects i; fields = is.fields i; lanes = c.in-Some.ensures.lanes i; capacity = c.in-Some.ensures.capacity i } in
+    let size : c.size-size.result ≡ size_of wanted = c.size-size.ensures ∙ ap size_of same in
+    ap device_of c.in_ok-adopt-in-Ok.ensures.disk ∙ c.in-Ok.ensures.calls
+    ∙ (λ i. after (format_calls (c.in-Ok.ensures.layout i) schema) (device_of (c.in_ok-disk.ensures i)))
+    ∙ ap (λ n. after (format_calls wanted schema) (device_of (fresh (replicate n 0)))) size
 
 pub returns-in-Ok-clause-of_schema : goal.returns-in-Ok-clause-of_schema
 returns-in-Ok-clause-of_schema c =

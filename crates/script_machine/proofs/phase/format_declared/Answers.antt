@@ -7,7 +7,7 @@ use Rattle.heap_model.specs.Setting.{Setting}
 use Rattle.image.specs.Layout.{size_of}
 use Rattle.script_machine.specs.declared.answer.Answer.TheVariants.{Formatted}
 use Rattle.script_machine.specs.Machine as machine
-use Rattle.script_machine.specs.OfSchema.{IsDiskOf}
+use Rattle.script_machine.specs.OfSchema.{IsDiskOf, formatted_device}
 use Rattle.script_machine.specs.States.{Tells}
 use Rattle.plain_monitors.specs.Table.{setting_in}
 use Rattle.image.specs.declared.layout.Layout.{Layout}
@@ -39,6 +39,7 @@ returns c =
           };
           tells = subst (λ (s : Setting). Tells c.in-Ok.made.0 s no_past) (λ i. setting_in (sym schema i) (sym c.in-Ok-new.ensures.last i)) c.in-Ok.ensures.tells;
           running = c.in-Ok.ensures.running;
+          made = c.in-Ok.ensures.calls ∙ (λ i. formatted_device (c.build-schema.ensures i) (layout i));
           of_schema = subst (λ (d : Declarations). IsDiskOf d c.in-Ok.made.0.disk) c.build-schema.ensures c.in-Ok.ensures.of_schema;
         };
       };

@@ -69,6 +69,7 @@ loop-written-init c = (
   refl,
   omega arith,
   inl refl,
+  refl,
 )
 
 pub returns-in-Err-clause-refused : goal.returns-in-Err-clause-refused
@@ -103,6 +104,7 @@ loop-written-preserved c = (
   (let running = rw c.in-Ok-Wrote.is at c.home_step.ensures.running in running.1 ∙ sym running.0 ∙ c.loop-written.invariant.2),
   (let was = c.loop-written.invariant.3 in let later = c.home_step.ensures.cause.later in omega (arith, was, later)),
   inr (rw c.in-Ok-Wrote.is at c.home_step.ensures.running).1,
+  c.home_step.ensures.sequence ∙ c.loop-written.invariant.5,
 )
 
 pub returns-in-Ok-Done-clause-homes : goal.returns-in-Ok-Done-clause-homes

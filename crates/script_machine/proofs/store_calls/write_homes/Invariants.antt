@@ -32,3 +32,4 @@ invariant-loop-written l = ((s : Setting) (p : Past) → Tells l.initial.store s
     × (l.store.known.has_failed ≡ l.initial.store.known.has_failed)
     × ((device_of l.initial.store.disk).failures ≤ (device_of l.store.disk).failures)
     × ((l.store ≡ l.initial.store) ⊎ (l.store.known.has_failed ≡ false))
+    × (l.store.known.committed.sequence ≡ l.initial.store.known.committed.sequence)

@@ -45,6 +45,7 @@ returns c =
         shown = λ s p t. weaker (device_of c.self.inside.store.disk) (device_of y.disk) (ShowsPast c.self.inside.store.known.layout s p)
             (ShowsStep c.self.inside.store.known.layout s p Nothing) (λ image shown. Shows shown) (c.in-Ok.ensures.shown s p t);
       };
+      sequence = c.write_homes.ensures.sequence;
       stands = λ s p t. c.in-Ok.ensures.any_moment s p t;
       after = λ s p t. c.in-Ok.ensures.homes s p t;
     })

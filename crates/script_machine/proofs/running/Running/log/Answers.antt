@@ -46,6 +46,7 @@ returns c =
         store = y;
         records = w.in-Ok.records;
         call = record { answers = refl; runs = refl; layout = step.layout; ran = c.self.invariant.running; running = (rw w.in-Ok.is at step.running).1; shown = step.shown };
+        takes = record { sequence = step.sequence; any_sequence = step.any_sequence };
         stands = step.any_moment;
         count = λ s p t. (rw w.in-Ok.is at step.answer s p t).1;
         after = λ s p t. rw w.in-Ok.is at step.ok s p t;

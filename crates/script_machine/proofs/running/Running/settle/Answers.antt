@@ -60,6 +60,7 @@ returns c =
             ran = c.self.invariant.running;
             running = (rw w.in-Ok.is at step.running).1;
             shown = step.shown;
+            takes = record { sequence = step.sequence; any_sequence = step.any_sequence };
             stands = step.any_moment;
             clean = λ s p t. (rw w.in-Ok.is at step.answer s p t).1;
             lanes = told.count ∙ lanes;

@@ -45,6 +45,7 @@ returns c =
       | in-Ok w ↦ rw w.answer-is (inl (record {
         store = y;
         call = record { answers = refl; runs = refl; layout = step.layout; ran = c.self.invariant.running; running = (rw w.in-Ok.is at step.running).1; shown = step.shown };
+        takes = record { sequence = step.sequence; any_sequence = step.any_sequence };
         stands = step.any_moment;
         after = λ s p t. rw w.in-Ok.is at step.ok s p t;
         none = step.none;
