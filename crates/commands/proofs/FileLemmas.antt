@@ -1,17 +1,12 @@
 -- What is known of a file whose image was read.
 use Rattle.std.proofs.Common.{ℕ, ◌≡◌, ◌⊎◌, List, [], ◌∷◌, Option, None, Some, inl, inr, length, refl, sym, subst, ◌∙◌}
 use Rattle.std.specs.Prelude.{IfSome}
-use Rattle.block_disk.specs.Device.{Device, Image}
-use Rattle.block_disk.proofs.Images.{only_now}
 use Rattle.drive.specs.Schemas.{HoldsWorkers}
 use Rattle.file_disk.specs.Backing.{Held, Reads}
 use Rattle.file_disk.specs.Mirror.{Mirror}
 use Rattle.image.specs.Recovered.{Parts}
 use Rattle.commands.specs.Telling.{HasLeft}
-
-pub reads_image : (image : List ℕ) (file : Option Held) → IfSome file (λ h. image ≡ h.reads) → Reads image file
-reads_image image None given = tt
-reads_image image (Some h) given = sym given
+pub use Rattle.image_file.proofs.HeldLemmas.{reads_disk, reads_image}
 
 pub reads_theirs : (workers : ℕ) (image : List ℕ) (file : Option Held) → IfSome file (λ h. image ≡ h.reads) → HoldsWorkers workers image
     → IfSome file (λ h. HoldsWorkers workers h.reads)
@@ -37,11 +32,6 @@ pub or_theirs : (workers : ℕ) (file : Option Held) → IfSome file (λ h. Hold
     → IfSome file (λ h. (h.reads ≡ []) ⊎ HoldsWorkers workers h.reads)
 or_theirs workers None holds = tt
 or_theirs workers (Some h) holds = inr holds
-
--- with nothing pending it reads what its disk reads
-pub reads_disk : (d : Device) (file : Option Held) → d.now.pending ≡ [] → IfSome file (λ h. Image d.now h.reads) → Reads d.now.bytes file
-reads_disk d None none possible = tt
-reads_disk d (Some h) none possible = only_now d h.reads none possible
 
 pub left_so : (P Q : Parts Mirror → Type 0) (disk : Mirror) → ((now : Parts Mirror) → P now → Q now) → HasLeft P disk → HasLeft Q disk
 left_so P Q disk to left = record { now = left.now; there = left.there; is = to left.now left.is; reads = left.reads }

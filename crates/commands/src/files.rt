@@ -3,7 +3,7 @@ ghost use Rattle.std.specs.Prelude.{◌≡◌, ◌⊎◌, [], Option, IfErr, IfO
 ghost use Rattle.block_disk.specs.Device.{Device};
 ghost use Rattle.drive.specs.Driven.{HasDriven, blank_device};
 ghost use Rattle.drive.specs.Schemas.{HoldsWorkers};
-ghost use Rattle.commands.specs.Faults.{HasNoFile, RefusesFile, RefusesLeftFile, RefusesNewFile};
+ghost use Rattle.commands.specs.Faults.{HasNoFile, RefusesFile, RefusesLeftFile, RefusesNewFile, RefusesOpenFile};
 ghost use Rattle.commands.specs.Telling.{HasDrivenFile, HasDrivenImageOf, HasLeft, file_device};
 ghost use Rattle.file_disk.specs.Backing.{Held, Reads};
 ghost use Rattle.file_disk.specs.Mirror.{Mirror};
@@ -185,7 +185,7 @@ where
     M: Meet + Sync,
     ensures ok { IfOk result (λ r. HasLeft (λ now. HasDrivenFile workers (F.holds file) now r.1) r.0) }
     ensures theirs { IfOk result (λ r. IfSome (F.holds file) (λ h. (h.reads ≡ []) ⊎ HoldsWorkers workers h.reads)) }
-    ensures refused { IfErr result (RefusesFile workers (F.holds file)) }
+    ensures refused { IfErr result (RefusesOpenFile workers (F.holds file)) }
 {
     match file.len() {
         Ok(0) => drive_new_file(rt, alloc, meet, file, workers, rounds),

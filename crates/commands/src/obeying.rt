@@ -23,8 +23,8 @@ use std::sync::Wait;
 use std::thread::Threads;
 
 /// Does what the words ask for: plays the script that `reader` has, in memory or over an image file, works on an image file, or lets
-/// workers work, and writes what that prints. `is_telling`: how far workers are is told on standard error, which is a terminal. What the system says of a call on a file that fails is
-/// noted as trouble.
+/// workers work, and writes what that prints. `is_telling`: how far workers are is told on standard error, which is a terminal. What the
+/// system says of a call on a file that fails is noted as trouble.
 pub fn obey<F, R, S, W>(
     rt: &R,
     is_telling: bool,

@@ -1,8 +1,9 @@
 //! How far workers are, and for how long they go on.
+ghost use Rattle.std.specs.Prelude.{◌≡◌, ◌-◌, ◌^◌, None, IfSome};
 
 use drive::Meet;
 use std::rt::Clock;
-use std::sync::atomic::{AtomicU64, Ordering};
+use std::sync::atomic::{AtomicBool, AtomicU64, Ordering};
 use std::time::Instant;
 
 // How often a run of so many sections is told of.
@@ -12,7 +13,11 @@ const TIMES: u64 = 10;
 const ROUNDS: u32 = 1000;
 
 /// How many rounds each worker works at most, where so many rounds are asked for, or so many seconds: by those it is stopped long before.
-pub fn rounds_for(rounds: Option<u32>, seconds: Option<u32>) -> u32 {
+pub(crate) fn rounds_for(rounds: Option<u32>, seconds: Option<u32>) -> u32
+    ensures asked { IfSome rounds (λ asked. result ≡ asked) }
+    ensures timed { rounds ≡ None → IfSome seconds (λ timed. result ≡ 2 ^ 32 - 1) }
+    ensures unsaid { rounds ≡ None → seconds ≡ None → result ≡ 1000 }
+{
     match (rounds, seconds) {
         (Some(rounds), _) => rounds,
         (None, Some(_)) => u32::MAX,
@@ -29,13 +34,13 @@ pub trait Watch: Meet {
 /// Tells how far workers are, on one line of standard error that each next text overwrites, where it is to tell: at each tenth of their
 /// sections; or at each second, where that is how long they work, and ends them then.
 #[derive(Drop)]
-pub struct Progress<'a, R> {
+pub(crate) struct Progress<'a, R> {
     rt: &'a R,
     is_told: bool,
-    // The sections of all workers, how many of them were begun, and how many texts were told.
+    // The sections of all workers, how many of them were begun, and whether a text was told.
     all: u64,
     begun: AtomicU64,
-    told: AtomicU64,
+    told: AtomicBool,
     // For how many seconds they work, where that is said; since when, unless the clock fails; and how many have passed.
     seconds: Option<u32>,
     since: Option<Instant>,
@@ -44,7 +49,7 @@ pub struct Progress<'a, R> {
 
 impl<'a, R: Clock> Progress<'a, R> {
     /// So many workers begin to work: so many rounds, or so many seconds.
-    pub fn new(
+    pub(crate) fn new(
         rt: &'a R,
         is_told: bool,
         workers: u8,
@@ -54,9 +59,9 @@ impl<'a, R: Clock> Progress<'a, R> {
         Progress {
             rt,
             is_told,
-            all: u64::from(workers).wrapping_mul(u64::from(rounds)),
+            all: u64::from(workers) * u64::from(rounds),
             begun: AtomicU64::new(0),
-            told: AtomicU64::new(0),
+            told: AtomicBool::new(false),
             seconds,
             since: Instant::now(rt).ok(),
             passed: AtomicU64::new(0),
@@ -75,7 +80,7 @@ impl<R: Eprint + Clock> Progress<'_, R> {
     // A text that can't be written is left out.
     fn tell_rounds(&self, begun: u64) {
         if self.is_told {
-            let _ = self.told.fetch_add(1, Ordering::SeqCst);
+            self.told.store(true, Ordering::SeqCst);
             let _ = eprint!(self.rt; "\rheapctl: {begun} of {} sections", self.all);
         }
     }
@@ -83,7 +88,7 @@ impl<R: Eprint + Clock> Progress<'_, R> {
     fn tell_seconds(&self, passed: u64, seconds: u32) {
         if self.is_told {
             let begun = self.begun.load(Ordering::SeqCst);
-            let _ = self.told.fetch_add(1, Ordering::SeqCst);
+            self.told.store(true, Ordering::SeqCst);
             let _ = eprint!(self.rt; "\rheapctl: {begun} sections, {passed} of {seconds} seconds");
         }
     }
@@ -117,7 +122,7 @@ impl<R: Eprint + Clock> Meet for Progress<'_, R> {
 impl<R: Eprint + Clock> Watch for Progress<'_, R> {
     // The line ends where there is one.
     fn end(&self) {
-        if self.told.load(Ordering::SeqCst) > 0 {
+        if self.told.load(Ordering::SeqCst) {
             let _ = eprintln!(self.rt; "");
         }
     }

@@ -15,8 +15,8 @@ pub const FAULT: u8 = 1;
 /// Another process has the image.
 pub const IN_USE: u8 = 3;
 
-/// The status for a script that ended with such an error.
-pub fn status_of(kind: ScriptErrorKind) -> u8
+// The status for a script that ended with such an error.
+fn status_of(kind: ScriptErrorKind) -> u8
     ensures { result ≡ status_for kind }
 {
     match kind {
@@ -27,8 +27,8 @@ pub fn status_of(kind: ScriptErrorKind) -> u8
     }
 }
 
-/// The status where no image was made.
-pub fn status_of_format(error: &FormatError) -> u8
+// The status where no image was made.
+fn status_of_format(error: &FormatError) -> u8
     ensures { result ≡ status_for_format error.now }
 {
     match error {
@@ -41,8 +41,8 @@ pub fn status_of_format(error: &FormatError) -> u8
     }
 }
 
-/// The status where an image isn't shown or recovered.
-pub fn status_of_image(fault: &ImageFault) -> u8
+// The status where an image isn't shown or recovered.
+fn status_of_image(fault: &ImageFault) -> u8
     ensures { result ≡ status_for_image fault.now }
 {
     match fault {
@@ -51,8 +51,8 @@ pub fn status_of_image(fault: &ImageFault) -> u8
     }
 }
 
-/// The status where an image isn't drawn or dumped by the names of a schema file.
-pub fn status_of_named(fault: &NamedFault) -> u8
+// The status where an image isn't drawn or dumped by the names of a schema file.
+fn status_of_named(fault: &NamedFault) -> u8
     ensures { result ≡ status_for_named fault.now }
 {
     match fault {
@@ -62,8 +62,8 @@ pub fn status_of_named(fault: &NamedFault) -> u8
     }
 }
 
-/// The status where an image file isn't had.
-pub fn status_of_file(fault: FileFault) -> u8
+// The status where an image file isn't had.
+fn status_of_file(fault: FileFault) -> u8
     ensures { result ≡ status_for_file fault }
 {
     match fault {

@@ -1,11 +1,11 @@
 -- The size of an image, and what is said where none is made.
-use Rattle.std.proofs.Common.{ℕ, ◌≡◌, ◌+◌, ◌*◌, List, Option, ap, sym, ◌∙◌}
+use Rattle.std.proofs.Common.{ℕ, ◌≡◌, ◌+◌, ◌*◌, List, Option, ap, sym, ◌∙◌, inl, inr}
 use Rattle.store_image.specs.Formatting.{AreLimits, layout_with}
 use Rattle.declarations.specs.SchemaFiles.{DeclaresSchema}
 use Rattle.guards.specs.Schema.{Declarations}
 use Rattle.image.specs.Layout.{IsLayoutOf, size_of}
 use Rattle.image.specs.declared.layout.Layout.{Layout}
-use Rattle.image_file.specs.Formatting.{IsBeforeFile, RefusesImage}
+use Rattle.image_file.specs.Formatting.{IsBeforeFile, MayBlameNumbers, PrintsLess, PrintsLessOf, RefusesImage}
 use Rattle.image_file.specs.declared.error.FormatError.{FormatError}
 use Rattle.image_file.specs.declared.error.FormatError.TheVariants as errors
 
@@ -27,3 +27,17 @@ not_made old new lanes capacity schema errors.Fault declares before = tt
 not_made old new lanes capacity schema errors.NoMemory declares before = tt
 not_made old new lanes capacity schema errors.InUse declares before = tt
 not_made old new lanes capacity schema errors.NotImage declares before = tt
+
+-- what is said of its numbers
+pub blames : (old new : Option (List ℕ)) (lanes capacity : ℕ) (e : FormatError) → RefusesImage old new lanes capacity e → MayBlameNumbers lanes capacity e
+blames old new lanes capacity errors.BadHeader refused = refused.2
+blames old new lanes capacity (errors.Schema fault) refused = tt
+blames old new lanes capacity errors.Fault refused = tt
+blames old new lanes capacity errors.NoMemory refused = tt
+blames old new lanes capacity errors.InUse refused = tt
+blames old new lanes capacity errors.NotImage refused = tt
+
+-- what is written, whatever the schema
+pub less : (declared : Declarations → Type 0) (lanes capacity : ℕ) (old new : Option (List ℕ)) → PrintsLessOf declared lanes capacity old new → PrintsLess lanes capacity old new
+less declared lanes capacity old new (inl silent) = inl silent
+less declared lanes capacity old new (inr part) = inr record { schema = part.schema; so = tt; limits = part.limits; printed = part.printed }

@@ -1,5 +1,5 @@
 -- What making an image for the schema of a file gives and refuses (docs/SCRIPTS.md, "The program's fault texts").
-use Rattle.std.specs.Prelude.{◌≡◌, ℕ, List, ◌++◌, Option, codes, replicate}
+use Rattle.std.specs.Prelude.{◌≡◌, ◌⊎◌, ℕ, List, [], ◌∷◌, Option, codes, replicate}
 use Rattle.std.specs.Fmt.{decimal}
 use Rattle.std.specs.Io.KnownBytes.{Appends}
 use Rattle.block_disk.specs.Device.{Device, new_device}
@@ -12,6 +12,8 @@ use Rattle.image.specs.Calls.{after}
 use Rattle.image.specs.Format.{format_calls}
 use Rattle.image.specs.Layout.{size_of}
 use Rattle.image.specs.declared.layout.Layout.{Layout}
+use Rattle.inspect.specs.Pieces.{line}
+use Rattle.inspect.specs.Written.{AppendsPart}
 use Rattle.store_image.specs.Formatting.{AreLimits, layout_with}
 use Rattle.declarations.specs.declared.schema_fault.SchemaFault.{SchemaFault}
 use Rattle.declarations.specs.declared.schema_fault.SchemaFaultKind.{SchemaFaultKind}
@@ -64,7 +66,7 @@ pub record MakesImage (old new : Option (List ℕ)) (lanes capacity : ℕ) (layo
 
 -- the line that tells an image's size, in bytes
 abbrev pub formatted_line : ℕ → List ℕ
-formatted_line size = codes "formatted " ++ decimal size ++ codes "\n"
+formatted_line size = line (codes "formatted " ∷ decimal size ∷ [])
 
 -- the size was written, on a line of its own
 abbrev pub PrintsSize : ℕ → (old new : Option (List ℕ)) → Type 0
@@ -76,6 +78,21 @@ pub record PrintsImage (lanes capacity : ℕ) (old new : Option (List ℕ)) : Ty
   pub limits : AreLimits lanes capacity
   pub printed : PrintsSize (size_of (layout_with schema lanes capacity)) old new
 
+-- a beginning of that line was written, and not all. The schema is one of these
+pub record PrintsPart (declared : Declarations → Type 0) (lanes capacity : ℕ) (old new : Option (List ℕ)) : Type 0 where
+  pub schema : Declarations
+  pub so : declared schema
+  pub limits : AreLimits lanes capacity
+  pub printed : AppendsPart old new (formatted_line (size_of (layout_with schema lanes capacity)))
+
+-- nothing was written, or a beginning of that line
+abbrev pub PrintsLessOf : (declared : Declarations → Type 0) → (lanes capacity : ℕ) → (old new : Option (List ℕ)) → Type 0
+PrintsLessOf declared lanes capacity old new = Appends old new [] ⊎ PrintsPart declared lanes capacity old new
+
+-- the same where it isn't known which schema
+abbrev pub PrintsLess : (lanes capacity : ℕ) → (old new : Option (List ℕ)) → Type 0
+PrintsLess lanes capacity old new = PrintsLessOf (λ schema. Unit {0}) lanes capacity old new
+
 -- the refusals that come before the image file is touched
 abbrev pub IsBeforeFile : FormatError → Type 0
 IsBeforeFile (errors.Schema fault) = Unit {0}
@@ -86,6 +103,7 @@ IsBeforeFile _ = ⊥
 abbrev pub IsSilent : FormatError → Type 0
 IsSilent (errors.Schema fault) = Unit {0}
 IsSilent errors.BadHeader = Unit {0}
+IsSilent errors.NoMemory = Unit {0}
 IsSilent errors.InUse = Unit {0}
 IsSilent errors.NotImage = Unit {0}
 IsSilent _ = ⊥
@@ -96,3 +114,8 @@ abbrev pub RefusesImage : (old new : Option (List ℕ)) → (lanes capacity : �
 RefusesImage old new lanes capacity (errors.Schema fault) = RefusesSchema old new fault × (told_of_schema fault ≡ errors.Schema fault)
 RefusesImage old new lanes capacity errors.BadHeader = (schema : Declarations) × DeclaresSchema old new schema × (AreLimits lanes capacity → ⊥)
 RefusesImage old new lanes capacity _ = Unit {0}
+
+-- the numbers of lanes and of records are blamed only where they are past their limits
+abbrev pub MayBlameNumbers : (lanes capacity : ℕ) → FormatError → Type 0
+MayBlameNumbers lanes capacity errors.BadHeader = AreLimits lanes capacity → ⊥
+MayBlameNumbers lanes capacity _ = Unit {0}

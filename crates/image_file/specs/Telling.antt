@@ -3,7 +3,12 @@ use Rattle.std.specs.Prelude.{ℕ, ◌⊎◌, Option, List, []}
 use Rattle.std.specs.Io.KnownBytes.{Appends}
 use Rattle.inspect.specs.Inspection.{Inspects, InspectsPart}
 use Rattle.inspect.specs.ReportText.{report_text}
+use Rattle.recover.specs.Recovery.{IsTooOld}
+use Rattle.recover.specs.declared.error.RecoverError.TheVariants.{OldVersion}
 use Rattle.recover.specs.declared.studied.Study.{Study}
+use Rattle.recover.specs.declared.versions.Versions.{Versions}
+use Rattle.image_file.specs.declared.error.ImageFault.{ImageFault}
+use Rattle.image_file.specs.declared.error.ImageFault.TheVariants as images
 
 -- the report on an image, by the study of it
 abbrev pub report_of : Study → List ℕ
@@ -16,3 +21,16 @@ Tells text old new = (image : List ℕ) × Inspects text image old new
 -- nothing was written, or a beginning of it
 abbrev pub TellsLess : (text : Study → List ℕ) → (old new : Option (List ℕ)) → Type 0
 TellsLess text old new = Appends old new [] ⊎ ((image : List ℕ) × InspectsPart text image old new)
+
+-- the report on some image was written, which is of one of these versions
+abbrev pub TellsOfVersions : (versions : Versions) → (old new : Option (List ℕ)) → Type 0
+TellsOfVersions versions old new = (image : List ℕ) × (IsTooOld versions image → ⊥) × Inspects report_of image old new
+
+-- nothing was written, or a beginning of it
+abbrev pub TellsLessOfVersions : (versions : Versions) → (old new : Option (List ℕ)) → Type 0
+TellsLessOfVersions versions old new = Appends old new [] ⊎ ((image : List ℕ) × (IsTooOld versions image → ⊥) × InspectsPart report_of image old new)
+
+-- an image is refused as too old only where these versions leave one out: an upgrade refuses none so
+abbrev pub MayBeRefusedBy : (versions : Versions) → ImageFault → Type 0
+MayBeRefusedBy versions (images.Image OldVersion) = (image : List ℕ) × IsTooOld versions image
+MayBeRefusedBy versions _ = Unit {0}

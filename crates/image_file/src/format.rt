@@ -1,10 +1,12 @@
 //! Making an image for the schema of a file.
-ghost use Rattle.std.specs.Prelude.{◌≡◌, [], IfErr, IfOk, OnOk};
+ghost use Rattle.std.specs.Prelude.{◌≡◌, [], true, IfErr, IfOk, OnErr, OnOk};
 ghost use Rattle.std.specs.Io.KnownBytes.{Appends};
+ghost use Rattle.declarations.specs.SchemaFiles.{DeclaresSchema};
 ghost use Rattle.image.specs.Layout.{size_of};
-ghost use Rattle.image_file.specs.declared.error.FormatError.TheVariants.{BadHeader};
+ghost use Rattle.inspect.specs.Written.{AppendsPart};
+ghost use Rattle.image_file.specs.declared.error.FormatError.TheVariants.{BadHeader, Fault};
 ghost use Rattle.store_image.specs.Formatting.{AreLimits, layout_with};
-ghost use Rattle.image_file.specs.Formatting.{IsBeforeFile, IsImageFor, IsSilent, MakesImage, PrintsImage, PrintsSize, RefusesImage};
+ghost use Rattle.image_file.specs.Formatting.{IsBeforeFile, IsImageFor, IsSilent, MakesImage, MayBlameNumbers, PrintsImage, PrintsLess, PrintsLessOf, PrintsSize, RefusesImage, formatted_line};
 
 use crate::disk_maker::DiskMaker;
 use crate::error::{FileFault, FormatError};
@@ -17,6 +19,7 @@ use durable::Store;
 use file_disk::BackingFile;
 use guards::Schema;
 use image::{ImageError, Layout, Recovered};
+use inspect::{Piece, WriteError, put_line};
 use sector_disk::SectorSize;
 use std::alloc::Global;
 use std::fs;
@@ -31,7 +34,7 @@ use std::rt::Files;
 /// - `Schema`: the schema is refused; `Fault` or `NoMemory` where it could not be read;
 /// - `BadHeader`: `lanes` isn't 1 to 32, or `capacity` isn't 2,000 to 1,048,576. No device was asked for until here;
 /// - `InUse`, `NotImage`, `Fault` and `NoMemory`: there is no device, or no whole image on it, or it isn't put in its place;
-/// - `Fault` and `NoMemory`: the line was not written whole. The image is.
+/// - `Fault`: the line was not written whole. The image is in its place, and a beginning of the line is written.
 pub fn format_image<D: Disk + Drop, S: Read, M: DiskMaker<D>, W: Write>(
     alloc: Global,
     reader: &mut S,
@@ -42,9 +45,11 @@ pub fn format_image<D: Disk + Drop, S: Read, M: DiskMaker<D>, W: Write>(
 ) -> Result<Recovered<D>, FormatError>
     ensures ok { IfOk result (λ made. MakesImage (S.remaining reader.old) (S.remaining reader.new) lanes capacity made.layout (D.device made.disk)) }
     ensures printed { IfOk result (λ made. PrintsSize (size_of made.layout) (W.contents writer.old) (W.contents writer.new)) }
+    ensures placed { OnOk result (M.is_placed maker.new ≡ true) }
     ensures refused { IfErr result (λ error. RefusesImage (S.remaining reader.old) (S.remaining reader.new) lanes capacity error) }
     ensures no_device { IfErr result (λ error. IsBeforeFile error → M.is_used maker.new ≡ M.is_used maker.old) }
     ensures silent { IfErr result (λ error. IsSilent error → Appends (W.contents writer.old) (W.contents writer.new) []) }
+    ensures part { OnErr result (PrintsLessOf (DeclaresSchema (S.remaining reader.old) (S.remaining reader.new)) lanes capacity (W.contents writer.old) (W.contents writer.new)) }
 {
     let schema = read_schema(alloc, reader)?;
     let tried = make_image(alloc, &schema, maker, lanes, capacity);
@@ -53,7 +58,7 @@ pub fn format_image<D: Disk + Drop, S: Read, M: DiskMaker<D>, W: Write>(
         Ok(made) => made,
         Err(error) => return Err(error),
     };
-    match print_size(alloc, made.layout().size(), writer) {
+    match print_size(made.layout().size(), writer) {
         Ok(()) => Ok(made),
         Err(error) => {
             drop(made);
@@ -75,6 +80,7 @@ pub fn make_image<D: Disk + Drop, M: DiskMaker<D>>(
     capacity: u32,
 ) -> Result<Recovered<D>, FormatError>
     ensures ok { IfOk result (λ made. IsImageFor schema.now lanes capacity made.layout (D.device made.disk)) }
+    ensures placed { OnOk result (M.is_placed maker.new ≡ true) }
     ensures bad_header { IfErr result (λ error. IsBeforeFile error → (error ≡ BadHeader) × (AreLimits lanes capacity → ⊥)) }
     ensures no_device { IfErr result (λ error. IsBeforeFile error → M.is_used maker.new ≡ M.is_used maker.old) }
 {
@@ -97,7 +103,8 @@ fn make_in_place<D: Disk + Drop, M: DiskMaker<D>>(
     size: u64,
 ) -> Result<Recovered<D>, FileFault>
     requires { size ≡ size_of (layout_with schema.now lanes capacity) }
-    ensures { IfOk result (λ made. IsImageFor schema.now lanes capacity made.layout (D.device made.disk)) }
+    ensures placed { OnOk result (M.is_placed maker.new ≡ true) }
+    ensures ok { IfOk result (λ made. IsImageFor schema.now lanes capacity made.layout (D.device made.disk)) }
 {
     let disk = match maker.make_disk(alloc, size) {
         Ok(disk) => disk,
@@ -128,17 +135,14 @@ fn fault_of_formatting(why: ImageError) -> FileFault {
 }
 
 // Writes the line that tells the image's size, in bytes.
-fn print_size<W: Write>(alloc: Global, size: u64, writer: &mut W) -> Result<(), FormatError>
+fn print_size<W: Write>(size: u64, writer: &mut W) -> Result<(), FormatError>
     ensures ok { OnOk result (PrintsSize size (W.contents writer.old) (W.contents writer.new)) }
-    ensures err { IfErr result (λ error. IsBeforeFile error → ⊥) }
-    ensures late { IfErr result (λ error. IsSilent error → ⊥) }
+    ensures fault { IfErr result (λ error. error ≡ Fault) }
+    ensures part { OnErr result (AppendsPart (W.contents writer.old) (W.contents writer.new) (formatted_line size)) }
 {
-    let Ok(line) = format!(in alloc; "formatted {size}\n") else {
-        return Err(FormatError::NoMemory);
-    };
-    match writer.write_all(line.as_bytes()) {
+    match put_line(writer, &[Piece::Words("formatted "), Piece::Number(size)]) {
         Ok(()) => Ok(()),
-        Err(_) => Err(FormatError::Fault),
+        Err(WriteError) => Err(FormatError::Fault),
     }
 }
 
@@ -163,7 +167,9 @@ pub fn format_file<F: BackingFile + OpenFile + Read + Drop, R: Files<File = F>, 
     writer: &mut W,
 ) -> Result<(), FormatError>
     ensures printed { OnOk result (PrintsImage lanes capacity (W.contents writer.old) (W.contents writer.new)) }
+    ensures bad_header { IfErr result (MayBlameNumbers lanes capacity) }
     ensures silent { IfErr result (λ error. IsSilent error → Appends (W.contents writer.old) (W.contents writer.new) []) }
+    ensures part { OnErr result (PrintsLess lanes capacity (W.contents writer.old) (W.contents writer.new)) }
 {
     let mut schema = match fs::open(rt, schema_path) {
         Ok(file) => Watched::new(file, Place::Schema, trouble),

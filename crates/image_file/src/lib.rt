@@ -4,14 +4,12 @@
 //! [`format_file`], [`recover_file`], [`show_file`], [`draw_named_file`] and [`dump_file`] are what the program's words do, over the files of
 //! any runtime; one process has an image file at a time ([`claim_at`]), and [`Trouble`] keeps what the system says of a call that fails.
 //! Under them, [`format_image`] does the same over any reader, over whatever makes a device, and over any
-//! writer; [`NewFile`] is what makes a device of a file. [`recover_image`] does it over any device and any writer, and
-//! [`show_image`], [`draw_named_image`] and [`dump_image`] over any reader, so that they can't change the image; [`draw_file`]
-//! and [`draw_image`] draw by numbers.
+//! writer; [`NewFile`] is what makes a device of a file. [`recover_image`] recovers over any device, and [`recover_in_file`] over a file that
+//! is open; [`show_image`], [`draw_named_image`] and [`dump_image`] are over any reader, so that they can't change the image.
 #![tactic(auto)]
 
 mod claiming;
 mod disk_maker;
-mod drawing;
 mod dumping;
 mod error;
 mod format;
@@ -27,13 +25,13 @@ mod watched;
 
 pub use claiming::{Content, claim_at, content_of};
 pub use disk_maker::DiskMaker;
-pub use drawing::{draw_file, draw_image};
 pub use dumping::{dump_file, dump_image};
 pub use error::{FileFault, FormatError, ImageFault, NamedFault};
 pub use format::{format_file, format_image, make_image};
 pub use named_drawing::{draw_named_file, draw_named_image};
+pub use names::schema_at;
 pub use new_file::{BESIDE, NewFile};
-pub use recovering::{recover_file, recover_image};
+pub use recovering::{Told, recover_file, recover_image, recover_in_file};
 pub use showing::{show_file, show_image};
 pub use trouble::{Place, Trouble};
 pub use watched::Watched;

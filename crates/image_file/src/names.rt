@@ -17,7 +17,7 @@ use std::rt::Files;
 ///
 /// `Schema`: the file is refused. `Fault` says that it isn't there or can't be read, which is noted as trouble; `NoMemory` that there
 /// was no memory.
-pub(crate) fn schema_at<F: Read + Drop, R: Files<File = F>>(
+pub fn schema_at<F: Read + Drop, R: Files<File = F>>(
     rt: &R,
     alloc: Global,
     trouble: &Trouble,

@@ -32,6 +32,8 @@ pub struct NewFile<'a, F: Drop, R> {
     // How many bytes each sector has, where the image is to lie in two places.
     sectors: Option<SectorSize>,
     is_used: bool,
+    // Whether what was made last has taken its place.
+    is_placed: bool,
     place: Option<Taken<F>>,
 }
 
@@ -62,6 +64,7 @@ where
             trouble,
             sectors: None,
             is_used: false,
+            is_placed: false,
             place: None,
         }
     }
@@ -76,6 +79,7 @@ where
             trouble: self.trouble,
             sectors,
             is_used: self.is_used,
+            is_placed: self.is_placed,
             place: self.place,
         }
     }
@@ -111,12 +115,15 @@ where
 {
     ghost is_used = { λ f. f.is_used };
 
+    ghost is_placed = { λ f. f.is_placed };
+
     fn make_disk(
         &mut self,
         alloc: Global,
         size: u64,
     ) -> Result<BufferedDisk<ImageBytes<Watched<'a, F>>>, FileFault> {
         self.is_used = true;
+        self.is_placed = false;
         let taken = take(self.rt, alloc, self.path, self.trouble)?;
         let again = taken.new.try_clone();
         keep(&mut self.place, taken);
@@ -131,7 +138,10 @@ where
             return Err(FileFault::Fault);
         };
         match move_over(self.rt, taken) {
-            Ok(()) => Ok(()),
+            Ok(()) => {
+                self.is_placed = true;
+                Ok(())
+            }
             Err(error) => Err(noted(Place::Beside, &error, self.trouble)),
         }
     }

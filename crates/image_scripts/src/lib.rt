@@ -12,7 +12,6 @@ mod firsts;
 mod image_at;
 mod image_holder;
 mod laws;
-mod names;
 mod opening;
 mod playing;
 mod reasons;

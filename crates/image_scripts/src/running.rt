@@ -9,11 +9,10 @@ ghost use Rattle.image_scripts.specs.declared.error.RunFault.TheVariants.{Named}
 use crate::error::RunFault;
 use crate::image_at::ImageAt;
 use crate::image_holder::ImageHolder;
-use crate::names::schema_at;
 use crate::playing::{Played, play_over};
 use file_disk::BackingFile;
 use guards::Schema;
-use image_file::{FileFault, ImageFault, NamedFault, Trouble};
+use image_file::{FileFault, ImageFault, NamedFault, Trouble, schema_at};
 use script_lines::{Ending, read_lines};
 use scripts::put;
 use std::alloc::Global;

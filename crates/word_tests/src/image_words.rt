@@ -1,6 +1,9 @@
 //! Scripts, and words on image files.
 
 use crate::playing::{Does, FORMAT, FORMATTED, LINES, Line, REPORT, SCHEMA, begins, first_other};
+use commands::WorkFault;
+use image_file::{ImageFault, NamedFault};
+use recover::RecoverError;
 use std::fs;
 
 const SCRIPT: &str = "object o\nfield f o o 7\nformat 1 2000\nt1 enter o\nt1 load f\n";
@@ -79,9 +82,21 @@ fn make_old(rt: &HostRuntime, path: &str) -> Option<u8> {
 
 const NEW: &[Line] = &[(FORMAT, Some("old"), "", Does::Change(FORMATTED))];
 
+const OLD_VERSION: ImageFault = ImageFault::Image(RecoverError::OldVersion);
+
 const OLD: &[Line] = &[
-    (&["recover"], Some("old"), "", Does::Fail),
-    (&["run"], Some("old"), "", Does::Fail),
+    (
+        &["recover"],
+        Some("old"),
+        "",
+        Does::Fail(WorkFault::Image(OLD_VERSION)),
+    ),
+    (
+        &["run"],
+        Some("old"),
+        "",
+        Does::Fail(WorkFault::Named(NamedFault::Image(OLD_VERSION))),
+    ),
     (&["upgrade"], Some("old"), "", Does::Change(REPORT)),
     (&["recover"], Some("old"), "", Does::Change(REPORT)),
 ];

@@ -1,7 +1,7 @@
 //! Lines of the program's words, each read and obeyed as the program does it, over image files of the folder that the tests share.
 
 use command_words::{Words, read_words};
-use commands::obey;
+use commands::{WorkFault, obey};
 use file_disk::BackingFile;
 use image_file::Trouble;
 use std::alloc::Global;
@@ -49,8 +49,8 @@ pub enum Does {
     Tell(&'static [u8]),
     /// They write a text that begins so and end well, and each byte of the image stays.
     Draw(&'static [u8]),
-    /// They end with a fault, and each byte of the image stays.
-    Fail,
+    /// They write nothing and end with this fault, and each byte of the image stays.
+    Fail(WorkFault),
 }
 
 /// Words, the image file that they name, what is on standard input, and what they have to do.
@@ -81,31 +81,36 @@ fn texts_of(alloc: Global, words: &[&str], image: Option<&str>) -> Option<Vec<St
     Some(texts)
 }
 
-// Whether what the words ask for is done, with this script on standard input.
-fn is_obeyed<F, R>(rt: &R, asked: Words<'_>, script: &str, written: &mut Vec<u8>) -> bool
+// How what the words ask for ends, with this script on standard input.
+fn answer<F, R>(
+    rt: &R,
+    asked: Words<'_>,
+    script: &str,
+    written: &mut Vec<u8>,
+) -> Result<(), WorkFault>
 where
     F: BackingFile + OpenFile + Read + Drop,
     R: Files<File = F> + AllocGlobal + Clock + Eprint + Threads + Wait + Sync,
 {
     let mut reader = script.as_bytes();
-    obey(rt, false, &Trouble::none(), asked, &mut reader, written).is_ok()
+    obey(rt, false, &Trouble::none(), asked, &mut reader, written)
 }
 
-/// Whether what these words ask of the image is done, with this script on standard input. `None` where they aren't taken.
+/// How what these words ask of the image ends, with this script on standard input. `None` where they aren't taken.
 pub fn play<F, R>(
     rt: &R,
     words: &[&str],
     image: Option<&str>,
     script: &str,
     written: &mut Vec<u8>,
-) -> Option<bool>
+) -> Option<Result<(), WorkFault>>
 where
     F: BackingFile + OpenFile + Read + Drop,
     R: Files<File = F> + AllocGlobal + Clock + Eprint + Threads + Wait + Sync,
 {
     let texts = texts_of(rt.alloc(), words, image)?;
     match read_words(rt.alloc(), texts.as_slice()) {
-        Ok(asked) => Some(is_obeyed(rt, asked, script, written)),
+        Ok(asked) => Some(answer(rt, asked, script, written)),
         Err(_) => None,
     }
 }
@@ -118,13 +123,13 @@ fn bytes_of<R: Files + AllocGlobal>(rt: &R, path: Option<&str>) -> Vec<u8> {
     }
 }
 
-// Whether words have done what they have to, that did it well, wrote this and left the image as it was, or not.
-fn fits(does: Does, is_done: bool, written: &[u8], is_left: bool) -> bool {
+// Whether words have done what they have to, that ended so, wrote this and left the image as it was, or not.
+fn fits(does: Does, ended: Result<(), WorkFault>, written: &[u8], is_left: bool) -> bool {
     match does {
-        Does::Change(text) => is_done && written == text && !is_left,
-        Does::Tell(text) => is_done && written == text && is_left,
-        Does::Draw(text) => is_done && written.starts_with(text) && is_left,
-        Does::Fail => !is_done && is_left,
+        Does::Change(text) => ended.is_ok() && written == text && !is_left,
+        Does::Tell(text) => ended.is_ok() && written == text && is_left,
+        Does::Draw(text) => ended.is_ok() && written.starts_with(text) && is_left,
+        Does::Fail(fault) => ended == Err(fault) && written.is_empty() && is_left,
     }
 }
 
@@ -140,12 +145,7 @@ where
     let played = play(rt, words, image, script, &mut written);
     let after = bytes_of(rt, image);
     match played {
-        Some(is_done) => fits(
-            does,
-            is_done,
-            &written,
-            before.as_slice() == after.as_slice(),
-        ),
+        Some(ended) => fits(does, ended, &written, before.as_slice() == after.as_slice()),
         None => false,
     }
 }

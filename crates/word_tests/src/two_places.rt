@@ -1,7 +1,10 @@
 //! Words on images in two places: they do what they do on one in one place.
 
 use crate::playing::{Does, FORMATTED, LINES, Line, REPORT, SCHEMA, begins, first_other, play};
+use commands::WorkFault;
 use file_disk::BackingFile;
+use image_file::{FormatError, ImageFault};
+use recover::RecoverError;
 use std::fs;
 use std::fs::{Files, OpenFile};
 use std::io::Read;
@@ -93,9 +96,9 @@ where
     R: Files<File = F> + AllocGlobal + Clock + Eprint + Threads + Wait + Sync,
 {
     let mut written = Vec::new(rt.alloc());
-    let is_dumped = play(rt, &["dump"], Some(image), "", &mut written)?;
+    let dumped = play(rt, &["dump"], Some(image), "", &mut written)?;
     fs::write(rt, schema, written.as_slice()).ok()?;
-    Some(is_dumped)
+    Some(dumped.is_ok())
 }
 
 const PLACED: &[Line] = &[
@@ -149,14 +152,16 @@ fn cut_short(rt: &HostRuntime, path: &str) -> bool {
     }
 }
 
+const NOT_FORMATTED: WorkFault = WorkFault::Image(ImageFault::Image(RecoverError::NotFormatted));
+
 const SHORT: &[Line] = &[
-    (&["recover"], Some("short"), "", Does::Fail),
-    (&["show"], Some("short"), "", Does::Fail),
+    (&["recover"], Some("short"), "", Does::Fail(NOT_FORMATTED)),
+    (&["show"], Some("short"), "", Does::Fail(NOT_FORMATTED)),
     (
         &["format", "--schema", "schema"],
         Some("short"),
         "",
-        Does::Fail,
+        Does::Fail(WorkFault::Format(FormatError::NotImage)),
     ),
 ];
 

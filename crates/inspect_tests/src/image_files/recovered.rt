@@ -6,7 +6,8 @@ use durable::{Store, StoreCall};
 use guards::Schema;
 use heap_model::{FieldId, Lane, ObjectId, Record};
 use image_file::{
-    FormatError, ImageFault, NamedFault, Trouble, draw_file, dump_file, recover_file, show_file,
+    FormatError, ImageFault, NamedFault, Trouble, draw_named_file, dump_file, recover_file,
+    show_file,
 };
 use recover::{RecoverError, Versions};
 use std::alloc::Global;
@@ -22,13 +23,23 @@ enum Ask {
     Upgrade,
 }
 
+// By numbers, and with the last fifty sections of each thread.
+fn draw(rt: &HostRuntime, image: &str, out: &mut Vec<u8>) -> Result<(), ImageFault> {
+    match draw_named_file(rt, rt.alloc(), &Trouble::none(), image, None, 50, out) {
+        Ok(()) => Ok(()),
+        Err(NamedFault::Image(fault)) => Err(fault),
+        // No schema is named.
+        Err(_) => Err(ImageFault::InUse),
+    }
+}
+
 // What is answered.
 fn answer(rt: &HostRuntime, ask: Ask, image: &str, out: &mut Vec<u8>) -> Result<(), ImageFault> {
     let alloc = rt.alloc();
     let trouble = Trouble::none();
     match ask {
         Ask::Show => show_file(rt, alloc, &trouble, image, out),
-        Ask::Draw => draw_file(rt, alloc, &trouble, image, out),
+        Ask::Draw => draw(rt, image, out),
         Ask::Recover => recover_file(rt, alloc, &trouble, Versions::Current, image, out),
         Ask::Upgrade => recover_file(rt, alloc, &trouble, Versions::Both, image, out),
     }

@@ -5,8 +5,8 @@ use Rattle.image.specs.Format.{format_calls}
 use Rattle.image.specs.Layout.{size_of}
 use Rattle.image_file.proofs.format.make_in_place.Goals as goal
 
-pub returns-in-Ok-put_in_place : goal.returns-in-Ok-put_in_place
-returns-in-Ok-put_in_place g c =
+pub returns-in-Ok-put_in_place-clause-ok : goal.returns-in-Ok-put_in_place-clause-ok
+returns-in-Ok-put_in_place-clause-ok g c =
     let made = c.in-Ok-format.made in
     record {
       limits = c.in-Ok-format.ensures.limits;

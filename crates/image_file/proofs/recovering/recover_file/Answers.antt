@@ -7,12 +7,13 @@ use Rattle.image_file.proofs.recovering.recover_file.Goals as goal
 pub returns-in-Ok-write_report-clause-printed : goal.returns-in-Ok-write_report-clause-printed
 returns-in-Ok-write_report-clause-printed g c =
     let told = c.in-Ok.told in
-    let found = c.in-Ok.ensures in
-    let text = ap (λ h. report_text told.report h told.lanes) c.deref.ensures.value ∙ found.3 in (
-      found.0,
+    let found = c.in-Ok.ensures.ok.2 in
+    let text = ap (λ h. report_text told.report h told.lanes) c.deref.ensures.value ∙ found.told.text_is in (
+      found.image,
+      found.told.taken,
       record {
-        study = found.1;
-        studied = found.2;
+        study = found.told.study;
+        studied = found.told.of;
         written = subst (λ (lines : List ℕ). Appends (g.W.Write.contents c.args.writer.now) (g.W.Write.contents c.write_report.new.writer) lines) text c.in-Ok-write_report.ensures.ok;
       },
     )
@@ -20,13 +21,14 @@ returns-in-Ok-write_report-clause-printed g c =
 pub returns-clause-part : goal.returns-clause-part
 returns-clause-part g c =
     let told = c.in-Ok.told in
-    let found = c.in-Ok.ensures in
-    let text = ap (λ h. report_text told.report h told.lanes) c.deref.ensures.value ∙ found.3 in
+    let found = c.in-Ok.ensures.ok.2 in
+    let text = ap (λ h. report_text told.report h told.lanes) c.deref.ensures.value ∙ found.told.text_is in
     inr (
-      found.0,
+      found.image,
+      found.told.taken,
       record {
-        study = found.1;
-        studied = found.2;
+        study = found.told.study;
+        studied = found.told.of;
         written = subst (λ (lines : List ℕ). AppendsPart (g.W.Write.contents c.args.writer.now) (g.W.Write.contents c.write_report.new.writer) lines) text c.in-Err-write_report.ensures.part;
       },
     )
