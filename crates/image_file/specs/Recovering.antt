@@ -1,8 +1,8 @@
 -- What recovering an image gives and tells, beside what it makes of the device, and what is refused (docs/SCRIPTS.md, "Lines").
 use Rattle.std.specs.Prelude.{ℕ, ◌≡◌, ◌⊎◌, Option, None, Some, List}
-use Rattle.block_disk.specs.Device.{Device}
+use Rattle.block_disk.specs.Device.{Device, new_device}
 use Rattle.file_disk.specs.Backing.{Held, Reads}
-use Rattle.file_disk.specs.Mirror.{Mirror, new_device}
+use Rattle.file_disk.specs.Mirror.{Mirror}
 use Rattle.recover.specs.Recovery.{IsMadeBy, IsTooOld, RefusesOf}
 use Rattle.recover.specs.Study.{IsStudyOf}
 use Rattle.recover.specs.declared.error.RecoverError.{RecoverError}
