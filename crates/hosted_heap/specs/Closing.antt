@@ -1,5 +1,5 @@
 -- What is left of a heap that wasn't closed (this project's own).
-use Rattle.std.specs.Prelude.{◌≡◌, ◌+◌, ◌<◌, List, [], All, Any, drop, length}
+use Rattle.std.specs.Prelude.{◌≡◌, ◌+◌, ◌<◌, List, [], Err, All, Any, drop, length}
 use Rattle.deferred_disk.specs.Deferred.{Deferred}
 use Rattle.deferred_disk.specs.Host.{HasLooked, Host}
 use Rattle.deferred_disk.specs.declared.disk.TheConstants.{SYNCS}
@@ -10,7 +10,7 @@ use Rattle.trim_helper.specs.Endings.{IsCloseWhy, IsComplete, IsEnded, IsOfSessi
 use Rattle.trim_helper.specs.declared.close_error.CloseError.{CloseError}
 use Rattle.trim_helper.specs.declared.close_error.CloseError.TheVariants.{Missing}
 use Rattle.trim_helper.specs.declared.ended.Ended.{Ended}
-use Rattle.hosted_heap.specs.Hosting.{Hosting, SameHeap, hosted_device}
+use Rattle.hosted_heap.specs.Hosting.{HaveMetHelper, Hosting, SameHeap, hosted_device}
 use Rattle.hosted_heap.specs.Lanes.{HasCome, IsAwaited, KeepCome}
 use Rattle.hosted_heap.specs.declared.closing.NotClosed.{NotClosed}
 use Rattle.hosted_heap.specs.declared.closing.NotClosed.TheVariants.{Running, CallsLeft, InUse, Stopped}
@@ -35,7 +35,8 @@ pub record GoesOnWithout (x y : Hosting) : Type 0 where
   pub came : All HasCome y.out
   pub stop : y.stop ≡ x.stop
 
--- Sessions have ended, one a lane, and one of them holds a monitor, with the disk as it was; or the device is the reason.
+-- Sessions have ended, one a lane, and one of them holds a monitor, with the disk as it was; or the device is the reason. Whatever stops it,
+-- what a crash left since shows what store calls made of what the helper served, two of which committed at most: recovery takes it.
 pub record StopsBy (h : Home) (x : Parts Deferred) (disk : Deferred) (e : CloseError) : Type 0 where
   pub ended : List Ended
   pub are : All (IsEnded h x.store.known.layout.capacity x.rings) ended
@@ -43,6 +44,7 @@ pub record StopsBy (h : Home) (x : Parts Deferred) (disk : Deferred) (e : CloseE
   pub refuses : RefusesClosing x.store.known.layout.lanes ended e
   pub untouched : IsOfSessions e → disk ≡ x.store.disk
   pub why : IsCloseWhy x.store.known (hosted_device x.store.disk) (hosted_device disk) e
+  pub closes : HaveMetHelper h x ended (Err (disk, e))
 
 -- Why the heap has stopped, and its disk then: for want of memory, with the disk as it was; or for a reason of the sessions, or of the device.
 -- None is missing.

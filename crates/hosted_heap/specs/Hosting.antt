@@ -1,5 +1,5 @@
 -- A hosted heap, as contracts see it, and what its calls keep (this project's own).
-use Rattle.std.specs.Prelude.{ℕ, ◌≡◌, List, [], ◌∷◌, All, drop, fold, length}
+use Rattle.std.specs.Prelude.{ℕ, ◌≡◌, List, [], ◌∷◌, Result, Ok, All, drop, fold, length}
 use Rattle.block_disk.specs.Device.{Device}
 use Rattle.deferred_disk.specs.Deferred.{Deferred, deferred_device}
 use Rattle.deferred_disk.specs.Host.{Host}
@@ -8,8 +8,10 @@ use Rattle.running_heap.specs.Closed.{IsClosed, IsClosedFrom}
 use Rattle.session.specs.Sessions.{view_of}
 use Rattle.steps.specs.Views.{plan}
 use Rattle.store_past.specs.Past.{Past}
+use Rattle.trim_helper.specs.Calls.{Closes}
 use Rattle.trim_helper.specs.Endings.{HoldNone, IsComplete, IsEnded}
 use Rattle.trim_helper.specs.Parts.{IsServing, Parts}
+use Rattle.trim_helper.specs.declared.close_error.CloseError.{CloseError}
 use Rattle.trim_helper.specs.declared.ended.Ended.{Ended}
 use Rattle.hosted_heap.specs.Sessions.{Seated}
 use Rattle.hosted_heap.specs.Stopping.{Stopping}
@@ -45,13 +47,18 @@ pub record SameHeap (x y : Hosting) : Type 0 where
   pub out : y.out ≡ x.out
   pub stop : y.stop ≡ x.stop
 
+-- These sessions that have ended met the helper, with this outcome, whatever it served.
+abbrev pub HaveMetHelper : Home → Parts Deferred → List Ended → Result Deferred (Deferred × CloseError) → Type 0
+HaveMetHelper h x ended answer = (p : Past) → IsServing hosted_device x (plan h) p → Closes hosted_device h ended p x answer
+
 -- The heap's sessions have ended, one a lane, and none of them held a monitor. One legal history has what each was told as its part,
 -- and the device stands for its heap. It is the helper's device, later: whatever a crash left since then shows what store calls made of
--- what the helper served.
-pub record IsClosedWith (h : Home) (x : Parts Deferred) (d : Device) : Type 0 where
+-- what the helper served, two of which committed at most.
+pub record IsClosedWith (h : Home) (x : Parts Deferred) (disk : Deferred) : Type 0 where
   pub ended : List Ended
   pub are : All (IsEnded h x.store.known.layout.capacity x.rings) ended
   pub none : HoldNone ended
   pub complete : IsComplete x.store.known.layout.lanes ended
-  pub closed : IsClosed h x.store.known.layout ended d
-  pub from : (p : Past) → IsServing hosted_device x (plan h) p → IsClosedFrom h x.store.known.layout ended p x.seat (hosted_device x.store.disk) d
+  pub closed : IsClosed h x.store.known.layout ended (hosted_device disk)
+  pub from : (p : Past) → IsServing hosted_device x (plan h) p → IsClosedFrom h x.store.known.layout ended p x.seat (hosted_device x.store.disk) (hosted_device disk)
+  pub closes : HaveMetHelper h x ended (Ok disk)

@@ -1,5 +1,5 @@
 -- What a hosted heap begins with, and which refusal comes when (this project's own).
-use Rattle.std.specs.Prelude.{ℕ, ◌≡◌, ◌<◌, false, List, [], None, replicate, slice_index}
+use Rattle.std.specs.Prelude.{ℕ, ◌≡◌, ◌<◌, true, false, List, [], None, replicate, slice_index}
 use Rattle.std.specs.List.{range_with_len, slice_index_or}
 use Rattle.block_disk.specs.Device.{Device}
 use Rattle.block_disk.specs.Memory.{device_of, fresh}
@@ -30,7 +30,7 @@ use Rattle.hosted_heap.specs.declared.error.HostError.TheVariants.{NoMemory, Sch
 abbrev pub device_on : Host → List ℕ → Device
 device_on c bytes = record (device_of (fresh bytes)) { name = host_name c }
 
--- It runs with what was recovered: with its values, its lanes and its device, and nothing was told to it. The calls of its host are that device's: it has made none and has
+-- It runs with what was recovered: with its values, its lanes and its device, nothing was told to it, and all is settled. The calls of its host are that device's: it has made none and has
 -- fetched none, and no session was handed out: the lanes' sessions come by number.
 pub record HasBegun (schema : Declarations) (r : Parts Deferred) (x : Hosting) : Type 0 where
   pub plan_is : x.home.plan ≡ record { schema = schema; first = r.heap; last = LAST_NUMBER; lanes = r.layout.lanes }
@@ -39,6 +39,7 @@ pub record HasBegun (schema : Declarations) (r : Parts Deferred) (x : Hosting) :
   pub host : IsHostOf x.helper.store.disk x.calls
   pub untold : IsServing hosted_device x.helper (plan x.home) no_past
   pub running : x.helper.store.known.has_failed ≡ false
+  pub settled : x.helper.is_settled ≡ true
   pub unmade : x.calls.made ≡ []
   pub none_left : x.calls.left ≡ []
   pub unused : x.unused ≡ range_with_len 0 r.layout.lanes

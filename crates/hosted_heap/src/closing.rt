@@ -64,7 +64,7 @@ impl HostedHeap {
     ghost use Rattle.std.specs.Prelude.{◌≡◌, [], All, Any, IfErr, IfOk, true, false};
     ghost use Rattle.deferred_disk.specs.Host.{HasLooked};
     ghost use Rattle.hosted_heap.specs.Closing.{GoesOn, GoesOnWithout, IsNotClosed, IsNotFinished};
-    ghost use Rattle.hosted_heap.specs.Hosting.{IsClosedWith, hosted_device};
+    ghost use Rattle.hosted_heap.specs.Hosting.{IsClosedWith};
     ghost use Rattle.hosted_heap.specs.Lanes.{HasCome, IsAwaited};
 
     /// Closes the heap, once each session that was handed out has ended: all that the sessions sent is made durable on the disk in
@@ -73,7 +73,7 @@ impl HostedHeap {
     ///
     /// Refused in the order of [`NotClosed`].
     pub fn close(self) -> Result<Closed, NotClosed>
-        ensures ok { IfOk result (λ closed. IsClosedWith self.home self.helper (hosted_device closed.disk)) }
+        ensures ok { IfOk result (λ closed. IsClosedWith self.home self.helper closed.disk) }
         ensures calls { IfOk result (λ closed. HasLooked self.calls closed.calls) }
         ensures refused { IfErr result (IsNotClosed self) }
     {
@@ -110,7 +110,7 @@ impl HostedHeap {
     fn finish(self) -> Result<Closed, NotClosed>
         requires unused { self.unused ≡ [] }
         requires came { All HasCome self.out }
-        ensures ok { IfOk result (λ closed. IsClosedWith self.home self.helper (hosted_device closed.disk)) }
+        ensures ok { IfOk result (λ closed. IsClosedWith self.home self.helper closed.disk) }
         ensures calls { IfOk result (λ closed. closed.calls ≡ self.calls) }
         ensures refused { IfErr result (IsNotFinished self) }
     {
@@ -211,7 +211,7 @@ fn close_all(
     requires lanes { All (IsLaneEnd shared helper.store.known.layout.capacity helper.rings) lanes.items }
     requires order { lanes_at lanes.items ≡ range_with_len 0 helper.store.known.layout.lanes }
     requires came { All HasCome lanes.items }
-    ensures ok { IfOk result (λ closed. IsClosedWith shared helper (hosted_device closed.disk)) }
+    ensures ok { IfOk result (λ closed. IsClosedWith shared helper closed.disk) }
     ensures calls { IfOk result (λ closed. closed.calls ≡ calls) }
     ensures refused { IfErr result (HasStopped shared helper calls) }
 {

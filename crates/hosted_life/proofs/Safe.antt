@@ -1,11 +1,11 @@
 -- What a crash of the host's device leaves.
-use Rattle.std.proofs.Common.{ℕ, suc, ◌≡◌, ◌≤◌, ◌∷◌, ◌++◌, [], Bool, false, List, Result, refl, sym, ap, ◌∙◌, subst, arith}
+use Rattle.std.proofs.Common.{ℕ, suc, ◌≡◌, ◌≤◌, ◌∷◌, ◌++◌, [], Bool, true, false, List, Result, refl, sym, ap, ◌∙◌, subst, inl, inr, arith}
 use Rattle.heap_model.specs.Cuts.{counts_of}
 use Rattle.heap_model.specs.Setting.{Setting}
-use Rattle.block_disk.specs.Device.{Device}
+use Rattle.block_disk.specs.Device.{Device, Image}
 use Rattle.deferred_disk.specs.Deferred.{Deferred, onto, stop_of}
 use Rattle.deferred_disk.specs.Host.{Host}
-use Rattle.deferred_disk.specs.Syncs.{durable_moments, moments_of, syncs_in}
+use Rattle.deferred_disk.specs.Syncs.{LeftAt, durable_moments, moments_of, syncs_in}
 use Rattle.deferred_disk.specs.declared.call.DeviceCall.{DeviceCall}
 use Rattle.deferred_disk.specs.declared.call.DeviceCall.TheVariants.{Write, Sync}
 use Rattle.deferred_disk.proofs.Moments.{left_since_then}
@@ -22,9 +22,10 @@ use Rattle.store_past.specs.Past.{no_past}
 use Rattle.survival.specs.Again.{ByStore, HasStudyLaw}
 use Rattle.survival.proofs.Accepts.{accepted, isnt_old, of_today}
 use Rattle.survival.proofs.WholeRuns.{cannot, found, left_by, of_run, shows_some}
+use Rattle.trim_helper.specs.Closed.{disk_of}
 use Rattle.trim_helper.specs.Parts.{IsServing, Parts}
 use Rattle.hosted_heap.specs.Hosting.{hosted_device}
-use Rattle.hosted_life.specs.Safe.{AcknowledgedLaw, BegunLaw, HostLaw, IsSafe, KeptRunLaw, LivesLaw, NowLaw}
+use Rattle.hosted_life.specs.Safe.{AcknowledgedLaw, BegunLaw, ClosedLaw, EndsLaw, HostLaw, IsSafe, KeptRunLaw, LivesLaw, NowLaw}
 
 pub keeps_run : HasStudyLaw → KeptRunLaw
 keeps_run studied x s p q old new failed image has ran left =
@@ -82,3 +83,20 @@ lives_on x y answer old first p serving ran makes stays =
       subst (λ (h : Home). IsServing hosted_device y.helper (plan h) round.now) (sym stays.home) round.serves,
       subst (λ (h : Home). HasRun y.helper.store.known.layout (plan h) first old round.now (hosted_device y.helper.store.disk) y.helper.store.known.has_failed) (sym stays.home) on,
     )
+
+pub ends_on : EndsLaw
+ends_on h x ended answer old first p serving ran met =
+    let stood = (met p serving).stood in (
+      stood.then,
+      ran_then x.store.known.layout x.store.known.layout (plan h) first p stood.then old (hosted_device x.store.disk) (hosted_device (disk_of answer)) false true refl ran (ran.whole refl) stood.ran,
+    )
+
+-- where its moments are so many, it is of the last one
+left_last : (n : ℕ) (d : Device) (image : List ℕ) → durable_moments (moments_of d) ≡ n → LeftAt n (moments_of d) image → Image d.now image
+left_last n d image all (inl here) = here.1
+left_last n d image all (inr before) = let more = before.0 in absurd (omega (arith, all, more))
+
+pub closed_on : ClosedLaw
+closed_on h x d c image closing met made left =
+    let is = left_last (suc (syncs_in c.made)) (hosted_device d) image (met.all made.none_left made.none_known) (met.synced [] [] image made.none_left left) in
+    record { left = closing.closed.left image is; stands = closing.closed.stands image is; values = closing.closed.values image is }

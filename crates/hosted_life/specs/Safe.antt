@@ -1,6 +1,9 @@
 -- A crash of the device on which a host makes its heap's calls (this project's own).
-use Rattle.std.specs.Prelude.{ℕ, suc, ◌≡◌, ◌<◌, ◌≤◌, ◌++◌, Bool, false, List, Result}
-use Rattle.heap_model.specs.Cuts.{counts_of}
+use Rattle.std.specs.Prelude.{ℕ, suc, ◌≡◌, ◌<◌, ◌≤◌, ◌++◌, Bool, true, false, List, [], Result}
+use Rattle.heap_model.specs.Cuts.{all_ended, counts_of}
+use Rattle.heap_model.specs.History.{log_of, state_after}
+use Rattle.heap_model.specs.Sections.{actions}
+use Rattle.heap_model.specs.declared.event.Event.{Event}
 use Rattle.heap_model.specs.Setting.{Setting}
 use Rattle.block_disk.specs.Device.{Device, Image}
 use Rattle.block_disk.specs.Memory.{moment_after}
@@ -8,21 +11,28 @@ use Rattle.deferred_disk.specs.Deferred.{Deferred, deferred_device, onto}
 use Rattle.deferred_disk.specs.Host.{HaveMet, Host}
 use Rattle.deferred_disk.specs.Syncs.{durable_moments, moments_of, syncs_in}
 use Rattle.deferred_disk.specs.declared.call.DeviceCall.{DeviceCall}
-use Rattle.durable.specs.Runs.{HasRun}
+use Rattle.durable.specs.Runs.{HasRun, IsLeftBy}
 use Rattle.durable.specs.Store.{HasPast, Known}
 use Rattle.guards.specs.Schema.{Declarations}
 use Rattle.image.specs.Recovered.{Parts as Recovered}
 use Rattle.image.specs.declared.layout.Layout.{Layout}
+use Rattle.monitor.specs.Seats.{Home}
 use Rattle.recover.specs.Recovery.{RefusesRecovery}
 use Rattle.recover.specs.Study.{IsStudyOf}
 use Rattle.recover.specs.declared.error.RecoverError.{RecoverError}
 use Rattle.recover.specs.declared.studied.Study.{Study}
 use Rattle.steps.specs.Views.{plan}
+use Rattle.store_image.specs.KeptHeap.{StandsForCut, values_below}
 use Rattle.store_past.specs.Past.{Past, no_past}
 use Rattle.store_past.specs.declared.error.StoreError.{StoreError}
 use Rattle.survival.specs.WholeRun.{CannotRecover, MayBeLeft}
-use Rattle.trim_helper.specs.Parts.{IsServing}
-use Rattle.hosted_heap.specs.Hosting.{Hosting, hosted_device}
+use Rattle.trim_helper.specs.Closed.{disk_of}
+use Rattle.trim_helper.specs.Parts.{IsServing, Parts}
+use Rattle.trim_helper.specs.Settled.{closed_value}
+use Rattle.trim_helper.specs.declared.close_error.CloseError.{CloseError}
+use Rattle.trim_helper.specs.declared.ended.Ended.{Ended}
+use Rattle.undo_log.specs.StandsFor.{StandsFor}
+use Rattle.hosted_heap.specs.Hosting.{HaveMetHelper, Hosting, IsClosedWith, hosted_device}
 use Rattle.hosted_heap.specs.Meeting.{AreAllMade, SameButMet, host_moment}
 use Rattle.hosted_heap.specs.Opening.{HasBegun}
 use Rattle.hosted_heap.specs.Rounds.{KeepsSessions, MakesRound}
@@ -78,3 +88,21 @@ abbrev pub LivesLaw : Type 0
 LivesLaw = (x y : Hosting) (answer : Result ℕ StoreError) (old : Device) (first p : Past) → IsServing hosted_device x.helper (plan x.home) p →
     HasRun x.helper.store.known.layout (plan x.home) first old p (hosted_device x.helper.store.disk) false → MakesRound x y answer → KeepsSessions x y →
     (q : Past) × IsServing hosted_device y.helper (plan y.home) q × HasRun y.helper.store.known.layout (plan y.home) first old q (hosted_device y.helper.store.disk) y.helper.store.known.has_failed
+
+-- So does a closing, whatever it answers, up to the disk that it leaves.
+abbrev pub EndsLaw : Type 0
+EndsLaw = (h : Home) (x : Parts Deferred) (ended : List Ended) (answer : Result Deferred (Deferred × CloseError)) (old : Device) (first p : Past) → IsServing hosted_device x (plan h) p →
+    HasRun x.store.known.layout (plan h) first old p (hosted_device x.store.disk) false → HaveMetHelper h x ended answer →
+    (q : Past) × HasRun x.store.known.layout (plan h) first old q (hosted_device (disk_of answer)) true
+
+-- The image is the heap of this history with all its sections: a store of this past may have left it, so that recovery takes it, and behind that
+-- the persistent fields have the history's values, and the transient ones begin anew.
+pub record IsHeapOf (s : Setting) (l : Layout) (history : List (ℕ × Event)) (now : Past) (image : List ℕ) : Type 0 where
+  pub left : IsLeftBy l s now image
+  pub stands : StandsForCut l s (log_of s history) (all_ended (actions (log_of s history))) image
+  pub values : StandsFor l image (values_below (closed_value s (state_after s history).value) l.fields)
+
+-- So is whatever a crash of the host's device leaves behind a closing, once the host has made all calls that were handed over.
+abbrev pub ClosedLaw : Type 0
+ClosedLaw = (h : Home) (x : Parts Deferred) (d : Deferred) (c : Host) (image : List ℕ) → (closing : IsClosedWith h x d) → HaveMet d c → AreAllMade c → HostLeaves d c [] image →
+    IsHeapOf (plan h) x.store.known.layout closing.closed.history closing.closed.now image

@@ -1,6 +1,6 @@
 //! Laws of a hosted heap's life, each the contract of a function that does nothing.
 ghost use Rattle.hosted_life.specs.Running.{HostRoundLaw, HostRunLaw};
-ghost use Rattle.hosted_life.specs.Safe.{AcknowledgedLaw, BegunLaw, HostLaw, KeptRunLaw, LivesLaw, NowLaw};
+ghost use Rattle.hosted_life.specs.Safe.{AcknowledgedLaw, BegunLaw, ClosedLaw, EndsLaw, HostLaw, KeptRunLaw, LivesLaw, NowLaw};
 
 use deferred_disk::DeferredDisk;
 use running_life::round_law;
@@ -16,13 +16,16 @@ pub fn kept_law()
 
 /// What a crash of the host's device leaves, at whatever moment it comes: before the host has made a call, in it or behind it. Once the
 /// host has made the calls that were handed over when the heap was opened, recovery takes it; once it has made those that were handed
-/// over when a count of sections was told as acknowledged, it keeps so many. No later call takes that back.
+/// over when a count of sections was told as acknowledged, it keeps so many. No later call takes that back, nor does a closing, whatever
+/// it answers. Once the host has made the calls that are left of a heap that was closed, it keeps all sections.
 pub fn host_law()
     ensures any_moment { HostLaw }
     ensures begun { BegunLaw }
     ensures acknowledged { AcknowledgedLaw }
     ensures now { NowLaw }
     ensures lives { LivesLaw }
+    ensures ends { EndsLaw }
+    ensures closed { ClosedLaw }
 {
     kept_law();
 }

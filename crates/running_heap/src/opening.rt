@@ -1,5 +1,5 @@
 //! A heap begins to run.
-ghost use Rattle.std.specs.Prelude.{◌≡◌, ◌<◌, ◌^◌, IfErr, IfOk, All, false, length};
+ghost use Rattle.std.specs.Prelude.{◌≡◌, ◌<◌, ◌^◌, IfErr, IfOk, All, false, true, length};
 ghost use Rattle.running_heap.specs.Joined.{AreNew, IsHelping, IsJoined};
 ghost use Rattle.steps.specs.Views.{plan};
 ghost use Rattle.store_past.specs.Past.{no_past};
@@ -44,6 +44,7 @@ pub fn open<D: Disk>(
     ensures helping { IfOk result (λ o. IsHelping D.device o.shared o.helper) }
     ensures past { IfOk result (λ o. IsServing D.device o.helper (plan o.shared) no_past) }
     ensures running { IfOk result (λ o. o.helper.store.known.has_failed ≡ false) }
+    ensures settled { IfOk result (λ o. o.helper.is_settled ≡ true) }
     ensures layout { IfOk result (λ o. o.helper.store.known.layout ≡ recovered.layout) }
     ensures disk { IfOk result (λ o. o.helper.store.disk ≡ recovered.disk) }
     ensures refused { IfErr result (λ back. back.0 ≡ recovered.disk) }

@@ -80,9 +80,10 @@ fn counts<R: Wait>(rt: &R, alloc: Global, sections: u32, rounds: u32) -> Option<
 type Case = (u32, u32, (u64, u64));
 
 // The making of the image takes 12 writes and 3 syncs. A round takes a write for each of the section's three records, one for
-// its field, and two for each of two controls; and 4 syncs. One with nothing new takes none.
-const CASES: [Case; 4] = [
+// its field, and two for each of two controls; and 4 syncs. One with nothing new takes none, also where it is the first.
+const CASES: [Case; 5] = [
     (0, 0, (12, 3)),
+    (0, 1, (12, 3)),
     (1, 0, (12 + 8, 3 + 4)),
     (2, 0, (12 + 8 + 8, 3 + 4 + 4)),
     (2, 1, (12 + 8 + 8, 3 + 4 + 4)),

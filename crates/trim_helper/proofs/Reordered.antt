@@ -7,7 +7,7 @@ use Rattle.heap_model.specs.declared.record.Record.TheVariants.{Acq, Rel, WaitRe
 use Rattle.heap_model.specs.Setting.{Setting}
 use Rattle.heap_model.specs.Log.{lane, number, IsLegal, IsLaneWisePrefix}
 use Rattle.heap_model.specs.Sections.{Action, Takes, Frees, Stores, action, actions, ended, Section, Did, Earlier, Took}
-use Rattle.heap_model.specs.Cuts.{Counts, IsWhole, IsClosed}
+use Rattle.heap_model.specs.Cuts.{Counts, IsWhole, IsClosed, IsStable}
 use Rattle.cut_laws.proofs.Chain.{took_had, Freed, freed_below}
 use Rattle.cut_laws.proofs.Lanes.{lane_actions, lane_append}
 use Rattle.cut_laws.proofs.Next.{freed_past}
@@ -137,3 +137,7 @@ none_closed log a b counted (Took o n took freed differ) = absurd (omega (arith,
 -- no section at all is a cut of each list
 pub count_none : (log : List (ℕ × Record)) (l n : ℕ) → n ≡ 0 → IsCutCount log l n
 count_none log l n none = record { cut = λ k. 0; counted = sym none; whole = λ k. omega arith; closed = none_closed (actions log) }
+
+-- of no records it is the stable one
+pub stable_none : IsStable [] (λ l. 0)
+stable_none = record { whole = λ l. omega arith; closed = none_closed []; greatest = λ other whole closed l. whole l }

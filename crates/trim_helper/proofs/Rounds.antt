@@ -12,7 +12,7 @@ use Rattle.image.specs.declared.layout.Layout.{Layout}
 use Rattle.monitor.specs.declared.view.Note.{Note}
 use Rattle.monitor.specs.Seats.{Helping, Home}
 use Rattle.monitor.specs.Views.{noted}
-use Rattle.store_past.specs.Past.{Past, IsPast, IsTrimmed, applied}
+use Rattle.store_past.specs.Past.{Past, IsPast, IsTrimmed, applied, no_past}
 use Rattle.store_past.specs.declared.error.StoreError.{StoreError}
 use Rattle.store_past.specs.declared.error.StoreError.TheVariants.{Failed, BadLane, BadId, Worn, NotNext, TooLong, LogFull, Unwritten, Fault, Unfinished}
 use Rattle.durable.specs.Runs.{HasRun, IsLeftBy, TakesSequences}
@@ -38,6 +38,7 @@ use Rattle.trim_helper.proofs.Counting.{stand_added, stand_more, stand_none, sta
 use Rattle.trim_helper.proofs.Homes.{err_same}
 use Rattle.trim_helper.specs.Seen.{SeesFrom}
 use Rattle.trim_helper.proofs.Noting.{noted_same}
+use Rattle.trim_helper.proofs.Reordered.{stable_none}
 use Rattle.trim_helper.proofs.Seeing.{sees_kept}
 
 pub chosen : (i k a b : ℕ) {r : ℕ} → i ≡ k → r ≡ (if i == k then a else b) → r ≡ a
@@ -206,19 +207,22 @@ module _ {D : Type 0} (device : D → Device) where
         ran = subst (λ (l : Layout). HasRun l s p (device x.store.disk) h.now (device w.disk) true) (layout ∙ on.layout) ran;
       }
 
-  -- nothing was taken yet
-  pub serves_new : (x : Parts D) (s : Setting) (p : Past) → x.is_settled ≡ false → ((l : ℕ) → waiting_in x.waiting l ≡ None) → HasPast x.store.known s p (device x.store.disk) → applied p ≡ [] → ((l : ℕ) → received_of x.rings l ≡ []) →
-      x.seat.view.notes ≡ [] → IsServing device x s p
-  serves_new x s p unsettled none has empty taken silent = record {
-    taken = record { has = has; taken = λ l. taken l ∙ sym (ap (λ (xs : List (ℕ × Record)). stream l xs ++ held_back (waiting_in x.waiting l)) empty ∙ ap held_back (none l)) };
-    counts = λ l lt. let none : count_published x.seat l ≡ 0 = ap (λ (ns : List Note). noted l ns) silent in omega (arith, none);
-    places = λ l lt. let none : place_published x.seat l ≡ 0 = ap (λ (ns : List Note). noted (32 + l) ns) silent in omega (arith, none);
-    running = λ is. absurd (let no : false ≡ true = sym unsettled ∙ is in cc);
-    settled = λ is. absurd (let no : false ≡ true = sym unsettled ∙ is in cc);
-    trimmed = λ is. absurd (let no : false ≡ true = sym unsettled ∙ is in cc);
-    published = λ is l lt. absurd (let no : false ≡ true = sym unsettled ∙ is in cc);
-    stand = stand_none x.seat x.store.known.layout.lanes p silent;
-  }
+  -- nothing was taken yet, nor told: all is settled
+  pub serves_new : (x : Parts D) (s : Setting) → x.store.known.has_failed ≡ false → ((l : ℕ) → waiting_in x.waiting l ≡ None) → HasPast x.store.known s no_past (device x.store.disk) → ((l : ℕ) → received_of x.rings l ≡ []) →
+      x.seat.view.notes ≡ [] → IsServing device x s no_past
+  serves_new x s running none has taken silent =
+      let counts : (l : ℕ) → count_published x.seat l ≡ 0 = λ l. ap (λ (ns : List Note). noted l ns) silent in
+      let places : (l : ℕ) → place_published x.seat l ≡ 0 = λ l. ap (λ (ns : List Note). noted (32 + l) ns) silent in
+      record {
+        taken = record { has = has; taken = λ l. taken l ∙ sym (ap held_back (none l)) };
+        counts = λ l lt. omega (arith, counts l);
+        places = λ l lt. omega (arith, places l);
+        running = λ is. running;
+        settled = λ is. record { logged = refl; clean = λ f lt. refl; stable = stable_none };
+        trimmed = λ is l. refl;
+        published = λ is l lt. (counts l, places l);
+        stand = stand_none x.seat x.store.known.layout.lanes no_past silent;
+      }
 
   -- a helper's drain, by its rings'
   pub helper_drains : (x : Parts D) (y : Taking D) (b : Bool) (answer : Result ℕ StoreError) → IsWhole device x → DrainsRings device LOOKS (taking_of x) y answer → IfOk answer (λ n. b ≡ true → (x.is_settled ≡ true) × (n ≡ 0)) →

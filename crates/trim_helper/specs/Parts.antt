@@ -18,7 +18,7 @@ use Rattle.trim_helper.specs.Settled.{IsSettled}
 use Rattle.trim_helper.specs.Taken.{Taking, HasTaken, trimmed_of}
 
 -- a helper over whatever device: its store, its ends of the rings and the record that waits to be next, by lane, whether nothing was
--- applied since a round answered Ok, and its seat
+-- applied since a round answered Ok, or since it began, and its seat
 pub record Parts (D : Type 0) : Type 0 where
   pub store : stores.Parts D
   pub rings : List Receiving

@@ -36,7 +36,7 @@ pub struct Helper<D: Disk> {
     pub(crate) rings: Vec<Receiver>,
     /// The record of each lane that was taken and waits to be next.
     pub(crate) waiting: [Option<Record>; LANES],
-    /// Nothing was applied since a round answered Ok.
+    /// Nothing was applied since a round answered Ok, or since it began.
     pub(crate) is_settled: bool,
     pub(crate) seat: HelperSeat,
 }
@@ -52,8 +52,9 @@ impl<D: Disk> Model for Helper<D> {
 }
 
 impl<D: Disk> Helper<D> {
-    /// The helper of a store that was told nothing, with the ends of the rings, lane i's as the i-th, from which nothing was taken,
-    /// and with the helper's seat, of the heap whose lanes' rings they are, which has published nothing.
+    /// The helper of a store that runs and was told nothing, with the ends of the rings, lane i's as the i-th, from which nothing was
+    /// taken, and with the helper's seat, of the heap whose lanes' rings they are, which has published nothing. All is settled: the first
+    /// round makes no device call unless something came.
     pub fn new(store: Store<D>, rings: Vec<Receiver>, seat: HelperSeat) -> Helper<D>
         requires lanes { vec_len rings ≡ store.known.layout.lanes }
         requires rooms { most_room rings.items ≤ RING_RECORDS }
@@ -61,14 +62,16 @@ impl<D: Disk> Helper<D> {
         requires sees { SeesFrom seat 0 rings.items }
         requires untold { (s : Setting) × HasPast store.known s no_past (D.device store.disk) }
         requires silent { seat.view.notes ≡ [] }
+        requires running { store.known.has_failed ≡ false }
         ensures serves { (s : Setting) → HasPast store.known s no_past (D.device store.disk) → IsServing D.device result s no_past }
         ensures parts { (result.store ≡ store) × (result.rings ≡ rings.items) × (result.seat ≡ seat) }
+        ensures settled { result.is_settled ≡ true }
     {
         Helper {
             store,
             rings,
             waiting: [None; LANES],
-            is_settled: false,
+            is_settled: true,
             seat,
         }
     }
@@ -111,7 +114,7 @@ impl<D: Disk> Helper<D> {
 
     /// Drains the rings, hears what they tell of the one history, logs what was applied, writes it home, acknowledges its stable cut, forgets what is acknowledged, and
     /// then publishes both. So each lane has its area but for the records that aren't acknowledged. It answers how many records
-    /// it applied. With nothing applied since the last round that answered Ok it makes no device call, and isn't refused.
+    /// it applied. With nothing applied since the last round that answered Ok, or since the opening, it makes no device call, and isn't refused.
     ///
     /// Refusals: `Failed`; `Worn`: a control must be written, and its sequence is at its last value; `Fault`: a call of the device
     /// failed now. What was done before one stands, and nothing is published.

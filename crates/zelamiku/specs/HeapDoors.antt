@@ -212,7 +212,7 @@ left_behind (unclosed.Stopped y e) = closed_behind y
 
 -- the heap is closed, as one history of what its sessions were told; or it isn't, for this reason
 pub data ClosesOne (x : Hosting) (after : Held) (status : ℕ) : Type 0 where
-  IsNowClosed : (y : Closed) → IsClosedWith x.home x.helper (hosted_device y.disk) → HasLooked x.calls y.calls → after ≡ closed_behind y → status ≡ OK → ClosesOne x after status
+  IsNowClosed : (y : Closed) → IsClosedWith x.home x.helper y.disk → HasLooked x.calls y.calls → after ≡ closed_behind y → status ≡ OK → ClosesOne x after status
   IsNotYetClosed : (why : NotClosed) → IsNotClosed x why → after ≡ left_behind why → status ≡ not_closed_status why → ClosesOne x after status
 
 -- `zelamiku_close`

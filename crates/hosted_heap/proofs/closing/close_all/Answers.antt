@@ -19,6 +19,7 @@ returns-in-Err-clause-refused c =
         refuses = closes.refused;
         untouched = closes.untouched;
         why = closes.why;
+        closes = c.in-Err.ensures.closes;
       }),
     )
 
@@ -33,4 +34,5 @@ returns-in-Ok-close-clause-ok c =
       complete = closes.refused.1;
       closed = c.in-Ok-close.ensures.ok;
       from = c.in-Ok-close.ensures.from;
+      closes = c.in-Ok-close.ensures.closes;
     }

@@ -61,6 +61,7 @@ returns-in-Ok-begin_all c =
         disk_is = c.in-Ok.ensures.disk;
         host = subst (λ (d : Deferred). IsHostOf d c.args.calls) (sym c.in-Ok.ensures.disk) c.requires.host;
         running = c.in-Ok.ensures.running;
+        settled = c.in-Ok.ensures.settled;
         untold = subst (λ (h : Home). IsServing hosted_device x.helper (plan h) no_past) (sym same) c.in-Ok.ensures.past;
         unmade = c.requires.calls.0;
         none_left = c.requires.calls.1;

@@ -1,4 +1,4 @@
-use Rattle.hosted_life.proofs.Safe.{by_host, by_host_acknowledged, by_host_begun, by_host_now, lives_on}
+use Rattle.hosted_life.proofs.Safe.{by_host, by_host_acknowledged, by_host_begun, by_host_now, closed_on, ends_on, lives_on}
 use Rattle.hosted_life.proofs.laws.host_law.Goals as goal
 
 pub returns-clause-any_moment : goal.returns-clause-any_moment
@@ -15,3 +15,9 @@ returns-clause-now c = by_host_now c.kept_law.ensures
 
 pub returns-clause-lives : goal.returns-clause-lives
 returns-clause-lives c = lives_on
+
+pub returns-clause-ends : goal.returns-clause-ends
+returns-clause-ends c = ends_on
+
+pub returns-clause-closed : goal.returns-clause-closed
+returns-clause-closed c = closed_on
