@@ -346,7 +346,7 @@ ZELAMIKU_MUST_USE zelamiku_status zelamiku_call_failed(zelamiku_handle *heap);
 
 /* Takes what the sessions have done, writes it to the log, acknowledges each section that has ended and depends on none that hasn't,
  * and leaves the calls of that to zelamiku_next_call: make them after each round, or in a thread that orders its calls with this one.
- * `applied` gets how many records were taken. With none there is no call, but in the first round after an opening.
+ * `applied` gets how many records were taken. With none there is no call.
  * CLOSED: nothing was done. CALLS_LEFT: the host hasn't made its calls for so many rounds
  * that those of one more might have no room: nothing was done; make them, and go on. FAULT, FAILED, WORN: the heap has stopped; what
  * was acknowledged stays: free the handles, and open it again. */
