@@ -2,6 +2,7 @@
 use Rattle.std.specs.Prelude.{◌≡◌, ◌≢◌, ◌⊎◌, Result, Ok, Err, ℕ, ◌+◌, ◌-◌, ◌<◌, ◌≤◌, Option, Some, List, [], ◌∷◌, ◌++◌, length, take, slice_get}
 use Rattle.std.specs.Io.KnownBytes.{Appends}
 use Rattle.std.specs.List.{AllByRecursion, concat}
+pub use Rattle.inspect.specs.Written.{AppendsPart}
 use Rattle.script_machine.specs.declared.answer.Answer.{Answer}
 use Rattle.script_lines.specs.Endings.{IsWhole}
 use Rattle.script_lines.specs.declared.error.ScriptError.{ScriptError}
@@ -41,10 +42,6 @@ Plays old (line ∷ lines) [] new = ⊥
 Plays old (line ∷ lines) (output ∷ outputs) new = (middle : MachineState) × PlaysLine old line output middle × Plays middle lines outputs new
 
 -- what was written
-
--- a part of the text was written, and not all
-abbrev pub AppendsPart : Option (List ℕ) → Option (List ℕ) → List ℕ → Type 0
-AppendsPart old new text = (count : ℕ) × (count < length text) × Appends old new (take count text)
 
 -- from this state the lines are played, which leaves the machine in that one, and what they print was written
 pub record PrintsOn (start : MachineState) (lines : List (List ℕ)) (end : MachineState) (old new : Option (List ℕ)) : Type 0 where

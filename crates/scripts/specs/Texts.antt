@@ -3,6 +3,7 @@ use Rattle.std.specs.Prelude.{ℕ, ◌+◌, Option, None, Some, List, [], ◌∷
 use Rattle.std.specs.Fmt.{decimal}
 use Rattle.std.specs.List.{flat_map}
 use Rattle.heap_model.specs.declared.ids.Lane.{Lane}
+use Rattle.inspect.specs.Pieces.{thread_of}
 use Rattle.inspect.specs.ReportText.{report_text}
 use Rattle.inspect.specs.StudyText.{study_text}
 use Rattle.script_machine.specs.declared.answer.Answer.{Answer}
@@ -13,10 +14,6 @@ use Rattle.script_machine.specs.declared.answer.Refusal.TheVariants as refusals
 -- a word and numbers, each behind a space
 abbrev pub list_line : List ℕ → List ℕ → List ℕ
 list_line word numbers = word ++ flat_map (λ number. codes " " ++ decimal number) numbers ++ codes "\n"
-
--- the number of a lane's thread
-abbrev pub thread_of : Lane → ℕ
-thread_of lane = lane.0 + 1
 
 -- why a line is refused, in words
 abbrev pub why_refused : Refusal → List ℕ

@@ -1,7 +1,7 @@
 //! Writing what a line prints.
 ghost use Rattle.std.specs.Prelude.{◌≡◌, OnOk, OnErr, IfErr};
 ghost use Rattle.std.specs.Io.KnownBytes.{Appends};
-ghost use Rattle.scripts.specs.Runs.{AppendsPart};
+ghost use Rattle.inspect.specs.Written.{AppendsPart};
 ghost use Rattle.script_lines.specs.declared.error.ScriptErrorKind.TheVariants as kinds;
 
 use script_lines::ScriptErrorKind;
