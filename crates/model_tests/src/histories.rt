@@ -139,7 +139,7 @@ fn kept(alloc: Global, records: &[LaneRecord], cut: &Cut) -> Option<[u64; 2]> {
     Some(heap)
 }
 
-// The law holds of whatever is listed: an undo log's records are.
+// The law holds of whatever is listed: an undo log's records are. No code runs here; that the call is proved is what is asked.
 #[test]
 fn the_earliest_is_found_of_any_type(_rt: HostRuntime) {
     earliest_law::<UndoRecord>();

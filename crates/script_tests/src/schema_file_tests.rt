@@ -165,7 +165,8 @@ fn is_read_or_wanting(alloc: Global) -> bool {
     }
 }
 
-// Run with each allocation refused in turn: the schema isn't read then, and the next time it is.
+// With each allocation refused in turn (`rt try --test --fail-alloc N`, by hand; the gate refuses none):
+// the schema isn't read then, and the next time it is.
 #[test]
 fn a_refused_allocation_reads_no_schema(rt: HostRuntime) {
     assert!(rt; is_read_or_wanting(rt.alloc()) && declared(rt.alloc()).is_some());
