@@ -1,8 +1,6 @@
 //! The word `drive`.
 
-use crate::playing::{Does, FORMAT, FORMATTED, Line, first_other, play};
-use commands::WorkFault;
-use drive::DriveError;
+use crate::playing::{Does, FORMAT, FORMATTED, Fails, Line, first_other, play};
 use file_disk::BackingFile;
 use std::fs::{Files, OpenFile};
 use std::io::Read;
@@ -148,7 +146,7 @@ const OF_OTHERS: &[Line] = &[
         &["drive"],
         Some("others"),
         "",
-        Does::Fail(WorkFault::Drive(DriveError::OtherSchema)),
+        Does::Fail(Fails::OtherWorkers),
     ),
 ];
 

@@ -1,9 +1,8 @@
 //! Scripts, and words on image files.
 
-use crate::playing::{Does, FORMAT, FORMATTED, LINES, Line, REPORT, SCHEMA, begins, first_other};
-use commands::WorkFault;
-use image_file::{ImageFault, NamedFault};
-use recover::RecoverError;
+use crate::playing::{
+    Does, FORMAT, FORMATTED, Fails, LINES, Line, REPORT, SCHEMA, begins, first_other,
+};
 use std::fs;
 
 const SCRIPT: &str = "object o\nfield f o o 7\nformat 1 2000\nt1 enter o\nt1 load f\n";
@@ -82,20 +81,13 @@ fn make_old(rt: &HostRuntime, path: &str) -> Option<u8> {
 
 const NEW: &[Line] = &[(FORMAT, Some("old"), "", Does::Change(FORMATTED))];
 
-const OLD_VERSION: ImageFault = ImageFault::Image(RecoverError::OldVersion);
-
 const OLD: &[Line] = &[
-    (
-        &["recover"],
-        Some("old"),
-        "",
-        Does::Fail(WorkFault::Image(OLD_VERSION)),
-    ),
+    (&["recover"], Some("old"), "", Does::Fail(Fails::OldImage)),
     (
         &["run"],
         Some("old"),
         "",
-        Does::Fail(WorkFault::Named(NamedFault::Image(OLD_VERSION))),
+        Does::Fail(Fails::OldImageOfNames),
     ),
     (&["upgrade"], Some("old"), "", Does::Change(REPORT)),
     (&["recover"], Some("old"), "", Does::Change(REPORT)),

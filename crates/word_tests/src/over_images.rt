@@ -1,9 +1,6 @@
 //! The word `run` over an image file: what a script leaves in memory behind a crash, it leaves in the file.
 
-use crate::playing::{Does, FORMAT, FORMATTED, Line, first_other};
-use commands::WorkFault;
-use image_file::NamedFault;
-use script_lines::{ScriptError, ScriptErrorKind};
+use crate::playing::{Does, FORMAT, FORMATTED, Fails, Line, first_other};
 use std::fs;
 
 // A section that is logged, written home and acknowledged, and what its lines print: the first script of docs/SCRIPTS.md.
@@ -94,11 +91,6 @@ fn a_script_goes_on_where_one_stopped(rt: HostRuntime) {
     assert!(rt; first_other(&rt, STOPS).is_none());
 }
 
-const SYNTAX: WorkFault = WorkFault::Script(ScriptError {
-    line: 2,
-    kind: ScriptErrorKind::Syntax,
-});
-
 // A line that has a fault, and a schema that isn't the image's.
 const REFUSED: &[Line] = &[
     (FORMAT, Some("left"), "", Does::Change(FORMATTED)),
@@ -106,13 +98,13 @@ const REFUSED: &[Line] = &[
         &["run"],
         Some("left"),
         "t1 enter o0\nfrob\n",
-        Does::Fail(SYNTAX),
+        Does::Fail(Fails::Syntax),
     ),
     (
         &["run", "--schema", "other_of"],
         Some("left"),
         "t1 enter a\n",
-        Does::Fail(WorkFault::Named(NamedFault::OtherSchema)),
+        Does::Fail(Fails::OtherNames),
     ),
 ];
 

@@ -2,8 +2,11 @@
 
 use command_words::{Words, read_words};
 use commands::{WorkFault, obey};
+use drive::DriveError;
 use file_disk::BackingFile;
-use image_file::Trouble;
+use image_file::{FormatError, ImageFault, NamedFault, Trouble};
+use recover::RecoverError;
+use script_lines::{ScriptError, ScriptErrorKind};
 use std::alloc::Global;
 use std::fs;
 use std::fs::{Files, OpenFile};
@@ -50,7 +53,43 @@ pub enum Does {
     /// They write a text that begins so and end well, and each byte of the image stays.
     Draw(&'static [u8]),
     /// They write nothing and end with this fault, and each byte of the image stays.
-    Fail(WorkFault),
+    Fail(Fails),
+}
+
+/// The faults that words end with in tables, each of which stands for a [`WorkFault`]: no constant table may hold that itself.
+#[derive(Clone, Copy)]
+pub enum Fails {
+    /// The second line of a script is no line.
+    Syntax,
+    /// The file has something, and no image.
+    NotImage,
+    /// An image is told of, and there is none.
+    NotFormatted,
+    /// An image of version 1 is recovered.
+    OldImage,
+    /// A script is played over one.
+    OldImageOfNames,
+    /// A script is played over an image by the names of another.
+    OtherNames,
+    /// Workers go on with an image of other workers.
+    OtherWorkers,
+}
+
+fn fault_of(fails: Fails) -> WorkFault {
+    match fails {
+        Fails::Syntax => WorkFault::Script(ScriptError {
+            line: 2,
+            kind: ScriptErrorKind::Syntax,
+        }),
+        Fails::NotImage => WorkFault::Format(FormatError::NotImage),
+        Fails::NotFormatted => WorkFault::Image(ImageFault::Image(RecoverError::NotFormatted)),
+        Fails::OldImage => WorkFault::Image(ImageFault::Image(RecoverError::OldVersion)),
+        Fails::OldImageOfNames => {
+            WorkFault::Named(NamedFault::Image(ImageFault::Image(RecoverError::OldVersion)))
+        }
+        Fails::OtherNames => WorkFault::Named(NamedFault::OtherSchema),
+        Fails::OtherWorkers => WorkFault::Drive(DriveError::OtherSchema),
+    }
 }
 
 /// Words, the image file that they name, what is on standard input, and what they have to do.
@@ -129,7 +168,7 @@ fn fits(does: Does, ended: Result<(), WorkFault>, written: &[u8], is_left: bool)
         Does::Change(text) => ended.is_ok() && written == text && !is_left,
         Does::Tell(text) => ended.is_ok() && written == text && is_left,
         Does::Draw(text) => ended.is_ok() && written.starts_with(text) && is_left,
-        Does::Fail(fault) => ended == Err(fault) && written.is_empty() && is_left,
+        Does::Fail(fails) => ended == Err(fault_of(fails)) && written.is_empty() && is_left,
     }
 }
 

@@ -1,10 +1,9 @@
 //! Words on images in two places: they do what they do on one in one place.
 
-use crate::playing::{Does, FORMATTED, LINES, Line, REPORT, SCHEMA, begins, first_other, play};
-use commands::WorkFault;
+use crate::playing::{
+    Does, FORMATTED, Fails, LINES, Line, REPORT, SCHEMA, begins, first_other, play,
+};
 use file_disk::BackingFile;
-use image_file::{FormatError, ImageFault};
-use recover::RecoverError;
 use std::fs;
 use std::fs::{Files, OpenFile};
 use std::io::Read;
@@ -152,16 +151,24 @@ fn cut_short(rt: &HostRuntime, path: &str) -> bool {
     }
 }
 
-const NOT_FORMATTED: WorkFault = WorkFault::Image(ImageFault::Image(RecoverError::NotFormatted));
-
 const SHORT: &[Line] = &[
-    (&["recover"], Some("short"), "", Does::Fail(NOT_FORMATTED)),
-    (&["show"], Some("short"), "", Does::Fail(NOT_FORMATTED)),
+    (
+        &["recover"],
+        Some("short"),
+        "",
+        Does::Fail(Fails::NotFormatted),
+    ),
+    (
+        &["show"],
+        Some("short"),
+        "",
+        Does::Fail(Fails::NotFormatted),
+    ),
     (
         &["format", "--schema", "schema"],
         Some("short"),
         "",
-        Does::Fail(WorkFault::Format(FormatError::NotImage)),
+        Does::Fail(Fails::NotImage),
     ),
 ];
 
