@@ -132,6 +132,159 @@ wrote 1\n\
 ",
 );
 
+// An image that was formatted alone.
+const FORMATTED: Play = (
+    b"\
+object o0\n\
+object o1\n\
+object o2\n\
+object o3\n\
+field f0 o0 o0 10\n\
+field f1 o1 o1 20\n\
+format 2 4000\n\
+",
+    b"\
+formatted 130208\n\
+",
+);
+
+// A thread that waits inside of a section, with the monitor of another object held.
+const WAITED: Play = (
+    b"\
+object o0\n\
+object o1\n\
+object o2\n\
+object o3\n\
+field f0 o0 o0 10\n\
+field f1 o1 o1 20\n\
+format 2 4000\n\
+t1 enter o0\n\
+t1 enter o1\n\
+t1 wait o0\n\
+log\n\
+settle\n\
+",
+    b"\
+formatted 130208\n\
+ok\n\
+ok\n\
+waiting\n\
+logged 3\n\
+acknowledged 0 0\n\
+",
+);
+
+// Two sections, each of which took what the other freed; the second is unfinished.
+const CIRCLE: Play = (
+    b"\
+object o0\n\
+object o1\n\
+object o2\n\
+object o3\n\
+field f0 o0 o0 10\n\
+field f1 o1 o1 20\n\
+format 2 4000\n\
+t1 enter o0\n\
+t1 enter o1\n\
+t1 exit o1\n\
+t2 enter o2\n\
+t2 enter o1\n\
+t2 exit o2\n\
+t1 enter o2\n\
+t1 exit o2\n\
+t1 exit o0\n\
+log\n\
+settle\n\
+",
+    b"\
+formatted 130208\n\
+ok\n\
+ok\n\
+ok\n\
+ok\n\
+ok\n\
+ok\n\
+ok\n\
+ok\n\
+ok\n\
+logged 9\n\
+acknowledged 0 0\n\
+",
+);
+
+// A section that took what an unfinished one freed, and its thread's next.
+const CHAINED: Play = (
+    b"\
+object o0\n\
+object o1\n\
+object o2\n\
+object o3\n\
+field f0 o0 o0 10\n\
+field f1 o1 o1 20\n\
+format 2 4000\n\
+t1 enter o0\n\
+t1 enter o1\n\
+t1 store f0 1\n\
+t1 exit o0\n\
+t2 enter o0\n\
+t2 store f0 2\n\
+t2 exit o0\n\
+t2 enter o3\n\
+t2 exit o3\n\
+log\n\
+home\n\
+settle\n\
+",
+    b"\
+formatted 130208\n\
+ok\n\
+ok\n\
+ok\n\
+ok\n\
+ok\n\
+ok\n\
+ok\n\
+ok\n\
+ok\n\
+logged 9\n\
+wrote 1\n\
+acknowledged 0 0\n\
+",
+);
+
+// The section that isn't acknowledged, and a recovery that drops it.
+const RECOVERED: Play = (
+    b"\
+object o0\n\
+object o1\n\
+object o2\n\
+object o3\n\
+field f0 o0 o0 10\n\
+field f1 o1 o1 20\n\
+format 2 4000\n\
+t1 enter o0\n\
+t1 store f0 5\n\
+t1 exit o0\n\
+log\n\
+home\n\
+crash kept\n\
+recover\n\
+",
+    b"\
+formatted 130208\n\
+ok\n\
+ok\n\
+ok\n\
+logged 3\n\
+wrote 1\n\
+crashed\n\
+kept 0 0\n\
+dropped t1 1 unsettled\n\
+undone 1\n\
+heap 10 20\n\
+",
+);
+
 const SECTION_KEPT: &[u8] = b"kept 1 0\nundone 0\nheap 5 20\n";
 
 const SECTION_DROPPED: &[u8] = b"kept 0 0\ndropped t1 1 unsettled\nundone 1\nheap 10 20\n";
@@ -142,6 +295,27 @@ const BOTH_DROPPED: &[u8] = b"\
 kept 0 0\n\
 dropped t1 1 unsettled\n\
 dropped t2 1 unsettled\n\
+undone 1\n\
+heap 10 20\n\
+";
+
+const NOTHING_KEPT: &[u8] = b"kept 0 0\nundone 0\nheap 10 20\n";
+
+const WAITING_DROPPED: &[u8] = b"kept 0 0\ndropped t1 1 unfinished\nundone 0\nheap 10 20\n";
+
+const CIRCLE_DROPPED: &[u8] = b"\
+kept 0 0\n\
+dropped t1 1 after t2 1\n\
+dropped t2 1 unfinished\n\
+undone 0\n\
+heap 10 20\n\
+";
+
+const CHAINED_DROPPED: &[u8] = b"\
+kept 0 0\n\
+dropped t1 1 unfinished\n\
+dropped t2 1 after t1 1\n\
+dropped t2 2 after t2 1\n\
 undone 1\n\
 heap 10 20\n\
 ";
@@ -162,6 +336,9 @@ const CRASHES: &[Crash] = &[
     (LOGGED, b"crash kept\n", SECTION_DROPPED),
     (ACKNOWLEDGED, b"crash kept back 2\n", SECTION_KEPT),
     (ACKNOWLEDGED, b"crash lost back 2\n", SECTION_DROPPED),
+    // The gate's own byte is all that may be lost: 00 reads as closed, a5 as open.
+    (ACKNOWLEDGED, b"crash 00 back 1\n", SECTION_DROPPED),
+    (ACKNOWLEDGED, b"crash a5 back 1\n", SECTION_KEPT),
     (ACKNOWLEDGED, b"crash a5 back 3\n", SECTION_DROPPED),
     (ACKNOWLEDGED, b"crash a5 back 6\n", SECTION_DROPPED),
     (TRIMMED, b"crash lost\n", SECTION_KEPT),
@@ -170,6 +347,11 @@ const CRASHES: &[Crash] = &[
     (TRIMMED, b"crash lost back 8\n", SECTION_DROPPED),
     (BOTH, b"crash lost back 1\n", BOTH_DROPPED),
     (BOTH, b"crash kept back 1\n", BOTH_KEPT),
+    (FORMATTED, b"crash 00\n", NOTHING_KEPT),
+    (WAITED, b"crash lost\n", WAITING_DROPPED),
+    (CIRCLE, b"crash lost\n", CIRCLE_DROPPED),
+    (CHAINED, b"crash lost\n", CHAINED_DROPPED),
+    (RECOVERED, b"crash ff back 7\n", SECTION_DROPPED),
 ];
 
 // Whether the lines are played, then the crash and this line, which recovers.

@@ -263,8 +263,60 @@ value 30\n\
 ",
 );
 
+// Two sections, each of which took what the other freed, are acknowledged together, once both have ended.
+const IN_A_CIRCLE: Play = (
+    b"\
+object o0\n\
+object o1\n\
+object o2\n\
+object o3\n\
+field f0 o0 o0 10\n\
+field f1 o1 o1 20\n\
+format 2 4000\n\
+t1 enter o0\n\
+t1 enter o1\n\
+t1 exit o1\n\
+t2 enter o2\n\
+t2 enter o1\n\
+t2 exit o2\n\
+t1 enter o2\n\
+t1 exit o2\n\
+t1 exit o0\n\
+log\n\
+settle\n\
+t2 exit o1\n\
+log\n\
+settle\n\
+",
+    b"\
+formatted 130208\n\
+ok\n\
+ok\n\
+ok\n\
+ok\n\
+ok\n\
+ok\n\
+ok\n\
+ok\n\
+ok\n\
+logged 9\n\
+acknowledged 0 0\n\
+ok\n\
+logged 1\n\
+acknowledged 1 1\n\
+",
+);
+
 // The examples whole, from their text to what they print.
-const PLAYS: &[Play] = &[NESTED, NOT_HELD, WAITS, WOKEN, TWO_LANES, TRANSIENT];
+const PLAYS: &[Play] = &[
+    NESTED,
+    NOT_HELD,
+    WAITS,
+    WOKEN,
+    TWO_LANES,
+    TRANSIENT,
+    IN_A_CIRCLE,
+];
 
 #[test]
 fn scripts_are_played(rt: HostRuntime) {
