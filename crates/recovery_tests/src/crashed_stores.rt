@@ -2,6 +2,7 @@
 mod altered;
 mod crashes;
 mod faults;
+mod larger;
 mod rounds;
 mod runs;
 mod upgrades;

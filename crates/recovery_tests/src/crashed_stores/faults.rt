@@ -26,6 +26,18 @@ fn left_behind(alloc: Global, image: &MemDisk, call: u64) -> Option<Result<Outco
     }
 }
 
+// Whether a recovery makes fewer calls than these, so that none of its own is the fault.
+fn is_recovered(alloc: Global, image: &MemDisk, call: u64) -> Option<bool>
+    requires { 1 ≤ call }
+{
+    let mut disk = MemDisk::from_bytes(alloc, image.bytes()).ok()?;
+    disk.fail_call(call);
+    let answer = recover(alloc, disk);
+    let is_ok = answer.is_ok();
+    drop(answer);
+    Some(is_ok)
+}
+
 // How many faults there are in turn, from this call on, behind which the second recovery answers this.
 fn so_many(alloc: Global, image: &MemDisk, first: u64, wanted: Outcome) -> u64
     requires { 1 ≤ first }
@@ -52,9 +64,9 @@ fn counted(alloc: Global) -> Option<(u64, u64, bool)> {
     let ended = kept(0, 0, [10, 20]);
     let behind = so_many(alloc, &image, before.saturating_add(1), ended);
     let last = before.saturating_add(behind).saturating_add(1);
-    let is_last = left_behind(alloc, &image, last).is_none();
+    let is_last = is_recovered(alloc, &image, last);
     drop(image);
-    Some((before, behind, is_last))
+    Some((before, behind, is_last?))
 }
 
 // The section is logged and written home, and not settled. The new control shows where the last call alone fails, which is the

@@ -137,8 +137,8 @@ fn goes_home(store: &mut Store<MemDisk>) -> bool {
     false
 }
 
-// Applies these records, and makes a round. Answers how often the device was called until then.
-fn round(store: &mut Store<MemDisk>, calls: &[StoreCall]) -> Option<u64> {
+/// Applies these records, and makes a round. Answers how often the device was called until then.
+pub(crate) fn round(store: &mut Store<MemDisk>, calls: &[StoreCall]) -> Option<u64> {
     let applied = store.play(calls).is_ok();
     let logged = store.log_at_once().is_ok();
     let home = goes_home(store);
@@ -272,15 +272,31 @@ fn a_round_is_atomic_over_three_lanes(rt: HostRuntime) {
     assert!(rt; is_so(rt.alloc(), THREE_LANES));
 }
 
-// What a crash leaves with this fill of a store over three lanes, where its device's call of this number was a fault. None where
-// the fault was none of the calls of its first round.
-fn left_by_fault(alloc: Global, call: u64, fill: Fill) -> Option<Kept>
+// A store over three lanes, whose device's call of this number is a fault.
+fn failing_store(alloc: Global, call: u64) -> Option<Store<MemDisk>>
     requires { 1 ≤ call }
 {
     let mut disk = MemDisk::new(alloc, 98_208).ok()?;
     disk.fail_call(call);
     let made = formatted_with(alloc, disk, 3, 2_000)?;
-    let mut store = adopted(alloc, made)?;
+    adopted(alloc, made)
+}
+
+// Whether its first round is made.
+fn is_round_made(alloc: Global, call: u64) -> Option<bool>
+    requires { 1 ≤ call }
+{
+    let mut store = failing_store(alloc, call)?;
+    let is_made = round(&mut store, &first_calls()).is_some();
+    drop(store);
+    Some(is_made)
+}
+
+// What a crash leaves of it with this fill, if its first round isn't made.
+fn left_by_fault(alloc: Global, call: u64, fill: Fill) -> Option<Kept>
+    requires { 1 ≤ call }
+{
+    let mut store = failing_store(alloc, call)?;
     if round(&mut store, &first_calls()).is_some() {
         drop(store);
         return None;
@@ -325,5 +341,5 @@ fn a_fault_at_each_call_of_a_round_leaves_the_old_cut_or_the_new_one(rt: HostRun
     for call in 14..35 {
         assert!(rt; is_left_by_fault(rt.alloc(), call), "{call}");
     }
-    assert!(rt; left_by_fault(rt.alloc(), 35, Fill::Lost).is_none());
+    assert!(rt; is_round_made(rt.alloc(), 35) == Some(true));
 }
