@@ -1,8 +1,9 @@
 use Rattle.std.proofs.Common.{◌+◌, ◌<◌, IfOk, subst, arith}
 use Rattle.session.specs.Sessions.{view_of}
 use Rattle.steps.specs.Views.{IsHeld, plan}
+use Rattle.drive.specs.Working.{RefusesCount}
 use Rattle.drive.proofs.Holding.{weaker}
-use Rattle.drive.proofs.Refusing.{loads, stores}
+use Rattle.drive.proofs.Refusing.{loads, stores, stores_all}
 use Rattle.drive.proofs.working.count.Goals as goal
 
 pub returns-in-Ok-clause-held : goal.returns-in-Ok-clause-held
@@ -19,3 +20,12 @@ returns-in-Err-clause-held c = λ objects n some holds.
     let seen = view_of c.load.new.self in
     let one = loads c.args.shared.now (view_of c.args.session.now) seen c.args.field c.load.result objects n c.load.ensures.told.unknown c.load.ensures.told.not_held c.load.ensures.told.held holds in
     weaker seen.plan seen.events objects n (n + 1) (omega arith) one.holds
+
+pub returns-in-Ok-clause-refused : goal.returns-in-Ok-clause-refused
+returns-in-Ok-clause-refused c = λ objects n room holds.
+    let h = c.args.shared.now in
+    let f = c.args.field in
+    let seen = view_of c.load.new.self in
+    let one = loads h (view_of c.args.session.now) seen f c.load.result objects n c.load.ensures.told.unknown c.load.ensures.told.not_held c.load.ensures.told.held holds in
+    let ok = subst (λ r. IfOk r (λ value. (f.0 < (plan h).fields) × IsHeld seen ((plan h).guard f.0))) c.in-Ok.is one.ok in
+    stores_all (RefusesCount h f objects) seen (view_of c.store.new.self) f _ objects n c.store.result room one.holds (c.store.ensures.told.held ok.0 ok.1)
