@@ -67,33 +67,31 @@ fn declare(alloc: Global) -> Option<(Schema, Pool)>
     }
 }
 
-// Takes a slot by an even turn, and gives one by an odd turn, if it is taken: which slot that is.
-fn take_or_give(pool: &Pool, cells: &mut InSection<'_>, turn: u32) -> Option<u32>
+// Takes a slot by an even turn, and gives one by an odd turn, if it is taken.
+fn take_or_give(pool: &Pool, cells: &mut InSection<'_>, turn: u32)
     requires slots { pool.now.slots ≡ 4 }
     ensures home { home_of cells.new ≡ home_of cells.old }
 {
     if turn % 2 == 0 {
-        return pool.take(cells).ok();
-    }
-    match pool.give(cells, turn % 4) {
-        Ok(()) => Some(turn % 4),
-        Err(_) => None,
+        let _ = pool.take(cells);
+    } else {
+        let _ = pool.give(cells, turn % 4);
     }
 }
 
 // The same in a section of its own.
-fn take_turn(shared: &Shared, pool: &Pool, session: Session, turn: u32) -> (Session, Option<u32>)
+fn take_turn(shared: &Shared, pool: &Pool, session: Session, turn: u32) -> Session
     requires seat { IsSessionOf shared.now session }
     requires slots { pool.now.slots ≡ 4 }
-    ensures seat { IsSessionOf shared.now result.0 }
+    ensures seat { IsSessionOf shared.now result }
 {
     let mut session = session;
     let _ = session.try_enter(shared, GUARD);
     let mut cells = InSection::new(session, shared);
-    let slot = take_or_give(pool, &mut cells, turn);
+    take_or_give(pool, &mut cells, turn);
     let mut session = cells.into_session();
     let _ = session.exit(shared, GUARD);
-    (session, slot)
+    session
 }
 
 // Which sessions take turns.
@@ -107,9 +105,6 @@ enum Run {
     BesideOpen,
 }
 
-// The slots that the first session took or gave, by turn.
-type Slots = [Option<u32>; 8];
-
 // So many turns, with a round of the helper behind each.
 fn take_turns(
     shared: &Shared,
@@ -119,7 +114,7 @@ fn take_turns(
     helper: &mut Helper<MemDisk>,
     run: Run,
     turns: u32,
-) -> Slots
+)
     requires seats { IsSessionOf shared.now first × IsSessionOf shared.now second }
     requires slots { pool.now.slots ≡ 4 }
     requires helping { IsHelping device_of shared.now helper.old }
@@ -129,23 +124,18 @@ fn take_turns(
     if run == Run::BesideOpen {
         let _ = first.try_enter(shared, OTHER);
     }
-    let mut slots = [None; 8];
     for turn in 0..turns {
-        let (session, slot) = take_turn(shared, pool, first, turn);
-        first = session;
-        slots[turn as usize % 8] = slot;
+        first = take_turn(shared, pool, first, turn);
         if run != Run::Alone {
-            let (session, _) = take_turn(shared, pool, second, turn / 2);
-            second = session;
+            second = take_turn(shared, pool, second, turn / 2);
         }
         let _ = serve(shared, helper);
     }
     drop(first);
     drop(second);
-    slots
 }
 
-// The disk of the heap behind these turns, and the slots.
+// The disk of the heap behind these turns.
 fn play(
     heap: RunningHeap<MemDisk>,
     first: Session,
@@ -153,13 +143,13 @@ fn play(
     pool: &Pool,
     run: Run,
     turns: u32,
-) -> (MemDisk, Slots)
+) -> MemDisk
     requires seats { IsSessionOf heap.shared first × IsSessionOf heap.shared second }
     requires slots { pool.now.slots ≡ 4 }
     requires helping { IsHelping device_of heap.shared heap.helper }
 {
     let mut heap = heap;
-    let slots = take_turns(
+    take_turns(
         &heap.shared,
         pool,
         first,
@@ -168,11 +158,11 @@ fn play(
         run,
         turns,
     );
-    (disk_of(heap), slots)
+    disk_of(heap)
 }
 
 // The same of a heap that begins to run, and all of whose slots are free.
-fn played(alloc: Global, run: Run, turns: u32) -> Option<(MemDisk, Slots)> {
+fn played(alloc: Global, run: Run, turns: u32) -> Option<MemDisk> {
     let (schema, pool) = declare(alloc)?;
     match open_two(alloc, schema) {
         Some((heap, first, second)) => Some(play(heap, first, second, &pool, run, turns)),
@@ -183,69 +173,47 @@ fn played(alloc: Global, run: Run, turns: u32) -> Option<(MemDisk, Slots)> {
 // How many calls of the device there are before the first turn.
 fn calls_before(alloc: Global) -> Option<u64> {
     match played(alloc, Run::Alone, 0) {
-        Some((disk, _)) => Some(disk.stops()),
+        Some(disk) => Some(disk.stops()),
         None => None,
     }
 }
 
-// How many calls eight turns make, the slots of the first session, and whether a crash at each call leaves a whole list: with all
-// that wasn't synced lost, and with all of it kept.
-fn found(alloc: Global, run: Run) -> Option<(u64, Slots, bool)> {
+// How many calls eight turns make, and whether a crash at each leaves a whole list: with all that wasn't synced lost, and with all
+// of it kept.
+fn found(alloc: Global, run: Run) -> Option<(u64, bool)> {
     let before = calls_before(alloc)?;
     match played(alloc, run, 8) {
-        Some((disk, slots)) => {
+        Some(disk) => {
             let calls = disk.stops().saturating_sub(before);
-            let is_so = recover_either(alloc, &disk, before, &WholeList);
-            drop(disk);
-            Some((calls, slots, is_so))
+            Some((calls, recover_either(alloc, &disk, before, &WholeList)))
         }
         None => None,
     }
 }
 
-// A round makes a write for each record and for each dirty field, 2 for each of two controls, and 4 syncs. A turn that takes or
-// gives a slot logs 4 records, and stores to the head and to the slot's field; one that is refused logs 2.
+// A round makes a write for each record and for each dirty field, 2 for each of two controls, and 4 syncs (docs/FORMAT.md). A turn that
+// takes or gives a slot logs 4 records, and stores to the head and to the slot's field; one that is refused logs 2.
 //
 // Turns 0, 2, 4 and 6 take the slots 0, 1, 2 and 1, which turn 5 gives; what turns 1, 3 and 7 are to give isn't taken.
+const CALLS_ALONE: u64 = 14 + 10 + 14 + 10 + 14 + 14 + 14 + 10;
+
 #[test]
 fn a_crash_after_any_section_leaves_a_whole_list(rt: HostRuntime) {
-    let calls = 14 + 10 + 14 + 10 + 14 + 14 + 14 + 10;
-    let slots = [
-        Some(0),
-        None,
-        Some(1),
-        None,
-        Some(2),
-        Some(1),
-        Some(1),
-        None,
-    ];
-    assert!(rt; found(rt.alloc(), Run::Alone) == Some((calls, slots, true)));
+    assert!(rt; found(rt.alloc(), Run::Alone) == Some((CALLS_ALONE, true)));
 }
 
 // The second session takes 1, takes it again once the first has given it, gives it, finds it free, takes 3, takes 1 once that is
-// given, gives 3, and finds it free. The first finds the list empty by turn 6.
-const BY_TURNS: Slots = [
-    Some(0),
-    Some(1),
-    Some(2),
-    None,
-    Some(1),
-    Some(1),
-    None,
-    None,
-];
-
-// Where both store to the same slot's field it is written home once.
+// given, gives 3, and finds it free. The first finds the list empty by turn 6. Where both store to the same slot's field it is written
+// home once.
 const CALLS_BY_TURNS: u64 = 19 + 18 + 19 + 12 + 19 + 18 + 16 + 12;
 
 #[test]
 fn so_does_one_while_two_take_turns(rt: HostRuntime) {
-    assert!(rt; found(rt.alloc(), Run::ByTurns) == Some((CALLS_BY_TURNS, BY_TURNS, true)));
+    assert!(rt; found(rt.alloc(), Run::ByTurns) == Some((CALLS_BY_TURNS, true)));
 }
 
 // The section that stays open has one record more, by which it began.
 #[test]
 fn so_does_one_beside_an_open_section(rt: HostRuntime) {
-    assert!(rt; found(rt.alloc(), Run::BesideOpen) == Some((CALLS_BY_TURNS + 1, BY_TURNS, true)));
+    assert!(rt; found(rt.alloc(), Run::BesideOpen) == Some((CALLS_BY_TURNS + 1, true)));
 }
