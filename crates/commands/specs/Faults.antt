@@ -1,5 +1,5 @@
 -- Why workers haven't worked, by where they were to.
-use Rattle.std.specs.Prelude.{ℕ, ◌⊎◌, List, [], Option, None, Some}
+use Rattle.std.specs.Prelude.{ℕ, ◌≡◌, ◌⊎◌, List, [], Option, None, Some}
 use Rattle.block_disk.specs.Device.{Device, new_device}
 use Rattle.block_disk.specs.Memory.{device_of}
 use Rattle.drive.specs.Refusals.{RefusesOn, RefusesWith}
