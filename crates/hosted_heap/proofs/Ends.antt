@@ -1,17 +1,18 @@
 -- The lanes of the ends where sessions come back, and which of them have come.
-use Rattle.std.proofs.Common.{ℕ, zero, suc, ◌≡◌, ◌+◌, ◌-◌, ◌<◌, ◌≤◌, List, [], ◌∷◌, ◌++◌, All, Option, Some, None, option_to_list, append-nil, fold, length, drop, take, set, get_or, refl, sym, ◌∙◌, ap, subst, inl, inr, arith}
+use Rattle.std.proofs.Common.{ℕ, zero, suc, ◌≡◌, ◌+◌, ◌<◌, ◌≤◌, List, [], ◌∷◌, ◌++◌, All, IfSome, Option, Some, None, option_to_list, append-nil, fold, length, drop, take, set, get_or, refl, sym, ◌∙◌, ap, subst, inl, inr, arith}
 use Rattle.std.proofs.lemmas.Bool.{cases_eq}
-use Rattle.std.proofs.lemmas.List.{drop-drop, drop-set, get_or-drop, get_or-set_other, get_or-set_same, length-drop, length_push, take-append-drop, take-set-le, take_more}
+use Rattle.std.proofs.lemmas.List.{drop-set, drop_more, get_or-drop, get_or-set_other, get_or-set_same, length-drop, length_push}
 use Rattle.std.proofs.lemmas.List.Elements.{All-cons}
 use Rattle.std.proofs.lemmas.List.Sums.{fold-append}
 use Rattle.session.specs.Sessions.{view_of}
+use Rattle.session.specs.declared.session.Session.{Session}
 use Rattle.trim_helper.specs.Endings.{lanes_ended}
 use Rattle.trim_helper.specs.declared.ended.Ended.{Ended}
-use Rattle.hosted_heap.specs.Hosting.{lanes_of}
-use Rattle.hosted_heap.specs.Lanes.{ArePaired, lane_at, lanes_at}
+use Rattle.hosted_heap.specs.Hosting.{handed_out, lanes_of}
+use Rattle.hosted_heap.specs.Lanes.{ArePaired, IsAwaitedBy, lane_at, lane_in, lanes_at}
 use Rattle.hosted_heap.specs.Sessions.{Seated}
 use Rattle.hosted_heap.specs.declared.lane_end.LaneEnd.{LaneEnd}
-use Rattle.hosted_heap.proofs.Orders.{lanes_more, none_in}
+use Rattle.hosted_heap.proofs.Orders.{ends_more, none_in}
 
 pub lanes_at_more : (xs : List LaneEnd) (l : LaneEnd) → lanes_at (xs ++ l ∷ []) ≡ lane_at l ∷ lanes_at xs
 lanes_at_more xs l = fold-append (λ (later : List ℕ) (e : LaneEnd). lane_at e ∷ later) [] xs (l ∷ [])
@@ -26,48 +27,57 @@ set_onto later (x ∷ xs) (suc i) l d same low = set_onto (lane_at x ∷ later) 
 pub lanes_at_set : (xs : List LaneEnd) (i : ℕ) (l d : LaneEnd) → lane_at l ≡ lane_at (get_or xs i d) → i < length xs → lanes_at (set xs i l) ≡ lanes_at xs
 lanes_at_set xs i l d same low = set_onto [] xs i l d same low
 
-abbrev pub head_of : List ℕ → ℕ
-head_of [] = 0
-head_of (n ∷ ns) = n
+-- The last of these sessions is awaited by the end at its place, and the others are by those before.
+pub paired_last : (xs : List Seated) (s : Seated) (es : List LaneEnd) (d : LaneEnd) → ArePaired (xs ++ s ∷ []) es → IsAwaitedBy s (get_or es (length xs) d) × ArePaired xs es
+paired_last [] s [] d paired = absurd paired
+paired_last [] s (e ∷ es) d paired = (paired.0, tt)
+paired_last (x ∷ xs) s [] d paired = absurd paired
+paired_last (x ∷ xs) s (e ∷ es) d paired = let rest = paired_last xs s es d paired.1 in (rest.0, (paired.0, rest.1))
 
--- The last of these sessions is of the lane whose end is at its place, and the others are of those before.
-pub paired_last : (xs : List Seated) (s : Seated) (es : List LaneEnd) (d : LaneEnd) → length xs < length es → ArePaired (xs ++ s ∷ []) es
-    → ((view_of s.session).lane.0 ≡ lane_at (get_or es (length xs) d)) × ArePaired xs es
-paired_last xs s es d low paired =
-    let here : take (length (xs ++ s ∷ [])) es ≡ take (length xs) es ++ get_or es (length xs) d ∷ [] = ap (λ (n : ℕ). take n es) (length_push xs s) ∙ take_more es (length xs) d low in
-    let both : (view_of s.session).lane.0 ∷ lanes_of xs ≡ lane_at (get_or es (length xs) d) ∷ lanes_at (take (length xs) es) =
-    sym (lanes_more xs s) ∙ paired ∙ ap (λ (l : List LaneEnd). lanes_at l) here ∙ lanes_at_more (take (length xs) es) (get_or es (length xs) d) in
-    (ap (λ (l : List ℕ). head_of l) both, ap (λ (l : List ℕ). drop 1 l) both)
+pub paired_more : (xs : List Seated) (es : List LaneEnd) (s : Seated) (e : LaneEnd) → length xs ≡ length es → ArePaired xs es → IsAwaitedBy s e → ArePaired (xs ++ s ∷ []) (es ++ e ∷ [])
+paired_more [] [] s e long paired is = (is, tt)
+paired_more [] (f ∷ es) s e long paired is = absurd (omega (arith, long))
+paired_more (x ∷ xs) [] s e long paired is = absurd paired
+paired_more (x ∷ xs) (f ∷ es) s e long paired is = (paired.0, paired_more xs es s e (omega (arith, long)) paired.1 is)
+
+-- it is of that end's lane
+pub lane_awaited : (s : Seated) (l : LaneEnd) → IsAwaitedBy s l → (view_of s.session).lane.0 ≡ lane_at l
+lane_awaited s l is = sym (ap (λ (items : List Session). lane_in items) is.begins)
 
 -- so they stay where one of them goes, or none does
 pub paired_popped : (xs ys : List Seated) (o : Option Seated) (es : List LaneEnd) → xs ≡ ys ++ option_to_list o → length xs ≤ length es → ArePaired xs es → ArePaired ys es
 paired_popped xs ys None es is low paired = subst (λ (l : List Seated). ArePaired l es) (is ∙ append-nil ys) paired
 paired_popped xs ys (Some s) [] is low paired = let more : length xs ≡ length ys + 1 = ap (λ (l : List Seated). length l) is ∙ length_push ys s in absurd (omega (arith, more, low))
-paired_popped xs ys (Some s) (e ∷ es) is low paired =
-    let more : length xs ≡ length ys + 1 = ap (λ (l : List Seated). length l) is ∙ length_push ys s in
-    (paired_last ys s (e ∷ es) e (omega (arith, more, low)) (subst (λ (l : List Seated). ArePaired l (e ∷ es)) is paired)).1
+paired_popped xs ys (Some s) (e ∷ es) is low paired = (paired_last ys s (e ∷ es) e (subst (λ (l : List Seated). ArePaired l (e ∷ es)) is paired)).1
+
+-- and the one that goes is awaited by the end that is the first of those handed out then
+pub popped_awaited : (xs ys : List Seated) (o : Option Seated) (es : List LaneEnd) → xs ≡ ys ++ option_to_list o → length xs ≤ length es → ArePaired xs es
+    → IfSome o (λ s. (end : LaneEnd) × (handed_out ys es ≡ end ∷ handed_out xs es) × IsAwaitedBy s end)
+popped_awaited xs ys None es is low paired = tt
+popped_awaited xs ys (Some s) es is low paired =
+    let more : length ys + 1 ≡ length xs = sym (ap (λ (l : List Seated). length l) is ∙ length_push ys s) in
+    let here : length ys < length es = omega (arith, more, low) in
+    let d : LaneEnd = (ends_more es (length ys) here).0 in
+    let end : LaneEnd = get_or es (length ys) d in
+    (end, drop_more es (length ys) d here ∙ ap (λ (n : ℕ). end ∷ drop n es) more, (paired_last ys s es d (subst (λ (l : List Seated). ArePaired l es) is paired)).0)
 
 -- an end behind them changes nothing
 pub paired_set : (xs : List Seated) (es : List LaneEnd) (i : ℕ) (l : LaneEnd) → length xs ≤ i → ArePaired xs es → ArePaired xs (set es i l)
-paired_set xs es i l high paired = paired ∙ ap (λ (k : List LaneEnd). lanes_at k) (sym (take-set-le (length xs) es i l high))
+paired_set [] es i l high paired = tt
+paired_set (x ∷ xs) [] i l high paired = absurd paired
+paired_set (x ∷ xs) (e ∷ es) zero l high paired = absurd (omega (arith, high))
+paired_set (x ∷ xs) (e ∷ es) (suc i) l high paired = (paired.0, paired_set xs es i l (omega (arith, high)) paired.1)
 
-drop_folded : (later : List ℕ) (ys : List LaneEnd) → drop (length ys) (fold (λ (ns : List ℕ) (e : LaneEnd). lane_at e ∷ ns) later ys) ≡ later
-drop_folded later [] = refl
-drop_folded later (y ∷ ys) =
-    let all = fold (λ (ns : List ℕ) (e : LaneEnd). lane_at e ∷ ns) (lane_at y ∷ later) ys in
-    let next : suc (length ys) ≡ length ys + 1 = omega arith in
-    ap (λ (n : ℕ). drop n all) next ∙ sym (drop-drop 1 (length ys) all) ∙ ap (λ (ns : List ℕ). drop 1 ns) (drop_folded (lane_at y ∷ later) ys)
-
-front_of : (n : ℕ) (es : List LaneEnd) → lanes_at (take n es) ≡ drop (length es - n) (lanes_at es)
-front_of n es =
-    let parts = sym (fold-append (λ (ns : List ℕ) (e : LaneEnd). lane_at e ∷ ns) [] (take n es) (drop n es)) ∙ ap (λ (l : List LaneEnd). lanes_at l) (take-append-drop n es) in
-    sym (drop_folded (lanes_at (take n es)) (drop n es)) ∙ ap (λ (ns : List ℕ). drop (length (drop n es)) ns) parts ∙ ap (λ (m : ℕ). drop m (lanes_at es)) (length-drop n es)
-
--- nor do ends of the same lanes
-pub paired_kept : (xs : List Seated) (es fs : List LaneEnd) → lanes_at fs ≡ lanes_at es → length fs ≡ length es → ArePaired xs es → ArePaired xs fs
-paired_kept xs es fs same long paired =
-    let n = length xs in
-    paired ∙ front_of n es ∙ ap (λ (ns : List ℕ). drop (length es - n) ns) (sym same) ∙ ap (λ (m : ℕ). drop (m - n) (lanes_at fs)) (sym long) ∙ sym (front_of n fs)
+-- nor do other ends behind as many
+pub paired_kept : (xs : List Seated) (es fs : List LaneEnd) → take (length xs) fs ≡ take (length xs) es → ArePaired xs es → ArePaired xs fs
+paired_kept [] es fs same paired = tt
+paired_kept (x ∷ xs) [] fs same paired = absurd paired
+paired_kept (x ∷ xs) (e ∷ es) [] same paired = absurd cc
+paired_kept (x ∷ xs) (e ∷ es) (f ∷ fs) same paired =
+    let both : f ∷ take (length xs) fs ≡ e ∷ take (length xs) es = same in
+    let first : f ≡ e = cc in
+    let rest : take (length xs) fs ≡ take (length xs) es = cc in
+    (subst (λ (l : LaneEnd). IsAwaitedBy x l) (sym first) paired.0, paired_kept xs es fs rest paired.1)
 
 -- a lane for each session
 pub lanes_long : (later : List ℕ) (xs : List Seated) → length (fold (λ (ns : List ℕ) (s : Seated). (view_of s.session).lane.0 ∷ ns) later xs) ≡ length later + length xs

@@ -1,5 +1,5 @@
 -- A session stays one that may come back, over each of its calls.
-use Rattle.std.proofs.Common.{ℕ, ◌≡◌, List, [], ◌∷◌, ◌++◌, All, Option, Some, None, IfSome, ap, sym, ◌∙◌, subst}
+use Rattle.std.proofs.Common.{ℕ, ◌≡◌, List, [], ◌∷◌, ◌++◌, All, Option, Some, None, IfSome, ap, refl, sym, ◌∙◌, subst}
 use Rattle.monitor.specs.Seats.{Home}
 use Rattle.monitor.specs.Words.{setting_of}
 use Rattle.monitor.specs.declared.view.Plan.{Plan}
@@ -14,8 +14,19 @@ use Rattle.trim_helper.specs.Moves.{SameRings}
 use Rattle.heap_model.specs.declared.ids.Lane.{Lane}
 use Rattle.hosted_heap.specs.Lanes.{BeginsJoined, IsBack, IsJoinedHere, IsLaneEnd, lane_at, lane_in}
 use Rattle.hosted_heap.specs.Returning.{IsLater, MayReturn, MayReturnWaiting}
-use Rattle.hosted_heap.specs.Sessions.{Seated}
+use Rattle.hosted_heap.specs.Sessions.{ResumesInPlace, SamePlace, Seated, SeatedWaiting, StillInPlace, WaitsInPlace}
+use Rattle.hosted_heap.specs.Stopping.{Stopping}
 use Rattle.hosted_heap.specs.declared.lane_end.LaneEnd.{LaneEnd}
+use Rattle.hosted_heap.specs.declared.returning.Returning.{Returning}
+use Rattle.rtrb.specs.declared.producer.Producer.{Producer}
+use Rattle.std.specs.Global.{Global}
+
+-- a session by its parts, and one that waits
+abbrev pub seated_of : Home → Session → Producer Session Global Returning → Stopping → Seated
+seated_of h x b stop = record { home = h; session = x; back = b; stop = stop }
+
+abbrev pub waiting_of : Home → Waiting → Producer Session Global Returning → Stopping → SeatedWaiting
+waiting_of h w b stop = record { home = h; waiting = w; back = b; stop = stop }
 
 pub after_call : (h : Home) (before : List Session) (x y : Session) → IsSessionOf h x → IsSessionOf h y → SameRing x y → MayReturn before x → MayReturn before y
 after_call h before x y of now same may = λ s more is.
@@ -92,3 +103,16 @@ ends_on law h c d rings later ls same_capacity same all =
 pub joined_on : RingsLaw → (h : Home) (c d : ℕ) (rings later : Rings) (ss : List Seated) → d ≡ c → SameRings rings later → All (IsJoinedHere h c rings) ss → All (IsJoinedHere h d later) ss
 joined_on law h c d rings later ss same_capacity same all =
     subst (λ (n : ℕ). All (IsJoinedHere h n later) ss) (sym same_capacity) (All-weaker (IsJoinedHere h c rings) (IsJoinedHere h c later) (λ s is. law h c rings later s.session is same) ss all)
+
+-- over a call the session keeps its place
+pub same_place : (s : Seated) (h : Home) (x y : Session) (b : Producer Session Global Returning) (stop : Stopping) → seated_of h x b stop ≡ s → IsSessionOf h y → SameRing x y → SamePlace s (seated_of h y b stop)
+same_place s h x y b stop is now same = subst (λ (t : Seated). SamePlace t (seated_of h y b stop)) is (record { home = refl; stop_is = refl; back_is = refl; of = λ was. now; ring = same })
+
+pub waits_in_place : (s : Seated) (h : Home) (x : Session) (w : Waiting) (b : Producer Session Global Returning) (stop : Stopping) → seated_of h x b stop ≡ s → IsWaitingOf h w → SameRingWaiting x w → WaitsInPlace s (waiting_of h w b stop)
+waits_in_place s h x w b stop is now same = subst (λ (t : Seated). WaitsInPlace t (waiting_of h w b stop)) is (record { home = refl; stop_is = refl; back_is = refl; of = λ was. now; ring = same })
+
+pub resumes_in_place : (v : SeatedWaiting) (h : Home) (w : Waiting) (y : Session) (b : Producer Session Global Returning) (stop : Stopping) → waiting_of h w b stop ≡ v → IsSessionOf h y → SameRingResumed w y → ResumesInPlace v (seated_of h y b stop)
+resumes_in_place v h w y b stop is now same = subst (λ (t : SeatedWaiting). ResumesInPlace t (seated_of h y b stop)) is (record { home = refl; stop_is = refl; back_is = refl; of = λ was. now; ring = same })
+
+pub still_in_place : (v : SeatedWaiting) (h : Home) (w x : Waiting) (b : Producer Session Global Returning) (stop : Stopping) → waiting_of h w b stop ≡ v → IsWaitingOf h x → SameRingStill w x → StillInPlace v (waiting_of h x b stop)
+still_in_place v h w x b stop is now same = subst (λ (t : SeatedWaiting). StillInPlace t (waiting_of h x b stop)) is (record { home = refl; stop_is = refl; back_is = refl; of = λ was. now; ring = same })

@@ -1,5 +1,5 @@
 -- The sessions that weren't handed out, by lane, and the lanes' ends behind them.
-use Rattle.std.proofs.Common.{ℕ, zero, suc, ◌≡◌, ◌+◌, ◌<◌, ◌≤◌, List, [], ◌∷◌, ◌++◌, Option, Some, None, IfSome, MatchOption, option_to_list, append-nil, length, drop, get_or, refl, sym, ◌∙◌, ap, arith}
+use Rattle.std.proofs.Common.{ℕ, zero, suc, ◌≡◌, ◌+◌, ◌<◌, ◌≤◌, List, [], ◌∷◌, ◌++◌, Option, Some, None, MatchOption, option_to_list, append-nil, length, drop, get_or, refl, sym, ◌∙◌, ap, arith}
 use Rattle.std.proofs.lemmas.List.{at_drop_more, get_or_default, length_push}
 use Rattle.std.proofs.lemmas.List.Sums.{fold-append}
 use Rattle.std.specs.Prelude.{Any}
@@ -7,7 +7,7 @@ use Rattle.std.specs.List.{range_with_len}
 use Rattle.running_heap.specs.Joined.{AreNew}
 use Rattle.session.specs.Sessions.{view_of}
 use Rattle.session.specs.declared.session.Session.{Session}
-use Rattle.hosted_heap.specs.Hosting.{handed_out, lanes_of}
+use Rattle.hosted_heap.specs.Hosting.{lanes_of}
 use Rattle.hosted_heap.specs.Sessions.{Seated}
 use Rattle.hosted_heap.specs.declared.lane_end.LaneEnd.{LaneEnd}
 
@@ -29,13 +29,6 @@ popped_next xs ys None n m count is cases = ap (λ (l : List Seated). lanes_of l
 pub ends_more : (es : List LaneEnd) (i : ℕ) → i < length es → (end : LaneEnd) × (drop i es ≡ end ∷ drop (i + 1) es)
 ends_more [] i low = absurd (omega (arith, low))
 ends_more (e ∷ es) i low = (get_or (e ∷ es) i e, at_drop_more (λ (l : List LaneEnd). l) (e ∷ es) i e low)
-
-pub popped_out : (xs ys : List Seated) (o : Option Seated) (es : List LaneEnd) → xs ≡ ys ++ option_to_list o → length xs ≤ length es
-    → IfSome o (λ s. (end : LaneEnd) × (handed_out ys es ≡ end ∷ handed_out xs es))
-popped_out xs ys None es is low = tt
-popped_out xs ys (Some s) es is low =
-    let more : length ys + 1 ≡ length xs = sym (ap (λ (l : List Seated). length l) is ∙ length_push ys s) in
-    let found = ends_more es (length ys) (omega (arith, more, low)) in (found.0, found.1 ∙ ap (λ (n : ℕ). found.0 ∷ drop n es) more)
 
 pub popped_none : (xs ys : List Seated) (o : Option Seated) → xs ≡ ys ++ option_to_list o → o ≡ None → ys ≡ xs
 popped_none xs ys None is none = sym (is ∙ append-nil ys)

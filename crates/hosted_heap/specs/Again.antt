@@ -1,14 +1,12 @@
 -- A session that has ended is handed out again (this project's own).
-use Rattle.std.specs.Prelude.{◌≡◌, ◌<◌, ℕ, List, ◌∷◌, [], All, None, Some, length, set}
+use Rattle.std.specs.Prelude.{◌≡◌, ◌<◌, ℕ, List, All, Some, length, set}
 use Rattle.std.specs.List.{slice_index_or}
-use Rattle.rtrb.specs.Ring.{received}
 use Rattle.running_heap.specs.Joined.{IsJoined}
 use Rattle.session.specs.Logs.{held_count}
 use Rattle.session.specs.Sessions.{view_of}
-use Rattle.session.specs.declared.session.Session.{Session}
 use Rattle.hosted_heap.specs.Closing.{GoesOn}
 use Rattle.hosted_heap.specs.Hosting.{Hosting}
-use Rattle.hosted_heap.specs.Lanes.{IsTaken}
+use Rattle.hosted_heap.specs.Lanes.{IsAwaitedBy, IsTaken}
 use Rattle.hosted_heap.specs.Sessions.{Seated}
 use Rattle.hosted_heap.specs.declared.lane_end.LaneEnd.{LaneEnd}
 
@@ -17,15 +15,13 @@ pub record GoesOnQuietly (x y : Hosting) : Type 0 where
   pub goes_on : GoesOn x y
   pub calls : y.calls ≡ x.calls
 
--- At one of these ends, and no other, the session that had come back there is gone, and what comes back next comes back by a ring that
--- begins with it.
-pub record LetsGo (old new : List LaneEnd) (s : Session) : Type 0 where
+-- At one of these ends, and no other, the session that had come back there is gone, and it is awaited there by a ring of its own.
+pub record LetsGo (old new : List LaneEnd) (s : Seated) : Type 0 where
   pub place : ℕ
   pub low : place < length old
-  pub came : (d : LaneEnd) → (slice_index_or old place d).came ≡ Some s
+  pub came : (d : LaneEnd) → (slice_index_or old place d).came ≡ Some s.session
   pub end : LaneEnd
-  pub none : end.came ≡ None
-  pub begins : received end.back ≡ s ∷ []
+  pub awaited : IsAwaitedBy s end
   pub others : new ≡ set old place end
 
 -- A session that had ended is handed out again, just as it came back: it is of the heap, joined to its helper, and it holds no monitor.
@@ -37,7 +33,7 @@ pub record HandsAgain (x y : Hosting) (s : Seated) : Type 0 where
   pub idle : held_count (view_of s.session) ≡ 0
   pub seen : List LaneEnd
   pub quietly : GoesOnQuietly x (record y { out = seen })
-  pub out : LetsGo seen y.out s.session
+  pub out : LetsGo seen y.out s
 
 -- Of the sessions that were handed out none that holds no monitor has ended.
 pub record HasNoneIdle (x y : Hosting) : Type 0 where

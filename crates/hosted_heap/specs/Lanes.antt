@@ -1,14 +1,13 @@
 -- Where sessions come back (this project's own).
-use Rattle.std.specs.Prelude.{ℕ, ◌≡◌, ◌<◌, ◌⊎◌, List, ◌∷◌, ◌++◌, [], Some, None, All, IfSome, IsSome, fold, length, option_to_list, take}
+use Rattle.std.specs.Prelude.{ℕ, ◌≡◌, ◌<◌, ◌⊎◌, List, ◌∷◌, ◌++◌, [], Some, None, All, IfSome, IsSome, fold, length, option_to_list}
 use Rattle.std.specs.List.{AllZip}
 use Rattle.monitor.specs.Seats.{Home}
-use Rattle.rtrb.specs.Ring.{SameConsumer, known_items, received}
+use Rattle.rtrb.specs.Ring.{IsPair, SameConsumer, known_items, received}
 use Rattle.running_heap.specs.Joined.{IsJoined}
 use Rattle.session.specs.Logs.{held_count}
 use Rattle.session.specs.Sessions.{view_of}
 use Rattle.session.specs.declared.session.Session.{Session}
 use Rattle.trim_helper.specs.Endings.{Rings}
-use Rattle.hosted_heap.specs.Hosting.{lanes_of}
 use Rattle.hosted_heap.specs.Sessions.{Seated}
 use Rattle.hosted_heap.specs.declared.lane_end.LaneEnd.{LaneEnd}
 
@@ -91,9 +90,17 @@ AreNewHere h word sessions = All (IsNewHere h word) sessions
 abbrev pub IsJoinedHere : (h : Home) (capacity : ℕ) (rings : Rings) → Seated → Type 0
 IsJoinedHere h capacity rings s = IsJoined h capacity rings s.session
 
--- these sessions are of the lanes whose ends come first
+-- The session goes back by the ring of this end, by which it was handed out, and is awaited there.
+pub record IsAwaitedBy (s : Seated) (l : LaneEnd) : Type 0 where
+  pub ring : IsPair s.back l.back
+  pub begins : received l.back ≡ s.session ∷ []
+  pub none : l.came ≡ None
+
+-- so these sessions are, each by one of these ends, the first by the first
 abbrev pub ArePaired : List Seated → List LaneEnd → Type 0
-ArePaired unused ends = lanes_of unused ≡ lanes_at (take (length unused) ends)
+ArePaired [] ends = Unit {0}
+ArePaired (s ∷ unused) [] = ⊥
+ArePaired (s ∷ unused) (l ∷ ends) = IsAwaitedBy s l × ArePaired unused ends
 
 -- they are ends of the same lanes, also once these sessions have come back to the first of them
 abbrev pub TakesBack : List Seated → (old new : List LaneEnd) → Type 0

@@ -1,50 +1,71 @@
 -- A session with the words of its heap, as contracts see it (this project's own).
 use Rattle.std.specs.Prelude.{ℕ, ◌<◌, ◌≡◌, List, Result, Ok, Err, IsSome, MatchResult}
+use Rattle.std.specs.Global.{Global}
 use Rattle.monitor.specs.Seats.{Home}
+use Rattle.rtrb.specs.declared.producer.Producer.{Producer}
 use Rattle.session.specs.declared.session.Session.{Session}
 use Rattle.session.specs.declared.waiting.Waiting.{Waiting}
-use Rattle.session.specs.Sessions.{IsSessionOf, IsWaitingOf}
+use Rattle.session.specs.Sessions.{IsSessionOf, IsWaitingOf, SameRing, SameRingResumed, SameRingStill, SameRingWaiting}
 use Rattle.hosted_heap.specs.Returning.{MayReturn, MayReturnWaiting}
 use Rattle.hosted_heap.specs.Stopping.{Stopping}
+use Rattle.hosted_heap.specs.declared.returning.Returning.{Returning}
 
--- the words of its heap, its session, what went through the ring by which it comes back, and what it has seen of a stop
+-- the words of its heap, its session, the ring by which it comes back, and what it has seen of a stop
 pub record Seated : Type 0 where
   pub home : Home
   pub session : Session
-  pub before : List Session
+  pub back : Producer Session Global Returning
   pub stop : Stopping
 
 pub record SeatedWaiting : Type 0 where
   pub home : Home
   pub waiting : Waiting
-  pub before : List Session
+  pub back : Producer Session Global Returning
   pub stop : Stopping
 
--- the session is of the heap with these words, and has seen this of its stop
-pub record IsOfHeap (h : Home) (stop : Stopping) (s : Seated) : Type 0 where
-  pub home : s.home ≡ h
-  pub stop_is : s.stop ≡ stop
+-- After a call the session is of the same heap, with its lane and the ring to its helper, comes back by the same ring, and has seen the same of
+-- its stop.
+pub record SamePlace (s t : Seated) : Type 0 where
+  pub home : t.home ≡ s.home
+  pub stop_is : t.stop ≡ s.stop
+  pub back_is : t.back ≡ s.back
+  pub of : IsSessionOf s.home s.session → IsSessionOf s.home t.session
+  pub ring : SameRing s.session t.session
 
-pub record IsOfHeapWaiting (h : Home) (stop : Stopping) (w : SeatedWaiting) : Type 0 where
-  pub home : w.home ≡ h
-  pub stop_is : w.stop ≡ stop
+-- so is one that began to wait, one that has resumed, and one that waits still
+pub record WaitsInPlace (s : Seated) (w : SeatedWaiting) : Type 0 where
+  pub home : w.home ≡ s.home
+  pub stop_is : w.stop ≡ s.stop
+  pub back_is : w.back ≡ s.back
+  pub of : IsSessionOf s.home s.session → IsWaitingOf s.home w.waiting
+  pub ring : SameRingWaiting s.session w.waiting
 
--- after a call it is of the same heap, and has seen the same of its stop
-abbrev pub SamePlace : Seated → Seated → Type 0
-SamePlace s t = IsOfHeap s.home s.stop t
+pub record ResumesInPlace (w : SeatedWaiting) (s : Seated) : Type 0 where
+  pub home : s.home ≡ w.home
+  pub stop_is : s.stop ≡ w.stop
+  pub back_is : s.back ≡ w.back
+  pub of : IsWaitingOf w.home w.waiting → IsSessionOf w.home s.session
+  pub ring : SameRingResumed w.waiting s.session
 
--- so is what a call that begins or ends a wait answers
+pub record StillInPlace (w v : SeatedWaiting) : Type 0 where
+  pub home : v.home ≡ w.home
+  pub stop_is : v.stop ≡ w.stop
+  pub back_is : v.back ≡ w.back
+  pub of : IsWaitingOf w.home w.waiting → IsWaitingOf w.home v.waiting
+  pub ring : SameRingStill w.waiting v.waiting
+
+-- what a call that begins or ends a wait answers
 abbrev pub SamePlaceWait : {E : Type 0} → Seated → Result SeatedWaiting (Seated × E) → Type 0
-SamePlaceWait s r = MatchResult r (IsOfHeapWaiting s.home s.stop) (λ e. IsOfHeap s.home s.stop e.0)
+SamePlaceWait s r = MatchResult r (WaitsInPlace s) (λ e. SamePlace s e.0)
 
 abbrev pub SamePlaceResume : {E : Type 0} → SeatedWaiting → Result Seated (SeatedWaiting × E) → Type 0
-SamePlaceResume w r = MatchResult r (IsOfHeap w.home w.stop) (λ e. IsOfHeapWaiting w.home w.stop e.0)
+SamePlaceResume w r = MatchResult r (ResumesInPlace w) (λ e. StillInPlace w e.0)
 
 -- A session has looked whether its heap has stopped, and nothing but what it has seen may be new. A stop that it had seen it sees again.
 pub record HasLookedAt (s t : Seated) : Type 0 where
   pub home : t.home ≡ s.home
   pub session : t.session ≡ s.session
-  pub before : t.before ≡ s.before
+  pub back : t.back ≡ s.back
   pub word : t.stop.word ≡ s.stop.word
   pub again : IsSome s.stop.seen → IsSome t.stop.seen
 
@@ -52,7 +73,7 @@ pub record HasLookedAt (s t : Seated) : Type 0 where
 pub record HasLookedWaiting (w v : SeatedWaiting) : Type 0 where
   pub home : v.home ≡ w.home
   pub waiting : v.waiting ≡ w.waiting
-  pub before : v.before ≡ w.before
+  pub back : v.back ≡ w.back
   pub word : v.stop.word ≡ w.stop.word
   pub again : IsSome w.stop.seen → IsSome v.stop.seen
 

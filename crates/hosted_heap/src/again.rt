@@ -1,7 +1,7 @@
 //! A session that has ended is handed out again.
-ghost use Rattle.std.specs.Prelude.{◌≡◌, ◌<◌, ◌≤◌, ◌∷◌, [], ℕ, All, IfNone, IfOk, IfSome, None, Some, true, false, drop, length, set, slice_index_or};
+ghost use Rattle.std.specs.Prelude.{◌≡◌, ◌<◌, ◌≤◌, [], ℕ, All, IfNone, IfOk, IfSome, None, Some, true, false, drop, length, set, slice_index_or, take};
 ghost use Rattle.std.specs.Arc.{arc_value};
-ghost use Rattle.hosted_heap.specs.Lanes.{IsIdle, IsLaneEnd, IsTaken, KeepCome, KeepsEnds};
+ghost use Rattle.hosted_heap.specs.Lanes.{IsAwaitedBy, IsIdle, IsLaneEnd, IsTaken, KeepCome, KeepsEnds};
 ghost use Rattle.hosted_heap.specs.declared.lane_end.LaneEnd.{LaneEnd as End};
 ghost use Rattle.rtrb.specs.Ring.{IsPair, known_free, known_items, received, sent};
 ghost use Rattle.trim_helper.specs.Endings.{Rings};
@@ -46,6 +46,7 @@ impl HostedHeap {
 
 // The place, from this one on, of an end whose session has come back and holds no monitor.
 fn find_idle(lanes: &mut Vec<LaneEnd>, first: usize) -> Option<usize>
+    ensures front { take first lanes.new.items ≡ take first lanes.old.items }
     ensures kept { KeepsEnds lanes.old.items lanes.new.items }
     ensures come { KeepCome lanes.old.items lanes.new.items }
     ensures count { length lanes.new.items ≡ length lanes.old.items }
@@ -91,7 +92,7 @@ fn hand_out_at(
     ensures home { result.home ≡ arc_value shared }
     ensures stop { result.stop ≡ stop }
     ensures session { (d : End) → (slice_index_or lanes.old.items place d).came ≡ Some result.session }
-    ensures new { (end : End) × (lanes.new.items ≡ set lanes.old.items place end) × (end.came ≡ None) × (received end.back ≡ result.session ∷ []) }
+    ensures new { (end : End) × (lanes.new.items ≡ set lanes.old.items place end) × IsAwaitedBy result end }
     ensures kept { KeepsEnds lanes.old.items lanes.new.items }
     ensures count { length lanes.new.items ≡ length lanes.old.items }
 {

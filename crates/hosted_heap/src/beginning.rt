@@ -3,7 +3,7 @@ ghost use Rattle.std.specs.Prelude.{◌≡◌, ◌∷◌, ◌++◌, [], ℕ, All
 ghost use Rattle.std.specs.List.{range_with_len};
 ghost use Rattle.std.specs.Arc.{arc_value};
 ghost use Rattle.hosted_heap.specs.Hosting.{lanes_of};
-ghost use Rattle.hosted_heap.specs.Lanes.{AreNewHere, IsJoinedHere, IsLaneEnd, lanes_at};
+ghost use Rattle.hosted_heap.specs.Lanes.{AreNewHere, ArePaired, IsAwaitedBy, IsJoinedHere, IsLaneEnd, lanes_at};
 ghost use Rattle.hosted_heap.specs.Sessions.{Seated};
 ghost use Rattle.hosted_heap.specs.declared.lane_end.LaneEnd.{LaneEnd as End};
 ghost use Rattle.monitor.specs.Seats.{Home};
@@ -34,7 +34,8 @@ pub fn begin_all(
     ensures homes { IfOk result (λ r. AreNewHere (arc_value shared.now) stop.old.word r.0.items) }
     ensures stop { stop.new ≡ stop.old }
     ensures in_order { IfOk result (λ r. lanes_of r.0.items ≡ range_with_len 0 (length sessions.items)) }
-    ensures paired { IfOk result (λ r. lanes_at r.1.items ≡ lanes_of r.0.items) }
+    ensures ends { IfOk result (λ r. lanes_at r.1.items ≡ lanes_of r.0.items) }
+    ensures paired { IfOk result (λ r. ArePaired r.0.items r.1.items) }
     ensures count { IfOk result (λ r. length r.0.items ≡ length r.1.items) }
     ensures lanes { (capacity : ℕ) (rings : Rings) → All (IsJoined (arc_value shared.now) capacity rings) sessions.items
         → IfOk result (λ r. All (IsLaneEnd (arc_value shared.now) capacity rings) r.1.items × All (IsJoinedHere (arc_value shared.now) capacity rings) r.0.items) }
@@ -64,7 +65,7 @@ fn add(
 ) -> Result<(), AllocError>
     requires of { IsSessionOf (arc_value shared.now) session }
     ensures added { OnOk result ((one : Seated) × (end : End) × (unused.new.items ≡ unused.old.items ++ one ∷ []) × (lanes.new.items ≡ lanes.old.items ++ end ∷ [])
-        × (one.home ≡ arc_value shared.now) × (one.session ≡ session) × (one.stop ≡ stop.old) × (received end.back ≡ session ∷ []) × (end.came ≡ None)) }
+        × (one.home ≡ arc_value shared.now) × (one.session ≡ session) × (one.stop ≡ stop.old) × IsAwaitedBy one end) }
     ensures same { stop.new ≡ stop.old }
 {
     let (shared, word, producer, back) = match outfit(alloc, shared, stop) {
@@ -136,6 +137,7 @@ pub fn seat(
     requires unread { (received back ≡ []) × (known_items back ≡ []) }
     ensures session { (result.0.home ≡ arc_value shared) × (result.0.session ≡ session) × (result.0.stop ≡ stop) }
     ensures end { (received result.1.back ≡ session ∷ []) × (result.1.came ≡ None) }
+    ensures ring { IsPair result.0.back result.1.back }
 {
     let mut producer = producer;
     let mut back = back;

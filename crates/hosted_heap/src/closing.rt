@@ -1,5 +1,5 @@
 //! A hosted heap is closed.
-ghost use Rattle.std.specs.Prelude.{◌≡◌, ◌<◌, ◌≤◌, [], ℕ, All, Any, IfErr, IfOk, Some, true, false, drop, length, set, slice_index_or};
+ghost use Rattle.std.specs.Prelude.{◌≡◌, ◌<◌, ◌≤◌, [], ℕ, All, Any, IfErr, IfOk, Some, true, false, drop, length, set, slice_index_or, take};
 ghost use Rattle.std.specs.List.{range_with_len};
 ghost use Rattle.hosted_heap.specs.Closing.{HasStopped};
 ghost use Rattle.hosted_heap.specs.Hosting.{IsClosedWith, hosted_device};
@@ -142,6 +142,7 @@ impl HostedHeap {
 
 // Whether the sessions of the lanes from this place on have come back.
 fn have_come(lanes: &mut Vec<LaneEnd>, first: usize) -> bool
+    ensures front { take first lanes.new.items ≡ take first lanes.old.items }
     ensures kept { KeepsEnds lanes.old.items lanes.new.items }
     ensures come { KeepCome lanes.old.items lanes.new.items }
     ensures came { result ≡ true → All HasCome (drop first lanes.new.items) }

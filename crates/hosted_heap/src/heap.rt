@@ -61,7 +61,9 @@ impl HostedHeap {
     ghost use Rattle.rtrb.specs.Ring.{known_items};
     ghost use Rattle.session.specs.Sessions.{view_of};
     ghost use Rattle.hosted_heap.specs.Rounds.{HasRound, HearsThreads, KeepsSessions, MakesRound};
+    ghost use Rattle.hosted_heap.specs.Lanes.{IsAwaitedBy};
     ghost use Rattle.hosted_heap.specs.declared.lane_end.LaneEnd.{LaneEnd};
+    ghost use Rattle.running_heap.specs.Joined.{IsJoined};
     ghost use Rattle.hosted_heap.specs.Hosting.{SameHeap, hosted_device};
     ghost use Rattle.hosted_heap.specs.Failing.{HasTold, failed_call};
     ghost use Rattle.hosted_heap.specs.declared.error.FailedCall.TheVariants as FailedCalls;
@@ -87,12 +89,14 @@ impl HostedHeap {
         self.layout.size()
     }
 
-    /// Hands out a session that was told nothing, of the least lane of which none was handed out. `None` once all were.
+    /// Hands out a session that was told nothing, of the least lane of which none was handed out; it is joined to the helper, and comes
+    /// back where it is awaited. `None` once all were.
     pub fn session(&mut self) -> Option<HostedSession>
         ensures next { MatchOption result (self.old.unused ≡ []) (λ s. self.old.unused ≡ (view_of s.session).lane.0 ∷ self.new.unused) }
-        ensures out { IfSome result (λ s. (end : LaneEnd) × (self.new.out ≡ end ∷ self.old.out)) }
+        ensures out { IfSome result (λ s. (end : LaneEnd) × (self.new.out ≡ end ∷ self.old.out) × IsAwaitedBy s end) }
         ensures untold { IfSome result (λ s. (view_of s.session).events ≡ []) }
         ensures home { IfSome result (λ s. s.home ≡ self.old.home) }
+        ensures joined { IfSome result (λ s. IsJoined self.old.home self.old.helper.store.known.layout.capacity self.old.helper.rings s.session) }
         ensures word { IfSome result (λ s. s.stop.word ≡ self.old.stop.word) }
         ensures none { result ≡ None → self.new ≡ self.old }
         ensures same { (self.new.home ≡ self.old.home) × (self.new.helper ≡ self.old.helper) × (self.new.calls ≡ self.old.calls) × (self.new.stop ≡ self.old.stop) }

@@ -20,8 +20,8 @@ use std::sync::Arc;
 
 /// A session, with the words of its heap: a host can't use it with another heap's. It may go to another thread.
 ///
-/// Its calls answer as those of a [`Session`]. Contracts see it as its words, its session, and what went through the ring by which
-/// it comes back, and what it has seen of a stop.
+/// Its calls answer as those of a [`Session`]. Contracts see it as its words, its session, the ring by which it comes back, and
+/// what it has seen of a stop.
 #[derive(Drop)]
 pub struct HostedSession {
     pub(crate) shared: Arc<Shared>,
@@ -41,7 +41,7 @@ impl Model for HostedSession {
 
     ghost coded = { Prim.hlevel (codes, sessions.the_row.coded) };
 
-    ghost view = { λ s. record { home = arc_value s.shared; session = s.session; before = sent s.back; stop = s.stop } };
+    ghost view = { λ s. record { home = arc_value s.shared; session = s.session; back = s.back; stop = s.stop } };
 
     ghost invariant = { λ s. IsSeated (arc_value s.shared) s.session (sent s.back) (known_free s.back) };
 }
@@ -49,6 +49,7 @@ impl Model for HostedSession {
 impl HostedSession {
     ghost use Rattle.std.specs.Prelude.{◌≡◌, [], ◌∷◌, ◌++◌, IsSome, true};
     ghost use Rattle.std.specs.Option.{is_some};
+    ghost use Rattle.rtrb.specs.Ring.{sent};
     ghost use Rattle.hosted_heap.specs.Sessions.{HasLookedAt, SamePlace, SamePlaceWait, inner_wait};
     ghost use Rattle.session.specs.Calls.{AsksToWait, Enters, Exits, Loads, Looks, Notifies, NotifiesAll, ReadsStable, StoresAs};
     ghost use Rattle.session.specs.Logs.{sections_ended};
@@ -180,7 +181,7 @@ impl HostedSession {
     /// Ends the session, and lets it come back to its heap: it is the last that went into the ring by which it comes back. It may still
     /// hold monitors: then its heap isn't closed.
     pub fn end(self) -> Returned
-        ensures back { result ≡ self.before ++ self.session ∷ [] }
+        ensures back { result ≡ sent self.back ++ self.session ∷ [] }
     {
         let HostedSession {
             shared,

@@ -32,7 +32,7 @@ impl Model for HostedWaiting {
 
     ghost coded = { Prim.hlevel (codes, sessions.the_row.coded, waits.the_row.coded) };
 
-    ghost view = { λ w. record { home = arc_value w.shared; waiting = w.waiting; before = sent w.back; stop = w.stop } };
+    ghost view = { λ w. record { home = arc_value w.shared; waiting = w.waiting; back = w.back; stop = w.stop } };
 
     ghost invariant = { λ w. IsSeatedWaiting (arc_value w.shared) w.waiting (sent w.back) (known_free w.back) };
 }

@@ -9,6 +9,8 @@ use Rattle.deferred_disk.specs.declared.call.TheConstants.{MOST_BYTES}
 use Rattle.deferred_disk.specs.declared.disk.TheConstants.{SYNCS}
 use Rattle.hosted_heap.specs.Again.{HandsAgain, HasNoneIdle}
 use Rattle.hosted_heap.specs.Closing.{IsNotClosed}
+use Rattle.running_heap.specs.Joined.{IsJoined}
+use Rattle.hosted_heap.specs.Lanes.{IsAwaitedBy}
 use Rattle.hosted_heap.specs.Hosting.{Hosting, IsClosedWith, SameHeap, hosted_device}
 use Rattle.hosted_heap.specs.Meeting.{AreAllMade, FetchesAll, SameButMet}
 use Rattle.hosted_heap.specs.Opening.{IsFound, IsMade, RefusesMaking, RefusesOpening}
@@ -99,7 +101,8 @@ pub data OpensAt (versions : Versions) (bytes : List ℕ) (found : Found) (after
   IsOpen : (x : Hosting) → IsOpened versions bytes x found → after ≡ heap_behind x → status ≡ OK → OpensAt versions bytes found after status
   NotOpen : RefusesOpen versions bytes status → after ≡ nothing_behind → OpensAt versions bytes found after status
 
--- the session of the next lane, which was told nothing, and the heap that handed it out
+-- the session of the next lane, which was told nothing, is joined to the helper and comes back where it is awaited, and the heap that handed
+-- it out
 pub record IsNext (x y : Hosting) (s : Seated) : Type 0 where
   pub lane : x.unused ≡ (view_of s.session).lane.0 ∷ y.unused
   pub untold : (view_of s.session).events ≡ []
@@ -107,6 +110,8 @@ pub record IsNext (x y : Hosting) (s : Seated) : Type 0 where
   pub word_is : s.stop.word ≡ x.stop.word
   pub end : LaneEnd
   pub out : y.out ≡ end ∷ x.out
+  pub awaited : IsAwaitedBy s end
+  pub joined : IsJoined x.home x.helper.store.known.layout.capacity x.helper.rings s.session
   pub home : y.home ≡ x.home
   pub helper : y.helper ≡ x.helper
   pub calls : y.calls ≡ x.calls

@@ -10,6 +10,7 @@ use Rattle.heap_model.specs.declared.event.Sight.TheVariants.{Found, StillInSet}
 use Rattle.heap_model.specs.declared.ids.FieldId.{FieldId}
 use Rattle.heap_model.specs.declared.ids.Lane.{Lane}
 use Rattle.heap_model.specs.declared.ids.ObjectId.{ObjectId}
+use Rattle.rtrb.specs.Ring.{sent}
 use Rattle.hosted_heap.specs.Sessions.{SamePlace, SamePlaceResume, SamePlaceWait, Seated, SeatedWaiting, inner_resume, inner_wait}
 use Rattle.lock_word.specs.Spelling.{sight_of}
 use Rattle.lock_word.specs.WaitMask.{bit_of}
@@ -41,7 +42,7 @@ abbrev pub OfSession : (Seated → Held → ℕ → Type 0) → Open → Held �
 OfSession p (kind.Session s) after status = p s after status
 OfSession p other after status = HasNoSession other after status
 
--- the session is there again, of the same heap
+-- the session is there again, of the same heap, with its lane, its ring and the way by which it comes back
 abbrev pub Stays : (Seated → Seated → ℕ → Type 0) → Seated → Held → ℕ → Type 0
 Stays p s after status = (t : Seated) × (after ≡ session_behind t) × SamePlace s t × p s t status
 
@@ -170,5 +171,5 @@ Ends = OfSession (λ s after status. (status ≡ OK) × (after ≡ nothing_behin
 -- The same, as the library works on what it took out: nothing is left of a session that is ended, and it has come back to its heap, as
 -- the last that went into the ring by which it comes back.
 abbrev pub EndsTo : Open → (after : Open) → (back : Option (List Session)) → (status : ℕ) → Type 0
-EndsTo (kind.Session s) after back status = (status ≡ OK) × (after ≡ kind.Nothing) × (back ≡ Some (s.before ++ s.session ∷ []))
+EndsTo (kind.Session s) after back status = (status ≡ OK) × (after ≡ kind.Nothing) × (back ≡ Some (sent s.back ++ s.session ∷ []))
 EndsTo other after back status = HasNoSession other (behind after) status

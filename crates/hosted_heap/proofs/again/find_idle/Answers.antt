@@ -1,4 +1,5 @@
-use Rattle.std.proofs.Common.{ℕ, ◌≡◌, ◌<◌, ◌≤◌, ◌+◌, List, get_or, length, refl, sym, ◌∙◌, subst, arith}
+use Rattle.std.proofs.Common.{ℕ, ◌≡◌, ◌<◌, ◌≤◌, ◌+◌, List, get_or, length, take, ap, refl, sym, ◌∙◌, subst, arith}
+use Rattle.std.proofs.lemmas.List.{take-set-le}
 use Rattle.hosted_heap.specs.Lanes.{IsTaken}
 use Rattle.hosted_heap.specs.declared.lane_end.LaneEnd.{LaneEnd}
 use Rattle.hosted_heap.proofs.Coming.{all_same, all_twice}
@@ -6,7 +7,7 @@ use Rattle.hosted_heap.proofs.Ends.{all_from, each_set}
 use Rattle.hosted_heap.proofs.again.find_idle.Goals as goal
 
 pub loop-place-init : goal.loop-place-init
-loop-place-init c = (λ h k rings all. (all, refl), refl, λ i d low high. absurd (omega (arith, low, high)), all_same c.args.lanes.now.items)
+loop-place-init c = (λ h k rings all. (all, refl), refl, λ i d low high. absurd (omega (arith, low, high)), all_same c.args.lanes.now.items, refl)
 
 pub loop-place-preserved : goal.loop-place-preserved
 loop-place-preserved c =
@@ -24,6 +25,7 @@ loop-place-preserved c =
       subst (λ (ls : List LaneEnd). (i : ℕ) (d : LaneEnd) → c.args.first ≤ i → i < place + 1 → IsTaken (get_or ls i d)) (sym seen.1)
           (each_set IsTaken lanes c.args.first place seen.0 (omega (arith, low, end, same)) was.2 (seen.2 c.if-is_idle_at.false)),
       all_twice c.args.lanes.now.items lanes c.is_idle_at.new.lanes.items was.3 c.is_idle_at.ensures.come,
+      ap (λ (ls : List LaneEnd). take c.args.first ls) seen.1 ∙ take-set-le c.args.first lanes place seen.0 c.loop-place.auto.place ∙ was.4,
     )
 
 pub returns-then-is_idle_at-clause-kept : goal.returns-then-is_idle_at-clause-kept
@@ -55,3 +57,11 @@ returns-then-is_idle_at-clause-come c = all_twice c.args.lanes.now.items c.loop-
 
 pub returns-clause-come : goal.returns-clause-come
 returns-clause-come c = c.loop-place.invariant.3
+
+pub returns-then-is_idle_at-clause-front : goal.returns-then-is_idle_at-clause-front
+returns-then-is_idle_at-clause-front c =
+    let seen = c.is_idle_at.ensures.taken in
+    ap (λ (ls : List LaneEnd). take c.args.first ls) seen.1 ∙ take-set-le c.args.first c.loop-place.lanes.items c.loop-place.place seen.0 c.loop-place.auto.place ∙ c.loop-place.invariant.4
+
+pub returns-clause-front : goal.returns-clause-front
+returns-clause-front c = c.loop-place.invariant.4

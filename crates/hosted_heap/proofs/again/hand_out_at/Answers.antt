@@ -84,6 +84,9 @@ returns-clause-new c =
     let end : LaneEnd = c.seat-session.result.1 in (
       end,
       ap (λ (ls : List LaneEnd). set ls place end) (c.take_at-came.ensures.left d) ∙ set-set lanes place left end,
-      c.seat-session.ensures.end.1,
-      c.seat-session.ensures.end.0 ∙ ap (λ (s : Session). s ∷ []) (sym c.seat-session.ensures.session.1),
+      record {
+        ring = c.seat-session.ensures.ring;
+        begins = c.seat-session.ensures.end.0 ∙ ap (λ (s : Session). s ∷ []) (sym c.seat-session.ensures.session.1);
+        none = c.seat-session.ensures.end.1;
+      },
     )

@@ -1,6 +1,7 @@
-use Rattle.std.proofs.Common.{sym, ◌∙◌, subst}
+use Rattle.std.proofs.Common.{[], ◌∷◌, ap, sym, ◌∙◌, subst}
 use Rattle.monitor.specs.Seats.{Home}
 use Rattle.session.specs.Sessions.{IsSessionOf}
+use Rattle.session.specs.declared.session.Session.{Session}
 use Rattle.hosted_heap.proofs.beginning.add.Goals as goal
 
 pub seat-session-requires-clause-of : goal.seat-session-requires-clause-of
@@ -17,6 +18,5 @@ returns-clause-added c =
       seated.session.0 ∙ made.home,
       seated.session.1,
       seated.session.2 ∙ made.word,
-      seated.end.0,
-      seated.end.1,
+      record { ring = seated.ring; begins = seated.end.0 ∙ ap (λ (s : Session). s ∷ []) (sym seated.session.1); none = seated.end.1 },
     )

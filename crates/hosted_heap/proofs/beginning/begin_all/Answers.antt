@@ -2,16 +2,17 @@ use Rattle.std.proofs.Common.{ℕ, ◌≡◌, ◌+◌, All, IfSome, List, Option
 use Rattle.std.proofs.lemmas.List.{length_push}
 use Rattle.std.proofs.lemmas.List.Elements.{All-nil, All-pop, All-push}
 use Rattle.monitor.specs.Seats.{Home}
+use Rattle.rtrb.specs.Ring.{received}
 use Rattle.running_heap.specs.Joined.{AreNew, IsJoined}
 use Rattle.session.specs.Sessions.{IsSessionOf, view_of}
 use Rattle.session.specs.declared.session.Session.{Session}
 use Rattle.std.specs.Arc.{arc_value}
 use Rattle.hosted_heap.specs.Hosting.{lanes_of}
-use Rattle.hosted_heap.specs.Lanes.{AreNewHere, IsBack, IsJoinedHere, IsLaneEnd, IsNewHere, lane_at, lane_in, lanes_at}
+use Rattle.hosted_heap.specs.Lanes.{AreNewHere, ArePaired, IsBack, IsJoinedHere, IsLaneEnd, IsNewHere, lane_at, lane_in, lanes_at}
 use Rattle.hosted_heap.specs.Sessions.{Seated}
 use Rattle.hosted_heap.specs.Stopping.{Stopping}
 use Rattle.hosted_heap.specs.declared.lane_end.LaneEnd.{LaneEnd}
-use Rattle.hosted_heap.proofs.Ends.{lanes_at_more}
+use Rattle.hosted_heap.proofs.Ends.{lanes_at_more, paired_more}
 use Rattle.hosted_heap.proofs.Orders.{lanes_down, lanes_more, new_popped}
 use Rattle.hosted_heap.proofs.beginning.begin_all.Invariants.{IsDown}
 use Rattle.hosted_heap.proofs.beginning.begin_all.Goals as goal
@@ -30,6 +31,7 @@ sessions-init c =
       λ k rings all. (all, subst (All (IsLaneEnd h k rings)) (sym c.new-lanes.ensures.items) (All-nil (IsLaneEnd h k rings)), subst (All (IsJoinedHere h k rings)) (sym none) (All-nil (IsJoinedHere h k rings))),
       ap (λ (es : List LaneEnd). lanes_at es) c.new-lanes.ensures.items ∙ sym (ap (λ (u : List Seated). lanes_of u) none),
       refl,
+      subst (λ (u : List Seated). ArePaired u c.new-lanes.result.items) (sym none) tt,
     )
 
 pub sessions-preserved : goal.sessions-preserved
@@ -44,6 +46,7 @@ sessions-preserved c =
     let one : Seated = added.0 in
     let end : LaneEnd = added.1 in
     let popped : c.sessions.left.items ≡ left ++ s ∷ [] = c.in-Some.ensures.items in
+    let begins : received end.back ≡ s ∷ [] = added.7.begins ∙ ap (λ (x : Session). x ∷ []) added.5 in
     let new = new_popped 0 left s (subst (AreNew 0) popped was.0) in
     let fewer : length c.sessions.left.items ≡ length left + 1 = ap (λ (l : List Session). length l) popped ∙ length_push left s in
     let pushed : c.add.new.unused.items ≡ unused ++ one ∷ [] = added.2 in
@@ -64,15 +67,17 @@ sessions-preserved c =
             parts.0,
             subst (All (IsLaneEnd h k rings)) (sym added.3)
                 (All-push (IsLaneEnd h k rings) _ end each.1 (record {
-                  first = (s, [], added.7, parts.1);
-                  came = subst (λ (o : Option Session). IfSome o (IsBack h k rings (lane_at end))) (sym added.8) tt;
+                  first = (s, [], begins, parts.1);
+                  came = subst (λ (o : Option Session). IfSome o (IsBack h k rings (lane_at end))) (sym added.7.none) tt;
                 })),
             subst (All (IsJoinedHere h k rings)) (sym pushed) (All-push (IsJoinedHere h k rings) unused one each.2 (subst (IsJoined h k rings) (sym added.5) parts.1)),
           ),
       ap (λ (es : List LaneEnd). lanes_at es) added.3 ∙ lanes_at_more c.sessions.lanes.items end
-          ∙ ap (λ (n : ℕ). n ∷ lanes_at c.sessions.lanes.items) (ap (λ (items : List Session). lane_in items) added.7 ∙ sym (ap (λ (x : Session). (view_of x).lane.0) added.5))
+          ∙ ap (λ (n : ℕ). n ∷ lanes_at c.sessions.lanes.items) (ap (λ (items : List Session). lane_in items) begins ∙ sym (ap (λ (x : Session). (view_of x).lane.0) added.5))
           ∙ ap (λ (ns : List ℕ). (view_of one.session).lane.0 ∷ ns) was.6 ∙ sym (lanes_more unused one) ∙ sym (ap (λ (u : List Seated). lanes_of u) pushed),
       c.add.ensures.same ∙ was.7,
+      subst (λ (u : List Seated). ArePaired u c.add.new.lanes.items) (sym pushed)
+          (subst (λ (es : List LaneEnd). ArePaired (unused ++ one ∷ []) es) (sym added.3) (paired_more unused c.sessions.lanes.items one end was.2 was.8 added.7)),
     )
 
 pub returns-clause-lanes : goal.returns-clause-lanes

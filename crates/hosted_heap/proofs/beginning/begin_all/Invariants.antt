@@ -7,7 +7,7 @@ use Rattle.session.specs.declared.session.Session.{Session}
 use Rattle.std.specs.List.{range_with_len}
 use Rattle.hosted_heap.specs.Hosting.{lanes_of}
 use Rattle.hosted_heap.specs.Sessions.{Seated}
-use Rattle.hosted_heap.specs.Lanes.{AreNewHere, IsJoinedHere, IsLaneEnd, lanes_at}
+use Rattle.hosted_heap.specs.Lanes.{AreNewHere, ArePaired, IsJoinedHere, IsLaneEnd, lanes_at}
 use Rattle.hosted_heap.proofs.beginning.begin_all.Given as goal
 
 -- the lanes of those that are left come before these, which are in order
@@ -19,7 +19,7 @@ invariant-sessions l = AreNew 0 l.left.items × IsDown l.left.items l.unused.ite
     × All (IsSessionOf (arc_value l.fn.shared)) l.left.items × AreNewHere (arc_value l.fn.shared) l.initial.stop.word l.unused.items
     × ((k : ℕ) (rings : Rings) → All (IsJoined (arc_value l.fn.shared) k rings) l.fn.sessions.items
     → All (IsJoined (arc_value l.fn.shared) k rings) l.left.items × All (IsLaneEnd (arc_value l.fn.shared) k rings) l.lanes.items × All (IsJoinedHere (arc_value l.fn.shared) k rings) l.unused.items)
-    × (lanes_at l.lanes.items ≡ lanes_of l.unused.items) × (l.stop ≡ l.initial.stop)
+    × (lanes_at l.lanes.items ≡ lanes_of l.unused.items) × (l.stop ≡ l.initial.stop) × ArePaired l.unused.items l.lanes.items
 
 abbrev pub decreases-sessions : goal.decreases-sessions
 decreases-sessions l = vec_len l.left

@@ -4,7 +4,7 @@ use Rattle.std.proofs.lemmas.List.Elements.{All-get_or, All-pop, All-set}
 use Rattle.hosted_heap.specs.Lanes.{ArePaired, HasCome, IsBack, IsJoinedHere, IsLaneEnd, lane_at, lanes_at}
 use Rattle.hosted_heap.specs.Sessions.{Seated}
 use Rattle.hosted_heap.specs.declared.lane_end.LaneEnd.{LaneEnd}
-use Rattle.hosted_heap.proofs.Ends.{all_set, lanes_at_set, paired_last, paired_set}
+use Rattle.hosted_heap.proofs.Ends.{all_set, lane_awaited, lanes_at_set, paired_last, paired_set}
 use Rattle.hosted_heap.proofs.Orders.{ends_more}
 use Rattle.hosted_heap.proofs.closing.bring_back.Goals as goal
 
@@ -34,10 +34,10 @@ sessions-preserved c =
       subst (λ (ls : List LaneEnd). All HasCome (drop (length left) ls)) (sym is) (subst (λ (n : ℕ). All HasCome (drop n (set lanes place next))) here behind),
       λ h k rings paired joined ends.
           let gone = was.2 h k rings paired joined ends in
-          let last = paired_last left s lanes d (omega (arith, here, low)) (subst (λ (l : List Seated). ArePaired l lanes) popped gone.0) in
+          let last = paired_last left s lanes d (subst (λ (l : List Seated). ArePaired l lanes) popped gone.0) in
           let parts = All-pop (IsJoinedHere h k rings) c.sessions.unused.items left (Some s) popped gone.1 in
           let old_end : IsLaneEnd h k rings (get_or lanes place d) = All-get_or (IsLaneEnd h k rings) lanes place d low gone.2 in
-          let back : IsBack h k rings (lane_at (get_or lanes place d)) s.session = record { joined = parts.1; lane_is = last.0 ∙ ap (λ (n : ℕ). lane_at (get_or lanes n d)) (sym here) } in
+          let back : IsBack h k rings (lane_at (get_or lanes place d)) s.session = record { joined = parts.1; lane_is = lane_awaited s (get_or lanes (length left) d) last.0 ∙ ap (λ (n : ℕ). lane_at (get_or lanes n d)) (sym here) } in
           let end : IsLaneEnd h k rings next = record { first = old_end.first; came = back } in
           subst (λ (ls : List LaneEnd). ArePaired left ls × All (IsJoinedHere h k rings) left × All (IsLaneEnd h k rings) ls × (lanes_at ls ≡ lanes_at c.args.lanes.now.items)) (sym is) (
             paired_set left lanes place next (omega (arith, here)) last.1,

@@ -1,4 +1,5 @@
-use Rattle.std.proofs.Common.{ℕ, ◌≡◌, ◌<◌, ◌≤◌, ◌+◌, List, get_or, length, refl, sym, ◌∙◌, subst, arith}
+use Rattle.std.proofs.Common.{ℕ, ◌≡◌, ◌<◌, ◌≤◌, ◌+◌, List, get_or, length, take, ap, refl, sym, ◌∙◌, subst, arith}
+use Rattle.std.proofs.lemmas.List.{take-set-le}
 use Rattle.hosted_heap.specs.Lanes.{HasCome, IsAwaited}
 use Rattle.hosted_heap.specs.declared.lane_end.LaneEnd.{LaneEnd}
 use Rattle.hosted_heap.proofs.Coming.{all_same, all_twice}
@@ -7,7 +8,7 @@ use Rattle.hosted_heap.proofs.Orders.{any_from}
 use Rattle.hosted_heap.proofs.closing.have_come.Goals as goal
 
 pub loop-place-init : goal.loop-place-init
-loop-place-init c = (λ h k rings all. (all, refl), refl, λ i d low high. absurd (omega (arith, low, high)), all_same c.args.lanes.now.items)
+loop-place-init c = (λ h k rings all. (all, refl), refl, λ i d low high. absurd (omega (arith, low, high)), all_same c.args.lanes.now.items, refl)
 
 pub loop-place-preserved : goal.loop-place-preserved
 loop-place-preserved c =
@@ -25,6 +26,7 @@ loop-place-preserved c =
       subst (λ (ls : List LaneEnd). (i : ℕ) (d : LaneEnd) → c.args.first ≤ i → i < place + 1 → HasCome (get_or ls i d)) (sym seen.1)
           (each_set HasCome lanes c.args.first place seen.0 (omega (arith, low, end, same)) was.2 (seen.2 c.if-not-has_come_at.false)),
       all_twice c.args.lanes.now.items lanes c.has_come_at.new.lanes.items was.3 c.has_come_at.ensures.come,
+      ap (λ (ls : List LaneEnd). take c.args.first ls) seen.1 ∙ take-set-le c.args.first lanes place seen.0 c.loop-place.auto.place ∙ was.4,
     )
 
 pub returns-then-not-has_come_at-clause-kept : goal.returns-then-not-has_come_at-clause-kept
@@ -55,3 +57,11 @@ returns-then-not-has_come_at-clause-come c = all_twice c.args.lanes.now.items c.
 
 pub returns-clause-come : goal.returns-clause-come
 returns-clause-come c = c.loop-place.invariant.3
+
+pub returns-then-not-has_come_at-clause-front : goal.returns-then-not-has_come_at-clause-front
+returns-then-not-has_come_at-clause-front c =
+    let seen = c.has_come_at.ensures.came in
+    ap (λ (ls : List LaneEnd). take c.args.first ls) seen.1 ∙ take-set-le c.args.first c.loop-place.lanes.items c.loop-place.place seen.0 c.loop-place.auto.place ∙ c.loop-place.invariant.4
+
+pub returns-clause-front : goal.returns-clause-front
+returns-clause-front c = c.loop-place.invariant.4

@@ -1,4 +1,4 @@
-use Rattle.std.proofs.Common.{ℕ, ◌≡◌, ◌<◌, ◌≤◌, length}
+use Rattle.std.proofs.Common.{ℕ, ◌≡◌, ◌<◌, ◌≤◌, length, take}
 use Rattle.std.specs.List.{slice_index_or}
 use Rattle.hosted_heap.specs.Lanes.{HasCome, KeepCome, KeepsEnds}
 use Rattle.hosted_heap.specs.declared.lane_end.LaneEnd.{LaneEnd}
@@ -8,4 +8,4 @@ use Rattle.hosted_heap.proofs.closing.have_come.Given as goal
 abbrev pub invariant-loop-place : goal.invariant-loop-place
 invariant-loop-place l = KeepsEnds l.initial.lanes.items l.lanes.items × (length l.lanes.items ≡ length l.initial.lanes.items)
     × ((i : ℕ) (d : LaneEnd) → l.fn.first ≤ i → i < l.place → HasCome (slice_index_or l.lanes.items i d))
-    × KeepCome l.initial.lanes.items l.lanes.items
+    × KeepCome l.initial.lanes.items l.lanes.items × (take l.fn.first l.lanes.items ≡ take l.fn.first l.initial.lanes.items)

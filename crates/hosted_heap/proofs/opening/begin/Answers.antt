@@ -1,4 +1,4 @@
-use Rattle.std.proofs.Common.{ℕ, All, List, length, take_all, ap, refl, sym, ◌∙◌, subst, arith}
+use Rattle.std.proofs.Common.{ℕ, All, List, length, ap, refl, sym, ◌∙◌, subst, arith}
 use Rattle.std.proofs.lemmas.List.{drop_all}
 use Rattle.std.proofs.lemmas.List.Elements.{All-weaker}
 use Rattle.deferred_disk.specs.Deferred.{Deferred}
@@ -13,9 +13,8 @@ use Rattle.steps.specs.Views.{plan}
 use Rattle.store_past.specs.Past.{no_past}
 use Rattle.trim_helper.specs.Parts.{IsServing}
 use Rattle.hosted_heap.specs.Hosting.{hosted_device}
-use Rattle.hosted_heap.specs.Lanes.{AreNewHere, lanes_at}
+use Rattle.hosted_heap.specs.Lanes.{AreNewHere}
 use Rattle.hosted_heap.specs.Stopping.{Stopping}
-use Rattle.hosted_heap.specs.declared.lane_end.LaneEnd.{LaneEnd}
 use Rattle.hosted_heap.proofs.opening.begin.Goals as goal
 
 pub begin_all-requires : goal.begin_all-requires
@@ -32,8 +31,6 @@ invariant_of-result c =
     let x = c.in-Ok.heap in
     let same = sym c.in-Ok-new.ensures.ok in
     let unused = c.in-Ok-begin_all.unused.items in
-    let lanes = c.in-Ok-begin_all.lanes.items in
-    let count = c.in-Ok-begin_all.ensures.count in
     let ends = c.in-Ok-begin_all.ensures.lanes x.helper.store.known.layout.capacity x.helper.rings
     (subst (λ (h : Home). All (IsJoined h x.helper.store.known.layout.capacity x.helper.rings) x.sessions.items) same
     (subst (λ (l : Layout). All (IsJoined x.shared l.capacity x.helper.rings) x.sessions.items) (sym c.in-Ok.ensures.layout) c.in-Ok.ensures.joined)) in
@@ -45,9 +42,9 @@ invariant_of-result c =
       unused_are = subst (λ (s : Stopping). AreNewHere (arc_value c.in-Ok-new.shared) s.word unused) (sym c.in-Ok-begin_all.ensures.stop) c.in-Ok-begin_all.ensures.homes;
       count = (let same = c.in-Ok-begin_all.ensures.count in omega (arith, same));
       lanes_are = ends.0;
-      order = c.in-Ok-begin_all.ensures.paired ∙ c.in-Ok-begin_all.ensures.in_order ∙ ap (λ (n : ℕ). range_with_len 0 n) c.in-Ok.ensures.count ∙ ap (λ (l : Layout). range_with_len 0 l.lanes) (sym c.layout-layout.ensures.layout);
+      order = c.in-Ok-begin_all.ensures.ends ∙ c.in-Ok-begin_all.ensures.in_order ∙ ap (λ (n : ℕ). range_with_len 0 n) c.in-Ok.ensures.count ∙ ap (λ (l : Layout). range_with_len 0 l.lanes) (sym c.layout-layout.ensures.layout);
       joined = ends.1;
-      paired = sym c.in-Ok-begin_all.ensures.paired ∙ ap (λ (es : List LaneEnd). lanes_at es) (sym (take_all (length unused) lanes (omega (arith, count))));
+      paired = c.in-Ok-begin_all.ensures.paired;
     }
 
 pub returns-in-Ok-begin_all : goal.returns-in-Ok-begin_all

@@ -2,13 +2,14 @@ use Rattle.std.proofs.Common.{refl, subst, arith}
 use Rattle.pool.specs.FreeList.{Place}
 use Rattle.pool_in_section.specs.Calls.{GivesSlot}
 use Rattle.zelamiku.specs.PoolDoors.{Gives, GivesNone, GivesToNone}
+use Rattle.zelamiku.proofs.Doors.{stays_put}
 use Rattle.zelamiku.proofs.pool_calls.give_by.Goals as goal
 
 pub returns-in_default : goal.returns-in_default
-returns-in_default c = (c.args.session, refl, record { home = refl; stop_is = refl }, GivesToNone c.in_default.ensures refl refl)
+returns-in_default c = (c.args.session, refl, stays_put c.args.session, GivesToNone c.in_default.ensures refl refl)
 
 pub returns-then-slot-slots : goal.returns-then-slot-slots
-returns-then-slot-slots c = (c.args.session, refl, record { home = refl; stop_is = refl }, GivesNone c.in-Some.ensures.0 c.if-slot-slots.true refl refl)
+returns-then-slot-slots c = (c.args.session, refl, stays_put c.args.session, GivesNone c.in-Some.ensures.0 c.if-slot-slots.true refl refl)
 
 pub returns : goal.returns
 returns c =

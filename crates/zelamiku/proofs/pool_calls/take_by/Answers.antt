@@ -2,10 +2,11 @@ use Rattle.std.proofs.Common.{refl, subst}
 use Rattle.pool.specs.FreeList.{Place}
 use Rattle.pool_in_section.specs.Calls.{TakesSlot}
 use Rattle.zelamiku.specs.PoolDoors.{Takes, TakesOfNone}
+use Rattle.zelamiku.proofs.Doors.{stays_put}
 use Rattle.zelamiku.proofs.pool_calls.take_by.Goals as goal
 
 pub returns-in_default-clause-told : goal.returns-in_default-clause-told
-returns-in_default-clause-told c = (c.args.session, refl, record { home = refl; stop_is = refl }, TakesOfNone c.in_default.ensures refl refl refl)
+returns-in_default-clause-told c = (c.args.session, refl, stays_put c.args.session, TakesOfNone c.in_default.ensures refl refl refl)
 
 pub returns-clause-told : goal.returns-clause-told
 returns-clause-told c =

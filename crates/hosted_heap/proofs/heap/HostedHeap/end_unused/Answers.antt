@@ -29,7 +29,7 @@ invariant_of-self c =
       lanes_are = moved.0;
       order = moved.1 ∙ was.order;
       joined = subst (All (IsJoinedHere h x.store.known.layout.capacity x.rings)) none (All-nil (IsJoinedHere h x.store.known.layout.capacity x.rings));
-      paired = subst (λ (u : List Seated). ArePaired u c.bring_back.new.lanes.items) none refl;
+      paired = subst (λ (u : List Seated). ArePaired u c.bring_back.new.lanes.items) none tt;
     }
 
 pub returns : goal.returns

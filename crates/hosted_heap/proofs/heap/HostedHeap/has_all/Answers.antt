@@ -1,7 +1,8 @@
-use Rattle.std.proofs.Common.{ℕ, ◌≡◌, All, Any, drop, length, ap, ◌∙◌, subst, arith}
+use Rattle.std.proofs.Common.{ℕ, ◌≡◌, All, Any, List, drop, length, take, ap, ◌∙◌, subst, arith}
 use Rattle.std.specs.Arc.{arc_value}
 use Rattle.hosted_heap.specs.Hosting.{Hosting, handed_out}
 use Rattle.hosted_heap.specs.Lanes.{HasCome, IsAwaited, KeepCome}
+use Rattle.hosted_heap.specs.declared.lane_end.LaneEnd.{LaneEnd}
 use Rattle.hosted_heap.proofs.Coming.{come_from}
 use Rattle.hosted_heap.proofs.Ends.{paired_kept}
 use Rattle.hosted_heap.proofs.heap.HostedHeap.has_all.Goals as goal
@@ -10,6 +11,9 @@ pub invariant_of-self : goal.invariant_of-self
 invariant_of-self c =
     let was = c.self.invariant in
     let x = c.self.inside.helper in
+    let old : List LaneEnd = c.self.inside.lanes.items in
+    let new : List LaneEnd = c.have_come.new.lanes.items in
+    let first : c.len-first.result ≡ length c.self.inside.unused.items = c.len-first.ensures ∙ c.self.inside.unused.ok.0 in
     let kept = c.have_come.ensures.kept (arc_value c.self.inside.shared) x.store.known.layout.capacity x.rings was.lanes_are in
     record {
       helping = was.helping;
@@ -21,7 +25,7 @@ invariant_of-self c =
       lanes_are = kept.0;
       order = kept.1 ∙ was.order;
       joined = was.joined;
-      paired = paired_kept c.self.inside.unused.items c.self.inside.lanes.items c.have_come.new.lanes.items kept.1 c.have_come.ensures.count was.paired;
+      paired = paired_kept c.self.inside.unused.items old new (subst (λ (n : ℕ). take n new ≡ take n old) first c.have_come.ensures.front) was.paired;
     }
 
 pub returns-clause-came : goal.returns-clause-came

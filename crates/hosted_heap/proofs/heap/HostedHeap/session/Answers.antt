@@ -2,14 +2,14 @@ use Rattle.std.proofs.Common.{ℕ, ◌≡◌, ◌+◌, ◌≤◌, ◌∷◌, ◌
 use Rattle.std.proofs.lemmas.List.{length-append}
 use Rattle.std.proofs.lemmas.List.Elements.{All-pop}
 use Rattle.monitor.specs.Seats.{Home}
+use Rattle.running_heap.specs.Joined.{IsJoined}
 use Rattle.session.specs.Sessions.{view_of}
 use Rattle.std.specs.Arc.{arc_value}
 use Rattle.hosted_heap.specs.Hosting.{Hosting, handed_out}
-use Rattle.hosted_heap.specs.Lanes.{IsJoinedHere, IsNewHere}
+use Rattle.hosted_heap.specs.Lanes.{IsAwaitedBy, IsJoinedHere, IsNewHere}
 use Rattle.hosted_heap.specs.Sessions.{Seated}
 use Rattle.hosted_heap.specs.declared.lane_end.LaneEnd.{LaneEnd}
-use Rattle.hosted_heap.proofs.Ends.{paired_popped}
-use Rattle.hosted_heap.proofs.Orders.{popped_out}
+use Rattle.hosted_heap.proofs.Ends.{paired_popped, popped_awaited}
 use Rattle.hosted_heap.proofs.heap.HostedHeap.session.Goals as goal
 
 pub invariant_of-self : goal.invariant_of-self
@@ -40,8 +40,15 @@ pub returns-clause-out : goal.returns-clause-out
 returns-clause-out c =
     let left = c.pop.new.self.items in
     let ends = c.self.inside.lanes.items in
-    subst (λ (x : Hosting). IfSome c.pop.result (λ s. (end : LaneEnd) × (handed_out left ends ≡ end ∷ x.out))) c.self.view_is
-    (popped_out c.self.inside.unused.items left c.pop.result ends c.pop.ensures.items c.self.invariant.count)
+    subst (λ (x : Hosting). IfSome c.pop.result (λ s. (end : LaneEnd) × (handed_out left ends ≡ end ∷ x.out) × IsAwaitedBy s end)) c.self.view_is
+    (popped_awaited c.self.inside.unused.items left c.pop.result ends c.pop.ensures.items c.self.invariant.count c.self.invariant.paired)
+
+pub returns-clause-joined : goal.returns-clause-joined
+returns-clause-joined c =
+    let h : Home = arc_value c.self.inside.shared in
+    let x = c.self.inside.helper in
+    subst (λ (v : Hosting). IfSome c.pop.result (λ s. IsJoined v.home v.helper.store.known.layout.capacity v.helper.rings s.session)) c.self.view_is
+    (All-pop (IsJoinedHere h x.store.known.layout.capacity x.rings) c.self.inside.unused.items c.pop.new.self.items c.pop.result c.pop.ensures.items c.self.invariant.joined).1
 
 -- a session of these words that was told nothing
 untold_of : (h : Home) (word : ℕ) (o : Option Seated) → IfSome o (IsNewHere h word) → IfSome o (λ s. (view_of s.session).events ≡ [])

@@ -1,8 +1,7 @@
-use Rattle.std.proofs.Common.{ℕ, ◌≡◌, ◌+◌, ◌-◌, ◌<◌, ◌≤◌, All, IfNone, IfSome, List, [], ◌∷◌, Option, Some, None, drop, get_or, length, set, ap, sym, ◌∙◌, subst, arith}
-use Rattle.std.proofs.lemmas.List.{drop-set-add, get_or-drop, length-drop}
+use Rattle.std.proofs.Common.{ℕ, ◌≡◌, ◌+◌, ◌-◌, ◌<◌, ◌≤◌, All, IfNone, IfSome, List, [], ◌∷◌, Option, Some, None, drop, get_or, length, set, take, ap, sym, ◌∙◌, subst, arith}
+use Rattle.std.proofs.lemmas.List.{drop-set-add, get_or-drop, length-drop, take-set-le}
 use Rattle.std.proofs.lemmas.List.Elements.{All-get_or}
 use Rattle.monitor.specs.Seats.{Home}
-use Rattle.rtrb.specs.Ring.{received}
 use Rattle.running_heap.specs.Joined.{IsJoined}
 use Rattle.session.specs.Logs.{held_count}
 use Rattle.session.specs.Sessions.{view_of}
@@ -11,7 +10,7 @@ use Rattle.std.specs.Arc.{arc_value}
 use Rattle.trim_helper.specs.Endings.{Rings}
 use Rattle.hosted_heap.specs.Again.{LetsGo}
 use Rattle.hosted_heap.specs.Hosting.{Hosting, handed_out}
-use Rattle.hosted_heap.specs.Lanes.{AreNewHere, IsBack, IsIdle, IsLaneEnd, IsTaken, KeepCome, lane_at}
+use Rattle.hosted_heap.specs.Lanes.{AreNewHere, IsAwaitedBy, IsBack, IsIdle, IsLaneEnd, IsTaken, KeepCome, lane_at}
 use Rattle.hosted_heap.specs.Sessions.{Seated}
 use Rattle.hosted_heap.specs.Stopping.{Stopping}
 use Rattle.hosted_heap.specs.declared.lane_end.LaneEnd.{LaneEnd}
@@ -31,6 +30,9 @@ joined_of h k rings l s end came = (subst (λ (o : Option Session). IfSome o (Is
 pub invariant_of-self-in_default : goal.invariant_of-self-in_default
 invariant_of-self-in_default c =
     let was = c.self.invariant in
+    let old : List LaneEnd = c.self.inside.lanes.items in
+    let new : List LaneEnd = c.find_idle.new.lanes.items in
+    let first : c.len-first.result ≡ length c.self.inside.unused.items = c.len-first.ensures ∙ c.self.inside.unused.ok.0 in
     let h : Home = arc_value c.self.inside.shared in
     let x = c.self.inside.helper in
     let word = sym (ap (λ (s : Stopping). s.word) c.outfit.ensures.same) in
@@ -45,7 +47,7 @@ invariant_of-self-in_default c =
       lanes_are = kept.0;
       order = kept.1 ∙ was.order;
       joined = was.joined;
-      paired = paired_kept c.self.inside.unused.items c.self.inside.lanes.items c.find_idle.new.lanes.items kept.1 c.find_idle.ensures.count was.paired;
+      paired = paired_kept c.self.inside.unused.items old new (subst (λ (n : ℕ). take n new ≡ take n old) first c.find_idle.ensures.front) was.paired;
     }
 
 pub returns-in_default-clause-again : goal.returns-in_default-clause-again
@@ -79,6 +81,12 @@ hand_out_at-session-requires-clause-ends c =
 pub invariant_of-self-2 : goal.invariant_of-self-2
 invariant_of-self-2 c =
     let was = c.self.invariant in
+    let old : List LaneEnd = c.self.inside.lanes.items in
+    let new : List LaneEnd = c.find_idle.new.lanes.items in
+    let first : c.len-first.result ≡ length c.self.inside.unused.items = c.len-first.ensures ∙ c.self.inside.unused.ok.0 in
+    let n = length c.self.inside.unused.items in
+    let place = c.in-Some.place in
+    let handed = c.hand_out_at-session.ensures.new in
     let h : Home = arc_value c.self.inside.shared in
     let x = c.self.inside.helper in
     let k = x.store.known.layout.capacity in
@@ -96,12 +104,13 @@ invariant_of-self-2 c =
       lanes_are = later.0;
       order = later.1 ∙ kept.1 ∙ was.order;
       joined = was.joined;
-      paired = paired_kept c.self.inside.unused.items c.self.inside.lanes.items c.hand_out_at-session.new.lanes.items (later.1 ∙ kept.1) long was.paired;
+      paired = paired_kept c.self.inside.unused.items old c.hand_out_at-session.new.lanes.items
+          (ap (λ (ls : List LaneEnd). take n ls) handed.1 ∙ take-set-le n new place handed.0 (subst (λ (m : ℕ). m ≤ place) first c.in-Some.ensures.place.0) ∙ subst (λ (m : ℕ). take m new ≡ take m old) first c.find_idle.ensures.front) was.paired;
     }
 
 -- the end at this place, behind the sessions that weren't handed out
-out_at : (n place : ℕ) (old new : List LaneEnd) (s : Session) → n ≤ place → place < length old → ((d : LaneEnd) → (get_or old place d).came ≡ Some s)
-    → (end : LaneEnd) × (new ≡ set old place end) × (end.came ≡ None) × (received end.back ≡ s ∷ []) → LetsGo (drop n old) (drop n new) s
+out_at : (n place : ℕ) (old new : List LaneEnd) (s : Seated) → n ≤ place → place < length old → ((d : LaneEnd) → (get_or old place d).came ≡ Some s.session)
+    → (end : LaneEnd) × (new ≡ set old place end) × IsAwaitedBy s end → LetsGo (drop n old) (drop n new) s
 out_at n place old new s low high came fresh =
     let at : n + (place - n) ≡ place = omega (arith, low) in
     let long = length-drop n old in
@@ -110,8 +119,7 @@ out_at n place old new s low high came fresh =
       low = omega (arith, low, high, long);
       came = λ d. ap (λ (l : LaneEnd). l.came) (get_or-drop n old (place - n) d ∙ ap (λ (i : ℕ). get_or old i d) at) ∙ came d;
       end = fresh.0;
-      none = fresh.2;
-      begins = fresh.3;
+      awaited = fresh.2;
       others = ap (λ (ends : List LaneEnd). drop n ends) (fresh.1 ∙ ap (λ (i : ℕ). set old i fresh.0) (sym at)) ∙ drop-set-add n old (place - n) fresh.0;
     }
 
@@ -146,5 +154,5 @@ returns-clause-again c =
         };
         calls = ap (λ (v : Hosting). v.calls) c.self.view_is;
       };
-      out = out_at (length unused) place lanes c.hand_out_at-session.new.lanes.items s (subst (λ (n : ℕ). n ≤ place) first c.in-Some.ensures.place.0) high handed.session handed.new;
+      out = out_at (length unused) place lanes c.hand_out_at-session.new.lanes.items c.hand_out_at-session.result (subst (λ (n : ℕ). n ≤ place) first c.in-Some.ensures.place.0) high handed.session handed.new;
     }
