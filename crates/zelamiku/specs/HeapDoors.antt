@@ -9,9 +9,8 @@ use Rattle.deferred_disk.specs.declared.call.TheConstants.{MOST_BYTES}
 use Rattle.deferred_disk.specs.declared.disk.TheConstants.{SYNCS}
 use Rattle.hosted_heap.specs.Again.{HandsAgain, HasNoneIdle}
 use Rattle.hosted_heap.specs.Closing.{IsNotClosed}
-use Rattle.running_heap.specs.Joined.{IsJoined}
-use Rattle.hosted_heap.specs.Lanes.{IsAwaitedBy}
 use Rattle.hosted_heap.specs.Hosting.{Hosting, IsClosedWith, SameHeap, hosted_device}
+use Rattle.hosted_heap.specs.Lanes.{IsAwaitedBy, IsJoinedHere}
 use Rattle.hosted_heap.specs.Meeting.{AreAllMade, FetchesAll, SameButMet}
 use Rattle.hosted_heap.specs.Opening.{IsFound, IsMade, RefusesMaking, RefusesOpening}
 use Rattle.hosted_heap.specs.Rounds.{HasRound}
@@ -111,7 +110,7 @@ pub record IsNext (x y : Hosting) (s : Seated) : Type 0 where
   pub end : LaneEnd
   pub out : y.out ≡ end ∷ x.out
   pub awaited : IsAwaitedBy s end
-  pub joined : IsJoined x.home x.helper.store.known.layout.capacity x.helper.rings s.session
+  pub joined : IsJoinedHere x.home x.helper.store.known.layout.capacity x.helper.rings s
   pub home : y.home ≡ x.home
   pub helper : y.helper ≡ x.helper
   pub calls : y.calls ≡ x.calls
