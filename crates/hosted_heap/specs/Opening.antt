@@ -1,7 +1,8 @@
 -- What a hosted heap begins with, and which refusal comes when (this project's own).
 use Rattle.std.specs.Prelude.{ℕ, ◌≡◌, ◌<◌, true, false, List, [], None, replicate, slice_index}
 use Rattle.std.specs.List.{range_with_len, slice_index_or}
-use Rattle.block_disk.specs.Device.{Device}
+use Rattle.block_disk.specs.Device.{Device, synced}
+use Rattle.block_disk.specs.Images.{LeavesOnly}
 use Rattle.block_disk.specs.Memory.{device_of, fresh}
 use Rattle.deferred_disk.specs.Deferred.{Deferred}
 use Rattle.deferred_disk.specs.Host.{Host, IsHostOf, host_name}
@@ -14,7 +15,9 @@ use Rattle.image.specs.Layout.{size_of}
 use Rattle.image.specs.Recovered.{Parts}
 use Rattle.image.specs.declared.error.ImageError.TheVariants as images
 use Rattle.image.specs.declared.guard_row.GuardRow.{GuardRow}
-use Rattle.recover.specs.Recovery.{IsRecovery, IsTooOld, RefusesOf}
+use Rattle.recover.specs.Recovery.{IsOnTheWay, IsRecovery, IsTooOld, RefusesOf}
+use Rattle.recover.specs.Study.{IsStudyOf}
+use Rattle.recover.specs.declared.studied.Study.{Study}
 use Rattle.recover.specs.declared.report.Report.{Report}
 use Rattle.recover.specs.declared.versions.Versions.{Versions}
 use Rattle.steps.specs.Views.{plan}
@@ -61,6 +64,7 @@ pub record IsFound (versions : Versions) (bytes : List ℕ) (x : Hosting) (repor
   pub taken : IsTooOld versions bytes → ⊥
   pub found : Parts Deferred
   pub recovery : IsRecovery (device_on x.calls bytes) (hosted_device found.disk) found report
+  pub any_moment : (s : Study) → IsStudyOf bytes s → LeavesOnly (synced (device_on x.calls bytes)) (hosted_device found.disk) (IsOnTheWay s)
   pub begun : HasBegun (numbered found.layout.objects found.guards) found x
 
 -- why no heap is made

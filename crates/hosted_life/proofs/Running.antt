@@ -7,12 +7,14 @@ use Rattle.deferred_disk.specs.Host.{Host}
 use Rattle.deferred_disk.specs.Syncs.{syncs_in}
 use Rattle.deferred_disk.proofs.Moments.{left_since_then}
 use Rattle.durable.proofs.Running.{ran_then}
+use Rattle.running_heap.specs.Life.{ClosedLifeLaw}
+use Rattle.running_life.specs.Crashes.{CrashLaw}
 use Rattle.running_life.specs.Running.{CrashInRunLaw}
 use Rattle.steps.specs.Views.{plan}
 use Rattle.survival.specs.WholeRun.{MayBeLeft}
 use Rattle.trim_helper.specs.Heard.{SeenLaw}
 use Rattle.hosted_heap.specs.Hosting.{hosted_device}
-use Rattle.hosted_life.specs.Running.{HostRoundLaw, HostRunLaw, LeavesSince}
+use Rattle.hosted_life.specs.Running.{HostClosingLaw, HostRoundLaw, HostRunLaw, LeavesSince}
 use Rattle.hosted_life.proofs.Safe.{syncs_onto}
 
 -- it is left of the heap's own disk, since then
@@ -33,3 +35,9 @@ round_keeps keeps seen_of x y answer was first p old c image has layout ran serv
     let on = ran_then x.helper.store.known.layout y.helper.store.known.layout (plan x.home) first p round.now old (hosted_device x.helper.store.disk) (hosted_device y.helper.store.disk) false y.helper.store.known.has_failed same ran (ran.whole refl) round.ran in
     run_keeps keeps x.home was first round.now old y.helper y.helper.store.known.has_failed y.helper.seat.view.history c image has (layout ∙ sym same) on round.serves seen.legal
     (seen_of x.home (plan x.home) round.now y.helper seen round.serves) since
+
+pub closing_keeps : CrashLaw hosted_device → ClosedLifeLaw hosted_device → HostClosingLaw
+closing_keeps keeps lives h opened x p d c image lived closing since =
+    let from = closing.from p lived.serving in
+    let life = lives h opened (hosted_device d) x p closing.ended lived from in
+    keeps h opened (hosted_device d) x p closing.ended lived from image (left_since opened d c image life.ran.shown.grows since)

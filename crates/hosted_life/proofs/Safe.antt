@@ -2,7 +2,7 @@
 use Rattle.std.proofs.Common.{ℕ, suc, ◌≡◌, ◌≤◌, ◌∷◌, ◌++◌, [], Bool, true, false, List, Result, refl, sym, ap, ◌∙◌, subst, inl, inr, arith}
 use Rattle.heap_model.specs.Cuts.{counts_of}
 use Rattle.heap_model.specs.Setting.{Setting}
-use Rattle.block_disk.specs.Device.{Device, Image}
+use Rattle.block_disk.specs.Device.{Device, Image, LeftSince, synced}
 use Rattle.deferred_disk.specs.Deferred.{Deferred, onto, stop_of}
 use Rattle.deferred_disk.specs.Host.{Host}
 use Rattle.deferred_disk.specs.Syncs.{LeftAt, durable_moments, moments_of, syncs_in}
@@ -25,7 +25,8 @@ use Rattle.survival.proofs.WholeRuns.{cannot, found, left_by, of_run, shows_some
 use Rattle.trim_helper.specs.Closed.{disk_of}
 use Rattle.trim_helper.specs.Parts.{IsServing, Parts}
 use Rattle.hosted_heap.specs.Hosting.{hosted_device}
-use Rattle.hosted_life.specs.Safe.{AcknowledgedLaw, BegunLaw, ClosedLaw, EndsLaw, HostLaw, IsSafe, KeptRunLaw, LivesLaw, NowLaw}
+use Rattle.hosted_life.specs.Safe.{AcknowledgedLaw, BegunLaw, ClosedLaw, EndsLaw, HostLaw, IsSafe, KeptRunLaw, LivesLaw, NowLaw, OpeningLaw}
+use Rattle.hosted_heap.specs.Opening.{device_on}
 
 pub keeps_run : HasStudyLaw → KeptRunLaw
 keeps_run studied x s p q old new failed image has ran left =
@@ -100,3 +101,18 @@ pub closed_on : ClosedLaw
 closed_on h x d c image closing met made left =
     let is = left_last (suc (syncs_in c.made)) (hosted_device d) image (met.all made.none_left made.none_known) (met.synced [] [] image made.none_left left) in
     record { left = closing.closed.left image is; stands = closing.closed.stands image is; values = closing.closed.values image is }
+
+-- before recovery has written, a crash leaves the bytes that there were
+as_found : (c : Host) (bytes image : List ℕ) → LeftSince 0 (synced (device_on c bytes)) image → Image (record { bytes = bytes; pending = [] }) image
+as_found c bytes image (inl now) = now.1
+as_found c bytes image (inr (inl first)) = first.1
+as_found c bytes image (inr (inr none)) = elim none [ ]
+
+pub opens_on : OpeningLaw
+opens_on versions bytes x report s c next more image found of met split leaves =
+    let left : LeftSince 0 (hosted_device found.found.disk) image =
+    subst (λ (e : Deferred). LeftSince 0 (hosted_device e) image) found.begun.disk_is (met.earlier next more image split leaves) in
+    elim ((found.any_moment s of).each 0 image (omega arith) left) [
+      | inl before ↦ inl (as_found x.calls bytes image before)
+      | inr way ↦ inr way
+    ]

@@ -10,13 +10,15 @@ use Rattle.deferred_disk.specs.declared.call.DeviceCall.{DeviceCall}
 use Rattle.durable.specs.Runs.{HasRun}
 use Rattle.durable.specs.Store.{HasPast, Known}
 use Rattle.monitor.specs.Seats.{Home}
+use Rattle.running_heap.specs.Life.{HasLived}
 use Rattle.running_life.specs.Running.{KeepsRunning}
 use Rattle.steps.specs.Views.{plan}
-use Rattle.store_past.specs.Past.{Past}
+use Rattle.store_past.specs.Past.{Past, no_past}
 use Rattle.store_past.specs.declared.error.StoreError.{StoreError}
+use Rattle.survival.specs.Running.{KeepsOfHistory}
 use Rattle.trim_helper.specs.Heard.{IsSeenOf}
 use Rattle.trim_helper.specs.Parts.{IsServing, Parts}
-use Rattle.hosted_heap.specs.Hosting.{Hosting, hosted_device}
+use Rattle.hosted_heap.specs.Hosting.{Hosting, IsClosedWith, hosted_device}
 use Rattle.hosted_heap.specs.Rounds.{HearsThreads, MakesRound}
 use Rattle.hosted_life.specs.Safe.{HostLeaves}
 
@@ -42,3 +44,8 @@ abbrev pub HostRoundLaw : Type 0
 HostRoundLaw = (x y : Hosting) (answer : Result ℕ StoreError) (was : Known) (first p : Past) (old : Device) (c : Host) (image : List ℕ) → HasPast was (plan x.home) first old → was.layout ≡ x.helper.store.known.layout →
     HasRun x.helper.store.known.layout (plan x.home) first old p (hosted_device x.helper.store.disk) false → IsServing hosted_device x.helper (plan x.home) p → x.helper.store.known.has_failed ≡ false →
     MakesRound x y answer → HearsThreads x y → LeavesSince old y.helper.store.disk c image → KeepsRunning y.helper.store.known.layout (plan x.home) first y.helper.seat.view.history image
+
+-- And of a heap that was closed, at whatever moment the host comes on with the calls that are left: whole sections of the history of the closing.
+abbrev pub HostClosingLaw : Type 0
+HostClosingLaw = (h : Home) (opened : Device) (x : Parts Deferred) (p : Past) (d : Deferred) (c : Host) (image : List ℕ) → (lived : HasLived hosted_device h opened x p) → (closing : IsClosedWith h x d) →
+    LeavesSince opened d c image → KeepsOfHistory x.store.known.layout (plan h) no_past (closing.from p lived.serving).closed.history image

@@ -1,5 +1,5 @@
 -- A crash of the device on which a host makes its heap's calls (this project's own).
-use Rattle.std.specs.Prelude.{ℕ, suc, ◌≡◌, ◌<◌, ◌≤◌, ◌++◌, Bool, true, false, List, [], Result}
+use Rattle.std.specs.Prelude.{ℕ, suc, ◌≡◌, ◌<◌, ◌≤◌, ◌⊎◌, ◌++◌, Bool, true, false, List, [], Result}
 use Rattle.heap_model.specs.Cuts.{all_ended, counts_of}
 use Rattle.heap_model.specs.History.{log_of, state_after}
 use Rattle.heap_model.specs.Sections.{actions}
@@ -17,10 +17,12 @@ use Rattle.guards.specs.Schema.{Declarations}
 use Rattle.image.specs.Recovered.{Parts as Recovered}
 use Rattle.image.specs.declared.layout.Layout.{Layout}
 use Rattle.monitor.specs.Seats.{Home}
-use Rattle.recover.specs.Recovery.{RefusesRecovery}
+use Rattle.recover.specs.Recovery.{IsOnTheWay, RefusesRecovery}
 use Rattle.recover.specs.Study.{IsStudyOf}
 use Rattle.recover.specs.declared.error.RecoverError.{RecoverError}
+use Rattle.recover.specs.declared.report.Report.{Report}
 use Rattle.recover.specs.declared.studied.Study.{Study}
+use Rattle.recover.specs.declared.versions.Versions.{Versions}
 use Rattle.steps.specs.Views.{plan}
 use Rattle.store_image.specs.KeptHeap.{StandsForCut, values_below}
 use Rattle.store_past.specs.Past.{Past, no_past}
@@ -34,7 +36,7 @@ use Rattle.trim_helper.specs.declared.ended.Ended.{Ended}
 use Rattle.undo_log.specs.StandsFor.{StandsFor}
 use Rattle.hosted_heap.specs.Hosting.{HaveMetHelper, Hosting, IsClosedWith, hosted_device}
 use Rattle.hosted_heap.specs.Meeting.{AreAllMade, SameButMet, host_moment}
-use Rattle.hosted_heap.specs.Opening.{HasBegun}
+use Rattle.hosted_heap.specs.Opening.{HasBegun, IsFound}
 use Rattle.hosted_heap.specs.Rounds.{KeepsSessions, MakesRound}
 
 -- Recovery takes the image, unless a call fails, memory is wanting, or the control's sequence is at its last value; and of each lane it keeps
@@ -106,3 +108,9 @@ pub record IsHeapOf (s : Setting) (l : Layout) (history : List (ℕ × Event)) (
 abbrev pub ClosedLaw : Type 0
 ClosedLaw = (h : Home) (x : Parts Deferred) (d : Deferred) (c : Host) (image : List ℕ) → (closing : IsClosedWith h x d) → HaveMet d c → AreAllMade c → HostLeaves d c [] image →
     IsHeapOf (plan h) x.store.known.layout closing.closed.history closing.closed.now image
+
+-- While the host makes the calls by which a heap was opened, or upgraded, a crash of its device leaves the bytes that it had, or an image on recovery's way,
+-- which has the same heap: so it may be opened again.
+abbrev pub OpeningLaw : Type 0
+OpeningLaw = (versions : Versions) (bytes : List ℕ) (x : Hosting) (report : Report) (s : Study) (c : Host) (next more : List DeviceCall) (image : List ℕ) → IsFound versions bytes x report → IsStudyOf bytes s →
+    HaveMet x.helper.store.disk c → c.left ≡ next ++ more → HostLeaves x.helper.store.disk c next image → Image (record { bytes = bytes; pending = [] }) image ⊎ IsOnTheWay s image

@@ -1,9 +1,11 @@
 //! Laws of a hosted heap's life, each the contract of a function that does nothing.
-ghost use Rattle.hosted_life.specs.Running.{HostRoundLaw, HostRunLaw};
-ghost use Rattle.hosted_life.specs.Safe.{AcknowledgedLaw, BegunLaw, ClosedLaw, EndsLaw, HostLaw, KeptRunLaw, LivesLaw, NowLaw};
+ghost use Rattle.hosted_life.specs.Running.{HostClosingLaw, HostRoundLaw, HostRunLaw};
+ghost use Rattle.hosted_life.specs.Safe.{AcknowledgedLaw, BegunLaw, ClosedLaw, EndsLaw, HostLaw, KeptRunLaw, LivesLaw, NowLaw, OpeningLaw};
+ghost use Rattle.hosted_life.specs.Told.{AcknowledgedToldLaw, HostReadLaw};
 
 use deferred_disk::DeferredDisk;
-use running_life::round_law;
+use running_heap::life_law;
+use running_life::{crash_law, round_law, stable_law};
 use survival::has_study_law;
 use trim_helper::seen_law;
 
@@ -26,6 +28,7 @@ pub fn host_law()
     ensures lives { LivesLaw }
     ensures ends { EndsLaw }
     ensures closed { ClosedLaw }
+    ensures opening { OpeningLaw }
 {
     kept_law();
 }
@@ -39,7 +42,22 @@ pub fn host_law()
 pub fn running_law()
     ensures run { HostRunLaw }
     ensures round { HostRoundLaw }
+    ensures closing { HostClosingLaw }
 {
+    crash_law::<DeferredDisk>();
+    life_law::<DeferredDisk>();
     round_law::<DeferredDisk>();
     seen_law::<DeferredDisk>();
+}
+
+/// What was told of a hosted heap no crash of the host's device takes back, though the heap is never closed: what the heap told as
+/// acknowledged from then on, and what a session has read as stable once the host has made the calls of the round that published it. The
+/// sections kept are of the one history of the crash, in which each lane's part is what its session had been told by then
+/// (`running_life::stable_law`).
+pub fn told_law()
+    ensures acknowledged { AcknowledgedToldLaw }
+    ensures read { HostReadLaw }
+{
+    running_law();
+    stable_law::<DeferredDisk>();
 }

@@ -8,4 +8,4 @@
 
 mod laws;
 
-pub use laws::{host_law, kept_law, running_law};
+pub use laws::{host_law, kept_law, running_law, told_law};

@@ -2,3 +2,4 @@ pub mod Applied
 pub mod Kept
 pub mod Running
 pub mod Seen
+pub mod Told

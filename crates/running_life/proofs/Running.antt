@@ -10,7 +10,7 @@ use Rattle.cut_laws.proofs.Next.{legal_before}
 use Rattle.durable.specs.Runs.{HasRun}
 use Rattle.durable.specs.Store.{HasPast, Known}
 use Rattle.durable.specs.declared.store_call.StoreCall.{StoreCall}
-use Rattle.durable.proofs.Running.{ran_then}
+use Rattle.durable.proofs.Running.{ran_none, ran_then}
 use Rattle.history_laws.specs.Laws.{LogLaw, OwnLogLaw, SentLaw}
 use Rattle.image.specs.declared.layout.Layout.{Layout}
 use Rattle.monitor.specs.Views.{GoesOn}
@@ -25,7 +25,7 @@ use Rattle.survival.specs.WholeRun.{MayBeLeft, Survives}
 use Rattle.survival.proofs.Accepts.{accepted, isnt_old, of_today}
 use Rattle.survival.proofs.WholeRuns.{cannot, found, left_by, of_run, shows_some}
 use Rattle.trim_helper.specs.Heard.{SeenLaw}
-use Rattle.running_life.specs.Running.{CrashBetweenLaw, CrashInRoundLaw, CrashInRunLaw, CrashSinceLaw, KeepsRunning, SeesMoreLaw, ToldLaw}
+use Rattle.running_life.specs.Running.{CrashBetweenLaw, CrashInRoundLaw, CrashInRunLaw, CrashNowLaw, CrashSinceLaw, KeepsRunning, SeesMoreLaw, ToldLaw}
 use Rattle.running_life.proofs.Applied.{logged_by}
 use Rattle.running_life.proofs.Seen.{seen_first}
 
@@ -106,3 +106,8 @@ module _ (log_legal : LogLaw) (released : ReleasedLaw) (older : OlderLaw) (studi
     pub between_kept : CrashBetweenLaw device
     between_kept h opened p x seen image lived legal is_seen left =
         served_kept h lived.life.began no_past p opened x false seen image lived.life.nothing lived.life.layout lived.life.ran lived.serving legal is_seen left
+
+    pub now_kept : CrashNowLaw device
+    now_kept h p x seen image serving legal is_seen left =
+        served_kept h x.store.known p p (device x.store.disk) x x.store.known.has_failed seen image serving.taken.has refl
+        (ran_none x.store.known.layout (plan h) p (device x.store.disk) x.store.known.has_failed) serving legal is_seen left

@@ -1,3 +1,4 @@
 -- The promise: what a crash keeps of a heap that runs, and of one that ran and was closed.
 pub mod Running
 pub mod Crashes
+pub mod Told

@@ -73,3 +73,8 @@ module _ {D : Type 0} (device : D → Device) where
   abbrev pub CrashBetweenLaw : Type 0
   CrashBetweenLaw = (h : Home) (opened : Device) (p : Past) (x : Parts D) (seen : List (ℕ × Event)) (image : List ℕ) → HasLived device h opened x p → IsLegalHistory (plan h) seen → IsSeenOf h (length x.rings) p seen →
       MayBeLeft opened (device x.store.disk) image → KeepsRunning x.store.known.layout (plan h) no_past seen image
+
+  -- And right now, with all that is acknowledged by now.
+  abbrev pub CrashNowLaw : Type 0
+  CrashNowLaw = (h : Home) (p : Past) (x : Parts D) (seen : List (ℕ × Event)) (image : List ℕ) → IsServing device x (plan h) p → IsLegalHistory (plan h) seen → IsSeenOf h (length x.rings) p seen →
+      MayBeLeft (device x.store.disk) (device x.store.disk) image → KeepsRunning x.store.known.layout (plan h) p seen image

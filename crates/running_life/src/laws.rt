@@ -1,6 +1,7 @@
 //! Laws of a heap's life, each the contract of a function that does nothing.
 ghost use Rattle.running_life.specs.Crashes.{CrashLaw};
-ghost use Rattle.running_life.specs.Running.{CrashBetweenLaw, CrashInRoundLaw, CrashInRunLaw, CrashSinceLaw, SeesMoreLaw, ToldLaw};
+ghost use Rattle.running_life.specs.Running.{CrashBetweenLaw, CrashInRoundLaw, CrashInRunLaw, CrashNowLaw, CrashSinceLaw, SeesMoreLaw, ToldLaw};
+ghost use Rattle.running_life.specs.Told.{KeepsReadAtRestLaw, KeepsReadInRoundLaw, KeepsReadLaw, KeepsToldLaw, ReadLaw, RestLaw, RisesLaw};
 
 use block_disk::Disk;
 use history_laws::{log_law, own_log_law, sent_law};
@@ -27,6 +28,7 @@ pub fn round_law<D: Disk>()
     ensures round { CrashInRoundLaw D.device }
     ensures opened { CrashSinceLaw D.device }
     ensures between { CrashBetweenLaw D.device }
+    ensures now { CrashNowLaw D.device }
     ensures more { SeesMoreLaw }
     ensures told { ToldLaw }
 {
@@ -45,4 +47,25 @@ pub fn crash_law<D: Disk>()
 {
     life_law::<D>();
     run_law();
+}
+
+/// What a session has read as stable no crash takes back, though its heap is never closed. [`Session::stable`](session::Session::stable)
+/// has answered a count; whatever a crash leaves from then on, recovery takes, and it keeps at least so many sections of the session's lane.
+/// What it keeps are whole sections of one legal history, in which each lane's part is just what its session had been told when the crash
+/// came, with all that they depend on.
+///
+/// From then on: since the helper, at rest between two rounds, had published so much; while it publishes its device is as it is behind the
+/// round. A moment is a state of the shared words between two steps of the threads, of which their rule says so (`monitor`, `Kept`). No
+/// call is made at one, and no session meets the helper.
+pub fn stable_law<D: Disk>()
+    ensures keeps { KeepsToldLaw }
+    ensures rises { RisesLaw }
+    ensures rest { RestLaw D.device }
+    ensures read { ReadLaw D.device }
+    ensures since { KeepsReadLaw D.device }
+    ensures in_round { KeepsReadInRoundLaw D.device }
+    ensures at_rest { KeepsReadAtRestLaw D.device }
+{
+    round_law::<D>();
+    seen_law::<D>();
 }

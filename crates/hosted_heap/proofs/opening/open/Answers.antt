@@ -1,12 +1,15 @@
 use Rattle.std.proofs.Common.{ℕ, ◌≡◌, List, length, ap, sym, ◌∙◌, subst, arith}
-use Rattle.block_disk.specs.Device.{Device}
+use Rattle.block_disk.specs.Device.{Device, synced}
+use Rattle.block_disk.specs.Images.{LeavesOnly}
 use Rattle.block_disk.specs.Memory.{Memory, device_of}
 use Rattle.deferred_disk.specs.Host.{host_name}
 use Rattle.guards.specs.Schema.{Declarations}
 use Rattle.image.specs.Guards.{NamesObjects}
 use Rattle.image.specs.declared.guard_row.GuardRow.{GuardRow}
 use Rattle.image.specs.declared.layout.Layout.{Layout}
-use Rattle.recover.specs.Recovery.{IsRecovery, IsTooOld, RefusesOf}
+use Rattle.recover.specs.Recovery.{IsOnTheWay, IsRecovery, IsTooOld, RefusesOf}
+use Rattle.recover.specs.Study.{IsStudyOf}
+use Rattle.recover.specs.declared.studied.Study.{Study}
 use Rattle.std.specs.List.{slice_index_or}
 use Rattle.trim_helper.specs.Opening.{FitsSchema}
 use Rattle.hosted_heap.specs.Hosting.{hosted_device}
@@ -55,5 +58,7 @@ returns-in-Ok-begin-clause-ok c =
       taken = subst (λ (m : Memory). IsTooOld c.args.versions (device_of m).now.bytes → ⊥) c.in-Ok.ensures.disk c.in-Ok-recover_of.ensures.taken;
       recovery = subst (λ (d : Device). IsRecovery d (hosted_device found.disk) found c.in-Ok-recover_of.found.1)
           (device_is c.in-Ok.disk c.in-Ok-begin.heap.calls c.args.bytes.now c.in-Ok.ensures.disk (c.in-Ok.ensures.host.2 ∙ ap host_name (sym c.in-Ok-begin.ensures.calls))) c.in-Ok-recover_of.ensures.ok;
+      any_moment = subst (λ (d : Device). (s : Study) → IsStudyOf d.now.bytes s → LeavesOnly (synced d) (hosted_device found.disk) (IsOnTheWay s))
+          (device_is c.in-Ok.disk c.in-Ok-begin.heap.calls c.args.bytes.now c.in-Ok.ensures.disk (c.in-Ok.ensures.host.2 ∙ ap host_name (sym c.in-Ok-begin.ensures.calls))) c.in-Ok-recover_of.ensures.any_moment;
       begun = subst (λ (s : Declarations). HasBegun s found c.in-Ok-begin.heap) schema c.in-Ok-begin.ensures.begun;
     }

@@ -1,4 +1,4 @@
-use Rattle.hosted_life.proofs.Safe.{by_host, by_host_acknowledged, by_host_begun, by_host_now, closed_on, ends_on, lives_on}
+use Rattle.hosted_life.proofs.Safe.{by_host, by_host_acknowledged, by_host_begun, by_host_now, closed_on, ends_on, lives_on, opens_on}
 use Rattle.hosted_life.proofs.laws.host_law.Goals as goal
 
 pub returns-clause-any_moment : goal.returns-clause-any_moment
@@ -21,3 +21,6 @@ returns-clause-ends c = ends_on
 
 pub returns-clause-closed : goal.returns-clause-closed
 returns-clause-closed c = closed_on
+
+pub returns-clause-opening : goal.returns-clause-opening
+returns-clause-opening c = opens_on

@@ -1,4 +1,4 @@
-use Rattle.hosted_life.proofs.Running.{round_keeps, run_keeps}
+use Rattle.hosted_life.proofs.Running.{closing_keeps, round_keeps, run_keeps}
 use Rattle.hosted_life.proofs.laws.running_law.Goals as goal
 
 pub returns-clause-run : goal.returns-clause-run
@@ -6,3 +6,6 @@ returns-clause-run c = run_keeps c.round_law.ensures.run
 
 pub returns-clause-round : goal.returns-clause-round
 returns-clause-round c = round_keeps c.round_law.ensures.run c.seen_law.ensures
+
+pub returns-clause-closing : goal.returns-clause-closing
+returns-clause-closing c = closing_keeps c.crash_law.ensures c.life_law.ensures.closed

@@ -1,4 +1,4 @@
-use Rattle.running_life.proofs.Running.{between_kept, more_kept, round_kept, served_kept, since_kept, told_kept}
+use Rattle.running_life.proofs.Running.{between_kept, more_kept, now_kept, round_kept, served_kept, since_kept, told_kept}
 use Rattle.running_life.proofs.laws.round_law.Goals as goal
 
 pub returns-clause-run : goal.returns-clause-run
@@ -18,3 +18,6 @@ returns-clause-more g c = more_kept
 
 pub returns-clause-told : goal.returns-clause-told
 returns-clause-told g c = told_kept
+
+pub returns-clause-now : goal.returns-clause-now
+returns-clause-now g c = now_kept c.log_law.ensures c.released_law.ensures.released c.released_law.ensures.older c.has_study_law.ensures g.D.Disk.device c.sent_law.ensures c.own_log_law.ensures c.seen_law.ensures

@@ -1,0 +1,142 @@
+-- What sessions have read of a heap that runs.
+use Rattle.std.proofs.Common.{if◌then◌else◌, ℕ, ◌≡◌, ◌<◌, ◌≤◌, false, List, [], ◌∷◌, ◌++◌, length, refl, sym, subst, inr, arith}
+use Rattle.heap_model.specs.declared.event.Event.{Event}
+use Rattle.heap_model.specs.History.{IsLegalHistory}
+use Rattle.heap_model.specs.Setting.{Setting}
+use Rattle.block_disk.specs.Device.{Device}
+use Rattle.durable.proofs.Running.{ran_none}
+use Rattle.history_laws.proofs.Own.{by_test}
+use Rattle.image.specs.declared.layout.Layout.{Layout}
+use Rattle.monitor.specs.Posts.{ArePublished, NeverFall, WasPublished}
+use Rattle.monitor.specs.Seats.{Helping, Home, Sitting}
+use Rattle.monitor.specs.Views.{lane_of, noted}
+use Rattle.monitor.specs.declared.view.Note.{Note}
+use Rattle.session.specs.Calls.{ReadsStable}
+use Rattle.session.specs.Sessions.{seat_of, view_of}
+use Rattle.session.specs.declared.session.Session.{Session}
+use Rattle.steps.specs.Views.{plan, view}
+use Rattle.store_past.specs.Past.{Past}
+use Rattle.trim_helper.specs.Heard.{IsSeenOf, SeenLaw}
+use Rattle.trim_helper.specs.Parts.{IsServing, Parts}
+use Rattle.running_heap.specs.Joined.{IsHelping}
+use Rattle.running_life.specs.Running.{CrashInRunLaw}
+use Rattle.running_life.specs.Told.{IsMoment, IsSeated, HasPublishedNoMore, KeepsRead, KeepsReadAtRestLaw, KeepsReadInRoundLaw, KeepsReadLaw, KeepsTold, KeepsToldLaw, Moment, ReadLaw, RestLaw, RisesLaw}
+
+-- none was published: none stands there
+published_none : (p : ℕ) (ps : List Note) → WasPublished p 0 ps
+published_none p [] = refl
+published_none p (q ∷ ps) = inr (published_none p ps)
+
+-- of what was read the last of each post was published
+read_last : (p : ℕ) (ns ps : List Note) → ArePublished ns ps → WasPublished p (noted p ns) ps
+read_last p [] ps are = published_none p ps
+read_last p (q ∷ ns) ps are = by_test q.post p (λ b. WasPublished p (if b then q.number else noted p ns) ps) (λ e. subst (λ (z : ℕ). WasPublished z q.number ps) e are.0) (λ other. read_last p ns ps are.1)
+
+-- the beginning of a legal history is one
+legal_first : (s : Setting) (newer older : List (ℕ × Event)) → IsLegalHistory s (newer ++ older) → IsLegalHistory s older
+legal_first s [] older legal = legal
+legal_first s (x ∷ newer) older legal = legal_first s newer older legal.0
+
+module _ (h : Home) (now : Moment) (helper : Helping) (seat : Sitting) (at : IsMoment h now helper) (sits : IsSeated now seat) where
+  -- the lane is one that was given out
+  lane_below : (lane_of seat.view).0 < helper.next
+  lane_below = at.kept.seated.undealt helper.id seat.id helper.view seat.view helper.next (lane_of seat.view) at.seated sits.seated at.role sits.role
+
+  -- the count that it last read isn't above what is published
+  read_most : noted (lane_of seat.view).0 seat.view.notes ≤ noted (lane_of seat.view).0 helper.view.notes
+  read_most =
+      let l = lane_of seat.view in
+      let read = (at.kept.facts.truths seat.id seat.view l sits.seated sits.role).notes l.0 in
+      let exact = (at.kept.facts.helped helper.id helper.view helper.next at.seated at.role).exact l.0 in
+      omega (arith, read, exact)
+
+  -- and was published
+  read_one : WasPublished (lane_of seat.view).0 (noted (lane_of seat.view).0 seat.view.notes) helper.view.notes
+  read_one = read_last (lane_of seat.view).0 seat.view.notes helper.view.notes
+      (at.kept.facts.published seat.id helper.id seat.view helper.view (lane_of seat.view) helper.next sits.seated at.seated sits.role at.role)
+
+-- the last number of a post is at least an earlier one
+last_most : (p : ℕ) (newer older : List Note) → NeverFall (newer ++ older) → noted p older ≤ noted p (newer ++ older)
+last_most p [] older rises = omega arith
+last_most p (q ∷ newer) older rises = by_test q.post p (λ b. noted p older ≤ (if b then q.number else noted p (newer ++ older)))
+    (λ e. let up = subst (λ (z : ℕ). noted z (newer ++ older) ≤ q.number) e rises.0 in let more = last_most p newer older rises.1 in omega (arith, up, more))
+    (λ other. last_most p newer older rises.1)
+
+pub rises : RisesLaw
+rises h now before helper at next goes = record {
+  next = next;
+  counts = λ l. subst (λ (ns : List Note). noted l before.view.notes ≤ noted l ns) (sym goes.1)
+      (last_most l goes.0 before.view.notes (subst NeverFall goes.1 (at.kept.facts.helped helper.id helper.view helper.next at.seated at.role).rises));
+}
+
+pub keeps_told : KeepsToldLaw
+keeps_told h l p now helper image at keeps =
+    let kept = at.kept in
+    record {
+      study = keeps.study;
+      of = keeps.of;
+      taken = keeps.taken;
+      stays = λ k lt. let most = keeps.stays k in let same = keeps.kept_are k lt in omega (arith, most, same);
+      history = kept.history;
+      legal = kept.legal;
+      told = λ seat sits. kept.seated.parts seat.id seat.view (lane_of seat.view) sits.seated sits.role;
+      cut = keeps.cut;
+      kept_are = keeps.kept_are;
+      keeps = keeps.keeps kept.history (kept.seated.begins helper.id helper.view helper.next at.seated at.role) kept.legal;
+    }
+
+-- what the helper has seen by then is legal
+pub seen_legal : (h : Home) (now : Moment) (helper : Helping) → IsMoment h now helper → IsLegalHistory (plan h) helper.view.history
+seen_legal h now helper at =
+    let goes = at.kept.seated.begins helper.id helper.view helper.next at.seated at.role in
+    legal_first (plan h) goes.0 helper.view.history (subst (λ (z : List (ℕ × Event)). IsLegalHistory (plan h) z) goes.1 at.kept.legal)
+
+module _ {D : Type 0} (device : D → Device) where
+  -- the lane of a seat is one of the device's
+  pub lane_there : (h : Home) (x : Parts D) (now : Moment) (helper : Helping) (seat : Sitting) → IsHelping device h x → IsMoment h now helper → IsSeated now seat → HasPublishedNoMore helper x.seat → (lane_of seat.view).0 < x.store.known.layout.lanes
+  lane_there h x now helper seat helping at sits no_more =
+      let below = lane_below h now helper seat at sits in
+      let next = no_more.next in
+      let all = helping.seat.all in
+      let lanes = helping.lanes in
+      omega (arith, below, next, all, lanes)
+
+  pub rest_read : RestLaw device
+  rest_read h p x now seat helping serving at sits =
+      let within = lane_there h x now x.seat seat helping at sits (record { next = refl; counts = λ l. omega arith }) in
+      let read = read_most h now x.seat seat at sits in
+      let most = serving.counts (lane_of seat.view).0 within in
+      let one = read_one h now x.seat seat at sits in
+      record { stable = omega (arith, read, most); published = one; in_cut = serving.stand (lane_of seat.view).0 (view seat).stable within one }
+
+  pub session_read : ReadLaw device
+  session_read h p x read before s t sections helping serving at no_more reads sits =
+      let most = read_most h read before (seat_of t) at sits in
+      let published = no_more.counts (lane_of (seat_of t).view).0 in
+      let acknowledged = serving.counts (lane_of (seat_of t).view).0 (lane_there h x read before (seat_of t) helping at sits no_more) in
+      let is = reads.read in
+      omega (arith, most, published, acknowledged, is)
+
+  -- what is kept with all that was acknowledged then
+  pub read_of_kept : (h : Home) (p : Past) (x : Parts D) (l : Layout) (read now : Moment) (before : Helping) (s t : Session) (sections : ℕ) (image : List ℕ) → IsHelping device h x → IsServing device x (plan h) p → IsMoment h read before →
+      HasPublishedNoMore before x.seat → ReadsStable s t sections → IsSeated read (seat_of t) → l ≡ x.store.known.layout → KeepsTold h l p now image → KeepsRead h l p now image (view_of t).lane.0 sections
+  read_of_kept h p x l read now before s t sections image helping serving at no_more reads sits layout kept =
+      let least = session_read h p x read before s t sections helping serving at no_more reads sits in
+      let stays = kept.stays (lane_of (seat_of t).view).0 (subst (λ (k : Layout). (lane_of (seat_of t).view).0 < k.lanes) (sym layout) (lane_there h x read before (seat_of t) helping at sits no_more)) in
+      record { kept = kept; least = omega (arith, least, stays) }
+
+  module _ (crash : CrashInRunLaw device) where
+    pub read_kept : KeepsReadLaw device
+    read_kept h p q x y failed read now before helper s t sections image helping serving at no_more reads sits layout ran serves crashed is_seen left =
+        read_of_kept h p x y.store.known.layout read now before s t sections image helping serving at no_more reads sits layout
+        (keeps_told h y.store.known.layout p now helper image crashed
+        (crash h x.store.known p q (device x.store.disk) y failed helper.view.history image serving.taken.has (sym layout) ran serves (seen_legal h now helper crashed) is_seen left))
+
+    pub round_read : SeenLaw device → KeepsReadInRoundLaw device
+    round_read seen_of h p x y answer read now before helper s t sections image helping serving at no_more reads sits on round has_seen crashed seen left =
+        read_kept h p round.now x y y.store.known.has_failed read now before helper s t sections image helping serving at no_more reads sits on.layout round.ran round.serves crashed
+        (subst (λ (z : List (ℕ × Event)). IsSeenOf h (length y.rings) round.now z) (sym seen) (seen_of h (plan h) round.now y has_seen round.serves)) left
+
+    pub rest_kept : KeepsReadAtRestLaw device
+    rest_kept h p x read now before helper s t sections image helping serving at no_more reads sits crashed is_seen left =
+        read_kept h p p x x false read now before helper s t sections image helping serving at no_more reads sits refl (ran_none x.store.known.layout (plan h) p (device x.store.disk) false) serving crashed is_seen left
