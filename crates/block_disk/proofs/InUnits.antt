@@ -3,7 +3,7 @@ use Rattle.std.proofs.Common.{◌≡◌, inl, inr, ℕ, zero, suc, ◌+◌, ◌-
 use Rattle.std.proofs.lemmas.List.{drop-drop, ext_get_or, get_or_append_left, get_or-append_right}
 use Rattle.std.proofs.lemmas.Bool.{cases_lt}
 use Rattle.block_disk.specs.Bytes.{spliced}
-use Rattle.block_disk.specs.Device.{Range, Device, range_of, IsClear, IsOutside, SameOutside, written, written_units, unit_ranges}
+use Rattle.block_disk.specs.Device.{Range, Device, IsClear, SameOutside, written, written_units, unit_ranges}
 use Rattle.block_disk.specs.Images.{Always, ImageBut, LeavesOnly}
 use Rattle.block_disk.proofs.Bytes.{length_spliced, spliced_below, spliced_at, spliced_above}
 use Rattle.block_disk.proofs.Ranges.{outside_more, outside_first}

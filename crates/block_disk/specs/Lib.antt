@@ -2,6 +2,7 @@
 pub mod Bytes
 pub mod Device
 pub mod Images
+pub mod Since
 pub mod Memory
 pub mod Crash
 pub mod Laws

@@ -4,8 +4,9 @@
 //! [`Fault`] the device is as it was, but for what each call says.
 ghost use Rattle.std.specs.Prelude.{◌≡◌, ℕ, List, ◌+◌, ◌≤◌, [], ◌∷◌, length, OnOk, OnErr};
 ghost use Rattle.block_disk.specs.Bytes.{part, spliced};
-ghost use Rattle.block_disk.specs.Device.{Image, range_of, written, synced, HasFailed, SameMoments};
-ghost use Rattle.block_disk.specs.Images.{Always, ImageBut, LeavesOnly};
+ghost use Rattle.block_disk.specs.Device.{Image, range_of, written, synced, SameMoments};
+ghost use Rattle.block_disk.specs.Images.{Always, ImageBut};
+ghost use Rattle.block_disk.specs.Since.{AlwaysBut, HasFailedSince, LeavesBut, SameSize};
 
 use crate::{Disk, Fault};
 
@@ -16,7 +17,7 @@ pub fn read_within<D: Disk>(disk: &mut D, at: u64, out: &mut [u8]) -> Result<(),
     ensures untouched { OnOk result (D.device disk.new ≡ D.device disk.old) }
     ensures same { SameMoments (D.device disk.old) (D.device disk.new) }
     ensures later { (D.device disk.old).failures ≤ (D.device disk.new).failures }
-    ensures cause { OnErr result (HasFailed (D.device disk.old).failures (D.device disk.new).failures) }
+    ensures cause { OnErr result (HasFailedSince (D.device disk.old) (D.device disk.new)) }
 {
     match disk.read_at(at, out) {
         Ok(()) => Ok(()),
@@ -28,12 +29,15 @@ pub fn read_within<D: Disk>(disk: &mut D, at: u64, out: &mut [u8]) -> Result<(),
 pub fn write_within<D: Disk>(disk: &mut D, at: u64, bytes: &[u8]) -> Result<(), Fault>
     requires fits { at + length bytes.now ≤ length (D.device disk.old).now.bytes }
     ensures ok { OnOk result (D.device disk.new ≡ written at bytes.now (D.device disk.old)) }
-    ensures size { OnOk result (length (D.device disk.new).now.bytes ≡ length (D.device disk.old).now.bytes) }
-    ensures crash { Always (D.device disk.new) (ImageBut (D.device disk.old) (range_of at bytes.now ∷ [])) }
-    ensures possible { OnOk result ((image : List ℕ) → ImageBut (D.device disk.old) (range_of at bytes.now ∷ []) image → Image (D.device disk.new).now image) }
-    ensures any_moment { LeavesOnly (D.device disk.old) (D.device disk.new) (ImageBut (D.device disk.old) (range_of at bytes.now ∷ [])) }
+    ensures size { OnOk result (SameSize (D.device disk.old) (D.device disk.new)) }
+    ensures crash { AlwaysBut (range_of at bytes.now ∷ []) (D.device disk.old) (D.device disk.new) }
+    ensures possible { OnOk result ((image : List ℕ)
+        → ImageBut (D.device disk.old) (range_of at bytes.now ∷ []) image
+        → Image (D.device disk.new).now image) }
+    ensures any_moment { LeavesBut (range_of at bytes.now ∷ []) (D.device disk.old)
+        (D.device disk.new) }
     ensures later { (D.device disk.old).failures ≤ (D.device disk.new).failures }
-    ensures cause { OnErr result (HasFailed (D.device disk.old).failures (D.device disk.new).failures) }
+    ensures cause { OnErr result (HasFailedSince (D.device disk.old) (D.device disk.new)) }
 {
     match disk.write_at(at, bytes) {
         Ok(()) => Ok(()),
@@ -45,11 +49,12 @@ pub fn write_within<D: Disk>(disk: &mut D, at: u64, bytes: &[u8]) -> Result<(), 
 pub fn make_durable<D: Disk>(disk: &mut D) -> Result<(), Fault>
     ensures ok { OnOk result (D.device disk.new ≡ synced (D.device disk.old)) }
     ensures err { OnErr result (SameMoments (D.device disk.old) (D.device disk.new)) }
-    ensures durable { OnOk result (Always (D.device disk.new) (λ image. image ≡ (D.device disk.old).now.bytes)) }
-    ensures crash { Always (D.device disk.new) (ImageBut (D.device disk.old) []) }
-    ensures any_moment { LeavesOnly (D.device disk.old) (D.device disk.new) (ImageBut (D.device disk.old) []) }
+    ensures durable { OnOk result
+        (Always (D.device disk.new) (λ image. image ≡ (D.device disk.old).now.bytes)) }
+    ensures crash { AlwaysBut [] (D.device disk.old) (D.device disk.new) }
+    ensures any_moment { LeavesBut [] (D.device disk.old) (D.device disk.new) }
     ensures later { (D.device disk.old).failures ≤ (D.device disk.new).failures }
-    ensures cause { OnErr result (HasFailed (D.device disk.old).failures (D.device disk.new).failures) }
+    ensures cause { OnErr result (HasFailedSince (D.device disk.old) (D.device disk.new)) }
 {
     match disk.sync() {
         Ok(()) => Ok(()),
@@ -61,13 +66,17 @@ pub fn make_durable<D: Disk>(disk: &mut D) -> Result<(), Fault>
 /// durable or not.
 pub fn write_through<D: Disk>(disk: &mut D, at: u64, bytes: &[u8]) -> Result<(), Fault>
     requires fits { at + length bytes.now ≤ length (D.device disk.old).now.bytes }
-    ensures ok { OnOk result (D.device disk.new ≡ synced (written at bytes.now (D.device disk.old))) }
-    ensures size { OnOk result (length (D.device disk.new).now.bytes ≡ length (D.device disk.old).now.bytes) }
-    ensures durable { OnOk result (Always (D.device disk.new) (λ image. image ≡ spliced (D.device disk.old).now.bytes at bytes.now)) }
-    ensures crash { Always (D.device disk.new) (ImageBut (D.device disk.old) (range_of at bytes.now ∷ [])) }
-    ensures any_moment { LeavesOnly (D.device disk.old) (D.device disk.new) (ImageBut (D.device disk.old) (range_of at bytes.now ∷ [])) }
+    ensures ok { OnOk result (D.device disk.new
+        ≡ synced (written at bytes.now (D.device disk.old))) }
+    ensures size { OnOk result (SameSize (D.device disk.old) (D.device disk.new)) }
+    ensures durable { OnOk result
+        (Always (D.device disk.new)
+        (λ image. image ≡ spliced (D.device disk.old).now.bytes at bytes.now)) }
+    ensures crash { AlwaysBut (range_of at bytes.now ∷ []) (D.device disk.old) (D.device disk.new) }
+    ensures any_moment { LeavesBut (range_of at bytes.now ∷ []) (D.device disk.old)
+        (D.device disk.new) }
     ensures later { (D.device disk.old).failures ≤ (D.device disk.new).failures }
-    ensures cause { OnErr result (HasFailed (D.device disk.old).failures (D.device disk.new).failures) }
+    ensures cause { OnErr result (HasFailedSince (D.device disk.old) (D.device disk.new)) }
 {
     write_within(disk, at, bytes)?;
     make_durable(disk)?;

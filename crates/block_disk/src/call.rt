@@ -1,7 +1,7 @@
 //! The record that a disk in memory keeps of its writes and syncs.
-ghost use Rattle.std.specs.Prelude.{◌≡◌, ◌↔◌, IsTrue, ◌+◌, ◌<◌, ◌≤◌, ℕ, [], ◌∷◌, length, vec_len, vec_capacity, if◌then◌else◌};
+ghost use Rattle.std.specs.Prelude.{◌≡◌, ◌↔◌, IsTrue, ◌<◌, ◌≤◌, [], ◌∷◌, length, vec_len, vec_capacity};
 ghost use Rattle.block_disk.specs.Bytes.{spliced};
-ghost use Rattle.block_disk.specs.Calls.{AllFit, stop_of, stops_of};
+ghost use Rattle.block_disk.specs.Calls.{AllFit, StillFit, kept_or_not, stop_of, stops_of};
 ghost use Rattle.block_disk.specs.Memory.{Fits, Synced, WriteFailed, Wrote, bytes_after};
 
 use crate::place::overwrite;
@@ -37,8 +37,8 @@ pub fn keep(calls: &mut Vec<Call>, call: Call) -> bool
     ensures spare { IsTrue result → vec_len calls.new < vec_capacity calls.new }
     ensures len { ¬ IsTrue result → vec_len calls.new ≡ vec_len calls.old }
     ensures capacity { vec_capacity calls.old ≤ vec_capacity calls.new }
-    ensures kept { stops_of calls.new.items ≡ (if result then stop_of call ∷ stops_of calls.old.items else stops_of calls.old.items) }
-    ensures fits { (size : ℕ) → Fits size (stop_of call) → AllFit size calls.old.items → AllFit size calls.new.items }
+    ensures kept { stops_of calls.new.items ≡ kept_or_not result (stop_of call) calls.old.items }
+    ensures fits { StillFit (stop_of call) calls.old.items calls.new.items }
 {
     match calls.reserve(2) {
         Ok(()) => {
@@ -52,8 +52,8 @@ pub fn keep(calls: &mut Vec<Call>, call: Call) -> bool
 /// Keeps a call that was chosen to fail, in the room that is spare.
 pub fn keep_failed(calls: &mut Vec<Call>, call: Call) -> bool
     ensures room { vec_len calls.old < vec_capacity calls.old → IsTrue result }
-    ensures kept { stops_of calls.new.items ≡ (if result then stop_of call ∷ stops_of calls.old.items else stops_of calls.old.items) }
-    ensures fits { (size : ℕ) → Fits size (stop_of call) → AllFit size calls.old.items → AllFit size calls.new.items }
+    ensures kept { stops_of calls.new.items ≡ kept_or_not result (stop_of call) calls.old.items }
+    ensures fits { StillFit (stop_of call) calls.old.items calls.new.items }
 {
     match calls.push(call) {
         Ok(()) => true,
@@ -66,8 +66,9 @@ pub fn keep_write(alloc: Global, calls: &mut Vec<Call>, at: u64, bytes: &[u8]) -
     ensures spare { IsTrue result → vec_len calls.new < vec_capacity calls.new }
     ensures len { ¬ IsTrue result → vec_len calls.new ≡ vec_len calls.old }
     ensures capacity { vec_capacity calls.old ≤ vec_capacity calls.new }
-    ensures kept { stops_of calls.new.items ≡ (if result then Wrote at bytes.now ∷ stops_of calls.old.items else stops_of calls.old.items) }
-    ensures fits { (size : ℕ) → at + length bytes.now ≤ size → AllFit size calls.old.items → AllFit size calls.new.items }
+    ensures kept { stops_of calls.new.items
+        ≡ kept_or_not result (Wrote at bytes.now) calls.old.items }
+    ensures fits { StillFit (Wrote at bytes.now) calls.old.items calls.new.items }
 {
     match ShortBytes::of(bytes) {
         Some(bytes) => keep(calls, Call::ShortWrite { at, bytes }),
@@ -80,8 +81,9 @@ fn keep_long_write(alloc: Global, calls: &mut Vec<Call>, at: u64, bytes: &[u8]) 
     ensures spare { IsTrue result → vec_len calls.new < vec_capacity calls.new }
     ensures len { ¬ IsTrue result → vec_len calls.new ≡ vec_len calls.old }
     ensures capacity { vec_capacity calls.old ≤ vec_capacity calls.new }
-    ensures kept { stops_of calls.new.items ≡ (if result then Wrote at bytes.now ∷ stops_of calls.old.items else stops_of calls.old.items) }
-    ensures fits { (size : ℕ) → at + length bytes.now ≤ size → AllFit size calls.old.items → AllFit size calls.new.items }
+    ensures kept { stops_of calls.new.items
+        ≡ kept_or_not result (Wrote at bytes.now) calls.old.items }
+    ensures fits { StillFit (Wrote at bytes.now) calls.old.items calls.new.items }
 {
     match bytes.to_vec(alloc) {
         Ok(bytes) => keep(calls, Call::Write { at, bytes }),

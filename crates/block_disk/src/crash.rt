@@ -29,7 +29,8 @@ pub(crate) fn image_at(
 ) -> Result<Vec<u8>, AllocError>
     requires ended { ended ≤ length calls.now }
     requires fits { AllFit (length first.now) calls.now }
-    ensures { IfOk result (λ image. image.items ≡ crash_bytes fill first.now (done_at (ended + 1) (stops_of calls.now))) }
+    ensures { IfOk result (λ image. image.items
+        ≡ crash_bytes fill first.now (done_at (ended + 1) (stops_of calls.now))) }
 {
     let mut image = first.to_vec(alloc)?;
     crash(&calls[..done_calls(calls, ended)], fill, &mut image);
@@ -70,7 +71,9 @@ fn crash(calls: &[Call], fill: Fill, image: &mut [u8])
 // How many calls there are up to the last sync that succeeded.
 fn durable_calls(calls: &[Call]) -> usize
     ensures within { result ≤ length calls.now }
-    ensures durable { (first : List ℕ) → bytes_after first (stops_of (take result calls.now)) ≡ durable_after first (stops_of calls.now) }
+    ensures durable { (first : List ℕ)
+        → bytes_after first (stops_of (take result calls.now))
+        ≡ durable_after first (stops_of calls.now) }
 {
     let mut rest = calls;
     while let Some((newest, older)) = rest.split_last() {

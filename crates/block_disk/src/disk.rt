@@ -1,8 +1,8 @@
 //! The contract of a block device.
-ghost use Rattle.std.specs.Prelude.{◌≡◌, ◌⊎◌, ◌+◌, ◌*◌, ◌<◌, ◌≤◌, length, OnOk, OnErr, IsErrOf};
+ghost use Rattle.std.specs.Prelude.{◌≡◌, ◌+◌, ◌*◌, ◌<◌, ◌≤◌, length, OnOk, OnErr, IsErrOf};
 ghost use Rattle.block_disk.specs.Bytes.{part};
-ghost use Rattle.block_disk.specs.Device.{Device, written, written_units, unit_ranges, synced, HasFailed, SameMoments, TornWrite, one_more};
-ghost use Rattle.block_disk.specs.Images.{ImageBut, LeavesOnly};
+ghost use Rattle.block_disk.specs.Device.{Device, written, written_units, unit_ranges, synced, SameMoments};
+ghost use Rattle.block_disk.specs.Since.{CountsOneMore, HasFailedSince, IsSameOrTorn, LeavesBut};
 ghost use Rattle.block_disk.specs.declared.error.DiskError.TheVariants.{Fault, OutOfRange};
 
 use crate::DiskError;
@@ -25,23 +25,26 @@ pub trait Disk {
         ensures in_range { OnOk result (at + length out.old ≤ length (device self.old).now.bytes) }
         ensures ok { OnOk result (out.new ≡ part at (length out.old) (device self.old).now.bytes) }
         ensures same { OnOk result (device self.new ≡ device self.old) }
-        ensures out_of_range { IsErrOf result OutOfRange → (length (device self.old).now.bytes < at + length out.old)
-            × (out.new ≡ out.old) × (device self.new ≡ device self.old) }
+        ensures out_of_range { IsErrOf result OutOfRange
+            → (length (device self.old).now.bytes < at + length out.old) × (out.new ≡ out.old)
+            × (device self.new ≡ device self.old) }
         ensures fault { IsErrOf result Fault → SameMoments (device self.old) (device self.new) }
-        ensures cause { IsErrOf result Fault → HasFailed (device self.old).failures (device self.new).failures }
-        ensures counted { IsErrOf result Fault → (device self.new).failures ≡ one_more (device self.old).failures };
+        ensures cause { IsErrOf result Fault → HasFailedSince (device self.old) (device self.new) }
+        ensures counted { IsErrOf result Fault → CountsOneMore (device self.old) (device self.new) };
 
     /// Writes these bytes at `at`. A crash before the next sync that succeeds may leave any bytes in their range, and
     /// so may a write that answers `Fault`.
     fn write_at(&mut self, at: u64, bytes: &[u8]) -> Result<(), DiskError>
-        ensures in_range { OnOk result (at + length bytes.now ≤ length (device self.old).now.bytes) }
+        ensures in_range { OnOk result
+            (at + length bytes.now ≤ length (device self.old).now.bytes) }
         ensures ok { OnOk result (device self.new ≡ written at bytes.now (device self.old)) }
-        ensures out_of_range { IsErrOf result OutOfRange → (length (device self.old).now.bytes < at + length bytes.now)
+        ensures out_of_range { IsErrOf result OutOfRange
+            → (length (device self.old).now.bytes < at + length bytes.now)
             × (device self.new ≡ device self.old) }
-        ensures fault { IsErrOf result Fault → SameMoments (device self.old) (device self.new)
-            ⊎ TornWrite at (length bytes.now) (device self.old) (device self.new) }
-        ensures cause { IsErrOf result Fault → HasFailed (device self.old).failures (device self.new).failures }
-        ensures counted { IsErrOf result Fault → (device self.new).failures ≡ one_more (device self.old).failures };
+        ensures fault { IsErrOf result Fault
+            → IsSameOrTorn at (length bytes.now) (device self.old) (device self.new) }
+        ensures cause { IsErrOf result Fault → HasFailedSince (device self.old) (device self.new) }
+        ensures counted { IsErrOf result Fault → CountsOneMore (device self.old) (device self.new) };
 
     /// Writes these bytes, `count` units of 16 each, from `at` on. Each unit is a write of its own, the first one first: a crash
     /// or a fault may come in any of them, and until the next sync that succeeds a crash may leave any bytes in the range of
@@ -50,10 +53,11 @@ pub trait Disk {
         requires some { 0 < count }
         requires whole { length bytes.now ≡ count * 16 }
         requires fits { at + length bytes.now ≤ length (device self.old).now.bytes }
-        ensures ok { OnOk result (device self.new ≡ written_units count at bytes.now (device self.old)) }
-        ensures any_moment { LeavesOnly (device self.old) (device self.new) (ImageBut (device self.old) (unit_ranges count at)) }
-        ensures cause { OnErr result (HasFailed (device self.old).failures (device self.new).failures) }
-        ensures counted { OnErr result ((device self.new).failures ≡ one_more (device self.old).failures) }
+        ensures ok { OnOk result (device self.new
+            ≡ written_units count at bytes.now (device self.old)) }
+        ensures any_moment { LeavesBut (unit_ranges count at) (device self.old) (device self.new) }
+        ensures cause { OnErr result (HasFailedSince (device self.old) (device self.new)) }
+        ensures counted { OnErr result (CountsOneMore (device self.old) (device self.new)) }
     {
         let _size = self.size();
         for i in 0..count {
@@ -71,8 +75,8 @@ pub trait Disk {
         ensures ok { OnOk result (device self.new ≡ synced (device self.old)) }
         ensures in_range { ¬ IsErrOf result OutOfRange }
         ensures fault { IsErrOf result Fault → SameMoments (device self.old) (device self.new) }
-        ensures cause { IsErrOf result Fault → HasFailed (device self.old).failures (device self.new).failures }
-        ensures counted { IsErrOf result Fault → (device self.new).failures ≡ one_more (device self.old).failures };
+        ensures cause { IsErrOf result Fault → HasFailedSince (device self.old) (device self.new) }
+        ensures counted { IsErrOf result Fault → CountsOneMore (device self.old) (device self.new) };
 
     /// How often the device has failed. The count stays at 2^64 - 1 once it is there.
     fn failures(&self) -> u64

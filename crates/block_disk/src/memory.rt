@@ -1,10 +1,11 @@
 //! A disk in memory.
-ghost use Rattle.std.specs.Prelude.{◌≡◌, ◌⊎◌, ◌+◌, ◌<◌, ◌≤◌, ◌↔◌, IsTrue, length, replicate, OnOk, OnErr, IfOk, IfSome, IsSome, IsErrOf, Some, if◌then◌else◌};
+ghost use Rattle.std.specs.Prelude.{◌≡◌, ◌+◌, ◌<◌, ◌≤◌, ◌↔◌, IsTrue, length, replicate, OnOk, OnErr, IfOk, IfSome, IsSome, IsErrOf, Some, if◌then◌else◌};
 ghost use Rattle.block_disk.specs.Bytes.{part, spliced};
 ghost use Rattle.block_disk.specs.Calls.{stops_of};
 ghost use Rattle.block_disk.specs.Crash.{crash_bytes, done_at, LeftSinceStop};
-ghost use Rattle.block_disk.specs.Device.{Image, written, synced, HasFailed, SameMoments, TornWrite, one_more};
+ghost use Rattle.block_disk.specs.Device.{Image, written, synced, SameMoments};
 ghost use Rattle.block_disk.specs.Memory.{Wrote, Synced, fresh, bytes_after, moment_after, device_of, IsDue, next_failure, called, failed, stopped, FailsWrite, FailsSync};
+ghost use Rattle.block_disk.specs.Since.{CountsOneMore, HasFailedSince, IsSameOrTorn};
 ghost use Rattle.block_disk.specs.declared.error.DiskError.TheVariants.{Fault, OutOfRange};
 
 use crate::call::{Call, keep, keep_failed, keep_write};
@@ -90,10 +91,15 @@ impl MemDisk {
     /// The disk that a crash leaves with stops 1 to `k - 1` ended and stop `k` begun; with `k` one more than there were
     /// stops, a crash now. `None` for any other `k`. Nothing is pending on the disk that it gives.
     pub fn crash_image(&self, k: u64, fill: Fill) -> Result<Option<MemDisk>, AllocError>
-        ensures there { IfOk result (λ found. IsSome found ↔ ((1 ≤ k) × (k ≤ length self.now.stops + 1))) }
-        ensures image { IfOk result (λ found. IfSome found (λ disk. disk ≡ fresh (crash_bytes fill self.now.first (done_at k self.now.stops)))) }
-        ensures possible { IfOk result (λ found. IfSome found (λ disk. Image (moment_after self.now.first (done_at k self.now.stops)) disk.first)) }
-        ensures any_moment { IfOk result (λ found. IfSome found (λ disk. LeftSinceStop k self.now disk.first)) }
+        ensures there { IfOk result (λ found. IsSome found
+            ↔ ((1 ≤ k) × (k ≤ length self.now.stops + 1))) }
+        ensures image { IfOk result (λ found. IfSome found
+            (λ disk. disk ≡ fresh (crash_bytes fill self.now.first (done_at k self.now.stops)))) }
+        ensures possible { IfOk result
+            (λ found. IfSome found
+            (λ disk. Image (moment_after self.now.first (done_at k self.now.stops)) disk.first)) }
+        ensures any_moment { IfOk result
+            (λ found. IfSome found (λ disk. LeftSinceStop k self.now disk.first)) }
     {
         if k == 0 || k - 1 > self.stops() {
             return Ok(None);
@@ -122,14 +128,20 @@ impl Disk for MemDisk {
 
     /// Answers `Fault` just where this call was chosen to fail, and leaves `out` as it was then.
     fn read_at(&mut self, at: u64, out: &mut [u8]) -> Result<(), DiskError>
-        ensures in_range { OnOk result (at + length out.old ≤ length (device_of self.old).now.bytes) }
-        ensures ok { OnOk result (out.new ≡ part at (length out.old) (device_of self.old).now.bytes) }
+        ensures in_range { OnOk result
+            (at + length out.old ≤ length (device_of self.old).now.bytes) }
+        ensures ok { OnOk result (out.new
+            ≡ part at (length out.old) (device_of self.old).now.bytes) }
         ensures same { OnOk result (device_of self.new ≡ device_of self.old) }
-        ensures out_of_range { IsErrOf result OutOfRange → (length (device_of self.old).now.bytes < at + length out.old)
-            × (out.new ≡ out.old) × (device_of self.new ≡ device_of self.old) }
-        ensures fault { IsErrOf result Fault → SameMoments (device_of self.old) (device_of self.new) }
-        ensures cause { IsErrOf result Fault → HasFailed (device_of self.old).failures (device_of self.new).failures }
-        ensures counted { IsErrOf result Fault → (device_of self.new).failures ≡ one_more (device_of self.old).failures }
+        ensures out_of_range { IsErrOf result OutOfRange
+            → (length (device_of self.old).now.bytes < at + length out.old) × (out.new ≡ out.old)
+            × (device_of self.new ≡ device_of self.old) }
+        ensures fault { IsErrOf result Fault
+            → SameMoments (device_of self.old) (device_of self.new) }
+        ensures cause { IsErrOf result Fault
+            → HasFailedSince (device_of self.old) (device_of self.new) }
+        ensures counted { IsErrOf result Fault
+            → CountsOneMore (device_of self.old) (device_of self.new) }
         ensures due { IsErrOf result Fault ↔ IsDue self.old }
         ensures called { ¬ IsErrOf result Fault → self.new ≡ called self.old }
         ensures failed { IsErrOf result Fault → self.new ≡ failed self.old }
@@ -149,16 +161,22 @@ impl Disk for MemDisk {
     /// is stored then; if the call was chosen to fail and lies within the disk, it is a stop, or, right behind another one
     /// that failed, the call after it may be chosen.
     fn write_at(&mut self, at: u64, bytes: &[u8]) -> Result<(), DiskError>
-        ensures in_range { OnOk result (at + length bytes.now ≤ length (device_of self.old).now.bytes) }
+        ensures in_range { OnOk result
+            (at + length bytes.now ≤ length (device_of self.old).now.bytes) }
         ensures ok { OnOk result (device_of self.new ≡ written at bytes.now (device_of self.old)) }
-        ensures out_of_range { IsErrOf result OutOfRange → (length (device_of self.old).now.bytes < at + length bytes.now)
+        ensures out_of_range { IsErrOf result OutOfRange
+            → (length (device_of self.old).now.bytes < at + length bytes.now)
             × (device_of self.new ≡ device_of self.old) }
-        ensures fault { IsErrOf result Fault → SameMoments (device_of self.old) (device_of self.new)
-            ⊎ TornWrite at (length bytes.now) (device_of self.old) (device_of self.new) }
-        ensures cause { IsErrOf result Fault → HasFailed (device_of self.old).failures (device_of self.new).failures }
-        ensures counted { IsErrOf result Fault → (device_of self.new).failures ≡ one_more (device_of self.old).failures }
+        ensures fault { IsErrOf result Fault
+            → IsSameOrTorn at (length bytes.now) (device_of self.old) (device_of self.new) }
+        ensures cause { IsErrOf result Fault
+            → HasFailedSince (device_of self.old) (device_of self.new) }
+        ensures counted { IsErrOf result Fault
+            → CountsOneMore (device_of self.old) (device_of self.new) }
         ensures due { IsDue self.old → IsErrOf result Fault }
-        ensures beyond { ¬ IsDue self.old → length (device_of self.old).now.bytes < at + length bytes.now → IsErrOf result OutOfRange }
+        ensures beyond { ¬ IsDue self.old
+            → length (device_of self.old).now.bytes < at + length bytes.now
+            → IsErrOf result OutOfRange }
         ensures called { IsErrOf result OutOfRange → self.new ≡ called self.old }
         ensures stopped { OnOk result (self.new ≡ stopped (Wrote at bytes.now) (called self.old)) }
         ensures failed { IsErrOf result Fault → FailsWrite at (length bytes.now) self.old self.new }
@@ -188,9 +206,12 @@ impl Disk for MemDisk {
     fn sync(&mut self) -> Result<(), DiskError>
         ensures ok { OnOk result (device_of self.new ≡ synced (device_of self.old)) }
         ensures in_range { ¬ IsErrOf result OutOfRange }
-        ensures fault { IsErrOf result Fault → SameMoments (device_of self.old) (device_of self.new) }
-        ensures cause { IsErrOf result Fault → HasFailed (device_of self.old).failures (device_of self.new).failures }
-        ensures counted { IsErrOf result Fault → (device_of self.new).failures ≡ one_more (device_of self.old).failures }
+        ensures fault { IsErrOf result Fault
+            → SameMoments (device_of self.old) (device_of self.new) }
+        ensures cause { IsErrOf result Fault
+            → HasFailedSince (device_of self.old) (device_of self.new) }
+        ensures counted { IsErrOf result Fault
+            → CountsOneMore (device_of self.old) (device_of self.new) }
         ensures due { IsDue self.old → IsErrOf result Fault }
         ensures stopped { OnOk result (self.new ≡ stopped Synced (called self.old)) }
         ensures failed { IsErrOf result Fault → FailsSync self.old self.new }

@@ -54,7 +54,8 @@ impl DeviceCall {
 
     /// Writes these bytes too, behind its own, if there is memory for them.
     pub(crate) fn lengthen(&mut self, more: &[u8]) -> bool
-        ensures { stop_of self.new ≡ (if result then longer (stop_of self.old) more.now else stop_of self.old) }
+        ensures { stop_of self.new ≡ (if result then longer (stop_of self.old) more.now
+            else stop_of self.old) }
     {
         match self {
             DeviceCall::Write { bytes, .. } => bytes.extend_from_slice(more).is_ok(),
@@ -65,7 +66,8 @@ impl DeviceCall {
 
 // How many writes of 16 bytes each, from `at` on, so many bytes from `from` on take.
 fn room_behind(from: u64, size: usize, at: u64) -> usize
-    ensures some { 0 < result → ((from + size == at) && nat_le (size + result * 16) MOST_BYTES) ≡ true }
+    ensures some { 0 < result → ((from + size == at) && nat_le (size + result * 16) MOST_BYTES)
+        ≡ true }
     ensures none { result ≡ 0 → ((from + size == at) && nat_le (size + 16) MOST_BYTES) ≡ false }
 {
     if size <= MOST_BYTES && is_end(from, size, at) {

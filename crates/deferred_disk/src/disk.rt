@@ -1,17 +1,17 @@
 //! A disk in memory that hands its calls over.
-ghost use Rattle.std.specs.Prelude.{◌≡◌, ◌⊎◌, ◌+◌, ◌*◌, ◌^◌, ◌<◌, ◌≤◌, ℕ, List, [], ◌∷◌, ◌++◌, length, replicate, OnOk, OnErr, IfOk, IsErrOf, if◌then◌else◌};
-ghost use Rattle.block_disk.specs.Bytes.{part, spliced};
-ghost use Rattle.block_disk.specs.Device.{HasFailed, SameMoments, TornWrite, one_more, synced, unit_ranges, written, written_units};
-ghost use Rattle.block_disk.specs.Images.{ImageBut, LeavesOnly};
-ghost use Rattle.block_disk.specs.Memory.{Stop, Synced, Wrote, bytes_after, failed, fresh, stopped, units_onto};
+ghost use Rattle.std.specs.Prelude.{◌≡◌, ◌+◌, ◌*◌, ◌^◌, ◌<◌, ◌≤◌, ℕ, List, [], ◌∷◌, ◌++◌, length, replicate, OnOk, OnErr, IfOk, IsErrOf, if◌then◌else◌};
+ghost use Rattle.block_disk.specs.Bytes.{part};
+ghost use Rattle.block_disk.specs.Device.{SameMoments, synced, unit_ranges, written, written_units};
+ghost use Rattle.block_disk.specs.Memory.{Stop, Synced, Wrote, failed, fresh, stopped, units_onto};
+ghost use Rattle.block_disk.specs.Since.{CountsOneMore, HasFailedSince, IsSameOrTorn, LeavesBut};
 ghost use Rattle.block_disk.specs.declared.error.DiskError.TheVariants.{Fault, OutOfRange};
-ghost use Rattle.deferred_disk.specs.Deferred.{deferred_device, onto, stop_of, stops_in, first_in};
+ghost use Rattle.deferred_disk.specs.Deferred.{deferred_device, onto, stops_in};
 ghost use Rattle.deferred_disk.specs.Host.{IsHostOf};
 ghost use Rattle.deferred_disk.specs.Joined.{IsAtSync, TakesAllOrNone, join_units, join_write, joined};
 ghost use Rattle.deferred_disk.specs.declared.call.DeviceCall.TheVariants as calls;
 ghost use Rattle.deferred_disk.specs.declared.disk.TheConstants.{SYNCS};
 ghost use Rattle.deferred_disk.specs.declared.call.Handed.TheVariants as handed;
-ghost use Rattle.rtrb.specs.Ring.{SameProducer, known_free, sent};
+ghost use Rattle.rtrb.specs.Ring.{SameProducer, sent};
 
 use crate::call::{DeviceCall, Handed, MOST_BYTES};
 use crate::handing::Handing;
@@ -106,14 +106,20 @@ impl Disk for DeferredDisk {
 
     /// Reads the memory, and never answers `Fault`.
     fn read_at(&mut self, at: u64, out: &mut [u8]) -> Result<(), DiskError>
-        ensures in_range { OnOk result (at + length out.old ≤ length (deferred_device self.old).now.bytes) }
-        ensures ok { OnOk result (out.new ≡ part at (length out.old) (deferred_device self.old).now.bytes) }
+        ensures in_range { OnOk result
+            (at + length out.old ≤ length (deferred_device self.old).now.bytes) }
+        ensures ok { OnOk result (out.new
+            ≡ part at (length out.old) (deferred_device self.old).now.bytes) }
         ensures same { OnOk result (deferred_device self.new ≡ deferred_device self.old) }
-        ensures out_of_range { IsErrOf result OutOfRange → (length (deferred_device self.old).now.bytes < at + length out.old)
+        ensures out_of_range { IsErrOf result OutOfRange
+            → (length (deferred_device self.old).now.bytes < at + length out.old)
             × (out.new ≡ out.old) × (deferred_device self.new ≡ deferred_device self.old) }
-        ensures fault { IsErrOf result Fault → SameMoments (deferred_device self.old) (deferred_device self.new) }
-        ensures cause { IsErrOf result Fault → HasFailed (deferred_device self.old).failures (deferred_device self.new).failures }
-        ensures counted { IsErrOf result Fault → (deferred_device self.new).failures ≡ one_more (deferred_device self.old).failures }
+        ensures fault { IsErrOf result Fault
+            → SameMoments (deferred_device self.old) (deferred_device self.new) }
+        ensures cause { IsErrOf result Fault
+            → HasFailedSince (deferred_device self.old) (deferred_device self.new) }
+        ensures counted { IsErrOf result Fault
+            → CountsOneMore (deferred_device self.old) (deferred_device self.new) }
         ensures no_fault { ¬ IsErrOf result Fault }
         ensures untouched { self.new ≡ self.old }
     {
@@ -126,16 +132,24 @@ impl Disk for DeferredDisk {
 
     /// `Fault` is want of memory for the call, or one of more than [`MOST_BYTES`](crate::MOST_BYTES); nothing is written then.
     fn write_at(&mut self, at: u64, bytes: &[u8]) -> Result<(), DiskError>
-        ensures in_range { OnOk result (at + length bytes.now ≤ length (deferred_device self.old).now.bytes) }
-        ensures ok { OnOk result (deferred_device self.new ≡ written at bytes.now (deferred_device self.old)) }
-        ensures out_of_range { IsErrOf result OutOfRange → (length (deferred_device self.old).now.bytes < at + length bytes.now)
+        ensures in_range { OnOk result
+            (at + length bytes.now ≤ length (deferred_device self.old).now.bytes) }
+        ensures ok { OnOk result (deferred_device self.new
+            ≡ written at bytes.now (deferred_device self.old)) }
+        ensures out_of_range { IsErrOf result OutOfRange
+            → (length (deferred_device self.old).now.bytes < at + length bytes.now)
             × (deferred_device self.new ≡ deferred_device self.old) }
-        ensures fault { IsErrOf result Fault → SameMoments (deferred_device self.old) (deferred_device self.new)
-            ⊎ TornWrite at (length bytes.now) (deferred_device self.old) (deferred_device self.new) }
-        ensures cause { IsErrOf result Fault → HasFailed (deferred_device self.old).failures (deferred_device self.new).failures }
-        ensures counted { IsErrOf result Fault → (deferred_device self.new).failures ≡ one_more (deferred_device self.old).failures }
-        ensures beyond { length (deferred_device self.old).now.bytes < at + length bytes.now → IsErrOf result OutOfRange }
-        ensures stopped { OnOk result (self.new.memory ≡ stopped (Wrote at bytes.now) self.old.memory) }
+        ensures fault { IsErrOf result Fault
+            → IsSameOrTorn at (length bytes.now)
+            (deferred_device self.old) (deferred_device self.new) }
+        ensures cause { IsErrOf result Fault
+            → HasFailedSince (deferred_device self.old) (deferred_device self.new) }
+        ensures counted { IsErrOf result Fault
+            → CountsOneMore (deferred_device self.old) (deferred_device self.new) }
+        ensures beyond { length (deferred_device self.old).now.bytes < at + length bytes.now
+            → IsErrOf result OutOfRange }
+        ensures stopped { OnOk result
+            (self.new.memory ≡ stopped (Wrote at bytes.now) self.old.memory) }
         ensures failed { IsErrOf result Fault → self.new.memory ≡ failed self.old.memory }
         ensures untouched { IsErrOf result OutOfRange → self.new ≡ self.old }
         ensures ring { SameProducer self.old.ring self.new.ring }
@@ -161,13 +175,21 @@ impl Disk for DeferredDisk {
         requires some { 0 < count }
         requires whole { length units.now ≡ count * 16 }
         requires fits { at + length units.now ≤ length (deferred_device self.old).now.bytes }
-        ensures ok { OnOk result (deferred_device self.new ≡ written_units count at units.now (deferred_device self.old)) }
-        ensures any_moment { LeavesOnly (deferred_device self.old) (deferred_device self.new) (ImageBut (deferred_device self.old) (unit_ranges count at)) }
-        ensures cause { OnErr result (HasFailed (deferred_device self.old).failures (deferred_device self.new).failures) }
-        ensures stopped { OnOk result (self.new.memory ≡ record self.old.memory { stops = units_onto count at units.now self.old.memory.stops }) }
+        ensures ok { OnOk result (deferred_device self.new
+            ≡ written_units count at units.now (deferred_device self.old)) }
+        ensures any_moment { LeavesBut (unit_ranges count at)
+            (deferred_device self.old) (deferred_device self.new) }
+        ensures cause { OnErr result
+            (HasFailedSince (deferred_device self.old) (deferred_device self.new)) }
+        ensures stopped { OnOk result
+            (self.new.memory ≡ record self.old.memory
+            { stops = units_onto count at units.now self.old.memory.stops }) }
         ensures failed { OnErr result ((kept : ℕ) × (kept < count)
-            × (self.new.memory ≡ failed (record self.old.memory { stops = units_onto kept at units.now self.old.memory.stops }))) }
-        ensures counted { OnErr result ((deferred_device self.new).failures ≡ one_more (deferred_device self.old).failures) }
+            × (self.new.memory ≡ failed
+            (record self.old.memory
+            { stops = units_onto kept at units.now self.old.memory.stops }))) }
+        ensures counted { OnErr result
+            (CountsOneMore (deferred_device self.old) (deferred_device self.new)) }
         ensures ring { SameProducer self.old.ring self.new.ring }
     {
         let _size = self.bytes.len();
@@ -187,12 +209,16 @@ impl Disk for DeferredDisk {
     fn sync(&mut self) -> Result<(), DiskError>
         ensures ok { OnOk result (deferred_device self.new ≡ synced (deferred_device self.old)) }
         ensures in_range { ¬ IsErrOf result OutOfRange }
-        ensures fault { IsErrOf result Fault → SameMoments (deferred_device self.old) (deferred_device self.new) }
-        ensures cause { IsErrOf result Fault → HasFailed (deferred_device self.old).failures (deferred_device self.new).failures }
-        ensures counted { IsErrOf result Fault → (deferred_device self.new).failures ≡ one_more (deferred_device self.old).failures }
+        ensures fault { IsErrOf result Fault
+            → SameMoments (deferred_device self.old) (deferred_device self.new) }
+        ensures cause { IsErrOf result Fault
+            → HasFailedSince (deferred_device self.old) (deferred_device self.new) }
+        ensures counted { IsErrOf result Fault
+            → CountsOneMore (deferred_device self.old) (deferred_device self.new) }
         ensures stopped { OnOk result (self.new.memory ≡ stopped Synced self.old.memory) }
         ensures failed { IsErrOf result Fault → self.new.memory ≡ failed self.old.memory }
-        ensures handed { OnOk result (joined self.new.memory.stops ≡ stops_in (sent self.new.ring)) }
+        ensures handed { OnOk result
+            (joined self.new.memory.stops ≡ stops_in (sent self.new.ring)) }
         ensures ring { SameProducer self.old.ring self.new.ring }
     {
         if self.ring.slots() == 0 || !keep(&mut self.unsent, DeviceCall::Sync) {
@@ -225,7 +251,9 @@ fn keep(calls: &mut Vec<DeviceCall>, call: DeviceCall) -> bool
 // Keeps a write of these bytes, if there is memory for it: as one with the last call, where it goes on with that.
 fn keep_write(alloc: Global, calls: &mut Vec<DeviceCall>, at: u64, bytes: &[u8]) -> bool
     ensures { (before : List Stop) → IsAtSync before
-        → onto before calls.new.items ≡ (if result then join_write at bytes.now (onto before calls.old.items) else onto before calls.old.items) }
+        → onto before calls.new.items
+        ≡ (if result then join_write at bytes.now (onto before calls.old.items)
+        else onto before calls.old.items) }
 {
     let count = calls.len();
     if count > 0 && calls[count - 1].takes(at, bytes.len()) {
@@ -245,7 +273,9 @@ fn keep_units(
     requires whole { length units.now ≡ count * 16 }
     requires fits { at + length units.now < 2 ^ 64 }
     ensures few { result ≤ count }
-    ensures kept { (before : List Stop) → IsAtSync before → onto before calls.new.items ≡ join_units result at units.now (onto before calls.old.items) }
+    ensures kept { (before : List Stop) → IsAtSync before
+        → onto before calls.new.items
+        ≡ join_units result at units.now (onto before calls.old.items) }
 {
     let mut done = 0;
     while done < count {
@@ -271,7 +301,9 @@ fn keep_run(
     requires some { 0 < count }
     requires whole { length units.now ≡ count * 16 }
     ensures few { result ≤ count }
-    ensures kept { (before : List Stop) → IsAtSync before → onto before calls.new.items ≡ join_units result at units.now (onto before calls.old.items) }
+    ensures kept { (before : List Stop) → IsAtSync before
+        → onto before calls.new.items
+        ≡ join_units result at units.now (onto before calls.old.items) }
 {
     let run = run_length(calls, at, count);
     if keep_write(alloc, calls, at, &units[..run * 16]) {
@@ -286,7 +318,8 @@ fn run_length(calls: &Vec<DeviceCall>, at: u64, count: usize) -> usize
     ensures some { 0 < result }
     ensures few { result ≤ count }
     ensures one { result * 16 ≤ 4096 }
-    ensures fits { (before : List Stop) → IsAtSync before → TakesAllOrNone result at (onto before calls.now.items) }
+    ensures fits { (before : List Stop) → IsAtSync before
+        → TakesAllOrNone result at (onto before calls.now.items) }
 {
     let len = calls.len();
     if len > 0 {
@@ -300,7 +333,10 @@ fn run_length(calls: &Vec<DeviceCall>, at: u64, count: usize) -> usize
 
 // Keeps a write of these bytes as a call of its own, if there is memory for it.
 fn keep_new_write(alloc: Global, calls: &mut Vec<DeviceCall>, at: u64, bytes: &[u8]) -> bool
-    ensures { (before : List Stop) → onto before calls.new.items ≡ (if result then Wrote at bytes.now ∷ onto before calls.old.items else onto before calls.old.items) }
+    ensures { (before : List Stop)
+        → onto before calls.new.items
+        ≡ (if result then Wrote at bytes.now ∷ onto before calls.old.items
+        else onto before calls.old.items) }
 {
     match bytes.to_vec(alloc) {
         Ok(bytes) => keep(calls, DeviceCall::Write { at, bytes }),

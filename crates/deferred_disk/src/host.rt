@@ -1,10 +1,10 @@
 //! The host's end of a deferred disk.
-ghost use Rattle.std.specs.Prelude.{◌≡◌, ◌<◌, [], ◌∷◌, List, ℕ, true, false, length, IfSome, IsSomeAnd, MatchOption};
+ghost use Rattle.std.specs.Prelude.{◌≡◌, ◌<◌, [], ◌∷◌, List, true, false, length, IfSome, IsSomeAnd, MatchOption};
 ghost use Rattle.deferred_disk.specs.Deferred.{calls_in, deferred_device, onto, stop_of, stops_in};
 ghost use Rattle.deferred_disk.specs.Handing.{AreLeft, AreToSync, IsSmall};
 ghost use Rattle.deferred_disk.specs.Host.{Fetches, HasLooked, HaveMet, IsHostOf};
 ghost use Rattle.deferred_disk.specs.declared.call.Handed.{Handed as Batch};
-ghost use Rattle.rtrb.specs.Ring.{SameConsumer, SameProducer, received, known_items};
+ghost use Rattle.rtrb.specs.Ring.{SameConsumer, received, known_items};
 
 use crate::call::{DeviceCall, Handed};
 use crate::disk::DeferredDisk;
@@ -73,7 +73,8 @@ impl HostCalls {
 
     /// The call that the host has to make next, of those that it fetched. A write has [`MOST_BYTES`](crate::MOST_BYTES) at most.
     pub fn next_call(&self) -> Option<&DeviceCall>
-        ensures first { MatchOption result (self.now.left ≡ []) (λ call. (later : List DeviceCall) × (self.now.left ≡ call.now ∷ later)) }
+        ensures first { MatchOption result (self.now.left ≡ []) (λ call. (later : List DeviceCall)
+            × (self.now.left ≡ call.now ∷ later)) }
         ensures small { IfSome result (λ call. IsSmall call.now) }
     {
         self.left.front()
@@ -84,7 +85,8 @@ impl HostCalls {
         ensures ring { SameConsumer self.old.ring self.new.ring }
         ensures none { self.old.left ≡ [] → (result ≡ false) × (self.new ≡ self.old) }
         ensures one { (call : DeviceCall) (later : List DeviceCall) → self.old.left ≡ call ∷ later
-            → (result ≡ true) × (self.new.left ≡ later) × (self.new.made ≡ stop_of call ∷ self.old.made) }
+            → (result ≡ true) × (self.new.left ≡ later)
+            × (self.new.made ≡ stop_of call ∷ self.old.made) }
     {
         self.left.pop_front().is_some()
     }
@@ -106,9 +108,11 @@ impl HostCalls {
 // Takes what was handed over next, if it is there. The beginning, which has no calls, was taken before.
 fn next_batch(ring: &mut Consumer<Handed, Global, Handing>) -> Option<Vec<DeviceCall>>
     requires begun { 0 < length (received ring.old) }
-    ensures taken { MatchOption result (stops_in (received ring.new) ≡ stops_in (received ring.old)) (λ calls. stops_in (received ring.new) ≡ onto (stops_in (received ring.old)) calls.items) }
+    ensures taken { MatchOption result (stops_in (received ring.new) ≡ stops_in (received ring.old))
+        (λ calls. stops_in (received ring.new) ≡ onto (stops_in (received ring.old)) calls.items) }
     ensures some { MatchOption result (known_items ring.new ≡ []) (λ calls. AreToSync calls.items) }
-    ensures known { (next : Batch) (more : List Batch) → known_items ring.old ≡ next ∷ more → IsSomeAnd result (λ calls. calls.items ≡ calls_in next) }
+    ensures known { (next : Batch) (more : List Batch) → known_items ring.old ≡ next ∷ more
+        → IsSomeAnd result (λ calls. calls.items ≡ calls_in next) }
     ensures begun { 0 < length (received ring.new) }
     ensures ring { SameConsumer ring.old ring.new }
 {

@@ -34,13 +34,16 @@ pub trait BackingFile {
 
     /// Reads the bytes from `at` on into `out`, whole; there is an error where the file ends before.
     fn read_from(&mut self, at: u64, out: &mut [u8]) -> io::Result<()>
-        ensures ok { OnOk result (IfSome (holds self.old) (λ h. out.new ≡ part at (length out.old) h.reads)) }
+        ensures ok { OnOk result (IfSome (holds self.old)
+            (λ h. out.new ≡ part at (length out.old) h.reads)) }
         ensures same { holds self.new ≡ holds self.old };
 
     /// Writes all these bytes at `at`. After an error there may be any bytes in their range.
     fn write_to(&mut self, at: u64, bytes: &[u8]) -> io::Result<()>
-        ensures ok { OnOk result (holds self.new ≡ option_map (put_at at bytes.now) (holds self.old)) }
-        ensures err { OnErr result (TornFile at (length bytes.now) (holds self.old) (holds self.new)) };
+        ensures ok { OnOk result (holds self.new
+            ≡ option_map (put_at at bytes.now) (holds self.old)) }
+        ensures err { OnErr result (TornFile at (length bytes.now) (holds self.old)
+            (holds self.new)) };
 
     /// Makes what was written, and the file's length, durable.
     fn settle(&mut self) -> io::Result<()>

@@ -1,9 +1,9 @@
 //! A disk whose bytes reach a file at each sync.
-ghost use Rattle.std.specs.Prelude.{◌≡◌, ◌⊎◌, ◌+◌, ◌-◌, ◌*◌, ◌^◌, ◌<◌, ◌≤◌, ◌∷◌, ◌++◌, [], ℕ, List, length, min, replicate, IfOk, IfSome, IsErrOf, IsOk, OnErr, OnOk};
-ghost use Rattle.block_disk.specs.Bytes.{part, spliced};
+ghost use Rattle.std.specs.Prelude.{◌≡◌, ◌+◌, ◌*◌, ◌<◌, ◌≤◌, ◌∷◌, List, length, replicate, IfOk, IfSome, IsErrOf, IsOk, OnErr, OnOk};
+ghost use Rattle.block_disk.specs.Bytes.{part};
 ghost use Rattle.file_disk.specs.Backing.{Reads, ReadsBut, ReadsForGood};
-ghost use Rattle.block_disk.specs.Device.{HasFailed, Image, Range, SameMoments, TornWrite, new_device, one_more, synced, unit_ranges, written, written_units};
-ghost use Rattle.block_disk.specs.Images.{ImageBut, LeavesOnly};
+ghost use Rattle.block_disk.specs.Device.{Image, Range, SameMoments, new_device, synced, unit_ranges, written, written_units};
+ghost use Rattle.block_disk.specs.Since.{CountsOneMore, HasFailedSince, IsSameOrTorn, LeavesBut};
 ghost use Rattle.block_disk.specs.declared.error.DiskError.TheVariants.{Fault, OutOfRange};
 ghost use Rattle.file_disk.specs.Buffered.{AllWithin, GoesOn, IsWithin};
 
@@ -100,7 +100,8 @@ impl<F: BackingFile + Drop> BufferedDisk<F> {
     pub fn found(alloc: Global, mut file: F) -> Result<BufferedDisk<F>, FileError>
         ensures ok { IfOk result (λ disk. disk.device ≡ new_device disk.device.now.bytes) }
         ensures durable { IfOk result (λ disk. ReadsForGood disk.device.now.bytes disk.file) }
-        ensures given { IfOk result (λ disk. IfSome (F.holds file) (λ h. disk.device.now.bytes ≡ h.reads)) }
+        ensures given { IfOk result (λ disk. IfSome (F.holds file)
+            (λ h. disk.device.now.bytes ≡ h.reads)) }
     {
         let bytes = read_whole(alloc, &mut file)?;
         let trace = Trace::of(&bytes);
@@ -133,11 +134,12 @@ impl<F: BackingFile + Drop> Disk for BufferedDisk<F> {
         ensures in_range { OnOk result (at + length out.old ≤ length self.old.device.now.bytes) }
         ensures ok { OnOk result (out.new ≡ part at (length out.old) self.old.device.now.bytes) }
         ensures same { OnOk result (self.new.device ≡ self.old.device) }
-        ensures out_of_range { IsErrOf result OutOfRange → (length self.old.device.now.bytes < at + length out.old)
-            × (out.new ≡ out.old) × (self.new.device ≡ self.old.device) }
+        ensures out_of_range { IsErrOf result OutOfRange
+            → (length self.old.device.now.bytes < at + length out.old) × (out.new ≡ out.old)
+            × (self.new.device ≡ self.old.device) }
         ensures fault { IsErrOf result Fault → SameMoments self.old.device self.new.device }
-        ensures cause { IsErrOf result Fault → HasFailed self.old.device.failures self.new.device.failures }
-        ensures counted { IsErrOf result Fault → self.new.device.failures ≡ one_more self.old.device.failures }
+        ensures cause { IsErrOf result Fault → HasFailedSince self.old.device self.new.device }
+        ensures counted { IsErrOf result Fault → CountsOneMore self.old.device self.new.device }
         ensures no_fault { ¬ IsErrOf result Fault }
         ensures file { self.new.file ≡ self.old.file }
     {
@@ -153,14 +155,16 @@ impl<F: BackingFile + Drop> Disk for BufferedDisk<F> {
     fn write_at(&mut self, at: u64, bytes: &[u8]) -> Result<(), DiskError>
         ensures in_range { OnOk result (at + length bytes.now ≤ length self.old.device.now.bytes) }
         ensures ok { OnOk result (self.new.device ≡ written at bytes.now self.old.device) }
-        ensures out_of_range { IsErrOf result OutOfRange → (length self.old.device.now.bytes < at + length bytes.now)
+        ensures out_of_range { IsErrOf result OutOfRange
+            → (length self.old.device.now.bytes < at + length bytes.now)
             × (self.new.device ≡ self.old.device) }
-        ensures fault { IsErrOf result Fault → SameMoments self.old.device self.new.device
-            ⊎ TornWrite at (length bytes.now) self.old.device self.new.device }
-        ensures cause { IsErrOf result Fault → HasFailed self.old.device.failures self.new.device.failures }
-        ensures counted { IsErrOf result Fault → self.new.device.failures ≡ one_more self.old.device.failures }
+        ensures fault { IsErrOf result Fault
+            → IsSameOrTorn at (length bytes.now) self.old.device self.new.device }
+        ensures cause { IsErrOf result Fault → HasFailedSince self.old.device self.new.device }
+        ensures counted { IsErrOf result Fault → CountsOneMore self.old.device self.new.device }
         ensures untorn { IsErrOf result Fault → SameMoments self.old.device self.new.device }
-        ensures beyond { length self.old.device.now.bytes < at + length bytes.now → IsErrOf result OutOfRange }
+        ensures beyond { length self.old.device.now.bytes < at + length bytes.now
+            → IsErrOf result OutOfRange }
         ensures goes_on { GoesOn at self.old.device.now.pending → ¬ IsErrOf result Fault }
         ensures file { self.new.file ≡ self.old.file }
     {
@@ -181,10 +185,11 @@ impl<F: BackingFile + Drop> Disk for BufferedDisk<F> {
         requires some { 0 < count }
         requires whole { length units.now ≡ count * 16 }
         requires fits { at + length units.now ≤ length self.old.device.now.bytes }
-        ensures ok { OnOk result (self.new.device ≡ written_units count at units.now self.old.device) }
-        ensures any_moment { LeavesOnly self.old.device self.new.device (ImageBut self.old.device (unit_ranges count at)) }
-        ensures cause { OnErr result (HasFailed self.old.device.failures self.new.device.failures) }
-        ensures counted { OnErr result (self.new.device.failures ≡ one_more self.old.device.failures) }
+        ensures ok { OnOk result (self.new.device
+            ≡ written_units count at units.now self.old.device) }
+        ensures any_moment { LeavesBut (unit_ranges count at) self.old.device self.new.device }
+        ensures cause { OnErr result (HasFailedSince self.old.device self.new.device) }
+        ensures counted { OnErr result (CountsOneMore self.old.device self.new.device) }
         ensures untorn { OnErr result (SameMoments self.old.device self.new.device) }
         ensures goes_on { GoesOn at self.old.device.now.pending → IsOk result }
         ensures file { self.new.file ≡ self.old.file }
@@ -205,8 +210,8 @@ impl<F: BackingFile + Drop> Disk for BufferedDisk<F> {
         ensures ok { OnOk result (self.new.device ≡ synced self.old.device) }
         ensures in_range { ¬ IsErrOf result OutOfRange }
         ensures fault { IsErrOf result Fault → SameMoments self.old.device self.new.device }
-        ensures cause { IsErrOf result Fault → HasFailed self.old.device.failures self.new.device.failures }
-        ensures counted { IsErrOf result Fault → self.new.device.failures ≡ one_more self.old.device.failures }
+        ensures cause { IsErrOf result Fault → HasFailedSince self.old.device self.new.device }
+        ensures counted { IsErrOf result Fault → CountsOneMore self.old.device self.new.device }
         ensures durable { OnOk result (ReadsForGood self.new.device.now.bytes self.new.file) }
     {
         if flush(&mut self.file, &self.unwritten, &self.bytes).is_err() {

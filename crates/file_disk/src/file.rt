@@ -1,7 +1,8 @@
 //! A disk each of whose writes reaches its file at once.
-ghost use Rattle.std.specs.Prelude.{◌≡◌, ◌⊎◌, ◌+◌, ◌<◌, ◌≤◌, ◌↔◌, IsTrue, IsFalse, length, replicate, OnOk, OnErr, IfOk, IfSome, IsErrOf};
+ghost use Rattle.std.specs.Prelude.{◌≡◌, ◌+◌, ◌<◌, ◌≤◌, ◌↔◌, IsTrue, IsFalse, length, replicate, OnOk, OnErr, IfOk, IfSome, IsErrOf};
 ghost use Rattle.block_disk.specs.Bytes.{part};
-ghost use Rattle.block_disk.specs.Device.{HasFailed, SameMoments, TornWrite, new_device, one_more, synced, written};
+ghost use Rattle.block_disk.specs.Device.{SameMoments, new_device, synced, written};
+ghost use Rattle.block_disk.specs.Since.{CountsOneMore, HasFailedSince, IsSameOrTorn};
 ghost use Rattle.block_disk.specs.declared.error.DiskError.TheVariants.{Fault, OutOfRange};
 ghost use Rattle.file_disk.specs.Backing.{Reads, ReadsBut, ReadsForGood};
 ghost use Rattle.file_disk.specs.Buffered.{AllWithin};
@@ -106,7 +107,8 @@ impl<F: BackingFile + Drop> FileDisk<F> {
     pub fn found(alloc: Global, mut file: F) -> Result<FileDisk<F>, FileError>
         ensures ok { IfOk result (λ disk. disk.device ≡ new_device disk.device.now.bytes) }
         ensures durable { IfOk result (λ disk. ReadsForGood disk.device.now.bytes disk.file) }
-        ensures given { IfOk result (λ disk. IfSome (F.holds file) (λ h. disk.device.now.bytes ≡ h.reads)) }
+        ensures given { IfOk result (λ disk. IfSome (F.holds file)
+            (λ h. disk.device.now.bytes ≡ h.reads)) }
     {
         let bytes = read_whole(alloc, &mut file)?;
         let trace = Trace::of(&bytes);
@@ -133,13 +135,16 @@ impl<F: BackingFile + Drop> Disk for FileDisk<F> {
         ensures in_range { OnOk result (at + length out.old ≤ length self.old.device.now.bytes) }
         ensures ok { OnOk result (out.new ≡ part at (length out.old) self.old.device.now.bytes) }
         ensures same { OnOk result (self.new.device ≡ self.old.device) }
-        ensures out_of_range { IsErrOf result OutOfRange → (length self.old.device.now.bytes < at + length out.old)
-            × (out.new ≡ out.old) × (self.new.device ≡ self.old.device) }
+        ensures out_of_range { IsErrOf result OutOfRange
+            → (length self.old.device.now.bytes < at + length out.old) × (out.new ≡ out.old)
+            × (self.new.device ≡ self.old.device) }
         ensures fault { IsErrOf result Fault → SameMoments self.old.device self.new.device }
-        ensures cause { IsErrOf result Fault → HasFailed self.old.device.failures self.new.device.failures }
-        ensures counted { IsErrOf result Fault → self.new.device.failures ≡ one_more self.old.device.failures }
-        ensures beyond { length self.old.device.now.bytes < at + length out.old → IsErrOf result OutOfRange }
-        ensures agrees { OnOk result (IfSome self.old.file (λ h. out.new ≡ part at (length out.old) h.reads)) }
+        ensures cause { IsErrOf result Fault → HasFailedSince self.old.device self.new.device }
+        ensures counted { IsErrOf result Fault → CountsOneMore self.old.device self.new.device }
+        ensures beyond { length self.old.device.now.bytes < at + length out.old
+            → IsErrOf result OutOfRange }
+        ensures agrees { OnOk result
+            (IfSome self.old.file (λ h. out.new ≡ part at (length out.old) h.reads)) }
         ensures file { self.new.file ≡ self.old.file }
     {
         if !lies_within(at, out.len(), self.bytes.len()) {
@@ -158,15 +163,18 @@ impl<F: BackingFile + Drop> Disk for FileDisk<F> {
     fn write_at(&mut self, at: u64, bytes: &[u8]) -> Result<(), DiskError>
         ensures in_range { OnOk result (at + length bytes.now ≤ length self.old.device.now.bytes) }
         ensures ok { OnOk result (self.new.device ≡ written at bytes.now self.old.device) }
-        ensures out_of_range { IsErrOf result OutOfRange → (length self.old.device.now.bytes < at + length bytes.now)
+        ensures out_of_range { IsErrOf result OutOfRange
+            → (length self.old.device.now.bytes < at + length bytes.now)
             × (self.new.device ≡ self.old.device) }
-        ensures fault { IsErrOf result Fault → SameMoments self.old.device self.new.device
-            ⊎ TornWrite at (length bytes.now) self.old.device self.new.device }
-        ensures cause { IsErrOf result Fault → HasFailed self.old.device.failures self.new.device.failures }
-        ensures counted { IsErrOf result Fault → self.new.device.failures ≡ one_more self.old.device.failures }
-        ensures beyond { length self.old.device.now.bytes < at + length bytes.now → IsErrOf result OutOfRange }
+        ensures fault { IsErrOf result Fault
+            → IsSameOrTorn at (length bytes.now) self.old.device self.new.device }
+        ensures cause { IsErrOf result Fault → HasFailedSince self.old.device self.new.device }
+        ensures counted { IsErrOf result Fault → CountsOneMore self.old.device self.new.device }
+        ensures beyond { length self.old.device.now.bytes < at + length bytes.now
+            → IsErrOf result OutOfRange }
         ensures untouched { IsErrOf result OutOfRange → self.new ≡ self.old }
-        ensures mirrored { OnOk result (Reads self.old.device.now.bytes self.old.file → Reads self.new.device.now.bytes self.new.file) }
+        ensures mirrored { OnOk result (Reads self.old.device.now.bytes self.old.file
+            → Reads self.new.device.now.bytes self.new.file) }
     {
         let size = self.bytes.len();
         if !lies_within(at, bytes.len(), size) {
@@ -191,8 +199,8 @@ impl<F: BackingFile + Drop> Disk for FileDisk<F> {
         ensures ok { OnOk result (self.new.device ≡ synced self.old.device) }
         ensures in_range { ¬ IsErrOf result OutOfRange }
         ensures fault { IsErrOf result Fault → SameMoments self.old.device self.new.device }
-        ensures cause { IsErrOf result Fault → HasFailed self.old.device.failures self.new.device.failures }
-        ensures counted { IsErrOf result Fault → self.new.device.failures ≡ one_more self.old.device.failures }
+        ensures cause { IsErrOf result Fault → HasFailedSince self.old.device self.new.device }
+        ensures counted { IsErrOf result Fault → CountsOneMore self.old.device self.new.device }
         ensures durable { OnOk result (ReadsForGood self.new.device.now.bytes self.new.file) }
     {
         if catch_up(&mut self.file, self.behind, &self.unsynced, &self.bytes).is_err() {

@@ -48,10 +48,15 @@ pub(crate) fn add(spans: &mut Vec<Span>, start: u64, len: u64, size: u64) -> boo
     requires within { start + len ≤ size }
     requires others { AllWithin size spans.old.items }
     ensures within { AllWithin size spans.new.items }
-    ensures covered { IsTrue result → (i : ℕ) → IsClear i spans.new.items → IsClear i (record { start = start; len = len } ∷ spans.old.items) }
-    ensures exact { IsTrue result → (i : ℕ) → IsClear i (record { start = start; len = len } ∷ spans.old.items) → IsClear i spans.new.items }
-    ensures newest { IsTrue result → LastCovers (record { start = start; len = len }) spans.new.items }
-    ensures goes_on { (r : Range) → LastCovers r spans.old.items → r.start ≤ start → start ≤ r.start + r.len → IsTrue result }
+    ensures covered { IsTrue result → (i : ℕ) → IsClear i spans.new.items
+        → IsClear i (record { start = start; len = len } ∷ spans.old.items) }
+    ensures exact { IsTrue result → (i : ℕ)
+        → IsClear i (record { start = start; len = len } ∷ spans.old.items)
+        → IsClear i spans.new.items }
+    ensures newest { IsTrue result
+        → LastCovers (record { start = start; len = len }) spans.new.items }
+    ensures goes_on { (r : Range) → LastCovers r spans.old.items → r.start ≤ start
+        → start ≤ r.start + r.len → IsTrue result }
     ensures same { IsFalse result → spans.new.items ≡ spans.old.items }
 {
     if join(spans, start, len, size) {
@@ -65,7 +70,8 @@ fn push(spans: &mut Vec<Span>, span: Span, size: u64) -> bool
     requires within { IsWithin size span }
     requires others { AllWithin size spans.old.items }
     ensures within { AllWithin size spans.new.items }
-    ensures added { spans.new.items ≡ (if result then spans.old.items ++ span ∷ [] else spans.old.items) }
+    ensures added { spans.new.items ≡ (if result then spans.old.items ++ span ∷ []
+        else spans.old.items) }
 {
     spans.push(span).is_ok()
 }
@@ -75,10 +81,15 @@ fn join(spans: &mut Vec<Span>, start: u64, len: u64, size: u64) -> bool
     requires within { start + len ≤ size }
     requires others { AllWithin size spans.old.items }
     ensures within { AllWithin size spans.new.items }
-    ensures covered { IsTrue result → (i : ℕ) → IsClear i spans.new.items → IsClear i (record { start = start; len = len } ∷ spans.old.items) }
-    ensures exact { IsTrue result → (i : ℕ) → IsClear i (record { start = start; len = len } ∷ spans.old.items) → IsClear i spans.new.items }
-    ensures newest { IsTrue result → LastCovers (record { start = start; len = len }) spans.new.items }
-    ensures goes_on { (r : Range) → LastCovers r spans.old.items → r.start ≤ start → start ≤ r.start + r.len → IsTrue result }
+    ensures covered { IsTrue result → (i : ℕ) → IsClear i spans.new.items
+        → IsClear i (record { start = start; len = len } ∷ spans.old.items) }
+    ensures exact { IsTrue result → (i : ℕ)
+        → IsClear i (record { start = start; len = len } ∷ spans.old.items)
+        → IsClear i spans.new.items }
+    ensures newest { IsTrue result
+        → LastCovers (record { start = start; len = len }) spans.new.items }
+    ensures goes_on { (r : Range) → LastCovers r spans.old.items → r.start ≤ start
+        → start ≤ r.start + r.len → IsTrue result }
     ensures same { IsFalse result → spans.new.items ≡ spans.old.items }
 {
     let count = spans.len();
@@ -109,9 +120,11 @@ fn joined(last: Span, start: u64, len: u64, size: u64) -> Span
     requires low { last.start ≤ start }
     requires high { start ≤ last.start + last.len }
     ensures within { IsWithin size result }
-    ensures both { (i : ℕ) → IsOutside i result → IsOutside i last × IsOutside i (record { start = start; len = len }) }
+    ensures both { (i : ℕ) → IsOutside i result → IsOutside i last
+        × IsOutside i (record { start = start; len = len }) }
     ensures covers { (result.start ≤ start) × (start + len ≤ result.start + result.len) }
-    ensures exact { (i : ℕ) → IsOutside i last → IsOutside i (record { start = start; len = len }) → IsOutside i result }
+    ensures exact { (i : ℕ) → IsOutside i last → IsOutside i (record { start = start; len = len })
+        → IsOutside i result }
 {
     let _size = size;
     let first = last.start();

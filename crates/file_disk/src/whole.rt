@@ -55,7 +55,9 @@ fn write_in_pieces<F: BackingFile>(file: &mut F, bytes: &[u8]) -> io::Result<()>
 
 // Writes these bytes at the end of a file that has so many.
 fn write_behind<F: BackingFile>(file: &mut F, at: u64, piece: &[u8]) -> io::Result<()>
-    ensures { (done : List ℕ) → length done ≡ at → OnOk result (Reads done (F.holds file.old) → Reads (done ++ piece.now) (F.holds file.new)) }
+    ensures { (done : List ℕ) → length done ≡ at
+        → OnOk result (Reads done (F.holds file.old)
+        → Reads (done ++ piece.now) (F.holds file.new)) }
 {
     file.write_to(at, piece)
 }

@@ -1,6 +1,7 @@
 pub mod Numbers
 pub mod Comparisons
 pub mod Controls
+pub mod Committed
 pub mod Commits
 pub mod Spares
 pub mod Turning

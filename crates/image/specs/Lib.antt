@@ -10,6 +10,7 @@ pub mod Image
 pub mod Calls
 pub mod Format
 pub mod Commit
+pub mod Commits
 pub mod Recovered
 pub mod Laws
 -- Scaffold: what proofs need.

@@ -29,6 +29,18 @@ body_at s = slot_at s + 8
 abbrev pub slot_range : Slot → Range
 slot_range s = record { start = slot_at s; len = 1048 }
 
+-- the gate at this place is open
+abbrev pub IsOpen : ℕ → List ℕ → Type 0
+IsOpen at image = slice_index image at ≡ 165
+
+-- it is closed
+abbrev pub IsShut : ℕ → List ℕ → Type 0
+IsShut at image = slice_index image at ≢ 165
+
+-- as many bytes as a slot's body has
+abbrev pub IsBody : List ℕ → Type 0
+IsBody bytes = length bytes ≡ 1040
+
 -- the slot's gate, which is open at 165 and else closed
 abbrev pub gate : Slot → List ℕ → ℕ
 gate s image = slice_index image (slot_at s)

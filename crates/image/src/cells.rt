@@ -1,8 +1,8 @@
 //! Home cells (`docs/FORMAT.md`, "Image").
 ghost use Rattle.std.specs.Prelude.{◌≡◌, ◌<◌, ◌≤◌, [], ◌∷◌, length, IfErr, IfOk, OnOk};
 ghost use Rattle.std.specs.Int.{to_be_bytes, w64};
-ghost use Rattle.block_disk.specs.Device.{HasCause, SameMoments, written};
-ghost use Rattle.block_disk.specs.Images.{Always, ImageBut, LeavesOnly};
+ghost use Rattle.block_disk.specs.Device.{SameMoments, written};
+ghost use Rattle.block_disk.specs.Since.{AlwaysBut, HasCauseSince, LeavesBut};
 ghost use Rattle.image.specs.Cells.{HasCell, cell_range};
 ghost use Rattle.image.specs.Layout.{cell_at, size_of};
 ghost use Rattle.image.specs.declared.error.ImageError.TheVariants.{Fault};
@@ -24,11 +24,15 @@ pub fn put_cell<D: Disk>(
     requires fits { size_of layout.now ≤ length (D.device disk.old).now.bytes }
     requires field { field.0 < layout.now.fields }
     ensures ok { OnOk result (HasCell layout.now field.0 (D.device disk.new).now.bytes value) }
-    ensures written { OnOk result (D.device disk.new ≡ written (cell_at layout.now field.0) (to_be_bytes w64 value) (D.device disk.old)) }
+    ensures written { OnOk result
+        (D.device disk.new ≡ written (cell_at layout.now field.0) (to_be_bytes w64 value)
+        (D.device disk.old)) }
     ensures only_fault { IfErr result (λ e. e ≡ Fault) }
-    ensures crash { Always (D.device disk.new) (ImageBut (D.device disk.old) (cell_range layout.now field.0 ∷ [])) }
-    ensures any_moment { LeavesOnly (D.device disk.old) (D.device disk.new) (ImageBut (D.device disk.old) (cell_range layout.now field.0 ∷ [])) }
-    ensures cause { HasCause (D.device disk.old).failures (D.device disk.new).failures Fault result }
+    ensures crash { AlwaysBut (cell_range layout.now field.0 ∷ []) (D.device disk.old)
+        (D.device disk.new) }
+    ensures any_moment { LeavesBut (cell_range layout.now field.0 ∷ []) (D.device disk.old)
+        (D.device disk.new) }
+    ensures cause { HasCauseSince (D.device disk.old) (D.device disk.new) Fault result }
 {
     write_within(disk, layout.home_cell(field), &value.to_be_bytes())?;
     Ok(())
@@ -41,7 +45,7 @@ pub fn get_cell<D: Disk>(disk: &mut D, layout: &Layout, field: FieldId) -> Resul
     ensures ok { IfOk result (HasCell layout.now field.0 (D.device disk.old).now.bytes) }
     ensures only_fault { IfErr result (λ e. e ≡ Fault) }
     ensures same { SameMoments (D.device disk.old) (D.device disk.new) }
-    ensures cause { HasCause (D.device disk.old).failures (D.device disk.new).failures Fault result }
+    ensures cause { HasCauseSince (D.device disk.old) (D.device disk.new) Fault result }
 {
     let mut bytes = [0; 8];
     read_within(disk, layout.home_cell(field), &mut bytes)?;

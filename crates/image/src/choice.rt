@@ -1,6 +1,7 @@
 //! Which control of an image counts (`docs/FORMAT.md`, "Control").
 ghost use Rattle.std.specs.Prelude.{◌≡◌, ◌≤◌, length, IfOk, OnErr, OnOk};
-ghost use Rattle.block_disk.specs.Device.{HasCause, HasFailed, SameMoments};
+ghost use Rattle.block_disk.specs.Device.{SameMoments};
+ghost use Rattle.block_disk.specs.Since.{HasCauseSince, HasFailedSince};
 ghost use Rattle.image.specs.Choice.{HeadOf, Picks};
 ghost use Rattle.image.specs.Layout.{IsLayout};
 ghost use Rattle.image.specs.Slots.{Chooses, sequence_of};
@@ -30,7 +31,7 @@ pub fn choose_control<D: Disk>(
     requires fits { 2160 ≤ length (D.device disk.old).now.bytes }
     ensures exact { Chooses layout.now (D.device disk.old).now.bytes result }
     ensures same { SameMoments (D.device disk.old) (D.device disk.new) }
-    ensures cause { HasCause (D.device disk.old).failures (D.device disk.new).failures refusal.Fault result }
+    ensures cause { HasCauseSince (D.device disk.old) (D.device disk.new) refusal.Fault result }
 {
     let slot = pick(disk)?;
     let mut body = [0; BODY_BYTES];
@@ -46,7 +47,7 @@ fn pick<D: Disk>(disk: &mut D) -> Result<Slot, ControlError>
     requires { 2160 ≤ length (D.device disk.old).now.bytes }
     ensures exact { Picks (D.device disk.old).now.bytes result }
     ensures same { SameMoments (D.device disk.old) (D.device disk.new) }
-    ensures cause { HasCause (D.device disk.old).failures (D.device disk.new).failures refusal.Fault result }
+    ensures cause { HasCauseSince (D.device disk.old) (D.device disk.new) refusal.Fault result }
 {
     let a = read_head(disk, Slot::A)?;
     let b = read_head(disk, Slot::B)?;
@@ -86,7 +87,7 @@ pub(crate) fn read_head<D: Disk>(disk: &mut D, slot: Slot) -> Result<Head, Fault
     ensures untouched { OnOk result (D.device disk.new ≡ D.device disk.old) }
     ensures same { SameMoments (D.device disk.old) (D.device disk.new) }
     ensures later { (D.device disk.old).failures ≤ (D.device disk.new).failures }
-    ensures cause { OnErr result (HasFailed (D.device disk.old).failures (D.device disk.new).failures) }
+    ensures cause { OnErr result (HasFailedSince (D.device disk.old) (D.device disk.new)) }
 {
     let mut bytes = [0; 16];
     read_within(disk, slot.start(), &mut bytes)?;

@@ -1,15 +1,14 @@
 //! A commit of a control: at every moment a crash leaves the old one or the new one.
-ghost use Rattle.std.specs.Prelude.{◌≡◌, ◌≢◌, ◌⊎◌, ◌↔◌, ◌+◌, ◌-◌, ◌<◌, ◌≤◌, ◌^◌, [], Err, IfErr, IfOk, OnOk, length, slice_index};
-ghost use Rattle.block_disk.specs.Device.{HasCause};
+ghost use Rattle.std.specs.Prelude.{◌≡◌, ◌⊎◌, ◌↔◌, ◌-◌, ◌<◌, ◌^◌, Err, IfErr, IfOk, OnOk, length, slice_index};
 ghost use Rattle.block_disk.specs.Images.{Always, LeavesOnly};
+ghost use Rattle.block_disk.specs.Since.{HasCauseSince, SameSize};
 ghost use Rattle.image.specs.Calls.{after};
-ghost use Rattle.image.specs.Commit.{ClosedOrSame, IsSteady, OldOrNew, closing_calls, commit_calls};
-ghost use Rattle.image.specs.Control.{AreRows, Spells, control_bytes, control_of};
+ghost use Rattle.image.specs.Commit.{ClosedOrSame, closing_calls};
+ghost use Rattle.image.specs.Commits.{CommitsApart, CommitsBytes, HasSequence, IsReady, IsReadyFor};
+ghost use Rattle.image.specs.Control.{AreRows};
 ghost use Rattle.image.specs.Layout.{IsLayout};
-ghost use Rattle.image.specs.Slots.{other};
-ghost use Rattle.image.specs.declared.control.Control.{Control as Content};
+ghost use Rattle.image.specs.Slots.{IsBody, IsShut, other};
 ghost use Rattle.image.specs.declared.error.ImageError.TheVariants.{Fault, Worn};
-ghost use Rattle.image.specs.declared.layout.Layout.{Layout as Shape};
 
 use crate::control::{BODY_BYTES, Control, ROWS, VERSION, encode_control};
 use crate::error::ImageError;
@@ -33,23 +32,17 @@ pub fn commit_control<D: Disk>(
     layout: &Layout,
     chosen: Slot,
     sequence: u64,
-    rows: &[LaneRow; 32],
+    rows: &[LaneRow; ROWS],
 ) -> Result<Slot, ImageError>
     requires limits { IsLayout layout.now }
     requires rows { AreRows layout.now rows.now }
-    requires steady { (old : Content) × IsSteady layout.now (D.device disk.old) chosen old × (old.sequence ≡ sequence) }
+    requires steady { IsReady layout.now (D.device disk.old) chosen (HasSequence sequence) }
     ensures slot { IfOk result (λ slot. slot ≡ other chosen) }
-    ensures ok { OnOk result (IsSteady layout.now (D.device disk.new) (other chosen) (control_of (sequence + 1) rows.now)) }
-    ensures durable { OnOk result ((D.device disk.new).now.pending ≡ []) }
-    ensures calls { OnOk result (D.device disk.new ≡ after (commit_calls chosen (D.device disk.old).now.bytes (control_bytes (control_of (sequence + 1) rows.now))) (D.device disk.old)) }
+    ensures commits { CommitsApart layout.now chosen sequence rows.now
+        (D.device disk.old) (D.device disk.new) result }
     ensures worn { (result ≡ Err Worn) ↔ (sequence ≡ 2 ^ 64 - 1) }
     ensures no_call { result ≡ Err Worn → D.device disk.new ≡ D.device disk.old }
     ensures no_other { IfErr result (λ e. (e ≡ Worn) ⊎ (e ≡ Fault)) }
-    ensures any_moment { (old : Content) → IsSteady layout.now (D.device disk.old) chosen old → old.sequence ≡ sequence
-        → LeavesOnly (D.device disk.old) (D.device disk.new) (OldOrNew layout.now (D.device disk.old) chosen old (control_of (sequence + 1) rows.now)) }
-    ensures crash { (old : Content) → IsSteady layout.now (D.device disk.old) chosen old → old.sequence ≡ sequence
-        → Always (D.device disk.new) (OldOrNew layout.now (D.device disk.old) chosen old (control_of (sequence + 1) rows.now)) }
-    ensures cause { HasCause (D.device disk.old).failures (D.device disk.new).failures Fault result }
 {
     if sequence == u64::MAX {
         return Err(ImageError::Worn);
@@ -71,16 +64,12 @@ fn replace<D: Disk>(
     chosen: Slot,
     content: &[u8],
 ) -> Result<Slot, ImageError>
-    requires long { length content.now ≡ 1040 }
-    requires steady { (old : Content) × (new : Content) × IsSteady layout.now (D.device disk.old) chosen old × Spells layout.now content.now new × (old.sequence < new.sequence) }
+    requires long { IsBody content.now }
+    requires steady { IsReadyFor layout.now (D.device disk.old) chosen content.now }
     ensures slot { IfOk result (λ slot. slot ≡ other chosen) }
-    ensures ok { OnOk result ((new : Content) → Spells layout.now content.now new → IsSteady layout.now (D.device disk.new) (other chosen) new) }
-    ensures durable { OnOk result ((D.device disk.new).now.pending ≡ []) }
-    ensures calls { OnOk result (D.device disk.new ≡ after (commit_calls chosen (D.device disk.old).now.bytes content.now) (D.device disk.old)) }
+    ensures commits { CommitsBytes layout.now chosen content.now
+        (D.device disk.old) (D.device disk.new) result }
     ensures only_fault { IfErr result (λ e. e ≡ Fault) }
-    ensures any_moment { (old new : Content) → IsSteady layout.now (D.device disk.old) chosen old → Spells layout.now content.now new → old.sequence < new.sequence
-        → LeavesOnly (D.device disk.old) (D.device disk.new) (OldOrNew layout.now (D.device disk.old) chosen old new) }
-    ensures cause { HasCause (D.device disk.old).failures (D.device disk.new).failures Fault result }
 {
     // The layout is the contract's alone: it says which bytes are a control.
     let _layout = layout;
@@ -99,13 +88,16 @@ fn replace<D: Disk>(
 // would let a crash leave it open, behind it whatever stands in the slot.
 fn close<D: Disk>(disk: &mut D, at: u64) -> Result<(), ImageError>
     requires fits { at < length (D.device disk.old).now.bytes }
-    requires steady { Always (D.device disk.old) (λ image. slice_index image at ≡ slice_index (D.device disk.old).now.bytes at) }
-    ensures closed { OnOk result (Always (D.device disk.new) (λ image. slice_index image at ≢ 165)) }
-    ensures size { OnOk result (length (D.device disk.new).now.bytes ≡ length (D.device disk.old).now.bytes) }
-    ensures calls { OnOk result (D.device disk.new ≡ after (closing_calls at (D.device disk.old).now.bytes) (D.device disk.old)) }
+    requires steady { Always (D.device disk.old)
+        (λ image. slice_index image at ≡ slice_index (D.device disk.old).now.bytes at) }
+    ensures closed { OnOk result (Always (D.device disk.new) (IsShut at)) }
+    ensures size { OnOk result (SameSize (D.device disk.old) (D.device disk.new)) }
+    ensures calls { OnOk result (D.device disk.new
+        ≡ after (closing_calls at (D.device disk.old).now.bytes) (D.device disk.old)) }
     ensures only_fault { IfErr result (λ e. e ≡ Fault) }
-    ensures any_moment { LeavesOnly (D.device disk.old) (D.device disk.new) (ClosedOrSame (D.device disk.old) at) }
-    ensures cause { HasCause (D.device disk.old).failures (D.device disk.new).failures Fault result }
+    ensures any_moment { LeavesOnly (D.device disk.old) (D.device disk.new)
+        (ClosedOrSame (D.device disk.old) at) }
+    ensures cause { HasCauseSince (D.device disk.old) (D.device disk.new) Fault result }
 {
     let mut gate = [CLOSED];
     read_within(disk, at, &mut gate)?;

@@ -1,7 +1,8 @@
 //! The control of an image: what counts of each lane's log (`docs/FORMAT.md`, "Control").
-ghost use Rattle.std.specs.Prelude.{◌≡◌, ◌↔◌, length, IfNone, IfSome, IsTrue};
+ghost use Rattle.std.specs.Prelude.{◌≡◌, ◌↔◌, IfNone, IfSome, IsTrue};
 ghost use Rattle.image.specs.Control.{IsControl, Spells, control_bytes};
 ghost use Rattle.image.specs.Layout.{IsLayout};
+ghost use Rattle.image.specs.Slots.{IsBody};
 ghost use Rattle.image.specs.declared.control.Control.{Control as Content};
 
 use crate::bytes::{u32_at, u64_at};
@@ -28,12 +29,12 @@ pub struct Control {
     /// The version of the format: [`VERSION`], or [`OLD_VERSION`] in an image from before there were transient fields.
     pub version: u32,
     /// By lane. The rows of lanes that the image doesn't have are empty.
-    pub rows: [LaneRow; 32],
+    pub rows: [LaneRow; ROWS],
 }
 
 /// The bytes of the control.
 pub fn encode_control(control: &Control, body: &mut [u8])
-    requires { length body.old ≡ 1040 }
+    requires { IsBody body.old }
     ensures { body.new ≡ control_bytes control.now }
 {
     body[..8].copy_from_slice(&control.sequence.to_be_bytes());
@@ -45,7 +46,7 @@ pub fn encode_control(control: &Control, body: &mut [u8])
 /// The control whose bytes these are, if an image of this layout may have one with these bytes.
 pub fn decode_control(layout: &Layout, body: &[u8]) -> Option<Control>
     requires limits { IsLayout layout.now }
-    requires long { length body.now ≡ 1040 }
+    requires long { IsBody body.now }
     ensures some { IfSome result (Spells layout.now body.now) }
     ensures none { IfNone result ((c : Content) → Spells layout.now body.now c → ⊥) }
 {

@@ -1,20 +1,18 @@
 //! A commit that turns whichever gate two syncs suffice for.
-ghost use Rattle.std.specs.Prelude.{◌≡◌, ◌≢◌, ◌⊎◌, ◌↔◌, ◌+◌, ◌-◌, ◌<◌, ◌^◌, [], Err, IfErr, IfOk, OnOk, drop, slice_index};
+ghost use Rattle.std.specs.Prelude.{◌≡◌, ◌⊎◌, ◌↔◌, ◌+◌, ◌-◌, ◌<◌, ◌^◌, Err, IfErr, IfOk};
 ghost use Rattle.std.specs.Int.{to_be_bytes, w64};
 ghost use Rattle.block_disk.specs.Bytes.{part};
-ghost use Rattle.block_disk.specs.Device.{HasCause};
-ghost use Rattle.block_disk.specs.Images.{LeavesOnly};
-ghost use Rattle.image.specs.Calls.{after};
-ghost use Rattle.image.specs.Commit.{IsSteady, OldOrTurned, body_calls, pending_calls, turned_calls, turned_sequence, turning_calls};
+ghost use Rattle.image.specs.Commit.{IsSteady, turned_sequence};
+ghost use Rattle.image.specs.Commits.{ClosesChosen, CommitsByTurning, HasSequence, IsBefore, IsReady, OpensSpare, RewritesSpare};
 ghost use Rattle.image.specs.Control.{AreRows, control_bytes, control_of};
 ghost use Rattle.image.specs.Layout.{IsLayout};
-ghost use Rattle.image.specs.Slots.{body_at, other, slot_at};
+ghost use Rattle.image.specs.Slots.{IsOpen, IsShut, body_at, other, slot_at};
 ghost use Rattle.image.specs.declared.control.Control.{Control as Content};
 ghost use Rattle.image.specs.declared.error.ImageError.TheVariants.{Fault, Worn};
 
 use crate::ImageError;
 use crate::choice::read_head;
-use crate::control::{BODY_BYTES, Control, VERSION, encode_control};
+use crate::control::{BODY_BYTES, Control, ROWS, VERSION, encode_control};
 use crate::lane_row::LaneRow;
 use crate::layout::Layout;
 use crate::one_gate::{commit_by_closing, commit_by_opening};
@@ -41,21 +39,18 @@ pub fn commit_by_turning<D: Disk>(
     layout: &Layout,
     chosen: Slot,
     sequence: u64,
-    rows: &[LaneRow; 32],
+    rows: &[LaneRow; ROWS],
 ) -> Result<(Slot, u64), ImageError>
     requires limits { IsLayout layout.now }
     requires rows { AreRows layout.now rows.now }
-    requires steady { (old : Content) × IsSteady layout.now (D.device disk.old) chosen old × (old.sequence ≡ sequence) }
-    ensures made { IfOk result (λ made. (made.0 ≡ other chosen) × (made.1 ≡ turned_sequence chosen sequence (D.device disk.old).now.bytes)) }
-    ensures ok { OnOk result (IsSteady layout.now (D.device disk.new) (other chosen) (control_of (turned_sequence chosen sequence (D.device disk.old).now.bytes) rows.now)) }
-    ensures durable { OnOk result ((D.device disk.new).now.pending ≡ []) }
-    ensures calls { OnOk result (D.device disk.new ≡ after (turned_calls chosen (D.device disk.old).now.bytes (control_of (turned_sequence chosen sequence (D.device disk.old).now.bytes) rows.now)) (D.device disk.old)) }
+    requires steady { IsReady layout.now (D.device disk.old) chosen (HasSequence sequence) }
+    ensures made { IfOk result (λ made. (made.0 ≡ other chosen)
+        × (made.1 ≡ turned_sequence chosen sequence (D.device disk.old).now.bytes)) }
+    ensures commits { CommitsByTurning layout.now chosen sequence rows.now
+        (D.device disk.old) (D.device disk.new) result }
     ensures worn { (result ≡ Err Worn) ↔ (sequence ≡ 2 ^ 64 - 1) }
     ensures no_call { result ≡ Err Worn → D.device disk.new ≡ D.device disk.old }
     ensures no_other { IfErr result (λ e. (e ≡ Worn) ⊎ (e ≡ Fault)) }
-    ensures any_moment { (old : Content) → IsSteady layout.now (D.device disk.old) chosen old → old.sequence ≡ sequence
-        → LeavesOnly (D.device disk.old) (D.device disk.new) (OldOrTurned layout.now (D.device disk.old) chosen old (control_of (turned_sequence chosen sequence (D.device disk.old).now.bytes) rows.now)) }
-    ensures cause { HasCause (D.device disk.old).failures (D.device disk.new).failures Fault result }
 {
     if sequence == u64::MAX {
         return Err(ImageError::Worn);
@@ -76,19 +71,15 @@ fn open_spare<D: Disk>(
     layout: &Layout,
     chosen: Slot,
     next: u64,
-    rows: &[LaneRow; 32],
+    rows: &[LaneRow; ROWS],
 ) -> Result<(Slot, u64), ImageError>
     requires rows { AreRows layout.now rows.now }
-    requires closed { slice_index (D.device disk.old).now.bytes (slot_at (other chosen)) ≢ 165 }
-    requires steady { (old : Content) × IsSteady layout.now (D.device disk.old) chosen old × (old.sequence < next) }
+    requires closed { IsShut (slot_at (other chosen)) (D.device disk.old).now.bytes }
+    requires steady { IsReady layout.now (D.device disk.old) chosen (IsBefore next) }
     ensures made { IfOk result (λ made. (made.0 ≡ other chosen) × (made.1 ≡ next)) }
-    ensures ok { OnOk result (IsSteady layout.now (D.device disk.new) (other chosen) (control_of next rows.now)) }
-    ensures durable { OnOk result ((D.device disk.new).now.pending ≡ []) }
-    ensures calls { OnOk result (D.device disk.new ≡ after (body_calls (other chosen) (control_bytes (control_of next rows.now))) (D.device disk.old)) }
+    ensures commits { OpensSpare layout.now chosen next rows.now
+        (D.device disk.old) (D.device disk.new) result }
     ensures only_fault { IfErr result (λ e. e ≡ Fault) }
-    ensures any_moment { (old : Content) → IsSteady layout.now (D.device disk.old) chosen old → old.sequence < next
-        → LeavesOnly (D.device disk.old) (D.device disk.new) (OldOrTurned layout.now (D.device disk.old) chosen old (control_of next rows.now)) }
-    ensures cause { HasCause (D.device disk.old).failures (D.device disk.new).failures Fault result }
 {
     let content = content_of(next, rows);
     match commit_by_opening(disk, layout, chosen, &content) {
@@ -103,21 +94,18 @@ fn close_chosen<D: Disk>(
     layout: &Layout,
     chosen: Slot,
     next: u64,
-    rows: &[LaneRow; 32],
+    rows: &[LaneRow; ROWS],
 ) -> Result<(Slot, u64), ImageError>
     requires rows { AreRows layout.now rows.now }
-    requires open { slice_index (D.device disk.old).now.bytes (slot_at (other chosen)) ≡ 165 }
+    requires open { IsOpen (slot_at (other chosen)) (D.device disk.old).now.bytes }
     requires some { 0 < next }
-    requires stands { to_be_bytes w64 next ≡ part (body_at (other chosen)) 8 (D.device disk.old).now.bytes }
+    requires stands { to_be_bytes w64 next
+        ≡ part (body_at (other chosen)) 8 (D.device disk.old).now.bytes }
     requires steady { (old : Content) × IsSteady layout.now (D.device disk.old) chosen old }
     ensures made { IfOk result (λ made. (made.0 ≡ other chosen) × (made.1 ≡ next)) }
-    ensures ok { OnOk result (IsSteady layout.now (D.device disk.new) (other chosen) (control_of next rows.now)) }
-    ensures durable { OnOk result ((D.device disk.new).now.pending ≡ []) }
-    ensures calls { OnOk result (D.device disk.new ≡ after (turning_calls chosen (drop 8 (control_bytes (control_of next rows.now)))) (D.device disk.old)) }
+    ensures commits { ClosesChosen layout.now chosen next rows.now
+        (D.device disk.old) (D.device disk.new) result }
     ensures only_fault { IfErr result (λ e. e ≡ Fault) }
-    ensures any_moment { (old : Content) → IsSteady layout.now (D.device disk.old) chosen old
-        → LeavesOnly (D.device disk.old) (D.device disk.new) (OldOrTurned layout.now (D.device disk.old) chosen old (control_of next rows.now)) }
-    ensures cause { HasCause (D.device disk.old).failures (D.device disk.new).failures Fault result }
 {
     let content = content_of(next, rows);
     match commit_by_closing(disk, layout, chosen, &content[8..]) {
@@ -132,20 +120,16 @@ fn rewrite_spare<D: Disk>(
     layout: &Layout,
     chosen: Slot,
     sequence: u64,
-    rows: &[LaneRow; 32],
+    rows: &[LaneRow; ROWS],
 ) -> Result<(Slot, u64), ImageError>
     requires limits { IsLayout layout.now }
     requires rows { AreRows layout.now rows.now }
-    requires steady { (old : Content) × IsSteady layout.now (D.device disk.old) chosen old × (old.sequence ≡ sequence) }
+    requires steady { IsReady layout.now (D.device disk.old) chosen (HasSequence sequence) }
     requires next { sequence < 2 ^ 64 - 1 }
     ensures made { IfOk result (λ made. (made.0 ≡ other chosen) × (made.1 ≡ sequence + 1)) }
-    ensures ok { OnOk result (IsSteady layout.now (D.device disk.new) (other chosen) (control_of (sequence + 1) rows.now)) }
-    ensures durable { OnOk result ((D.device disk.new).now.pending ≡ []) }
-    ensures calls { OnOk result (D.device disk.new ≡ after (pending_calls chosen (D.device disk.old).now.bytes (control_bytes (control_of (sequence + 1) rows.now))) (D.device disk.old)) }
+    ensures commits { RewritesSpare layout.now chosen sequence rows.now
+        (D.device disk.old) (D.device disk.new) result }
     ensures only_fault { IfErr result (λ e. e ≡ Fault) }
-    ensures any_moment { (old : Content) → IsSteady layout.now (D.device disk.old) chosen old → old.sequence ≡ sequence
-        → LeavesOnly (D.device disk.old) (D.device disk.new) (OldOrTurned layout.now (D.device disk.old) chosen old (control_of (sequence + 1) rows.now)) }
-    ensures cause { HasCause (D.device disk.old).failures (D.device disk.new).failures Fault result }
 {
     match commit_pending(disk, layout, chosen, sequence, rows) {
         Ok(slot) => Ok((slot, sequence + 1)),
@@ -154,7 +138,7 @@ fn rewrite_spare<D: Disk>(
 }
 
 // The bytes of the control with this sequence and these rows.
-fn content_of(next: u64, rows: &[LaneRow; 32]) -> [u8; 1040]
+fn content_of(next: u64, rows: &[LaneRow; ROWS]) -> [u8; BODY_BYTES]
     ensures { result ≡ control_bytes (control_of next rows.now) }
 {
     let control = Control {

@@ -1,7 +1,6 @@
 //! Making an image (`docs/FORMAT.md`, "Making an image").
 ghost use Rattle.std.specs.Prelude.{◌≡◌, ◌<◌, ◌≤◌, [], IfErr, OnOk, length};
-ghost use Rattle.block_disk.specs.Device.{HasCause};
-ghost use Rattle.guards.specs.Schema.{IsSchema, field_count};
+ghost use Rattle.block_disk.specs.Since.{HasCauseSince, SameSize};
 ghost use Rattle.image.specs.Calls.{after};
 ghost use Rattle.image.specs.Format.{IsFresh, all_field_calls, closed_slot, field_calls, format_calls, fresh_slot, name_calls, slot_calls};
 ghost use Rattle.image.specs.Layout.{IsLayout, IsLayoutOf, size_of};
@@ -32,10 +31,11 @@ pub fn write_header<D: Disk>(
     requires fits { size_of layout.now ≤ length (D.device disk.old).now.bytes }
     ensures ok { OnOk result (IsFresh schema.now layout.now (D.device disk.new).now.bytes) }
     ensures durable { OnOk result ((D.device disk.new).now.pending ≡ []) }
-    ensures size { OnOk result (length (D.device disk.new).now.bytes ≡ length (D.device disk.old).now.bytes) }
-    ensures calls { OnOk result (D.device disk.new ≡ after (format_calls layout.now schema.now) (D.device disk.old)) }
+    ensures size { OnOk result (SameSize (D.device disk.old) (D.device disk.new)) }
+    ensures calls { OnOk result (D.device disk.new
+        ≡ after (format_calls layout.now schema.now) (D.device disk.old)) }
     ensures only_fault { IfErr result (λ e. e ≡ Fault) }
-    ensures cause { HasCause (D.device disk.old).failures (D.device disk.new).failures Fault result }
+    ensures cause { HasCauseSince (D.device disk.old) (D.device disk.new) Fault result }
 {
     put_name(disk, layout)?;
     put_slots(disk)?;
@@ -50,10 +50,11 @@ pub fn write_header<D: Disk>(
 fn put_name<D: Disk>(disk: &mut D, layout: &Layout) -> Result<(), ImageError>
     requires limits { IsLayout layout.now }
     requires fits { 64 ≤ length (D.device disk.old).now.bytes }
-    ensures calls { OnOk result (D.device disk.new ≡ after (name_calls layout.now) (D.device disk.old)) }
-    ensures size { OnOk result (length (D.device disk.new).now.bytes ≡ length (D.device disk.old).now.bytes) }
+    ensures calls { OnOk result (D.device disk.new
+        ≡ after (name_calls layout.now) (D.device disk.old)) }
+    ensures size { OnOk result (SameSize (D.device disk.old) (D.device disk.new)) }
     ensures only_fault { IfErr result (λ e. e ≡ Fault) }
-    ensures cause { HasCause (D.device disk.old).failures (D.device disk.new).failures Fault result }
+    ensures cause { HasCauseSince (D.device disk.old) (D.device disk.new) Fault result }
 {
     let header = encode_header(layout);
     write_through(disk, GATE_AT, &[CLOSED])?;
@@ -66,9 +67,9 @@ fn put_name<D: Disk>(disk: &mut D, layout: &Layout) -> Result<(), ImageError>
 fn put_slots<D: Disk>(disk: &mut D) -> Result<(), ImageError>
     requires { 2160 ≤ length (D.device disk.old).now.bytes }
     ensures calls { OnOk result (D.device disk.new ≡ after slot_calls (D.device disk.old)) }
-    ensures size { OnOk result (length (D.device disk.new).now.bytes ≡ length (D.device disk.old).now.bytes) }
+    ensures size { OnOk result (SameSize (D.device disk.old) (D.device disk.new)) }
     ensures only_fault { IfErr result (λ e. e ≡ Fault) }
-    ensures cause { HasCause (D.device disk.old).failures (D.device disk.new).failures Fault result }
+    ensures cause { HasCauseSince (D.device disk.old) (D.device disk.new) Fault result }
 {
     let mut content = [CLOSED; SLOT_BYTES];
     fill_slot(&mut content);
@@ -105,10 +106,11 @@ fn clear_slot(content: &mut [u8])
 fn put_fields<D: Disk>(disk: &mut D, layout: &Layout, schema: &Schema) -> Result<(), ImageError>
     requires schema { IsLayoutOf schema.now layout.now }
     requires fits { size_of layout.now ≤ length (D.device disk.old).now.bytes }
-    ensures calls { OnOk result (D.device disk.new ≡ after (all_field_calls layout.now schema.now layout.now.fields) (D.device disk.old)) }
-    ensures size { OnOk result (length (D.device disk.new).now.bytes ≡ length (D.device disk.old).now.bytes) }
+    ensures calls { OnOk result (D.device disk.new
+        ≡ after (all_field_calls layout.now schema.now layout.now.fields) (D.device disk.old)) }
+    ensures size { OnOk result (SameSize (D.device disk.old) (D.device disk.new)) }
     ensures only_fault { IfErr result (λ e. e ≡ Fault) }
-    ensures cause { HasCause (D.device disk.old).failures (D.device disk.new).failures Fault result }
+    ensures cause { HasCauseSince (D.device disk.old) (D.device disk.new) Fault result }
 {
     for field in 0..layout.fields {
         put_field(disk, layout, schema, FieldId(field))?;
@@ -126,10 +128,11 @@ fn put_field<D: Disk>(
     requires schema { IsLayoutOf schema.now layout.now }
     requires fits { size_of layout.now ≤ length (D.device disk.old).now.bytes }
     requires field { field.0 < layout.now.fields }
-    ensures calls { OnOk result (D.device disk.new ≡ after (field_calls layout.now schema.now field.0) (D.device disk.old)) }
-    ensures size { OnOk result (length (D.device disk.new).now.bytes ≡ length (D.device disk.old).now.bytes) }
+    ensures calls { OnOk result (D.device disk.new
+        ≡ after (field_calls layout.now schema.now field.0) (D.device disk.old)) }
+    ensures size { OnOk result (SameSize (D.device disk.old) (D.device disk.new)) }
     ensures only_fault { IfErr result (λ e. e ≡ Fault) }
-    ensures cause { HasCause (D.device disk.old).failures (D.device disk.new).failures Fault result }
+    ensures cause { HasCauseSince (D.device disk.old) (D.device disk.new) Fault result }
 {
     let row = GuardRow::of(schema, field);
     write_within(disk, layout.guard_row(field), &encode_guard(&row))?;

@@ -1,6 +1,7 @@
 //! The guard rows of an image, read and tested (`docs/FORMAT.md`, "Guard rows").
 ghost use Rattle.std.specs.Prelude.{◌≡◌, ◌↔◌, All, IsFalse, IsTrue, ◌+◌, ◌++◌, ◌*◌, ◌<◌, ◌≤◌, IfErr, IfOk, MatchResult, OnOk, length, vec_capacity, vec_len};
-ghost use Rattle.block_disk.specs.Device.{HasCause, SameMoments};
+ghost use Rattle.block_disk.specs.Device.{SameMoments};
+ghost use Rattle.block_disk.specs.Since.{HasCauseSince};
 ghost use Rattle.image.specs.Blocks.{HasBlock, HoldsNoRow, HoldsRows, RefusesBlock, HasEach};
 ghost use Rattle.image.specs.Guards.{HasGuards, NamesObjects, RefusesGuards};
 ghost use Rattle.image.specs.Layout.{IsLayout, size_of};
@@ -33,9 +34,11 @@ pub fn read_guards<D: Disk>(
 ) -> Result<Vec<GuardRow>, GuardsError>
     requires limits { IsLayout layout.now }
     requires fits { size_of layout.now ≤ length (D.device disk.old).now.bytes }
-    ensures exact { MatchResult result (λ rows. HasGuards layout.now (D.device disk.old).now.bytes rows.items) (RefusesGuards layout.now (D.device disk.old).now.bytes) }
+    ensures exact { MatchResult result
+        (λ rows. HasGuards layout.now (D.device disk.old).now.bytes rows.items)
+        (RefusesGuards layout.now (D.device disk.old).now.bytes) }
     ensures same { SameMoments (D.device disk.old) (D.device disk.new) }
-    ensures cause { HasCause (D.device disk.old).failures (D.device disk.new).failures Fault result }
+    ensures cause { HasCauseSince (D.device disk.old) (D.device disk.new) Fault result }
 {
     let Ok(mut rows) = Vec::with_capacity(alloc, layout.fields as usize) else {
         // Want of memory comes last: a row that is bad is told of first.
@@ -76,7 +79,7 @@ fn check_guards<D: Disk>(disk: &mut D, layout: &Layout) -> Result<(), GuardsErro
     ensures ok { OnOk result (HasEach layout.now layout.now.fields (D.device disk.old).now.bytes) }
     ensures refused { IfErr result (RefusesBlock layout.now (D.device disk.old).now.bytes) }
     ensures same { SameMoments (D.device disk.old) (D.device disk.new) }
-    ensures cause { HasCause (D.device disk.old).failures (D.device disk.new).failures Fault result }
+    ensures cause { HasCauseSince (D.device disk.old) (D.device disk.new) Fault result }
 {
     let mut block = [NOTHING; BLOCK_ROWS];
     let mut first = 0;
@@ -96,11 +99,13 @@ fn read_block<D: Disk>(
     requires limits { IsLayout layout.now }
     requires fits { size_of layout.now ≤ length (D.device disk.old).now.bytes }
     requires first { first < layout.now.fields }
-    ensures some { IfOk result (λ count. (0 < count) × (count ≤ 256) × (first + count ≤ layout.now.fields)) }
-    ensures ok { IfOk result (λ count. HasBlock layout.now first count (D.device disk.old).now.bytes block.new) }
+    ensures some { IfOk result (λ count. (0 < count) × (count ≤ 256)
+        × (first + count ≤ layout.now.fields)) }
+    ensures ok { IfOk result (λ count. HasBlock layout.now first count
+        (D.device disk.old).now.bytes block.new) }
     ensures refused { IfErr result (RefusesBlock layout.now (D.device disk.old).now.bytes) }
     ensures same { SameMoments (D.device disk.old) (D.device disk.new) }
-    ensures cause { HasCause (D.device disk.old).failures (D.device disk.new).failures Fault result }
+    ensures cause { HasCauseSince (D.device disk.old) (D.device disk.new) Fault result }
 {
     let count = (layout.fields - first).min(BLOCK_ROWS as u32);
     let rows = &mut block[..count as usize];

@@ -1,6 +1,7 @@
 //! The header of an image (`docs/FORMAT.md`, "Header").
 ghost use Rattle.std.specs.Prelude.{◌≡◌, IfNone, IfSome};
-ghost use Rattle.block_disk.specs.Device.{HasCause, SameMoments};
+ghost use Rattle.block_disk.specs.Device.{SameMoments};
+ghost use Rattle.block_disk.specs.Since.{HasCauseSince};
 ghost use Rattle.image.specs.Header.{ReadsHeader, header_bytes};
 ghost use Rattle.image.specs.Layout.{IsLayout};
 ghost use Rattle.image.specs.declared.error.HeaderError.TheVariants.{Fault};
@@ -80,7 +81,7 @@ fn decode_header(bytes: &[u8; 64]) -> Option<Layout>
 pub fn read_header<D: Disk>(disk: &mut D) -> Result<Layout, HeaderError>
     ensures exact { ReadsHeader (D.device disk.old).now.bytes result }
     ensures same { SameMoments (D.device disk.old) (D.device disk.new) }
-    ensures cause { HasCause (D.device disk.old).failures (D.device disk.new).failures Fault result }
+    ensures cause { HasCauseSince (D.device disk.old) (D.device disk.new) Fault result }
 {
     if disk.size() < HEADER_BYTES as u64 {
         return Err(HeaderError::NotFormatted);

@@ -1,5 +1,5 @@
 //! The row of a lane in a control (`docs/FORMAT.md`, "Control").
-ghost use Rattle.std.specs.Prelude.{◌≡◌, ◌↔◌, ◌-◌, ◌*◌, ◌≤◌, length, All, IsTrue};
+ghost use Rattle.std.specs.Prelude.{◌≡◌, ◌↔◌, ◌*◌, length, All, IsTrue};
 ghost use Rattle.image.specs.Rows.{FitsRow, IsRow, row_bytes, rows_bytes};
 
 use crate::bytes::u64_at;
@@ -38,14 +38,6 @@ impl LaneRow {
             && self.logged <= 1 << 63
             && self.kept <= self.settled
             && self.logged - self.start <= u64::from(capacity)
-    }
-
-    /// How many of the live records are those of acknowledged sections.
-    pub fn settled_records(&self) -> u64
-        requires { self.now.start ≤ self.now.settled }
-        ensures { result ≡ self.now.settled - self.now.start }
-    {
-        self.settled - self.start
     }
 }
 

@@ -1,6 +1,5 @@
 //! How large an image is, and where its parts lie (`docs/FORMAT.md`, "Image").
 ghost use Rattle.std.specs.Prelude.{◌≡◌, ◌↔◌, ◌<◌, ◌+◌, ◌*◌, ◌≤◌, IfSome, IsSome, IsTrue};
-ghost use Rattle.guards.specs.Schema.{object_count, field_count};
 ghost use Rattle.image.specs.Layout.{IsLayout, IsLayoutOf, area_at, cell_at, guard_at, record_at, size_of};
 
 use guards::Schema;
@@ -33,7 +32,8 @@ impl Layout {
     /// The layout of an image with the schema's objects and fields, so many lanes, and so many records in each lane's
     /// area. `None` where `lanes` isn't 1 to 32 or `capacity` isn't 2,000 to 1,048,576.
     pub fn of(schema: &Schema, lanes: u8, capacity: u32) -> Option<Layout>
-        ensures within { IsSome result ↔ ((1 ≤ lanes) × (lanes ≤ 32) × (2000 ≤ capacity) × (capacity ≤ 1048576)) }
+        ensures within { IsSome result
+            ↔ ((1 ≤ lanes) × (lanes ≤ 32) × (2000 ≤ capacity) × (capacity ≤ 1048576)) }
         ensures schema { IfSome result (IsLayoutOf schema.now) }
         ensures lanes { IfSome result (λ layout. layout.lanes ≡ lanes) }
         ensures capacity { IfSome result (λ layout. layout.capacity ≡ capacity) }

@@ -2,9 +2,8 @@
 //!
 //! [`Layout`] says where each part lies. [`write_header`] makes an image; [`read_header`], [`read_guards`] and
 //! [`choose_control`] read one, whatever its bytes, and refuse it by the first thing that is wrong. [`commit_control`]
-//! replaces the control: at every moment a crash leaves the old one or the new one. So do [`commit_pending`],
-//! [`commit_by_opening`], [`commit_by_closing`] and [`commit_by_turning`], which takes whichever of them has the fewest syncs,
-//! where other writes are still pending. What logs hold is no matter of this crate.
+//! replaces the control: at every moment a crash leaves the old one or the new one. So does [`commit_by_turning`], with two
+//! syncs, where other writes are still pending. What logs hold is no matter of this crate.
 #![tactic(auto)]
 
 mod bytes;
@@ -41,7 +40,5 @@ pub use laws::{
     empty_rows_law, fresh_law, place_law, reading_law, spelling_law, steady_law, survival_law,
 };
 pub use layout::Layout;
-pub use one_gate::{commit_by_closing, commit_by_opening};
-pub use pending::{close_spare, commit_pending};
 pub use recovered::{Recovered, RecoveredParts};
 pub use slot::Slot;

@@ -1,17 +1,19 @@
 //! A commit over writes that are still pending: they become durable together with the gate that closes before it.
-ghost use Rattle.std.specs.Prelude.{◌≡◌, ◌≢◌, ◌⊎◌, ◌↔◌, ◌+◌, ◌-◌, ◌<◌, ◌^◌, [], Err, IfErr, IfOk, OnOk, length, slice_index};
-ghost use Rattle.block_disk.specs.Device.{HasCause};
+ghost use Rattle.std.specs.Prelude.{◌≡◌, ◌⊎◌, ◌↔◌, ◌-◌, ◌<◌, ◌^◌, Err, IfErr, IfOk, OnOk, length};
 ghost use Rattle.block_disk.specs.Images.{LeavesOnly};
+ghost use Rattle.block_disk.specs.Since.{HasCauseSince};
 ghost use Rattle.image.specs.Calls.{after};
-ghost use Rattle.image.specs.Commit.{ClosedOrSame, IsSteady, OldOrDurable, StillShows, pending_calls, shutting_calls};
-ghost use Rattle.image.specs.Control.{AreRows, control_bytes, control_of};
+ghost use Rattle.image.specs.Commit.{ClosedOrSame, IsSteady, StillShows, shutting_calls};
+ghost use Rattle.image.specs.Commits.{CommitsPending, HasSequence, IsReady};
+ghost use Rattle.image.specs.Control.{AreRows};
 ghost use Rattle.image.specs.Layout.{IsLayout};
-ghost use Rattle.image.specs.Slots.{other, slot_at};
+ghost use Rattle.image.specs.Slots.{IsShut, other, slot_at};
 ghost use Rattle.image.specs.declared.control.Control.{Control as Content};
 ghost use Rattle.image.specs.declared.error.ImageError.TheVariants.{Fault, Worn};
 
 use crate::ImageError;
 use crate::commit::commit_control;
+use crate::control::ROWS;
 use crate::header::{CLOSED, OPEN};
 use crate::lane_row::LaneRow;
 use crate::layout::Layout;
@@ -28,26 +30,22 @@ use block_disk::{Disk, make_durable, read_within, write_within};
 /// Refusals, in this order:
 /// - `Worn`: the sequence is at its last value, 2^64 - 1. No call is made;
 /// - `Fault`: a call failed. A crash may leave either control.
-pub fn commit_pending<D: Disk>(
+pub(crate) fn commit_pending<D: Disk>(
     disk: &mut D,
     layout: &Layout,
     chosen: Slot,
     sequence: u64,
-    rows: &[LaneRow; 32],
+    rows: &[LaneRow; ROWS],
 ) -> Result<Slot, ImageError>
     requires limits { IsLayout layout.now }
     requires rows { AreRows layout.now rows.now }
-    requires steady { (old : Content) × IsSteady layout.now (D.device disk.old) chosen old × (old.sequence ≡ sequence) }
+    requires steady { IsReady layout.now (D.device disk.old) chosen (HasSequence sequence) }
     ensures slot { IfOk result (λ slot. slot ≡ other chosen) }
-    ensures ok { OnOk result (IsSteady layout.now (D.device disk.new) (other chosen) (control_of (sequence + 1) rows.now)) }
-    ensures durable { OnOk result ((D.device disk.new).now.pending ≡ []) }
-    ensures calls { OnOk result (D.device disk.new ≡ after (pending_calls chosen (D.device disk.old).now.bytes (control_bytes (control_of (sequence + 1) rows.now))) (D.device disk.old)) }
+    ensures commits { CommitsPending layout.now chosen sequence rows.now
+        (D.device disk.old) (D.device disk.new) result }
     ensures worn { (result ≡ Err Worn) ↔ (sequence ≡ 2 ^ 64 - 1) }
     ensures no_call { result ≡ Err Worn → D.device disk.new ≡ D.device disk.old }
     ensures no_other { IfErr result (λ e. (e ≡ Worn) ⊎ (e ≡ Fault)) }
-    ensures any_moment { (old : Content) → IsSteady layout.now (D.device disk.old) chosen old → old.sequence ≡ sequence
-        → LeavesOnly (D.device disk.old) (D.device disk.new) (OldOrDurable layout.now (D.device disk.old) chosen old (control_of (sequence + 1) rows.now)) }
-    ensures cause { HasCause (D.device disk.old).failures (D.device disk.new).failures Fault result }
 {
     if sequence == u64::MAX {
         return Err(ImageError::Worn);
@@ -58,18 +56,21 @@ pub fn commit_pending<D: Disk>(
     commit_control(disk, layout, chosen, sequence, rows)
 }
 
-/// Closes the gate of the slot that isn't chosen, if it reads open, and leaves it to the next sync to make that durable.
-///
-/// At every moment a crash leaves the control that counts: until that sync the other slot is closed, or as it was. Its one
-/// refusal is `Fault`.
-pub fn close_spare<D: Disk>(disk: &mut D, layout: &Layout, chosen: Slot) -> Result<(), ImageError>
+// Closes the gate of the slot that isn't chosen, if it reads open, and leaves it to the next sync to make that durable.
+//
+// At every moment a crash leaves the control that counts: until that sync the other slot is closed, or as it was. Its one
+// refusal is `Fault`.
+fn close_spare<D: Disk>(disk: &mut D, layout: &Layout, chosen: Slot) -> Result<(), ImageError>
     requires steady { (old : Content) × IsSteady layout.now (D.device disk.old) chosen old }
-    ensures closed { OnOk result (slice_index (D.device disk.new).now.bytes (slot_at (other chosen)) ≢ 165) }
-    ensures calls { OnOk result (D.device disk.new ≡ after (shutting_calls (slot_at (other chosen)) (D.device disk.old).now.bytes) (D.device disk.old)) }
+    ensures closed { OnOk result (IsShut (slot_at (other chosen)) (D.device disk.new).now.bytes) }
+    ensures calls { OnOk result (D.device disk.new
+        ≡ after (shutting_calls (slot_at (other chosen)) (D.device disk.old).now.bytes)
+        (D.device disk.old)) }
     ensures only_fault { IfErr result (λ e. e ≡ Fault) }
     ensures any_moment { (old : Content) → IsSteady layout.now (D.device disk.old) chosen old
-        → LeavesOnly (D.device disk.old) (D.device disk.new) (StillShows layout.now (D.device disk.old) chosen old) }
-    ensures cause { HasCause (D.device disk.old).failures (D.device disk.new).failures Fault result }
+        → LeavesOnly (D.device disk.old) (D.device disk.new)
+        (StillShows layout.now (D.device disk.old) chosen old) }
+    ensures cause { HasCauseSince (D.device disk.old) (D.device disk.new) Fault result }
 {
     // The layout is the contract's alone: it says which bytes are a control.
     let _layout = layout;
@@ -80,11 +81,13 @@ pub fn close_spare<D: Disk>(disk: &mut D, layout: &Layout, chosen: Slot) -> Resu
 // Writes a closed gate at this place, if it reads open. At each moment it is closed or as it was.
 fn shut<D: Disk>(disk: &mut D, at: u64) -> Result<(), ImageError>
     requires fits { at < length (D.device disk.old).now.bytes }
-    ensures closed { OnOk result (slice_index (D.device disk.new).now.bytes at ≢ 165) }
-    ensures calls { OnOk result (D.device disk.new ≡ after (shutting_calls at (D.device disk.old).now.bytes) (D.device disk.old)) }
+    ensures closed { OnOk result (IsShut at (D.device disk.new).now.bytes) }
+    ensures calls { OnOk result (D.device disk.new
+        ≡ after (shutting_calls at (D.device disk.old).now.bytes) (D.device disk.old)) }
     ensures only_fault { IfErr result (λ e. e ≡ Fault) }
-    ensures any_moment { LeavesOnly (D.device disk.old) (D.device disk.new) (ClosedOrSame (D.device disk.old) at) }
-    ensures cause { HasCause (D.device disk.old).failures (D.device disk.new).failures Fault result }
+    ensures any_moment { LeavesOnly (D.device disk.old) (D.device disk.new)
+        (ClosedOrSame (D.device disk.old) at) }
+    ensures cause { HasCauseSince (D.device disk.old) (D.device disk.new) Fault result }
 {
     let mut gate = [CLOSED];
     read_within(disk, at, &mut gate)?;

@@ -58,7 +58,14 @@ impl<D: Disk> Recovered<D> {
         heap: Vec<u64>,
     ) -> Recovered<D>
         requires { IsRecovered (D.device disk) layout guards.items slot sequence heap.items }
-        ensures { result ≡ record { disk = disk; layout = layout; guards = guards.items; slot = slot; sequence = sequence; heap = heap.items } }
+        ensures { result ≡ record {
+          disk = disk;
+          layout = layout;
+          guards = guards.items;
+          slot = slot;
+          sequence = sequence;
+          heap = heap.items;
+        } }
     {
         Recovered {
             disk,
@@ -73,7 +80,9 @@ impl<D: Disk> Recovered<D> {
     /// The layout of its image.
     pub fn layout(&self) -> Layout
         ensures layout { result ≡ self.now.layout }
-        ensures recovered { IsRecovered (D.device self.now.disk) result self.now.guards self.now.slot self.now.sequence self.now.heap }
+        ensures recovered { IsRecovered
+            (D.device self.now.disk) result self.now.guards self.now.slot self.now.sequence
+            self.now.heap }
     {
         self.layout
     }
@@ -81,7 +90,9 @@ impl<D: Disk> Recovered<D> {
     /// The guard rows, by field.
     pub fn guards(&self) -> &[GuardRow]
         ensures guards { result.now ≡ self.now.guards }
-        ensures recovered { IsRecovered (D.device self.now.disk) self.now.layout result.now self.now.slot self.now.sequence self.now.heap }
+        ensures recovered { IsRecovered
+            (D.device self.now.disk) self.now.layout result.now self.now.slot self.now.sequence
+            self.now.heap }
     {
         &self.guards
     }
@@ -89,7 +100,9 @@ impl<D: Disk> Recovered<D> {
     /// The values that the fields have at home, by field: a persistent one's is in its cell, a transient one's is its first.
     pub fn heap(&self) -> &[u64]
         ensures heap { result.now ≡ self.now.heap }
-        ensures recovered { IsRecovered (D.device self.now.disk) self.now.layout self.now.guards self.now.slot self.now.sequence self.now.heap }
+        ensures recovered { IsRecovered
+            (D.device self.now.disk) self.now.layout self.now.guards self.now.slot self.now.sequence
+            self.now.heap }
     {
         &self.heap
     }
@@ -97,7 +110,8 @@ impl<D: Disk> Recovered<D> {
     /// The device alone.
     pub fn into_disk(self) -> D
         ensures disk { result ≡ self.disk }
-        ensures recovered { IsRecovered (D.device result) self.layout self.guards self.slot self.sequence self.heap }
+        ensures recovered { IsRecovered
+            (D.device result) self.layout self.guards self.slot self.sequence self.heap }
     {
         self.disk
     }
@@ -110,7 +124,9 @@ impl<D: Disk> Recovered<D> {
         ensures slot { result.slot ≡ self.slot }
         ensures sequence { result.sequence ≡ self.sequence }
         ensures heap { result.heap.items ≡ self.heap }
-        ensures recovered { IsRecovered (D.device result.disk) result.layout result.guards.items result.slot result.sequence result.heap.items }
+        ensures recovered { IsRecovered
+            (D.device result.disk) result.layout result.guards.items result.slot result.sequence
+            result.heap.items }
     {
         RecoveredParts {
             disk: self.disk,

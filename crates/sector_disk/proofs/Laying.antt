@@ -1,10 +1,10 @@
 -- Making a device stand for a disk in two places, step by step.
-use Rattle.std.proofs.Common.{◌≡◌, ◌⊎◌, inl, inr, ℕ, ◌+◌, ◌<◌, ◌≤◌, Bool, true, false, List, [], ◌∷◌, length, get_or, replicate, sym, ◌∙◌, ap, subst, arith, nat_eq}
+use Rattle.std.proofs.Common.{◌≡◌, inr, ℕ, ◌+◌, ◌≤◌, Bool, true, false, List, [], ◌∷◌, length, replicate, sym, ◌∙◌, ap, subst, arith, nat_eq}
 use Rattle.std.proofs.lemmas.List.{length-replicate}
-use Rattle.block_disk.specs.Device.{Device, Moment, Range, SameMoments, SameOutside, synced}
+use Rattle.block_disk.specs.Device.{Device, Range, SameMoments, SameOutside, synced}
 use Rattle.block_disk.specs.Images.{ImageBut, LeavesOnly}
 use Rattle.block_disk.proofs.Images.{begin}
-use Rattle.block_disk.proofs.Ranges.{outside_trans, outside_wider}
+use Rattle.block_disk.proofs.Ranges.{outside_wider}
 use Rattle.sector_disk.specs.declared.size.SectorSize.{SectorSize}
 use Rattle.sector_disk.specs.Size.{place_of}
 use Rattle.sector_disk.specs.Places.{IsAsFound, IsKept, Matches, area, first_sector, one_sector, sectors_from, turn_of}

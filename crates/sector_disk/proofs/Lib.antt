@@ -3,7 +3,6 @@ pub mod Calls
 pub mod Filling
 pub mod LabelLemmas
 pub mod Laying
-pub mod OnePlace
 pub mod Sizes
 pub mod TwoAreas
 pub mod InUnits

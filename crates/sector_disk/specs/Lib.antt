@@ -4,6 +4,5 @@ pub mod Readable
 pub mod Memory
 pub mod Disks
 pub mod Places
+pub mod Turns
 pub mod Labels
-pub mod Whole
-pub mod OnePlace

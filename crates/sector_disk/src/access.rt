@@ -1,7 +1,7 @@
 //! Calls of a device of sectors, by what a crash at any moment of them leaves.
-ghost use Rattle.std.specs.Prelude.{◌≡◌, ◌+◌, ◌*◌, ◌≤◌, [], ◌∷◌, length, IsErrOf, OnErr, OnOk};
-ghost use Rattle.block_disk.specs.Device.{SameMoments, SameOutside, synced, written};
-ghost use Rattle.block_disk.specs.Images.{ImageBut, LeavesOnly};
+ghost use Rattle.std.specs.Prelude.{◌≡◌, ◌+◌, ◌≤◌, [], ◌∷◌, length, IsErrOf, OnErr, OnOk};
+ghost use Rattle.block_disk.specs.Device.{SameMoments, synced, written};
+ghost use Rattle.block_disk.specs.Since.{LeavesBut, ReadsSameBut};
 ghost use Rattle.sector_disk.specs.Places.{one_sector};
 ghost use Rattle.sector_disk.specs.Readable.{IsLost};
 ghost use Rattle.sector_disk.specs.Size.{bytes_in, place_of, sector};
@@ -22,10 +22,12 @@ pub(crate) fn put_sector<S: Sectors>(
     requires size { S.of_size sectors.old ≡ size }
     requires whole { length bytes.now ≡ bytes_in size }
     requires fits { place_of size number + bytes_in size ≤ length (S.device sectors.old).now.bytes }
-    ensures ok { OnOk result (S.device sectors.new ≡ written (place_of size number) bytes.now (S.device sectors.old)) }
-    ensures same { SameOutside (one_sector size number ∷ []) (S.device sectors.old).now.bytes (S.device sectors.new).now.bytes }
-    ensures any_moment { LeavesOnly (S.device sectors.old) (S.device sectors.new)
-        (ImageBut (S.device sectors.old) (one_sector size number ∷ [])) }
+    ensures ok { OnOk result (S.device sectors.new
+        ≡ written (place_of size number) bytes.now (S.device sectors.old)) }
+    ensures same { ReadsSameBut (one_sector size number ∷ [])
+        (S.device sectors.old) (S.device sectors.new) }
+    ensures any_moment { LeavesBut (one_sector size number ∷ [])
+        (S.device sectors.old) (S.device sectors.new) }
     ensures size { S.of_size sectors.new ≡ size }
 {
     match sectors.write_sector(number, bytes) {
@@ -39,7 +41,7 @@ pub(crate) fn settle<S: Sectors>(sectors: &mut S) -> Result<(), Fault>
     ensures ok { OnOk result (S.device sectors.new ≡ synced (S.device sectors.old)) }
     ensures err { OnErr result (SameMoments (S.device sectors.old) (S.device sectors.new)) }
     ensures same { (S.device sectors.new).now.bytes ≡ (S.device sectors.old).now.bytes }
-    ensures any_moment { LeavesOnly (S.device sectors.old) (S.device sectors.new) (ImageBut (S.device sectors.old) []) }
+    ensures any_moment { LeavesBut [] (S.device sectors.old) (S.device sectors.new) }
     ensures size { S.of_size sectors.new ≡ S.of_size sectors.old }
 {
     match sectors.flush() {
@@ -59,7 +61,8 @@ pub(crate) fn get_sector<S: Sectors>(
     requires whole { length out.old ≡ bytes_in size }
     requires fits { place_of size number + bytes_in size ≤ length (S.device sectors.old).now.bytes }
     ensures ok { OnOk result (out.new ≡ sector size number (S.device sectors.old).now.bytes) }
-    ensures unreadable { IsErrOf result Unreadable → IsLost (sector size number (S.device sectors.old).now.bytes) }
+    ensures unreadable { IsErrOf result Unreadable
+        → IsLost (sector size number (S.device sectors.old).now.bytes) }
     ensures same { SameMoments (S.device sectors.old) (S.device sectors.new) }
     ensures size { S.of_size sectors.new ≡ size }
 {

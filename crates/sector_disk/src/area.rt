@@ -1,8 +1,7 @@
 //! An area: as many sectors as a disk has, one after the other.
-ghost use Rattle.std.specs.Prelude.{◌≡◌, ◌+◌, ◌*◌, ◌<◌, ◌≤◌, ℕ, [], ◌∷◌, length, OnOk};
+ghost use Rattle.std.specs.Prelude.{◌≡◌, ◌+◌, ◌<◌, ◌≤◌, ℕ, [], ◌∷◌, length, OnOk};
 ghost use Rattle.block_disk.specs.Bytes.{part};
-ghost use Rattle.block_disk.specs.Device.{SameOutside};
-ghost use Rattle.block_disk.specs.Images.{ImageBut, LeavesOnly};
+ghost use Rattle.block_disk.specs.Since.{LeavesBut, ReadsSameBut};
 ghost use Rattle.sector_disk.specs.Places.{Matches, one_sector, sectors_from};
 ghost use Rattle.sector_disk.specs.Size.{bytes_in, place_of, sector};
 
@@ -22,15 +21,18 @@ pub(crate) fn fill_area<S: Sectors>(
 ) -> Result<(), Fault>
     requires size { S.of_size sectors.old ≡ size }
     requires long { length image.now ≡ place_of size (length marks.old) }
-    requires fits { place_of size (first + length marks.old) ≤ length (S.device sectors.old).now.bytes }
+    requires fits { place_of size (first + length marks.old) ≤ length
+        (S.device sectors.old).now.bytes }
     requires matches { Matches size first marks.old image.now (S.device sectors.old).now.bytes }
     ensures count { length marks.new ≡ length marks.old }
-    ensures whole { OnOk result (part (place_of size first) (place_of size (length marks.old)) (S.device sectors.new).now.bytes ≡ image.now) }
+    ensures whole { OnOk result (part (place_of size first) (place_of size (length marks.old))
+        (S.device sectors.new).now.bytes ≡ image.now) }
     ensures durable { OnOk result ((S.device sectors.new).now.pending ≡ []) }
     ensures matches { Matches size first marks.new image.now (S.device sectors.new).now.bytes }
-    ensures same { SameOutside (sectors_from size first (length marks.old) ∷ []) (S.device sectors.old).now.bytes (S.device sectors.new).now.bytes }
-    ensures any_moment { LeavesOnly (S.device sectors.old) (S.device sectors.new)
-        (ImageBut (S.device sectors.old) (sectors_from size first (length marks.old) ∷ [])) }
+    ensures same { ReadsSameBut (sectors_from size first (length marks.old) ∷ [])
+        (S.device sectors.old) (S.device sectors.new) }
+    ensures any_moment { LeavesBut (sectors_from size first (length marks.old) ∷ [])
+        (S.device sectors.old) (S.device sectors.new) }
     ensures size { S.of_size sectors.new ≡ size }
 {
     write_area(sectors, size, first, marks, image)?;
@@ -50,14 +52,16 @@ fn write_area<S: Sectors>(
 ) -> Result<(), Fault>
     requires size { S.of_size sectors.old ≡ size }
     requires long { length image.now ≡ place_of size (length marks.now) }
-    requires fits { place_of size (first + length marks.now) ≤ length (S.device sectors.old).now.bytes }
+    requires fits { place_of size (first + length marks.now) ≤ length
+        (S.device sectors.old).now.bytes }
     requires matches { Matches size first marks.now image.now (S.device sectors.old).now.bytes }
     ensures all { OnOk result ((i : ℕ) → i < length marks.now
         → sector size (first + i) (S.device sectors.new).now.bytes ≡ sector size i image.now) }
     ensures matches { Matches size first marks.now image.now (S.device sectors.new).now.bytes }
-    ensures same { SameOutside (sectors_from size first (length marks.now) ∷ []) (S.device sectors.old).now.bytes (S.device sectors.new).now.bytes }
-    ensures any_moment { LeavesOnly (S.device sectors.old) (S.device sectors.new)
-        (ImageBut (S.device sectors.old) (sectors_from size first (length marks.now) ∷ [])) }
+    ensures same { ReadsSameBut (sectors_from size first (length marks.now) ∷ [])
+        (S.device sectors.old) (S.device sectors.new) }
+    ensures any_moment { LeavesBut (sectors_from size first (length marks.now) ∷ [])
+        (S.device sectors.old) (S.device sectors.new) }
     ensures size { S.of_size sectors.new ≡ size }
 {
     for i in 0..marks.count() {
@@ -78,13 +82,16 @@ fn write_marked<S: Sectors>(
     requires size { S.of_size sectors.old ≡ size }
     requires within { i < length marks.now }
     requires long { length image.now ≡ place_of size (length marks.now) }
-    requires fits { place_of size (first + length marks.now) ≤ length (S.device sectors.old).now.bytes }
+    requires fits { place_of size (first + length marks.now) ≤ length
+        (S.device sectors.old).now.bytes }
     requires matches { Matches size first marks.now image.now (S.device sectors.old).now.bytes }
-    ensures this { OnOk result (sector size (first + i) (S.device sectors.new).now.bytes ≡ sector size i image.now) }
+    ensures this { OnOk result (sector size (first + i) (S.device sectors.new).now.bytes
+        ≡ sector size i image.now) }
     ensures matches { Matches size first marks.now image.now (S.device sectors.new).now.bytes }
-    ensures same { SameOutside (one_sector size (first + i) ∷ []) (S.device sectors.old).now.bytes (S.device sectors.new).now.bytes }
-    ensures any_moment { LeavesOnly (S.device sectors.old) (S.device sectors.new)
-        (ImageBut (S.device sectors.old) (one_sector size (first + i) ∷ [])) }
+    ensures same { ReadsSameBut (one_sector size (first + i) ∷ [])
+        (S.device sectors.old) (S.device sectors.new) }
+    ensures any_moment { LeavesBut (one_sector size (first + i) ∷ [])
+        (S.device sectors.old) (S.device sectors.new) }
     ensures size { S.of_size sectors.new ≡ size }
 {
     let is_marked = marks.has(i);
@@ -97,8 +104,8 @@ fn write_marked<S: Sectors>(
     put_sector(sectors, size, number, bytes)
 }
 
-/// The bytes of an image's sector.
-pub(crate) fn sector_at(image: &[u8], size: SectorSize, i: usize) -> &[u8]
+// The bytes of an image's sector.
+fn sector_at(image: &[u8], size: SectorSize, i: usize) -> &[u8]
     requires { place_of size i + bytes_in size ≤ length image.now }
     ensures bytes { result.now ≡ sector size i image.now }
     ensures whole { length result.now ≡ bytes_in size }

@@ -1,9 +1,9 @@
 //! The gate, which says whose turn it is of two areas.
-ghost use Rattle.std.specs.Prelude.{◌≡◌, ◌+◌, ◌*◌, ◌<◌, ◌≤◌, ℕ, List, [], ◌∷◌, true, false, length, nat_eq, slice_index, OnErr, OnOk};
-ghost use Rattle.block_disk.specs.Device.{Moment, SameOutside};
-ghost use Rattle.block_disk.specs.Images.{Always, ImageBut, LeavesOnly};
-ghost use Rattle.sector_disk.specs.Places.{Holds, Shows, one_sector, turn_of};
+ghost use Rattle.std.specs.Prelude.{◌≡◌, ◌<◌, ◌≤◌, ℕ, [], ◌∷◌, true, false, length, nat_eq, slice_index, OnErr, OnOk};
+ghost use Rattle.block_disk.specs.Since.{LeavesBut, ReadsSameBut};
+ghost use Rattle.sector_disk.specs.Places.{one_sector, turn_of};
 ghost use Rattle.sector_disk.specs.Size.{bytes_in, place_of};
+ghost use Rattle.sector_disk.specs.Turns.{KeepsHolding, KeepsShowing};
 
 use crate::access::{put_sector, settle};
 use crate::sectors::Sectors;
@@ -30,13 +30,15 @@ pub(crate) fn confirm<S: Sectors>(
     requires fits { place_of size 2 ≤ length (S.device sectors.old).now.bytes }
     ensures ok { OnOk result (gate.new.is_firm ≡ true) }
     ensures turn { gate.new.turn ≡ gate.old.turn }
-    ensures same { SameOutside (one_sector size 1 ∷ []) (S.device sectors.old).now.bytes (S.device sectors.new).now.bytes }
-    ensures crash { (count : ℕ) (label : List ℕ) (m : Moment) → Always (S.device sectors.old) (Holds size count gate.old.is_firm gate.old.turn label m)
-        → Always (S.device sectors.new) (Holds size count gate.new.is_firm gate.new.turn label m) }
-    ensures any_moment { (count : ℕ) (label : List ℕ) (m : Moment) → Always (S.device sectors.old) (Holds size count gate.old.is_firm gate.old.turn label m)
-        → LeavesOnly (S.device sectors.old) (S.device sectors.new) (Shows size count label m) }
-    ensures within { LeavesOnly (S.device sectors.old) (S.device sectors.new)
-        (ImageBut (S.device sectors.old) (one_sector size 1 ∷ [])) }
+    ensures same { ReadsSameBut (one_sector size 1 ∷ [])
+        (S.device sectors.old) (S.device sectors.new) }
+    ensures crash { KeepsHolding size gate.old.is_firm gate.old.turn gate.new.is_firm gate.new.turn
+        (S.device sectors.old) (S.device sectors.new) }
+    ensures any_moment { (count : ℕ)
+        → KeepsShowing size count gate.old.is_firm gate.old.turn
+        (S.device sectors.old) (S.device sectors.new) }
+    ensures within { LeavesBut (one_sector size 1 ∷ [])
+        (S.device sectors.old) (S.device sectors.new) }
     ensures size { S.of_size sectors.new ≡ size }
 {
     let is_firm = gate.is_firm;
@@ -59,13 +61,15 @@ pub(crate) fn turn_gate<S: Sectors>(
     ensures err { OnErr result (gate.new.is_firm ≡ false) }
     ensures turn { gate.new.turn ≡ gate.old.turn }
     ensures durable { OnOk result ((S.device sectors.new).now.pending ≡ []) }
-    ensures same { SameOutside (one_sector size 1 ∷ []) (S.device sectors.old).now.bytes (S.device sectors.new).now.bytes }
-    ensures crash { (count : ℕ) (label : List ℕ) (m : Moment) → Always (S.device sectors.old) (Holds size count false gate.old.turn label m)
-        → Always (S.device sectors.new) (Holds size count gate.new.is_firm gate.new.turn label m) }
-    ensures any_moment { (count : ℕ) (label : List ℕ) (m : Moment) → Always (S.device sectors.old) (Holds size count false gate.old.turn label m)
-        → LeavesOnly (S.device sectors.old) (S.device sectors.new) (Shows size count label m) }
-    ensures within { LeavesOnly (S.device sectors.old) (S.device sectors.new)
-        (ImageBut (S.device sectors.old) (one_sector size 1 ∷ [])) }
+    ensures same { ReadsSameBut (one_sector size 1 ∷ [])
+        (S.device sectors.old) (S.device sectors.new) }
+    ensures crash { KeepsHolding size false gate.old.turn gate.new.is_firm gate.new.turn
+        (S.device sectors.old) (S.device sectors.new) }
+    ensures any_moment { (count : ℕ)
+        → KeepsShowing size count false gate.old.turn
+        (S.device sectors.old) (S.device sectors.new) }
+    ensures within { LeavesBut (one_sector size 1 ∷ [])
+        (S.device sectors.old) (S.device sectors.new) }
     ensures size { S.of_size sectors.new ≡ size }
 {
     put_gate(sectors, size, gate.turn)?;
@@ -83,9 +87,10 @@ pub(crate) fn put_gate<S: Sectors>(
     requires fits { place_of size 2 ≤ length (S.device sectors.old).now.bytes }
     ensures durable { OnOk result ((S.device sectors.new).now.pending ≡ []) }
     ensures turned { OnOk result (turn_of size (S.device sectors.new).now.bytes ≡ turn) }
-    ensures same { SameOutside (one_sector size 1 ∷ []) (S.device sectors.old).now.bytes (S.device sectors.new).now.bytes }
-    ensures any_moment { LeavesOnly (S.device sectors.old) (S.device sectors.new)
-        (ImageBut (S.device sectors.old) (one_sector size 1 ∷ [])) }
+    ensures same { ReadsSameBut (one_sector size 1 ∷ [])
+        (S.device sectors.old) (S.device sectors.new) }
+    ensures any_moment { LeavesBut (one_sector size 1 ∷ [])
+        (S.device sectors.old) (S.device sectors.new) }
     ensures size { S.of_size sectors.new ≡ size }
 {
     say_gate(sectors, size, turn)?;
@@ -98,9 +103,10 @@ fn say_gate<S: Sectors>(sectors: &mut S, size: SectorSize, turn: bool) -> Result
     requires size { S.of_size sectors.old ≡ size }
     requires fits { place_of size 2 ≤ length (S.device sectors.old).now.bytes }
     ensures turned { OnOk result (turn_of size (S.device sectors.new).now.bytes ≡ turn) }
-    ensures same { SameOutside (one_sector size 1 ∷ []) (S.device sectors.old).now.bytes (S.device sectors.new).now.bytes }
-    ensures any_moment { LeavesOnly (S.device sectors.old) (S.device sectors.new)
-        (ImageBut (S.device sectors.old) (one_sector size 1 ∷ [])) }
+    ensures same { ReadsSameBut (one_sector size 1 ∷ [])
+        (S.device sectors.old) (S.device sectors.new) }
+    ensures any_moment { LeavesBut (one_sector size 1 ∷ [])
+        (S.device sectors.old) (S.device sectors.new) }
     ensures size { S.of_size sectors.new ≡ size }
 {
     let mut room = [0u8; 4096];
@@ -121,9 +127,10 @@ fn say_in<S: Sectors>(
     requires whole { length bytes.old ≡ bytes_in size }
     requires fits { place_of size 2 ≤ length (S.device sectors.old).now.bytes }
     ensures turned { OnOk result (turn_of size (S.device sectors.new).now.bytes ≡ turn) }
-    ensures same { SameOutside (one_sector size 1 ∷ []) (S.device sectors.old).now.bytes (S.device sectors.new).now.bytes }
-    ensures any_moment { LeavesOnly (S.device sectors.old) (S.device sectors.new)
-        (ImageBut (S.device sectors.old) (one_sector size 1 ∷ [])) }
+    ensures same { ReadsSameBut (one_sector size 1 ∷ [])
+        (S.device sectors.old) (S.device sectors.new) }
+    ensures any_moment { LeavesBut (one_sector size 1 ∷ [])
+        (S.device sectors.old) (S.device sectors.new) }
     ensures size { S.of_size sectors.new ≡ size }
 {
     say_turn(turn, bytes);

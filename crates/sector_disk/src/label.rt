@@ -1,6 +1,6 @@
 //! The label, with which a device of sectors in two places begins (docs/FORMAT.md, "Sectors in two places").
 ghost use Rattle.std.specs.Prelude.{◌≡◌, ◌^◌, ◌<◌, ◌≤◌, ℕ, [], ◌∷◌, IfNone, IfSome, length, take, OnOk};
-ghost use Rattle.block_disk.specs.Device.{SameOutside};
+ghost use Rattle.block_disk.specs.Since.{ReadsSameBut};
 ghost use Rattle.sector_disk.specs.Labels.{label_bytes};
 ghost use Rattle.sector_disk.specs.Places.{one_sector};
 ghost use Rattle.sector_disk.specs.Size.{bytes_in, place_of};
@@ -28,7 +28,8 @@ impl Label {
     /// there is no disk in two places.
     pub fn read(head: &[u8]) -> Option<Label>
         ensures some { IfSome result (λ l. take 16 head.now ≡ label_bytes l.size l.count) }
-        ensures none { IfNone result ((size : Size) (count : ℕ) → count < 2 ^ 64 → take 16 head.now ≡ label_bytes size count → ⊥) }
+        ensures none { IfNone result ((size : Size) (count : ℕ) → count < 2 ^ 64
+            → take 16 head.now ≡ label_bytes size count → ⊥) }
     {
         let Some(spelled) = head.first_chunk::<LABEL_BYTES>() else {
             return None;
@@ -55,8 +56,10 @@ impl Label {
 
 // The label of such sectors whose bytes these are. What they leave out is tested at once: a label has one spelling.
 fn read_as(spelled: &[u8; 16], size: SectorSize) -> Option<Label>
-    ensures some { IfSome result (λ l. (l.size ≡ size) × (spelled.now ≡ label_bytes l.size l.count)) }
-    ensures none { IfNone result ((count : ℕ) → count < 2 ^ 64 → spelled.now ≡ label_bytes size count → ⊥) }
+    ensures some { IfSome result (λ l. (l.size ≡ size)
+        × (spelled.now ≡ label_bytes l.size l.count)) }
+    ensures none { IfNone result ((count : ℕ) → count < 2 ^ 64
+        → spelled.now ≡ label_bytes size count → ⊥) }
 {
     let label = Label {
         size,
@@ -70,7 +73,8 @@ fn read_as(spelled: &[u8; 16], size: SectorSize) -> Option<Label>
 
 // The number behind the name.
 fn count_in(label: &[u8; 16]) -> u64
-    ensures { (size : Size) (count : ℕ) → count < 2 ^ 64 → label.now ≡ label_bytes size count → result ≡ count }
+    ensures { (size : Size) (count : ℕ) → count < 2 ^ 64 → label.now ≡ label_bytes size count
+        → result ≡ count }
 {
     u64::from_be_bytes([
         label[8], label[9], label[10], label[11], label[12], label[13], label[14], label[15],
@@ -87,7 +91,8 @@ pub(crate) fn put_label<S: Sectors>(
     requires fits { place_of size 2 ≤ length (S.device sectors.old).now.bytes }
     ensures durable { OnOk result ((S.device sectors.new).now.pending ≡ []) }
     ensures said { OnOk result (take 16 (S.device sectors.new).now.bytes ≡ label.now) }
-    ensures same { SameOutside (one_sector size 0 ∷ []) (S.device sectors.old).now.bytes (S.device sectors.new).now.bytes }
+    ensures same { ReadsSameBut (one_sector size 0 ∷ [])
+        (S.device sectors.old) (S.device sectors.new) }
     ensures size { S.of_size sectors.new ≡ size }
 {
     write_label(sectors, size, label)?;
@@ -99,7 +104,8 @@ fn write_label<S: Sectors>(sectors: &mut S, size: SectorSize, label: &[u8; 16]) 
     requires size { S.of_size sectors.old ≡ size }
     requires fits { place_of size 2 ≤ length (S.device sectors.old).now.bytes }
     ensures said { OnOk result (take 16 (S.device sectors.new).now.bytes ≡ label.now) }
-    ensures same { SameOutside (one_sector size 0 ∷ []) (S.device sectors.old).now.bytes (S.device sectors.new).now.bytes }
+    ensures same { ReadsSameBut (one_sector size 0 ∷ [])
+        (S.device sectors.old) (S.device sectors.new) }
     ensures size { S.of_size sectors.new ≡ size }
 {
     let mut room = [0u8; 4096];
@@ -120,7 +126,8 @@ fn write_label_by<S: Sectors>(
     requires whole { length bytes.old ≡ bytes_in size }
     requires fits { place_of size 2 ≤ length (S.device sectors.old).now.bytes }
     ensures said { OnOk result (take 16 (S.device sectors.new).now.bytes ≡ label.now) }
-    ensures same { SameOutside (one_sector size 0 ∷ []) (S.device sectors.old).now.bytes (S.device sectors.new).now.bytes }
+    ensures same { ReadsSameBut (one_sector size 0 ∷ [])
+        (S.device sectors.old) (S.device sectors.new) }
     ensures size { S.of_size sectors.new ≡ size }
 {
     begin_with(label, bytes);

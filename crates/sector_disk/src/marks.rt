@@ -1,5 +1,5 @@
 //! Which sectors of an area may hold something else than the image does.
-ghost use Rattle.std.specs.Prelude.{◌≡◌, ◌⊎◌, ◌+◌, ◌^◌, ◌<◌, ◌≤◌, ℕ, [], ◌∷◌, true, false, length, replicate, slice_index_or, IfOk};
+ghost use Rattle.std.specs.Prelude.{◌≡◌, ◌⊎◌, ◌+◌, ◌^◌, ◌<◌, ◌≤◌, ℕ, [], ◌∷◌, true, false, length, replicate, slice_index_or, IfOk, List};
 ghost use Rattle.block_disk.specs.Images.{IsApart};
 ghost use Rattle.sector_disk.specs.Size.{bytes_in, place_of};
 
@@ -51,7 +51,8 @@ impl Marks {
         requires bound { place_of size (length self.old) < 2 ^ 63 }
         ensures count { length self.new ≡ length self.old }
         ensures marked { (i : ℕ) → slice_index_or self.new i true ≡ false
-            → (slice_index_or self.old i true ≡ false) × IsApart (place_of size i) (bytes_in size) (record { start = at; len = len } ∷ []) }
+            → (slice_index_or self.old i true ≡ false)
+            × IsApart (place_of size i) (bytes_in size) (record { start = at; len = len } ∷ []) }
     {
         let from = at / size.bytes();
         let to = sectors_of(at + len, size);

@@ -7,7 +7,6 @@ ghost use Rattle.sector_disk.specs.Size.{bytes_in, place_of};
 use crate::error::SectorError;
 use crate::sectors::Sectors;
 use crate::size::SectorSize;
-use crate::whole::WholeSectors;
 use block_disk::{Fault, Trace};
 use std::alloc::{AllocError, Global};
 use std::marker::Model;
@@ -42,7 +41,8 @@ impl MemSectors {
         size: SectorSize,
         bytes: &[u8],
     ) -> Result<MemSectors, AllocError>
-        ensures { IfOk result (λ sectors. sectors ≡ record { device = new_device bytes.now; size = size }) }
+        ensures { IfOk result (λ sectors. sectors
+            ≡ record { device = new_device bytes.now; size = size }) }
     {
         let mut numbers = vec![in alloc; 0u16; bytes.len()]?;
         widen(bytes, &mut numbers);
@@ -55,8 +55,12 @@ impl MemSectors {
 
     /// Makes a sector unreadable, until it is written. `false` where there is none of this number.
     pub fn lose(&mut self, number: u64) -> bool
-        ensures there { IsTrue result ↔ (place_of self.old.size number + bytes_in self.old.size ≤ length self.old.device.now.bytes) }
-        ensures lost { IsTrue result → self.new.device ≡ written (place_of self.old.size number) (replicate (bytes_in self.old.size) 256) self.old.device }
+        ensures there { IsTrue result
+            ↔ (place_of self.old.size number + bytes_in self.old.size ≤ length
+            self.old.device.now.bytes) }
+        ensures lost { IsTrue result
+            → self.new.device ≡ written (place_of self.old.size number)
+            (replicate (bytes_in self.old.size) 256) self.old.device }
         ensures none { ¬ IsTrue result → self.new ≡ self.old }
         ensures size { self.new.size ≡ self.old.size }
     {
@@ -108,17 +112,6 @@ impl Sectors for MemSectors {
     fn flush(&mut self) -> Result<(), Fault> {
         let _ = &self.numbers;
         self.trace.sync();
-        Ok(())
-    }
-}
-
-// Memory tears nothing, and no write of it fails.
-impl WholeSectors for MemSectors {
-    fn write_whole(&mut self, number: u64, bytes: &[u8]) -> Result<(), Fault> {
-        let len = self.size.bytes();
-        let at = number as usize * len;
-        put(&mut self.numbers, at, bytes);
-        self.trace.write(at as u64, bytes);
         Ok(())
     }
 }

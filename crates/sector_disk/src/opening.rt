@@ -1,11 +1,13 @@
 //! Reading what a device stands for, and making it stand for zeros.
 ghost use Rattle.std.specs.Prelude.{◌≡◌, ◌≢◌, ◌↔◌, ◌+◌, ◌^◌, ◌<◌, ◌≤◌, [], ◌∷◌, true, false, IsFalse, IsTrue, length, replicate, take, IfErr, IfOk, IsErrOf, OnOk};
 ghost use Rattle.block_disk.specs.Bytes.{part, spliced};
-ghost use Rattle.block_disk.specs.Device.{SameMoments, SameOutside};
+ghost use Rattle.block_disk.specs.Device.{SameMoments};
+ghost use Rattle.block_disk.specs.Since.{ReadsSameBut};
 ghost use Rattle.sector_disk.specs.Labels.{label_bytes};
-ghost use Rattle.sector_disk.specs.Places.{IsAsFound, IsKept, sectors_from, shown, turn_of};
+ghost use Rattle.sector_disk.specs.Places.{IsAsFound, shown, turn_of};
 ghost use Rattle.sector_disk.specs.declared.error.PlacesError.TheVariants.{Fault as PlacesFault, TooSmall};
 ghost use Rattle.sector_disk.specs.Size.{bytes_in, place_of, sector};
+ghost use Rattle.sector_disk.specs.Turns.{IsKeptDurable, its_sectors, room_of};
 
 use crate::access::{get_sector, settle};
 use crate::area::fill_area;
@@ -35,7 +37,7 @@ pub(crate) enum Halt {
     NoMemory,
 }
 
-pub(crate) fn told_of(halt: Halt) -> PlacesError
+fn told_of(halt: Halt) -> PlacesError
     ensures { result ≢ TooSmall }
 {
     match halt {
@@ -54,11 +56,13 @@ pub(crate) fn find_places<S: Sectors>(
     count: usize,
 ) -> Result<Found, PlacesError>
     requires size { S.of_size sectors.old ≡ size }
-    ensures too_small { IsErrOf result TooSmall ↔ (length (S.device sectors.old).now.bytes < place_of size (count + count + 2)) }
-    ensures image { IfOk result (λ found. found.image.items ≡ shown size count (S.device sectors.old).now.bytes) }
+    ensures too_small { IsErrOf result TooSmall
+        ↔ (length (S.device sectors.old).now.bytes < room_of size count) }
+    ensures image { IfOk result (λ found. found.image.items
+        ≡ shown size count (S.device sectors.old).now.bytes) }
     ensures count { IfOk result (λ found. length found.fresh ≡ count) }
-    ensures kept { IfOk result (λ found. IsKept size found.gate.is_firm found.gate.turn found.fresh found.stale found.image.items
-        (record { bytes = found.image.items; pending = [] }) (S.device sectors.new)) }
+    ensures kept { IfOk result (λ found. IsKeptDurable size found.gate.is_firm found.gate.turn
+        found.fresh found.stale found.image.items (S.device sectors.new)) }
     ensures left { IsAsFound (S.device sectors.old) (S.device sectors.new) }
     ensures size { S.of_size sectors.new ≡ size }
 {
@@ -79,11 +83,12 @@ fn read_places<S: Sectors>(
     count: usize,
 ) -> Result<Found, Halt>
     requires size { S.of_size sectors.old ≡ size }
-    requires fits { place_of size (count + count + 2) ≤ length (S.device sectors.old).now.bytes }
-    ensures image { IfOk result (λ found. found.image.items ≡ shown size count (S.device sectors.old).now.bytes) }
+    requires fits { room_of size count ≤ length (S.device sectors.old).now.bytes }
+    ensures image { IfOk result (λ found. found.image.items
+        ≡ shown size count (S.device sectors.old).now.bytes) }
     ensures count { IfOk result (λ found. length found.fresh ≡ count) }
-    ensures kept { IfOk result (λ found. IsKept size found.gate.is_firm found.gate.turn found.fresh found.stale found.image.items
-        (record { bytes = found.image.items; pending = [] }) (S.device sectors.new)) }
+    ensures kept { IfOk result (λ found. IsKeptDurable size found.gate.is_firm found.gate.turn
+        found.fresh found.stale found.image.items (S.device sectors.new)) }
     ensures left { IsAsFound (S.device sectors.old) (S.device sectors.new) }
     ensures size { S.of_size sectors.new ≡ size }
 {
@@ -116,15 +121,19 @@ pub(crate) fn make_places<S: Sectors>(
     count: usize,
 ) -> Result<Found, PlacesError>
     requires size { S.of_size sectors.old ≡ size }
-    ensures too_small { IsErrOf result TooSmall ↔ (length (S.device sectors.old).now.bytes < place_of size (count + count + 2)) }
+    ensures too_small { IsErrOf result TooSmall
+        ↔ (length (S.device sectors.old).now.bytes < room_of size count) }
     ensures image { IfOk result (λ found. found.image.items ≡ replicate (place_of size count) 0) }
     ensures count { IfOk result (λ found. length found.fresh ≡ count) }
-    ensures kept { IfOk result (λ found. IsKept size found.gate.is_firm found.gate.turn found.fresh found.stale found.image.items
-        (record { bytes = found.image.items; pending = [] }) (S.device sectors.new)) }
-    ensures labelled { OnOk result (take 16 (S.device sectors.new).now.bytes ≡ label_bytes size count) }
+    ensures kept { IfOk result (λ found. IsKeptDurable size found.gate.is_firm found.gate.turn
+        found.fresh found.stale found.image.items (S.device sectors.new)) }
+    ensures labelled { OnOk result
+        (take 16 (S.device sectors.new).now.bytes ≡ label_bytes size count) }
     ensures durable { OnOk result ((S.device sectors.new).now.pending ≡ []) }
-    ensures untouched { IfErr result (λ why. why ≢ PlacesFault → S.device sectors.new ≡ S.device sectors.old) }
-    ensures beyond { SameOutside (sectors_from size 0 (count + count + 2) ∷ []) (S.device sectors.old).now.bytes (S.device sectors.new).now.bytes }
+    ensures untouched { IfErr result (λ why. why ≢ PlacesFault
+        → S.device sectors.new ≡ S.device sectors.old) }
+    ensures beyond { ReadsSameBut (its_sectors size count ∷ [])
+        (S.device sectors.old) (S.device sectors.new) }
     ensures size { S.of_size sectors.new ≡ size }
 {
     if !has_room(sectors, size, count) {
@@ -180,15 +189,18 @@ fn lay_places<S: Sectors>(
     image: &[u8],
 ) -> Result<(), Fault>
     requires size { S.of_size sectors.old ≡ size }
-    requires fits { place_of size (count + count + 2) ≤ length (S.device sectors.old).now.bytes }
+    requires fits { room_of size count ≤ length (S.device sectors.old).now.bytes }
     requires long { length image.now ≡ place_of size count }
     requires fresh { fresh.old ≡ replicate count true }
     requires stale { stale.now ≡ replicate count true }
     ensures count { length fresh.new ≡ count }
-    ensures kept { OnOk result (IsKept size true false fresh.new stale.now image.now (record { bytes = image.now; pending = [] }) (S.device sectors.new)) }
-    ensures labelled { OnOk result (take 16 (S.device sectors.new).now.bytes ≡ label_bytes size count) }
+    ensures kept { OnOk result (IsKeptDurable size true false fresh.new stale.now image.now
+        (S.device sectors.new)) }
+    ensures labelled { OnOk result
+        (take 16 (S.device sectors.new).now.bytes ≡ label_bytes size count) }
     ensures durable { OnOk result ((S.device sectors.new).now.pending ≡ []) }
-    ensures beyond { SameOutside (sectors_from size 0 (count + count + 2) ∷ []) (S.device sectors.old).now.bytes (S.device sectors.new).now.bytes }
+    ensures beyond { ReadsSameBut (its_sectors size count ∷ [])
+        (S.device sectors.old) (S.device sectors.new) }
     ensures size { S.of_size sectors.new ≡ size }
 {
     let label = Label {
@@ -205,8 +217,9 @@ fn lay_places<S: Sectors>(
 // Whether the device has sectors enough for a label, a gate and two areas of so many.
 fn has_room<S: Sectors>(sectors: &S, size: SectorSize, count: usize) -> bool
     requires size { S.of_size sectors.now ≡ size }
-    ensures enough { IsTrue result → place_of size (count + count + 2) ≤ length (S.device sectors.now).now.bytes }
-    ensures wanting { IsFalse result → length (S.device sectors.now).now.bytes < place_of size (count + count + 2) }
+    ensures enough { IsTrue result → room_of size count ≤ length (S.device sectors.now).now.bytes }
+    ensures wanting { IsFalse result
+        → length (S.device sectors.now).now.bytes < room_of size count }
 {
     let most = sectors.count();
     if most < 2 {
@@ -220,7 +233,7 @@ fn has_room<S: Sectors>(sectors: &S, size: SectorSize, count: usize) -> bool
     true
 }
 
-pub(crate) fn mark_each(alloc: Global, count: usize, are_marked: bool) -> Result<Marks, Halt>
+fn mark_each(alloc: Global, count: usize, are_marked: bool) -> Result<Marks, Halt>
     ensures { IfOk result (λ m. m ≡ replicate count are_marked) }
 {
     match Marks::all(alloc, count, are_marked) {
@@ -272,7 +285,7 @@ fn read_turn<S: Sectors>(sectors: &mut S, size: SectorSize, bytes: &mut [u8]) ->
 }
 
 /// What an area holds.
-pub(crate) fn read_area<S: Sectors>(
+fn read_area<S: Sectors>(
     alloc: Global,
     sectors: &mut S,
     size: SectorSize,
@@ -281,7 +294,8 @@ pub(crate) fn read_area<S: Sectors>(
 ) -> Result<Vec<u8>, Halt>
     requires size { S.of_size sectors.old ≡ size }
     requires fits { place_of size (first + count) ≤ length (S.device sectors.old).now.bytes }
-    ensures area { IfOk result (λ image. image.items ≡ part (place_of size first) (place_of size count) (S.device sectors.old).now.bytes) }
+    ensures area { IfOk result (λ image. image.items
+        ≡ part (place_of size first) (place_of size count) (S.device sectors.old).now.bytes) }
     ensures same { SameMoments (S.device sectors.old) (S.device sectors.new) }
     ensures size { S.of_size sectors.new ≡ size }
 {
@@ -318,7 +332,8 @@ fn read_sectors<S: Sectors>(
     requires whole { length room.old ≡ bytes_in size }
     requires long { length image.old ≡ place_of size count }
     requires fits { place_of size (first + count) ≤ length (S.device sectors.old).now.bytes }
-    ensures area { OnOk result (image.new ≡ part (place_of size first) (place_of size count) (S.device sectors.old).now.bytes) }
+    ensures area { OnOk result (image.new ≡ part (place_of size first) (place_of size count)
+        (S.device sectors.old).now.bytes) }
     ensures same { SameMoments (S.device sectors.old) (S.device sectors.new) }
     ensures size { S.of_size sectors.new ≡ size }
 {
@@ -340,8 +355,11 @@ fn read_one<S: Sectors>(
     requires size { S.of_size sectors.old ≡ size }
     requires whole { length room.old ≡ bytes_in size }
     requires within { place_of size i + bytes_in size ≤ length image.old }
-    requires fits { place_of size (first + i) + bytes_in size ≤ length (S.device sectors.old).now.bytes }
-    ensures ok { OnOk result (image.new ≡ spliced image.old (place_of size i) (sector size (first + i) (S.device sectors.old).now.bytes)) }
+    requires fits { place_of size (first + i) + bytes_in size ≤ length
+        (S.device sectors.old).now.bytes }
+    ensures ok { OnOk result (image.new
+        ≡ spliced image.old (place_of size i)
+        (sector size (first + i) (S.device sectors.old).now.bytes)) }
     ensures same { SameMoments (S.device sectors.old) (S.device sectors.new) }
     ensures size { S.of_size sectors.new ≡ size }
 {

@@ -1,7 +1,5 @@
 //! The sectors of a disk.
-ghost use Rattle.std.specs.Prelude.{◌≡◌, ◌⊎◌, ◌+◌, ◌*◌, ◌≤◌, length, OnErr, OnOk};
-ghost use Rattle.block_disk.specs.Device.{SameMoments, TornWrite};
-ghost use Rattle.sector_disk.specs.Size.{bytes_in, place_of, sector};
+ghost use Rattle.std.specs.Prelude.{◌≡◌};
 
 use crate::error::SectorError;
 use crate::sectors::Sectors;

@@ -1,10 +1,11 @@
 //! Two areas by turns: what a sync makes of them.
-ghost use Rattle.std.specs.Prelude.{◌≡◌, ◌+◌, ◌^◌, ◌<◌, ◌≤◌, ℕ, List, [], ◌∷◌, Bool, true, false, length, OnErr, OnOk};
+ghost use Rattle.std.specs.Prelude.{◌≡◌, ◌+◌, ◌^◌, ◌<◌, ◌≤◌, ℕ, List, [], ◌∷◌, Bool, true, false, length, OnOk};
 ghost use Rattle.block_disk.specs.Bytes.{spliced};
-ghost use Rattle.block_disk.specs.Device.{Moment, SameOutside};
-ghost use Rattle.block_disk.specs.Images.{Always, ImageBut, LeavesOnly};
-ghost use Rattle.sector_disk.specs.Places.{Holds, Reads, Shows, area, first_sector, sectors_from};
+ghost use Rattle.block_disk.specs.Device.{Moment};
+ghost use Rattle.block_disk.specs.Since.{LeavesBut, ReadsSameBut};
+ghost use Rattle.sector_disk.specs.Places.{Reads, area, first_sector};
 ghost use Rattle.sector_disk.specs.Size.{place_of};
+ghost use Rattle.sector_disk.specs.Turns.{KeepsImage, KeepsShowing, KeepsShowingImage, MakesDurable, its_sectors};
 
 use crate::area::fill_area;
 use crate::gate::{Gate, confirm, turn_gate};
@@ -26,22 +27,26 @@ pub(crate) fn sync_places<S: Sectors>(
 ) -> Result<(), Fault>
     requires size { S.of_size sectors.old ≡ size }
     requires count { length stale.old ≡ length fresh.old }
-    requires reads { Reads size (length fresh.old) gate.old.turn fresh.old stale.old image.now (S.device sectors.old).now.bytes }
+    requires reads { Reads size (length fresh.old) gate.old.turn fresh.old stale.old image.now
+        (S.device sectors.old).now.bytes }
     ensures count { (length fresh.new ≡ length fresh.old) × (length stale.new ≡ length fresh.old) }
-    ensures reads { Reads size (length fresh.old) gate.new.turn fresh.new stale.new image.now (S.device sectors.new).now.bytes }
-    ensures crash { (label : List ℕ) (m : Moment) → m.bytes ≡ image.now
-        → Always (S.device sectors.old) (Holds size (length fresh.old) gate.old.is_firm gate.old.turn label m)
-        → Always (S.device sectors.new) (Holds size (length fresh.old) gate.new.is_firm gate.new.turn label m) }
-    ensures durable { (label : List ℕ) (m : Moment) → OnOk result (m.bytes ≡ image.now
-        → Always (S.device sectors.old) (Holds size (length fresh.old) gate.old.is_firm gate.old.turn label m)
-        → Always (S.device sectors.new) (Holds size (length fresh.old) gate.new.is_firm gate.new.turn label (record { bytes = m.bytes; pending = [] }))) }
-    ensures any_moment { (label : List ℕ) (m : Moment) → m.bytes ≡ image.now
-        → Always (S.device sectors.old) (Holds size (length fresh.old) gate.old.is_firm gate.old.turn label m)
-        → LeavesOnly (S.device sectors.old) (S.device sectors.new) (Shows size (length fresh.old) label m) }
-    ensures within { LeavesOnly (S.device sectors.old) (S.device sectors.new)
-        (ImageBut (S.device sectors.old) (sectors_from size 0 (length fresh.old + length fresh.old + 2) ∷ [])) }
-    ensures beyond { SameOutside (sectors_from size 0 (length fresh.old + length fresh.old + 2) ∷ [])
-        (S.device sectors.old).now.bytes (S.device sectors.new).now.bytes }
+    ensures reads { Reads size (length fresh.old) gate.new.turn fresh.new stale.new image.now
+        (S.device sectors.new).now.bytes }
+    ensures crash { KeepsImage size
+        (length fresh.old) image.now gate.old.is_firm gate.old.turn gate.new.is_firm gate.new.turn
+        (S.device sectors.old) (S.device sectors.new) }
+    ensures durable { (label : List ℕ) (m : Moment)
+        → OnOk result (m.bytes ≡ image.now
+        → MakesDurable size
+        (length fresh.old) gate.old.is_firm gate.old.turn gate.new.is_firm gate.new.turn label m
+        (S.device sectors.old) (S.device sectors.new)) }
+    ensures any_moment { KeepsShowingImage size
+        (length fresh.old) image.now gate.old.is_firm gate.old.turn
+        (S.device sectors.old) (S.device sectors.new) }
+    ensures within { LeavesBut (its_sectors size (length fresh.old) ∷ [])
+        (S.device sectors.old) (S.device sectors.new) }
+    ensures beyond { ReadsSameBut (its_sectors size (length fresh.old) ∷ [])
+        (S.device sectors.old) (S.device sectors.new) }
     ensures size { S.of_size sectors.new ≡ size }
 {
     // Where the gate may say either, both areas may be shown: it has to be firm before one of them is written.
@@ -62,21 +67,23 @@ fn fill_other<S: Sectors>(
     requires size { S.of_size sectors.old ≡ size }
     requires firm { gate.old.is_firm ≡ true }
     requires count { length stale.old ≡ length fresh.old }
-    requires reads { Reads size (length fresh.old) gate.old.turn fresh.old stale.old image.now (S.device sectors.old).now.bytes }
+    requires reads { Reads size (length fresh.old) gate.old.turn fresh.old stale.old image.now
+        (S.device sectors.old).now.bytes }
     ensures ok { OnOk result (gate.new.is_firm ≡ false) }
     ensures count { (length fresh.new ≡ length fresh.old) × (length stale.new ≡ length fresh.old) }
-    ensures whole { OnOk result (area size (length fresh.old) gate.new.turn (S.device sectors.new).now.bytes ≡ image.now) }
-    ensures reads { Reads size (length fresh.old) gate.new.turn fresh.new stale.new image.now (S.device sectors.new).now.bytes }
-    ensures crash { (label : List ℕ) (m : Moment) → m.bytes ≡ image.now
-        → Always (S.device sectors.old) (Holds size (length fresh.old) true gate.old.turn label m)
-        → Always (S.device sectors.new) (Holds size (length fresh.old) gate.new.is_firm gate.new.turn label m) }
-    ensures any_moment { (label : List ℕ) (m : Moment)
-        → Always (S.device sectors.old) (Holds size (length fresh.old) true gate.old.turn label m)
-        → LeavesOnly (S.device sectors.old) (S.device sectors.new) (Shows size (length fresh.old) label m) }
-    ensures within { LeavesOnly (S.device sectors.old) (S.device sectors.new)
-        (ImageBut (S.device sectors.old) (sectors_from size 0 (length fresh.old + length fresh.old + 2) ∷ [])) }
-    ensures beyond { SameOutside (sectors_from size 0 (length fresh.old + length fresh.old + 2) ∷ [])
-        (S.device sectors.old).now.bytes (S.device sectors.new).now.bytes }
+    ensures whole { OnOk result (area size (length fresh.old) gate.new.turn
+        (S.device sectors.new).now.bytes ≡ image.now) }
+    ensures reads { Reads size (length fresh.old) gate.new.turn fresh.new stale.new image.now
+        (S.device sectors.new).now.bytes }
+    ensures crash { KeepsImage size
+        (length fresh.old) image.now true gate.old.turn gate.new.is_firm gate.new.turn
+        (S.device sectors.old) (S.device sectors.new) }
+    ensures any_moment { KeepsShowing size (length fresh.old) true gate.old.turn
+        (S.device sectors.old) (S.device sectors.new) }
+    ensures within { LeavesBut (its_sectors size (length fresh.old) ∷ [])
+        (S.device sectors.old) (S.device sectors.new) }
+    ensures beyond { ReadsSameBut (its_sectors size (length fresh.old) ∷ [])
+        (S.device sectors.old) (S.device sectors.new) }
     ensures size { S.of_size sectors.new ≡ size }
 {
     let _sectors = sectors.count();
@@ -112,7 +119,8 @@ pub(crate) fn write_image(
     requires count { length stale.old ≡ length fresh.old }
     ensures image { image.new.items ≡ spliced image.old.items at bytes.now }
     ensures count { (length fresh.new ≡ length fresh.old) × (length stale.new ≡ length fresh.old) }
-    ensures reads { (turn : Bool) (on : List ℕ) → Reads size (length fresh.old) turn fresh.old stale.old image.old.items on
+    ensures reads { (turn : Bool) (on : List ℕ)
+        → Reads size (length fresh.old) turn fresh.old stale.old image.old.items on
         → Reads size (length fresh.old) turn fresh.new stale.new image.new.items on }
 {
     fresh.mark(size, at as usize, bytes.len());

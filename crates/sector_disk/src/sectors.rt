@@ -1,6 +1,7 @@
 //! The contract of a device of sectors.
-ghost use Rattle.std.specs.Prelude.{◌≡◌, ◌⊎◌, ◌+◌, ◌*◌, ◌^◌, ◌<◌, ◌≤◌, length, OnOk, OnErr, IsErrOf};
-ghost use Rattle.block_disk.specs.Device.{Device, SameMoments, TornWrite, synced, written};
+ghost use Rattle.std.specs.Prelude.{◌≡◌, ◌+◌, ◌*◌, ◌^◌, ◌<◌, ◌≤◌, length, OnOk, OnErr, IsErrOf};
+ghost use Rattle.block_disk.specs.Device.{Device, SameMoments, synced, written};
+ghost use Rattle.block_disk.specs.Since.{IsSameOrTorn};
 ghost use Rattle.sector_disk.specs.Size.{bytes_in, place_of, sector};
 ghost use Rattle.sector_disk.specs.Readable.{IsLost};
 ghost use Rattle.sector_disk.specs.declared.error.SectorError.TheVariants.{Unreadable};
@@ -30,15 +31,19 @@ pub trait Sectors {
     /// The number of whole sectors. No call changes it.
     fn count(&self) -> u64
         ensures within { result * bytes_in (of_size self.now) ≤ length (device self.now).now.bytes }
-        ensures whole { length (device self.now).now.bytes < result * bytes_in (of_size self.now) + bytes_in (of_size self.now) }
+        ensures whole { length (device self.now).now.bytes < result * bytes_in
+            (of_size self.now) + bytes_in (of_size self.now) }
         ensures bound { length (device self.now).now.bytes < 2 ^ 64 };
 
     /// Reads a sector into `out`, whole. After an error any bytes may stand in `out`.
     fn read_sector(&mut self, number: u64, out: &mut [u8]) -> Result<(), SectorError>
         requires whole { length out.old ≡ bytes_in (of_size self.old) }
-        requires fits { place_of (of_size self.old) number + bytes_in (of_size self.old) ≤ length (device self.old).now.bytes }
-        ensures ok { OnOk result (out.new ≡ sector (of_size self.old) number (device self.old).now.bytes) }
-        ensures unreadable { IsErrOf result Unreadable → IsLost (sector (of_size self.old) number (device self.old).now.bytes) }
+        requires fits { place_of (of_size self.old) number + bytes_in (of_size self.old) ≤ length
+            (device self.old).now.bytes }
+        ensures ok { OnOk result (out.new
+            ≡ sector (of_size self.old) number (device self.old).now.bytes) }
+        ensures unreadable { IsErrOf result Unreadable
+            → IsLost (sector (of_size self.old) number (device self.old).now.bytes) }
         ensures same { SameMoments (device self.old) (device self.new) }
         ensures size { of_size self.new ≡ of_size self.old };
 
@@ -46,10 +51,13 @@ pub trait Sectors {
     /// may a write that answers `Fault`.
     fn write_sector(&mut self, number: u64, bytes: &[u8]) -> Result<(), Fault>
         requires whole { length bytes.now ≡ bytes_in (of_size self.old) }
-        requires fits { place_of (of_size self.old) number + bytes_in (of_size self.old) ≤ length (device self.old).now.bytes }
-        ensures ok { OnOk result (device self.new ≡ written (place_of (of_size self.old) number) bytes.now (device self.old)) }
-        ensures fault { OnErr result (SameMoments (device self.old) (device self.new)
-            ⊎ TornWrite (place_of (of_size self.old) number) (length bytes.now) (device self.old) (device self.new)) }
+        requires fits { place_of (of_size self.old) number + bytes_in (of_size self.old) ≤ length
+            (device self.old).now.bytes }
+        ensures ok { OnOk result (device self.new
+            ≡ written (place_of (of_size self.old) number) bytes.now (device self.old)) }
+        ensures fault { OnErr result
+            (IsSameOrTorn (place_of (of_size self.old) number) (length bytes.now)
+            (device self.old) (device self.new)) }
         ensures size { of_size self.new ≡ of_size self.old };
 
     /// Makes what was written durable: from then on a crash leaves what a read gives. `Fault` fixes nothing.

@@ -1,12 +1,14 @@
 //! A disk in two places on a device of sectors.
-ghost use Rattle.std.specs.Prelude.{◌≡◌, ◌≢◌, ◌⊎◌, ◌+◌, ◌*◌, ◌^◌, ◌<◌, ◌≤◌, ℕ, List, IfErr, IfOk, IsErrAnd, IsErrOf, IsOk, OnErr, OnOk, [], ◌∷◌, length, replicate, take};
-ghost use Rattle.block_disk.specs.Bytes.{part, spliced};
-ghost use Rattle.block_disk.specs.Device.{HasFailed, SameMoments, SameOutside, TornWrite, new_device, one_more, synced, unit_ranges, written, written_units};
-ghost use Rattle.block_disk.specs.Images.{Always, ImageBut, LeavesOnly};
+ghost use Rattle.std.specs.Prelude.{◌≡◌, ◌≢◌, ◌+◌, ◌*◌, ◌<◌, ◌≤◌, IfErr, IfOk, IsErrAnd, IsErrOf, IsOk, OnErr, OnOk, [], ◌∷◌, length, replicate, take};
+ghost use Rattle.block_disk.specs.Bytes.{part};
+ghost use Rattle.block_disk.specs.Device.{SameMoments, new_device, synced, unit_ranges, written, written_units};
+ghost use Rattle.block_disk.specs.Images.{Always, LeavesOnly};
+ghost use Rattle.block_disk.specs.Since.{CountsOneMore, HasFailedSince, IsSameOrTorn, LeavesBut, ReadsSameBut};
 ghost use Rattle.block_disk.specs.declared.error.DiskError.TheVariants.{Fault, OutOfRange};
 ghost use Rattle.sector_disk.specs.Labels.{label_bytes};
-ghost use Rattle.sector_disk.specs.Places.{IsAsFound, IsKept, Shows, sectors_from, shown};
+ghost use Rattle.sector_disk.specs.Places.{IsAsFound, IsKept, Shows, shown};
 ghost use Rattle.sector_disk.specs.Size.{place_of, sector};
+ghost use Rattle.sector_disk.specs.Turns.{IsKeptDurable, its_sectors, room_of};
 ghost use Rattle.sector_disk.specs.declared.error.PlacesError.TheVariants.{Fault as PlacesFault, TooSmall};
 
 use crate::error::PlacesError;
@@ -66,12 +68,14 @@ impl<S: Sectors + Drop> TwoPlaces<S> {
         mut sectors: S,
         count: usize,
     ) -> Result<TwoPlaces<S>, (S, PlacesError)>
-        ensures ok { IfOk result (λ disk. disk.device ≡ new_device (shown (S.of_size sectors) count (S.device sectors).now.bytes)) }
-        ensures size { IfOk result (λ disk. (disk.size ≡ S.of_size sectors) × (disk.count ≡ count)) }
+        ensures ok { IfOk result (λ disk. disk.device
+            ≡ new_device (shown (S.of_size sectors) count (S.device sectors).now.bytes)) }
+        ensures size { IfOk result (λ disk. (disk.size ≡ S.of_size sectors)
+            × (disk.count ≡ count)) }
         ensures found { IfOk result (λ disk. IsAsFound (S.device sectors) disk.sectors) }
-        ensures too_small { length (S.device sectors).now.bytes < place_of (S.of_size sectors) (count + count + 2)
+        ensures too_small { length (S.device sectors).now.bytes < room_of (S.of_size sectors) count
             → IsErrAnd result (λ back. back.1 ≡ TooSmall) }
-        ensures room { place_of (S.of_size sectors) (count + count + 2) ≤ length (S.device sectors).now.bytes
+        ensures room { room_of (S.of_size sectors) count ≤ length (S.device sectors).now.bytes
             → IfErr result (λ back. back.1 ≢ TooSmall) }
         ensures err { IfErr result (λ back. IsAsFound (S.device sectors) (S.device back.0)) }
         ensures back { IfErr result (λ back. S.of_size back.0 ≡ S.of_size sectors) }
@@ -94,17 +98,22 @@ impl<S: Sectors + Drop> TwoPlaces<S> {
         mut sectors: S,
         count: usize,
     ) -> Result<TwoPlaces<S>, (S, PlacesError)>
-        ensures ok { IfOk result (λ disk. disk.device ≡ new_device (replicate (place_of (S.of_size sectors) count) 0)) }
-        ensures size { IfOk result (λ disk. (disk.size ≡ S.of_size sectors) × (disk.count ≡ count)) }
-        ensures labelled { IfOk result (λ disk. take 16 disk.sectors.now.bytes ≡ label_bytes (S.of_size sectors) count) }
+        ensures ok { IfOk result (λ disk. disk.device
+            ≡ new_device (replicate (place_of (S.of_size sectors) count) 0)) }
+        ensures size { IfOk result (λ disk. (disk.size ≡ S.of_size sectors)
+            × (disk.count ≡ count)) }
+        ensures labelled { IfOk result
+            (λ disk. take 16 disk.sectors.now.bytes ≡ label_bytes (S.of_size sectors) count) }
         ensures durable { IfOk result (λ disk. disk.sectors.now.pending ≡ []) }
-        ensures too_small { length (S.device sectors).now.bytes < place_of (S.of_size sectors) (count + count + 2)
+        ensures too_small { length (S.device sectors).now.bytes < room_of (S.of_size sectors) count
             → IsErrAnd result (λ back. back.1 ≡ TooSmall) }
-        ensures room { place_of (S.of_size sectors) (count + count + 2) ≤ length (S.device sectors).now.bytes
+        ensures room { room_of (S.of_size sectors) count ≤ length (S.device sectors).now.bytes
             → IfErr result (λ back. back.1 ≢ TooSmall) }
-        ensures untouched { IfErr result (λ back. back.1 ≢ PlacesFault → S.device back.0 ≡ S.device sectors) }
-        ensures beyond { IfErr result (λ back. SameOutside (sectors_from (S.of_size sectors) 0 (count + count + 2) ∷ [])
-            (S.device sectors).now.bytes (S.device back.0).now.bytes) }
+        ensures untouched { IfErr result (λ back. back.1 ≢ PlacesFault
+            → S.device back.0 ≡ S.device sectors) }
+        ensures beyond { IfErr result
+            (λ back. ReadsSameBut (its_sectors (S.of_size sectors) count ∷ []) (S.device sectors)
+            (S.device back.0)) }
         ensures back { IfErr result (λ back. S.of_size back.0 ≡ S.of_size sectors) }
     {
         let size = sectors.sector_size();
@@ -117,8 +126,8 @@ impl<S: Sectors + Drop> TwoPlaces<S> {
     // The disk of these bytes, which lie on the device as is said.
     fn holding(sectors: S, size: SectorSize, found: Found) -> TwoPlaces<S>
         requires size { S.of_size sectors ≡ size }
-        requires kept { IsKept size found.gate.is_firm found.gate.turn found.fresh found.stale found.image.items
-            (record { bytes = found.image.items; pending = [] }) (S.device sectors) }
+        requires kept { IsKeptDurable size found.gate.is_firm found.gate.turn found.fresh
+            found.stale found.image.items (S.device sectors) }
         ensures device { result.device ≡ new_device found.image.items }
         ensures sectors { result.sectors ≡ S.device sectors }
         ensures size { (result.size ≡ size) × (result.count ≡ length found.fresh) }
@@ -145,7 +154,9 @@ impl<S: Sectors + Drop> TwoPlaces<S> {
 
     /// Whatever a crash may leave of the device now stands for what it may leave of the disk, and has the same first sector.
     pub fn possible_law(&self)
-        ensures { Always self.now.sectors (Shows self.now.size self.now.count (sector self.now.size 0 self.now.sectors.now.bytes) self.now.device.now) }
+        ensures { Always self.now.sectors
+            (Shows self.now.size self.now.count
+            (sector self.now.size 0 self.now.sectors.now.bytes) self.now.device.now) }
     {
         let _ = &self.image;
     }
@@ -163,11 +174,12 @@ impl<S: Sectors + Drop> Disk for TwoPlaces<S> {
         ensures in_range { OnOk result (at + length out.old ≤ length self.old.device.now.bytes) }
         ensures ok { OnOk result (out.new ≡ part at (length out.old) self.old.device.now.bytes) }
         ensures same { OnOk result (self.new.device ≡ self.old.device) }
-        ensures out_of_range { IsErrOf result OutOfRange → (length self.old.device.now.bytes < at + length out.old)
-            × (out.new ≡ out.old) × (self.new.device ≡ self.old.device) }
+        ensures out_of_range { IsErrOf result OutOfRange
+            → (length self.old.device.now.bytes < at + length out.old) × (out.new ≡ out.old)
+            × (self.new.device ≡ self.old.device) }
         ensures fault { IsErrOf result Fault → SameMoments self.old.device self.new.device }
-        ensures cause { IsErrOf result Fault → HasFailed self.old.device.failures self.new.device.failures }
-        ensures counted { IsErrOf result Fault → self.new.device.failures ≡ one_more self.old.device.failures }
+        ensures cause { IsErrOf result Fault → HasFailedSince self.old.device self.new.device }
+        ensures counted { IsErrOf result Fault → CountsOneMore self.old.device self.new.device }
         ensures no_fault { ¬ IsErrOf result Fault }
         ensures sectors { self.new.sectors ≡ self.old.sectors }
         ensures count { (self.new.size ≡ self.old.size) × (self.new.count ≡ self.old.count) }
@@ -183,12 +195,13 @@ impl<S: Sectors + Drop> Disk for TwoPlaces<S> {
     fn write_at(&mut self, at: u64, bytes: &[u8]) -> Result<(), DiskError>
         ensures in_range { OnOk result (at + length bytes.now ≤ length self.old.device.now.bytes) }
         ensures ok { OnOk result (self.new.device ≡ written at bytes.now self.old.device) }
-        ensures out_of_range { IsErrOf result OutOfRange → (length self.old.device.now.bytes < at + length bytes.now)
+        ensures out_of_range { IsErrOf result OutOfRange
+            → (length self.old.device.now.bytes < at + length bytes.now)
             × (self.new.device ≡ self.old.device) }
-        ensures fault { IsErrOf result Fault → SameMoments self.old.device self.new.device
-            ⊎ TornWrite at (length bytes.now) self.old.device self.new.device }
-        ensures cause { IsErrOf result Fault → HasFailed self.old.device.failures self.new.device.failures }
-        ensures counted { IsErrOf result Fault → self.new.device.failures ≡ one_more self.old.device.failures }
+        ensures fault { IsErrOf result Fault
+            → IsSameOrTorn at (length bytes.now) self.old.device self.new.device }
+        ensures cause { IsErrOf result Fault → HasFailedSince self.old.device self.new.device }
+        ensures counted { IsErrOf result Fault → CountsOneMore self.old.device self.new.device }
         ensures no_fault { ¬ IsErrOf result Fault }
         ensures sectors { self.new.sectors ≡ self.old.sectors }
         ensures count { (self.new.size ≡ self.old.size) × (self.new.count ≡ self.old.count) }
@@ -213,10 +226,11 @@ impl<S: Sectors + Drop> Disk for TwoPlaces<S> {
         requires some { 0 < count }
         requires whole { length units.now ≡ count * 16 }
         requires fits { at + length units.now ≤ length self.old.device.now.bytes }
-        ensures ok { OnOk result (self.new.device ≡ written_units count at units.now self.old.device) }
-        ensures any_moment { LeavesOnly self.old.device self.new.device (ImageBut self.old.device (unit_ranges count at)) }
-        ensures cause { OnErr result (HasFailed self.old.device.failures self.new.device.failures) }
-        ensures counted { OnErr result (self.new.device.failures ≡ one_more self.old.device.failures) }
+        ensures ok { OnOk result (self.new.device
+            ≡ written_units count at units.now self.old.device) }
+        ensures any_moment { LeavesBut (unit_ranges count at) self.old.device self.new.device }
+        ensures cause { OnErr result (HasFailedSince self.old.device self.new.device) }
+        ensures counted { OnErr result (CountsOneMore self.old.device self.new.device) }
         ensures no_fault { IsOk result }
         ensures sectors { self.new.sectors ≡ self.old.sectors }
         ensures count { (self.new.size ≡ self.old.size) × (self.new.count ≡ self.old.count) }
@@ -238,14 +252,15 @@ impl<S: Sectors + Drop> Disk for TwoPlaces<S> {
         ensures ok { OnOk result (self.new.device ≡ synced self.old.device) }
         ensures in_range { ¬ IsErrOf result OutOfRange }
         ensures fault { IsErrOf result Fault → SameMoments self.old.device self.new.device }
-        ensures cause { IsErrOf result Fault → HasFailed self.old.device.failures self.new.device.failures }
-        ensures counted { IsErrOf result Fault → self.new.device.failures ≡ one_more self.old.device.failures }
+        ensures cause { IsErrOf result Fault → HasFailedSince self.old.device self.new.device }
+        ensures counted { IsErrOf result Fault → CountsOneMore self.old.device self.new.device }
         ensures any_moment { LeavesOnly self.old.sectors self.new.sectors
-            (Shows self.old.size self.old.count (sector self.old.size 0 self.old.sectors.now.bytes) self.old.device.now) }
-        ensures within { LeavesOnly self.old.sectors self.new.sectors
-            (ImageBut self.old.sectors (sectors_from self.old.size 0 (self.old.count + self.old.count + 2) ∷ [])) }
-        ensures beyond { SameOutside (sectors_from self.old.size 0 (self.old.count + self.old.count + 2) ∷ [])
-            self.old.sectors.now.bytes self.new.sectors.now.bytes }
+            (Shows self.old.size self.old.count
+            (sector self.old.size 0 self.old.sectors.now.bytes) self.old.device.now) }
+        ensures within { LeavesBut (its_sectors self.old.size self.old.count ∷ []) self.old.sectors
+            self.new.sectors }
+        ensures beyond { ReadsSameBut
+            (its_sectors self.old.size self.old.count ∷ []) self.old.sectors self.new.sectors }
         ensures count { (self.new.size ≡ self.old.size) × (self.new.count ≡ self.old.count) }
     {
         match sync_places(

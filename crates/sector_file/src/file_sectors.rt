@@ -1,6 +1,7 @@
 //! The sectors of a file.
-ghost use Rattle.std.specs.Prelude.{◌≡◌, ◌⊎◌, ◌+◌, ◌^◌, ◌<◌, ◌≤◌, length, option_map, IfOk, IfSome, IsErrOf, OnErr, OnOk};
-ghost use Rattle.block_disk.specs.Device.{SameMoments, TornWrite, synced, written};
+ghost use Rattle.std.specs.Prelude.{◌≡◌, ◌+◌, ◌^◌, ◌<◌, ◌≤◌, length, option_map, IfOk, IfSome, IsErrOf, OnErr, OnOk};
+ghost use Rattle.block_disk.specs.Device.{SameMoments, synced, written};
+ghost use Rattle.block_disk.specs.Since.{IsSameOrTorn};
 ghost use Rattle.file_disk.specs.Backing.{ReadsAsBefore, ReadsForGood, TornFile, put_at, settled};
 ghost use Rattle.sector_disk.specs.Readable.{IsLost};
 ghost use Rattle.sector_disk.specs.Size.{bytes_in, place_of, sector};
@@ -203,9 +204,11 @@ impl<F: BackingFile + Drop> Sectors for FileSectors<F> {
     /// Reads what was read as the file was opened, and leaves the file alone.
     fn read_sector(&mut self, number: u64, out: &mut [u8]) -> Result<(), SectorError>
         requires whole { length out.old ≡ bytes_in self.old.size }
-        requires fits { place_of self.old.size number + bytes_in self.old.size ≤ length self.old.device.now.bytes }
+        requires fits { place_of self.old.size number + bytes_in self.old.size ≤ length
+            self.old.device.now.bytes }
         ensures ok { OnOk result (out.new ≡ sector self.old.size number self.old.device.now.bytes) }
-        ensures unreadable { IsErrOf result Unreadable → IsLost (sector self.old.size number self.old.device.now.bytes) }
+        ensures unreadable { IsErrOf result Unreadable
+            → IsLost (sector self.old.size number self.old.device.now.bytes) }
         ensures same { SameMoments self.old.device self.new.device }
         ensures size { self.new.size ≡ self.old.size }
         ensures file { self.new.file ≡ self.old.file }
@@ -225,13 +228,18 @@ impl<F: BackingFile + Drop> Sectors for FileSectors<F> {
     /// Writes the file there, and no more of it.
     fn write_sector(&mut self, number: u64, bytes: &[u8]) -> Result<(), Fault>
         requires whole { length bytes.now ≡ bytes_in self.old.size }
-        requires fits { place_of self.old.size number + bytes_in self.old.size ≤ length self.old.device.now.bytes }
-        ensures ok { OnOk result (self.new.device ≡ written (place_of self.old.size number) bytes.now self.old.device) }
-        ensures fault { OnErr result (SameMoments self.old.device self.new.device
-            ⊎ TornWrite (place_of self.old.size number) (length bytes.now) self.old.device self.new.device) }
+        requires fits { place_of self.old.size number + bytes_in self.old.size ≤ length
+            self.old.device.now.bytes }
+        ensures ok { OnOk result (self.new.device
+            ≡ written (place_of self.old.size number) bytes.now self.old.device) }
+        ensures fault { OnErr result
+            (IsSameOrTorn (place_of self.old.size number)
+            (length bytes.now) self.old.device self.new.device) }
         ensures size { self.new.size ≡ self.old.size }
-        ensures file { OnOk result (self.new.file ≡ option_map (put_at (place_of self.old.size number) bytes.now) self.old.file) }
-        ensures torn { OnErr result (TornFile (place_of self.old.size number) (length bytes.now) self.old.file self.new.file) }
+        ensures file { OnOk result (self.new.file
+            ≡ option_map (put_at (place_of self.old.size number) bytes.now) self.old.file) }
+        ensures torn { OnErr result (TornFile (place_of self.old.size number)
+            (length bytes.now) self.old.file self.new.file) }
     {
         let at = number * self.size.bytes() as u64;
         let answer = self.file.write_to(at, bytes);

@@ -3,6 +3,7 @@ pub mod Consistent
 pub mod KeptHeap
 pub mod Formatting
 pub mod Steps
+pub mod Promises
 pub mod Laws
 pub mod NewRecords
 pub mod Sequences

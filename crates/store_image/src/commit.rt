@@ -1,11 +1,12 @@
 //! A commit of the next control.
 ghost use Rattle.std.specs.Prelude.{◌≡◌, ◌+◌, ◌-◌, ◌<◌, ◌≤◌, ◌^◌, [], ◌∷◌, IfErr, OnErr, OnOk};
-ghost use Rattle.block_disk.specs.Device.{HasCause, SameOutside};
-ghost use Rattle.block_disk.specs.Images.{ImageBut, LeavesOnly};
-ghost use Rattle.image.specs.Commit.{IsSteady, OldOrNew, OldOrTurned, slots_range, turned_sequence};
-ghost use Rattle.image.specs.Control.{AreRows, control_of};
+ghost use Rattle.block_disk.specs.Images.{LeavesOnly};
+ghost use Rattle.block_disk.specs.Since.{HasCauseSince, LeavesBut, ReadsSameBut};
+ghost use Rattle.image.specs.Commit.{OldOrNew, OldOrTurned, slots_range};
+ghost use Rattle.image.specs.Control.{AreRows};
 ghost use Rattle.image.specs.Layout.{IsLayout};
 ghost use Rattle.image.specs.Slots.{other, slot_range};
+ghost use Rattle.store_image.specs.Promises.{IsSteadyAt, committed_next, committed_turned, control_in};
 ghost use Rattle.store_image.specs.Sequences.{ShowsUpTo};
 ghost use Rattle.store_image.specs.Steps.{step_ranges};
 ghost use Rattle.store_past.specs.declared.error.StoreError.TheVariants.{Fault};
@@ -33,19 +34,23 @@ pub fn commit<D: Disk>(
 ) -> Result<(), StoreError>
     requires limits { IsLayout layout.now }
     requires rows { AreRows layout.now rows.now }
-    requires steady { IsSteady layout.now (D.device disk.old) committed.old.slot (control_of committed.old.sequence committed.old.rows) }
+    requires steady { IsSteadyAt layout.now (D.device disk.old) committed.old }
     requires sequence { committed.old.sequence < 2 ^ 64 - 1 }
-    ensures ok { OnOk result (committed.new ≡ record { slot = other committed.old.slot; sequence = committed.old.sequence + 1; rows = rows.now }) }
-    ensures steady { OnOk result (IsSteady layout.now (D.device disk.new) (other committed.old.slot) (control_of (committed.old.sequence + 1) rows.now)) }
-    ensures same { OnOk result (SameOutside (slot_range (other committed.old.slot) ∷ []) (D.device disk.old).now.bytes (D.device disk.new).now.bytes) }
+    ensures ok { OnOk result (committed.new ≡ committed_next committed.old rows.now) }
+    ensures steady { OnOk result
+        (IsSteadyAt layout.now (D.device disk.new) (committed_next committed.old rows.now)) }
+    ensures same { OnOk result (ReadsSameBut (slot_range (other committed.old.slot) ∷ [])
+        (D.device disk.old) (D.device disk.new)) }
     ensures only_fault { IfErr result (λ e. e ≡ Fault) }
     ensures err { OnErr result (committed.new ≡ committed.old) }
     ensures sequence { committed.new.sequence ≤ committed.old.sequence + 1 }
     ensures any_moment { LeavesOnly (D.device disk.old) (D.device disk.new)
-        (OldOrNew layout.now (D.device disk.old) committed.old.slot (control_of committed.old.sequence committed.old.rows) (control_of (committed.old.sequence + 1) rows.now)) }
-    ensures any_sequence { LeavesOnly (D.device disk.old) (D.device disk.new) (ShowsUpTo layout.now (committed.old.sequence + 1)) }
-    ensures within { LeavesOnly (D.device disk.old) (D.device disk.new) (ImageBut (D.device disk.old) (step_ranges layout.now)) }
-    ensures cause { HasCause (D.device disk.old).failures (D.device disk.new).failures Fault result }
+        (OldOrNew layout.now (D.device disk.old) committed.old.slot (control_in committed.old)
+        (control_in (committed_next committed.old rows.now))) }
+    ensures any_sequence { LeavesOnly (D.device disk.old) (D.device disk.new)
+        (ShowsUpTo layout.now (committed.old.sequence + 1)) }
+    ensures within { LeavesBut (step_ranges layout.now) (D.device disk.old) (D.device disk.new) }
+    ensures cause { HasCauseSince (D.device disk.old) (D.device disk.new) Fault result }
 {
     match commit_control(disk, layout, committed.slot, committed.sequence, rows) {
         Ok(slot) => {
@@ -73,21 +78,26 @@ pub fn commit_written<D: Disk>(
 ) -> Result<(), StoreError>
     requires limits { IsLayout layout.now }
     requires rows { AreRows layout.now rows.now }
-    requires steady { IsSteady layout.now (D.device disk.old) committed.old.slot (control_of committed.old.sequence committed.old.rows) }
+    requires steady { IsSteadyAt layout.now (D.device disk.old) committed.old }
     requires sequence { committed.old.sequence < 2 ^ 64 - 1 }
-    ensures ok { OnOk result (committed.new ≡ record { slot = other committed.old.slot; sequence = turned_sequence committed.old.slot committed.old.sequence (D.device disk.old).now.bytes; rows = rows.now }) }
-    ensures steady { OnOk result (IsSteady layout.now (D.device disk.new) (other committed.old.slot) (control_of (turned_sequence committed.old.slot committed.old.sequence (D.device disk.old).now.bytes) rows.now)) }
+    ensures ok { OnOk result (committed.new
+        ≡ committed_turned committed.old (D.device disk.old) rows.now) }
+    ensures steady { OnOk result
+        (IsSteadyAt layout.now (D.device disk.new)
+        (committed_turned committed.old (D.device disk.old) rows.now)) }
     ensures durable { OnOk result ((D.device disk.new).now.pending ≡ []) }
-    ensures same { OnOk result (SameOutside (slots_range ∷ []) (D.device disk.old).now.bytes (D.device disk.new).now.bytes) }
+    ensures same { OnOk result (ReadsSameBut (slots_range ∷ [])
+        (D.device disk.old) (D.device disk.new)) }
     ensures only_fault { IfErr result (λ e. e ≡ Fault) }
     ensures err { OnErr result (committed.new ≡ committed.old) }
     ensures sequence { committed.new.sequence ≤ committed.old.sequence + 1 }
     ensures any_moment { LeavesOnly (D.device disk.old) (D.device disk.new)
-        (OldOrTurned layout.now (D.device disk.old) committed.old.slot (control_of committed.old.sequence committed.old.rows)
-        (control_of (turned_sequence committed.old.slot committed.old.sequence (D.device disk.old).now.bytes) rows.now)) }
-    ensures any_sequence { LeavesOnly (D.device disk.old) (D.device disk.new) (ShowsUpTo layout.now (committed.old.sequence + 1)) }
-    ensures within { LeavesOnly (D.device disk.old) (D.device disk.new) (ImageBut (D.device disk.old) (step_ranges layout.now)) }
-    ensures cause { HasCause (D.device disk.old).failures (D.device disk.new).failures Fault result }
+        (OldOrTurned layout.now (D.device disk.old) committed.old.slot (control_in committed.old)
+        (control_in (committed_turned committed.old (D.device disk.old) rows.now))) }
+    ensures any_sequence { LeavesOnly (D.device disk.old) (D.device disk.new)
+        (ShowsUpTo layout.now (committed.old.sequence + 1)) }
+    ensures within { LeavesBut (step_ranges layout.now) (D.device disk.old) (D.device disk.new) }
+    ensures cause { HasCauseSince (D.device disk.old) (D.device disk.new) Fault result }
 {
     match commit_by_turning(disk, layout, committed.slot, committed.sequence, rows) {
         Ok((slot, sequence)) => {

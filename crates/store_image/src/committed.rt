@@ -18,7 +18,11 @@ pub struct Committed {
 impl Committed {
     /// The control of a device as recovery leaves it: nothing in any log.
     pub fn empty(slot: Slot, sequence: u64) -> Committed
-        ensures { result ≡ record { slot = slot; sequence = sequence; rows = replicate 32 empty_row } }
+        ensures { result ≡ record {
+          slot = slot;
+          sequence = sequence;
+          rows = replicate 32 empty_row;
+        } }
     {
         Committed {
             slot,

@@ -34,11 +34,17 @@ pub fn format<D: Disk>(
     ensures limits { IfOk result (λ made. AreLimits lanes capacity) }
     ensures layout { IfOk result (λ made. made.layout ≡ layout_with schema.now lanes capacity) }
     ensures control { IfOk result (λ made. (made.slot ≡ A) × (made.sequence ≡ 1)) }
-    ensures guards { IfOk result (λ made. (f : ℕ) (d : Row) → f < field_count schema.now → slice_index_or made.guards f d ≡ guard_row_of schema.now f) }
-    ensures heap { IfOk result (λ made. (f : ℕ) → f < field_count schema.now → slice_index made.heap f ≡ first_of schema.now f) }
-    ensures recovered { IfOk result (λ made. IsRecovered (D.device made.disk) made.layout made.guards made.slot made.sequence made.heap) }
-    ensures calls { IfOk result (λ made. D.device made.disk ≡ after (format_calls made.layout schema.now) (D.device disk)) }
-    ensures refused { IfErr result (λ back. RefusesFormat schema.now lanes capacity (D.device disk) (D.device back.0) back.1) }
+    ensures guards { IfOk result (λ made. (f : ℕ) (d : Row) → f < field_count schema.now
+        → slice_index_or made.guards f d ≡ guard_row_of schema.now f) }
+    ensures heap { IfOk result (λ made. (f : ℕ) → f < field_count schema.now
+        → slice_index made.heap f ≡ first_of schema.now f) }
+    ensures recovered { IfOk result
+        (λ made. IsRecovered
+        (D.device made.disk) made.layout made.guards made.slot made.sequence made.heap) }
+    ensures calls { IfOk result (λ made. D.device made.disk
+        ≡ after (format_calls made.layout schema.now) (D.device disk)) }
+    ensures refused { IfErr result
+        (λ back. RefusesFormat schema.now lanes capacity (D.device disk) (D.device back.0) back.1) }
 {
     let mut disk = disk;
     let Some(layout) = Layout::of(schema, lanes, capacity) else {
@@ -63,7 +69,8 @@ pub fn format<D: Disk>(
 // The schema's guard rows, by field.
 fn guard_rows(alloc: Global, schema: &Schema) -> Result<Vec<GuardRow>, AllocError>
     ensures size { IfOk result (λ rows. length rows.items ≡ field_count schema.now) }
-    ensures each { IfOk result (λ rows. (f : ℕ) (d : Row) → f < field_count schema.now → slice_index_or rows.items f d ≡ guard_row_of schema.now f) }
+    ensures each { IfOk result (λ rows. (f : ℕ) (d : Row) → f < field_count schema.now
+        → slice_index_or rows.items f d ≡ guard_row_of schema.now f) }
 {
     let mut rows = Vec::with_capacity(alloc, schema.fields() as usize)?;
     for field in 0..schema.fields() {
@@ -75,7 +82,8 @@ fn guard_rows(alloc: Global, schema: &Schema) -> Result<Vec<GuardRow>, AllocErro
 // The schema's first values, by field.
 fn first_values(alloc: Global, schema: &Schema) -> Result<Vec<u64>, AllocError>
     ensures size { IfOk result (λ values. length values.items ≡ field_count schema.now) }
-    ensures each { IfOk result (λ values. (f : ℕ) → f < field_count schema.now → slice_index values.items f ≡ first_of schema.now f) }
+    ensures each { IfOk result (λ values. (f : ℕ) → f < field_count schema.now
+        → slice_index values.items f ≡ first_of schema.now f) }
 {
     let mut values = Vec::with_capacity(alloc, schema.fields() as usize)?;
     for field in 0..schema.fields() {

@@ -1,17 +1,16 @@
 //! New records become durable.
-ghost use Rattle.std.specs.Prelude.{◌≡◌, ◌≢◌, ◌⊎◌, ◌↔◌, ◌+◌, ◌-◌, ◌<◌, ◌≤◌, ◌^◌, ℕ, [], IfErr, IfOk, IsErrOf, OnErr, OnOk, Ok, length};
-ghost use Rattle.block_disk.specs.Device.{HasCause};
-ghost use Rattle.block_disk.specs.Images.{Always, ImageBut, LeavesOnly};
+ghost use Rattle.std.specs.Prelude.{◌≡◌, ◌⊎◌, ◌+◌, ◌-◌, ◌<◌, ◌≤◌, ◌^◌, ℕ, IfErr, IsErrOf, OnErr, OnOk, Ok, length};
+ghost use Rattle.block_disk.specs.Images.{LeavesOnly};
+ghost use Rattle.block_disk.specs.Since.{HasCauseSince, LeavesBut};
 ghost use Rattle.heap_model.specs.Setting.{Setting};
 ghost use Rattle.image.specs.Calls.{after};
 ghost use Rattle.image.specs.Layout.{IsLayout, size_of};
 ghost use Rattle.image.specs.Rows.{IsRow};
 ghost use Rattle.undo_log.specs.Area.{HasRecords, record_ranges, record_writes};
 ghost use Rattle.undo_log.specs.StandsFor.{row_of};
-ghost use Rattle.store_image.specs.Consistent.{IsConsistent, ShowsEither};
 ghost use Rattle.store_image.specs.NewRecords.{FitsLane, HasFresh, fresh_count, fresh_ranges};
-ghost use Rattle.store_image.specs.KeptHeap.{StandsForCut};
-ghost use Rattle.store_past.specs.Past.{Past, after_log};
+ghost use Rattle.store_image.specs.Promises.{LogKeeps, LogLeaves, LogShows, Logs, LogsCount, LogsNone, LogsWorn};
+ghost use Rattle.store_past.specs.Past.{Past};
 ghost use Rattle.store_image.specs.Steps.{MayLog, step_ranges};
 ghost use Rattle.store_image.specs.Sequences.{ShowsUpTo};
 ghost use Rattle.store_past.specs.declared.error.StoreError.TheVariants.{Fault, Worn};
@@ -40,28 +39,30 @@ pub fn log_records<D: Disk, F: NewRecords>(
     syncs: Syncs,
 ) -> Result<u64, StoreError>
     requires lanes { layout.now.lanes ≤ F.lanes fresh.now }
-    requires logs { (s : Setting) × (p : Past) × MayLog layout.now s p committed.old (D.device disk.old) (F.fresh fresh.now) }
-    ensures ok { (s : Setting) (p : Past) → MayLog layout.now s p committed.old (D.device disk.old) (F.fresh fresh.now)
-        → OnOk result (IsConsistent layout.now s (after_log p) committed.new (D.device disk.new)) }
-    ensures count { (s : Setting) (p : Past) → MayLog layout.now s p committed.old (D.device disk.old) (F.fresh fresh.now)
-        → IfOk result (λ count. count ≡ length p.fresh) }
-    ensures none { (s : Setting) (p : Past) → MayLog layout.now s p committed.old (D.device disk.old) (F.fresh fresh.now)
-        → p.fresh ≡ [] → (result ≡ Ok 0) × (committed.new ≡ committed.old) × (D.device disk.new ≡ D.device disk.old) }
-    ensures worn { (s : Setting) (p : Past) → MayLog layout.now s p committed.old (D.device disk.old) (F.fresh fresh.now)
-        → IsErrOf result Worn ↔ ((committed.old.sequence ≡ 2 ^ 64 - 1) × (p.fresh ≢ [])) }
+    requires logs { (s : Setting) × (p : Past)
+        × MayLog layout.now s p committed.old (D.device disk.old) (F.fresh fresh.now) }
+    ensures ok { Logs layout.now (F.fresh fresh.now) committed.old (D.device disk.old) committed.new
+        (D.device disk.new) result }
+    ensures count { LogsCount layout.now (F.fresh fresh.now) committed.old
+        (D.device disk.old) result }
+    ensures none { LogsNone layout.now (F.fresh fresh.now) committed.old
+        (D.device disk.old) committed.new (D.device disk.new) result }
+    ensures worn { LogsWorn layout.now (F.fresh fresh.now) committed.old
+        (D.device disk.old) result }
     ensures no_call { IsErrOf result Worn → disk.new ≡ disk.old }
     ensures no_other { IfErr result (λ e. (e ≡ Worn) ⊎ (e ≡ Fault)) }
     ensures err { OnErr result (committed.new ≡ committed.old) }
     ensures sequence { committed.new.sequence ≤ committed.old.sequence + 1 }
-    ensures any_moment { (s : Setting) (p : Past) → MayLog layout.now s p committed.old (D.device disk.old) (F.fresh fresh.now)
-        → LeavesOnly (D.device disk.old) (D.device disk.new) (StandsForCut layout.now s p.logged p.cut) }
-    ensures shown { (s : Setting) (p : Past) → MayLog layout.now s p committed.old (D.device disk.old) (F.fresh fresh.now)
-        → LeavesOnly (D.device disk.old) (D.device disk.new) (ShowsEither layout.now s p (after_log p)) }
-    ensures any_sequence { LeavesOnly (D.device disk.old) (D.device disk.new) (ShowsUpTo layout.now (committed.old.sequence + 1)) }
-    ensures within { LeavesOnly (D.device disk.old) (D.device disk.new) (ImageBut (D.device disk.old) (step_ranges layout.now)) }
-    ensures crash { (s : Setting) (p : Past) → MayLog layout.now s p committed.old (D.device disk.old) (F.fresh fresh.now)
-        → Always (D.device disk.new) (StandsForCut layout.now s p.logged p.cut) }
-    ensures cause { HasCause (D.device disk.old).failures (D.device disk.new).failures Fault result }
+    ensures any_moment { LogLeaves layout.now (F.fresh fresh.now) committed.old
+        (D.device disk.old) (D.device disk.new) }
+    ensures shown { LogShows layout.now (F.fresh fresh.now) committed.old
+        (D.device disk.old) (D.device disk.new) }
+    ensures any_sequence { LeavesOnly (D.device disk.old) (D.device disk.new)
+        (ShowsUpTo layout.now (committed.old.sequence + 1)) }
+    ensures within { LeavesBut (step_ranges layout.now) (D.device disk.old) (D.device disk.new) }
+    ensures crash { LogKeeps layout.now (F.fresh fresh.now) committed.old
+        (D.device disk.old) (D.device disk.new) }
+    ensures cause { HasCauseSince (D.device disk.old) (D.device disk.new) Fault result }
 {
     let count = count_fresh(layout.lanes, fresh);
     if count == 0 {
@@ -97,19 +98,21 @@ fn log_all<D: Disk, F: NewRecords>(
 ) -> Result<(), StoreError>
     requires lanes { layout.now.lanes ≤ F.lanes fresh.now }
     requires sequence { committed.old.sequence < 2 ^ 64 - 1 }
-    requires logs { (s : Setting) × (p : Past) × MayLog layout.now s p committed.old (D.device disk.old) (F.fresh fresh.now) }
-    ensures ok { (s : Setting) (p : Past) → MayLog layout.now s p committed.old (D.device disk.old) (F.fresh fresh.now)
-        → OnOk result (IsConsistent layout.now s (after_log p) committed.new (D.device disk.new)) }
+    requires logs { (s : Setting) × (p : Past)
+        × MayLog layout.now s p committed.old (D.device disk.old) (F.fresh fresh.now) }
+    ensures ok { Logs layout.now (F.fresh fresh.now) committed.old (D.device disk.old) committed.new
+        (D.device disk.new) result }
     ensures only_fault { IfErr result (λ e. e ≡ Fault) }
     ensures err { OnErr result (committed.new ≡ committed.old) }
     ensures sequence { committed.new.sequence ≤ committed.old.sequence + 1 }
-    ensures any_moment { (s : Setting) (p : Past) → MayLog layout.now s p committed.old (D.device disk.old) (F.fresh fresh.now)
-        → LeavesOnly (D.device disk.old) (D.device disk.new) (StandsForCut layout.now s p.logged p.cut) }
-    ensures shown { (s : Setting) (p : Past) → MayLog layout.now s p committed.old (D.device disk.old) (F.fresh fresh.now)
-        → LeavesOnly (D.device disk.old) (D.device disk.new) (ShowsEither layout.now s p (after_log p)) }
-    ensures any_sequence { LeavesOnly (D.device disk.old) (D.device disk.new) (ShowsUpTo layout.now (committed.old.sequence + 1)) }
-    ensures within { LeavesOnly (D.device disk.old) (D.device disk.new) (ImageBut (D.device disk.old) (step_ranges layout.now)) }
-    ensures cause { HasCause (D.device disk.old).failures (D.device disk.new).failures Fault result }
+    ensures any_moment { LogLeaves layout.now (F.fresh fresh.now) committed.old
+        (D.device disk.old) (D.device disk.new) }
+    ensures shown { LogShows layout.now (F.fresh fresh.now) committed.old
+        (D.device disk.old) (D.device disk.new) }
+    ensures any_sequence { LeavesOnly (D.device disk.old) (D.device disk.new)
+        (ShowsUpTo layout.now (committed.old.sequence + 1)) }
+    ensures within { LeavesBut (step_ranges layout.now) (D.device disk.old) (D.device disk.new) }
+    ensures cause { HasCauseSince (D.device disk.old) (D.device disk.new) Fault result }
 {
     append_lanes(disk, layout, &committed.rows, fresh)?;
     let rows = logged_rows(layout.lanes, &committed.rows, fresh);
@@ -133,12 +136,17 @@ fn append_lanes<D: Disk, F: NewRecords>(
     requires limits { IsLayout layout.now }
     requires room { size_of layout.now ≤ length (D.device disk.old).now.bytes }
     requires lanes { layout.now.lanes ≤ F.lanes fresh.now }
-    requires rows { (lane : ℕ) → lane < layout.now.lanes → IsRow layout.now.capacity (row_of rows.now lane) }
-    requires fits { (lane : ℕ) → lane < layout.now.lanes → FitsLane layout.now (row_of rows.now lane) (F.fresh fresh.now lane) }
-    ensures ok { OnOk result (HasFresh layout.now rows.now (F.fresh fresh.now) layout.now.lanes (D.device disk.old).now.bytes (D.device disk.new).now.bytes) }
+    requires rows { (lane : ℕ) → lane < layout.now.lanes
+        → IsRow layout.now.capacity (row_of rows.now lane) }
+    requires fits { (lane : ℕ) → lane < layout.now.lanes
+        → FitsLane layout.now (row_of rows.now lane) (F.fresh fresh.now lane) }
+    ensures ok { OnOk result (HasFresh layout.now rows.now (F.fresh fresh.now) layout.now.lanes
+        (D.device disk.old).now.bytes (D.device disk.new).now.bytes) }
     ensures only_fault { IfErr result (λ e. e ≡ Fault) }
-    ensures any_moment { LeavesOnly (D.device disk.old) (D.device disk.new) (ImageBut (D.device disk.old) (fresh_ranges layout.now rows.now (F.fresh fresh.now) layout.now.lanes)) }
-    ensures cause { HasCause (D.device disk.old).failures (D.device disk.new).failures Fault result }
+    ensures any_moment { LeavesBut
+        (fresh_ranges layout.now rows.now (F.fresh fresh.now) layout.now.lanes)
+        (D.device disk.old) (D.device disk.new) }
+    ensures cause { HasCauseSince (D.device disk.old) (D.device disk.new) Fault result }
 {
     for lane in 0..layout.lanes {
         append_lane(
@@ -165,11 +173,16 @@ fn append_lane<D: Disk>(
     requires lane { lane.0 < layout.now.lanes }
     requires row { IsRow layout.now.capacity row.now }
     requires fits { FitsLane layout.now row.now records.now }
-    ensures written { OnOk result (D.device disk.new ≡ after (record_writes layout.now lane.0 row.now.logged records.now) (D.device disk.old)) }
-    ensures ok { OnOk result (HasRecords layout.now lane.0 row.now.logged (D.device disk.new).now.bytes records.now) }
+    ensures written { OnOk result
+        (D.device disk.new ≡ after (record_writes layout.now lane.0 row.now.logged records.now)
+        (D.device disk.old)) }
+    ensures ok { OnOk result (HasRecords layout.now lane.0 row.now.logged
+        (D.device disk.new).now.bytes records.now) }
     ensures only_fault { IfErr result (λ e. e ≡ Fault) }
-    ensures any_moment { LeavesOnly (D.device disk.old) (D.device disk.new) (ImageBut (D.device disk.old) (record_ranges layout.now lane.0 row.now.logged (length records.now))) }
-    ensures cause { HasCause (D.device disk.old).failures (D.device disk.new).failures Fault result }
+    ensures any_moment { LeavesBut
+        (record_ranges layout.now lane.0 row.now.logged (length records.now))
+        (D.device disk.old) (D.device disk.new) }
+    ensures cause { HasCauseSince (D.device disk.old) (D.device disk.new) Fault result }
 {
     match append(disk, layout, lane, row, records) {
         Ok(()) => Ok(()),
@@ -181,8 +194,14 @@ fn append_lane<D: Disk>(
 fn logged_rows<F: NewRecords>(lanes: u8, rows: &[LaneRow; 32], fresh: &F) -> [LaneRow; 32]
     requires few { lanes ≤ 32 }
     requires lanes { lanes ≤ F.lanes fresh.now }
-    requires limit { (lane : ℕ) → lane < lanes → (row_of rows.now lane).logged + length (F.fresh fresh.now lane) ≤ 2 ^ 63 }
-    ensures lanes { (lane : ℕ) → lane < lanes → row_of result lane ≡ record (row_of rows.now lane) { logged = (row_of rows.now lane).logged + length (F.fresh fresh.now lane) } }
+    requires limit { (lane : ℕ) → lane < lanes
+        → (row_of rows.now lane).logged + length (F.fresh fresh.now lane) ≤ 2 ^ 63 }
+    ensures lanes { (lane : ℕ) → lane < lanes
+        → row_of result lane
+        ≡ record (row_of rows.now lane) {
+          logged = (row_of rows.now lane).logged + length
+              (F.fresh fresh.now lane);
+        } }
     ensures rest { (lane : ℕ) → lanes ≤ lane → row_of result lane ≡ row_of rows.now lane }
     ensures size { length result ≡ length rows.now }
 {

@@ -1,7 +1,7 @@
 //! A sync with this crate's refusal.
 ghost use Rattle.std.specs.Prelude.{◌≡◌, [], IfErr, OnOk};
-ghost use Rattle.block_disk.specs.Device.{HasCause, synced};
-ghost use Rattle.block_disk.specs.Images.{ImageBut, LeavesOnly};
+ghost use Rattle.block_disk.specs.Device.{synced};
+ghost use Rattle.block_disk.specs.Since.{HasCauseSince, LeavesBut};
 ghost use Rattle.store_past.specs.declared.error.StoreError.TheVariants.{Fault};
 
 use block_disk::{Disk, make_durable};
@@ -11,8 +11,8 @@ use store_past::StoreError;
 pub fn sync<D: Disk>(disk: &mut D) -> Result<(), StoreError>
     ensures ok { OnOk result (D.device disk.new ≡ synced (D.device disk.old)) }
     ensures only_fault { IfErr result (λ e. e ≡ Fault) }
-    ensures any_moment { LeavesOnly (D.device disk.old) (D.device disk.new) (ImageBut (D.device disk.old) []) }
-    ensures cause { HasCause (D.device disk.old).failures (D.device disk.new).failures Fault result }
+    ensures any_moment { LeavesBut [] (D.device disk.old) (D.device disk.new) }
+    ensures cause { HasCauseSince (D.device disk.old) (D.device disk.new) Fault result }
 {
     match make_durable(disk) {
         Ok(()) => Ok(()),

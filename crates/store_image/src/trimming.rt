@@ -1,13 +1,14 @@
 //! What is acknowledged is no longer needed of the undo logs.
-ghost use Rattle.std.specs.Prelude.{◌≡◌, ◌⊎◌, ◌↔◌, ◌+◌, ◌-◌, ◌<◌, ◌≤◌, ◌^◌, ℕ, IfErr, IsErrOf, IsTrue, OnErr, OnOk, length};
-ghost use Rattle.block_disk.specs.Device.{Device, HasCause};
-ghost use Rattle.block_disk.specs.Images.{Always, ImageBut, LeavesOnly};
+ghost use Rattle.std.specs.Prelude.{◌≡◌, ◌⊎◌, ◌↔◌, ◌+◌, ◌-◌, ◌<◌, ◌≤◌, ◌^◌, ℕ, IfErr, IsErrOf, IsTrue, OnErr, length};
+ghost use Rattle.block_disk.specs.Device.{Device};
+ghost use Rattle.block_disk.specs.Images.{LeavesOnly};
+ghost use Rattle.block_disk.specs.Since.{HasCauseSince, LeavesBut};
 ghost use Rattle.heap_model.specs.Setting.{Setting};
 ghost use Rattle.image.specs.declared.layout.Layout.{Layout as Shape};
 ghost use Rattle.undo_log.specs.StandsFor.{row_of};
-ghost use Rattle.store_image.specs.Consistent.{IsConsistent, ShowsEither};
-ghost use Rattle.store_image.specs.KeptHeap.{StandsForCut};
-ghost use Rattle.store_past.specs.Past.{Past, IsTrimmed, after_trim};
+ghost use Rattle.store_image.specs.Consistent.{IsConsistent};
+ghost use Rattle.store_image.specs.Promises.{TrimKeeps, TrimLeaves, TrimShows, Trims};
+ghost use Rattle.store_past.specs.Past.{Past, IsTrimmed};
 ghost use Rattle.store_image.specs.Sequences.{ShowsUpTo};
 ghost use Rattle.store_image.specs.Steps.{step_ranges};
 ghost use Rattle.store_past.specs.declared.error.StoreError.TheVariants.{Fault, Worn};
@@ -20,14 +21,16 @@ use store_past::StoreError;
 
 /// Whether all that is acknowledged was trimmed: then a trim has nothing to move.
 pub fn is_trimmed(committed: &Committed) -> bool
-    ensures { (l : Shape) (s : Setting) (p : Past) (d : Device) → IsConsistent l s p committed.now d → (IsTrue result ↔ IsTrimmed p) }
+    ensures { (l : Shape) (s : Setting) (p : Past) (d : Device) → IsConsistent l s p committed.now d
+        → (IsTrue result ↔ IsTrimmed p) }
 {
     start_settled(&committed.rows)
 }
 
 // Whether each lane starts behind its settled records.
 fn start_settled(rows: &[LaneRow; 32]) -> bool
-    ensures { IsTrue result ↔ ((lane : ℕ) → lane < 32 → (row_of rows.now lane).start ≡ (row_of rows.now lane).settled) }
+    ensures { IsTrue result ↔ ((lane : ℕ) → lane < 32
+        → (row_of rows.now lane).start ≡ (row_of rows.now lane).settled) }
 {
     for lane in 0..32 {
         if rows[lane].start != rows[lane].settled {
@@ -48,23 +51,23 @@ pub fn trim<D: Disk>(
     layout: &Layout,
     committed: &mut Committed,
 ) -> Result<(), StoreError>
-    requires trims { (s : Setting) × (p : Past) × IsConsistent layout.now s p committed.old (D.device disk.old) }
-    ensures ok { (s : Setting) (p : Past) → IsConsistent layout.now s p committed.old (D.device disk.old)
-        → OnOk result (IsConsistent layout.now s (after_trim p) committed.new (D.device disk.new)) }
+    requires trims { (s : Setting) × (p : Past)
+        × IsConsistent layout.now s p committed.old (D.device disk.old) }
+    ensures ok { Trims layout.now committed.old (D.device disk.old) committed.new
+        (D.device disk.new) result }
     ensures worn { IsErrOf result Worn ↔ (committed.old.sequence ≡ 2 ^ 64 - 1) }
     ensures no_call { IsErrOf result Worn → disk.new ≡ disk.old }
     ensures no_other { IfErr result (λ e. (e ≡ Worn) ⊎ (e ≡ Fault)) }
     ensures err { OnErr result (committed.new ≡ committed.old) }
     ensures sequence { committed.new.sequence ≤ committed.old.sequence + 1 }
-    ensures any_moment { (s : Setting) (p : Past) → IsConsistent layout.now s p committed.old (D.device disk.old)
-        → LeavesOnly (D.device disk.old) (D.device disk.new) (StandsForCut layout.now s p.logged p.cut) }
-    ensures shown { (s : Setting) (p : Past) → IsConsistent layout.now s p committed.old (D.device disk.old)
-        → LeavesOnly (D.device disk.old) (D.device disk.new) (ShowsEither layout.now s p (after_trim p)) }
-    ensures any_sequence { LeavesOnly (D.device disk.old) (D.device disk.new) (ShowsUpTo layout.now (committed.old.sequence + 1)) }
-    ensures within { LeavesOnly (D.device disk.old) (D.device disk.new) (ImageBut (D.device disk.old) (step_ranges layout.now)) }
-    ensures crash { (s : Setting) (p : Past) → IsConsistent layout.now s p committed.old (D.device disk.old)
-        → Always (D.device disk.new) (StandsForCut layout.now s p.logged p.cut) }
-    ensures cause { HasCause (D.device disk.old).failures (D.device disk.new).failures Fault result }
+    ensures any_moment { TrimLeaves layout.now committed.old
+        (D.device disk.old) (D.device disk.new) }
+    ensures shown { TrimShows layout.now committed.old (D.device disk.old) (D.device disk.new) }
+    ensures any_sequence { LeavesOnly (D.device disk.old) (D.device disk.new)
+        (ShowsUpTo layout.now (committed.old.sequence + 1)) }
+    ensures within { LeavesBut (step_ranges layout.now) (D.device disk.old) (D.device disk.new) }
+    ensures crash { TrimKeeps layout.now committed.old (D.device disk.old) (D.device disk.new) }
+    ensures cause { HasCauseSince (D.device disk.old) (D.device disk.new) Fault result }
 {
     if committed.sequence == u64::MAX {
         return Err(StoreError::Worn);
@@ -76,7 +79,9 @@ pub fn trim<D: Disk>(
 /// The rows with each lane's start behind its settled records.
 pub(crate) fn trimmed_rows(lanes: u8, rows: &[LaneRow; 32]) -> [LaneRow; 32]
     requires { lanes ≤ 32 }
-    ensures lanes { (lane : ℕ) → lane < lanes → row_of result lane ≡ record (row_of rows.now lane) { start = (row_of rows.now lane).settled } }
+    ensures lanes { (lane : ℕ) → lane < lanes
+        → row_of result lane
+        ≡ record (row_of rows.now lane) { start = (row_of rows.now lane).settled } }
     ensures rest { (lane : ℕ) → lanes ≤ lane → row_of result lane ≡ row_of rows.now lane }
     ensures size { length result ≡ length rows.now }
 {

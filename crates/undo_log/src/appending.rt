@@ -1,7 +1,6 @@
 //! Records written behind the last of their lane.
 ghost use Rattle.std.specs.Prelude.{◌≡◌, ◌⊎◌, ◌↔◌, ◌+◌, ◌-◌, ◌*◌, ◌%◌, ◌<◌, ◌≤◌, ◌^◌, length, All, IfErr, IsErrOf, OnOk};
-ghost use Rattle.block_disk.specs.Device.{HasCause};
-ghost use Rattle.block_disk.specs.Images.{Always, ImageBut, LeavesOnly};
+ghost use Rattle.block_disk.specs.Since.{AlwaysBut, HasCauseSince, LeavesBut};
 ghost use Rattle.image.specs.Calls.{after};
 ghost use Rattle.image.specs.Layout.{IsLayout, size_of};
 ghost use Rattle.image.specs.Rows.{IsRow};
@@ -38,14 +37,21 @@ pub fn append<D: Disk>(
     requires lane { lane.0 < layout.now.lanes }
     requires row { IsRow layout.now.capacity row.now }
     requires records { All (IsLoggable layout.now) records.now }
-    ensures written { OnOk result (D.device disk.new ≡ after (record_writes layout.now lane.0 row.now.logged records.now) (D.device disk.old)) }
-    ensures ok { OnOk result (HasRecords layout.now lane.0 row.now.logged (D.device disk.new).now.bytes records.now) }
-    ensures log_full { IsErrOf result (LogFull lane) ↔ (layout.now.capacity < row.now.logged - row.now.start + length records.now) }
+    ensures written { OnOk result
+        (D.device disk.new ≡ after (record_writes layout.now lane.0 row.now.logged records.now)
+        (D.device disk.old)) }
+    ensures ok { OnOk result (HasRecords layout.now lane.0 row.now.logged
+        (D.device disk.new).now.bytes records.now) }
+    ensures log_full { IsErrOf result (LogFull lane)
+        ↔ (layout.now.capacity < row.now.logged - row.now.start + length records.now) }
     ensures no_call { IsErrOf result (LogFull lane) → D.device disk.new ≡ D.device disk.old }
     ensures no_other { IfErr result (λ e. (e ≡ Fault) ⊎ (e ≡ LogFull lane)) }
-    ensures crash { Always (D.device disk.new) (ImageBut (D.device disk.old) (record_ranges layout.now lane.0 row.now.logged (length records.now))) }
-    ensures any_moment { LeavesOnly (D.device disk.old) (D.device disk.new) (ImageBut (D.device disk.old) (record_ranges layout.now lane.0 row.now.logged (length records.now))) }
-    ensures cause { HasCause (D.device disk.old).failures (D.device disk.new).failures Fault result }
+    ensures crash { AlwaysBut (record_ranges layout.now lane.0 row.now.logged (length records.now))
+        (D.device disk.old) (D.device disk.new) }
+    ensures any_moment { LeavesBut
+        (record_ranges layout.now lane.0 row.now.logged (length records.now))
+        (D.device disk.old) (D.device disk.new) }
+    ensures cause { HasCauseSince (D.device disk.old) (D.device disk.new) Fault result }
 {
     let room = u64::from(layout.capacity) - (row.logged - row.start);
     if room < records.len() as u64 {
@@ -68,12 +74,17 @@ fn write_records<D: Disk>(
     requires place { place ≤ 2 ^ 63 }
     requires few { length records.now ≤ layout.now.capacity }
     requires records { All (IsLoggable layout.now) records.now }
-    ensures written { OnOk result (D.device disk.new ≡ after (record_writes layout.now lane.0 place records.now) (D.device disk.old)) }
-    ensures ok { OnOk result (HasRecords layout.now lane.0 place (D.device disk.new).now.bytes records.now) }
+    ensures written { OnOk result
+        (D.device disk.new ≡ after (record_writes layout.now lane.0 place records.now)
+        (D.device disk.old)) }
+    ensures ok { OnOk result (HasRecords layout.now lane.0 place
+        (D.device disk.new).now.bytes records.now) }
     ensures only_fault { IfErr result (λ e. e ≡ Fault) }
-    ensures crash { Always (D.device disk.new) (ImageBut (D.device disk.old) (record_ranges layout.now lane.0 place (length records.now))) }
-    ensures any_moment { LeavesOnly (D.device disk.old) (D.device disk.new) (ImageBut (D.device disk.old) (record_ranges layout.now lane.0 place (length records.now))) }
-    ensures cause { HasCause (D.device disk.old).failures (D.device disk.new).failures Fault result }
+    ensures crash { AlwaysBut (record_ranges layout.now lane.0 place (length records.now))
+        (D.device disk.old) (D.device disk.new) }
+    ensures any_moment { LeavesBut (record_ranges layout.now lane.0 place (length records.now))
+        (D.device disk.old) (D.device disk.new) }
+    ensures cause { HasCauseSince (D.device disk.old) (D.device disk.new) Fault result }
 {
     let _size = layout.size();
     // One for all runs: each begins by filling it anew.
@@ -125,10 +136,13 @@ fn write_run<D: Disk>(
     requires some { 0 < length run.now }
     requires block { length run.now ≤ 64 }
     requires in_area { place % layout.now.capacity + length run.now ≤ layout.now.capacity }
-    ensures written { OnOk result (D.device disk.new ≡ after (record_writes layout.now lane.0 place run.now) (D.device disk.old)) }
+    ensures written { OnOk result
+        (D.device disk.new ≡ after (record_writes layout.now lane.0 place run.now)
+        (D.device disk.old)) }
     ensures only_fault { IfErr result (λ e. e ≡ Fault) }
-    ensures any_moment { LeavesOnly (D.device disk.old) (D.device disk.new) (ImageBut (D.device disk.old) (record_ranges layout.now lane.0 place (length run.now))) }
-    ensures cause { HasCause (D.device disk.old).failures (D.device disk.new).failures Fault result }
+    ensures any_moment { LeavesBut (record_ranges layout.now lane.0 place (length run.now))
+        (D.device disk.old) (D.device disk.new) }
+    ensures cause { HasCauseSince (D.device disk.old) (D.device disk.new) Fault result }
 {
     let bytes = &mut bytes[..RECORD_BYTES * run.len()];
     encode_run(run, bytes);

@@ -1,6 +1,7 @@
 //! A lane's records, read back in runs.
 ghost use Rattle.std.specs.Prelude.{◌≡◌, ◌↔◌, ◌+◌, ◌++◌, ◌*◌, ◌%◌, ◌<◌, ◌≤◌, IfErr, IfOk, IsTrue, MatchResult, OnOk, Some, length, take, vec_capacity, vec_len, min, ◌-◌};
-ghost use Rattle.block_disk.specs.Device.{HasCause, SameMoments};
+ghost use Rattle.block_disk.specs.Device.{SameMoments};
+ghost use Rattle.block_disk.specs.Since.{HasCauseSince};
 ghost use Rattle.heap_model.specs.declared.record.UndoRecord.{UndoRecord as AnyRecord};
 ghost use Rattle.image.specs.Layout.{IsLayout, size_of};
 ghost use Rattle.undo_log.specs.Area.{IsOfImage, SpellsIn, HasRecords, HasSpan, RefusesRead};
@@ -40,9 +41,11 @@ pub fn read<D: Disk>(
     requires lane { lane.0 < layout.now.lanes }
     requires order { from ≤ to }
     requires few { to ≤ from + layout.now.capacity }
-    ensures exact { MatchResult result (λ records. HasSpan layout.now lane.0 from to (D.device disk.old).now.bytes records.items) (RefusesRead layout.now lane from to (D.device disk.old).now.bytes) }
+    ensures exact { MatchResult result
+        (λ records. HasSpan layout.now lane.0 from to (D.device disk.old).now.bytes records.items)
+        (RefusesRead layout.now lane from to (D.device disk.old).now.bytes) }
     ensures same { SameMoments (D.device disk.old) (D.device disk.new) }
-    ensures cause { HasCause (D.device disk.old).failures (D.device disk.new).failures Fault result }
+    ensures cause { HasCauseSince (D.device disk.old) (D.device disk.new) Fault result }
 {
     let count = (to - from) as usize;
     let Ok(mut records) = Vec::with_capacity(alloc, count) else {
@@ -89,9 +92,10 @@ fn check_records<D: Disk>(
     requires lane { lane.0 < layout.now.lanes }
     requires order { from ≤ to }
     ensures ok { OnOk result (IsFull layout.now lane.0 from to (D.device disk.old).now.bytes) }
-    ensures refused { IfErr result (RefusesRead layout.now lane from to (D.device disk.old).now.bytes) }
+    ensures refused { IfErr result
+        (RefusesRead layout.now lane from to (D.device disk.old).now.bytes) }
     ensures same { SameMoments (D.device disk.old) (D.device disk.new) }
-    ensures cause { HasCause (D.device disk.old).failures (D.device disk.new).failures Fault result }
+    ensures cause { HasCauseSince (D.device disk.old) (D.device disk.new) Fault result }
 {
     let mut run = [NOTHING; RUN_RECORDS];
     let mut place = from;
@@ -115,10 +119,12 @@ fn read_run<D: Disk>(
     requires lane { lane.0 < layout.now.lanes }
     requires order { place < to }
     ensures some { IfOk result (λ count. (0 < count) × (count ≤ 256) × (place + count ≤ to)) }
-    ensures ok { IfOk result (λ count. HasRecords layout.now lane.0 place (D.device disk.old).now.bytes (take count run.new)) }
-    ensures refused { IfErr result (RefusesRead layout.now lane place to (D.device disk.old).now.bytes) }
+    ensures ok { IfOk result (λ count. HasRecords layout.now lane.0 place
+        (D.device disk.old).now.bytes (take count run.new)) }
+    ensures refused { IfErr result
+        (RefusesRead layout.now lane place to (D.device disk.old).now.bytes) }
     ensures same { SameMoments (D.device disk.old) (D.device disk.new) }
-    ensures cause { HasCause (D.device disk.old).failures (D.device disk.new).failures Fault result }
+    ensures cause { HasCauseSince (D.device disk.old) (D.device disk.new) Fault result }
 {
     let count = run_length(layout, place, to);
     let records = &mut run[..count];
@@ -138,7 +144,8 @@ fn read_run<D: Disk>(
 fn run_length(layout: &Layout, place: u64, to: u64) -> usize
     requires limits { IsLayout layout.now }
     requires order { place < to }
-    ensures longest { result ≡ min (min 256 (to - place)) (layout.now.capacity - place % layout.now.capacity) }
+    ensures longest { result ≡ min (min 256 (to - place))
+        (layout.now.capacity - place % layout.now.capacity) }
     ensures some { 0 < result }
     ensures block { result ≤ 256 }
     ensures within { place + result ≤ to }

@@ -1,15 +1,24 @@
-use Rattle.std.proofs.Common.{arith}
+use Rattle.std.proofs.Common.{arith, rules}
 use Rattle.block_disk.proofs.Images.{stays}
 use Rattle.image.specs.Commit.{OldOrTurned, turned_sequence}
 use Rattle.image.specs.Control.{control_of}
 use Rattle.image.proofs.EitherGates.{closes_calls, closes_leaves, closes_made, closes_steady, found_open, found_shut, found_stands, opens_calls, opens_leaves, opens_made, opens_steady, rewrites_calls, rewrites_leaves, rewrites_made, rewrites_steady, spare_found, steady_found}
+use Rattle.image.proofs.Committed.{commits, turned_starts}
 use Rattle.image.proofs.either_gate.commit_by_turning.Goals as goal
 
-pub returns-in_err-spare-clause-any_moment : goal.returns-in_err-spare-clause-any_moment
-returns-in_err-spare-clause-any_moment g c = λ old steady is.
+pub returns-in_err-spare-clause-commits : goal.returns-in_err-spare-clause-commits
+returns-in_err-spare-clause-commits g c =
+    commits turned_starts
+    (search rules)
+    (search rules)
+    (search rules)
+    (
+    λ old steady is.
     stays (g.D.Disk.device c.args.disk.now) (g.D.Disk.device c.read_head.new.disk)
     (OldOrTurned c.args.layout.now (g.D.Disk.device c.args.disk.now) c.args.chosen old (control_of (turned_sequence c.args.chosen c.args.sequence (g.D.Disk.device c.args.disk.now).now.bytes) c.args.rows.now))
     c.read_head.ensures.same
+    )
+    (search rules)
 
 pub close_chosen-requires-clause-open : goal.close_chosen-requires-clause-open
 close_chosen-requires-clause-open g c =
@@ -70,30 +79,34 @@ returns-then-spare-gt0-clause-made g c =
     let f = spare_found d d1 c.args.chosen c.other.result h c.other.ensures c.in_ok-spare.ensures.untouched c.in_ok-spare.ensures.ok in
     closes_made c.args.layout.now d d1 (g.D.Disk.device c.close_chosen.new.disk) c.args.chosen c.args.sequence c.args.rows.now h f c.close_chosen.result c.if-spare.true c.if-spare-gt0.true c.close_chosen.ensures.made
 
-pub returns-then-spare-gt0-clause-ok : goal.returns-then-spare-gt0-clause-ok
-returns-then-spare-gt0-clause-ok g c =
+pub returns-then-spare-gt0-clause-commits : goal.returns-then-spare-gt0-clause-commits
+returns-then-spare-gt0-clause-commits g c =
+    commits turned_starts
+    (
     let d = g.D.Disk.device c.args.disk.now in
     let d1 = g.D.Disk.device c.read_head.new.disk in
     let h = c.in_ok-spare.spare in
     let f = spare_found d d1 c.args.chosen c.other.result h c.other.ensures c.in_ok-spare.ensures.untouched c.in_ok-spare.ensures.ok in
-    closes_steady c.args.layout.now d d1 (g.D.Disk.device c.close_chosen.new.disk) c.args.chosen c.args.sequence c.args.rows.now h f c.close_chosen.result c.if-spare.true c.if-spare-gt0.true c.close_chosen.ensures.ok
-
-pub returns-then-spare-gt0-clause-calls : goal.returns-then-spare-gt0-clause-calls
-returns-then-spare-gt0-clause-calls g c =
+    closes_steady c.args.layout.now d d1 (g.D.Disk.device c.close_chosen.new.disk) c.args.chosen c.args.sequence c.args.rows.now h f c.close_chosen.result c.if-spare.true c.if-spare-gt0.true c.close_chosen.ensures.commits.ok
+    )
+    (search rules)
+    (
     let d = g.D.Disk.device c.args.disk.now in
     let d1 = g.D.Disk.device c.read_head.new.disk in
     let h = c.in_ok-spare.spare in
     let f = spare_found d d1 c.args.chosen c.other.result h c.other.ensures c.in_ok-spare.ensures.untouched c.in_ok-spare.ensures.ok in
-    closes_calls c.args.layout.now d d1 (g.D.Disk.device c.close_chosen.new.disk) c.args.chosen c.args.sequence c.args.rows.now h f c.close_chosen.result c.if-spare.true c.if-spare-gt0.true c.close_chosen.ensures.calls
-
-pub returns-then-spare-gt0-clause-any_moment : goal.returns-then-spare-gt0-clause-any_moment
-returns-then-spare-gt0-clause-any_moment g c = λ old steady same.
+    closes_calls c.args.layout.now d d1 (g.D.Disk.device c.close_chosen.new.disk) c.args.chosen c.args.sequence c.args.rows.now h f c.close_chosen.result c.if-spare.true c.if-spare-gt0.true c.close_chosen.ensures.commits.calls
+    )
+    (
+    λ old steady same.
     let d = g.D.Disk.device c.args.disk.now in
     let d1 = g.D.Disk.device c.read_head.new.disk in
     let h = c.in_ok-spare.spare in
     let f = spare_found d d1 c.args.chosen c.other.result h c.other.ensures c.in_ok-spare.ensures.untouched c.in_ok-spare.ensures.ok in
     closes_leaves c.args.layout.now d d1 (g.D.Disk.device c.close_chosen.new.disk) c.args.chosen c.args.sequence c.args.rows.now h f c.close_chosen.result c.if-spare.true c.if-spare-gt0.true old
-    (c.close_chosen.ensures.any_moment old (steady_found c.args.layout.now d d1 c.args.chosen h old f steady))
+    (c.close_chosen.ensures.commits.any_moment old (steady_found c.args.layout.now d d1 c.args.chosen h old f steady) tt)
+    )
+    (search rules)
 
 pub returns-then-spare-clause-made : goal.returns-then-spare-clause-made
 returns-then-spare-clause-made g c =
@@ -103,30 +116,34 @@ returns-then-spare-clause-made g c =
     let f = spare_found d d1 c.args.chosen c.other.result h c.other.ensures c.in_ok-spare.ensures.untouched c.in_ok-spare.ensures.ok in
     rewrites_made c.args.layout.now d d1 (g.D.Disk.device c.rewrite_spare.new.disk) c.args.chosen c.args.sequence c.args.rows.now h f c.rewrite_spare.result c.if-spare.true c.if-spare-gt0.false c.rewrite_spare.ensures.made
 
-pub returns-then-spare-clause-ok : goal.returns-then-spare-clause-ok
-returns-then-spare-clause-ok g c =
+pub returns-then-spare-clause-commits : goal.returns-then-spare-clause-commits
+returns-then-spare-clause-commits g c =
+    commits turned_starts
+    (
     let d = g.D.Disk.device c.args.disk.now in
     let d1 = g.D.Disk.device c.read_head.new.disk in
     let h = c.in_ok-spare.spare in
     let f = spare_found d d1 c.args.chosen c.other.result h c.other.ensures c.in_ok-spare.ensures.untouched c.in_ok-spare.ensures.ok in
-    rewrites_steady c.args.layout.now d d1 (g.D.Disk.device c.rewrite_spare.new.disk) c.args.chosen c.args.sequence c.args.rows.now h f c.rewrite_spare.result c.if-spare.true c.if-spare-gt0.false c.rewrite_spare.ensures.ok
-
-pub returns-then-spare-clause-calls : goal.returns-then-spare-clause-calls
-returns-then-spare-clause-calls g c =
+    rewrites_steady c.args.layout.now d d1 (g.D.Disk.device c.rewrite_spare.new.disk) c.args.chosen c.args.sequence c.args.rows.now h f c.rewrite_spare.result c.if-spare.true c.if-spare-gt0.false c.rewrite_spare.ensures.commits.ok
+    )
+    (search rules)
+    (
     let d = g.D.Disk.device c.args.disk.now in
     let d1 = g.D.Disk.device c.read_head.new.disk in
     let h = c.in_ok-spare.spare in
     let f = spare_found d d1 c.args.chosen c.other.result h c.other.ensures c.in_ok-spare.ensures.untouched c.in_ok-spare.ensures.ok in
-    rewrites_calls c.args.layout.now d d1 (g.D.Disk.device c.rewrite_spare.new.disk) c.args.chosen c.args.sequence c.args.rows.now h f c.rewrite_spare.result c.if-spare.true c.if-spare-gt0.false c.rewrite_spare.ensures.calls
-
-pub returns-then-spare-clause-any_moment : goal.returns-then-spare-clause-any_moment
-returns-then-spare-clause-any_moment g c = λ old steady same.
+    rewrites_calls c.args.layout.now d d1 (g.D.Disk.device c.rewrite_spare.new.disk) c.args.chosen c.args.sequence c.args.rows.now h f c.rewrite_spare.result c.if-spare.true c.if-spare-gt0.false c.rewrite_spare.ensures.commits.calls
+    )
+    (
+    λ old steady same.
     let d = g.D.Disk.device c.args.disk.now in
     let d1 = g.D.Disk.device c.read_head.new.disk in
     let h = c.in_ok-spare.spare in
     let f = spare_found d d1 c.args.chosen c.other.result h c.other.ensures c.in_ok-spare.ensures.untouched c.in_ok-spare.ensures.ok in
     rewrites_leaves c.args.layout.now d d1 (g.D.Disk.device c.rewrite_spare.new.disk) c.args.chosen c.args.sequence c.args.rows.now h f c.rewrite_spare.result c.if-spare.true c.if-spare-gt0.false old
-    (c.rewrite_spare.ensures.any_moment old (steady_found c.args.layout.now d d1 c.args.chosen h old f steady) same)
+    (c.rewrite_spare.ensures.commits.any_moment old (steady_found c.args.layout.now d d1 c.args.chosen h old f steady) same)
+    )
+    (search rules)
 
 pub returns-clause-made : goal.returns-clause-made
 returns-clause-made g c =
@@ -136,27 +153,31 @@ returns-clause-made g c =
     let f = spare_found d d1 c.args.chosen c.other.result h c.other.ensures c.in_ok-spare.ensures.untouched c.in_ok-spare.ensures.ok in
     opens_made c.args.layout.now d d1 (g.D.Disk.device c.open_spare.new.disk) c.args.chosen c.args.sequence c.args.rows.now h f c.open_spare.result c.if-spare.false c.open_spare.ensures.made
 
-pub returns-clause-ok : goal.returns-clause-ok
-returns-clause-ok g c =
+pub returns-clause-commits : goal.returns-clause-commits
+returns-clause-commits g c =
+    commits turned_starts
+    (
     let d = g.D.Disk.device c.args.disk.now in
     let d1 = g.D.Disk.device c.read_head.new.disk in
     let h = c.in_ok-spare.spare in
     let f = spare_found d d1 c.args.chosen c.other.result h c.other.ensures c.in_ok-spare.ensures.untouched c.in_ok-spare.ensures.ok in
-    opens_steady c.args.layout.now d d1 (g.D.Disk.device c.open_spare.new.disk) c.args.chosen c.args.sequence c.args.rows.now h f c.open_spare.result c.if-spare.false c.open_spare.ensures.ok
-
-pub returns-clause-calls : goal.returns-clause-calls
-returns-clause-calls g c =
+    opens_steady c.args.layout.now d d1 (g.D.Disk.device c.open_spare.new.disk) c.args.chosen c.args.sequence c.args.rows.now h f c.open_spare.result c.if-spare.false c.open_spare.ensures.commits.ok
+    )
+    (search rules)
+    (
     let d = g.D.Disk.device c.args.disk.now in
     let d1 = g.D.Disk.device c.read_head.new.disk in
     let h = c.in_ok-spare.spare in
     let f = spare_found d d1 c.args.chosen c.other.result h c.other.ensures c.in_ok-spare.ensures.untouched c.in_ok-spare.ensures.ok in
-    opens_calls c.args.layout.now d d1 (g.D.Disk.device c.open_spare.new.disk) c.args.chosen c.args.sequence c.args.rows.now h f c.open_spare.result c.if-spare.false c.open_spare.ensures.calls
-
-pub returns-clause-any_moment : goal.returns-clause-any_moment
-returns-clause-any_moment g c = λ old steady same.
+    opens_calls c.args.layout.now d d1 (g.D.Disk.device c.open_spare.new.disk) c.args.chosen c.args.sequence c.args.rows.now h f c.open_spare.result c.if-spare.false c.open_spare.ensures.commits.calls
+    )
+    (
+    λ old steady same.
     let d = g.D.Disk.device c.args.disk.now in
     let d1 = g.D.Disk.device c.read_head.new.disk in
     let h = c.in_ok-spare.spare in
     let f = spare_found d d1 c.args.chosen c.other.result h c.other.ensures c.in_ok-spare.ensures.untouched c.in_ok-spare.ensures.ok in
     opens_leaves c.args.layout.now d d1 (g.D.Disk.device c.open_spare.new.disk) c.args.chosen c.args.sequence c.args.rows.now h f c.open_spare.result c.if-spare.false old
-    (c.open_spare.ensures.any_moment old (steady_found c.args.layout.now d d1 c.args.chosen h old f steady) (omega (arith, same)))
+    (c.open_spare.ensures.commits.any_moment old (steady_found c.args.layout.now d d1 c.args.chosen h old f steady) (omega (arith, same)))
+    )
+    (search rules)

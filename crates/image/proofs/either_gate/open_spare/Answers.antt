@@ -1,9 +1,10 @@
-use Rattle.std.proofs.Common.{ℕ, List, ap, ◌∙◌, arith}
+use Rattle.std.proofs.Common.{ℕ, List, ap, ◌∙◌, arith, rules}
 use Rattle.image.specs.Calls.{after}
 use Rattle.image.specs.Commit.{body_calls}
 use Rattle.image.specs.Control.{control_of}
 use Rattle.image.specs.Slots.{other}
 use Rattle.image.proofs.EitherGates.{content_spells}
+use Rattle.image.proofs.Committed.{commits, turned_starts}
 use Rattle.image.proofs.either_gate.open_spare.Goals as goal
 
 pub commit_by_opening-requires-clause-steady : goal.commit_by_opening-requires-clause-steady
@@ -16,22 +17,18 @@ commit_by_opening-requires-clause-steady g c =
       r.2,
     )
 
-pub returns-in-Ok-clause-ok : goal.returns-in-Ok-clause-ok
-returns-in-Ok-clause-ok g c =
+pub returns-in-Ok-clause-commits : goal.returns-in-Ok-clause-commits
+returns-in-Ok-clause-commits g c =
     let r = c.requires.steady in
-    c.in-Ok.ensures.ok (control_of c.args.next c.args.rows.now)
-    (content_spells c.args.layout.now c.args.rows.now c.args.next c.content_of-content.result (omega (arith, r.2)) (omega arith) c.requires.rows c.content_of-content.ensures)
+    let made = c.in-Ok.ensures.commits (control_of c.args.next c.args.rows.now)
+    (content_spells c.args.layout.now c.args.rows.now c.args.next c.content_of-content.result (omega (arith, r.2)) (omega arith) c.requires.rows c.content_of-content.ensures) in
+    commits turned_starts made.ok made.durable
+    (made.calls ∙ ap (λ (bytes : List ℕ). after (body_calls (other c.args.chosen) bytes) (g.D.Disk.device c.args.disk.now)) c.content_of-content.ensures)
+    made.any_moment (search rules)
 
-pub returns-in-Ok-clause-calls : goal.returns-in-Ok-clause-calls
-returns-in-Ok-clause-calls g c =
-    c.in-Ok.ensures.calls ∙ ap (λ (bytes : List ℕ). after (body_calls (other c.args.chosen) bytes) (g.D.Disk.device c.args.disk.now)) c.content_of-content.ensures
-
-pub returns-in-Ok-clause-any_moment : goal.returns-in-Ok-clause-any_moment
-returns-in-Ok-clause-any_moment g c = λ old steady newer.
-    c.commit_by_opening.ensures.any_moment old (control_of c.args.next c.args.rows.now) steady
-    (content_spells c.args.layout.now c.args.rows.now c.args.next c.content_of-content.result (omega (arith, newer)) (omega arith) c.requires.rows c.content_of-content.ensures) newer
-
-pub returns-in-Err-clause-any_moment : goal.returns-in-Err-clause-any_moment
-returns-in-Err-clause-any_moment g c = λ old steady newer.
-    c.commit_by_opening.ensures.any_moment old (control_of c.args.next c.args.rows.now) steady
-    (content_spells c.args.layout.now c.args.rows.now c.args.next c.content_of-content.result (omega (arith, newer)) (omega arith) c.requires.rows c.content_of-content.ensures) newer
+pub returns-in-Err-clause-commits : goal.returns-in-Err-clause-commits
+returns-in-Err-clause-commits g c =
+    let r = c.requires.steady in
+    let made = c.commit_by_opening.ensures.commits (control_of c.args.next c.args.rows.now)
+    (content_spells c.args.layout.now c.args.rows.now c.args.next c.content_of-content.result (omega (arith, r.2)) (omega arith) c.requires.rows c.content_of-content.ensures) in
+    commits turned_starts tt tt tt made.any_moment (search rules)

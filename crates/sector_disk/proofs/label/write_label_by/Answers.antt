@@ -1,6 +1,6 @@
-use Rattle.std.proofs.Common.{◌≡◌, ◌+◌, ◌≤◌, ℕ, List, length, take, sym, ◌∙◌, ap, arith, rules}
+use Rattle.std.proofs.Common.{◌≡◌, ◌+◌, ◌≤◌, ℕ, List, length, take, sym, ◌∙◌, ap, arith}
 use Rattle.std.proofs.lemmas.Result.{on_ok_weaker}
-use Rattle.sector_disk.specs.Size.{bytes_in, place_of, sector}
+use Rattle.sector_disk.specs.Size.{bytes_in, place_of}
 use Rattle.sector_disk.proofs.Sizes.{ends_before, label_begins, sixteen, sector_written}
 use Rattle.sector_disk.proofs.label.write_label_by.Goals as goal
 

@@ -2,7 +2,6 @@ use Rattle.std.proofs.Common.{◌≡◌, ℕ, Bool, true, false, ◌+◌, ◌≤
 use Rattle.std.proofs.lemmas.List.{length-replicate}
 use Rattle.std.proofs.lemmas.Result.{on_ok_weaker}
 use Rattle.block_disk.specs.Bytes.{part}
-use Rattle.block_disk.specs.Device.{SameOutside}
 use Rattle.block_disk.proofs.Ranges.{outside_trans}
 use Rattle.sector_disk.specs.Size.{place_of}
 use Rattle.sector_disk.specs.Places.{area, sectors_from}

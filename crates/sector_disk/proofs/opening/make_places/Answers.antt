@@ -1,8 +1,4 @@
-use Rattle.std.proofs.Common.{◌≡◌, ℕ, Bool, true, false, ◌+◌, ◌≤◌, List, [], ◌∷◌, length, refl, sym, ◌∙◌, ap, subst, arith}
-use Rattle.std.proofs.lemmas.List.{length-replicate}
-use Rattle.block_disk.proofs.Ranges.{outside_refl}
-use Rattle.sector_disk.specs.Size.{place_of}
-use Rattle.sector_disk.specs.Places.{sectors_from}
+use Rattle.std.proofs.Common.{false, length, arith}
 use Rattle.sector_disk.proofs.Sizes.{area_fits}
 use Rattle.sector_disk.proofs.opening.make_places.Goals as goal
 

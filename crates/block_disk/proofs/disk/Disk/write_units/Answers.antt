@@ -1,5 +1,5 @@
-use Rattle.std.proofs.Common.{◌≡◌, ◌+◌, ◌-◌, ◌*◌, ◌<◌, ◌≤◌, ◌∙◌, ℕ, List, [], ◌∷◌, length, take, drop, sym, ap, subst, arith, length-take, length-drop}
-use Rattle.block_disk.specs.Device.{Range, Device, range_of, written, written_units, unit_ranges}
+use Rattle.std.proofs.Common.{◌≡◌, ◌+◌, ◌-◌, ◌*◌, ◌<◌, ◌≤◌, ◌∙◌, ℕ, List, [], ◌∷◌, length, take, drop, ap, subst, arith, length-take, length-drop}
+use Rattle.block_disk.specs.Device.{Device, range_of, written}
 use Rattle.block_disk.specs.Images.{ImageBut, LeavesOnly}
 use Rattle.block_disk.proofs.Images.{leaves_write}
 use Rattle.block_disk.proofs.Bytes.{length_spliced}
