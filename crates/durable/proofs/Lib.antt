@@ -6,9 +6,11 @@ pub mod Showing
 pub mod Loggable
 pub mod Storing
 pub mod Settling
+pub mod Writing
 pub mod Early
 pub mod Sequences
 pub mod Playing
+pub mod Making
 pub mod Ending
 pub mod AllKept
 pub mod Closing

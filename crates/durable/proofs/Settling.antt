@@ -26,7 +26,7 @@ use Rattle.durable.specs.Calls.{IsClean, RefusesSettle}
 use Rattle.durable.specs.Steps.{IsPastOf}
 use Rattle.durable.specs.Store.{Parts, HasPast, ShowsStep}
 use Rattle.durable.specs.declared.doubt.Doubt.{Doubt}
-use Rattle.durable.proofs.Storing.{one_stable, to_parts, from_parts, failed_has, logs_now, settle_refused, may_settle, none_dirty}
+use Rattle.durable.proofs.Storing.{one_stable, failed_has, logs_now, settle_refused, may_settle, none_dirty}
 
 -- the store has the fields y, it serves, no field is dirty, and the stable cut was found
 pub record IsSettling {D : Type 0} (y z : Parts D) (cut : Cut) (places : List ℕ) : Type 0 where
@@ -50,48 +50,40 @@ settling {D} {y} {z} found cut places view serves none least stable behind = rec
 }
 
 module _ {D : Type 0} (device : D → Device) {y z : Parts D} {cut : Cut} {places : List ℕ} (k : IsSettling y z cut places) where
-  had : (s : Setting) (p : Past) → IsPastOf device z s p → HasPast y.known s p (device y.disk)
-  had s p has = to_parts device y z (λ x d. HasPast x s p d) k.view_is has
-
   -- what the step asks for
-  pub may : (s : Setting) (p : Past) → HasPast y.known s p (device y.disk) → MaySettle y.known.layout s p y.known.committed (device y.disk) cut places
+  pub may : (s : Setting) (p : Past) → IsPastOf device y s p → MaySettle y.known.layout s p y.known.committed (device y.disk) cut places
   may s p was = may_settle y.known s p (device y.disk) was cut places k.serves (k.clean s p was.remembers) (k.stable p was.sections) (k.behind p was.sections)
 
   -- all was at home
-  pub answers : (s : Setting) (p : Past) → IsPastOf device z s p → (z.known.has_failed ≡ false) × IsClean s p
-  answers s p has = from_parts device y z (λ x d. (x.has_failed ≡ false) × IsClean s p) k.view_is (k.serves, k.clean s p (had s p has).remembers)
+  pub answers : (s : Setting) (p : Past) → IsPastOf device y s p → (y.known.has_failed ≡ false) × IsClean s p
+  answers s p was = (k.serves, k.clean s p was.remembers)
 
   -- or why it wasn't made
-  pub refuses_worn : (e : StoreError) → e ≡ Worn → y.known.committed.sequence ≡ 2 ^ 64 - 1 → (s : Setting) (p : Past) → IsPastOf device z s p → RefusesSettle z.known s p e
-  refuses_worn e is last s p has = from_parts device y z (λ x d. RefusesSettle x s p e) k.view_is (settle_refused y.known s p e k.serves is (k.clean s p (had s p has).remembers) last)
+  pub refuses_worn : (e : StoreError) → e ≡ Worn → y.known.committed.sequence ≡ 2 ^ 64 - 1 → (s : Setting) (p : Past) → IsPastOf device y s p → RefusesSettle y.known s p e
+  refuses_worn e is last s p was = settle_refused y.known s p e k.serves is (k.clean s p was.remembers) last
 
-  pub refuses_fault : (e : StoreError) → e ≡ Fault → (s : Setting) (p : Past) → IsPastOf device z s p → RefusesSettle z.known s p e
-  refuses_fault e is s p has = from_parts device y z (λ x d. RefusesSettle x s p e) k.view_is (subst (RefusesSettle y.known s p) (sym is) (k.serves, k.clean s p (had s p has).remembers))
+  pub refuses_fault : (e : StoreError) → e ≡ Fault → (s : Setting) (p : Past) → IsPastOf device y s p → RefusesSettle y.known s p e
+  refuses_fault e is s p was = subst (RefusesSettle y.known s p) (sym is) (k.serves, k.clean s p was.remembers)
+
+  -- the cut that was found is the stable one
+  pub of_stable : (After : (ℕ → ℕ) → Type 0) → (s : Setting) (p : Past) (other : ℕ → ℕ) → IsPastOf device y s p → IsStable (actions p.logged) other → After (counts_of cut) → After other
+  of_stable After s p other was stable = subst After (λ i l. one_stable (actions p.logged) (counts_of cut) other (k.stable p was.sections) stable l i)
 
   module _ (d2 : Device) where
     -- whatever a crash left meanwhile stands for the heap acknowledged, or for that of the stable cut
     pub stands_for_one : ((s : Setting) (p : Past) → MaySettle y.known.layout s p y.known.committed (device y.disk) cut places → LeavesOnly (device y.disk) d2 (StandsForEither y.known.layout s p.logged p.cut (counts_of cut))) →
-        (s : Setting) (p : Past) (other : ℕ → ℕ) → IsPastOf device z s p → IsStable (actions p.logged) other → LeavesOnly (device z.disk) d2 (StandsForEither z.known.layout s p.logged p.cut other)
-    stands_for_one meanwhile s p other has stable =
-        let was : HasPast y.known s p (device y.disk) = had s p has in
-        from_parts device y z (λ x d. LeavesOnly d d2 (StandsForEither x.layout s p.logged p.cut other)) k.view_is
-        (subst (λ (c : ℕ → ℕ). LeavesOnly (device y.disk) d2 (StandsForEither y.known.layout s p.logged p.cut c)) (λ i l. one_stable (actions p.logged) (counts_of cut) other (k.stable p was.sections) stable l i) (meanwhile s p (may s p was)))
+        (s : Setting) (p : Past) (other : ℕ → ℕ) → IsPastOf device y s p → IsStable (actions p.logged) other → LeavesOnly (device y.disk) d2 (StandsForEither y.known.layout s p.logged p.cut other)
+    stands_for_one meanwhile s p other was stable =
+        of_stable (λ (c : ℕ → ℕ). LeavesOnly (device y.disk) d2 (StandsForEither y.known.layout s p.logged p.cut c)) s p other was stable (meanwhile s p (may s p was))
 
     -- and shows the past, or what the step makes of it, which is in doubt so
     module _ (w : Doubt) (after : Past → (ℕ → ℕ) → Past)
         (then : (l : Layout) (s : Setting) (p : Past) (c : ℕ → ℕ) (d e : Device) → IsClean s p → IsStable (actions p.logged) c → LeavesOnly d e (ShowsEither l s p (after p c)) → LeavesOnly d e (ShowsStep l s p w))
         (meanwhile : (s : Setting) (p : Past) → MaySettle y.known.layout s p y.known.committed (device y.disk) cut places → LeavesOnly (device y.disk) d2 (ShowsEither y.known.layout s p (after p (counts_of cut)))) where
-      step : (s : Setting) (p : Past) → HasPast y.known s p (device y.disk) → LeavesOnly (device y.disk) d2 (ShowsStep y.known.layout s p w)
-      step s p was = then y.known.layout s p (counts_of cut) (device y.disk) d2 (k.clean s p was.remembers) (k.stable p was.sections) (meanwhile s p (may s p was))
-
-      pub shows : (s : Setting) (p : Past) → IsPastOf device z s p → LeavesOnly (device z.disk) d2 (ShowsStep z.known.layout s p w)
-      shows s p has = from_parts device y z (λ x d. LeavesOnly d d2 (ShowsStep x.layout s p w)) k.view_is (step s p (had s p has))
+      pub shows : (s : Setting) (p : Past) → IsPastOf device y s p → LeavesOnly (device y.disk) d2 (ShowsStep y.known.layout s p w)
+      shows s p was = then y.known.layout s p (counts_of cut) (device y.disk) d2 (k.clean s p was.remembers) (k.stable p was.sections) (meanwhile s p (may s p was))
 
       -- after a fault the store has the past still
-      pub fails : (c : Committed) (g : Logged) → c ≡ y.known.committed → g ≡ y.known.logged → (s : Setting) (p : Past) → HasPast y.known s p (device y.disk) →
+      pub fails : (c : Committed) (g : Logged) → c ≡ y.known.committed → g ≡ y.known.logged → (s : Setting) (p : Past) → IsPastOf device y s p →
           HasPast (record { layout = y.known.layout; committed = c; memory = y.known.memory; logged = g; has_failed = true; doubt = w }) s p d2
-      fails c g same_c same_g s p was = failed_has y.known s p (device y.disk) was c g w d2 same_c same_g (logs_now y.known s p (device y.disk) was w d2 k.serves (step s p was))
-
-      pub keeps : (c : Committed) (g : Logged) → c ≡ y.known.committed → g ≡ y.known.logged → (s : Setting) (p : Past) → IsPastOf device z s p →
-          HasPast (record { layout = y.known.layout; committed = c; memory = y.known.memory; logged = g; has_failed = true; doubt = w }) s p d2
-      keeps c g same_c same_g s p has = fails c g same_c same_g s p (had s p has)
+      fails c g same_c same_g s p was = failed_has y.known s p (device y.disk) was c g w d2 same_c same_g (logs_now y.known s p (device y.disk) was w d2 k.serves (shows s p was))

@@ -32,7 +32,7 @@ use Rattle.store_memory.specs.Remembers.{Remembers}
 use Rattle.store_memory.specs.Sections.{Logged, place_behind, TellsSections, MayBeLogged}
 use Rattle.store_memory.specs.Apply.{Answers}
 use Rattle.store_memory.specs.Begin.{IsLeastDirtyOf}
-use Rattle.durable.specs.Calls.{HasDirty, IsClean, RefusesApply, RefusesLog, RefusesSettle}
+use Rattle.durable.specs.Calls.{HasDirty, IsClean, RefusesApply, RefusesSettle}
 use Rattle.store_past.specs.declared.error.StoreError.{StoreError}
 use Rattle.store_past.specs.declared.error.StoreError.TheVariants.{Failed, BadLane, BadId, Worn, NotNext, TooLong, LogFull, Unwritten, Fault, Unfinished}
 use Rattle.store_image.specs.Steps.{MayGoHome, MayLog, MaySettle}
@@ -50,12 +50,9 @@ use Rattle.store_image.proofs.Places.{records_within}
 use Rattle.store_image.proofs.Stands.{shows_always}
 use Rattle.store_memory.proofs.Verdicts.{lane_long}
 
--- what is true of a store's parts, and of what they are equal to
+-- what is true of what a store's parts are equal to, is true of them
 pub to_parts : {D : Type 0} (device : D → Device) (y z : Parts D) (Q : Known → Device → Type 0) → y ≡ z → Q z.known (device z.disk) → Q y.known (device y.disk)
 to_parts device y z Q same holds = subst (λ w. Q w.known (device w.disk)) (sym same) holds
-
-pub from_parts : {D : Type 0} (device : D → Device) (y z : Parts D) (Q : Known → Device → Type 0) → y ≡ z → Q y.known (device y.disk) → Q z.known (device z.disk)
-from_parts device y z Q same holds = subst (λ w. Q w.known (device w.disk)) same holds
 
 all_of_lanes : (n : ℕ) (log : List (ℕ × Record)) → IsOfLanes n log → All (λ x. x.0 < n) log
 all_of_lanes n [] of = All-nil (λ x. x.0 < n)
@@ -136,10 +133,7 @@ pub none_dirty : (s : Setting) (p : Past) (found : Option FieldId) → is_some f
 none_dirty s p None is clean = clean
 none_dirty s p (Some f) is least = absurd (let no : true ≡ false = is in cc)
 
--- why nothing was logged or acknowledged
-pub log_refused : (x : Known) (p : Past) (e : StoreError) → x.has_failed ≡ false → e ≡ Worn → x.committed.sequence ≡ 2 ^ 64 - 1 → p.fresh ≢ [] → RefusesLog x p e
-log_refused x p e serves is last some = subst (RefusesLog x p) (sym is) (serves, last, some)
-
+-- why nothing was acknowledged
 pub settle_refused : (x : Known) (s : Setting) (p : Past) (e : StoreError) → x.has_failed ≡ false → e ≡ Worn → IsClean s p → x.committed.sequence ≡ 2 ^ 64 - 1 → RefusesSettle x s p e
 settle_refused x s p e serves is clean last = subst (RefusesSettle x s p) (sym is) (serves, clean, last)
 
@@ -266,11 +260,6 @@ module _ (x : Known) (s : Setting) (p : Past) (d : Device) (has : HasPast x s p 
     agrees = λ not. absurd (let no : true ≡ false = not in cc);
     images = shows;
   })
-
-  -- nothing has changed
-  pub kept_has : (c : Committed) (g : Logged) (d2 : Device) → c ≡ x.committed → g ≡ x.logged → d2 ≡ d →
-      HasPast (record { layout = x.layout; committed = c; memory = x.memory; logged = g; has_failed = x.has_failed; doubt = x.doubt }) s p d2
-  kept_has c g d2 same_c same_g same = moved x.committed c x.logged g x.has_failed x.doubt p d2 same_c same_g (subst (λ (e : Device). HasPast x s p e) (sym same) has)
 
   -- what a log step or a settling leaves, however it ends
   pub logs_now : (w : Doubt) (d2 : Device) → x.has_failed ≡ false → LeavesOnly d d2 (ShowsStep x.layout s p w) → Always d2 (ShowsStep x.layout s p w)

@@ -1,5 +1,5 @@
 -- What a store has after a trim.
-use Rattle.std.proofs.Common.{◌≡◌, ℕ, ◌-◌, ◌<◌, ◌^◌, Bool, true, false, List, length, sym, ◌∙◌, ap, subst, inl, inr, arith}
+use Rattle.std.proofs.Common.{◌≡◌, ℕ, ◌<◌, Bool, true, false, List, length, sym, ◌∙◌, ap, subst, inl, inr, arith}
 use Rattle.std.specs.Prelude.{slice_index}
 use Rattle.std.proofs.lemmas.Bool.{cases_lt}
 use Rattle.std.proofs.lemmas.List.{get_or_past}
@@ -14,8 +14,6 @@ use Rattle.undo_log.specs.Dropped.{undo_logs}
 use Rattle.undo_log.specs.StandsFor.{row_of}
 use Rattle.undo_log.proofs.Back.{length_undo}
 use Rattle.store_past.specs.Past.{Past, IsTrimmed, after_trim}
-use Rattle.store_past.specs.declared.error.StoreError.{StoreError}
-use Rattle.store_past.specs.declared.error.StoreError.TheVariants.{Worn}
 use Rattle.store_image.specs.Consistent.{IsConsistent}
 use Rattle.store_image.specs.declared.committed.Committed.{Committed}
 use Rattle.store_image.proofs.Places.{records_within, cut_place}
@@ -25,17 +23,12 @@ use Rattle.store_memory.specs.Remembers.{Remembers}
 use Rattle.store_memory.specs.Sections.{Logged, TellsSections}
 use Rattle.store_memory.specs.Trimming.{MayStart, MayForget}
 use Rattle.store_memory.proofs.SectionLaws.{none_past}
-use Rattle.durable.specs.Calls.{RefusesTrim}
 use Rattle.durable.specs.Store.{Known, HasPast}
 use Rattle.durable.proofs.Storing.{shows_past}
 
 -- with nothing to trim, a trim makes nothing of the past
 pub trimmed_is : (p : Past) → IsTrimmed p → p ≡ after_trim p
 trimmed_is p trimmed = λ i. record p { base = λ l. trimmed l i }
-
--- why nothing is trimmed
-pub trim_refused : (x : Known) (p : Past) (e : StoreError) → x.has_failed ≡ false → e ≡ Worn → x.committed.sequence ≡ 2 ^ 64 - 1 → (IsTrimmed p → ⊥) → RefusesTrim x p e
-trim_refused x p e serves is last some = subst (RefusesTrim x p) (sym is) (serves, last, some)
 
 -- a test that says no
 pub not_trimmed : (is : Bool) (p : Past) → (is ≡ true → IsTrimmed p) × (IsTrimmed p → is ≡ true) → is ≡ false → IsTrimmed p → ⊥

@@ -18,6 +18,13 @@ HaveGuards fields rows = (f : ℕ) (d : GuardRow) → f < length rows → (field
 abbrev pub HaveMarks : List FieldState → List GuardRow → Type 0
 HaveMarks fields rows = (f : ℕ) (d : GuardRow) → f < length rows → (field_in fields f).is_logged ≡ not (slice_index_or rows f d).transient
 
+-- the fields have these values, and the same ones are logged
+abbrev pub HaveValues : List FieldState → List GuardRow → (heap : List ℕ) → Type 0
+HaveValues fields rows heap = (f : ℕ) → f < length rows → (field_in fields f).value ≡ slice_index heap f
+
+abbrev pub HaveLogged : List FieldState → List GuardRow → (heap : List ℕ) → Type 0
+HaveLogged fields rows heap = (f : ℕ) → f < length rows → (field_in fields f).logged ≡ slice_index heap f
+
 -- the setting of a heap of this layout, with these guard rows and values, and this bound on release numbers
 pub record IsSettingOf (l : Layout) (rows : List GuardRow) (heap : List ℕ) (last : ℕ) (s : Setting) : Type 0 where
   pub objects : s.objects ≡ l.objects

@@ -1,44 +1,59 @@
--- What a list of calls makes of a store, whatever past it has (this project's own).
-use Rattle.std.specs.Prelude.{ℕ, ◌≡◌, ◌≤◌, List, Result, IfErr, OnOk}
+-- What a list of calls makes of a store: one record for a call, and one for the list, over the whole store before it (x) and after it
+-- (y). Each part holds whatever past the store has (this project's own).
+use Rattle.std.specs.Prelude.{ℕ, ◌≡◌, ◌+◌, ◌≤◌, true, Some, List, Result, length, slice_get, IfErr, OnOk}
 use Rattle.heap_model.specs.Setting.{Setting}
-use Rattle.block_disk.specs.Device.{Device}
+use Rattle.block_disk.specs.Device.{Device, HasFailed}
 use Rattle.block_disk.specs.Images.{LeavesOnly}
 use Rattle.durable.specs.Calls.{AreQuiet, IsQuiet, MakeAll, Makes, Reached, RefusesCall, ShowsAfterSome, StandsAfterSome, StoppedAt, made_of}
-use Rattle.durable.specs.Steps.{IsPastOf}
-use Rattle.durable.specs.Store.{Parts}
+use Rattle.durable.specs.Steps.{Commits, IsPastOf, ShowsUpToMeanwhile, WritesWithin}
+use Rattle.durable.specs.Store.{Parts, doubt_in}
 use Rattle.durable.specs.declared.store_call.StoreCall.{StoreCall}
 use Rattle.store_past.specs.Past.{Past}
 use Rattle.store_past.specs.declared.error.StoreError.{StoreError}
+use Rattle.store_past.specs.declared.error.StoreError.TheVariants.{Fault}
 
-module _ {D : Type 0} (device : D → Device) where
-  -- a call makes of the past what it is to make, or why not; the device isn't called where the call is quiet
-  abbrev pub MakesCall : (x y : Parts D) → StoreCall → Result (Unit {0}) StoreError → Type 0
-  MakesCall x y call answer = (s : Setting) (p : Past) → IsPastOf device x s p → OnOk answer ((q : Past) × Makes s p call q × IsPastOf device y s q)
+-- One call, whichever it is.
+pub record MakesCall {D : Type 0} (device : D → Device) (x y : Parts D) (call : StoreCall) (result : Result (Unit {0}) StoreError) : Type 0 where
+  -- It commits a control at most.
+  pub writes : Commits device (doubt_in (Some call)) x y result
+  -- After a success, the store has the past that the call makes.
+  pub ok : (s : Setting) (p : Past) → IsPastOf device x s p → OnOk result ((q : Past) × Makes s p call q × IsPastOf device y s q)
+  -- Each refusal has its own reason.
+  pub refused : (s : Setting) (p : Past) → IsPastOf device x s p → IfErr result (λ e. RefusesCall x.known s p call e)
+  -- If the call has nothing to write, the device isn't called.
+  pub quiet : (s : Setting) (p : Past) → IsPastOf device x s p → IsQuiet s p call → device y.disk ≡ device x.disk
 
-  abbrev pub RefusesThe : Parts D → StoreCall → Result (Unit {0}) StoreError → Type 0
-  RefusesThe x call answer = (s : Setting) (p : Past) → IsPastOf device x s p → IfErr answer (λ e. RefusesCall x.known s p call e)
-
-  abbrev pub CallsNone : (x y : Parts D) → StoreCall → Type 0
-  CallsNone x y call = (s : Setting) (p : Past) → IsPastOf device x s p → IsQuiet s p call → device y.disk ≡ device x.disk
-
-  -- all calls are made, or so many, and the next is refused
-  abbrev pub PlaysAll : (x y : Parts D) → List StoreCall → Result (Unit {0}) (ℕ × StoreError) → Type 0
-  PlaysAll x y calls answer = (s : Setting) (p : Past) → IsPastOf device x s p → OnOk answer ((q : Past) × MakeAll s p calls q × IsPastOf device y s q)
-
-  abbrev pub StopsAt : (x y : Parts D) → List StoreCall → Result (Unit {0}) (ℕ × StoreError) → Type 0
-  StopsAt x y calls answer = (s : Setting) (p : Past) → IsPastOf device x s p → IfErr answer (λ e. StoppedAt s p calls x.known y.known (device y.disk) e.0 e.1)
-
-  -- each call that was made is the moment from which on a crash leaves only what later calls make
-  abbrev pub ReachesEach : (x y : Parts D) → List StoreCall → Result (Unit {0}) (ℕ × StoreError) → Type 0
-  ReachesEach x y calls answer = (s : Setting) (p : Past) → IsPastOf device x s p → (n : ℕ) → n ≤ made_of calls answer → Reached s p calls x.known (device x.disk) (device y.disk) n
-
-  -- where all are quiet, the device isn't called
-  abbrev pub PlaysQuietly : (x y : Parts D) → List StoreCall → Type 0
-  PlaysQuietly x y calls = (s : Setting) (p : Past) → IsPastOf device x s p → AreQuiet s p calls → device y.disk ≡ device x.disk
-
-  -- whatever a crash left meanwhile shows what some of the calls make of the past, and stands for the heap acknowledged after some
-  abbrev pub ShowsSomeMeanwhile : (x y : Parts D) → List StoreCall → Type 0
-  ShowsSomeMeanwhile x y calls = (s : Setting) (p : Past) → IsPastOf device x s p → LeavesOnly (device x.disk) (device y.disk) (ShowsAfterSome x.known.layout s p calls)
-
-  abbrev pub StandsForSomeMeanwhile : (x y : Parts D) → List StoreCall → Type 0
-  StandsForSomeMeanwhile x y calls = (s : Setting) (p : Past) → IsPastOf device x s p → LeavesOnly (device x.disk) (device y.disk) (StandsAfterSome x.known.layout s p calls)
+-- `play`: the calls are made in their order, up to the first that is refused.
+pub record Plays {D : Type 0} (device : D → Device) (x y : Parts D) (calls : List StoreCall) (result : Result (Unit {0}) (ℕ × StoreError)) : Type 0 where
+  -- After a success, the store has the past that all the calls make.
+  pub ok : (s : Setting) (p : Past) → IsPastOf device x s p → OnOk result ((q : Past) × MakeAll s p calls q × IsPastOf device y s q)
+  -- A refusal tells the place of the refused call and its reason, and the calls before that place were made.
+  pub stopped : (s : Setting) (p : Past) → IsPastOf device x s p
+      → IfErr result (λ e. StoppedAt s p calls x.known y.known (device y.disk) e.0 e.1)
+  -- After a success, the store has failed only if it had failed before.
+  pub running : OnOk result (y.known.has_failed ≡ x.known.has_failed)
+  -- After each call that was made there is a moment. A crash from then on leaves only what later calls make of the past reached.
+  pub moments : (s : Setting) (p : Past) → IsPastOf device x s p → (n : ℕ) → n ≤ made_of calls result
+      → Reached s p calls x.known (device x.disk) (device y.disk) n
+  -- If no call has anything to write, the device isn't called.
+  pub quiet : (s : Setting) (p : Past) → IsPastOf device x s p → AreQuiet s p calls → device y.disk ≡ device x.disk
+  -- At every moment, each image that a crash may leave shows what some of the calls make of the past.
+  pub shown : (s : Setting) (p : Past) → IsPastOf device x s p
+      → LeavesOnly (device x.disk) (device y.disk) (ShowsAfterSome x.known.layout s p calls)
+  -- At every moment, each such image stands for the heap acknowledged after some of the calls.
+  pub any_moment : (s : Setting) (p : Past) → IsPastOf device x s p
+      → LeavesOnly (device x.disk) (device y.disk) (StandsAfterSome x.known.layout s p calls)
+  -- After a `Fault`, the store has failed.
+  pub failed : IfErr result (λ e. e.1 ≡ Fault → y.known.has_failed ≡ true)
+  -- After a `Fault`, only the refused call is in doubt.
+  pub in_doubt : IfErr result (λ e. e.1 ≡ Fault → y.known.doubt ≡ doubt_in (slice_get calls e.0))
+  -- The answer is `Fault` only if a call of the device has failed since the first call began.
+  pub cause : IfErr result (λ e. e.1 ≡ Fault → HasFailed (device x.disk).failures (device y.disk).failures)
+  -- The control's sequence rises by the number of the calls at most.
+  pub sequence : y.known.committed.sequence ≤ x.known.committed.sequence + length calls
+  -- At every moment, each image that a crash may leave shows a control of such a sequence.
+  pub any_sequence : ShowsUpToMeanwhile device x y (x.known.committed.sequence + length calls)
+  -- The calls write only the slots of the control, home cells and the lanes' areas.
+  pub within : WritesWithin device x y
+  -- The layout of the image stays.
+  pub layout : y.known.layout ≡ x.known.layout

@@ -1,8 +1,7 @@
 //! The fields before any record.
 
-ghost use Rattle.std.specs.Prelude.{◌≡◌, ◌<◌, ℕ, length, slice_index, IfOk};
-ghost use Rattle.durable.specs.Begin.{HaveGuards, HaveMarks};
-ghost use Rattle.store_memory.specs.Memory.{field_in};
+ghost use Rattle.std.specs.Prelude.{◌≡◌, length, IfOk};
+ghost use Rattle.durable.specs.Begin.{HaveGuards, HaveLogged, HaveMarks, HaveValues};
 
 use image::GuardRow;
 use std::alloc::{AllocError, Global};
@@ -18,8 +17,8 @@ pub fn fields_of(
     ensures size { IfOk result (λ fields. length fields.items ≡ length guards.now) }
     ensures guards { IfOk result (λ fields. HaveGuards fields.items guards.now) }
     ensures marks { IfOk result (λ fields. HaveMarks fields.items guards.now) }
-    ensures values { IfOk result (λ fields. (f : ℕ) → f < length guards.now → (field_in fields.items f).value ≡ slice_index heap.now f) }
-    ensures logged { IfOk result (λ fields. (f : ℕ) → f < length guards.now → (field_in fields.items f).logged ≡ slice_index heap.now f) }
+    ensures values { IfOk result (λ fields. HaveValues fields.items guards.now heap.now) }
+    ensures logged { IfOk result (λ fields. HaveLogged fields.items guards.now heap.now) }
 {
     let mut fields = Vec::with_capacity(alloc, guards.len())?;
     for (place, row) in guards.iter().enumerate() {

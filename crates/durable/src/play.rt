@@ -1,10 +1,5 @@
 //! A list of calls, and what each image stands for while they run.
-ghost use Rattle.std.specs.Prelude.{◌≡◌, ◌⊎◌, ◌+◌, ◌≤◌, true, false, Some, length, slice_get, IfErr, IsErrOf, OnOk};
-ghost use Rattle.block_disk.specs.Device.{HasFailed};
-ghost use Rattle.durable.specs.Plays.{CallsNone, MakesCall, PlaysAll, PlaysQuietly, ReachesEach, RefusesThe, ShowsSomeMeanwhile, StandsForSomeMeanwhile, StopsAt};
-ghost use Rattle.durable.specs.Store.{doubt_in};
-ghost use Rattle.store_past.specs.declared.error.StoreError.TheVariants.{Fault};
-ghost use Rattle.durable.specs.Steps.{Keeps, OnlyDeviceFaults, ShowsMeanwhile, ShowsUpToMeanwhile, WritesWithin};
+ghost use Rattle.durable.specs.Plays.{MakesCall, Plays};
 
 use crate::store::Store;
 use crate::store_call::StoreCall;
@@ -21,20 +16,7 @@ impl<D: Disk> Store<D> {
     ///
     /// Each call takes one sequence of the control at most.
     pub fn play(&mut self, calls: &[StoreCall]) -> Result<(), (usize, StoreError)>
-        ensures ok { PlaysAll D.device self.old self.new calls.now result }
-        ensures stopped { StopsAt D.device self.old self.new calls.now result }
-        ensures running { OnOk result (self.new.known.has_failed ≡ self.old.known.has_failed) }
-        ensures moments { ReachesEach D.device self.old self.new calls.now result }
-        ensures quiet { PlaysQuietly D.device self.old self.new calls.now }
-        ensures shown { ShowsSomeMeanwhile D.device self.old self.new calls.now }
-        ensures any_moment { StandsForSomeMeanwhile D.device self.old self.new calls.now }
-        ensures failed { IfErr result (λ e. e.1 ≡ Fault → self.new.known.has_failed ≡ true) }
-        ensures in_doubt { IfErr result (λ e. e.1 ≡ Fault → self.new.known.doubt ≡ doubt_in (slice_get calls.now e.0)) }
-        ensures cause { IfErr result (λ e. e.1 ≡ Fault → HasFailed (D.device self.old.disk).failures (D.device self.new.disk).failures) }
-        ensures sequence { self.new.known.committed.sequence ≤ self.old.known.committed.sequence + length calls.now }
-        ensures any_sequence { ShowsUpToMeanwhile D.device self.old self.new (self.old.known.committed.sequence + length calls.now) }
-        ensures within { WritesWithin D.device self.old self.new }
-        ensures layout { self.new.known.layout ≡ self.old.known.layout }
+        ensures { Plays D.device self.old self.new calls.now result }
     {
         for (place, call) in calls.iter().enumerate() {
             if let Err(reason) = self.make(*call) {
@@ -46,20 +28,7 @@ impl<D: Disk> Store<D> {
 
     // Makes this call.
     fn make(&mut self, call: StoreCall) -> Result<(), StoreError>
-        ensures ok { MakesCall D.device self.old self.new call result }
-        ensures refused { RefusesThe D.device self.old call result }
-        ensures kept { Keeps D.device self.old self.new result }
-        ensures running { OnOk result ((self.old.known.has_failed ≡ false) × (self.new.known.has_failed ≡ false)) }
-        ensures quiet { CallsNone D.device self.old self.new call }
-        ensures unchanged { IfErr result (λ e. (e ≡ Fault) ⊎ (self.new ≡ self.old)) }
-        ensures failed { IsErrOf result Fault → self.new.known.has_failed ≡ true }
-        ensures in_doubt { IsErrOf result Fault → self.new.known.doubt ≡ doubt_in (Some call) }
-        ensures shown { ShowsMeanwhile D.device (doubt_in (Some call)) self.old self.new }
-        ensures cause { OnlyDeviceFaults D.device self.old self.new result }
-        ensures sequence { self.new.known.committed.sequence ≤ self.old.known.committed.sequence + 1 }
-        ensures any_sequence { ShowsUpToMeanwhile D.device self.old self.new (self.old.known.committed.sequence + 1) }
-        ensures within { WritesWithin D.device self.old self.new }
-        ensures layout { self.new.known.layout ≡ self.old.known.layout }
+        ensures { MakesCall D.device self.old self.new call result }
     {
         match call {
             StoreCall::Apply(lane, record) => self.apply(lane, record),

@@ -10,10 +10,7 @@ ghost use Rattle.store_past.specs.Past.{Past, applied, no_past};
 ghost use Rattle.store_memory.specs.Remembers.{Remembers};
 ghost use Rattle.store_memory.specs.Sections.{TellsSections};
 ghost use Rattle.durable.specs.Store.{HasPast};
-ghost use Rattle.store_past.specs.declared.error.StoreError.TheVariants.{Fault};
-ghost use Rattle.store_image.specs.declared.home.Home.TheVariants.{Done};
-ghost use Rattle.durable.specs.declared.doubt.Doubt.TheVariants.{Nothing, Logging, Settling, Trimming};
-ghost use Rattle.durable.specs.Steps.{Applies, AnswersApply, AnswersHomeStep, AnswersLog, AnswersSettle, AnswersTrim, GoesHome, GoesNowhere, Keeps, Logs, LogsNone, OnlyDeviceFaults, Settles, ShowsMeanwhile, ShowsPastMeanwhile, ShowsUpToMeanwhile, StandsForOneOf, StandsMeanwhile, Trims, TrimsNone, WearsLog, WearsSettle, WearsTrim, WritesWithin};
+ghost use Rattle.durable.specs.Steps.{Applies, GoesHome, Logs, Settles, Trims};
 ghost use Rattle.durable.specs.Stops.{AnswersClose, BeginsWith, ClosesAtHome, ClosesForGood, ClosesWritten, HasAcknowledged, HasFirstValue, HasTrimmed, HasValue, ReadsAcknowledged, RefusesToClose, RestsAcknowledged, ShowsAtStop, StandsAtStop};
 
 use crate::beginning::fields_of;
@@ -37,7 +34,8 @@ use store_past::StoreError;
 /// that neither header nor guard rows. All its memory is taken by [`adopt`](Store::adopt).
 ///
 /// Contracts see what it knows as plain data beside its device, and say which pasts it has: what it was told, and what
-/// became of that. After a `Fault` every call that applies or writes answers `Failed`; what there is to read stays.
+/// became of that. Each call that applies or writes has one clause, a relation whose parts stand in `specs/Steps.antt`, each with
+/// its sentence. After a `Fault` every such call answers `Failed`; what there is to read stays.
 #[derive(Drop)]
 pub struct Store<D: Disk> {
     pub(crate) disk: D,
@@ -111,14 +109,7 @@ impl<D: Disk> Store<D> {
     /// begin at place 2^62 or later); `NotNext`; `TooLong`; `LogFull`. A refusal changes nothing.
     #[inline(always)]
     pub fn apply(&mut self, lane: Lane, record: Record) -> Result<(), StoreError>
-        ensures answer { AnswersApply D.device self.old lane.0 «record» result }
-        ensures ok { Applies D.device self.old self.new lane.0 «record» result }
-        ensures running { OnOk result ((self.old.known.has_failed ≡ false) × (self.new.known.has_failed ≡ false)) }
-        ensures no_fault { IfErr result (λ e. e ≢ Fault) }
-        ensures err { OnErr result (self.new ≡ self.old) }
-        ensures disk { self.new.disk ≡ self.old.disk }
-        ensures sequence { self.new.known.committed.sequence ≡ self.old.known.committed.sequence }
-        ensures layout { self.new.known.layout ≡ self.old.known.layout }
+        ensures { Applies D.device self.old self.new lane.0 «record» result }
     {
         if self.has_failed {
             return Err(StoreError::Failed);
@@ -132,44 +123,14 @@ impl<D: Disk> Store<D> {
     /// in the records. Refusals, in this order: `Failed`; `Worn`: there are records, and the control's sequence is at its last
     /// value; `Fault`. After the first two nothing has changed.
     pub fn log_step(&mut self) -> Result<u64, StoreError>
-        ensures ok { Logs D.device self.old self.new result }
-        ensures running { OnOk result ((self.old.known.has_failed ≡ false) × (self.new.known.has_failed ≡ false)) }
-        ensures answer { AnswersLog D.device self.old result }
-        ensures none { LogsNone D.device self.old self.new }
-        ensures worn { WearsLog D.device self.old result }
-        ensures kept { Keeps D.device self.old self.new result }
-        ensures refused { IfErr result (λ e. (e ≡ Fault) ⊎ (self.new ≡ self.old)) }
-        ensures failed { IsErrOf result Fault → self.new.known.has_failed ≡ true }
-        ensures in_doubt { IsErrOf result Fault → self.new.known.doubt ≡ Logging }
-        ensures any_moment { StandsMeanwhile D.device self.old self.new }
-        ensures shown { ShowsMeanwhile D.device Logging self.old self.new }
-        ensures cause { OnlyDeviceFaults D.device self.old self.new result }
-        ensures sequence { self.new.known.committed.sequence ≤ self.old.known.committed.sequence + 1 }
-        ensures any_sequence { ShowsUpToMeanwhile D.device self.old self.new (self.old.known.committed.sequence + 1) }
-        ensures within { WritesWithin D.device self.old self.new }
-        ensures layout { self.new.known.layout ≡ self.old.known.layout }
+        ensures { Logs D.device self.old self.new result }
     {
         self.log_by(Syncs::Apart)
     }
 
     // Makes all applied records durable, by these syncs.
     pub(crate) fn log_by(&mut self, syncs: Syncs) -> Result<u64, StoreError>
-        ensures ok { Logs D.device self.old self.new result }
-        ensures running { OnOk result ((self.old.known.has_failed ≡ false) × (self.new.known.has_failed ≡ false)) }
-        ensures answer { AnswersLog D.device self.old result }
-        ensures none { LogsNone D.device self.old self.new }
-        ensures worn { WearsLog D.device self.old result }
-        ensures kept { Keeps D.device self.old self.new result }
-        ensures refused { IfErr result (λ e. (e ≡ Fault) ⊎ (self.new ≡ self.old)) }
-        ensures failed { IsErrOf result Fault → self.new.known.has_failed ≡ true }
-        ensures in_doubt { IsErrOf result Fault → self.new.known.doubt ≡ Logging }
-        ensures any_moment { StandsMeanwhile D.device self.old self.new }
-        ensures shown { ShowsMeanwhile D.device Logging self.old self.new }
-        ensures cause { OnlyDeviceFaults D.device self.old self.new result }
-        ensures sequence { self.new.known.committed.sequence ≤ self.old.known.committed.sequence + 1 }
-        ensures any_sequence { ShowsUpToMeanwhile D.device self.old self.new (self.old.known.committed.sequence + 1) }
-        ensures within { WritesWithin D.device self.old self.new }
-        ensures layout { self.new.known.layout ≡ self.old.known.layout }
+        ensures { Logs D.device self.old self.new result }
     {
         if self.has_failed {
             return Err(StoreError::Failed);
@@ -203,22 +164,7 @@ impl<D: Disk> Store<D> {
     /// With no dirty field it takes no call of the device. It looks at one word for each 4,096 fields. Refusals, in this order:
     /// `Failed`, after which nothing has changed; `Fault`.
     pub fn home_step(&mut self) -> Result<Home, StoreError>
-        ensures ok { GoesHome D.device self.old self.new result }
-        ensures running { OnOk result ((self.old.known.has_failed ≡ false) × (self.new.known.has_failed ≡ false)) }
-        ensures answer { AnswersHomeStep D.device self.old result }
-        ensures done { result ≡ Ok Done → self.new ≡ self.old }
-        ensures none { GoesNowhere D.device self.old self.new }
-        ensures kept { Keeps D.device self.old self.new result }
-        ensures refused { IfErr result (λ e. (e ≡ Fault) ⊎ (self.new ≡ self.old)) }
-        ensures failed { IsErrOf result Fault → self.new.known.has_failed ≡ true }
-        ensures in_doubt { IsErrOf result Fault → self.new.known.doubt ≡ Nothing }
-        ensures any_moment { StandsMeanwhile D.device self.old self.new }
-        ensures shown { ShowsPastMeanwhile D.device self.old self.new }
-        ensures cause { OnlyDeviceFaults D.device self.old self.new result }
-        ensures sequence { self.new.known.committed.sequence ≡ self.old.known.committed.sequence }
-        ensures any_sequence { ShowsUpToMeanwhile D.device self.old self.new self.old.known.committed.sequence }
-        ensures within { WritesWithin D.device self.old self.new }
-        ensures layout { self.new.known.layout ≡ self.old.known.layout }
+        ensures { GoesHome D.device self.old self.new result }
     {
         if self.has_failed {
             return Err(StoreError::Failed);
@@ -246,21 +192,7 @@ impl<D: Disk> Store<D> {
     /// order: `Failed`; `Unwritten`: a field is dirty; `Worn`: the control's sequence is at its last value; `Fault`. But for
     /// the last nothing has changed.
     pub fn settle(&mut self) -> Result<(), StoreError>
-        ensures ok { Settles D.device self.old self.new result }
-        ensures running { OnOk result ((self.old.known.has_failed ≡ false) × (self.new.known.has_failed ≡ false)) }
-        ensures answer { AnswersSettle D.device self.old result }
-        ensures worn { WearsSettle D.device self.old result }
-        ensures kept { Keeps D.device self.old self.new result }
-        ensures refused { IfErr result (λ e. (e ≡ Fault) ⊎ (self.new ≡ self.old)) }
-        ensures failed { IsErrOf result Fault → self.new.known.has_failed ≡ true }
-        ensures in_doubt { IsErrOf result Fault → self.new.known.doubt ≡ Settling }
-        ensures any_moment { StandsForOneOf D.device self.old self.new }
-        ensures shown { ShowsMeanwhile D.device Settling self.old self.new }
-        ensures cause { OnlyDeviceFaults D.device self.old self.new result }
-        ensures sequence { self.new.known.committed.sequence ≤ self.old.known.committed.sequence + 1 }
-        ensures any_sequence { ShowsUpToMeanwhile D.device self.old self.new (self.old.known.committed.sequence + 1) }
-        ensures within { WritesWithin D.device self.old self.new }
-        ensures layout { self.new.known.layout ≡ self.old.known.layout }
+        ensures { Settles D.device self.old self.new result }
     {
         if self.has_failed {
             return Err(StoreError::Failed);
@@ -295,22 +227,7 @@ impl<D: Disk> Store<D> {
     /// forgotten, and in each in the number of lanes; no memory is taken. Refusals, in this order: `Failed`; `Worn`: there is
     /// something to move, and the control's sequence is at its last value; `Fault`. After the first two nothing has changed.
     pub fn trim(&mut self) -> Result<(), StoreError>
-        ensures ok { Trims D.device self.old self.new result }
-        ensures running { OnOk result ((self.old.known.has_failed ≡ false) × (self.new.known.has_failed ≡ false)) }
-        ensures answer { AnswersTrim D.device self.old result }
-        ensures none { TrimsNone D.device self.old self.new }
-        ensures worn { WearsTrim D.device self.old result }
-        ensures kept { Keeps D.device self.old self.new result }
-        ensures refused { IfErr result (λ e. (e ≡ Fault) ⊎ (self.new ≡ self.old)) }
-        ensures failed { IsErrOf result Fault → self.new.known.has_failed ≡ true }
-        ensures in_doubt { IsErrOf result Fault → self.new.known.doubt ≡ Trimming }
-        ensures any_moment { StandsMeanwhile D.device self.old self.new }
-        ensures shown { ShowsMeanwhile D.device Trimming self.old self.new }
-        ensures cause { OnlyDeviceFaults D.device self.old self.new result }
-        ensures sequence { self.new.known.committed.sequence ≤ self.old.known.committed.sequence + 1 }
-        ensures any_sequence { ShowsUpToMeanwhile D.device self.old self.new (self.old.known.committed.sequence + 1) }
-        ensures within { WritesWithin D.device self.old self.new }
-        ensures layout { self.new.known.layout ≡ self.old.known.layout }
+        ensures { Trims D.device self.old self.new result }
     {
         if self.has_failed {
             return Err(StoreError::Failed);
