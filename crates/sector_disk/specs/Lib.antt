@@ -5,4 +5,5 @@ pub mod Memory
 pub mod Disks
 pub mod Places
 pub mod Turns
+pub mod Frames
 pub mod Labels

@@ -1,7 +1,8 @@
 //! Calls of a device of sectors, by what a crash at any moment of them leaves.
 ghost use Rattle.std.specs.Prelude.{◌≡◌, ◌+◌, ◌≤◌, [], ◌∷◌, length, IsErrOf, OnErr, OnOk};
 ghost use Rattle.block_disk.specs.Device.{SameMoments, synced, written};
-ghost use Rattle.block_disk.specs.Since.{LeavesBut, ReadsSameBut};
+ghost use Rattle.block_disk.specs.Since.{LeavesBut};
+ghost use Rattle.sector_disk.specs.Frames.{ReadsOnly, WritesOnly};
 ghost use Rattle.sector_disk.specs.Places.{one_sector};
 ghost use Rattle.sector_disk.specs.Readable.{IsLost};
 ghost use Rattle.sector_disk.specs.Size.{bytes_in, place_of, sector};
@@ -24,11 +25,8 @@ pub(crate) fn put_sector<S: Sectors>(
     requires fits { place_of size number + bytes_in size ≤ length (S.device sectors.old).now.bytes }
     ensures ok { OnOk result (S.device sectors.new
         ≡ written (place_of size number) bytes.now (S.device sectors.old)) }
-    ensures same { ReadsSameBut (one_sector size number ∷ [])
+    ensures writes_only { WritesOnly (one_sector size number ∷ []) size (S.of_size sectors.new)
         (S.device sectors.old) (S.device sectors.new) }
-    ensures any_moment { LeavesBut (one_sector size number ∷ [])
-        (S.device sectors.old) (S.device sectors.new) }
-    ensures size { S.of_size sectors.new ≡ size }
 {
     match sectors.write_sector(number, bytes) {
         Ok(()) => Ok(()),
@@ -63,8 +61,8 @@ pub(crate) fn get_sector<S: Sectors>(
     ensures ok { OnOk result (out.new ≡ sector size number (S.device sectors.old).now.bytes) }
     ensures unreadable { IsErrOf result Unreadable
         → IsLost (sector size number (S.device sectors.old).now.bytes) }
-    ensures same { SameMoments (S.device sectors.old) (S.device sectors.new) }
-    ensures size { S.of_size sectors.new ≡ size }
+    ensures reads_only { ReadsOnly size (S.of_size sectors.new)
+        (S.device sectors.old) (S.device sectors.new) }
 {
     sectors.read_sector(number, out)
 }

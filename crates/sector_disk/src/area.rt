@@ -1,7 +1,7 @@
 //! An area: as many sectors as a disk has, one after the other.
 ghost use Rattle.std.specs.Prelude.{◌≡◌, ◌+◌, ◌<◌, ◌≤◌, ℕ, [], ◌∷◌, length, OnOk};
 ghost use Rattle.block_disk.specs.Bytes.{part};
-ghost use Rattle.block_disk.specs.Since.{LeavesBut, ReadsSameBut};
+ghost use Rattle.sector_disk.specs.Frames.{WritesOnly};
 ghost use Rattle.sector_disk.specs.Places.{Matches, one_sector, sectors_from};
 ghost use Rattle.sector_disk.specs.Size.{bytes_in, place_of, sector};
 
@@ -29,11 +29,8 @@ pub(crate) fn fill_area<S: Sectors>(
         (S.device sectors.new).now.bytes ≡ image.now) }
     ensures durable { OnOk result ((S.device sectors.new).now.pending ≡ []) }
     ensures matches { Matches size first marks.new image.now (S.device sectors.new).now.bytes }
-    ensures same { ReadsSameBut (sectors_from size first (length marks.old) ∷ [])
-        (S.device sectors.old) (S.device sectors.new) }
-    ensures any_moment { LeavesBut (sectors_from size first (length marks.old) ∷ [])
-        (S.device sectors.old) (S.device sectors.new) }
-    ensures size { S.of_size sectors.new ≡ size }
+    ensures writes_only { WritesOnly (sectors_from size first (length marks.old) ∷ [])
+        size (S.of_size sectors.new) (S.device sectors.old) (S.device sectors.new) }
 {
     write_area(sectors, size, first, marks, image)?;
     // The area has to be durable before the gate shows it, and its marks stay until it is.
@@ -58,11 +55,8 @@ fn write_area<S: Sectors>(
     ensures all { OnOk result ((i : ℕ) → i < length marks.now
         → sector size (first + i) (S.device sectors.new).now.bytes ≡ sector size i image.now) }
     ensures matches { Matches size first marks.now image.now (S.device sectors.new).now.bytes }
-    ensures same { ReadsSameBut (sectors_from size first (length marks.now) ∷ [])
-        (S.device sectors.old) (S.device sectors.new) }
-    ensures any_moment { LeavesBut (sectors_from size first (length marks.now) ∷ [])
-        (S.device sectors.old) (S.device sectors.new) }
-    ensures size { S.of_size sectors.new ≡ size }
+    ensures writes_only { WritesOnly (sectors_from size first (length marks.now) ∷ [])
+        size (S.of_size sectors.new) (S.device sectors.old) (S.device sectors.new) }
 {
     for i in 0..marks.count() {
         write_marked(sectors, size, first, i, marks, image)?;
@@ -88,11 +82,8 @@ fn write_marked<S: Sectors>(
     ensures this { OnOk result (sector size (first + i) (S.device sectors.new).now.bytes
         ≡ sector size i image.now) }
     ensures matches { Matches size first marks.now image.now (S.device sectors.new).now.bytes }
-    ensures same { ReadsSameBut (one_sector size (first + i) ∷ [])
+    ensures writes_only { WritesOnly (one_sector size (first + i) ∷ []) size (S.of_size sectors.new)
         (S.device sectors.old) (S.device sectors.new) }
-    ensures any_moment { LeavesBut (one_sector size (first + i) ∷ [])
-        (S.device sectors.old) (S.device sectors.new) }
-    ensures size { S.of_size sectors.new ≡ size }
 {
     let is_marked = marks.has(i);
     if !is_marked {

@@ -1,6 +1,6 @@
 //! The gate, which says whose turn it is of two areas.
 ghost use Rattle.std.specs.Prelude.{◌≡◌, ◌<◌, ◌≤◌, ℕ, [], ◌∷◌, true, false, length, nat_eq, slice_index, OnErr, OnOk};
-ghost use Rattle.block_disk.specs.Since.{LeavesBut, ReadsSameBut};
+ghost use Rattle.sector_disk.specs.Frames.{WritesOnly};
 ghost use Rattle.sector_disk.specs.Places.{one_sector, turn_of};
 ghost use Rattle.sector_disk.specs.Size.{bytes_in, place_of};
 ghost use Rattle.sector_disk.specs.Turns.{KeepsHolding, KeepsShowing};
@@ -30,16 +30,13 @@ pub(crate) fn confirm<S: Sectors>(
     requires fits { place_of size 2 ≤ length (S.device sectors.old).now.bytes }
     ensures ok { OnOk result (gate.new.is_firm ≡ true) }
     ensures turn { gate.new.turn ≡ gate.old.turn }
-    ensures same { ReadsSameBut (one_sector size 1 ∷ [])
+    ensures writes_only { WritesOnly (one_sector size 1 ∷ []) size (S.of_size sectors.new)
         (S.device sectors.old) (S.device sectors.new) }
     ensures crash { KeepsHolding size gate.old.is_firm gate.old.turn gate.new.is_firm gate.new.turn
         (S.device sectors.old) (S.device sectors.new) }
     ensures any_moment { (count : ℕ)
         → KeepsShowing size count gate.old.is_firm gate.old.turn
         (S.device sectors.old) (S.device sectors.new) }
-    ensures within { LeavesBut (one_sector size 1 ∷ [])
-        (S.device sectors.old) (S.device sectors.new) }
-    ensures size { S.of_size sectors.new ≡ size }
 {
     let is_firm = gate.is_firm;
     if is_firm {
@@ -61,16 +58,13 @@ pub(crate) fn turn_gate<S: Sectors>(
     ensures err { OnErr result (gate.new.is_firm ≡ false) }
     ensures turn { gate.new.turn ≡ gate.old.turn }
     ensures durable { OnOk result ((S.device sectors.new).now.pending ≡ []) }
-    ensures same { ReadsSameBut (one_sector size 1 ∷ [])
+    ensures writes_only { WritesOnly (one_sector size 1 ∷ []) size (S.of_size sectors.new)
         (S.device sectors.old) (S.device sectors.new) }
     ensures crash { KeepsHolding size false gate.old.turn gate.new.is_firm gate.new.turn
         (S.device sectors.old) (S.device sectors.new) }
     ensures any_moment { (count : ℕ)
         → KeepsShowing size count false gate.old.turn
         (S.device sectors.old) (S.device sectors.new) }
-    ensures within { LeavesBut (one_sector size 1 ∷ [])
-        (S.device sectors.old) (S.device sectors.new) }
-    ensures size { S.of_size sectors.new ≡ size }
 {
     put_gate(sectors, size, gate.turn)?;
     gate.is_firm = true;
@@ -87,11 +81,8 @@ pub(crate) fn put_gate<S: Sectors>(
     requires fits { place_of size 2 ≤ length (S.device sectors.old).now.bytes }
     ensures durable { OnOk result ((S.device sectors.new).now.pending ≡ []) }
     ensures turned { OnOk result (turn_of size (S.device sectors.new).now.bytes ≡ turn) }
-    ensures same { ReadsSameBut (one_sector size 1 ∷ [])
+    ensures writes_only { WritesOnly (one_sector size 1 ∷ []) size (S.of_size sectors.new)
         (S.device sectors.old) (S.device sectors.new) }
-    ensures any_moment { LeavesBut (one_sector size 1 ∷ [])
-        (S.device sectors.old) (S.device sectors.new) }
-    ensures size { S.of_size sectors.new ≡ size }
 {
     say_gate(sectors, size, turn)?;
     // The gate has to be durable before an area is written that it may show.
@@ -103,11 +94,8 @@ fn say_gate<S: Sectors>(sectors: &mut S, size: SectorSize, turn: bool) -> Result
     requires size { S.of_size sectors.old ≡ size }
     requires fits { place_of size 2 ≤ length (S.device sectors.old).now.bytes }
     ensures turned { OnOk result (turn_of size (S.device sectors.new).now.bytes ≡ turn) }
-    ensures same { ReadsSameBut (one_sector size 1 ∷ [])
+    ensures writes_only { WritesOnly (one_sector size 1 ∷ []) size (S.of_size sectors.new)
         (S.device sectors.old) (S.device sectors.new) }
-    ensures any_moment { LeavesBut (one_sector size 1 ∷ [])
-        (S.device sectors.old) (S.device sectors.new) }
-    ensures size { S.of_size sectors.new ≡ size }
 {
     let mut room = [0u8; 4096];
     match size {
@@ -127,11 +115,8 @@ fn say_in<S: Sectors>(
     requires whole { length bytes.old ≡ bytes_in size }
     requires fits { place_of size 2 ≤ length (S.device sectors.old).now.bytes }
     ensures turned { OnOk result (turn_of size (S.device sectors.new).now.bytes ≡ turn) }
-    ensures same { ReadsSameBut (one_sector size 1 ∷ [])
+    ensures writes_only { WritesOnly (one_sector size 1 ∷ []) size (S.of_size sectors.new)
         (S.device sectors.old) (S.device sectors.new) }
-    ensures any_moment { LeavesBut (one_sector size 1 ∷ [])
-        (S.device sectors.old) (S.device sectors.new) }
-    ensures size { S.of_size sectors.new ≡ size }
 {
     say_turn(turn, bytes);
     put_sector(sectors, size, GATE, bytes)

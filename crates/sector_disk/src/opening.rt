@@ -1,8 +1,8 @@
 //! Reading what a device stands for, and making it stand for zeros.
 ghost use Rattle.std.specs.Prelude.{◌≡◌, ◌≢◌, ◌↔◌, ◌+◌, ◌^◌, ◌<◌, ◌≤◌, [], ◌∷◌, true, false, IsFalse, IsTrue, length, replicate, take, IfErr, IfOk, IsErrOf, OnOk};
 ghost use Rattle.block_disk.specs.Bytes.{part, spliced};
-ghost use Rattle.block_disk.specs.Device.{SameMoments};
 ghost use Rattle.block_disk.specs.Since.{ReadsSameBut};
+ghost use Rattle.sector_disk.specs.Frames.{ReadsOnly};
 ghost use Rattle.sector_disk.specs.Labels.{label_bytes};
 ghost use Rattle.sector_disk.specs.Places.{IsAsFound, shown, turn_of};
 ghost use Rattle.sector_disk.specs.declared.error.PlacesError.TheVariants.{Fault as PlacesFault, TooSmall};
@@ -258,8 +258,8 @@ fn read_gate<S: Sectors>(sectors: &mut S, size: SectorSize) -> Result<bool, Halt
     requires size { S.of_size sectors.old ≡ size }
     requires fits { place_of size 2 ≤ length (S.device sectors.old).now.bytes }
     ensures turn { IfOk result (λ turn. turn ≡ turn_of size (S.device sectors.old).now.bytes) }
-    ensures same { SameMoments (S.device sectors.old) (S.device sectors.new) }
-    ensures size { S.of_size sectors.new ≡ size }
+    ensures reads_only { ReadsOnly size (S.of_size sectors.new)
+        (S.device sectors.old) (S.device sectors.new) }
 {
     let mut room = [0u8; 4096];
     match size {
@@ -274,8 +274,8 @@ fn read_turn<S: Sectors>(sectors: &mut S, size: SectorSize, bytes: &mut [u8]) ->
     requires whole { length bytes.old ≡ bytes_in size }
     requires fits { place_of size 2 ≤ length (S.device sectors.old).now.bytes }
     ensures turn { IfOk result (λ turn. turn ≡ turn_of size (S.device sectors.old).now.bytes) }
-    ensures same { SameMoments (S.device sectors.old) (S.device sectors.new) }
-    ensures size { S.of_size sectors.new ≡ size }
+    ensures reads_only { ReadsOnly size (S.of_size sectors.new)
+        (S.device sectors.old) (S.device sectors.new) }
 {
     match get_sector(sectors, size, 1, bytes) {
         Ok(()) => Ok(bytes[0] == 1),
@@ -296,8 +296,8 @@ fn read_area<S: Sectors>(
     requires fits { place_of size (first + count) ≤ length (S.device sectors.old).now.bytes }
     ensures area { IfOk result (λ image. image.items
         ≡ part (place_of size first) (place_of size count) (S.device sectors.old).now.bytes) }
-    ensures same { SameMoments (S.device sectors.old) (S.device sectors.new) }
-    ensures size { S.of_size sectors.new ≡ size }
+    ensures reads_only { ReadsOnly size (S.of_size sectors.new)
+        (S.device sectors.old) (S.device sectors.new) }
 {
     let _sectors = sectors.count();
     let mut image = zeros(alloc, size, count)?;
@@ -334,8 +334,8 @@ fn read_sectors<S: Sectors>(
     requires fits { place_of size (first + count) ≤ length (S.device sectors.old).now.bytes }
     ensures area { OnOk result (image.new ≡ part (place_of size first) (place_of size count)
         (S.device sectors.old).now.bytes) }
-    ensures same { SameMoments (S.device sectors.old) (S.device sectors.new) }
-    ensures size { S.of_size sectors.new ≡ size }
+    ensures reads_only { ReadsOnly size (S.of_size sectors.new)
+        (S.device sectors.old) (S.device sectors.new) }
 {
     for i in 0..count {
         read_one(sectors, size, first, i, image, room)?;
@@ -360,8 +360,8 @@ fn read_one<S: Sectors>(
     ensures ok { OnOk result (image.new
         ≡ spliced image.old (place_of size i)
         (sector size (first + i) (S.device sectors.old).now.bytes)) }
-    ensures same { SameMoments (S.device sectors.old) (S.device sectors.new) }
-    ensures size { S.of_size sectors.new ≡ size }
+    ensures reads_only { ReadsOnly size (S.of_size sectors.new)
+        (S.device sectors.old) (S.device sectors.new) }
 {
     let _sectors = sectors.count();
     let number = first + i as u64;

@@ -2,7 +2,7 @@
 ghost use Rattle.std.specs.Prelude.{◌≡◌, ◌+◌, ◌^◌, ◌<◌, ◌≤◌, ℕ, List, [], ◌∷◌, Bool, true, false, length, OnOk};
 ghost use Rattle.block_disk.specs.Bytes.{spliced};
 ghost use Rattle.block_disk.specs.Device.{Moment};
-ghost use Rattle.block_disk.specs.Since.{LeavesBut, ReadsSameBut};
+ghost use Rattle.sector_disk.specs.Frames.{WritesOnly};
 ghost use Rattle.sector_disk.specs.Places.{Reads, area, first_sector};
 ghost use Rattle.sector_disk.specs.Size.{place_of};
 ghost use Rattle.sector_disk.specs.Turns.{KeepsImage, KeepsShowing, KeepsShowingImage, MakesDurable, its_sectors};
@@ -43,11 +43,8 @@ pub(crate) fn sync_places<S: Sectors>(
     ensures any_moment { KeepsShowingImage size
         (length fresh.old) image.now gate.old.is_firm gate.old.turn
         (S.device sectors.old) (S.device sectors.new) }
-    ensures within { LeavesBut (its_sectors size (length fresh.old) ∷ [])
-        (S.device sectors.old) (S.device sectors.new) }
-    ensures beyond { ReadsSameBut (its_sectors size (length fresh.old) ∷ [])
-        (S.device sectors.old) (S.device sectors.new) }
-    ensures size { S.of_size sectors.new ≡ size }
+    ensures writes_only { WritesOnly (its_sectors size (length fresh.old) ∷ [])
+        size (S.of_size sectors.new) (S.device sectors.old) (S.device sectors.new) }
 {
     // Where the gate may say either, both areas may be shown: it has to be firm before one of them is written.
     confirm(sectors, size, gate)?;
@@ -80,11 +77,8 @@ fn fill_other<S: Sectors>(
         (S.device sectors.old) (S.device sectors.new) }
     ensures any_moment { KeepsShowing size (length fresh.old) true gate.old.turn
         (S.device sectors.old) (S.device sectors.new) }
-    ensures within { LeavesBut (its_sectors size (length fresh.old) ∷ [])
-        (S.device sectors.old) (S.device sectors.new) }
-    ensures beyond { ReadsSameBut (its_sectors size (length fresh.old) ∷ [])
-        (S.device sectors.old) (S.device sectors.new) }
-    ensures size { S.of_size sectors.new ≡ size }
+    ensures writes_only { WritesOnly (its_sectors size (length fresh.old) ∷ [])
+        size (S.of_size sectors.new) (S.device sectors.old) (S.device sectors.new) }
 {
     let _sectors = sectors.count();
     let count = stale.count();

@@ -1,4 +1,4 @@
-use Rattle.std.proofs.Common.{◌≡◌, ◌⊎◌, ◌+◌, ◌≤◌, length, sym, ◌∙◌, ap, subst}
+use Rattle.std.proofs.Common.{◌≡◌, ◌⊎◌, ◌+◌, ◌≤◌, length, sym, ◌∙◌, ap, subst, rules}
 use Rattle.block_disk.specs.Device.{SameMoments, TornWrite, written}
 use Rattle.block_disk.proofs.Images.{leaves_torn}
 use Rattle.sector_disk.specs.declared.size.SectorSize.{SectorSize}
@@ -18,38 +18,40 @@ returns-in-Ok-clause-ok g c =
     let old = g.S.Sectors.device c.args.sectors.now in
     c.in-Ok.ensures.ok ∙ ap (λ (s : SectorSize). written (place_of s c.args.number) c.args.bytes.now old) c.requires.size
 
-pub returns-in-Ok-clause-same : goal.returns-in-Ok-clause-same
-returns-in-Ok-clause-same g c =
-    let old = g.S.Sectors.device c.args.sectors.now in
-    let new = g.S.Sectors.device c.write_sector.new.self in
-    let ok : new ≡ written (place_of c.args.size c.args.number) c.args.bytes.now old =
-    c.in-Ok.ensures.ok ∙ ap (λ (s : SectorSize). written (place_of s c.args.number) c.args.bytes.now old) c.requires.size in
-    same_but (place_of c.args.size c.args.number) (bytes_in c.args.size) old new
-    (torn_sector (place_of c.args.size c.args.number) (bytes_in c.args.size) c.args.bytes.now old new c.requires.whole c.requires.fits ok)
+pub returns-in-Ok-clause-writes_only : goal.returns-in-Ok-clause-writes_only
+returns-in-Ok-clause-writes_only g c = record {
+  size = search rules;
+  same =
+      let old = g.S.Sectors.device c.args.sectors.now in
+      let new = g.S.Sectors.device c.write_sector.new.self in
+      let ok : new ≡ written (place_of c.args.size c.args.number) c.args.bytes.now old =
+      c.in-Ok.ensures.ok ∙ ap (λ (s : SectorSize). written (place_of s c.args.number) c.args.bytes.now old) c.requires.size in
+      same_but (place_of c.args.size c.args.number) (bytes_in c.args.size) old new
+      (torn_sector (place_of c.args.size c.args.number) (bytes_in c.args.size) c.args.bytes.now old new c.requires.whole c.requires.fits ok);
+  leaves =
+      let old = g.S.Sectors.device c.args.sectors.now in
+      let new = g.S.Sectors.device c.write_sector.new.self in
+      let ok : new ≡ written (place_of c.args.size c.args.number) c.args.bytes.now old =
+      c.in-Ok.ensures.ok ∙ ap (λ (s : SectorSize). written (place_of s c.args.number) c.args.bytes.now old) c.requires.size in
+      leaves_torn (place_of c.args.size c.args.number) (bytes_in c.args.size) old new
+      (torn_sector (place_of c.args.size c.args.number) (bytes_in c.args.size) c.args.bytes.now old new c.requires.whole c.requires.fits ok);
+}
 
-pub returns-in-Ok-clause-any_moment : goal.returns-in-Ok-clause-any_moment
-returns-in-Ok-clause-any_moment g c =
-    let old = g.S.Sectors.device c.args.sectors.now in
-    let new = g.S.Sectors.device c.write_sector.new.self in
-    let ok : new ≡ written (place_of c.args.size c.args.number) c.args.bytes.now old =
-    c.in-Ok.ensures.ok ∙ ap (λ (s : SectorSize). written (place_of s c.args.number) c.args.bytes.now old) c.requires.size in
-    leaves_torn (place_of c.args.size c.args.number) (bytes_in c.args.size) old new
-    (torn_sector (place_of c.args.size c.args.number) (bytes_in c.args.size) c.args.bytes.now old new c.requires.whole c.requires.fits ok)
-
-pub returns-in-Err-clause-same : goal.returns-in-Err-clause-same
-returns-in-Err-clause-same g c =
-    let old = g.S.Sectors.device c.args.sectors.now in
-    let new = g.S.Sectors.device c.write_sector.new.self in
-    let fault : SameMoments old new ⊎ TornWrite (place_of c.args.size c.args.number) (length c.args.bytes.now) old new =
-    subst (λ (s : SectorSize). SameMoments old new ⊎ TornWrite (place_of s c.args.number) (length c.args.bytes.now) old new) c.requires.size c.in-Err.ensures.fault in
-    same_but (place_of c.args.size c.args.number) (bytes_in c.args.size) old new
-    (failed_sector (place_of c.args.size c.args.number) (bytes_in c.args.size) c.args.bytes.now old new c.requires.whole fault)
-
-pub returns-in-Err-clause-any_moment : goal.returns-in-Err-clause-any_moment
-returns-in-Err-clause-any_moment g c =
-    let old = g.S.Sectors.device c.args.sectors.now in
-    let new = g.S.Sectors.device c.write_sector.new.self in
-    let fault : SameMoments old new ⊎ TornWrite (place_of c.args.size c.args.number) (length c.args.bytes.now) old new =
-    subst (λ (s : SectorSize). SameMoments old new ⊎ TornWrite (place_of s c.args.number) (length c.args.bytes.now) old new) c.requires.size c.in-Err.ensures.fault in
-    leaves_torn (place_of c.args.size c.args.number) (bytes_in c.args.size) old new
-    (failed_sector (place_of c.args.size c.args.number) (bytes_in c.args.size) c.args.bytes.now old new c.requires.whole fault)
+pub returns-in-Err-clause-writes_only : goal.returns-in-Err-clause-writes_only
+returns-in-Err-clause-writes_only g c = record {
+  size = search rules;
+  same =
+      let old = g.S.Sectors.device c.args.sectors.now in
+      let new = g.S.Sectors.device c.write_sector.new.self in
+      let fault : SameMoments old new ⊎ TornWrite (place_of c.args.size c.args.number) (length c.args.bytes.now) old new =
+      subst (λ (s : SectorSize). SameMoments old new ⊎ TornWrite (place_of s c.args.number) (length c.args.bytes.now) old new) c.requires.size c.in-Err.ensures.fault in
+      same_but (place_of c.args.size c.args.number) (bytes_in c.args.size) old new
+      (failed_sector (place_of c.args.size c.args.number) (bytes_in c.args.size) c.args.bytes.now old new c.requires.whole fault);
+  leaves =
+      let old = g.S.Sectors.device c.args.sectors.now in
+      let new = g.S.Sectors.device c.write_sector.new.self in
+      let fault : SameMoments old new ⊎ TornWrite (place_of c.args.size c.args.number) (length c.args.bytes.now) old new =
+      subst (λ (s : SectorSize). SameMoments old new ⊎ TornWrite (place_of s c.args.number) (length c.args.bytes.now) old new) c.requires.size c.in-Err.ensures.fault in
+      leaves_torn (place_of c.args.size c.args.number) (bytes_in c.args.size) old new
+      (failed_sector (place_of c.args.size c.args.number) (bytes_in c.args.size) c.args.bytes.now old new c.requires.whole fault);
+}

@@ -1,4 +1,4 @@
-use Rattle.std.proofs.Common.{◌≡◌, ℕ, ◌+◌, ◌<◌, ◌≤◌, List, [], ◌∷◌, length, sym, ◌∙◌, ap, subst, arith}
+use Rattle.std.proofs.Common.{◌≡◌, ℕ, ◌+◌, ◌<◌, ◌≤◌, List, [], ◌∷◌, length, sym, ◌∙◌, ap, subst, arith, rules}
 use Rattle.block_disk.specs.Device.{Device, SameOutside}
 use Rattle.sector_disk.specs.Places.{Matches, sectors_from}
 use Rattle.sector_disk.specs.Size.{place_of, sector}
@@ -10,16 +10,17 @@ pub returns-in_err-settle-clause-matches : goal.returns-in_err-settle-clause-mat
 returns-in_err-settle-clause-matches g c =
     subst (λ (xs : List ℕ). Matches c.args.size c.args.first c.args.marks.now c.args.image.now xs) (sym c.settle.ensures.same) c.write_area.ensures.matches
 
-pub returns-in_err-settle-clause-same : goal.returns-in_err-settle-clause-same
-returns-in_err-settle-clause-same g c =
-    let size = c.args.size in
-    subst (λ (xs : List ℕ). SameOutside (sectors_from size c.args.first (length c.args.marks.now) ∷ []) (g.S.Sectors.device c.args.sectors.now).now.bytes xs)
-    (sym c.settle.ensures.same) c.write_area.ensures.same
-
-pub returns-in_err-settle-clause-any_moment : goal.returns-in_err-settle-clause-any_moment
-returns-in_err-settle-clause-any_moment g c =
-    filled_settled (g.S.Sectors.device c.args.sectors.now) (g.S.Sectors.device c.write_area.new.sectors) (g.S.Sectors.device c.settle.new.sectors)
-    (sectors_from c.args.size c.args.first (length c.args.marks.now)) c.write_area.ensures.any_moment c.settle.ensures.any_moment
+pub returns-in_err-settle-clause-writes_only : goal.returns-in_err-settle-clause-writes_only
+returns-in_err-settle-clause-writes_only g c = record {
+  size = search rules;
+  same =
+      let size = c.args.size in
+      subst (λ (xs : List ℕ). SameOutside (sectors_from size c.args.first (length c.args.marks.now) ∷ []) (g.S.Sectors.device c.args.sectors.now).now.bytes xs)
+      (sym c.settle.ensures.same) c.write_area.ensures.writes_only.same;
+  leaves =
+      filled_settled (g.S.Sectors.device c.args.sectors.now) (g.S.Sectors.device c.write_area.new.sectors) (g.S.Sectors.device c.settle.new.sectors)
+      (sectors_from c.args.size c.args.first (length c.args.marks.now)) c.write_area.ensures.writes_only.leaves c.settle.ensures.any_moment;
+}
 
 pub returns-clause-whole : goal.returns-clause-whole
 returns-clause-whole g c =
@@ -29,7 +30,7 @@ returns-clause-whole g c =
     let new = g.S.Sectors.device c.settle.new.sectors in
     let same = c.settle.ensures.same in
     let fits : place_of size (c.args.first + length c.args.marks.now) ≤ length new.now.bytes =
-    omega (arith, ap (λ (xs : List ℕ). length xs) same, c.write_area.ensures.same.size, c.requires.fits) in
+    omega (arith, ap (λ (xs : List ℕ). length xs) same, c.write_area.ensures.writes_only.same.size, c.requires.fits) in
     whole_area size c.args.first (length c.args.marks.now) c.args.image.now new.now.bytes c.requires.long fits
     (λ i less. ap (λ (xs : List ℕ). sector size (c.args.first + i) xs) same ∙ c.in_ok-write_area.ensures.all i less)
 
@@ -43,13 +44,14 @@ returns-clause-matches g c =
     matches_all size c.args.first c.clear.new.self c.args.image.now (g.S.Sectors.device c.settle.new.sectors).now.bytes
     (λ i less. ap (λ (xs : List ℕ). sector size (c.args.first + i) xs) c.settle.ensures.same ∙ c.in_ok-write_area.ensures.all i (subst (λ (n : ℕ). i < n) long less))
 
-pub returns-clause-same : goal.returns-clause-same
-returns-clause-same g c =
-    let size = c.args.size in
-    subst (λ (xs : List ℕ). SameOutside (sectors_from size c.args.first (length c.args.marks.now) ∷ []) (g.S.Sectors.device c.args.sectors.now).now.bytes xs)
-    (sym c.settle.ensures.same) c.write_area.ensures.same
-
-pub returns-clause-any_moment : goal.returns-clause-any_moment
-returns-clause-any_moment g c =
-    filled_settled (g.S.Sectors.device c.args.sectors.now) (g.S.Sectors.device c.write_area.new.sectors) (g.S.Sectors.device c.settle.new.sectors)
-    (sectors_from c.args.size c.args.first (length c.args.marks.now)) c.write_area.ensures.any_moment c.settle.ensures.any_moment
+pub returns-clause-writes_only : goal.returns-clause-writes_only
+returns-clause-writes_only g c = record {
+  size = search rules;
+  same =
+      let size = c.args.size in
+      subst (λ (xs : List ℕ). SameOutside (sectors_from size c.args.first (length c.args.marks.now) ∷ []) (g.S.Sectors.device c.args.sectors.now).now.bytes xs)
+      (sym c.settle.ensures.same) c.write_area.ensures.writes_only.same;
+  leaves =
+      filled_settled (g.S.Sectors.device c.args.sectors.now) (g.S.Sectors.device c.write_area.new.sectors) (g.S.Sectors.device c.settle.new.sectors)
+      (sectors_from c.args.size c.args.first (length c.args.marks.now)) c.write_area.ensures.writes_only.leaves c.settle.ensures.any_moment;
+}

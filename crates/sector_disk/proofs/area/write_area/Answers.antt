@@ -17,29 +17,31 @@ write_marked-requires-clause-matches g c = c.loop-i.invariant.1.matches
 pub loop-i-preserved : goal.loop-i-preserved
 loop-i-preserved g c =
     let less : c.loop-i.i < length c.args.marks.now = search rules in (
-      c.write_marked.ensures.size,
+      c.write_marked.ensures.writes_only.size,
       filled_more c.args.size c.args.first c.loop-i.i c.args.marks.now c.args.image.now (g.S.Sectors.device c.args.sectors.now) (g.S.Sectors.device c.loop-i.sectors)
-          (g.S.Sectors.device c.write_marked.new.sectors) less c.requires.fits c.loop-i.invariant.1 c.in_ok-write_marked.ensures.this c.write_marked.ensures.matches c.write_marked.ensures.same
-          c.write_marked.ensures.any_moment,
+          (g.S.Sectors.device c.write_marked.new.sectors) less c.requires.fits c.loop-i.invariant.1 c.in_ok-write_marked.ensures.this c.write_marked.ensures.matches c.write_marked.ensures.writes_only.same
+          c.write_marked.ensures.writes_only.leaves,
     )
 
-pub returns-in_err-write_marked-clause-same : goal.returns-in_err-write_marked-clause-same
-returns-in_err-write_marked-clause-same g c =
-    let less : c.loop-i.i < length c.args.marks.now = search rules in
-    filled_same c.args.size c.args.first c.loop-i.i c.args.marks.now c.args.image.now (g.S.Sectors.device c.args.sectors.now) (g.S.Sectors.device c.loop-i.sectors)
-    (g.S.Sectors.device c.write_marked.new.sectors) less c.loop-i.invariant.1 c.write_marked.ensures.same
-
-pub returns-in_err-write_marked-clause-any_moment : goal.returns-in_err-write_marked-clause-any_moment
-returns-in_err-write_marked-clause-any_moment g c =
-    let less : c.loop-i.i < length c.args.marks.now = search rules in
-    filled_leaves c.args.size c.args.first c.loop-i.i c.args.marks.now c.args.image.now (g.S.Sectors.device c.args.sectors.now) (g.S.Sectors.device c.loop-i.sectors)
-    (g.S.Sectors.device c.write_marked.new.sectors) less c.loop-i.invariant.1 c.write_marked.ensures.any_moment
+pub returns-in_err-write_marked-clause-writes_only : goal.returns-in_err-write_marked-clause-writes_only
+returns-in_err-write_marked-clause-writes_only g c = record {
+  size = search rules;
+  same =
+      let less : c.loop-i.i < length c.args.marks.now = search rules in
+      filled_same c.args.size c.args.first c.loop-i.i c.args.marks.now c.args.image.now (g.S.Sectors.device c.args.sectors.now) (g.S.Sectors.device c.loop-i.sectors)
+      (g.S.Sectors.device c.write_marked.new.sectors) less c.loop-i.invariant.1 c.write_marked.ensures.writes_only.same;
+  leaves =
+      let less : c.loop-i.i < length c.args.marks.now = search rules in
+      filled_leaves c.args.size c.args.first c.loop-i.i c.args.marks.now c.args.image.now (g.S.Sectors.device c.args.sectors.now) (g.S.Sectors.device c.loop-i.sectors)
+      (g.S.Sectors.device c.write_marked.new.sectors) less c.loop-i.invariant.1 c.write_marked.ensures.writes_only.leaves;
+}
 
 pub returns-clause-matches : goal.returns-clause-matches
 returns-clause-matches g c = c.loop-i.invariant.1.matches
 
-pub returns-clause-same : goal.returns-clause-same
-returns-clause-same g c = c.loop-i.invariant.1.same
-
-pub returns-clause-any_moment : goal.returns-clause-any_moment
-returns-clause-any_moment g c = c.loop-i.invariant.1.leaves
+pub returns-clause-writes_only : goal.returns-clause-writes_only
+returns-clause-writes_only g c = record {
+  size = search rules;
+  same = c.loop-i.invariant.1.same;
+  leaves = c.loop-i.invariant.1.leaves;
+}

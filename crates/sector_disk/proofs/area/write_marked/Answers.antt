@@ -14,14 +14,14 @@ returns-then-not-is_marked-clause-this g c =
     let clear : get_or c.args.marks.now c.args.i true ≡ false = search rules in
     c.requires.matches c.args.i clear
 
-pub returns-then-not-is_marked-clause-same : goal.returns-then-not-is_marked-clause-same
-returns-then-not-is_marked-clause-same g c =
-    outside_refl (one_sector c.args.size (c.args.first + c.args.i) ∷ []) (g.S.Sectors.device c.args.sectors.now).now.bytes
-
-pub returns-then-not-is_marked-clause-any_moment : goal.returns-then-not-is_marked-clause-any_moment
-returns-then-not-is_marked-clause-any_moment g c =
-    let old = g.S.Sectors.device c.args.sectors.now in
-    begin old (ImageBut old (one_sector c.args.size (c.args.first + c.args.i) ∷ []))
+pub returns-then-not-is_marked-clause-writes_only : goal.returns-then-not-is_marked-clause-writes_only
+returns-then-not-is_marked-clause-writes_only g c = record {
+  size = search rules;
+  same = outside_refl (one_sector c.args.size (c.args.first + c.args.i) ∷ []) (g.S.Sectors.device c.args.sectors.now).now.bytes;
+  leaves =
+      let old = g.S.Sectors.device c.args.sectors.now in
+      begin old (ImageBut old (one_sector c.args.size (c.args.first + c.args.i) ∷ []));
+}
 
 pub returns-clause-this : goal.returns-clause-this
 returns-clause-this g c =
@@ -39,7 +39,7 @@ returns-clause-matches g c =
     let size = c.args.size in
     let marked : get_or c.args.marks.now c.args.i true ≡ true = search rules in
     matches_torn size c.args.first c.args.i c.args.marks.now c.args.image.now (g.S.Sectors.device c.args.sectors.now).now.bytes (g.S.Sectors.device c.put_sector.new.sectors).now.bytes
-    marked c.requires.fits c.put_sector.ensures.same c.requires.matches
+    marked c.requires.fits c.put_sector.ensures.writes_only.same c.requires.matches
 
 pub overflow_add-number : goal.overflow_add-number
 overflow_add-number g c =

@@ -32,12 +32,12 @@ fill_area-requires-clause-matches g c =
 pub put_gate-requires-clause-fits : goal.put_gate-requires-clause-fits
 put_gate-requires-clause-fits g c =
     let fits = gate_fits c.args.size c.args.count (length (g.S.Sectors.device c.args.sectors.now).now.bytes) c.requires.fits in
-    omega (arith, fits, c.put_label.ensures.same.size, c.fill_area.ensures.same.size)
+    omega (arith, fits, c.put_label.ensures.same.size, c.fill_area.ensures.writes_only.same.size)
 
 pub put_label-requires-2-clause-fits : goal.put_label-requires-2-clause-fits
 put_label-requires-2-clause-fits g c =
     let fits = gate_fits c.args.size c.args.count (length (g.S.Sectors.device c.args.sectors.now).now.bytes) c.requires.fits in
-    omega (arith, fits, c.put_label.ensures.same.size, c.fill_area.ensures.same.size, c.put_gate.ensures.same.size)
+    omega (arith, fits, c.put_label.ensures.same.size, c.fill_area.ensures.writes_only.same.size, c.put_gate.ensures.writes_only.same.size)
 
 pub returns-in_err-put_label-clause-count : goal.returns-in_err-put_label-clause-count
 returns-in_err-put_label-clause-count g c = ap (λ (xs : List Bool). length xs) c.requires.fresh ∙ length-replicate c.args.count true
@@ -57,7 +57,7 @@ returns-in_err-fill_area-clause-beyond g c =
     let a = (g.S.Sectors.device c.args.sectors.now).now.bytes in
     let b = (g.S.Sectors.device c.put_label.new.sectors).now.bytes in
     let d = (g.S.Sectors.device c.fill_area.new.sectors).now.bytes in
-    outside_trans all a b d (among_label c.args.size c.args.count a b c.put_label.ensures.same) (among_first c.args.size c.args.count (length c.args.fresh.now) b d many c.fill_area.ensures.same)
+    outside_trans all a b d (among_label c.args.size c.args.count a b c.put_label.ensures.same) (among_first c.args.size c.args.count (length c.args.fresh.now) b d many c.fill_area.ensures.writes_only.same)
 
 pub returns-in_err-put_gate-clause-count : goal.returns-in_err-put_gate-clause-count
 returns-in_err-put_gate-clause-count g c =
@@ -72,7 +72,7 @@ returns-in_err-put_gate-clause-beyond g c =
     let d = (g.S.Sectors.device c.fill_area.new.sectors).now.bytes in
     let e = (g.S.Sectors.device c.put_gate.new.sectors).now.bytes in
     outside_trans all a b e (among_label c.args.size c.args.count a b c.put_label.ensures.same)
-    (outside_trans all b d e (among_first c.args.size c.args.count (length c.args.fresh.now) b d many c.fill_area.ensures.same) (among_gate c.args.size c.args.count d e c.put_gate.ensures.same))
+    (outside_trans all b d e (among_first c.args.size c.args.count (length c.args.fresh.now) b d many c.fill_area.ensures.writes_only.same) (among_gate c.args.size c.args.count d e c.put_gate.ensures.writes_only.same))
 
 pub returns-clause-count : goal.returns-clause-count
 returns-clause-count g c =
@@ -88,8 +88,8 @@ returns-clause-beyond g c =
     let e = (g.S.Sectors.device c.put_gate.new.sectors).now.bytes in
     let f = (g.S.Sectors.device c.put_label-2.new.sectors).now.bytes in
     outside_trans all a b f (among_label c.args.size c.args.count a b c.put_label.ensures.same)
-    (outside_trans all b d f (among_first c.args.size c.args.count (length c.args.fresh.now) b d many c.fill_area.ensures.same)
-    (outside_trans all d e f (among_gate c.args.size c.args.count d e c.put_gate.ensures.same) (among_label c.args.size c.args.count e f c.put_label-2.ensures.same)))
+    (outside_trans all b d f (among_first c.args.size c.args.count (length c.args.fresh.now) b d many c.fill_area.ensures.writes_only.same)
+    (outside_trans all d e f (among_gate c.args.size c.args.count d e c.put_gate.ensures.writes_only.same) (among_label c.args.size c.args.count e f c.put_label-2.ensures.same)))
 
 pub returns-clause-kept : goal.returns-clause-kept
 returns-clause-kept g c =
@@ -97,10 +97,10 @@ returns-clause-kept g c =
     let count = c.args.count in
     let many : length c.args.fresh.now ≡ count = ap (λ (xs : List Bool). length xs) c.requires.fresh ∙ length-replicate count true in
     let filled = g.S.Sectors.device c.fill_area.new.sectors in
-    let fits : place_of size (count + count + 2) ≤ length filled.now.bytes = omega (arith, c.requires.fits, c.put_label.ensures.same.size, c.fill_area.ensures.same.size) in
+    let fits : place_of size (count + count + 2) ≤ length filled.now.bytes = omega (arith, c.requires.fits, c.put_label.ensures.same.size, c.fill_area.ensures.writes_only.same.size) in
     let whole : area size count false filled.now.bytes ≡ c.args.image.now =
     subst (λ (n : ℕ). part (place_of size 2) (place_of size n) filled.now.bytes ≡ c.args.image.now) many c.in_ok-fill_area.ensures.whole in
     on_ok_weaker c.put_label-2.result
     (λ durable. kept_laid size count c.fill_area.new.marks c.args.stale.now c.args.image.now filled (g.S.Sectors.device c.put_gate.new.sectors) (g.S.Sectors.device c.put_label-2.new.sectors)
-    durable fits c.put_gate.ensures.same c.in_ok-put_gate.ensures.turned c.put_label-2.ensures.same whole (c.fill_area.ensures.count ∙ many) c.requires.stale c.fill_area.ensures.matches)
+    durable fits c.put_gate.ensures.writes_only.same c.in_ok-put_gate.ensures.turned c.put_label-2.ensures.same whole (c.fill_area.ensures.count ∙ many) c.requires.stale c.fill_area.ensures.matches)
     c.put_label-2.ensures.durable

@@ -36,15 +36,17 @@ loop-i-preserved g c =
     let is : c.read_one.new.image ≡ spliced c.loop-i.image (place_of c.args.size i) (sector c.args.size (c.args.first + i) old.now.bytes) =
     c.in_ok-read_one.ensures.ok ∙ ap (λ (xs : List ℕ). spliced c.loop-i.image (place_of c.args.size i) (sector c.args.size (c.args.first + i) xs)) bytes in
     record {
-      size = c.read_one.ensures.size;
-      same = moments_trans old (g.S.Sectors.device c.loop-i.sectors) (g.S.Sectors.device c.read_one.new.sectors) c.loop-i.invariant.same c.read_one.ensures.same;
+      size = c.read_one.ensures.reads_only.size;
+      same = moments_trans old (g.S.Sectors.device c.loop-i.sectors) (g.S.Sectors.device c.read_one.new.sectors) c.loop-i.invariant.same c.read_one.ensures.reads_only.same;
       long = copied_long c.args.size c.args.first i c.args.count c.loop-i.image c.read_one.new.image old.now.bytes less c.loop-i.invariant.long c.requires.fits is;
       all = copied_more c.args.size c.args.first i c.args.count c.loop-i.image c.read_one.new.image old.now.bytes less c.loop-i.invariant.long c.requires.fits is c.loop-i.invariant.all;
     }
 
-pub returns-in_err-read_one-clause-same : goal.returns-in_err-read_one-clause-same
-returns-in_err-read_one-clause-same g c =
-    moments_trans (g.S.Sectors.device c.args.sectors.now) (g.S.Sectors.device c.loop-i.sectors) (g.S.Sectors.device c.read_one.new.sectors) c.loop-i.invariant.same c.read_one.ensures.same
+pub returns-in_err-read_one-clause-reads_only : goal.returns-in_err-read_one-clause-reads_only
+returns-in_err-read_one-clause-reads_only g c = record {
+  size = search rules;
+  same = moments_trans (g.S.Sectors.device c.args.sectors.now) (g.S.Sectors.device c.loop-i.sectors) (g.S.Sectors.device c.read_one.new.sectors) c.loop-i.invariant.same c.read_one.ensures.reads_only.same;
+}
 
 pub returns-clause-area : goal.returns-clause-area
 returns-clause-area g c =

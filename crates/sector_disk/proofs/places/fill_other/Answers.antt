@@ -1,4 +1,4 @@
-use Rattle.std.proofs.Common.{◌≡◌, ℕ, Bool, not, length, refl, sym, ◌∙◌, ap, subst, arith}
+use Rattle.std.proofs.Common.{◌≡◌, ℕ, Bool, not, length, refl, sym, ◌∙◌, ap, subst, arith, rules}
 use Rattle.block_disk.specs.Images.{Always}
 use Rattle.sector_disk.specs.Places.{Holds, first_sector}
 use Rattle.sector_disk.specs.Size.{place_of}
@@ -41,7 +41,7 @@ returns-in_err-fill_area-clause-reads g c =
     c.first_of-first.ensures ∙ ap (λ (n : ℕ). first_sector n (not c.args.gate.now.turn)) (c.count-count.ensures ∙ c.requires.count) in
     reads_filled size (length c.args.fresh.now) c.args.gate.now.turn c.args.fresh.now c.args.stale.now c.fill_area.new.marks c.args.image.now
     (g.S.Sectors.device c.args.sectors.now).now.bytes (g.S.Sectors.device c.fill_area.new.sectors).now.bytes c.first_of-first.result first refl c.requires.count
-    c.fill_area.ensures.same c.fill_area.ensures.matches c.requires.reads
+    c.fill_area.ensures.writes_only.same c.fill_area.ensures.matches c.requires.reads
 
 pub returns-in_err-fill_area-clause-crash : goal.returns-in_err-fill_area-clause-crash
 returns-in_err-fill_area-clause-crash g c = λ label m bytes always.
@@ -51,7 +51,7 @@ returns-in_err-fill_area-clause-crash g c = λ label m bytes always.
     let new = g.S.Sectors.device c.fill_area.new.sectors in
     let first : c.first_of-first.result ≡ first_sector (length c.args.fresh.now) (not c.args.gate.now.turn) =
     c.first_of-first.ensures ∙ ap (λ (n : ℕ). first_sector n (not c.args.gate.now.turn)) (c.count-count.ensures ∙ c.requires.count) in
-    let kept = leaves_filled size count turn label m (g.S.Sectors.device c.args.sectors.now) new c.first_of-first.result (length c.args.stale.now) first c.requires.count c.fill_area.ensures.any_moment always in
+    let kept = leaves_filled size count turn label m (g.S.Sectors.device c.args.sectors.now) new c.first_of-first.result (length c.args.stale.now) first c.requires.count c.fill_area.ensures.writes_only.leaves always in
     subst (λ (f : Bool). Always new (Holds size count f turn label m)) (sym c.requires.firm) kept.1
 
 pub returns-in_err-fill_area-clause-any_moment : goal.returns-in_err-fill_area-clause-any_moment
@@ -60,21 +60,22 @@ returns-in_err-fill_area-clause-any_moment g c = λ label m always.
     let first : c.first_of-first.result ≡ first_sector (length c.args.fresh.now) (not c.args.gate.now.turn) =
     c.first_of-first.ensures ∙ ap (λ (n : ℕ). first_sector n (not c.args.gate.now.turn)) (c.count-count.ensures ∙ c.requires.count) in
     (leaves_filled size (length c.args.fresh.now) c.args.gate.now.turn label m (g.S.Sectors.device c.args.sectors.now) (g.S.Sectors.device c.fill_area.new.sectors) c.first_of-first.result
-    (length c.args.stale.now) first c.requires.count c.fill_area.ensures.any_moment always).0
+    (length c.args.stale.now) first c.requires.count c.fill_area.ensures.writes_only.leaves always).0
 
-pub returns-in_err-fill_area-clause-within : goal.returns-in_err-fill_area-clause-within
-returns-in_err-fill_area-clause-within g c =
-    let first : c.first_of-first.result ≡ first_sector (length c.args.fresh.now) (not c.args.gate.now.turn) =
-    c.first_of-first.ensures ∙ ap (λ (n : ℕ). first_sector n (not c.args.gate.now.turn)) (c.count-count.ensures ∙ c.requires.count) in
-    leaves_area c.args.size (length c.args.fresh.now) (not c.args.gate.now.turn) c.first_of-first.result (length c.args.stale.now) (g.S.Sectors.device c.args.sectors.now)
-    (g.S.Sectors.device c.fill_area.new.sectors) first c.requires.count c.fill_area.ensures.any_moment
-
-pub returns-in_err-fill_area-clause-beyond : goal.returns-in_err-fill_area-clause-beyond
-returns-in_err-fill_area-clause-beyond g c =
-    let first : c.first_of-first.result ≡ first_sector (length c.args.fresh.now) (not c.args.gate.now.turn) =
-    c.first_of-first.ensures ∙ ap (λ (n : ℕ). first_sector n (not c.args.gate.now.turn)) (c.count-count.ensures ∙ c.requires.count) in
-    among_area c.args.size (length c.args.fresh.now) (not c.args.gate.now.turn) c.first_of-first.result (length c.args.stale.now) (g.S.Sectors.device c.args.sectors.now).now.bytes
-    (g.S.Sectors.device c.fill_area.new.sectors).now.bytes first c.requires.count c.fill_area.ensures.same
+pub returns-in_err-fill_area-clause-writes_only : goal.returns-in_err-fill_area-clause-writes_only
+returns-in_err-fill_area-clause-writes_only g c = record {
+  size = search rules;
+  same =
+      let first : c.first_of-first.result ≡ first_sector (length c.args.fresh.now) (not c.args.gate.now.turn) =
+      c.first_of-first.ensures ∙ ap (λ (n : ℕ). first_sector n (not c.args.gate.now.turn)) (c.count-count.ensures ∙ c.requires.count) in
+      among_area c.args.size (length c.args.fresh.now) (not c.args.gate.now.turn) c.first_of-first.result (length c.args.stale.now) (g.S.Sectors.device c.args.sectors.now).now.bytes
+      (g.S.Sectors.device c.fill_area.new.sectors).now.bytes first c.requires.count c.fill_area.ensures.writes_only.same;
+  leaves =
+      let first : c.first_of-first.result ≡ first_sector (length c.args.fresh.now) (not c.args.gate.now.turn) =
+      c.first_of-first.ensures ∙ ap (λ (n : ℕ). first_sector n (not c.args.gate.now.turn)) (c.count-count.ensures ∙ c.requires.count) in
+      leaves_area c.args.size (length c.args.fresh.now) (not c.args.gate.now.turn) c.first_of-first.result (length c.args.stale.now) (g.S.Sectors.device c.args.sectors.now)
+      (g.S.Sectors.device c.fill_area.new.sectors) first c.requires.count c.fill_area.ensures.writes_only.leaves;
+}
 
 pub returns-clause-count : goal.returns-clause-count
 returns-clause-count g c = rw (c.swap.ensures.x_after, c.swap.ensures.y_after) (c.fill_area.ensures.count ∙ c.requires.count, refl)
@@ -98,7 +99,7 @@ returns-clause-reads g c =
     rw (c.swap.ensures.x_after, c.swap.ensures.y_after)
     (reads_turned size count turn c.args.fresh.now c.fill_area.new.marks c.args.image.now on
     (reads_filled size count turn c.args.fresh.now c.args.stale.now c.fill_area.new.marks c.args.image.now (g.S.Sectors.device c.args.sectors.now).now.bytes on c.first_of-first.result first refl
-    c.requires.count c.fill_area.ensures.same c.fill_area.ensures.matches c.requires.reads))
+    c.requires.count c.fill_area.ensures.writes_only.same c.fill_area.ensures.matches c.requires.reads))
 
 pub returns-clause-crash : goal.returns-clause-crash
 returns-clause-crash g c = λ label m bytes always.
@@ -108,7 +109,7 @@ returns-clause-crash g c = λ label m bytes always.
     let new = g.S.Sectors.device c.fill_area.new.sectors in
     let first : c.first_of-first.result ≡ first_sector (length c.args.fresh.now) (not c.args.gate.now.turn) =
     c.first_of-first.ensures ∙ ap (λ (n : ℕ). first_sector n (not c.args.gate.now.turn)) (c.count-count.ensures ∙ c.requires.count) in
-    let kept = leaves_filled size count turn label m (g.S.Sectors.device c.args.sectors.now) new c.first_of-first.result (length c.args.stale.now) first c.requires.count c.fill_area.ensures.any_moment always in
+    let kept = leaves_filled size count turn label m (g.S.Sectors.device c.args.sectors.now) new c.first_of-first.result (length c.args.stale.now) first c.requires.count c.fill_area.ensures.writes_only.leaves always in
     let whole = whole_filled size count (not turn) c.args.image.now new.now.bytes c.first_of-first.result (length c.args.stale.now) first c.requires.count c.in_ok-fill_area.ensures.whole in
     made_ready size count turn label m new c.in_ok-fill_area.ensures.durable (whole ∙ sym bytes) kept.1
 
@@ -118,18 +119,19 @@ returns-clause-any_moment g c = λ label m always.
     let first : c.first_of-first.result ≡ first_sector (length c.args.fresh.now) (not c.args.gate.now.turn) =
     c.first_of-first.ensures ∙ ap (λ (n : ℕ). first_sector n (not c.args.gate.now.turn)) (c.count-count.ensures ∙ c.requires.count) in
     (leaves_filled size (length c.args.fresh.now) c.args.gate.now.turn label m (g.S.Sectors.device c.args.sectors.now) (g.S.Sectors.device c.fill_area.new.sectors) c.first_of-first.result
-    (length c.args.stale.now) first c.requires.count c.fill_area.ensures.any_moment always).0
+    (length c.args.stale.now) first c.requires.count c.fill_area.ensures.writes_only.leaves always).0
 
-pub returns-clause-within : goal.returns-clause-within
-returns-clause-within g c =
-    let first : c.first_of-first.result ≡ first_sector (length c.args.fresh.now) (not c.args.gate.now.turn) =
-    c.first_of-first.ensures ∙ ap (λ (n : ℕ). first_sector n (not c.args.gate.now.turn)) (c.count-count.ensures ∙ c.requires.count) in
-    leaves_area c.args.size (length c.args.fresh.now) (not c.args.gate.now.turn) c.first_of-first.result (length c.args.stale.now) (g.S.Sectors.device c.args.sectors.now)
-    (g.S.Sectors.device c.fill_area.new.sectors) first c.requires.count c.fill_area.ensures.any_moment
-
-pub returns-clause-beyond : goal.returns-clause-beyond
-returns-clause-beyond g c =
-    let first : c.first_of-first.result ≡ first_sector (length c.args.fresh.now) (not c.args.gate.now.turn) =
-    c.first_of-first.ensures ∙ ap (λ (n : ℕ). first_sector n (not c.args.gate.now.turn)) (c.count-count.ensures ∙ c.requires.count) in
-    among_area c.args.size (length c.args.fresh.now) (not c.args.gate.now.turn) c.first_of-first.result (length c.args.stale.now) (g.S.Sectors.device c.args.sectors.now).now.bytes
-    (g.S.Sectors.device c.fill_area.new.sectors).now.bytes first c.requires.count c.fill_area.ensures.same
+pub returns-clause-writes_only : goal.returns-clause-writes_only
+returns-clause-writes_only g c = record {
+  size = search rules;
+  same =
+      let first : c.first_of-first.result ≡ first_sector (length c.args.fresh.now) (not c.args.gate.now.turn) =
+      c.first_of-first.ensures ∙ ap (λ (n : ℕ). first_sector n (not c.args.gate.now.turn)) (c.count-count.ensures ∙ c.requires.count) in
+      among_area c.args.size (length c.args.fresh.now) (not c.args.gate.now.turn) c.first_of-first.result (length c.args.stale.now) (g.S.Sectors.device c.args.sectors.now).now.bytes
+      (g.S.Sectors.device c.fill_area.new.sectors).now.bytes first c.requires.count c.fill_area.ensures.writes_only.same;
+  leaves =
+      let first : c.first_of-first.result ≡ first_sector (length c.args.fresh.now) (not c.args.gate.now.turn) =
+      c.first_of-first.ensures ∙ ap (λ (n : ℕ). first_sector n (not c.args.gate.now.turn)) (c.count-count.ensures ∙ c.requires.count) in
+      leaves_area c.args.size (length c.args.fresh.now) (not c.args.gate.now.turn) c.first_of-first.result (length c.args.stale.now) (g.S.Sectors.device c.args.sectors.now)
+      (g.S.Sectors.device c.fill_area.new.sectors) first c.requires.count c.fill_area.ensures.writes_only.leaves;
+}

@@ -1,4 +1,4 @@
-use Rattle.std.proofs.Common.{◌≡◌, ◌+◌, Bool, true, false, [], ◌∷◌, length, refl, sym, subst}
+use Rattle.std.proofs.Common.{◌≡◌, ◌+◌, Bool, true, false, [], ◌∷◌, length, refl, sym, subst, rules}
 use Rattle.block_disk.specs.Images.{Always}
 use Rattle.block_disk.proofs.Images.{and_then}
 use Rattle.block_disk.proofs.Ranges.{outside_trans}
@@ -18,7 +18,7 @@ fill_other-requires-clause-reads g c =
     let old = g.S.Sectors.device c.args.sectors.now in
     let mid = g.S.Sectors.device c.confirm.new.sectors in
     subst (λ (t : Bool). Reads c.args.size count t c.args.fresh.now c.args.stale.now c.args.image.now mid.now.bytes) (sym c.confirm.ensures.turn)
-    (reads_gate c.args.size count c.args.gate.now.turn c.args.fresh.now c.args.stale.now c.args.image.now old.now.bytes mid.now.bytes refl c.requires.count c.confirm.ensures.same c.requires.reads)
+    (reads_gate c.args.size count c.args.gate.now.turn c.args.fresh.now c.args.stale.now c.args.image.now old.now.bytes mid.now.bytes refl c.requires.count c.confirm.ensures.writes_only.same c.requires.reads)
 
 pub turn_gate-requires-clause-fits : goal.turn_gate-requires-clause-fits
 turn_gate-requires-clause-fits g c = gate_fits c.args.size (length c.args.fresh.now) (length (g.S.Sectors.device c.fill_other.new.sectors).now.bytes) c.fill_other.ensures.reads.fits
@@ -29,7 +29,7 @@ returns-in_err-confirm-clause-reads g c =
     let old = g.S.Sectors.device c.args.sectors.now in
     let mid = g.S.Sectors.device c.confirm.new.sectors in
     subst (λ (t : Bool). Reads c.args.size count t c.args.fresh.now c.args.stale.now c.args.image.now mid.now.bytes) (sym c.confirm.ensures.turn)
-    (reads_gate c.args.size count c.args.gate.now.turn c.args.fresh.now c.args.stale.now c.args.image.now old.now.bytes mid.now.bytes refl c.requires.count c.confirm.ensures.same c.requires.reads)
+    (reads_gate c.args.size count c.args.gate.now.turn c.args.fresh.now c.args.stale.now c.args.image.now old.now.bytes mid.now.bytes refl c.requires.count c.confirm.ensures.writes_only.same c.requires.reads)
 
 pub returns-in_err-confirm-clause-crash : goal.returns-in_err-confirm-clause-crash
 returns-in_err-confirm-clause-crash g c = λ label m is always. c.confirm.ensures.crash (length c.args.fresh.now) label m always
@@ -37,13 +37,12 @@ returns-in_err-confirm-clause-crash g c = λ label m is always. c.confirm.ensure
 pub returns-in_err-confirm-clause-any_moment : goal.returns-in_err-confirm-clause-any_moment
 returns-in_err-confirm-clause-any_moment g c = λ label m is always. c.confirm.ensures.any_moment (length c.args.fresh.now) label m always
 
-pub returns-in_err-confirm-clause-within : goal.returns-in_err-confirm-clause-within
-returns-in_err-confirm-clause-within g c =
-    leaves_gate c.args.size (length c.args.fresh.now) (g.S.Sectors.device c.args.sectors.now) (g.S.Sectors.device c.confirm.new.sectors) c.confirm.ensures.within
-
-pub returns-in_err-confirm-clause-beyond : goal.returns-in_err-confirm-clause-beyond
-returns-in_err-confirm-clause-beyond g c =
-    among_gate c.args.size (length c.args.fresh.now) (g.S.Sectors.device c.args.sectors.now).now.bytes (g.S.Sectors.device c.confirm.new.sectors).now.bytes c.confirm.ensures.same
+pub returns-in_err-confirm-clause-writes_only : goal.returns-in_err-confirm-clause-writes_only
+returns-in_err-confirm-clause-writes_only g c = record {
+  size = search rules;
+  same = among_gate c.args.size (length c.args.fresh.now) (g.S.Sectors.device c.args.sectors.now).now.bytes (g.S.Sectors.device c.confirm.new.sectors).now.bytes c.confirm.ensures.writes_only.same;
+  leaves = leaves_gate c.args.size (length c.args.fresh.now) (g.S.Sectors.device c.args.sectors.now) (g.S.Sectors.device c.confirm.new.sectors) c.confirm.ensures.writes_only.leaves;
+}
 
 pub returns-in_err-fill_other-clause-crash : goal.returns-in_err-fill_other-clause-crash
 returns-in_err-fill_other-clause-crash g c = λ label m is always.
@@ -62,21 +61,22 @@ returns-in_err-fill_other-clause-any_moment g c = λ label m is always.
     and_then (g.S.Sectors.device c.args.sectors.now) mid (g.S.Sectors.device c.fill_other.new.sectors) (Shows c.args.size count label m)
     (c.confirm.ensures.any_moment count label m always) (c.fill_other.ensures.any_moment label m firm)
 
-pub returns-in_err-fill_other-clause-within : goal.returns-in_err-fill_other-clause-within
-returns-in_err-fill_other-clause-within g c =
-    let count = length c.args.fresh.now in
-    let old = g.S.Sectors.device c.args.sectors.now in
-    let mid = g.S.Sectors.device c.confirm.new.sectors in
-    leaves_both old mid (g.S.Sectors.device c.fill_other.new.sectors) (sectors_from c.args.size 0 (count + count + 2)) (leaves_gate c.args.size count old mid c.confirm.ensures.within)
-    c.fill_other.ensures.within
-
-pub returns-in_err-fill_other-clause-beyond : goal.returns-in_err-fill_other-clause-beyond
-returns-in_err-fill_other-clause-beyond g c =
-    let count = length c.args.fresh.now in
-    let a = (g.S.Sectors.device c.args.sectors.now).now.bytes in
-    let b = (g.S.Sectors.device c.confirm.new.sectors).now.bytes in
-    outside_trans (sectors_from c.args.size 0 (count + count + 2) ∷ []) a b (g.S.Sectors.device c.fill_other.new.sectors).now.bytes (among_gate c.args.size count a b c.confirm.ensures.same)
-    c.fill_other.ensures.beyond
+pub returns-in_err-fill_other-clause-writes_only : goal.returns-in_err-fill_other-clause-writes_only
+returns-in_err-fill_other-clause-writes_only g c = record {
+  size = search rules;
+  same =
+      let count = length c.args.fresh.now in
+      let a = (g.S.Sectors.device c.args.sectors.now).now.bytes in
+      let b = (g.S.Sectors.device c.confirm.new.sectors).now.bytes in
+      outside_trans (sectors_from c.args.size 0 (count + count + 2) ∷ []) a b (g.S.Sectors.device c.fill_other.new.sectors).now.bytes (among_gate c.args.size count a b c.confirm.ensures.writes_only.same)
+      c.fill_other.ensures.writes_only.same;
+  leaves =
+      let count = length c.args.fresh.now in
+      let old = g.S.Sectors.device c.args.sectors.now in
+      let mid = g.S.Sectors.device c.confirm.new.sectors in
+      leaves_both old mid (g.S.Sectors.device c.fill_other.new.sectors) (sectors_from c.args.size 0 (count + count + 2)) (leaves_gate c.args.size count old mid c.confirm.ensures.writes_only.leaves)
+      c.fill_other.ensures.writes_only.leaves;
+}
 
 pub returns-clause-reads : goal.returns-clause-reads
 returns-clause-reads g c =
@@ -85,7 +85,7 @@ returns-clause-reads g c =
     let new = g.S.Sectors.device c.turn_gate.new.sectors in
     subst (λ (t : Bool). Reads c.args.size count t c.fill_other.new.fresh c.fill_other.new.stale c.args.image.now new.now.bytes) (sym c.turn_gate.ensures.turn)
     (reads_gate c.args.size count c.fill_other.new.gate.turn c.fill_other.new.fresh c.fill_other.new.stale c.args.image.now mid.now.bytes new.now.bytes
-    c.fill_other.ensures.count.0 c.fill_other.ensures.count.1 c.turn_gate.ensures.same c.fill_other.ensures.reads)
+    c.fill_other.ensures.count.0 c.fill_other.ensures.count.1 c.turn_gate.ensures.writes_only.same c.fill_other.ensures.reads)
 
 pub returns-clause-crash : goal.returns-clause-crash
 returns-clause-crash g c = λ label m is always.
@@ -109,7 +109,7 @@ returns-clause-durable g c = λ label m.
     (m.bytes ≡ c.args.image.now → Always old (Holds c.args.size count c.args.gate.now.is_firm c.args.gate.now.turn label m)
     → Always new (Holds c.args.size count gate.is_firm gate.turn label (record { bytes = m.bytes; pending = [] })))
     (λ firm durable is always.
-    finished c.args.size count c.fill_other.new.gate.turn gate.turn gate.is_firm label c.args.image.now m late new c.turn_gate.ensures.turn firm durable c.turn_gate.ensures.same
+    finished c.args.size count c.fill_other.new.gate.turn gate.turn gate.is_firm label c.args.image.now m late new c.turn_gate.ensures.turn firm durable c.turn_gate.ensures.writes_only.same
     c.fill_other.ensures.reads.fits c.in_ok-fill_other.ensures.whole is (returns-clause-crash g c label m is always))
     c.turn_gate.ensures.ok c.turn_gate.ensures.durable
 
@@ -129,25 +129,26 @@ returns-clause-any_moment g c = λ label m is always.
     (and_then old mid late P (c.confirm.ensures.any_moment count label m always) (c.fill_other.ensures.any_moment label m firm))
     (c.turn_gate.ensures.any_moment count label m loose)
 
-pub returns-clause-within : goal.returns-clause-within
-returns-clause-within g c =
-    let size = c.args.size in
-    let count = length c.args.fresh.now in
-    let old = g.S.Sectors.device c.args.sectors.now in
-    let mid = g.S.Sectors.device c.confirm.new.sectors in
-    let late = g.S.Sectors.device c.fill_other.new.sectors in
-    let new = g.S.Sectors.device c.turn_gate.new.sectors in
-    let all = sectors_from size 0 (count + count + 2) in
-    leaves_both old late new all (leaves_both old mid late all (leaves_gate size count old mid c.confirm.ensures.within) c.fill_other.ensures.within)
-    (leaves_gate size count late new c.turn_gate.ensures.within)
-
-pub returns-clause-beyond : goal.returns-clause-beyond
-returns-clause-beyond g c =
-    let size = c.args.size in
-    let count = length c.args.fresh.now in
-    let all = sectors_from size 0 (count + count + 2) ∷ [] in
-    let a = (g.S.Sectors.device c.args.sectors.now).now.bytes in
-    let b = (g.S.Sectors.device c.confirm.new.sectors).now.bytes in
-    let d = (g.S.Sectors.device c.fill_other.new.sectors).now.bytes in
-    let e = (g.S.Sectors.device c.turn_gate.new.sectors).now.bytes in
-    outside_trans all a d e (outside_trans all a b d (among_gate size count a b c.confirm.ensures.same) c.fill_other.ensures.beyond) (among_gate size count d e c.turn_gate.ensures.same)
+pub returns-clause-writes_only : goal.returns-clause-writes_only
+returns-clause-writes_only g c = record {
+  size = search rules;
+  same =
+      let size = c.args.size in
+      let count = length c.args.fresh.now in
+      let all = sectors_from size 0 (count + count + 2) ∷ [] in
+      let a = (g.S.Sectors.device c.args.sectors.now).now.bytes in
+      let b = (g.S.Sectors.device c.confirm.new.sectors).now.bytes in
+      let d = (g.S.Sectors.device c.fill_other.new.sectors).now.bytes in
+      let e = (g.S.Sectors.device c.turn_gate.new.sectors).now.bytes in
+      outside_trans all a d e (outside_trans all a b d (among_gate size count a b c.confirm.ensures.writes_only.same) c.fill_other.ensures.writes_only.same) (among_gate size count d e c.turn_gate.ensures.writes_only.same);
+  leaves =
+      let size = c.args.size in
+      let count = length c.args.fresh.now in
+      let old = g.S.Sectors.device c.args.sectors.now in
+      let mid = g.S.Sectors.device c.confirm.new.sectors in
+      let late = g.S.Sectors.device c.fill_other.new.sectors in
+      let new = g.S.Sectors.device c.turn_gate.new.sectors in
+      let all = sectors_from size 0 (count + count + 2) in
+      leaves_both old late new all (leaves_both old mid late all (leaves_gate size count old mid c.confirm.ensures.writes_only.leaves) c.fill_other.ensures.writes_only.leaves)
+      (leaves_gate size count late new c.turn_gate.ensures.writes_only.leaves);
+}

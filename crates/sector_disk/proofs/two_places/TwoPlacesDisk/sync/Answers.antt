@@ -22,7 +22,7 @@ invariant_of-self g c =
     let is : d.trace.past.device.now.bytes ≡ c.deref.result.now = k.bytes ∙ sym c.deref.ensures.value in
     let count = length d.fresh in
     let reads = subst (λ (xs : List ℕ). Reads d.size count c.sync_places.new.gate.turn c.sync_places.new.fresh c.sync_places.new.stale xs (g.S.Sectors.device c.sync_places.new.sectors).now.bytes) c.deref.ensures.value c.sync_places.ensures.reads in (
-      c.sync_places.ensures.size,
+      c.sync_places.ensures.writes_only.size,
       kept_step d.size count c.sync_places.new.gate.is_firm c.sync_places.new.gate.turn c.sync_places.new.fresh c.sync_places.new.stale d.image.items k.label d.trace.past.device.now
           (g.S.Sectors.device c.sync_places.new.sectors) c.sync_places.ensures.count.0 c.sync_places.ensures.count.1 reads k.bytes
           (c.sync_places.ensures.crash k.label d.trace.past.device.now is k.crash),
@@ -36,7 +36,7 @@ invariant_of-self-2 g c =
     let count = length d.fresh in
     let reads = subst (λ (xs : List ℕ). Reads d.size count c.sync_places.new.gate.turn c.sync_places.new.fresh c.sync_places.new.stale xs (g.S.Sectors.device c.sync_places.new.sectors).now.bytes) c.deref.ensures.value c.sync_places.ensures.reads in
     rw c.sync.ensures (
-      c.sync_places.ensures.size,
+      c.sync_places.ensures.writes_only.size,
       kept_step d.size count c.sync_places.new.gate.is_firm c.sync_places.new.gate.turn c.sync_places.new.fresh c.sync_places.new.stale d.image.items k.label
           (record { bytes = d.trace.past.device.now.bytes; pending = [] }) (g.S.Sectors.device c.sync_places.new.sectors) c.sync_places.ensures.count.0 c.sync_places.ensures.count.1
           reads k.bytes (c.in-Ok.ensures.durable k.label d.trace.past.device.now is k.crash),
@@ -65,19 +65,19 @@ returns-clause-any_moment g c =
 pub returns-in-Err-clause-within : goal.returns-in-Err-clause-within
 returns-in-Err-clause-within g c =
     let new = g.S.Sectors.device c.sync_places.new.sectors in
-    subst (λ (l : Layered). LeavesOnly l.sectors new (ImageBut l.sectors (sectors_from l.size 0 (l.count + l.count + 2) ∷ []))) c.self.view_is c.sync_places.ensures.within
+    subst (λ (l : Layered). LeavesOnly l.sectors new (ImageBut l.sectors (sectors_from l.size 0 (l.count + l.count + 2) ∷ []))) c.self.view_is c.sync_places.ensures.writes_only.leaves
 
 pub returns-in-Err-clause-beyond : goal.returns-in-Err-clause-beyond
 returns-in-Err-clause-beyond g c =
     let new = g.S.Sectors.device c.sync_places.new.sectors in
-    subst (λ (l : Layered). SameOutside (sectors_from l.size 0 (l.count + l.count + 2) ∷ []) l.sectors.now.bytes new.now.bytes) c.self.view_is c.sync_places.ensures.beyond
+    subst (λ (l : Layered). SameOutside (sectors_from l.size 0 (l.count + l.count + 2) ∷ []) l.sectors.now.bytes new.now.bytes) c.self.view_is c.sync_places.ensures.writes_only.same
 
 pub returns-clause-within : goal.returns-clause-within
 returns-clause-within g c =
     let new = g.S.Sectors.device c.sync_places.new.sectors in
-    subst (λ (l : Layered). LeavesOnly l.sectors new (ImageBut l.sectors (sectors_from l.size 0 (l.count + l.count + 2) ∷ []))) c.self.view_is c.sync_places.ensures.within
+    subst (λ (l : Layered). LeavesOnly l.sectors new (ImageBut l.sectors (sectors_from l.size 0 (l.count + l.count + 2) ∷ []))) c.self.view_is c.sync_places.ensures.writes_only.leaves
 
 pub returns-clause-beyond : goal.returns-clause-beyond
 returns-clause-beyond g c =
     let new = g.S.Sectors.device c.sync_places.new.sectors in
-    subst (λ (l : Layered). SameOutside (sectors_from l.size 0 (l.count + l.count + 2) ∷ []) l.sectors.now.bytes new.now.bytes) c.self.view_is c.sync_places.ensures.beyond
+    subst (λ (l : Layered). SameOutside (sectors_from l.size 0 (l.count + l.count + 2) ∷ []) l.sectors.now.bytes new.now.bytes) c.self.view_is c.sync_places.ensures.writes_only.same
