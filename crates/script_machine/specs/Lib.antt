@@ -8,8 +8,10 @@ pub mod Studies
 pub mod Lookups
 pub mod Limits
 pub mod Homes
+pub mod StoreCalls
 pub mod Agreement
 pub mod OfSchema
 pub mod Images
 -- The scaffold: how the machine's own phases are seen.
 pub mod Phases
+pub mod Answering

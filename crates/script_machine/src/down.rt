@@ -1,7 +1,7 @@
 //! The machine between a crash and a recovery.
 ghost use Rattle.std.specs.Prelude.{◌≡◌, IfOk};
 ghost use Rattle.block_disk.specs.Memory.{device_of};
-ghost use Rattle.script_machine.specs.Machine as machine;
+ghost use Rattle.script_machine.specs.Answering.{ShowsDown};
 ghost use Rattle.script_machine.specs.OfSchema.{IsDiskOf};
 
 use crate::answer::Answer;
@@ -42,7 +42,7 @@ impl Down {
 
     /// Shows what the image on the device holds, or why it is refused. The device reads as before.
     pub(crate) fn show(&mut self, alloc: Global) -> Result<Answer, AllocError>
-        ensures { IfOk result (λ answer. machine.ShowsImage (machine.Down self.old) answer (machine.Down self.new) self.old) }
+        ensures { ShowsDown self.old self.new result }
     {
         match study(alloc, &mut self.disk) {
             Ok(study) => Ok(Answer::Shown(ImageStudy::of(study))),

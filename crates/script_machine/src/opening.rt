@@ -1,15 +1,14 @@
 //! A store over a device in memory: of a new image, and of one that was recovered.
-ghost use Rattle.std.specs.Prelude.{◌≡◌, false, IfOk, MatchResult, OnOk};
+ghost use Rattle.std.specs.Prelude.{◌≡◌, false, IfOk, OnOk};
 ghost use Rattle.block_disk.specs.Memory.{device_of};
-ghost use Rattle.heap_model.specs.Setting.{Setting};
 ghost use Rattle.image.specs.Layout.{size_of};
-ghost use Rattle.durable.specs.Begin.{IsSettingOf};
 ghost use Rattle.store_image.specs.Formatting.{layout_with};
 ghost use Rattle.store_past.specs.Past.{no_past};
 ghost use Rattle.recover.specs.Recovery.{IsTooOld};
 ghost use Rattle.script_machine.specs.Limits.{IsFormattable};
 ghost use Rattle.script_machine.specs.OfSchema.{IsDiskOf, formatted_device};
-ghost use Rattle.script_machine.specs.Reports.{Reopens, Restores, RefusesDisk};
+ghost use Rattle.script_machine.specs.Reports.{Reopens};
+ghost use Rattle.script_machine.specs.StoreCalls.{IsUntold, RestoresOrRefuses};
 ghost use Rattle.script_machine.specs.States.{Tells};
 ghost use Rattle.plain_monitors.specs.Table.{setting_in};
 
@@ -57,7 +56,7 @@ fn adopt(alloc: Global, recovered: Recovered<MemDisk>) -> Result<Store<MemDisk>,
     ensures layout { IfOk result (λ store. store.known.layout ≡ recovered.layout) }
     ensures disk { IfOk result (λ store. store.disk ≡ recovered.disk) }
     ensures running { IfOk result (λ store. store.known.has_failed ≡ false) }
-    ensures tells { (s : Setting) → IsSettingOf recovered.layout recovered.guards recovered.heap LAST_NUMBER s → IfOk result (λ store. Tells store s no_past) }
+    ensures tells { IfOk result (IsUntold recovered) }
 {
     match Store::adopt(alloc, recovered, LAST_NUMBER) {
         Ok(store) => Ok(store),
@@ -73,7 +72,7 @@ pub(crate) fn restore(
     versions: Versions,
 ) -> Result<Result<(Store<MemDisk>, Report), (MemDisk, Refusal)>, AllocError>
     ensures running { IfOk result (λ outcome. IfOk outcome (λ made. made.0.known.has_failed ≡ false)) }
-    ensures restored { IfOk result (λ outcome. MatchResult outcome (λ made. Restores disk made.0 made.1) (λ back. RefusesDisk versions disk back.0 back.1)) }
+    ensures restored { IfOk result (RestoresOrRefuses versions disk) }
     ensures taken { IfOk result (λ outcome. OnOk outcome (IsTooOld versions (device_of disk).now.bytes → ⊥)) }
 {
     match recover_of(alloc, disk, versions) {

@@ -4,6 +4,7 @@ ghost use Rattle.std.specs.Option.{option_map};
 ghost use Rattle.guards.specs.Schema.{nothing};
 ghost use Rattle.script_lines.specs.Orders.{order_of, step_of};
 ghost use Rattle.script_lines.specs.Orders as order;
+ghost use Rattle.script_machine.specs.Answering.{Advances, CrashesRunning, FormatsDeclared, RecoversAny, RecoversDown};
 ghost use Rattle.script_machine.specs.Images.{image_in};
 ghost use Rattle.script_machine.specs.Limits.{IsFormattable};
 ghost use Rattle.script_machine.specs.Machine as machine;
@@ -61,7 +62,7 @@ impl Phase {
         alloc: Global,
         command: &Command<'_>,
     ) -> Result<(Phase, Answer), AllocError>
-        ensures { IfOk result (λ r. machine.Steps (shown self) (order_of command.now) r.1 (shown r.0)) }
+        ensures { Advances self (order_of command.now) result }
     {
         match command {
             Command::Object { name } => self.object(name),
@@ -94,7 +95,7 @@ impl Phase {
     }
 
     fn object(self, name: &str) -> Result<(Phase, Answer), AllocError>
-        ensures { IfOk result (λ r. machine.Steps (shown self) (order.Object name.now) r.1 (shown r.0)) }
+        ensures { Advances self (order.Object name.now) result }
     {
         match self {
             Phase::Declaring(mut declaring) => {
@@ -118,7 +119,7 @@ impl Phase {
         first: u64,
         is_transient: bool,
     ) -> Result<(Phase, Answer), AllocError>
-        ensures { IfOk result (λ r. machine.Steps (shown self) (order.Field name.now owner.now guard.now first is_transient) r.1 (shown r.0)) }
+        ensures { Advances self (order.Field name.now owner.now guard.now first is_transient) result }
     {
         match self {
             Phase::Declaring(mut declaring) => {
@@ -135,7 +136,7 @@ impl Phase {
     }
 
     fn format(self, alloc: Global, lanes: u64, capacity: u64) -> Result<(Phase, Answer), AllocError>
-        ensures { IfOk result (λ r. machine.Steps (shown self) (order.Format lanes capacity) r.1 (shown r.0)) }
+        ensures { Advances self (order.Format lanes capacity) result }
     {
         match self {
             Phase::Declaring(declaring) => format_declared(alloc, declaring, lanes, capacity),
@@ -149,7 +150,7 @@ impl Phase {
         thread: Lane,
         step: &Step<'_>,
     ) -> Result<(Phase, Answer), AllocError>
-        ensures { IfOk result (λ r. machine.Steps (shown self) (order.Act thread (step_of step.now)) r.1 (shown r.0)) }
+        ensures { Advances self (order.Act thread (step_of step.now)) result }
     {
         match self {
             Phase::Running(mut running) => {
@@ -166,7 +167,7 @@ impl Phase {
     }
 
     fn log(self) -> Result<(Phase, Answer), AllocError>
-        ensures { IfOk result (λ r. machine.Steps (shown self) order.Log r.1 (shown r.0)) }
+        ensures { Advances self order.Log result }
     {
         match self {
             Phase::Running(running) => {
@@ -178,7 +179,7 @@ impl Phase {
     }
 
     fn home(self) -> Result<(Phase, Answer), AllocError>
-        ensures { IfOk result (λ r. machine.Steps (shown self) order.Home r.1 (shown r.0)) }
+        ensures { Advances self order.Home result }
     {
         match self {
             Phase::Running(running) => {
@@ -190,7 +191,7 @@ impl Phase {
     }
 
     fn settle(self, alloc: Global) -> Result<(Phase, Answer), AllocError>
-        ensures { IfOk result (λ r. machine.Steps (shown self) order.Settle r.1 (shown r.0)) }
+        ensures { Advances self order.Settle result }
     {
         match self {
             Phase::Running(running) => {
@@ -202,7 +203,7 @@ impl Phase {
     }
 
     fn trim(self) -> Result<(Phase, Answer), AllocError>
-        ensures { IfOk result (λ r. machine.Steps (shown self) order.Trim r.1 (shown r.0)) }
+        ensures { Advances self order.Trim result }
     {
         match self {
             Phase::Running(running) => {
@@ -214,7 +215,7 @@ impl Phase {
     }
 
     fn heap(self, alloc: Global) -> Result<(Phase, Answer), AllocError>
-        ensures { IfOk result (λ r. machine.Steps (shown self) order.Heap r.1 (shown r.0)) }
+        ensures { Advances self order.Heap result }
     {
         match self {
             Phase::Running(running) => {
@@ -231,7 +232,7 @@ impl Phase {
     }
 
     fn crash(self, fill: Fill, back: u64) -> Result<(Phase, Answer), AllocError>
-        ensures { IfOk result (λ r. machine.Steps (shown self) (order.Crash fill back) r.1 (shown r.0)) }
+        ensures { Advances self (order.Crash fill back) result }
     {
         match self {
             Phase::Running(running) => crash_running(running, fill, back),
@@ -240,7 +241,7 @@ impl Phase {
     }
 
     fn show(self, alloc: Global) -> Result<(Phase, Answer), AllocError>
-        ensures { IfOk result (λ r. machine.Steps (shown self) order.Show r.1 (shown r.0)) }
+        ensures { Advances self order.Show result }
     {
         match self {
             Phase::Down(mut down) => {
@@ -258,7 +259,7 @@ impl Phase {
 
     // Recovers the device, if its image is of one of these versions.
     fn recover(self, alloc: Global, versions: Versions) -> Result<(Phase, Answer), AllocError>
-        ensures { IfOk result (λ r. machine.RecoversWhileDown versions (shown self) r.1 (shown r.0)) }
+        ensures { RecoversAny versions self result }
     {
         match self {
             Phase::Down(down) => recover_down(alloc, down, versions),
@@ -274,7 +275,7 @@ fn format_declared(
     lanes: u64,
     capacity: u64,
 ) -> Result<(Phase, Answer), AllocError>
-    ensures { IfOk result (λ r. machine.FormatsImage (machine.Declaring declaring) r.1 (shown r.0) declaring lanes capacity) }
+    ensures { FormatsDeclared declaring lanes capacity result }
 {
     if declaring.is_empty() {
         return Ok((Phase::Declaring(declaring), Answer::Refused(Refusal::Empty)));
@@ -306,7 +307,7 @@ fn format_declared(
 
 // Crashes the device with all but the last `back` writes and syncs ended and the next begun.
 fn crash_running(running: Running, fill: Fill, back: u64) -> Result<(Phase, Answer), AllocError>
-    ensures { IfOk result (λ r. machine.Crashes (machine.Running running) r.1 (shown r.0) running fill back) }
+    ensures { CrashesRunning running fill back result }
 {
     match running.crash_image(fill, back) {
         Ok(Some(disk)) => {
@@ -327,7 +328,7 @@ fn recover_down(
     down: Down,
     versions: Versions,
 ) -> Result<(Phase, Answer), AllocError>
-    ensures { IfOk result (λ r. machine.RecoversDevice (machine.Down down) r.1 (shown r.0) versions down) }
+    ensures { RecoversDown versions down result }
 {
     let (schema, disk) = down.into_parts();
     match restore(alloc, disk, versions) {

@@ -7,6 +7,7 @@ ghost use Rattle.block_disk.specs.Memory.{fresh, moment_after};
 ghost use Rattle.heap_model.specs.Events.{MayDo};
 ghost use Rattle.heap_model.specs.State.{Awake};
 ghost use Rattle.script_machine.specs.Agreement.{Agrees};
+ghost use Rattle.script_machine.specs.Answering.{DoesEvent, GoesOn, GoesOnAs, StepsOn, StepsTo};
 ghost use Rattle.plain_monitors.specs.Table.{lanes_of, setting_of, state_of, IsStepOf};
 ghost use Rattle.script_lines.specs.Orders.{step_of};
 ghost use Rattle.script_lines.specs.Orders as order;
@@ -65,7 +66,7 @@ impl Running {
         thread: Lane,
         step: &Step<'_>,
     ) -> Result<Answer, AllocError>
-        ensures { IfOk result (λ answer. machine.StepsAs (machine.Running self.old) answer (machine.Running self.new) self.old thread.0 (step_of step.now)) }
+        ensures { StepsOn self.old self.new thread.0 (step_of step.now) result }
     {
         match step {
             Step::Enter(name) => self.enter(thread, name),
@@ -80,7 +81,7 @@ impl Running {
     }
 
     fn enter(&mut self, thread: Lane, name: &str) -> Result<Answer, AllocError>
-        ensures { IfOk result (λ answer. machine.StepsAs (machine.Running self.old) answer (machine.Running self.new) self.old thread.0 (order.Enter name.now)) }
+        ensures { StepsOn self.old self.new thread.0 (order.Enter name.now) result }
     {
         let object = match self.object(thread, name) {
             Ok(object) => object,
@@ -93,7 +94,7 @@ impl Running {
     }
 
     fn exit(&mut self, thread: Lane, name: &str) -> Result<Answer, AllocError>
-        ensures { IfOk result (λ answer. machine.StepsAs (machine.Running self.old) answer (machine.Running self.new) self.old thread.0 (order.Exit name.now)) }
+        ensures { StepsOn self.old self.new thread.0 (order.Exit name.now) result }
     {
         let object = match self.object(thread, name) {
             Ok(object) => object,
@@ -106,7 +107,7 @@ impl Running {
     }
 
     fn load(&self, thread: Lane, name: &str) -> Answer
-        ensures { machine.StepsAs (machine.Running self.now) result (machine.Running self.now) self.now thread.0 (order.Load name.now) }
+        ensures { StepsTo self.now self.now thread.0 (order.Load name.now) result }
     {
         let field = match self.field(thread, name) {
             Ok(field) => field,
@@ -119,7 +120,7 @@ impl Running {
     }
 
     fn store(&mut self, thread: Lane, name: &str, value: u64) -> Result<Answer, AllocError>
-        ensures { IfOk result (λ answer. machine.StepsAs (machine.Running self.old) answer (machine.Running self.new) self.old thread.0 (order.Store name.now value)) }
+        ensures { StepsOn self.old self.new thread.0 (order.Store name.now value) result }
     {
         let field = match self.field(thread, name) {
             Ok(field) => field,
@@ -132,7 +133,7 @@ impl Running {
     }
 
     fn wait(&mut self, thread: Lane, name: &str) -> Result<Answer, AllocError>
-        ensures { IfOk result (λ answer. machine.StepsAs (machine.Running self.old) answer (machine.Running self.new) self.old thread.0 (order.Wait name.now)) }
+        ensures { StepsOn self.old self.new thread.0 (order.Wait name.now) result }
     {
         let object = match self.object(thread, name) {
             Ok(object) => object,
@@ -145,7 +146,7 @@ impl Running {
     }
 
     fn resume(&mut self, thread: Lane) -> Result<Answer, AllocError>
-        ensures { IfOk result (λ answer. machine.StepsAs (machine.Running self.old) answer (machine.Running self.new) self.old thread.0 order.Resume) }
+        ensures { StepsOn self.old self.new thread.0 order.Resume result }
     {
         if !self.monitors.has_lane(thread) {
             return Ok(Answer::Refused(Refusal::Lane));
@@ -157,7 +158,7 @@ impl Running {
     }
 
     fn notify(&mut self, alloc: Global, thread: Lane, name: &str) -> Result<Answer, AllocError>
-        ensures { IfOk result (λ answer. machine.StepsAs (machine.Running self.old) answer (machine.Running self.new) self.old thread.0 (order.Notify name.now)) }
+        ensures { StepsOn self.old self.new thread.0 (order.Notify name.now) result }
     {
         let object = match self.object(thread, name) {
             Ok(object) => object,
@@ -171,7 +172,7 @@ impl Running {
     }
 
     fn notify_all(&mut self, alloc: Global, thread: Lane, name: &str) -> Result<Answer, AllocError>
-        ensures { IfOk result (λ answer. machine.StepsAs (machine.Running self.old) answer (machine.Running self.new) self.old thread.0 (order.NotifyAll name.now)) }
+        ensures { StepsOn self.old self.new thread.0 (order.NotifyAll name.now) result }
     {
         let object = match self.object(thread, name) {
             Ok(object) => object,
@@ -227,7 +228,7 @@ impl Running {
         requires lane { thread.0 < lanes_of self.old.monitors }
         requires kind { IsStepOf (setting_of self.old.monitors) event.now }
         requires allowed { MayDo (setting_of self.old.monitors) (state_of self.old.monitors) thread.0 event.now }
-        ensures { IfOk result (λ answer. machine.Does (machine.Running self.old) answer (machine.Running self.new) self.old thread.0 said event.now) }
+        ensures { DoesEvent self.old self.new thread.0 said event.now result }
     {
         // What the monitors allow is the next of the store's records.
         log_law();
@@ -244,7 +245,7 @@ impl Running {
 
     /// Logs the records that no log has yet.
     pub(crate) fn log(self) -> Result<(Running, Answer), AllocError>
-        ensures { IfOk result (λ r. machine.LogsRecords (machine.Running self) r.1 (machine.Running r.0) self) }
+        ensures { GoesOnAs machine.LogsRecords self result }
     {
         let Running {
             monitors,
@@ -266,7 +267,7 @@ impl Running {
 
     /// Writes home until nothing is left to write.
     pub(crate) fn home(self) -> Result<(Running, Answer), AllocError>
-        ensures { IfOk result (λ r. machine.WritesHome (machine.Running self) r.1 (machine.Running r.0) self) }
+        ensures { GoesOnAs machine.WritesHome self result }
     {
         let Running {
             monitors,
@@ -283,7 +284,7 @@ impl Running {
 
     /// Settles what may be settled.
     pub(crate) fn settle(self, alloc: Global) -> Result<(Running, Answer), AllocError>
-        ensures { IfOk result (λ r. machine.Settles (machine.Running self) r.1 (machine.Running r.0) self) }
+        ensures { GoesOnAs machine.Settles self result }
     {
         let Running {
             monitors,
@@ -313,7 +314,7 @@ impl Running {
 
     /// Trims what is acknowledged, so that its places are free again.
     pub(crate) fn trim(self) -> Result<(Running, Answer), AllocError>
-        ensures { IfOk result (λ r. machine.TrimsLogs (machine.Running self) r.1 (machine.Running r.0) self) }
+        ensures { GoesOnAs machine.TrimsLogs self result }
     {
         let Running {
             monitors,
@@ -335,7 +336,7 @@ impl Running {
 
     /// The applied values of all fields.
     pub(crate) fn heap(&self, alloc: Global) -> Result<Answer, AllocError>
-        ensures { IfOk result (λ answer. machine.TellsHeap (machine.Running self.now) answer (machine.Running self.now) self.now) }
+        ensures { GoesOn machine.TellsHeap self.now self.now result }
     {
         Ok(Answer::Heap(applied_values(alloc, &self.store)?))
     }

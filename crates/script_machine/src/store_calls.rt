@@ -1,20 +1,10 @@
 //! Calls of the store for all fields, or for all lanes.
-ghost use Rattle.std.specs.Prelude.{◌≡◌, ◌⊎◌, ◌<◌, ℕ, true, false, length, slice_index, IfOk, IfErr, IsErrOf, OnOk, OnErr};
+ghost use Rattle.std.specs.Prelude.{◌≡◌, false, true, length, IfOk, IfErr, IsErrOf, OnOk, OnErr};
 ghost use Rattle.block_disk.specs.Device.{HasCause};
-ghost use Rattle.heap_model.specs.Setting.{Setting};
-ghost use Rattle.heap_model.specs.Log.{value};
-ghost use Rattle.heap_model.specs.History.{logged};
-ghost use Rattle.plain_monitors.specs.Table.{IsStepOf, setting_of};
-ghost use Rattle.store_past.specs.Past.{Past, applied};
-ghost use Rattle.block_disk.specs.Images.{LeavesOnly};
 ghost use Rattle.block_disk.specs.Memory.{device_of};
-ghost use Rattle.store_image.specs.Consistent.{ShowsPast};
-ghost use Rattle.store_image.specs.KeptHeap.{StandsForCut};
-ghost use Rattle.durable.specs.Calls.{RefusesHome};
+ghost use Rattle.plain_monitors.specs.Table.{IsStepOf, setting_of};
 ghost use Rattle.store_past.specs.declared.error.StoreError.TheVariants.{Fault};
-ghost use Rattle.script_machine.specs.States.{Tells};
-ghost use Rattle.script_machine.specs.Homes.{BringsHome};
-ghost use Rattle.script_machine.specs.Machine.{Keeps, RefusesRecord};
+ghost use Rattle.script_machine.specs.StoreCalls.{BringsAllHome, HasAcknowledged, HasApplied, KeepsEvent, RefusesEvent, RefusesHomes, RestsUnlessFault, ShowsTold, StandsTold};
 
 use crate::logged::record_of;
 use block_disk::MemDisk;
@@ -31,9 +21,8 @@ pub(crate) fn keep_record(
     event: &Event,
 ) -> Result<(), StoreError>
     requires { IsStepOf (setting_of monitors.now) event.now }
-    ensures kept { OnOk result (Keeps store.old thread.0 (logged (setting_of monitors.now) event.now) store.new) }
-    ensures refused { IfErr result (λ e. (s : Setting) (p : Past) → Tells store.old s p
-        → RefusesRecord store.old s p thread.0 (logged (setting_of monitors.now) event.now) e) }
+    ensures kept { OnOk result (KeepsEvent monitors.now thread.0 event.now store.old store.new) }
+    ensures refused { IfErr result (RefusesEvent monitors.now thread.0 event.now store.old) }
     ensures err { OnErr result (store.new ≡ store.old) }
     ensures running { store.old.known.has_failed ≡ false → store.new.known.has_failed ≡ false }
 {
@@ -49,16 +38,14 @@ pub(crate) fn keep_record(
 /// which the store has failed. A crash at any moment of it leaves what stands for the acknowledged sections, as a crash
 /// before it does.
 pub(crate) fn write_homes(store: &mut Store<MemDisk>) -> Result<u64, StoreError>
-    ensures homes { (s : Setting) (p : Past) → Tells store.old s p → IfOk result (BringsHome store.new s p) }
+    ensures homes { BringsAllHome store.old store.new result }
     ensures running { store.old.known.has_failed ≡ false → OnOk result (store.new.known.has_failed ≡ false) }
     ensures layout { store.new.known.layout ≡ store.old.known.layout }
     ensures sequence { store.new.known.committed.sequence ≡ store.old.known.committed.sequence }
-    ensures shown { (s : Setting) (p : Past) → Tells store.old s p
-        → OnOk result (LeavesOnly (device_of store.old.disk) (device_of store.new.disk) (ShowsPast store.old.known.layout s p)) }
-    ensures any_moment { (s : Setting) (p : Past) → Tells store.old s p
-        → OnOk result (LeavesOnly (device_of store.old.disk) (device_of store.new.disk) (StandsForCut store.old.known.layout s p.logged p.cut)) }
-    ensures refused { (s : Setting) (p : Past) → Tells store.old s p → IfErr result (RefusesHome store.old.known) }
-    ensures err { (s : Setting) (p : Past) → Tells store.old s p → IfErr result (λ e. (e ≡ Fault) ⊎ (store.new ≡ store.old)) }
+    ensures shown { ShowsTold store.old store.new result }
+    ensures any_moment { StandsTold store.old store.new result }
+    ensures refused { RefusesHomes store.old result }
+    ensures err { RestsUnlessFault store.old store.new result }
     ensures failed { IsErrOf result Fault → store.new.known.has_failed ≡ true }
     ensures cause { HasCause (device_of store.old.disk).failures (device_of store.new.disk).failures Fault result }
 {
@@ -77,8 +64,7 @@ pub(crate) fn write_homes(store: &mut Store<MemDisk>) -> Result<u64, StoreError>
 /// The applied value of each field, by number.
 pub(crate) fn applied_values(alloc: Global, store: &Store<MemDisk>) -> Result<Vec<u64>, AllocError>
     ensures count { IfOk result (λ v. length v.items ≡ store.now.known.layout.fields) }
-    ensures values { (s : Setting) (p : Past) → Tells store.now s p
-        → IfOk result (λ v. (f : ℕ) → f < store.now.known.layout.fields → slice_index v.items f ≡ value s.first f (applied p)) }
+    ensures values { IfOk result (λ v. HasApplied store.now v.items) }
 {
     let fields = store.layout().fields;
     let mut values = Vec::with_capacity(alloc, fields as usize)?;
@@ -94,8 +80,7 @@ pub(crate) fn acknowledged_counts(
     store: &Store<MemDisk>,
 ) -> Result<Vec<u64>, AllocError>
     ensures count { IfOk result (λ v. length v.items ≡ store.now.known.layout.lanes) }
-    ensures counts { (s : Setting) (p : Past) → Tells store.now s p
-        → IfOk result (λ v. (l : ℕ) → l < store.now.known.layout.lanes → slice_index v.items l ≡ p.cut l) }
+    ensures counts { IfOk result (λ v. HasAcknowledged store.now v.items) }
 {
     let lanes = store.layout().lanes;
     let mut counts = Vec::with_capacity(alloc, usize::from(lanes))?;

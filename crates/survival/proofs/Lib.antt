@@ -21,3 +21,4 @@ pub mod Unworn
 pub mod Histories
 pub mod Running
 pub mod Upgrades
+pub mod Promises

@@ -6,6 +6,7 @@ pub mod Sides
 pub mod Unsettled
 pub mod Old
 pub mod Again
+pub mod Promise
 pub mod Upgrade
 pub mod EachImage
 pub mod History

@@ -87,7 +87,7 @@ loop-written-preserved c = (
       let f = c.in-Ok-Wrote.field-0-0.0 in
       let answer = rw c.in-Ok-Wrote.is at c.home_step.ensures.answer s so.now so.tells in
       let least = subst (λ (h : Home). AnswersHome s so.now h) c.in-Ok-Wrote.field-0-is answer.1 in
-      let shown = c.home_step.ensures.shown s so.now so.tells in
+      let shown = c.home_step.ensures.writes.shown s so.now so.tells in
       let stands = c.home_step.ensures.any_moment s so.now so.tells in
       record {
         now = after_home so.now f;
@@ -100,10 +100,10 @@ loop-written-preserved c = (
         logged = so.logged;
         cut = so.cut;
       },
-  c.home_step.ensures.layout ∙ c.loop-written.invariant.1,
-  (let running = rw c.in-Ok-Wrote.is at c.home_step.ensures.running in running.1 ∙ sym running.0 ∙ c.loop-written.invariant.2),
-  (let was = c.loop-written.invariant.3 in let later = c.home_step.ensures.cause.later in omega (arith, was, later)),
-  inr (rw c.in-Ok-Wrote.is at c.home_step.ensures.running).1,
+  c.home_step.ensures.writes.layout ∙ c.loop-written.invariant.1,
+  (let running = rw c.in-Ok-Wrote.is at c.home_step.ensures.writes.running in running.1 ∙ sym running.0 ∙ c.loop-written.invariant.2),
+  (let was = c.loop-written.invariant.3 in let later = c.home_step.ensures.writes.cause.later in omega (arith, was, later)),
+  inr (rw c.in-Ok-Wrote.is at c.home_step.ensures.writes.running).1,
   c.home_step.ensures.sequence ∙ c.loop-written.invariant.5,
 )
 
@@ -120,19 +120,19 @@ returns-in-Ok-Done-clause-homes c = λ s p t.
     }
 
 pub returns-in-Ok-Done-clause-running : goal.returns-in-Ok-Done-clause-running
-returns-in-Ok-Done-clause-running c = λ _. (rw c.in-Ok-Done.is at c.home_step.ensures.running).1
+returns-in-Ok-Done-clause-running c = λ _. (rw c.in-Ok-Done.is at c.home_step.ensures.writes.running).1
 
 pub returns-in-Ok-Done-clause-shown : goal.returns-in-Ok-Done-clause-shown
 returns-in-Ok-Done-clause-shown c = λ s p t.
     let so = c.loop-written.invariant.0 s p t in
     shown_on c.args.store.now c.loop-written.store c.home_step.new.self s p c.loop-written.written so c.loop-written.invariant.1
-    (c.home_step.ensures.shown s so.now so.tells) (c.home_step.ensures.any_moment s so.now so.tells)
+    (c.home_step.ensures.writes.shown s so.now so.tells) (c.home_step.ensures.any_moment s so.now so.tells)
 
 pub returns-in-Ok-Done-clause-any_moment : goal.returns-in-Ok-Done-clause-any_moment
 returns-in-Ok-Done-clause-any_moment c = λ s p t.
     let so = c.loop-written.invariant.0 s p t in
     stands_on c.args.store.now c.loop-written.store c.home_step.new.self s p c.loop-written.written so c.loop-written.invariant.1
-    (c.home_step.ensures.shown s so.now so.tells) (c.home_step.ensures.any_moment s so.now so.tells)
+    (c.home_step.ensures.writes.shown s so.now so.tells) (c.home_step.ensures.any_moment s so.now so.tells)
 
 pub returns-clause-homes : goal.returns-clause-homes
 returns-clause-homes c = λ s p t.
@@ -178,25 +178,25 @@ returns-in-Err-clause-err c = λ s p t.
     let so = c.loop-written.invariant.0 s p t in
     let answer = rw c.in-Err.is at c.home_step.ensures.answer s so.now so.tells in
     ⊎_elim (λ fault. inl fault) (λ same. ⊎_elim (λ start. inr (same ∙ start)) (λ serves. inl (only_fault c.loop-written.store.known c.in-Err.why serves answer)) c.loop-written.invariant.4)
-    (rw c.in-Err.is at c.home_step.ensures.refused)
+    (rw c.in-Err.is at c.home_step.ensures.writes.refused)
 
 pub returns-in-Err-clause-cause : goal.returns-in-Err-clause-cause
 returns-in-Err-clause-cause c =
     let was = c.loop-written.invariant.3 in
-    let later = c.home_step.ensures.cause.later in
+    let later = c.home_step.ensures.writes.cause.later in
     record {
       later = omega (arith, was, later);
       failed = λ is. fault_since (device_of c.args.store.now.disk).failures (device_of c.loop-written.store.disk).failures (device_of c.home_step.new.self.disk).failures c.home_step.result c.in-Err.why
-          was c.home_step.ensures.cause c.in-Err.is (same_error c.in-Err.why Fault (Err c.in-Err.why) refl is);
+          was c.home_step.ensures.writes.cause c.in-Err.is (same_error c.in-Err.why Fault (Err c.in-Err.why) refl is);
     }
 
 pub returns-in-Err-clause-failed : goal.returns-in-Err-clause-failed
-returns-in-Err-clause-failed c = λ is. c.home_step.ensures.failed (c.in-Err.is ∙ ap (λ (e : StoreError). Err e) (same_error c.in-Err.why Fault (Err c.in-Err.why) refl is))
+returns-in-Err-clause-failed c = λ is. c.home_step.ensures.writes.failed (c.in-Err.is ∙ ap (λ (e : StoreError). Err e) (same_error c.in-Err.why Fault (Err c.in-Err.why) refl is))
 
 pub returns-in-Ok-Done-clause-cause : goal.returns-in-Ok-Done-clause-cause
 returns-in-Ok-Done-clause-cause c =
     let was = c.loop-written.invariant.3 in
-    let later = c.home_step.ensures.cause.later in
+    let later = c.home_step.ensures.writes.cause.later in
     record { later = omega (arith, was, later); failed = λ is. absurd cc }
 
 pub returns-clause-cause : goal.returns-clause-cause

@@ -31,12 +31,12 @@ invariant_of-result c =
     elim c.match-settle.branch [
       | in-Ok+in-Ok-acknowledged_counts w ↦
           let stable = c.stable_law.ensures.exists (actions g.past.logged) in
-          same-told a x y g (after_settle g.past stable.0) refl (rw w.in-Ok.is at step.ok (setting_from a g.first) g.past stable.0 g.tells stable.1) step.layout
-          (rw w.in-Ok.is at step.running).1
-          (called_of a g.first g.past Settling x y.disk g.tells g.running (step.shown (setting_from a g.first) g.past g.tells) g.of_schema)
+          same-told a x y g (after_settle g.past stable.0) refl (rw w.in-Ok.is at step.ok (setting_from a g.first) g.past stable.0 g.tells stable.1) step.writes.layout
+          (rw w.in-Ok.is at step.writes.running).1
+          (called_of a g.first g.past Settling x y.disk g.tells g.running (step.writes.shown (setting_from a g.first) g.past g.tells) g.of_schema)
       | in-Err+in-Ok-refused_call w ↦
           let told = sym w.refused_call.ensures ∙ w.in-Ok-refused_call.is in
-          let same : y ≡ x = told-unchanged x y w.in-Err.why w.in-Ok-refused_call.refusal told (rw w.in-Err.is at step.refused) in
+          let same : y ≡ x = told-unchanged x y w.in-Err.why w.in-Ok-refused_call.refusal told (rw w.in-Err.is at step.writes.refused) in
           subst (λ (z : Parts Memory). Agrees a z) (sym same) g
     ]
 
@@ -46,7 +46,7 @@ returns c =
     let x = c.self.inside.store in
     let y = c.settle.new.self in
     let step = c.settle.ensures in
-    let lanes : y.known.layout.lanes ≡ x.known.layout.lanes = ap (λ (l : Layout). l.lanes) step.layout in
+    let lanes : y.known.layout.lanes ≡ x.known.layout.lanes = ap (λ (l : Layout). l.lanes) step.writes.layout in
     subst (λ (m : Live). Settles (Running m) c.match-settle.answer (Running (live a y)) m) c.self.view_is
     (elim c.match-settle.branch [
       | in-Ok+in-Ok-acknowledged_counts w ↦
@@ -56,11 +56,11 @@ returns c =
             sections = w.in-Ok-acknowledged_counts.counts.items;
             answers = refl;
             runs = refl;
-            layout = step.layout;
+            layout = step.writes.layout;
             ran = c.self.invariant.running;
-            running = (rw w.in-Ok.is at step.running).1;
-            shown = step.shown;
-            takes = record { sequence = step.sequence; any_sequence = step.any_sequence };
+            running = (rw w.in-Ok.is at step.writes.running).1;
+            shown = step.writes.shown;
+            takes = record { sequence = step.writes.sequence; any_sequence = step.writes.any_sequence };
             stands = step.any_moment;
             clean = λ s p t. (rw w.in-Ok.is at step.answer s p t).1;
             lanes = told.count ∙ lanes;
@@ -70,5 +70,5 @@ returns c =
       | in-Err+in-Ok-refused_call w ↦
           let told = sym w.refused_call.ensures ∙ w.in-Ok-refused_call.is in
           rw w.answer-is (inr (refused-line a x y (RefusesSettle x.known) w.in-Err.why w.in-Ok-refused_call.refusal told
-          (told-unchanged x y w.in-Err.why w.in-Ok-refused_call.refusal told (rw w.in-Err.is at step.refused)) (λ s p t. rw w.in-Err.is at step.answer s p t)))
+          (told-unchanged x y w.in-Err.why w.in-Ok-refused_call.refusal told (rw w.in-Err.is at step.writes.refused)) (λ s p t. rw w.in-Err.is at step.answer s p t)))
     ])

@@ -26,11 +26,11 @@ invariant_of-result c =
     let g = c.self.invariant in
     let step = c.trim.ensures in
     elim c.match-trim.branch [
-      | in-Ok w ↦ same-told a x y g (after_trim g.past) refl (rw w.in-Ok.is at step.ok (setting_from a g.first) g.past g.tells) step.layout (rw w.in-Ok.is at step.running).1
-          (called_of a g.first g.past Trimming x y.disk g.tells g.running (step.shown (setting_from a g.first) g.past g.tells) g.of_schema)
+      | in-Ok w ↦ same-told a x y g (after_trim g.past) refl (rw w.in-Ok.is at step.ok (setting_from a g.first) g.past g.tells) step.writes.layout (rw w.in-Ok.is at step.writes.running).1
+          (called_of a g.first g.past Trimming x y.disk g.tells g.running (step.writes.shown (setting_from a g.first) g.past g.tells) g.of_schema)
       | in-Err+in-Ok-refused_call w ↦
           let told = sym w.refused_call.ensures ∙ w.in-Ok-refused_call.is in
-          let same : y ≡ x = told-unchanged x y w.in-Err.why w.in-Ok-refused_call.refusal told (rw w.in-Err.is at step.refused) in
+          let same : y ≡ x = told-unchanged x y w.in-Err.why w.in-Ok-refused_call.refusal told (rw w.in-Err.is at step.writes.refused) in
           subst (λ (z : Parts Memory). Agrees a z) (sym same) g
     ]
 
@@ -44,8 +44,8 @@ returns c =
     (elim c.match-trim.branch [
       | in-Ok w ↦ rw w.answer-is (inl (record {
         store = y;
-        call = record { answers = refl; runs = refl; layout = step.layout; ran = c.self.invariant.running; running = (rw w.in-Ok.is at step.running).1; shown = step.shown };
-        takes = record { sequence = step.sequence; any_sequence = step.any_sequence };
+        call = record { answers = refl; runs = refl; layout = step.writes.layout; ran = c.self.invariant.running; running = (rw w.in-Ok.is at step.writes.running).1; shown = step.writes.shown };
+        takes = record { sequence = step.writes.sequence; any_sequence = step.writes.any_sequence };
         stands = step.any_moment;
         after = λ s p t. rw w.in-Ok.is at step.ok s p t;
         none = step.none;
@@ -53,5 +53,5 @@ returns c =
       | in-Err+in-Ok-refused_call w ↦
           let told = sym w.refused_call.ensures ∙ w.in-Ok-refused_call.is in
           rw w.answer-is (inr (refused-line a x y (λ s p reason. RefusesTrim x.known p reason) w.in-Err.why w.in-Ok-refused_call.refusal told
-          (told-unchanged x y w.in-Err.why w.in-Ok-refused_call.refusal told (rw w.in-Err.is at step.refused)) (λ s p t. rw w.in-Err.is at step.answer s p t)))
+          (told-unchanged x y w.in-Err.why w.in-Ok-refused_call.refusal told (rw w.in-Err.is at step.writes.refused)) (λ s p t. rw w.in-Err.is at step.answer s p t)))
     ])
