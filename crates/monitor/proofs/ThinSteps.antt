@@ -106,7 +106,7 @@ looking k m l w s views o (Free n) shown f clear lt is shows says = let e : Even
 looking k m l w s views o (Thin t a n) shown f clear lt is shows says = let e : Event = Look (object_at o) (Found (Some (record { 0 = t - 1 })) (a + 1) n) in
     telling k m l w s views e shown f clear shows lt refl (λ st. says (told m.0 e, m.1) (news k l m.0 w s o (Thin t a n) f.truth tt is) (refl, st, refl))
 looking k m l w s views o (Fat i n) shown f clear lt is shows says = let u : View = fattened m.0 (object_at o) i n in
-    learning k m l w s views u shown f (record { plan = refl; role = refl; gathered = refl; events = refl }) (truth_fattened k l m.0 w s (object_at o) i n f.truth lt is) (reads_none w m.0 u refl) refl (let z : m.0.seen ≤ m.0.seen = omega arith in z) (λ st. says (u, m.1) (
+    learning k m l w s views u shown f (record { plan = refl; role = refl; gathered = refl; events = refl; history = refl }) (truth_fattened k l m.0 w s (object_at o) i n f.truth lt is) (reads_none w m.0 u refl) refl (let z : m.0.seen ≤ m.0.seen = omega arith in z) (λ st. says (u, m.1) (
       (λ none. ⊎_elim (λ (e : (own m.0.events).hold o ≡ None). e) (λ (h : (x : Hold) × ((own m.0.events).hold o ≡ Some x)). absurd (f.truth.thin o i lt (f.held o h.0 h.1).0 none (n, is))) (hold_cases ((own m.0.events).hold o))),
       (λ j e. one_slot w.lock o i j (n, is) (f.truth.fat o j e).1),
       (λ j c e. spelled_once (w.lock o) (Fat i n) (Fat j c) is (f.truth.word o j c e).1),

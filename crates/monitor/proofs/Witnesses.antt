@@ -1,4 +1,4 @@
--- A seat leaves a witness, and the helper hears it and catches up with the history.
+-- A seat leaves a witness, the helper hears it and catches up with the history, and a seat sees the history.
 use Rattle.std.proofs.Common.{◌≡◌, ◌≢◌, ℕ, zero, suc, ◌⊎◌, List, [], ◌∷◌, ◌++◌, length, length-set, get_or, set, refl, sym, ap, ◌∙◌, subst, inl, inr, ⊎_elim, arith}
 use mathlib.Core.Option.{none, some, some-injective, some-ne-none}
 use lib.ListN.{get_elem?}
@@ -20,10 +20,13 @@ use Rattle.monitor.specs.Words.{setting_of, CountAt, place, Words, spread, word_
 use Rattle.monitor.specs.Views.{noted, lane_in, lane_of, spent, witness_role, witness_for, hearing, caught_up, GoesOn, HasHeard}
 use Rattle.monitor.specs.Posts.{NeverFall, ArePublished}
 use Rattle.monitor.specs.Rule.{late_in, late, most_in, most, Facts, Seated, Kept}
-use Rattle.monitor.specs.Kinds.{Sat, catches_up}
+use Rattle.monitor.specs.Kinds.{Sat, catches_up, sees}
 use Rattle.monitor.proofs.Spread.{spread_set, word_here}
-use Rattle.monitor.proofs.Histories.{goes_same}
-use Rattle.monitor.proofs.Facts.{late_set, most_set}
+use Rattle.monitor.proofs.Histories.{by_none, goes_same}
+use Rattle.monitor.proofs.Facts.{late_set, most_set, facts_after, reads_none}
+use Rattle.monitor.proofs.Facts as facts
+use Rattle.monitor.proofs.Quiet.{quiet_none, stays_quiet}
+use Rattle.monitor.proofs.PostSteps.{seated_same}
 use Rattle.monitor.proofs.Telling.{unwritten}
 use Rattle.monitor.proofs.Deals.{helper_once, at_end, late_append, most_append}
 
@@ -76,6 +79,7 @@ seated_still h views later r t q = record {
   helpers = λ i j x z m n a b e f. let y = t.helpers i x m a e in let u = t.helpers j z n b f in r.helpers i j y.0 u.0 m n y.1 u.1 y.2 u.2;
   counted = λ i x n a e. let y = t.helpers i x n a e in t.counts ∙ r.counted i y.0 n y.1 y.2;
   witnesses = q.witnesses;
+  known = λ i x l a e. r.known i x l (t.workers i x l a e) e;
   begins = q.begins;
   heard = λ i j x n p a e has. q.heard i x n a e j p has;
 }
@@ -246,4 +250,40 @@ catch_allowed k slots id m n i role plan is s r _ here _ = let v : View = m.0 in
         last = r.last;
       },
       (h, subst (λ (z : Plan). IsLegalHistory (setting_of z) h) (sym plan) r.legal, r.seated.begins id v n here role, (λ j p has. r.seated.heard id j v n p here role has), refl, refl),
+    )
+
+-- a lane's seat sees the history so far
+
+pub see_allowed : (k : Plan) (slots id : ℕ) (m : Sat) (l : Lane) (i : ℕ) → m.0.role ≡ Worker l → m.0.plan ≡ k → i ≡ place k CountAt → Allows (Kept k) slots id m i (λ x. x) (sees (step 0 i 0 0 none) m)
+see_allowed k slots id m l i role plan is s r _ here _ = let v : View = m.0 in let h : List (ℕ × Event) = r.history in let u : View = caught_up v h in let w : Words = spread k s.words in let x : ℕ = get_or s.words i 0 in
+    let found : word_at w CountAt ≡ x = word_here k CountAt s.words tt ∙ ap (λ (z : ℕ). get_or s.words z 0) (sym is) in
+    let words : spread k (set s.words i x) ≡ w = ap (λ (z : ℕ). spread k (set s.words z x)) is ∙ spread_set k s.words x r.wide CountAt tt ∙ ap (λ (z : ℕ). with_word w CountAt z) (sym found) ∙ unwritten w CountAt in
+    let st : State = state_after (setting_of k) h in let goes : GoesOn h v.history = r.seated.known id v l here role in
+    let part : lane (lane_of v).0 h ≡ v.events = ap (λ (z : Role). lane (lane_in z).0 h) role ∙ r.seated.parts id v l here role in
+    let legal : IsLegalHistory (setting_of v.plan) h = subst (λ (z : Plan). IsLegalHistory (setting_of z) h) (sym plan) r.legal in
+    let t = r.facts.truths id v l here role in
+    let facts : Facts k w st (set s.views id u) = facts_after k l v u w w st st s.views id r.facts here role role (λ j y a ry. r.seated.apart j id y v l a here ry role) record {
+      locks = r.facts.locks;
+      cells = r.facts.cells;
+      waits = r.facts.waits;
+      slots = r.facts.slots;
+      stays = stays_quiet k l v w w st st (quiet_none k l w st) (by_none st l.0);
+      truth = record { planned = t.planned; lane = t.lane; fat = t.fat; word = t.word; thin = t.thin; clear = t.clear; joined = t.joined; known = t.known; removed = t.removed; seen = t.seen; claimed = t.claimed; ready = t.ready; notes = t.notes };
+      claim = λ j c. inl c;
+      counts = facts.same refl (omega arith);
+      posts = λ p. refl;
+      reads = reads_none w v u refl;
+    } in (
+      u,
+      keeps,
+      tt,
+      record {
+        history = h;
+        legal = r.legal;
+        wide = length-set s.words i x ∙ r.wide;
+        facts = subst (λ (z : Words). Facts k z st (set s.views id u)) (sym words) facts;
+        seated = seated_same h s.views id v u r.seated here refl refl refl (goes_same h) (λ j p has. absurd (some-ne-none p (sym has)));
+        last = r.last;
+      },
+      (h, legal, part, goes, (refl, record { history = h; legal = legal; part = part; later = goes_same h }, refl)),
     )

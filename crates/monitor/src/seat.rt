@@ -121,7 +121,8 @@ impl Seat {
         self.lane
     }
 
-    /// What the seat has seen is its lane's part of one legal history. This does nothing at run time.
+    /// What the seat was told is its lane's part of one legal history: the one that it has seen ([`Shared::see`](crate::Shared::see)),
+    /// or one that goes on from it. This does nothing at run time.
     pub fn stands(&self)
         ensures { Stands self.now.view }
     {

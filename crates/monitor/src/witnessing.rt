@@ -1,8 +1,9 @@
-//! What lanes had had, told to the helper while their threads go on.
+//! The one history, as seats see it while threads go on; and what lanes had had, told to the helper.
 
 ghost use Rattle.std.specs.Prelude.{◌≡◌};
 ghost use Rattle.monitor.specs.Words.{setting_of};
-ghost use Rattle.monitor.specs.Views.{witness_for, hearing, caught_up, GoesOn, HasHeard};
+ghost use Rattle.heap_model.specs.Log.{lane};
+ghost use Rattle.monitor.specs.Views.{witness_for, hearing, caught_up, lane_of, GoesOn, HasHeard};
 ghost use Rattle.heap_model.specs.History.{IsLegalHistory};
 ghost use Rattle.monitor.specs.Seats.{IsSeatOf, IsHelperOf};
 
@@ -31,6 +32,15 @@ impl Join<View> for Hears {
     ghost both = { hearing };
 
     ghost spent = { spent };
+}
+
+/// A load by which a lane's seat sees the history so far.
+pub struct Sees;
+
+impl Play<(), View> for Sees {
+    ghost use Rattle.monitor.specs.Kinds.{sees};
+
+    ghost then = { sees };
 }
 
 /// A load by which the helper's seat sees the history so far.
@@ -63,6 +73,21 @@ impl Shared {
     {
         let Witness { seat } = witness;
         self.table.shared.join_seat::<Hears>(&mut helper.seat, seat);
+    }
+
+    /// Sees the one history so far. It is legal, goes on from what the seat had seen before, and its lane's part is what the
+    /// seat was told. From then on [`Seat::stands`] names a history that goes on from it. One load.
+    pub fn see(&self, seat: &mut Seat)
+        requires seat { IsSeatOf self.now seat.old }
+        ensures seat { IsSeatOf self.now seat.new }
+        ensures seen { seat.new.view ≡ caught_up seat.old.view seat.new.view.history }
+        ensures legal { IsLegalHistory (setting_of self.now.plan) seat.new.view.history }
+        ensures part { lane (lane_of seat.old.view).0 seat.new.view.history ≡ seat.old.view.events }
+        ensures goes_on { GoesOn seat.new.view.history seat.old.view.history }
+    {
+        let _lane = seat.lane;
+        let place = self.count_place();
+        self.table.shared.load::<Sees>(&mut seat.seat, place);
     }
 
     /// Sees the one history so far. It is legal, goes on from what the helper had seen before, and for each witness that was

@@ -37,6 +37,7 @@ tells_both v w x d e a b = let f = a.3 in let s = b.3 in (
     trimmed_looks = (let p = f.trimmed_looks in let q = s.trimmed_looks in omega arith);
     fats = λ o i h. s.fats o i (f.fats o i h);
     words = λ o x h. s.words o x (f.words o x h);
+    history = s.history ∙ f.history;
   },
 )
 

@@ -10,4 +10,4 @@ use Rattle.monitor.specs.Views.{Stands}
 use Rattle.monitor.specs.Words.{setting_of}
 
 pub loaded_known : LoadLaw → (w : raw.View) (f : FieldId) (x y : ℕ) (older : List Event) → Stands w → w.events ≡ Load f x ∷ older → known_value (setting_of w.plan) older f.0 ≡ Some y → x ≡ y
-loaded_known law w f x y older stands told known = law (record w { events = older }) f x y (stands.0, stands.1, stands.2 ∙ told) known
+loaded_known law w f x y older stands told known = law (record w { events = older }) f x y (record { history = stands.history; legal = stands.legal; part = stands.part ∙ told; later = stands.later }) known

@@ -26,6 +26,7 @@ after_both v w x a b f s = record {
   trimmed_looks = (let p = f.trimmed_looks in let q = s.trimmed_looks in omega arith);
   fats = λ o i e. s.fats o i (f.fats o i e);
   words = λ o x h. s.words o x (f.words o x h);
+  history = s.history ∙ f.history;
 }
 
 -- nothing, and then some events
@@ -41,6 +42,7 @@ after_quiet v w x b f s = record {
   trimmed_looks = (let p = f.trimmed_looks in let q = s.trimmed_looks in omega arith);
   fats = λ o i e. s.fats o i (f.fats o i e);
   words = λ o x h. s.words o x (f.words o x h);
+  history = s.history ∙ f.history;
 }
 
 -- a look behind nothing
@@ -56,7 +58,7 @@ thin_back v w newer o told thin = by_slot (slot_in o.0 v.fats) refl
     by_slot (Some i) e = absurd (let clash : ◌≡◌ {A = Option ℕ} (Some i) None = sym (told.fats o.0 i e) ∙ thin in cc)
 
 pub same_view : (v : View) → Lengthens v v []
-same_view v = record { events = refl; plan = refl; lane = refl; slots = omega arith; stable = omega arith; trimmed = omega arith; stable_looks = omega arith; trimmed_looks = omega arith; fats = λ o i e. e; words = λ o x h. h }
+same_view v = record { events = refl; plan = refl; lane = refl; slots = omega arith; stable = omega arith; trimmed = omega arith; stable_looks = omega arith; trimmed_looks = omega arith; fats = λ o i e. e; words = λ o x h. h; history = refl }
 
 -- the log after these events
 pub logs_after : (v w : View) (newer : List Event) → Lengthens v w newer → log_in w ≡ own_log v.plan (newer ++ v.events)

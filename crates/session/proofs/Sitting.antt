@@ -16,7 +16,7 @@ use Rattle.heap_model.specs.Sections as sections
 use Rattle.heap_model.specs.Sections.{Frees, Stores, action, holding, without}
 use Rattle.steps.specs.Views.{View}
 use Rattle.steps.specs.declared.grip.Grip.{Grip}
-use Rattle.steps.specs.Views.{hold, Keeps, KeepsEach, KeepsOthers, Lengthens, Takes, IsAwake, IsClear}
+use Rattle.steps.specs.Views.{hold, Keeps, KeepsEach, KeepsOthers, Lengthens, SeesHistory, Takes, IsAwake, IsClear}
 use Rattle.session.specs.Grips.{grip_in, with_grip, without_grip}
 use Rattle.session.specs.Sits.{Holds, IsTold, IsWithin, HasRoom, Sits, Stays}
 use Rattle.session.specs.Calls.{IsFull, IsBehind, IsWaitWorn, LacksRoom, records_of}
@@ -46,6 +46,29 @@ sits_silent v w newer gs s free r p k c t told each clear log same x =
         began = began_same (t + c) v w logs y.began;
       };
       idle = (ap (λ (u : Own). u.pause) owns ∙ x.idle.0, clear);
+    }
+
+-- the history was seen
+
+keeps_but : (w : View) (h : List (ℕ × Event)) (g : Grip) → Keeps w g → Keeps (record w { history = h }) g
+keeps_but w h g m = record { low = m.low; hold = m.hold; some = m.some; few = m.few; number = m.number; slot = m.slot }
+
+keeps_back : (w : View) (h : List (ℕ × Event)) (g : Grip) → Keeps (record w { history = h }) g → Keeps w g
+keeps_back w h g m = record { low = m.low; hold = m.hold; some = m.some; few = m.few; number = m.number; slot = m.slot }
+
+pub sits_seen : (v w : View) (gs : List Grip) (s : List Record) (free r p k c t : ℕ) → SeesHistory v w → KeepsEach v w → w.mark ≡ v.mark → Sits v gs s free r p k c t → Sits w gs s free r p k c t
+sits_seen v w gs s free r p k c t sees each mark x =
+    let y = sits_silent v (record w { history = v.history }) [] gs s free r p k c t sees.quiet (λ g m. keeps_but w v.history g (each g m)) (mark ∙ x.idle.1) refl refl x in let z = y.stays in record {
+      stays = record {
+        holds = record { keeps = λ o g there. keeps_back w v.history g (z.holds.keeps o g there); free = z.holds.free; listed = z.holds.listed; apart = z.holds.apart };
+        told = record { sent = z.told.sent; records = z.told.records; places = z.told.places; sections = z.told.sections };
+        within = z.within;
+        room = z.room;
+        known = z.known;
+        limits = z.limits;
+        began = z.began;
+      };
+      idle = y.idle;
     }
 
 -- how the room goes on with one record more

@@ -12,6 +12,7 @@ impl Session {
     ghost use Rattle.session.specs.Sessions.{SameRing, HasRoomLeft, IsSessionOf, view_of, seat_of, ring_of};
     ghost use Rattle.session.specs.Logs.{sent_in, held_count, sections_ended};
     ghost use Rattle.monitor.specs.Views.{Stands};
+    ghost use Rattle.steps.specs.Views.{SeesHistory};
     ghost use Rattle.lane_rings.specs.Rings.{sent};
 
     /// How many sections have ended since the session was opened.
@@ -35,9 +36,22 @@ impl Session {
         self.parts.held.len() as u32
     }
 
-    /// What the session was told is its lane's part of one legal history (JLS 17.1, 17.2), and what it has sent is the log of
-    /// that part (Atlas, OOPSLA 2014). An open section has room for all that it may still log. This does nothing at run time.
+    /// Sees the one history of all threads so far (JLS 17.1, 17.2). From then on [`stands`](Session::stands) names this history or one that goes on
+    /// from it, as does the next call of this. One load.
+    pub fn see(&mut self, shared: &Shared)
+        requires seat { IsSessionOf shared.now self.old }
+        ensures seat { IsSessionOf shared.now self.new }
+        ensures ring { SameRing self.old self.new }
+        // The history that is seen is legal, has just what the session was told as its lane's part, and goes on from the one that it saw before.
+        ensures told { SeesHistory (view_of self.old) (view_of self.new) }
+    {
+        steps::see(shared, &mut self.parts.seat);
+    }
+
+    /// What the session was told stands in one legal history (JLS 17.1, 17.2), and what it has sent is the log of its lane's part
+    /// there (Atlas, OOPSLA 2014). An open section has room for all that it may still log. This does nothing at run time.
     pub fn stands(&self)
+        // What the session was told is its lane's part of one legal history: the history that it has seen, or one that goes on from it.
         ensures history { Stands (seat_of self.now).view }
         ensures sent { sent (ring_of self.now) ≡ sent_in (view_of self.now) }
         ensures room { 0 < held_count (view_of self.now) → HasRoomLeft self.now }

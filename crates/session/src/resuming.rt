@@ -21,6 +21,7 @@ impl Waiting {
     /// What the thread was told is its lane's part of one legal history, and what it has sent is the log of that part
     /// ([`Session::stands`] says the same of one that doesn't wait). This does nothing at run time.
     pub fn stands(&self)
+        // What the thread was told is its lane's part of one legal history: the history that it has seen, or one that goes on from it.
         ensures history { Stands (seat_waiting self.now).view }
         ensures sent { sent (ring_waiting self.now) ≡ sent_in (view_waiting self.now) }
     {

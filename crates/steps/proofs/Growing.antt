@@ -5,6 +5,8 @@ use Rattle.heap_model.specs.declared.ids.Lane.{Lane}
 use Rattle.heap_model.specs.declared.event.Event.{Event}
 use Rattle.heap_model.specs.declared.event.Event.TheVariants.{Enter, NestedEnter, NestedExit, Exit, Wait, Resume, Look}
 use Rattle.heap_model.specs.declared.event.Sight.TheVariants.{Found}
+use Rattle.heap_model.specs.History.{IsLegalHistory}
+use Rattle.heap_model.specs.Log.{lane}
 use Rattle.heap_model.specs.State.{with_at}
 use Rattle.heap_model.specs.Own.{Hold, Pause, own, more, less, pause_count}
 use Rattle.history_laws.proofs.Own.{by_test}
@@ -18,14 +20,14 @@ use Rattle.monitor.specs.declared.view.Note.{Note}
 use Rattle.monitor.specs.declared.view.Mark.{Mark}
 use Rattle.monitor.specs.declared.view.Mark.TheVariants.{Clear, Joined, Knows, Removed}
 use Rattle.monitor.specs.Words.{SLOTS, setting_of}
-use Rattle.monitor.specs.Views.{calm, noted, slot_of, word_of, first_of, met_at, lane_of, told, resumed, fattened, counted, joined, removed, keeping, Stands}
+use Rattle.monitor.specs.Views.{GoesOn, caught_up, calm, noted, slot_of, word_of, first_of, met_at, lane_of, told, resumed, fattened, counted, joined, removed, keeping, Stands}
 use Rattle.monitor.specs.Views as raw_views
 use Rattle.lock_word.specs.Spelling.{lane_of_thread, slot_named, fat_sight, sight_of}
 use Rattle.monitor.specs.Kinds.{looked, IsNews}
 use Rattle.monitor.specs.Seats.{Home, Sitting}
 use Rattle.monitor.specs.Seats as raw_seats
 use Rattle.steps.specs.declared.grip.Grip.{Grip}
-use Rattle.steps.specs.Views.{View, shown, times, plan, IsReady, IsSeatOf, hold, slot_in, Keeps, KeepsEach, KeepsOthers, Lengthens, KeepsWords, IsLasting, AgreesWith, Misses}
+use Rattle.steps.specs.Views.{View, shown, times, plan, IsReady, IsSeatOf, hold, slot_in, Keeps, KeepsEach, KeepsOthers, Lengthens, KeepsWords, IsLasting, AgreesWith, Misses, SeesHistory}
 use Rattle.steps.specs.declared.grip.Seen.TheVariants as seen
 use Rattle.monitor.proofs.CellLaws.{sight_law, look_law}
 
@@ -63,6 +65,9 @@ calm_twice (Removed o) = refl
 
 pub ready_told : (v w : raw.View) (e : Event) → w ≡ told v e → IsReady v → IsReady w
 ready_told v w e is ready = subst IsReady (sym is) (record { mark = calm_twice v.mark; claim = ready.claim; slots = ready.slots })
+
+pub ready_seen : (v w : raw.View) (h : List (ℕ × Event)) → w ≡ caught_up v h → IsReady v → IsReady w
+ready_seen v w h is ready = subst IsReady (sym is) (record { mark = ready.mark; claim = ready.claim; slots = ready.slots })
 
 pub mark_told : (v w : raw.View) (e : Event) → w ≡ told v e → IsReady v → w.mark ≡ v.mark
 mark_told v w e is ready = ap (λ (x : raw.View). x.mark) is ∙ ready.mark
@@ -109,16 +114,25 @@ words_fattened v o i n only p x h = by_test o.0 p (λ b. ◌≡◌ {A = Option S
 -- events
 
 pub after_told : (v w : raw.View) (e : Event) → w ≡ told v e → Lengthens (shown v) (shown w) (e ∷ [])
-after_told v w e is = subst (λ (x : raw.View). Lengthens (shown v) (shown x) (e ∷ [])) (sym is) (record { events = refl; plan = refl; lane = refl; slots = same v.seen; stable = same (noted (lane_of v).0 v.notes); trimmed = same (noted (32 + (lane_of v).0) v.notes); stable_looks = same (times (lane_of v).0 v.notes); trimmed_looks = same (times (32 + (lane_of v).0) v.notes); fats = λ o i s. s; words = λ o x h. h })
+after_told v w e is = subst (λ (x : raw.View). Lengthens (shown v) (shown x) (e ∷ [])) (sym is) (record { events = refl; plan = refl; lane = refl; slots = same v.seen; stable = same (noted (lane_of v).0 v.notes); trimmed = same (noted (32 + (lane_of v).0) v.notes); stable_looks = same (times (lane_of v).0 v.notes); trimmed_looks = same (times (32 + (lane_of v).0) v.notes); fats = λ o i s. s; words = λ o x h. h; history = refl })
 
 pub after_resumed : (v w : raw.View) (e : Event) → w ≡ resumed v e → Lengthens (shown v) (shown w) (e ∷ [])
-after_resumed v w e is = subst (λ (x : raw.View). Lengthens (shown v) (shown x) (e ∷ [])) (sym is) (record { events = refl; plan = refl; lane = refl; slots = same v.seen; stable = same (noted (lane_of v).0 v.notes); trimmed = same (noted (32 + (lane_of v).0) v.notes); stable_looks = same (times (lane_of v).0 v.notes); trimmed_looks = same (times (32 + (lane_of v).0) v.notes); fats = λ o i s. s; words = λ o x h. h })
+after_resumed v w e is = subst (λ (x : raw.View). Lengthens (shown v) (shown x) (e ∷ [])) (sym is) (record { events = refl; plan = refl; lane = refl; slots = same v.seen; stable = same (noted (lane_of v).0 v.notes); trimmed = same (noted (32 + (lane_of v).0) v.notes); stable_looks = same (times (lane_of v).0 v.notes); trimmed_looks = same (times (32 + (lane_of v).0) v.notes); fats = λ o i s. s; words = λ o x h. h; history = refl })
 
 pub after_removed : (v w : raw.View) (o : ObjectId) → w ≡ removed v o → Lengthens (shown v) (shown w) []
-after_removed v w o is = subst (λ (x : raw.View). Lengthens (shown v) (shown x) []) (sym is) (record { events = refl; plan = refl; lane = refl; slots = same v.seen; stable = same (noted (lane_of v).0 v.notes); trimmed = same (noted (32 + (lane_of v).0) v.notes); stable_looks = same (times (lane_of v).0 v.notes); trimmed_looks = same (times (32 + (lane_of v).0) v.notes); fats = λ o i s. s; words = λ o x h. h })
+after_removed v w o is = subst (λ (x : raw.View). Lengthens (shown v) (shown x) []) (sym is) (record { events = refl; plan = refl; lane = refl; slots = same v.seen; stable = same (noted (lane_of v).0 v.notes); trimmed = same (noted (32 + (lane_of v).0) v.notes); stable_looks = same (times (lane_of v).0 v.notes); trimmed_looks = same (times (32 + (lane_of v).0) v.notes); fats = λ o i s. s; words = λ o x h. h; history = refl })
 
 pub after_counted : (v w : raw.View) (n : ℕ) → w ≡ counted v n → v.seen ≤ n → Lengthens (shown v) (shown w) []
-after_counted v w n is low = subst (λ (x : raw.View). Lengthens (shown v) (shown x) []) (sym is) (record { events = refl; plan = refl; lane = refl; slots = low; stable = same (noted (lane_of v).0 v.notes); trimmed = same (noted (32 + (lane_of v).0) v.notes); stable_looks = same (times (lane_of v).0 v.notes); trimmed_looks = same (times (32 + (lane_of v).0) v.notes); fats = λ o i s. s; words = λ o x h. h })
+after_counted v w n is low = subst (λ (x : raw.View). Lengthens (shown v) (shown x) []) (sym is) (record { events = refl; plan = refl; lane = refl; slots = low; stable = same (noted (lane_of v).0 v.notes); trimmed = same (noted (32 + (lane_of v).0) v.notes); stable_looks = same (times (lane_of v).0 v.notes); trimmed_looks = same (times (32 + (lane_of v).0) v.notes); fats = λ o i s. s; words = λ o x h. h; history = refl })
+
+-- the history was seen
+pub after_seen : (v w : raw.View) (h : List (ℕ × Event)) → w ≡ caught_up v h → GoesOn h v.history → IsLegalHistory (setting_of v.plan) h → lane (lane_of v).0 h ≡ v.events → SeesHistory (shown v) (shown w)
+after_seen v w h is goes legal part = subst (λ (x : raw.View). SeesHistory (shown v) (shown x)) (sym is) (record {
+  quiet = record { events = refl; plan = refl; lane = refl; slots = same v.seen; stable = same (noted (lane_of v).0 v.notes); trimmed = same (noted (32 + (lane_of v).0) v.notes); stable_looks = same (times (lane_of v).0 v.notes); trimmed_looks = same (times (32 + (lane_of v).0) v.notes); fats = λ o i s. s; words = λ o x h. h; history = refl };
+  goes_on = goes;
+  legal = legal;
+  part = part;
+})
 
 pub after_both : (v w x : View) (a : List Event) → Lengthens v w [] → Lengthens w x a → Lengthens v x a
 after_both v w x a f s = record {
@@ -132,6 +146,7 @@ after_both v w x a f s = record {
   trimmed_looks = (let p = f.trimmed_looks in let q = s.trimmed_looks in omega arith);
   fats = λ o i e. s.fats o i (f.fats o i e);
   words = λ o x h. s.words o x (f.words o x h);
+  history = s.history ∙ f.history;
 }
 
 -- a note more
@@ -158,6 +173,7 @@ after_noted v w q n is stable trimmed = subst (λ (x : raw.View). Lengthens (sho
   trimmed_looks = times_more (32 + (lane_of v).0) q n v.notes;
   fats = λ o i s. s;
   words = λ o x h. h;
+  history = refl;
 })
 
 pub after_stable : (v w : raw.View) (n : ℕ) → w ≡ keeping v (lane_of v).0 n → noted (lane_of v).0 v.notes ≤ n → Lengthens (shown v) (shown w) []
@@ -188,6 +204,7 @@ after_fattened v w o i n is only word = subst (λ (x : raw.View). Lengthens (sho
   trimmed_looks = same (times (32 + (lane_of v).0) v.notes);
   fats = λ p j s. by_test o.0 p (λ b. ◌≡◌ {A = Option ℕ} (if b then Some i else slot_of p v.fats) (Some j)) (λ e. ap Some (only j (ap (λ z. slot_of z v.fats) e ∙ s))) (λ _. s);
   words = words_fattened v o i n word;
+  history = refl;
 })
 
 -- a look that met a lock word that names a slot
@@ -253,6 +270,9 @@ each_removed v w o is = subst (λ (x : raw.View). KeepsEach (shown v) (shown x))
 
 pub each_kept : (v w : raw.View) (p n : ℕ) → w ≡ keeping v p n → KeepsEach (shown v) (shown w)
 each_kept v w p n is = subst (λ (x : raw.View). KeepsEach (shown v) (shown x)) (sym is) (λ g m. kept (shown v) (shown (keeping v p n)) g refl refl refl m)
+
+pub each_seen : (v w : raw.View) (h : List (ℕ × Event)) → w ≡ caught_up v h → KeepsEach (shown v) (shown w)
+each_seen v w h is = subst (λ (x : raw.View). KeepsEach (shown v) (shown x)) (sym is) (λ g m. kept (shown v) (shown (caught_up v h)) g refl refl refl m)
 
 slot_fattened : (v : raw.View) (o : ObjectId) (i n p : ℕ) → o.0 ≢ p → slot_of p (fattened v o i n).fats ≡ slot_of p v.fats
 slot_fattened v o i n p ne = by_test o.0 p (λ b. (if b then Some i else slot_of p v.fats) ≡ slot_of p v.fats) (λ e. absurd (ne e)) (λ _. refl)
