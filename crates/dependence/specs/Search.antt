@@ -50,6 +50,16 @@ pub record IsCause (steps : List Step) (cut : ℕ → ℕ) (lane : ℕ) (on : De
 abbrev pub AreCauses : (steps : List Step) (cut : ℕ → ℕ) (causes : List (Option Dependence)) → Type 0
 AreCauses steps cut causes = (l : ℕ) (on : Dependence) → l < length causes → get_or causes l (Some on) ≡ Some on → IsCause steps cut l on
 
+-- what was answered is closed, and these causes are its own: so that a cut may fall to it where a cause is out
+abbrev pub KeepsAbove : List (Option Dependence) → (answered old new : ℕ → ℕ) → Type 0
+KeepsAbove causes answered old new = (steps : List Step) (most : ℕ → ℕ) → AreCauses steps answered causes
+    → ((l : ℕ) → answered l ≤ most l) → IsClosedOver reading steps answered → IsAbove steps most old → IsAbove steps most new
+
+-- the same of candidates found anew, at most so many
+abbrev pub AreAbove : List (Option Dependence) → (answered most candidates : ℕ → ℕ) → Type 0
+AreAbove causes answered most candidates = (steps : List Step) → AreCauses steps answered causes
+    → ((l : ℕ) → answered l ≤ most l) → IsClosedOver reading steps answered → IsAbove steps most candidates
+
 -- by lane: all of its steps, or none where the cut has no candidates
 abbrev pub IsStart : (newest : List ℕ) (answered candidates : ℕ → ℕ) (start : List ℕ) → Type 0
 IsStart newest answered candidates start = (l : ℕ) → (slice_index start l ≡ slice_index newest l) ⊎ ((slice_index start l ≡ 0) × (candidates l ≤ answered l))
@@ -73,6 +83,12 @@ pub record IsLooking (steps : List Step) (start left : List ℕ) (candidates cut
   pub why : AreCauses steps cut causes
   pub walk : IsWalk steps start left (IsLookedAt steps candidates cut)
 
+-- it goes on: what is left, the cut and its causes then and now
+abbrev pub KeepsLooking : List Step → (candidates : ℕ → ℕ) → (left left' : List ℕ) → (cut cut' : ℕ → ℕ)
+    → (causes causes' : List (Option Dependence)) → Type 0
+KeepsLooking steps candidates left left' cut cut' causes causes' = (start : List ℕ)
+    → IsLooking steps start left candidates cut causes → IsLooking steps start left' candidates cut' causes'
+
 -- the second: back over what is out. Where it doesn't begin at a lane, what took from a section of it that is no candidate is out already
 pub record IsSearch (steps : List Step) (start left : List ℕ) (candidates cut : ℕ → ℕ) (causes : List (Option Dependence)) : Type 0 where
   pub above : IsAbove steps candidates cut
@@ -80,6 +96,11 @@ pub record IsSearch (steps : List Step) (start left : List ℕ) (candidates cut 
   pub looked : (j i : ℕ) → Takes steps j i → slice_index start (slice_index (lanes_in steps) i) ≡ 0
       → candidates (slice_index (lanes_in steps) i) < slice_index (sections_in steps) i → cut (slice_index (lanes_in steps) j) < slice_index (sections_in steps) j
   pub walk : IsWalk steps start left (IsTakenUp steps cut)
+
+-- it goes on likewise
+abbrev pub KeepsSearching : List Step → (left left' : List ℕ) → (cut cut' : ℕ → ℕ) → (causes causes' : List (Option Dependence)) → Type 0
+KeepsSearching steps left left' cut cut' causes causes' = (start : List ℕ) (candidates : ℕ → ℕ)
+    → IsSearch steps start left candidates cut causes → IsSearch steps start left' candidates cut' causes'
 
 -- the newest step that is left of the lane is of a section outside the cut
 pub record IsLeft (steps : List Step) (left : List ℕ) (cut : ℕ → ℕ) (lane : ℕ) : Type 0 where

@@ -1,11 +1,8 @@
 //! Which sections may be stable by now.
 
-ghost use Rattle.std.specs.Prelude.{◌<◌, ◌≤◌, ℕ, List, IsTrue, slice_index};
+ghost use Rattle.std.specs.Prelude.{◌<◌, ◌≤◌, IsTrue, slice_index};
 ghost use Rattle.heap_model.specs.Cuts.{counts_of};
-ghost use Rattle.cut_laws.specs.Plain.{IsClosedOver};
-ghost use Rattle.dependence.specs.declared.step.Step.{Step};
-ghost use Rattle.dependence.specs.Steps.{reading};
-ghost use Rattle.dependence.specs.Search.{IsAbove, AreCauses};
+ghost use Rattle.dependence.specs.Search.{AreAbove, KeepsAbove};
 
 use crate::section::Dependence;
 use heap_model::Cut;
@@ -21,7 +18,7 @@ pub fn candidates(
     causes: &[Option<Dependence>; 32],
 ) -> Cut
     requires lanes { lanes ≤ 32 }
-    ensures { (steps : List Step) → AreCauses steps (counts_of answered.now) causes.now → ((l : ℕ) → counts_of answered.now l ≤ slice_index ended.now l) → IsClosedOver reading steps (counts_of answered.now) → IsAbove steps (slice_index ended.now) (counts_of result) }
+    ensures { AreAbove causes.now (counts_of answered.now) (slice_index ended.now) (counts_of result) }
 {
     let mut cut = Cut { counts: *ended };
     for _ in 0..lanes {
@@ -33,7 +30,7 @@ pub fn candidates(
 // Bars each lane whose cause is out.
 fn bar_all(lanes: u8, answered: &Cut, causes: &[Option<Dependence>; 32], cut: &mut Cut)
     requires lanes { lanes ≤ 32 }
-    ensures { (steps : List Step) (most : ℕ → ℕ) → AreCauses steps (counts_of answered.now) causes.now → ((l : ℕ) → counts_of answered.now l ≤ most l) → IsClosedOver reading steps (counts_of answered.now) → IsAbove steps most (counts_of cut.old) → IsAbove steps most (counts_of cut.new) }
+    ensures { KeepsAbove causes.now (counts_of answered.now) (counts_of cut.old) (counts_of cut.new) }
 {
     for lane in 0..lanes as usize {
         bar(lane, answered, causes, cut);
@@ -43,7 +40,7 @@ fn bar_all(lanes: u8, answered: &Cut, causes: &[Option<Dependence>; 32], cut: &m
 // Bars the lane if its cause is out: it has no more than was answered.
 fn bar(lane: usize, answered: &Cut, causes: &[Option<Dependence>; 32], cut: &mut Cut)
     requires lane { lane < 32 }
-    ensures { (steps : List Step) (most : ℕ → ℕ) → AreCauses steps (counts_of answered.now) causes.now → ((l : ℕ) → counts_of answered.now l ≤ most l) → IsClosedOver reading steps (counts_of answered.now) → IsAbove steps most (counts_of cut.old) → IsAbove steps most (counts_of cut.new) }
+    ensures { KeepsAbove causes.now (counts_of answered.now) (counts_of cut.old) (counts_of cut.new) }
 {
     if let Some(cause) = causes[lane] {
         if is_out(cut, cause) {

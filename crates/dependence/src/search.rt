@@ -8,7 +8,7 @@ ghost use Rattle.dependence.specs.declared.step.Step.{Step as AnyStep};
 ghost use Rattle.dependence.specs.Steps.{reading};
 ghost use Rattle.dependence.specs.Links.{acts_in, act_at};
 ghost use Rattle.dependence.specs.Kept.{IsLinked};
-ghost use Rattle.dependence.specs.Search.{IsAbove, TookFrom, AreCauses, IsStart, IsLooking, IsSearch, IsLeft, IsSorted};
+ghost use Rattle.dependence.specs.Search.{IsAbove, TookFrom, AreCauses, IsStart, IsLooking, IsSearch, IsLeft, IsSorted, KeepsLooking, KeepsSearching};
 
 use crate::links::Links;
 use crate::section::Dependence;
@@ -218,7 +218,8 @@ fn is_left(steps: &[Step], left: &[usize; 32], cut: &Cut, lane: usize) -> bool
 fn look_at(steps: &[Step], links: &Links, candidates: &Cut, search: &mut Search, lane: usize)
     requires linked { IsLinked steps.now links.now }
     requires left { (cut : ℕ → ℕ) × IsLeft steps.now search.old.left cut lane }
-    ensures search { (start : List ℕ) → IsLooking steps.now start search.old.left (counts_of candidates.now) (counts_of search.old.cut) search.old.causes → IsLooking steps.now start search.new.left (counts_of candidates.now) (counts_of search.new.cut) search.new.causes }
+    ensures search { KeepsLooking steps.now (counts_of candidates.now) search.old.left search.new.left
+        (counts_of search.old.cut) (counts_of search.new.cut) search.old.causes search.new.causes }
     ensures smaller { sum search.new.left < sum search.old.left }
 {
     let place = search.left[lane] - 1;
@@ -235,7 +236,8 @@ fn look_at(steps: &[Step], links: &Links, candidates: &Cut, search: &mut Search,
 fn take_up(steps: &[Step], links: &Links, search: &mut Search, lane: usize)
     requires linked { IsLinked steps.now links.now }
     requires left { IsLeft steps.now search.old.left (counts_of search.old.cut) lane }
-    ensures search { (start : List ℕ) (candidates : ℕ → ℕ) → IsSearch steps.now start search.old.left candidates (counts_of search.old.cut) search.old.causes → IsSearch steps.now start search.new.left candidates (counts_of search.new.cut) search.new.causes }
+    ensures search { KeepsSearching steps.now search.old.left search.new.left (counts_of search.old.cut)
+        (counts_of search.new.cut) search.old.causes search.new.causes }
     ensures smaller { sum search.new.left < sum search.old.left }
 {
     let place = search.left[lane] - 1;

@@ -1,6 +1,7 @@
 -- How settled records are found that take what records that aren't settled freed: by going through a replay.
 use Rattle.std.specs.Prelude.{ℕ, ◌≡◌, ◌<◌, ◌≤◌, ◌⊎◌, ◌==◌, if◌then◌else◌, nat_le, nat_lt, not, Bool, true, false, List, [], ◌∷◌, length, slice_index, slice_index_or, slice_set, MatchOption, Option, Some, None}
 use Rattle.heap_model.specs.Log.{lane}
+use Rattle.heap_model.specs.declared.ids.Lane.{Lane}
 use Rattle.heap_model.specs.declared.record.UndoRecord.{UndoRecord}
 use Rattle.heap_model.specs.declared.record.UndoRecord.TheVariants.{Acq, Rel, WaitRel, Put}
 use Rattle.live_logs.specs.declared.crossings.LanePlace.{LanePlace}
@@ -55,3 +56,8 @@ pub record AreCrossings (settled : ℕ → ℕ) (done : List (ℕ × UndoRecord)
   pub places : (l : ℕ) → slice_index c.places l ≡ length (lane l done)
   pub late : (o : ℕ) → o < 4096 → slice_index_or c.late o false ≡ freed_late settled o done
   pub least : MatchOption c.least ((l i : ℕ) → Crosses settled done l i → ⊥) (λ p. IsLeastCrossing settled done p.lane.0 p.place)
+
+-- the lane's next record, where it crosses, is found: the least place is then that one, or a lesser one from before
+abbrev pub FindsCrossing : (old new : Crossings) → (settled : ℕ) → Lane → UndoRecord → Type 0
+FindsCrossing old new settled lane entry = IsCrossingBy old.late entry (nat_lt (slice_index old.places lane.0) settled)
+    → new.least ≡ Some (lesser old.least (record { lane = lane; place = slice_index old.places lane.0 }))

@@ -1,8 +1,9 @@
 -- The acknowledged sections of the lanes' live records: those before the place up to which a lane is settled (this
 -- project's own). Lists have their newest element first; places count from a lane's first live record.
-use Rattle.std.specs.Prelude.{ℕ, ◌≡◌, ◌+◌, ◌<◌, ◌≤◌, ◌⊎◌, List, [], ◌∷◌, length, map, take, reverse, Vec, Option}
+use Rattle.std.specs.Prelude.{ℕ, ◌≡◌, ◌+◌, ◌<◌, ◌≤◌, ◌⊎◌, List, [], ◌∷◌, length, map, take, reverse, Vec, Option, MatchOption}
 use Rattle.std.specs.declared.alloc.Global.{Global}
 use Rattle.heap_model.specs.Sections.{Frees, undo_action, holding, ended}
+use Rattle.heap_model.specs.declared.ids.Lane.{Lane}
 use Rattle.heap_model.specs.declared.ids.ObjectId.{ObjectId}
 use Rattle.heap_model.specs.declared.record.UndoRecord.{UndoRecord}
 use Rattle.heap_model.specs.declared.record.UndoRecord.TheVariants.{Acq}
@@ -52,6 +53,11 @@ pub record IsLeastUnsettled (settled : ℕ → ℕ) (lanes : ℕ → List UndoRe
 pub record IsLeastRestless (settled kept : ℕ → ℕ) (lanes : ℕ → List UndoRecord) (l : ℕ) : Type 0 where
   pub restless : IsAtRest settled kept lanes l → ⊥
   pub least : (m : ℕ) → m < l → IsAtRest settled kept lanes m
+
+-- of so many lanes the answer is the least that isn't at rest; none where each is
+abbrev pub FindsRestless : ℕ → (settled kept : ℕ → ℕ) → (lanes : ℕ → List UndoRecord) → Option Lane → Type 0
+FindsRestless n settled kept lanes result = MatchOption result ((l : ℕ) → l < n → IsAtRest settled kept lanes l)
+    (λ l. (l.0 < n) × IsLeastRestless settled kept lanes l.0)
 
 -- the logs are those of a legal list, and each lane is at rest where it is settled
 pub record AreAtRest (guard : ℕ → Option ObjectId) (settled kept : ℕ → ℕ) (lanes : ℕ → List UndoRecord) : Type 0 where

@@ -2,7 +2,7 @@
 ghost use Rattle.std.specs.Prelude.{◌≡◌, ◌↔◌, ◌+◌, ◌-◌, ◌<◌, ◌≤◌, ◌^◌, ℕ, IsTrue, MatchOption, length, map};
 ghost use Rattle.heap_model.specs.Sections.{holding, ended};
 ghost use Rattle.live_logs.specs.Logs.{count_of, kept_of, lanes_of, records_of, settled_of};
-ghost use Rattle.live_logs.specs.Settled.{IsAtRest, IsLeastRestless};
+ghost use Rattle.live_logs.specs.Settled.{IsAtRest, FindsRestless};
 ghost use Rattle.live_logs.specs.Tally.{FreesHeld, acts_of, IsRestAfter};
 
 use crate::lanes::records_in;
@@ -17,7 +17,7 @@ pub fn least_restless(counts: &[SettledCount], logs: &[Vec<UndoRecord>]) -> Opti
     requires counts { length counts.now ≡ 32 }
     requires held { (l : ℕ) → FreesHeld (acts_of (records_of logs.now l)) }
     requires within { (l : ℕ) → l < length logs.now → settled_of counts.now l ≤ length (records_of logs.now l) }
-    ensures { MatchOption result ((l : ℕ) → l < length logs.now → IsAtRest (settled_of counts.now) (kept_of counts.now) (lanes_of logs.now) l) (λ l. (l.0 < length logs.now) × IsLeastRestless (settled_of counts.now) (kept_of counts.now) (lanes_of logs.now) l.0) }
+    ensures { FindsRestless (length logs.now) (settled_of counts.now) (kept_of counts.now) (lanes_of logs.now) result }
 {
     for lane in 0..logs.len() as u8 {
         if !is_at_rest(counts, logs, Lane(lane)) {

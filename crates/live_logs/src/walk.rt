@@ -2,7 +2,7 @@
 ghost use Rattle.std.specs.Prelude.{◌≡◌, ◌↔◌, ◌+◌, ◌-◌, ◌<◌, ◌≤◌, ◌^◌, ℕ, All, Bool, if◌then◌else◌, nat_lt, IsTrue, MatchOption, None, Some, false, slice_index_or, length, slice_index, slice_set};
 ghost use Rattle.log_state.specs.Limits.{IsInRange};
 ghost use Rattle.live_logs.specs.Logs.{settled_of};
-ghost use Rattle.live_logs.specs.Crossings.{IsLeastCrossing, Crosses, IsCrossingBy, late_after, lesser};
+ghost use Rattle.live_logs.specs.Crossings.{IsLeastCrossing, Crosses, IsCrossingBy, late_after, lesser, FindsCrossing};
 ghost use Rattle.live_logs.specs.Tables.{IsLow, log_of};
 
 use crate::crossings::{Crossings, LanePlace};
@@ -44,7 +44,7 @@ fn look_at(crossings: &mut Crossings, settled: usize, step: Step)
     requires fits { slice_index crossings.old.places step.lane.0 + 1 < 2 ^ 64 }
     ensures places { crossings.new.places ≡ slice_set crossings.old.places step.lane.0 (slice_index crossings.old.places step.lane.0 + 1) }
     ensures late { crossings.new.late ≡ late_after crossings.old.late step.entry (nat_lt (slice_index crossings.old.places step.lane.0) settled) }
-    ensures found { IsCrossingBy crossings.old.late step.entry (nat_lt (slice_index crossings.old.places step.lane.0) settled) → crossings.new.least ≡ Some (lesser crossings.old.least (record { lane = step.lane; place = slice_index crossings.old.places step.lane.0 })) }
+    ensures found { FindsCrossing crossings.old crossings.new settled step.lane step.entry }
     ensures none { (IsCrossingBy crossings.old.late step.entry (nat_lt (slice_index crossings.old.places step.lane.0) settled) → ⊥) → crossings.new.least ≡ crossings.old.least }
 {
     let place = crossings.places[usize::from(step.lane.0)];
