@@ -1,10 +1,11 @@
 -- What the end of a recovery does to the device (this project's own).
 use Rattle.std.specs.Prelude.{ℕ, ◌+◌, ◌⊎◌, List, [], ◌∷◌}
 use Rattle.block_disk.specs.Device.{Device, synced}
-use Rattle.block_disk.specs.Images.{ImageBut}
+use Rattle.block_disk.specs.Images.{Always, ImageBut}
 use Rattle.image.specs.Calls.{Call, Sync}
 use Rattle.image.specs.Commit.{OldOrNew, commit_calls}
 use Rattle.image.specs.Control.{control_bytes, empty_control}
+use Rattle.image.specs.Slots.{Shows}
 use Rattle.image.specs.declared.control.Control.{Control}
 use Rattle.image.specs.declared.layout.Layout.{Layout}
 use Rattle.image.specs.declared.slot.Slot.{Slot}
@@ -16,3 +17,7 @@ end_calls chosen sequence image = Sync ∷ commit_calls chosen image (control_by
 -- an image from before the end, or, once all was durable, one that shows the old control or the one with empty logs
 abbrev pub IsEnding : Layout → Device → (chosen : Slot) → (old : Control) → (image : List ℕ) → Type 0
 IsEnding l d chosen old image = ImageBut d [] image ⊎ OldOrNew l (synced d) chosen old (empty_control (old.sequence + 1)) image
+
+-- each image of the device shows this control
+abbrev pub AlwaysShows : Layout → Device → (chosen : Slot) → (old : Control) → Type 0
+AlwaysShows l d chosen old = Always d (λ image. Shows l image chosen old)

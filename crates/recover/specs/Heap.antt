@@ -1,13 +1,18 @@
 -- The heap that an image stands for, by the replay of its live records: each field takes the value before its first store
 -- that isn't settled (undo after Atlas; the order of the stores to a field is this project's own). A list of records has its
 -- newest first.
-use Rattle.std.specs.Prelude.{ℕ, ◌≡◌, ◌↔◌, ◌==◌, if◌then◌else◌, nat_le, List, [], ◌∷◌, length, map, Contains, Option, Some, None}
+use Rattle.std.specs.Prelude.{ℕ, ◌≡◌, ◌<◌, ◌↔◌, ◌==◌, if◌then◌else◌, nat_le, List, [], ◌∷◌, length, slice_index, map, Contains, Option, Some, None}
 use Rattle.std.specs.List.Sorted.{IsStrictlyIncreasing}
 use Rattle.heap_model.specs.Log.{lane}
 use Rattle.heap_model.specs.declared.ids.FieldId.{FieldId}
 use Rattle.heap_model.specs.declared.record.UndoRecord.{UndoRecord}
 use Rattle.heap_model.specs.declared.record.UndoRecord.TheVariants.{Acq, Rel, WaitRel, Put}
-use Rattle.undo_log.specs.OldValues.{OldValue, HasOld, IsUnsettled}
+use Rattle.image.specs.Cells.{HasHome}
+use Rattle.image.specs.declared.guard_row.GuardRow.{GuardRow}
+use Rattle.image.specs.declared.lane_row.LaneRow.{LaneRow}
+use Rattle.image.specs.declared.layout.Layout.{Layout}
+use Rattle.undo_log.specs.OldValues.{OldValue, HasOld, IsUnsettled, TakesBack}
+use Rattle.undo_log.specs.StandsFor.{guard_in, row_in, settled_of}
 use Rattle.recover.specs.declared.error.RecoverError.{RecoverError}
 use Rattle.recover.specs.declared.error.RecoverError.TheVariants.{Fault, NoMemory}
 
@@ -50,3 +55,8 @@ abbrev pub RefusesHeap : RecoverError → Type 0
 RefusesHeap Fault = Unit {0}
 RefusesHeap NoMemory = Unit {0}
 RefusesHeap _ = ⊥
+
+-- each field has its oldest value among those that aren't settled, and one that has none has its value at home
+abbrev pub TakesAllBack : Layout → List GuardRow → List LaneRow → (lanes : ℕ → List UndoRecord) → (bytes heap : List ℕ) → Type 0
+TakesAllBack l guards rows lanes bytes heap =
+    (f : ℕ) → f < l.fields → TakesBack (guard_in guards f) f lanes (IsUnsettled (settled_of rows)) (HasHome l (row_in guards f) f bytes) (slice_index heap f)

@@ -1,5 +1,5 @@
 -- What is known of the lanes' live sections, and of the graph of the live records.
-use Rattle.std.specs.Prelude.{ℕ, ◌≡◌, ◌+◌, ◌-◌, ◌<◌, ◌^◌, ◌==◌, if◌then◌else◌, List, [], ◌∷◌, length, take, slice_index_or}
+use Rattle.std.specs.Prelude.{ℕ, ◌≡◌, ◌+◌, ◌-◌, ◌<◌, ◌^◌, ◌==◌, if◌then◌else◌, List, [], ◌∷◌, ◌++◌, length, take, slice_index_or}
 use Rattle.heap_model.specs.declared.record.UndoRecord.{UndoRecord}
 use Rattle.heap_model.specs.Log.{lane}
 use Rattle.heap_model.specs.Sections.{Action, holding, ended, Section, Did}
@@ -10,7 +10,7 @@ use Rattle.dependence.specs.Next.{IsNext}
 use Rattle.recover.specs.declared.live_sections.LiveSections.{LiveSections}
 use Rattle.recover.specs.declared.report.Dropped.{Dropped}
 use Rattle.live_logs.specs.Tally.{acts_of}
-use Rattle.recover.specs.Dropping.{whole_sections, settled_sections, trimmed_sections, live_sections, acts_in, AreEntriesOf}
+use Rattle.recover.specs.Dropping.{whole_sections, settled_sections, trimmed_sections, live_sections, acts_in, AreEntriesOf, sections_after}
 
 -- a lane that has no records
 abbrev pub nothing_live : LiveSections
@@ -58,3 +58,9 @@ pub record IsReady (counts : List LiveSections) (g : Trace) : Type 0 where
 -- what a report says of these sections, by the graph and the counts
 abbrev pub AreReported : List LiveSections → Trace → List Section → List Dropped → Type 0
 AreReported counts g sections dropped = (cut : ℕ → ℕ) → IsStable g.log cut → AreEntriesOf (trimmed_at counts) g.log cut sections dropped
+
+-- what was added reports the lane's live sections that aren't settled
+abbrev pub AddsReports : List LiveSections → Trace → (lane : ℕ) → (old new : List Dropped) → Type 0
+AddsReports counts g lane old new =
+    (before : List Section) → AreReported counts g before old
+    → AreReported counts g (before ++ sections_after lane (live_at counts lane).settled ((live_at counts lane).live - (live_at counts lane).settled)) new

@@ -6,7 +6,7 @@ use Rattle.block_disk.specs.Device.{Device, SameMoments, synced}
 use Rattle.block_disk.specs.Images.{LeavesOnly}
 use Rattle.image.specs.Calls.{after}
 use Rattle.image.specs.Control.{empty_control}
-use Rattle.image.specs.Recovered.{Parts}
+use Rattle.image.specs.Recovered.{IsRecovered, Parts}
 use Rattle.image.specs.Slots.{other}
 use Rattle.image.specs.declared.control.Control.{Control}
 use Rattle.image.specs.declared.guard_row.GuardRow.{GuardRow}
@@ -113,6 +113,14 @@ RefusesUpgrade image e = RefusesOf Both image e
 abbrev pub put_back_on : Study → List FieldId → Device → Device
 put_back_on s fields d = after (put_calls s.layout s.heap.items fields) d
 
+-- the device after the fields were put back and the recovery was ended
+abbrev pub finished_on : Study → List FieldId → Device → Device
+finished_on s fields d = after (end_calls s.slot s.control.sequence (put_back_on s fields d).now.bytes) (put_back_on s fields d)
+
+-- the device holds the heap of this study, with empty logs, under the next control
+abbrev pub IsRecoveredFrom : Device → Study → Type 0
+IsRecoveredFrom d s = IsRecovered d s.layout s.guards.items (other s.slot) (s.control.sequence + 1) s.heap.items
+
 -- the device after the calls of a recovery, but for its count of failures: a sync, a write for each field that takes an
 -- old value back, by number, and the end
 pub record IsMadeBy (s : Study) (old new : Device) : Type 0 where
@@ -135,6 +143,14 @@ pub record IsRecovery {D : Type 0} (old new : Device) (r : Parts D) (report : Re
 -- the images that a recovery leaves: until its first sync those from before, and from then on only such as are on the way
 abbrev pub LeavesOnTheWay : Study → (old new : Device) → Type 0
 LeavesOnTheWay s old new = SameMoments old new ⊎ LeavesOnly (synced old) new (IsOnTheWay s)
+
+-- once the first sync was answered, a crash at each moment leaves an image on the way from the study of the old one
+abbrev pub StaysOnTheWay : (old new : Device) → Type 0
+StaysOnTheWay old new = (s : Study) → IsStudyOf old.now.bytes s → LeavesOnly (synced old) new (IsOnTheWay s)
+
+-- so does a crash of a recovery that was refused, if it did more than that sync
+abbrev pub EndsOnTheWay : (old new : Device) → Type 0
+EndsOnTheWay old new = (s : Study) → IsStudyOf old.now.bytes s → LeavesOnTheWay s old new
 
 -- nothing was done, or a sync alone
 abbrev pub IsLeftAlone : (old new : Device) → Type 0

@@ -44,3 +44,7 @@ pub record IsStudyOf (image : List ℕ) (s : Study) : Type 0 where
 -- In each study a transient field has its first value, whatever lies in its home cell.
 abbrev pub TransientFirstLaw : Type 0
 TransientFirstLaw = (image : List ℕ) (s : Study) (f : ℕ) → IsStudyOf image s → f < s.layout.fields → is_transient_in s.guards.items f ≡ true → slice_index s.heap.items f ≡ first_in s.guards.items f
+
+-- the fields whose old values recovery puts back, of this study
+abbrev pub AreUndoneOf : Study → List FieldId → Type 0
+AreUndoneOf s fields = AreUndone s.layout s.guards.items s.control.rows (lanes_of s.records.items) fields

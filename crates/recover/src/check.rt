@@ -1,5 +1,5 @@
 //! Whether an image's live records are logs that threads can have left.
-ghost use Rattle.std.specs.Prelude.{◌≡◌, ◌-◌, ◌<◌, ◌≤◌, ℕ, All, IfErr, IfOk, MatchResult, length};
+ghost use Rattle.std.specs.Prelude.{◌≡◌, ◌-◌, ℕ, All, IfErr, IfOk, MatchResult};
 ghost use Rattle.image.specs.Control.{AreRows};
 ghost use Rattle.image.specs.Layout.{IsLayout};
 ghost use Rattle.undo_log.specs.StandsFor.{settled_of};
@@ -32,8 +32,11 @@ pub fn check_logs(
     requires guards { AreGuards layout.now guards.now }
     requires rows { AreRows layout.now rows.now }
     requires logs { AreLoggable layout.now rows.now logs.now }
-    ensures exact { MatchResult result (λ _. AreLegal (logged_guard_in guards.now) rows.now (lanes_of logs.now)) (RefusesLegal (logged_guard_in guards.now) rows.now (lanes_of logs.now)) }
-    ensures replays { IfOk result (λ steps. Replays (logged_guard_in guards.now) (lanes_of logs.now) (log_of steps.items)) }
+    ensures exact { MatchResult result
+        (λ _. AreLegal (logged_guard_in guards.now) rows.now (lanes_of logs.now))
+        (RefusesLegal (logged_guard_in guards.now) rows.now (lanes_of logs.now)) }
+    ensures replays { IfOk result
+        (λ steps. Replays (logged_guard_in guards.now) (lanes_of logs.now) (log_of steps.items)) }
     ensures low { IfOk result (λ steps. All IsLow steps.items) }
 {
     let objects = guarding_objects(alloc, guards)?;
@@ -52,7 +55,8 @@ fn guarding_objects(
     alloc: Global,
     guards: &[GuardRow],
 ) -> Result<Vec<Option<ObjectId>>, RecoverError>
-    ensures ok { IfOk result (λ objects. (f : ℕ) → guard_among objects.items f ≡ logged_guard_in guards.now f) }
+    ensures ok { IfOk result (λ objects. (f : ℕ)
+        → guard_among objects.items f ≡ logged_guard_in guards.now f) }
     ensures no_other { IfErr result (λ e. e ≡ NoMemory) }
 {
     let Ok(mut objects) = Vec::with_capacity(alloc, guards.len()) else {
@@ -73,7 +77,8 @@ fn logged_guard(row: &GuardRow) -> Option<ObjectId>
 
 // By lane: how many of its live records are settled, and how many sections the control keeps.
 fn settled_counts(rows: &[LaneRow; 32]) -> [SettledCount; 32]
-    ensures { (l : ℕ) → count_of result l ≡ record { records = settled_of rows.now l; sections = kept_of rows.now l } }
+    ensures { (l : ℕ) → count_of result l
+        ≡ record { records = settled_of rows.now l; sections = kept_of rows.now l } }
 {
     let mut counts = [SettledCount {
         records: 0,

@@ -1,8 +1,8 @@
 //! Calls of the device with this crate's refusal: a fault is the one thing that can go wrong.
 ghost use Rattle.std.specs.Prelude.{◌≡◌, ◌<◌, ◌≤◌, [], ◌∷◌, length, slice_index, IfErr, OnErr, OnOk};
 ghost use Rattle.std.specs.Int.{to_be_bytes, w64};
-ghost use Rattle.block_disk.specs.Device.{HasCause, SameMoments, synced, written};
-ghost use Rattle.block_disk.specs.Images.{ImageBut, LeavesOnly};
+ghost use Rattle.block_disk.specs.Device.{SameMoments, synced, written};
+ghost use Rattle.block_disk.specs.Since.{HasCauseSince, LeavesBut};
 ghost use Rattle.image.specs.Cells.{HasCell, cell_range};
 ghost use Rattle.image.specs.Layout.{cell_at, size_of};
 ghost use Rattle.recover.specs.declared.error.RecoverError.TheVariants.{Fault};
@@ -17,8 +17,8 @@ pub fn sync<D: Disk>(disk: &mut D) -> Result<(), RecoverError>
     ensures ok { OnOk result (D.device disk.new ≡ synced (D.device disk.old)) }
     ensures only_fault { IfErr result (λ e. e ≡ Fault) }
     ensures err { OnErr result (SameMoments (D.device disk.old) (D.device disk.new)) }
-    ensures any_moment { LeavesOnly (D.device disk.old) (D.device disk.new) (ImageBut (D.device disk.old) []) }
-    ensures cause { HasCause (D.device disk.old).failures (D.device disk.new).failures Fault result }
+    ensures any_moment { LeavesBut [] (D.device disk.old) (D.device disk.new) }
+    ensures cause { HasCauseSince (D.device disk.old) (D.device disk.new) Fault result }
 {
     match make_durable(disk) {
         Ok(()) => Ok(()),
@@ -36,11 +36,15 @@ pub fn put_value<D: Disk>(
     requires fits { size_of layout.now ≤ length (D.device disk.old).now.bytes }
     requires heap { length heap.now ≡ layout.now.fields }
     requires field { field.0 < layout.now.fields }
-    ensures ok { OnOk result (HasCell layout.now field.0 (D.device disk.new).now.bytes (slice_index heap.now field.0)) }
-    ensures written { OnOk result (D.device disk.new ≡ written (cell_at layout.now field.0) (to_be_bytes w64 (slice_index heap.now field.0)) (D.device disk.old)) }
+    ensures ok { OnOk result (HasCell layout.now field.0 (D.device disk.new).now.bytes
+        (slice_index heap.now field.0)) }
+    ensures written { OnOk result
+        (D.device disk.new ≡ written (cell_at layout.now field.0)
+        (to_be_bytes w64 (slice_index heap.now field.0)) (D.device disk.old)) }
     ensures only_fault { IfErr result (λ e. e ≡ Fault) }
-    ensures any_moment { LeavesOnly (D.device disk.old) (D.device disk.new) (ImageBut (D.device disk.old) (cell_range layout.now field.0 ∷ [])) }
-    ensures cause { HasCause (D.device disk.old).failures (D.device disk.new).failures Fault result }
+    ensures any_moment { LeavesBut (cell_range layout.now field.0 ∷ [])
+        (D.device disk.old) (D.device disk.new) }
+    ensures cause { HasCauseSince (D.device disk.old) (D.device disk.new) Fault result }
 {
     match put_cell(disk, layout, field, heap[field.0 as usize]) {
         Ok(()) => Ok(()),

@@ -1,6 +1,5 @@
 //! Which live sections recovery drops, and why.
-ghost use Rattle.std.specs.Prelude.{◌≡◌, ◌+◌, ◌-◌, ◌<◌, ◌≤◌, ◌++◌, ℕ, All, List, IfOk, IfErr, MatchResult, length};
-ghost use Rattle.heap_model.specs.Sections.{Section};
+ghost use Rattle.std.specs.Prelude.{◌≡◌, ◌+◌, ◌<◌, ◌≤◌, ℕ, IfOk, IfErr, MatchResult};
 ghost use Rattle.heap_model.specs.Cuts.{IsStable};
 ghost use Rattle.image.specs.Control.{AreRows};
 ghost use Rattle.image.specs.Layout.{IsLayout};
@@ -8,8 +7,8 @@ ghost use Rattle.recover.specs.Logs.{AreGuards, AreLoggable, lanes_of, logged_gu
 ghost use Rattle.live_logs.specs.Replay.{Replays};
 ghost use Rattle.recover.specs.Settled.{AreLegal};
 ghost use Rattle.live_logs.specs.Tables.{log_of};
-ghost use Rattle.recover.specs.Dropping.{AreDropped, IsWhy, IsEntryOf, sections_after};
-ghost use Rattle.recover.specs.Live.{IsReady, AreReported, live_at, trimmed_at};
+ghost use Rattle.recover.specs.Dropping.{AreDropped, IsWhy, IsEntryOf};
+ghost use Rattle.recover.specs.Live.{AddsReports, IsReady, live_at, trimmed_at};
 ghost use Rattle.recover.specs.declared.error.RecoverError.TheVariants.{NoMemory};
 
 use crate::error::RecoverError;
@@ -46,7 +45,9 @@ pub fn dropped_sections(
     requires logs { AreLoggable layout.now rows.now logs.now }
     requires replays { Replays (logged_guard_in guards.now) (lanes_of logs.now) (log_of steps.now) }
     requires legal { AreLegal (logged_guard_in guards.now) rows.now (lanes_of logs.now) }
-    ensures exact { MatchResult result (λ dropped. AreDropped rows.now (lanes_of logs.now) (log_of steps.now) layout.now.lanes dropped.items) (λ e. e ≡ NoMemory) }
+    ensures exact { MatchResult result
+        (λ dropped. AreDropped rows.now (lanes_of logs.now)
+        (log_of steps.now) layout.now.lanes dropped.items) (λ e. e ≡ NoMemory) }
 {
     let mut graph = graph_of(alloc, layout.lanes, steps)?;
     let counts = live_counts(rows, logs);
@@ -68,8 +69,8 @@ fn drop_lane(
     requires ready { IsReady counts.now graph.old }
     requires order { (live_at counts.now lane.0).settled ≤ (live_at counts.now lane.0).live }
     requires few { (live_at counts.now lane.0).live ≤ (live_at counts.now lane.0).whole + 1 }
-    ensures added { IfOk result (λ _. (before : List Section) → AreReported counts.now graph.old before dropped.old.items →
-        AreReported counts.now graph.old (before ++ sections_after lane.0 (live_at counts.now lane.0).settled ((live_at counts.now lane.0).live - (live_at counts.now lane.0).settled)) dropped.new.items) }
+    ensures added { IfOk result (λ _. AddsReports counts.now graph.old lane.0 dropped.old.items
+        dropped.new.items) }
     ensures no_other { IfErr result (λ e. e ≡ NoMemory) }
     ensures same { graph.new ≡ graph.old }
 {
@@ -93,7 +94,9 @@ fn dropped_section(
     requires lane { lane.0 < 32 }
     requires ready { IsReady counts.now graph.old }
     requires few { section ≤ (live_at counts.now lane.0).whole + 1 }
-    ensures entry { (cut : ℕ → ℕ) → IsStable graph.old.log cut → IsEntryOf (trimmed_at counts.now) graph.old.log cut (record { lane = lane.0; number = section }) result }
+    ensures entry { (cut : ℕ → ℕ) → IsStable graph.old.log cut
+        → IsEntryOf (trimmed_at counts.now) graph.old.log cut
+        (record { lane = lane.0; number = section }) result }
     ensures same { graph.new ≡ graph.old }
 {
     Dropped {
@@ -107,7 +110,9 @@ fn dropped_section(
 fn why_dropped(graph: &mut Graph, counts: &[LiveSections; 32], lane: Lane, section: u64) -> Why
     requires lane { lane.0 < 32 }
     requires ready { IsReady counts.now graph.old }
-    ensures why { (cut : ℕ → ℕ) → IsStable graph.old.log cut → IsWhy (trimmed_at counts.now) graph.old.log cut (record { lane = lane.0; number = section }) result }
+    ensures why { (cut : ℕ → ℕ) → IsStable graph.old.log cut
+        → IsWhy (trimmed_at counts.now) graph.old.log cut
+        (record { lane = lane.0; number = section }) result }
     ensures same { graph.new ≡ graph.old }
 {
     if section > counts[usize::from(lane.0)].whole {

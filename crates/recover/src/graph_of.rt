@@ -17,7 +17,8 @@ pub fn graph_of(alloc: Global, lanes: u8, steps: &[Step]) -> Result<Graph, Recov
     requires low { All (λ s. s.lane.0 < lanes) steps.now }
     requires objects { All (λ s. IsObjectBelow 4096 s.entry) steps.now }
     requires next { ArePushable (acts_in (log_of steps.now)) }
-    ensures exact { MatchResult result (λ graph. IsGraphOf (log_of steps.now) graph) (λ e. e ≡ NoMemory) }
+    ensures exact { MatchResult result (λ graph. IsGraphOf (log_of steps.now) graph)
+        (λ e. e ≡ NoMemory) }
 {
     let Ok(mut graph) = Graph::with_capacity(alloc, lanes, steps.len()) else {
         return Err(RecoverError::NoMemory);

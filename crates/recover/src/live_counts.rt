@@ -1,5 +1,5 @@
 //! The lanes' live sections, counted.
-ghost use Rattle.std.specs.Prelude.{◌≡◌, ◌-◌, ◌<◌, ◌≤◌, ℕ, length, take};
+ghost use Rattle.std.specs.Prelude.{◌≡◌, ◌<◌, ◌≤◌, ℕ, length, take};
 ghost use Rattle.undo_log.specs.StandsFor.{row_of, settled_of};
 ghost use Rattle.image.specs.Rows.{empty_row};
 ghost use Rattle.recover.specs.Logs.{records_of, lanes_of};
@@ -17,8 +17,10 @@ use live_logs::{records_in, tally};
 pub fn live_counts(rows: &[LaneRow; 32], logs: &[Vec<UndoRecord>]) -> [LiveSections; 32]
     requires lanes { length logs.now ≤ 32 }
     requires held { (l : ℕ) → FreesHeld (acts_of (records_of logs.now l)) }
-    requires order { (l : ℕ) → l < length logs.now → (row_of rows.now l).start ≤ (row_of rows.now l).settled }
-    requires within { (l : ℕ) → l < length logs.now → settled_of rows.now l ≤ length (records_of logs.now l) }
+    requires order { (l : ℕ) → l < length logs.now
+        → (row_of rows.now l).start ≤ (row_of rows.now l).settled }
+    requires within { (l : ℕ) → l < length logs.now
+        → settled_of rows.now l ≤ length (records_of logs.now l) }
     requires rest { (l : ℕ) → IsAtRest rows.now (lanes_of logs.now) l }
     requires others { (l : ℕ) → length logs.now ≤ l → row_of rows.now l ≡ empty_row }
     ensures { (l : ℕ) → IsLiveIn rows.now (lanes_of logs.now) l (live_at result l) }

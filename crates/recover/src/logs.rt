@@ -1,11 +1,11 @@
 //! The lanes' live records, read from the image.
-ghost use Rattle.std.specs.Prelude.{◌≡◌, ◌<◌, ◌≤◌, IfErr, MatchResult, length, slice_index_or};
-ghost use Rattle.block_disk.specs.Device.{HasCause, SameMoments};
+ghost use Rattle.std.specs.Prelude.{◌<◌, ◌≤◌, MatchResult, length};
+ghost use Rattle.block_disk.specs.Device.{SameMoments};
+ghost use Rattle.block_disk.specs.Since.{HasCauseSince};
 ghost use Rattle.image.specs.Control.{AreRows};
 ghost use Rattle.image.specs.Layout.{IsLayout, size_of};
 ghost use Rattle.image.specs.Rows.{IsRow};
 ghost use Rattle.undo_log.specs.Area.{HasSpan};
-ghost use Rattle.undo_log.specs.StandsFor.{row_of};
 ghost use Rattle.recover.specs.Logs.{AreLogs, RefusesLane, RefusesLogs};
 ghost use Rattle.recover.specs.declared.error.RecoverError.TheVariants.{Fault};
 
@@ -31,9 +31,11 @@ pub fn read_logs<D: Disk>(
     requires limits { IsLayout layout.now }
     requires fits { size_of layout.now ≤ length (D.device disk.old).now.bytes }
     requires rows { AreRows layout.now rows.now }
-    ensures exact { MatchResult result (λ logs. AreLogs layout.now (D.device disk.old).now.bytes rows.now logs.items) (RefusesLogs layout.now (D.device disk.old).now.bytes rows.now) }
+    ensures exact { MatchResult result
+        (λ logs. AreLogs layout.now (D.device disk.old).now.bytes rows.now logs.items)
+        (RefusesLogs layout.now (D.device disk.old).now.bytes rows.now) }
     ensures same { SameMoments (D.device disk.old) (D.device disk.new) }
-    ensures cause { HasCause (D.device disk.old).failures (D.device disk.new).failures Fault result }
+    ensures cause { HasCauseSince (D.device disk.old) (D.device disk.new) Fault result }
 {
     let Ok(mut logs) = Vec::with_capacity(alloc, usize::from(layout.lanes)) else {
         return Err(RecoverError::NoMemory);
@@ -58,9 +60,12 @@ fn read_lane<D: Disk>(
     requires fits { size_of layout.now ≤ length (D.device disk.old).now.bytes }
     requires lane { lane.0 < layout.now.lanes }
     requires row { IsRow layout.now.capacity row.now }
-    ensures exact { MatchResult result (λ records. HasSpan layout.now lane.0 row.now.start row.now.logged (D.device disk.old).now.bytes records.items) (RefusesLane layout.now (D.device disk.old).now.bytes lane row.now) }
+    ensures exact { MatchResult result
+        (λ records. HasSpan layout.now lane.0 row.now.start row.now.logged
+        (D.device disk.old).now.bytes records.items)
+        (RefusesLane layout.now (D.device disk.old).now.bytes lane row.now) }
     ensures same { SameMoments (D.device disk.old) (D.device disk.new) }
-    ensures cause { HasCause (D.device disk.old).failures (D.device disk.new).failures Fault result }
+    ensures cause { HasCauseSince (D.device disk.old) (D.device disk.new) Fault result }
 {
     match undo_log::read(alloc, disk, layout, lane, row.start, row.logged) {
         Ok(records) => Ok(records),

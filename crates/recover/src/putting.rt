@@ -1,7 +1,6 @@
 //! Old values go back to their home cells.
 ghost use Rattle.std.specs.Prelude.{◌≡◌, ◌<◌, ◌≤◌, All, length, slice_index, IfErr, OnOk};
-ghost use Rattle.block_disk.specs.Device.{HasCause};
-ghost use Rattle.block_disk.specs.Images.{ImageBut, LeavesOnly};
+ghost use Rattle.block_disk.specs.Since.{HasCauseSince, LeavesBut};
 ghost use Rattle.image.specs.Calls.{after};
 ghost use Rattle.image.specs.Cells.{HasCell};
 ghost use Rattle.image.specs.Layout.{size_of};
@@ -26,11 +25,15 @@ pub fn put_back<D: Disk>(
     requires fits { size_of layout.now ≤ length (D.device disk.old).now.bytes }
     requires heap { length heap.now ≡ layout.now.fields }
     requires fields { All (λ f. f.0 < layout.now.fields) undone.now }
-    ensures ok { OnOk result (All (λ f. HasCell layout.now f.0 (D.device disk.new).now.bytes (slice_index heap.now f.0)) undone.now) }
-    ensures calls { OnOk result (D.device disk.new ≡ after (put_calls layout.now heap.now undone.now) (D.device disk.old)) }
+    ensures ok { OnOk result (All
+        (λ f. HasCell layout.now f.0 (D.device disk.new).now.bytes
+        (slice_index heap.now f.0)) undone.now) }
+    ensures calls { OnOk result (D.device disk.new
+        ≡ after (put_calls layout.now heap.now undone.now) (D.device disk.old)) }
     ensures only_fault { IfErr result (λ e. e ≡ Fault) }
-    ensures any_moment { LeavesOnly (D.device disk.old) (D.device disk.new) (ImageBut (D.device disk.old) (cell_ranges layout.now undone.now)) }
-    ensures cause { HasCause (D.device disk.old).failures (D.device disk.new).failures Fault result }
+    ensures any_moment { LeavesBut (cell_ranges layout.now undone.now)
+        (D.device disk.old) (D.device disk.new) }
+    ensures cause { HasCauseSince (D.device disk.old) (D.device disk.new) Fault result }
 {
     for field in undone {
         put_value(disk, layout, heap, *field)?;

@@ -1,6 +1,7 @@
 //! Reading an image, whatever its bytes are.
 ghost use Rattle.std.specs.Prelude.{◌≡◌, ◌≤◌, All, IfOk, MatchResult, length};
-ghost use Rattle.block_disk.specs.Device.{HasCause, SameMoments};
+ghost use Rattle.block_disk.specs.Device.{SameMoments};
+ghost use Rattle.block_disk.specs.Since.{HasCauseSince};
 ghost use Rattle.image.specs.Guards.{HasGuards};
 ghost use Rattle.image.specs.Layout.{IsLayout, size_of};
 ghost use Rattle.image.specs.Slots.{Shows};
@@ -40,9 +41,11 @@ use std::alloc::Global;
 ///
 /// `NoMemory` comes where the guard rows find no room, and `Fault` where a read fails.
 pub fn read_front<D: Disk>(alloc: Global, disk: &mut D) -> Result<Front, RecoverError>
-    ensures exact { MatchResult result (λ f. HasControl (D.device disk.old).now.bytes f.layout f.guards.items f.slot f.control) (RefusesFront (D.device disk.old).now.bytes) }
+    ensures exact { MatchResult result
+        (λ f. HasControl (D.device disk.old).now.bytes f.layout f.guards.items f.slot f.control)
+        (RefusesFront (D.device disk.old).now.bytes) }
     ensures same { SameMoments (D.device disk.old) (D.device disk.new) }
-    ensures cause { HasCause (D.device disk.old).failures (D.device disk.new).failures Fault result }
+    ensures cause { HasCauseSince (D.device disk.old) (D.device disk.new) Fault result }
 {
     let layout = find_layout(disk)?;
     let guards = find_guards(alloc, disk, &layout)?;
@@ -68,13 +71,17 @@ pub fn read_live<D: Disk>(
     disk: &mut D,
     front: Front,
 ) -> Result<Replayed, RecoverError>
-    requires { HasControl (D.device disk.old).now.bytes front.layout front.guards.items front.slot front.control }
-    ensures exact { MatchResult result (λ r. Holds (D.device disk.old).now.bytes r.image) (RefusesLive (D.device disk.old).now.bytes front.layout front.guards.items front.control) }
+    requires { HasControl (D.device disk.old).now.bytes front.layout front.guards.items front.slot
+        front.control }
+    ensures exact { MatchResult result (λ r. Holds (D.device disk.old).now.bytes r.image)
+        (RefusesLive (D.device disk.old).now.bytes front.layout front.guards.items front.control) }
     ensures control { IfOk result (λ r. r.image.control ≡ front.control) }
-    ensures replays { IfOk result (λ r. Replays (logged_guard_in r.image.guards.items) (lanes_of r.image.records.items) (log_of r.steps.items)) }
+    ensures replays { IfOk result
+        (λ r. Replays (logged_guard_in r.image.guards.items) (lanes_of r.image.records.items)
+        (log_of r.steps.items)) }
     ensures low { IfOk result (λ r. All IsLow r.steps.items) }
     ensures same { SameMoments (D.device disk.old) (D.device disk.new) }
-    ensures cause { HasCause (D.device disk.old).failures (D.device disk.new).failures Fault result }
+    ensures cause { HasCauseSince (D.device disk.old) (D.device disk.new) Fault result }
 {
     let Front {
         layout,
@@ -95,9 +102,10 @@ pub fn read_live<D: Disk>(
 }
 
 fn find_layout<D: Disk>(disk: &mut D) -> Result<Layout, RecoverError>
-    ensures exact { MatchResult result (HasLayout (D.device disk.old).now.bytes) (RefusesLayout (D.device disk.old).now.bytes) }
+    ensures exact { MatchResult result (HasLayout (D.device disk.old).now.bytes)
+        (RefusesLayout (D.device disk.old).now.bytes) }
     ensures same { SameMoments (D.device disk.old) (D.device disk.new) }
-    ensures cause { HasCause (D.device disk.old).failures (D.device disk.new).failures Fault result }
+    ensures cause { HasCauseSince (D.device disk.old) (D.device disk.new) Fault result }
 {
     match read_header(disk) {
         Ok(layout) => Ok(layout),
@@ -115,9 +123,11 @@ fn find_guards<D: Disk>(
 ) -> Result<Vec<GuardRow>, RecoverError>
     requires limits { IsLayout layout.now }
     requires fits { size_of layout.now ≤ length (D.device disk.old).now.bytes }
-    ensures exact { MatchResult result (λ rows. HasGuards layout.now (D.device disk.old).now.bytes rows.items) (RefusesRows layout.now (D.device disk.old).now.bytes) }
+    ensures exact { MatchResult result
+        (λ rows. HasGuards layout.now (D.device disk.old).now.bytes rows.items)
+        (RefusesRows layout.now (D.device disk.old).now.bytes) }
     ensures same { SameMoments (D.device disk.old) (D.device disk.new) }
-    ensures cause { HasCause (D.device disk.old).failures (D.device disk.new).failures Fault result }
+    ensures cause { HasCauseSince (D.device disk.old) (D.device disk.new) Fault result }
 {
     match read_guards(alloc, disk, layout) {
         Ok(guards) => Ok(guards),
@@ -130,9 +140,11 @@ fn find_guards<D: Disk>(
 fn find_control<D: Disk>(disk: &mut D, layout: &Layout) -> Result<(Slot, Control), RecoverError>
     requires limits { IsLayout layout.now }
     requires fits { size_of layout.now ≤ length (D.device disk.old).now.bytes }
-    ensures exact { MatchResult result (λ found. Shows layout.now (D.device disk.old).now.bytes found.0 found.1) (RefusesControl layout.now (D.device disk.old).now.bytes) }
+    ensures exact { MatchResult result
+        (λ found. Shows layout.now (D.device disk.old).now.bytes found.0 found.1)
+        (RefusesControl layout.now (D.device disk.old).now.bytes) }
     ensures same { SameMoments (D.device disk.old) (D.device disk.new) }
-    ensures cause { HasCause (D.device disk.old).failures (D.device disk.new).failures Fault result }
+    ensures cause { HasCauseSince (D.device disk.old) (D.device disk.new) Fault result }
 {
     match choose_control(disk, layout) {
         Ok(found) => Ok(found),

@@ -1,17 +1,12 @@
 //! Recovering an image, or upgrading it: old values are put back, and then nothing counts of what was logged.
-ghost use Rattle.std.specs.Prelude.{◌≡◌, ◌⊎◌, ◌+◌, ◌-◌, ◌<◌, ◌≤◌, ◌^◌, [], IfErr, IfOk, MatchResult, OnErr, OnOk};
-ghost use Rattle.block_disk.specs.Device.{HasCause, HasFailed, SameMoments, synced};
+ghost use Rattle.std.specs.Prelude.{◌≡◌, ◌⊎◌, ◌-◌, ◌<◌, ◌≤◌, ◌^◌, [], IfErr, IfOk, MatchResult, OnErr, OnOk};
+ghost use Rattle.block_disk.specs.Device.{SameMoments, synced};
 ghost use Rattle.block_disk.specs.Images.{LeavesOnly};
-ghost use Rattle.image.specs.Calls.{after};
-ghost use Rattle.image.specs.Recovered.{IsRecovered};
-ghost use Rattle.image.specs.Slots.{other};
-ghost use Rattle.recover.specs.Ending.{end_calls};
-ghost use Rattle.recover.specs.Logs.{lanes_of};
+ghost use Rattle.block_disk.specs.Since.{HasCauseSince, HasFailedSince};
 ghost use Rattle.recover.specs.Reading.{IsOfOldVersion};
-ghost use Rattle.recover.specs.Recovery.{IsCutOff, IsMadeBy, IsOnTheWay, IsLeftAlone, IsRecovery, IsTooOld, LeavesOnTheWay, RefusesOf, RefusesRecovery, RefusesUpgrade, put_back_on};
-ghost use Rattle.recover.specs.Study.{AreUndone, IsStudyOf};
+ghost use Rattle.recover.specs.Recovery.{EndsOnTheWay, IsCutOff, IsLeftAlone, IsMadeBy, IsOnTheWay, IsRecoveredFrom, IsRecovery, IsTooOld, RefusesOf, RefusesRecovery, RefusesUpgrade, StaysOnTheWay, finished_on};
+ghost use Rattle.recover.specs.Study.{AreUndoneOf, IsStudyOf};
 ghost use Rattle.recover.specs.declared.error.RecoverError.TheVariants.{Fault};
-ghost use Rattle.recover.specs.declared.studied.Study.{Study as Shape};
 
 use crate::device::sync;
 use crate::ending::end_recovery;
@@ -46,13 +41,16 @@ use std::alloc::Global;
 pub fn recover<D: Disk>(alloc: Global, disk: D) -> Result<(Recovered<D>, Report), (D, RecoverError)>
     ensures ok { IfOk result (λ r. IsRecovery (D.device disk) (D.device r.0.disk) r.0 r.1) }
     ensures current { OnOk result (IsOfOldVersion (D.device disk).now.bytes → ⊥) }
-    ensures any_moment { IfOk result (λ r. (s : Shape) → IsStudyOf (D.device disk).now.bytes s → LeavesOnly (synced (D.device disk)) (D.device r.0.disk) (IsOnTheWay s)) }
+    ensures any_moment { IfOk result (λ r. StaysOnTheWay (D.device disk) (D.device r.0.disk)) }
     ensures refused { IfErr result (λ back. RefusesRecovery (D.device disk).now.bytes back.1) }
-    ensures untouched { IfErr result (λ back. (back.1 ≡ Fault) ⊎ SameMoments (synced (D.device disk)) (D.device back.0)) }
-    ensures interrupted { IfErr result (λ back. (s : Shape) → IsStudyOf (D.device disk).now.bytes s → LeavesOnTheWay s (D.device disk) (D.device back.0)) }
+    ensures untouched { IfErr result (λ back. (back.1 ≡ Fault)
+        ⊎ SameMoments (synced (D.device disk)) (D.device back.0)) }
+    ensures interrupted { IfErr result (λ back. EndsOnTheWay (D.device disk) (D.device back.0)) }
     ensures cut_off { IfErr result (λ back. IsCutOff (D.device disk) (D.device back.0)) }
-    ensures too_old { IfErr result (λ back. IsOfOldVersion (D.device disk).now.bytes → IsLeftAlone (D.device disk) (D.device back.0)) }
-    ensures cause { IfErr result (λ back. back.1 ≡ Fault → HasFailed (D.device disk).failures (D.device back.0).failures) }
+    ensures too_old { IfErr result (λ back. IsOfOldVersion (D.device disk).now.bytes
+        → IsLeftAlone (D.device disk) (D.device back.0)) }
+    ensures cause { IfErr result (λ back. back.1 ≡ Fault
+        → HasFailedSince (D.device disk) (D.device back.0)) }
     ensures failures { IfOk result (λ r. (D.device disk).failures ≤ (D.device r.0.disk).failures) }
 {
     recover_of(alloc, disk, Versions::Current)
@@ -69,12 +67,14 @@ pub fn recover<D: Disk>(alloc: Global, disk: D) -> Result<(Recovered<D>, Report)
 /// The refusals are those of [`recover`], in the same order and leaving the same, but that no image is of an old version.
 pub fn upgrade<D: Disk>(alloc: Global, disk: D) -> Result<(Recovered<D>, Report), (D, RecoverError)>
     ensures ok { IfOk result (λ r. IsRecovery (D.device disk) (D.device r.0.disk) r.0 r.1) }
-    ensures any_moment { IfOk result (λ r. (s : Shape) → IsStudyOf (D.device disk).now.bytes s → LeavesOnly (synced (D.device disk)) (D.device r.0.disk) (IsOnTheWay s)) }
+    ensures any_moment { IfOk result (λ r. StaysOnTheWay (D.device disk) (D.device r.0.disk)) }
     ensures refused { IfErr result (λ back. RefusesUpgrade (D.device disk).now.bytes back.1) }
-    ensures untouched { IfErr result (λ back. (back.1 ≡ Fault) ⊎ SameMoments (synced (D.device disk)) (D.device back.0)) }
-    ensures interrupted { IfErr result (λ back. (s : Shape) → IsStudyOf (D.device disk).now.bytes s → LeavesOnTheWay s (D.device disk) (D.device back.0)) }
+    ensures untouched { IfErr result (λ back. (back.1 ≡ Fault)
+        ⊎ SameMoments (synced (D.device disk)) (D.device back.0)) }
+    ensures interrupted { IfErr result (λ back. EndsOnTheWay (D.device disk) (D.device back.0)) }
     ensures cut_off { IfErr result (λ back. IsCutOff (D.device disk) (D.device back.0)) }
-    ensures cause { IfErr result (λ back. back.1 ≡ Fault → HasFailed (D.device disk).failures (D.device back.0).failures) }
+    ensures cause { IfErr result (λ back. back.1 ≡ Fault
+        → HasFailedSince (D.device disk) (D.device back.0)) }
     ensures failures { IfOk result (λ r. (D.device disk).failures ≤ (D.device r.0.disk).failures) }
 {
     recover_of(alloc, disk, Versions::Both)
@@ -89,13 +89,16 @@ pub fn recover_of<D: Disk>(
 ) -> Result<(Recovered<D>, Report), (D, RecoverError)>
     ensures ok { IfOk result (λ r. IsRecovery (D.device disk) (D.device r.0.disk) r.0 r.1) }
     ensures taken { OnOk result (IsTooOld versions (D.device disk).now.bytes → ⊥) }
-    ensures any_moment { IfOk result (λ r. (s : Shape) → IsStudyOf (D.device disk).now.bytes s → LeavesOnly (synced (D.device disk)) (D.device r.0.disk) (IsOnTheWay s)) }
+    ensures any_moment { IfOk result (λ r. StaysOnTheWay (D.device disk) (D.device r.0.disk)) }
     ensures refused { IfErr result (λ back. RefusesOf versions (D.device disk).now.bytes back.1) }
-    ensures untouched { IfErr result (λ back. (back.1 ≡ Fault) ⊎ SameMoments (synced (D.device disk)) (D.device back.0)) }
-    ensures interrupted { IfErr result (λ back. (s : Shape) → IsStudyOf (D.device disk).now.bytes s → LeavesOnTheWay s (D.device disk) (D.device back.0)) }
+    ensures untouched { IfErr result (λ back. (back.1 ≡ Fault)
+        ⊎ SameMoments (synced (D.device disk)) (D.device back.0)) }
+    ensures interrupted { IfErr result (λ back. EndsOnTheWay (D.device disk) (D.device back.0)) }
     ensures cut_off { IfErr result (λ back. IsCutOff (D.device disk) (D.device back.0)) }
-    ensures too_old { IfErr result (λ back. IsTooOld versions (D.device disk).now.bytes → IsLeftAlone (D.device disk) (D.device back.0)) }
-    ensures cause { IfErr result (λ back. back.1 ≡ Fault → HasFailed (D.device disk).failures (D.device back.0).failures) }
+    ensures too_old { IfErr result (λ back. IsTooOld versions (D.device disk).now.bytes
+        → IsLeftAlone (D.device disk) (D.device back.0)) }
+    ensures cause { IfErr result (λ back. back.1 ≡ Fault
+        → HasFailedSince (D.device disk) (D.device back.0)) }
     ensures failures { IfOk result (λ r. (D.device disk).failures ≤ (D.device r.0.disk).failures) }
 {
     let mut disk = disk;
@@ -124,16 +127,18 @@ fn recover_in_place<D: Disk>(
 ) -> Result<Study, RecoverError>
     ensures ok { IfOk result (λ s. IsStudyOf (D.device disk.old).now.bytes s) }
     ensures taken { OnOk result (IsTooOld versions (D.device disk.old).now.bytes → ⊥) }
-    ensures recovered { IfOk result (λ s. IsRecovered (D.device disk.new) s.layout s.guards.items (other s.slot) (s.control.sequence + 1) s.heap.items) }
+    ensures recovered { IfOk result (λ s. IsRecoveredFrom (D.device disk.new) s) }
     ensures not_worn { IfOk result (λ s. s.control.sequence < 2 ^ 64 - 1) }
     ensures made { IfOk result (λ s. IsMadeBy s (D.device disk.old) (D.device disk.new)) }
-    ensures any_moment { OnOk result ((s : Shape) → IsStudyOf (D.device disk.old).now.bytes s → LeavesOnly (synced (D.device disk.old)) (D.device disk.new) (IsOnTheWay s)) }
+    ensures any_moment { OnOk result (StaysOnTheWay (D.device disk.old) (D.device disk.new)) }
     ensures refused { IfErr result (RefusesOf versions (D.device disk.old).now.bytes) }
-    ensures untouched { IfErr result (λ e. (e ≡ Fault) ⊎ SameMoments (synced (D.device disk.old)) (D.device disk.new)) }
-    ensures interrupted { OnErr result ((s : Shape) → IsStudyOf (D.device disk.old).now.bytes s → LeavesOnTheWay s (D.device disk.old) (D.device disk.new)) }
+    ensures untouched { IfErr result (λ e. (e ≡ Fault)
+        ⊎ SameMoments (synced (D.device disk.old)) (D.device disk.new)) }
+    ensures interrupted { OnErr result (EndsOnTheWay (D.device disk.old) (D.device disk.new)) }
     ensures cut_off { OnErr result (IsCutOff (D.device disk.old) (D.device disk.new)) }
-    ensures too_old { OnErr result (IsTooOld versions (D.device disk.old).now.bytes → IsLeftAlone (D.device disk.old) (D.device disk.new)) }
-    ensures cause { HasCause (D.device disk.old).failures (D.device disk.new).failures Fault result }
+    ensures too_old { OnErr result (IsTooOld versions (D.device disk.old).now.bytes
+        → IsLeftAlone (D.device disk.old) (D.device disk.new)) }
+    ensures cause { HasCauseSince (D.device disk.old) (D.device disk.new) Fault result }
 {
     // What is read has to be what another crash would leave.
     sync(disk)?;
@@ -148,12 +153,14 @@ fn find_recoverable<D: Disk>(
     disk: &mut D,
     versions: Versions,
 ) -> Result<Findings, RecoverError>
-    ensures exact { MatchResult result (λ found. IsStudyOf (D.device disk.old).now.bytes found.study) (RefusesOf versions (D.device disk.old).now.bytes) }
+    ensures exact { MatchResult result
+        (λ found. IsStudyOf (D.device disk.old).now.bytes found.study)
+        (RefusesOf versions (D.device disk.old).now.bytes) }
     ensures taken { OnOk result (IsTooOld versions (D.device disk.old).now.bytes → ⊥) }
-    ensures undone { IfOk result (λ found. AreUndone found.study.layout found.study.guards.items found.study.control.rows (lanes_of found.study.records.items) found.undone.items) }
+    ensures undone { IfOk result (λ found. AreUndoneOf found.study found.undone.items) }
     ensures not_worn { IfOk result (λ found. found.study.control.sequence < 2 ^ 64 - 1) }
     ensures same { SameMoments (D.device disk.old) (D.device disk.new) }
-    ensures cause { HasCause (D.device disk.old).failures (D.device disk.new).failures Fault result }
+    ensures cause { HasCauseSince (D.device disk.old) (D.device disk.new) Fault result }
 {
     let front = read_front(alloc, disk)?;
     test_version(&front.control, versions)?;
@@ -167,15 +174,16 @@ fn find_recoverable<D: Disk>(
 // Puts the old values back, and ends the recovery.
 fn finish<D: Disk>(disk: &mut D, found: &Findings) -> Result<(), RecoverError>
     requires study { IsStudyOf (D.device disk.old).now.bytes found.now.study }
-    requires undone { AreUndone found.now.study.layout found.now.study.guards.items found.now.study.control.rows (lanes_of found.now.study.records.items) found.now.undone.items }
+    requires undone { AreUndoneOf found.now.study found.now.undone.items }
     requires sequence { found.now.study.control.sequence < 2 ^ 64 - 1 }
     requires durable { (D.device disk.old).now.pending ≡ [] }
-    ensures ok { OnOk result (IsRecovered (D.device disk.new) found.now.study.layout found.now.study.guards.items (other found.now.study.slot) (found.now.study.control.sequence + 1) found.now.study.heap.items) }
-    ensures calls { OnOk result (D.device disk.new ≡ after (end_calls found.now.study.slot found.now.study.control.sequence (put_back_on found.now.study found.now.undone.items (D.device disk.old)).now.bytes)
-        (put_back_on found.now.study found.now.undone.items (D.device disk.old))) }
+    ensures ok { OnOk result (IsRecoveredFrom (D.device disk.new) found.now.study) }
+    ensures calls { OnOk result (D.device disk.new
+        ≡ finished_on found.now.study found.now.undone.items (D.device disk.old)) }
     ensures only_fault { IfErr result (λ e. e ≡ Fault) }
-    ensures any_moment { LeavesOnly (D.device disk.old) (D.device disk.new) (IsOnTheWay found.now.study) }
-    ensures cause { HasCause (D.device disk.old).failures (D.device disk.new).failures Fault result }
+    ensures any_moment { LeavesOnly (D.device disk.old) (D.device disk.new)
+        (IsOnTheWay found.now.study) }
+    ensures cause { HasCauseSince (D.device disk.old) (D.device disk.new) Fault result }
 {
     let study = &found.study;
     put_back(disk, &study.layout, &study.heap, &found.undone)?;

@@ -1,13 +1,14 @@
 //! Studying an image: what it holds, what it stands for, and what of it recovery drops.
-ghost use Rattle.std.specs.Prelude.{◌≡◌, ◌<◌, ◌≤◌, ℕ, All, IfErr, IfOk, List, MatchResult, length};
+ghost use Rattle.std.specs.Prelude.{◌≡◌, ℕ, All, IfErr, IfOk, List, MatchResult};
 ghost use Rattle.heap_model.specs.Cuts.{counts_of};
-ghost use Rattle.block_disk.specs.Device.{HasCause, SameMoments};
+ghost use Rattle.block_disk.specs.Device.{SameMoments};
+ghost use Rattle.block_disk.specs.Since.{HasCauseSince};
 ghost use Rattle.undo_log.specs.StandsFor.{StandsFor, row_of};
 ghost use Rattle.recover.specs.Heap.{RefusesHeap};
 ghost use Rattle.recover.specs.Logs.{lanes_of, logged_guard_in};
 ghost use Rattle.recover.specs.Reading.{HasControl, Holds, RefusesImage, RefusesLive};
 ghost use Rattle.live_logs.specs.Replay.{Replays};
-ghost use Rattle.recover.specs.Study.{AreUndone, IsReportOf, IsStudyOf};
+ghost use Rattle.recover.specs.Study.{AreUndone, AreUndoneOf, IsReportOf, IsStudyOf};
 ghost use Rattle.live_logs.specs.Tables.{IsLow, log_of};
 ghost use Rattle.recover.specs.declared.error.RecoverError.TheVariants.{Fault, NoMemory};
 
@@ -47,9 +48,10 @@ use std::alloc::Global;
 /// `NoMemory` comes where there is no room for what is read or found, and `Fault` where a read fails. The time is linear
 /// in the fields and the live records.
 pub fn study<D: Disk>(alloc: Global, disk: &mut D) -> Result<Study, RecoverError>
-    ensures exact { MatchResult result (IsStudyOf (D.device disk.old).now.bytes) (RefusesImage (D.device disk.old).now.bytes) }
+    ensures exact { MatchResult result (IsStudyOf (D.device disk.old).now.bytes)
+        (RefusesImage (D.device disk.old).now.bytes) }
     ensures same { SameMoments (D.device disk.old) (D.device disk.new) }
-    ensures cause { HasCause (D.device disk.old).failures (D.device disk.new).failures Fault result }
+    ensures cause { HasCauseSince (D.device disk.old) (D.device disk.new) Fault result }
 {
     let front = read_front(alloc, disk)?;
     let findings = find_out(alloc, disk, front)?;
@@ -62,12 +64,15 @@ pub fn find_out<D: Disk>(
     disk: &mut D,
     front: Front,
 ) -> Result<Findings, RecoverError>
-    requires { HasControl (D.device disk.old).now.bytes front.layout front.guards.items front.slot front.control }
-    ensures exact { MatchResult result (λ found. IsStudyOf (D.device disk.old).now.bytes found.study) (RefusesLive (D.device disk.old).now.bytes front.layout front.guards.items front.control) }
-    ensures undone { IfOk result (λ found. AreUndone found.study.layout found.study.guards.items found.study.control.rows (lanes_of found.study.records.items) found.undone.items) }
+    requires { HasControl (D.device disk.old).now.bytes front.layout front.guards.items front.slot
+        front.control }
+    ensures exact { MatchResult result
+        (λ found. IsStudyOf (D.device disk.old).now.bytes found.study)
+        (RefusesLive (D.device disk.old).now.bytes front.layout front.guards.items front.control) }
+    ensures undone { IfOk result (λ found. AreUndoneOf found.study found.undone.items) }
     ensures control { IfOk result (λ found. found.study.control ≡ front.control) }
     ensures same { SameMoments (D.device disk.old) (D.device disk.new) }
-    ensures cause { HasCause (D.device disk.old).failures (D.device disk.new).failures Fault result }
+    ensures cause { HasCauseSince (D.device disk.old) (D.device disk.new) Fault result }
 {
     let Replayed { image, steps } = read_live(alloc, disk, front)?;
     let old = find_heap(alloc, disk, &image, &steps)?;
@@ -95,13 +100,17 @@ fn find_heap<D: Disk>(
     steps: &[Step],
 ) -> Result<OldHeap, RecoverError>
     requires holds { Holds (D.device disk.old).now.bytes image.now }
-    requires replays { Replays (logged_guard_in image.now.guards.items) (lanes_of image.now.records.items) (log_of steps.now) }
+    requires replays { Replays (logged_guard_in image.now.guards.items)
+        (lanes_of image.now.records.items) (log_of steps.now) }
     requires low { All IsLow steps.now }
-    ensures stands { IfOk result (λ old. StandsFor image.now.layout (D.device disk.old).now.bytes old.heap.items) }
-    ensures undone { IfOk result (λ old. AreUndone image.now.layout image.now.guards.items image.now.control.rows (lanes_of image.now.records.items) old.undone.items) }
+    ensures stands { IfOk result
+        (λ old. StandsFor image.now.layout (D.device disk.old).now.bytes old.heap.items) }
+    ensures undone { IfOk result
+        (λ old. AreUndone image.now.layout image.now.guards.items image.now.control.rows
+        (lanes_of image.now.records.items) old.undone.items) }
     ensures no_other { IfErr result RefusesHeap }
     ensures same { SameMoments (D.device disk.old) (D.device disk.new) }
-    ensures cause { HasCause (D.device disk.old).failures (D.device disk.new).failures Fault result }
+    ensures cause { HasCauseSince (D.device disk.old) (D.device disk.new) Fault result }
 {
     old_heap(
         alloc,
@@ -122,9 +131,13 @@ fn report_on(
     undone: &[FieldId],
 ) -> Result<Report, RecoverError>
     requires holds { (bytes : List ℕ) × Holds bytes image.now }
-    requires replays { Replays (logged_guard_in image.now.guards.items) (lanes_of image.now.records.items) (log_of steps.now) }
-    requires undone { AreUndone image.now.layout image.now.guards.items image.now.control.rows (lanes_of image.now.records.items) undone.now }
-    ensures exact { MatchResult result (IsReportOf image.now.layout image.now.guards.items image.now.control.rows (lanes_of image.now.records.items)) (λ e. e ≡ NoMemory) }
+    requires replays { Replays (logged_guard_in image.now.guards.items)
+        (lanes_of image.now.records.items) (log_of steps.now) }
+    requires undone { AreUndone image.now.layout image.now.guards.items image.now.control.rows
+        (lanes_of image.now.records.items) undone.now }
+    ensures exact { MatchResult result
+        (IsReportOf image.now.layout image.now.guards.items image.now.control.rows
+        (lanes_of image.now.records.items)) (λ e. e ≡ NoMemory) }
 {
     let dropped = dropped_sections(
         alloc,

@@ -1,5 +1,5 @@
 //! The version of an image, by its control.
-ghost use Rattle.std.specs.Prelude.{◌≡◌, ◌≢◌, ◌<◌, ℕ, MatchResult, IfErr, length, false, true};
+ghost use Rattle.std.specs.Prelude.{◌≡◌, ◌≢◌, ℕ, MatchResult, IfErr, false, true};
 ghost use Rattle.undo_log.specs.StandsFor.{is_transient_in};
 ghost use Rattle.recover.specs.declared.error.RecoverError.TheVariants.{BadControl, OldVersion};
 ghost use Rattle.recover.specs.declared.versions.Versions.TheVariants.{Current};
@@ -10,8 +10,9 @@ use image::{Control, GuardRow, OLD_VERSION};
 
 /// Tests that a control of version 1, which is from before there were transient fields, stands with no marked row.
 pub fn test_marks(control: &Control, guards: &[GuardRow]) -> Result<(), RecoverError>
-    ensures exact { MatchResult result (λ _. control.now.version ≡ 1 → (f : ℕ) → is_transient_in guards.now f ≡ false)
-        (λ e. (control.now.version ≡ 1) × ((f : ℕ) × (is_transient_in guards.now f ≡ true))) }
+    ensures exact { MatchResult result (λ _. control.now.version ≡ 1 → (f : ℕ)
+        → is_transient_in guards.now f ≡ false) (λ e. (control.now.version ≡ 1)
+        × ((f : ℕ) × (is_transient_in guards.now f ≡ true))) }
     ensures only { IfErr result (λ e. e ≡ BadControl) }
 {
     if control.version == OLD_VERSION && has_transient(guards) {
@@ -22,7 +23,8 @@ pub fn test_marks(control: &Control, guards: &[GuardRow]) -> Result<(), RecoverE
 
 /// Tests that the control's version is one of these.
 pub fn test_version(control: &Control, versions: Versions) -> Result<(), RecoverError>
-    ensures exact { MatchResult result (λ _. versions ≡ Current → control.now.version ≢ 1) (λ _. (versions ≡ Current) × (control.now.version ≡ 1)) }
+    ensures exact { MatchResult result (λ _. versions ≡ Current
+        → control.now.version ≢ 1) (λ _. (versions ≡ Current) × (control.now.version ≡ 1)) }
     ensures only { IfErr result (λ e. e ≡ OldVersion) }
 {
     if versions == Versions::Current && control.version == OLD_VERSION {
