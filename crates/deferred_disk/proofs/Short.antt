@@ -1,8 +1,8 @@
 -- Calls of MOST_BYTES at most.
-use Rattle.std.proofs.Common.{◌≡◌, inl, inr, Bool, true, false, ℕ, zero, suc, ◌+◌, ◌≤◌, nat_le, ◌==◌, if◌then◌else◌, List, [], ◌∷◌, ◌++◌, length, take, drop, refl, subst, arith, length-append, length-take}
-use Rattle.std.proofs.lemmas.Bool.{and_parts, cases_Bool, leb-true}
+use Rattle.std.proofs.Common.{◌≡◌, inl, inr, Bool, true, false, ℕ, zero, suc, ◌+◌, ◌≤◌, nat_le, ◌==◌, if◌then◌else◌, List, [], ◌∷◌, ◌++◌, length, take, drop, refl, arith, length-append, length-take}
+use Rattle.std.proofs.lemmas.Bool.{and_parts, leb-true}
 use Rattle.block_disk.specs.Memory.{Stop, Wrote, WriteFailed, Synced, SyncFailed}
-use Rattle.deferred_disk.specs.Deferred.{onto, stop_of}
+use Rattle.deferred_disk.specs.Deferred.{onto}
 use Rattle.deferred_disk.specs.Handing.{AreLeft, AreToSync, IsSmall}
 use Rattle.deferred_disk.specs.Joined.{AreShortWrites, goes_on_with, join_units, join_write, longer}
 use Rattle.deferred_disk.specs.declared.call.DeviceCall.{DeviceCall}

@@ -5,3 +5,4 @@ pub mod Deferred
 pub mod Syncs
 pub mod Host
 pub mod Handing
+pub mod Copying

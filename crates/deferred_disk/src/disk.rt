@@ -36,7 +36,7 @@ pub const SYNCS: usize = 64;
 #[derive(Drop)]
 pub struct DeferredDisk {
     alloc: Global,
-    bytes: Vec<u8>,
+    pub(crate) bytes: Vec<u8>,
     // The calls since the last sync.
     unsent: Vec<DeviceCall>,
     pub(crate) ring: Producer<Handed, Global, Handing>,

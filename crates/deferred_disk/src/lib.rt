@@ -8,6 +8,7 @@
 #![tactic(auto)]
 
 mod call;
+mod copying;
 mod disk;
 mod handing;
 mod host;

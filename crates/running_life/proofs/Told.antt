@@ -11,16 +11,17 @@ use Rattle.monitor.specs.Posts.{ArePublished, NeverFall, WasPublished}
 use Rattle.monitor.specs.Seats.{Helping, Home, Sitting}
 use Rattle.monitor.specs.Views.{lane_of, noted}
 use Rattle.monitor.specs.declared.view.Note.{Note}
-use Rattle.session.specs.Calls.{ReadsStable}
 use Rattle.session.specs.Sessions.{seat_of, view_of}
 use Rattle.session.specs.declared.session.Session.{Session}
 use Rattle.steps.specs.Views.{plan, view}
 use Rattle.store_past.specs.Past.{Past}
+use Rattle.survival.specs.Running.{RunsSince}
 use Rattle.trim_helper.specs.Heard.{IsSeenOf, SeenLaw}
-use Rattle.trim_helper.specs.Parts.{IsServing, Parts}
+use Rattle.trim_helper.specs.Parts.{Parts}
 use Rattle.running_heap.specs.Joined.{IsHelping}
-use Rattle.running_life.specs.Running.{CrashInRunLaw}
-use Rattle.running_life.specs.Told.{IsMoment, IsSeated, HasPublishedNoMore, KeepsRead, KeepsReadAtRestLaw, KeepsReadInRoundLaw, KeepsReadLaw, KeepsTold, KeepsToldLaw, Moment, ReadLaw, RestLaw, RisesLaw}
+use Rattle.running_life.specs.Running.{CrashInRunLaw, GoesOnLegally}
+use Rattle.running_life.specs.Told.{HasPublishedNoMore, HasReadOf, IsMoment, IsSeated, KeepsRead, KeepsReadAtRestLaw, KeepsReadInRoundLaw, KeepsReadLaw, KeepsTold, KeepsToldLaw, Moment, ReadLaw, RestLaw, RisesLaw}
+use Rattle.running_life.proofs.Running.{kept_in}
 
 -- none was published: none stands there
 published_none : (p : ℕ) (ps : List Note) → WasPublished p 0 ps
@@ -72,17 +73,14 @@ rises h now before helper at next goes = record {
 pub keeps_told : KeepsToldLaw
 keeps_told h l p now helper image at keeps =
     let kept = at.kept in
+    let first = kept.seated.begins helper.id helper.view helper.next at.seated at.role in
+    let is : GoesOnLegally (plan h) helper.view.history kept.history = record { goes_on = first; legal = kept.legal } in
     record {
-      study = keeps.study;
-      of = keeps.of;
-      taken = keeps.taken;
-      stays = λ k lt. let most = keeps.stays k in let same = keeps.kept_are k lt in omega (arith, most, same);
       history = kept.history;
       legal = kept.legal;
       told = λ seat sits. kept.seated.parts seat.id seat.view (lane_of seat.view) sits.seated sits.role;
-      cut = keeps.cut;
-      kept_are = keeps.kept_are;
-      keeps = keeps.keeps kept.history (kept.seated.begins helper.id helper.view helper.next at.seated at.role) kept.legal;
+      kept = kept_in (GoesOnLegally (plan h) helper.view.history) (λ other. other ≡ kept.history) l (plan h) p image
+          (λ other same. subst (GoesOnLegally (plan h) helper.view.history) (sym same) is) keeps.kept;
     }
 
 -- what the helper has seen by then is legal
@@ -110,33 +108,45 @@ module _ {D : Type 0} (device : D → Device) where
       record { stable = omega (arith, read, most); published = one; in_cut = serving.stand (lane_of seat.view).0 (view seat).stable within one }
 
   pub session_read : ReadLaw device
-  session_read h p x read before s t sections helping serving at no_more reads sits =
-      let most = read_most h read before (seat_of t) at sits in
-      let published = no_more.counts (lane_of (seat_of t).view).0 in
-      let acknowledged = serving.counts (lane_of (seat_of t).view).0 (lane_there h x read before (seat_of t) helping at sits no_more) in
-      let is = reads.read in
+  session_read h p x t sections had =
+      let by = had.reads in
+      let most = read_most h by.moment by.helper (seat_of t) by.is by.seated in
+      let published = by.no_more.counts (lane_of (seat_of t).view).0 in
+      let there = lane_there h x by.moment by.helper (seat_of t) had.helping by.is by.seated by.no_more in
+      let acknowledged = had.serves.counts (lane_of (seat_of t).view).0 there in
+      let is = by.reads.read in
       omega (arith, most, published, acknowledged, is)
 
   -- what is kept with all that was acknowledged then
-  pub read_of_kept : (h : Home) (p : Past) (x : Parts D) (l : Layout) (read now : Moment) (before : Helping) (s t : Session) (sections : ℕ) (image : List ℕ) → IsHelping device h x → IsServing device x (plan h) p → IsMoment h read before →
-      HasPublishedNoMore before x.seat → ReadsStable s t sections → IsSeated read (seat_of t) → l ≡ x.store.known.layout → KeepsTold h l p now image → KeepsRead h l p now image (view_of t).lane.0 sections
-  read_of_kept h p x l read now before s t sections image helping serving at no_more reads sits layout kept =
-      let least = session_read h p x read before s t sections helping serving at no_more reads sits in
-      let stays = kept.stays (lane_of (seat_of t).view).0 (subst (λ (k : Layout). (lane_of (seat_of t).view).0 < k.lanes) (sym layout) (lane_there h x read before (seat_of t) helping at sits no_more)) in
-      record { kept = kept; least = omega (arith, least, stays) }
+  pub read_of_kept : (h : Home) (p : Past) (x : Parts D) (l : Layout) (t : Session) (sections : ℕ) (now : Moment) (image : List ℕ) → HasReadOf device h p x t sections → l ≡ x.store.known.layout →
+      KeepsTold h l p now image → KeepsRead h l p now image (view_of t).lane.0 sections
+  read_of_kept h p x l t sections now image had layout told =
+      let by = had.reads in
+      let k = (lane_of (seat_of t).view).0 in
+      let there : k < l.lanes = subst (λ (o : Layout). k < o.lanes) (sym layout) (lane_there h x by.moment by.helper (seat_of t) had.helping by.is by.seated by.no_more) in
+      let least = session_read h p x t sections had in
+      let stays = told.kept.stays k in
+      let same = told.kept.kept_are k there in
+      record { told = told; least = omega (arith, least, stays, same) }
 
   module _ (crash : CrashInRunLaw device) where
     pub read_kept : KeepsReadLaw device
-    read_kept h p q x y failed read now before helper s t sections image helping serving at no_more reads sits layout ran serves crashed is_seen left =
-        read_of_kept h p x y.store.known.layout read now before s t sections image helping serving at no_more reads sits layout
-        (keeps_told h y.store.known.layout p now helper image crashed
-        (crash h x.store.known p q (device x.store.disk) y failed helper.view.history image serving.taken.has (sym layout) ran serves (seen_legal h now helper crashed) is_seen left))
+    read_kept h p x y t sections now helper image had layout on at left =
+        read_of_kept h p x y.store.known.layout t sections now image had layout
+        (keeps_told h y.store.known.layout p now helper image at (crash h p (device x.store.disk) y helper.view.history image on left))
 
     pub round_read : SeenLaw device → KeepsReadInRoundLaw device
-    round_read seen_of h p x y answer read now before helper s t sections image helping serving at no_more reads sits on round has_seen crashed seen left =
-        read_kept h p round.now x y y.store.known.has_failed read now before helper s t sections image helping serving at no_more reads sits on.layout round.ran round.serves crashed
-        (subst (λ (z : List (ℕ × Event)). IsSeenOf h (length y.rings) round.now z) (sym seen) (seen_of h (plan h) round.now y has_seen round.serves)) left
+    round_read seen_of h p x y answer t sections now helper image had made at seen left =
+        let round = made.round in
+        let run : RunsSince y.store.known.layout (plan h) p (device x.store.disk) (device y.store.disk) =
+        record { store = x.store.known; layout = sym made.on.layout; has = had.serves.taken.has; now = round.now; has_failed = y.store.known.has_failed; ran = round.ran } in
+        let of : IsSeenOf h (length y.rings) round.now helper.view.history =
+        subst (λ (z : List (ℕ × Event)). IsSeenOf h (length y.rings) round.now z) (sym seen) (seen_of h (plan h) round.now y made.seen round.serves) in
+        read_kept h p x y t sections now helper image had made.on.layout (record { run = run; serves = round.serves; legal = seen_legal h now helper at; seen_of = of }) at left
 
     pub rest_kept : KeepsReadAtRestLaw device
-    rest_kept h p x read now before helper s t sections image helping serving at no_more reads sits crashed is_seen left =
-        read_kept h p p x x false read now before helper s t sections image helping serving at no_more reads sits refl (ran_none x.store.known.layout (plan h) p (device x.store.disk) false) serving crashed is_seen left
+    rest_kept h p x t sections now helper image had rests at left =
+        let ran = ran_none x.store.known.layout (plan h) p (device x.store.disk) false in
+        let run : RunsSince x.store.known.layout (plan h) p (device x.store.disk) (device x.store.disk) =
+        record { store = x.store.known; layout = refl; has = rests.serves.taken.has; now = p; has_failed = false; ran = ran } in
+        read_kept h p x x t sections now helper image had refl (record { run = run; serves = rests.serves; legal = rests.legal; seen_of = rests.seen_of }) at left

@@ -1,25 +1,17 @@
 -- A crash while threads run (this project's own).
-use Rattle.std.specs.Prelude.{ℕ, ◌≡◌, ◌<◌, ◌≤◌, Bool, List, Result, length}
+use Rattle.std.specs.Prelude.{ℕ, List, Result, length}
 use Rattle.heap_model.specs.declared.event.Event.{Event}
-use Rattle.heap_model.specs.Cuts.{counts_of}
 use Rattle.heap_model.specs.History.{IsLegalHistory}
 use Rattle.heap_model.specs.Setting.{Setting}
 use Rattle.block_disk.specs.Device.{Device}
-use Rattle.durable.specs.Runs.{HasRun}
-use Rattle.durable.specs.Store.{HasPast, Known}
 use Rattle.image.specs.declared.layout.Layout.{Layout}
 use Rattle.monitor.specs.Seats.{Helping, Home}
 use Rattle.monitor.specs.Views.{GoesOn}
 use Rattle.steps.specs.Views.{plan}
 use Rattle.store_past.specs.Past.{Past, no_past}
 use Rattle.store_past.specs.declared.error.StoreError.{StoreError}
-use Rattle.recover.specs.Recovery.{RefusesRecovery}
-use Rattle.recover.specs.Study.{IsStudyOf}
-use Rattle.recover.specs.declared.error.RecoverError.{RecoverError}
-use Rattle.recover.specs.declared.studied.Study.{Study}
-use Rattle.survival.specs.History.{KeepsHistory}
-use Rattle.survival.specs.Running.{KeepsOfHistory}
-use Rattle.survival.specs.WholeRun.{CannotRecover, MayBeLeft}
+use Rattle.survival.specs.Running.{KeepsIn, KeepsOfHistory, RunsSince}
+use Rattle.survival.specs.WholeRun.{MayBeLeft}
 use Rattle.trim_helper.specs.Calls.{HasGoneOn, Rounds}
 use Rattle.trim_helper.specs.Heard.{HasSeen, IsSeenOf}
 use Rattle.trim_helper.specs.Parts.{IsServing, Parts}
@@ -27,54 +19,73 @@ use Rattle.trim_helper.specs.declared.ended.Ended.{Ended}
 use Rattle.running_heap.specs.Closed.{IsClosedFrom}
 use Rattle.running_heap.specs.Life.{HasLived}
 
--- Recovery takes the image, unless a call fails, memory is wanting, or the control's sequence is at its last value. It keeps one set of
--- sections, among them all that was acknowledged in this past. In each legal history that goes on from the one seen these are whole sections,
--- each with all that it depends on, and the heap is that of their stores, in the history's order.
+-- These histories: each legal one that goes on from the one seen.
+pub record GoesOnLegally (s : Setting) (seen later : List (ℕ × Event)) : Type 0 where
+  pub goes_on : GoesOn later seen
+  pub legal : IsLegalHistory s later
+
+-- Recovery accepts the image, and keeps one set of sections. It includes every section that was acknowledged in this past. In each legal history
+-- that goes on from the one seen, they are whole sections, each with every section that it depends on, and the heap has what they stored.
 pub record KeepsRunning (l : Layout) (s : Setting) (p : Past) (seen : List (ℕ × Event)) (image : List ℕ) : Type 0 where
-  pub study : Study
-  pub of : IsStudyOf image study
-  pub taken : (e : RecoverError) → RefusesRecovery image e → CannotRecover image e
-  pub cut : ℕ → ℕ
-  pub stays : (lane : ℕ) → p.cut lane ≤ cut lane
-  pub kept_are : (lane : ℕ) → lane < l.lanes → counts_of study.report.kept lane ≡ cut lane
-  -- what was seen is such a history itself
   pub legal : IsLegalHistory s seen
-  pub keeps : (later : List (ℕ × Event)) → GoesOn later seen → IsLegalHistory s later → KeepsHistory l s later cut study.heap.items
+  pub kept : KeepsIn (GoesOnLegally s seen) l s p image
 
--- So it stays as more is seen.
+-- What is kept stays so as more of the history is seen.
 abbrev pub SeesMoreLaw : Type 0
-SeesMoreLaw = (l : Layout) (s : Setting) (p : Past) (seen later : List (ℕ × Event)) (image : List ℕ) → KeepsRunning l s p seen image → GoesOn later seen → IsLegalHistory s later → KeepsRunning l s p later image
+SeesMoreLaw = (l : Layout) (s : Setting) (p : Past) (seen later : List (ℕ × Event)) (image : List ℕ)
+    → KeepsRunning l s p seen image → GoesOnLegally s seen later → KeepsRunning l s p later image
 
--- And once the heap is closed, it is so of the history in which each session's part is what it was told.
+-- Once the heap is closed, it is kept in the history in which each session's part is what the session was told.
 abbrev pub ToldLaw : Type 0
-ToldLaw = (h : Home) (l : Layout) (ended : List Ended) (p q : Past) (seat : Helping) (since d : Device) (seen : List (ℕ × Event)) (image : List ℕ) → KeepsRunning l (plan h) p seen image → GoesOn seat.view.history seen →
-    (from : IsClosedFrom h l ended q seat since d) → KeepsOfHistory l (plan h) p from.closed.history image
+ToldLaw = (h : Home) (l : Layout) (ended : List Ended) (p q : Past) (seat : Helping) (since d : Device) (seen : List (ℕ × Event)) (image : List ℕ)
+    → KeepsRunning l (plan h) p seen image → GoesOn seat.view.history seen
+    → (from : IsClosedFrom h l ended q seat since d) → KeepsOfHistory l (plan h) p from.closed.history image
 
 module _ {D : Type 0} (device : D → Device) where
-  -- A store had this past, and store calls since have made of it the one that a helper serves, which has seen this history of what it applied.
-  -- Whatever a crash left at any moment since is kept so, with all that was acknowledged then.
+  -- A store of this past had the old device, and has made calls since. A helper serves it now, and has seen this legal history of what is applied.
+  pub record RunsOn (h : Home) (p : Past) (old : Device) (y : Parts D) (seen : List (ℕ × Event)) : Type 0 where
+    pub run : RunsSince y.store.known.layout (plan h) p old (device y.store.disk)
+    pub serves : IsServing device y (plan h) run.now
+    pub legal : IsLegalHistory (plan h) seen
+    pub seen_of : IsSeenOf h (length y.rings) run.now seen
+
+  -- Whatever a crash left at any moment of such a run, recovery keeps so, with every section that was acknowledged when the run began.
   abbrev pub CrashInRunLaw : Type 0
-  CrashInRunLaw = (h : Home) (was : Known) (p q : Past) (old : Device) (y : Parts D) (has_failed : Bool) (seen : List (ℕ × Event)) (image : List ℕ) → HasPast was (plan h) p old → was.layout ≡ y.store.known.layout →
-      HasRun y.store.known.layout (plan h) p old q (device y.store.disk) has_failed → IsServing device y (plan h) q → IsLegalHistory (plan h) seen → IsSeenOf h (length y.rings) q seen →
-      MayBeLeft old (device y.store.disk) image → KeepsRunning y.store.known.layout (plan h) p seen image
+  CrashInRunLaw = (h : Home) (p : Past) (old : Device) (y : Parts D) (seen : List (ℕ × Event)) (image : List ℕ)
+      → RunsOn h p old y seen → MayBeLeft old (device y.store.disk) image → KeepsRunning y.store.known.layout (plan h) p seen image
 
-  -- So it is at any moment of a round, whatever that answers, by the history that the helper has seen at its end: with all that was acknowledged
-  -- before.
+  -- A helper that serves this past has made a round, which gave this answer.
+  pub record HasMadeRound (h : Home) (p : Past) (x y : Parts D) (answer : Result ℕ StoreError) : Type 0 where
+    pub on : HasGoneOn h x y
+    pub round : Rounds device (plan h) p x y answer
+    pub seen : HasSeen h y
+
+  -- So it is at each moment of a round, whatever the round answers, with every section that was acknowledged before it.
   abbrev pub CrashInRoundLaw : Type 0
-  CrashInRoundLaw = (h : Home) (p : Past) (x y : Parts D) (answer : Result ℕ StoreError) (image : List ℕ) → IsServing device x (plan h) p → HasGoneOn h x y → Rounds device (plan h) p x y answer → HasSeen h y →
-      MayBeLeft (device x.store.disk) (device y.store.disk) image → KeepsRunning y.store.known.layout (plan h) p y.seat.view.history image
+  CrashInRoundLaw = (h : Home) (p : Past) (x y : Parts D) (answer : Result ℕ StoreError) (image : List ℕ)
+      → IsServing device x (plan h) p → HasMadeRound h p x y answer → MayBeLeft (device x.store.disk) (device y.store.disk) image
+      → KeepsRunning y.store.known.layout (plan h) p y.seat.view.history image
 
-  -- And at any moment since the heap was opened, up to the end of the round.
+  -- So it is at each moment from the heap's opening to the end of a round.
   abbrev pub CrashSinceLaw : Type 0
-  CrashSinceLaw = (h : Home) (opened : Device) (p : Past) (x y : Parts D) (answer : Result ℕ StoreError) (image : List ℕ) → HasLived device h opened x p → HasGoneOn h x y → Rounds device (plan h) p x y answer → HasSeen h y →
-      MayBeLeft opened (device y.store.disk) image → KeepsRunning y.store.known.layout (plan h) no_past y.seat.view.history image
+  CrashSinceLaw = (h : Home) (opened : Device) (p : Past) (x y : Parts D) (answer : Result ℕ StoreError) (image : List ℕ)
+      → HasLived device h opened x p → HasMadeRound h p x y answer → MayBeLeft opened (device y.store.disk) image
+      → KeepsRunning y.store.known.layout (plan h) no_past y.seat.view.history image
 
-  -- And between rounds; before the first the helper has seen nothing.
+  -- The helper rests between two rounds, and has seen this legal history of what is applied. Before the first round that may be none.
+  pub record Rests (h : Home) (p : Past) (x : Parts D) (seen : List (ℕ × Event)) : Type 0 where
+    pub serves : IsServing device x (plan h) p
+    pub legal : IsLegalHistory (plan h) seen
+    pub seen_of : IsSeenOf h (length x.rings) p seen
+
+  -- So it is of a crash between two rounds, at each moment since the heap's opening.
   abbrev pub CrashBetweenLaw : Type 0
-  CrashBetweenLaw = (h : Home) (opened : Device) (p : Past) (x : Parts D) (seen : List (ℕ × Event)) (image : List ℕ) → HasLived device h opened x p → IsLegalHistory (plan h) seen → IsSeenOf h (length x.rings) p seen →
-      MayBeLeft opened (device x.store.disk) image → KeepsRunning x.store.known.layout (plan h) no_past seen image
+  CrashBetweenLaw = (h : Home) (opened : Device) (p : Past) (x : Parts D) (seen : List (ℕ × Event)) (image : List ℕ)
+      → HasLived device h opened x p → Rests h p x seen → MayBeLeft opened (device x.store.disk) image
+      → KeepsRunning x.store.known.layout (plan h) no_past seen image
 
-  -- And right now, with all that is acknowledged by now.
+  -- Between two rounds, whatever a crash leaves now, recovery keeps every section that is acknowledged by now.
   abbrev pub CrashNowLaw : Type 0
-  CrashNowLaw = (h : Home) (p : Past) (x : Parts D) (seen : List (ℕ × Event)) (image : List ℕ) → IsServing device x (plan h) p → IsLegalHistory (plan h) seen → IsSeenOf h (length x.rings) p seen →
-      MayBeLeft (device x.store.disk) (device x.store.disk) image → KeepsRunning x.store.known.layout (plan h) p seen image
+  CrashNowLaw = (h : Home) (p : Past) (x : Parts D) (seen : List (ℕ × Event)) (image : List ℕ)
+      → Rests h p x seen → MayBeLeft (device x.store.disk) (device x.store.disk) image
+      → KeepsRunning x.store.known.layout (plan h) p seen image

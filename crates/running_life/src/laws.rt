@@ -10,19 +10,25 @@ use running_heap::life_law;
 use survival::{has_study_law, run_law};
 use trim_helper::seen_law;
 
-/// At whatever moment of a round a crash comes, recovery takes what it leaves, and keeps the heap of whole sections of the history of
-/// the threads that run, each with all that it depends on, and all that was acknowledged before the round. So it is of each moment of
-/// any run of rounds, as the one since the heap was opened, with what was acknowledged before the first.
+/// Recovery accepts whatever a crash leaves of a heap while threads run. It keeps whole sections of the threads' history, each with every
+/// section that it depends on, and every section that was acknowledged before the crash. The clauses say so of each moment:
+/// - `run`: of a run of store calls that a helper served, with all that was acknowledged when the run began;
+/// - `round`: of a round, whatever the round answers, with all that was acknowledged before the round;
+/// - `opened`: from the opening to the end of a round;
+/// - `between`: from the opening to now, while the helper rests between two rounds;
+/// - `now`: right now, while the helper rests, with all that is acknowledged by now.
 ///
-/// That history is the threads' own, in whose order each session was answered. The helper has seen a beginning of it; so the law
-/// speaks of each legal history that goes on from what was seen at the last round's end, whatever the threads did until the crash. No
-/// section that the helper hadn't seen is kept, and none such was acknowledged. A store that had failed before a round makes no call in
-/// it: what a crash leaves then, one left in the round that failed. Where the heap is closed later, the history in which each session's
-/// part is what it was told is one that goes on from what was seen.
+/// What is kept stays so as the helper sees more of the history (`more`). After the closing it is kept of the history in which each
+/// session's part is what the session was told (`told`).
 ///
-/// For example, lane 0 sent a whole section and then took an object again: a round applies all four records, and has heard the lane up
-/// to the first release. A crash behind its settling leaves the section kept, and the second taking of no account, whether the history
-/// goes on with its release or never does.
+/// The history is the threads' own, in whose order each session was answered. The helper has seen a beginning of it. So the law speaks
+/// of each legal history that goes on from what was seen at the last round's end, whatever the threads did until the crash. No section
+/// that the helper hadn't seen is kept, and none of these was acknowledged. A store that had failed before a round makes no call in it:
+/// what a crash leaves then, a crash might have left in the round that failed.
+///
+/// For example, lane 0 sent a whole section and then took an object again. A round applies all four records, and has heard the lane up
+/// to the first release. A crash after its settling leaves the section kept, and the second taking counts for nothing, whether the
+/// history goes on with its release or never does.
 pub fn round_law<D: Disk>()
     ensures run { CrashInRunLaw D.device }
     ensures round { CrashInRoundLaw D.device }
@@ -40,8 +46,8 @@ pub fn round_law<D: Disk>()
     seen_law::<D>();
 }
 
-/// At whatever moment since the opening a crash had come of a heap that was closed at last, recovery would have taken what it left, and
-/// kept the heap of whole sections of the history that the closing tells of, each with all that it depends on.
+/// A heap was closed at last. At whatever moment since its opening a crash had come, recovery would have accepted what it left, and kept
+/// whole sections of the history that the closing tells of, each with every section that it depends on.
 pub fn crash_law<D: Disk>()
     ensures { CrashLaw D.device }
 {
@@ -49,14 +55,14 @@ pub fn crash_law<D: Disk>()
     run_law();
 }
 
-/// What a session has read as stable no crash takes back, though its heap is never closed. [`Session::stable`](session::Session::stable)
-/// has answered a count; whatever a crash leaves from then on, recovery takes, and it keeps at least so many sections of the session's lane.
-/// What it keeps are whole sections of one legal history, in which each lane's part is just what its session had been told when the crash
-/// came, with all that they depend on.
+/// No crash takes back what a session has read as stable, even if its heap is never closed. [`Session::stable`](session::Session::stable)
+/// has answered a count. Recovery accepts whatever a crash leaves from then on, and keeps at least so many sections of the session's lane
+/// (`since`, `in_round`, `at_rest`). What it keeps are whole sections of one legal history, each with every section that it depends on;
+/// in that history each lane's part is just what its session had been told when the crash came (`keeps`).
 ///
-/// From then on: since the helper, at rest between two rounds, had published so much; while it publishes its device is as it is behind the
-/// round. A moment is a state of the shared words between two steps of the threads, of which their rule says so (`monitor`, `Kept`). No
-/// call is made at one, and no session meets the helper.
+/// "From then on" begins when the helper rested between two rounds and had published so much (`rest`, `read`, `rises`). While the helper
+/// publishes, its device stays as the round left it. A moment is a state of the shared words between two steps of the threads, whose rule
+/// says so (`monitor`, `Kept`). No call is made at a moment, and no session meets the helper.
 pub fn stable_law<D: Disk>()
     ensures keeps { KeepsToldLaw }
     ensures rises { RisesLaw }

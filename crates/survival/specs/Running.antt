@@ -11,28 +11,38 @@ use Rattle.image.specs.declared.layout.Layout.{Layout}
 use Rattle.durable.specs.Runs.{HasRun, TakesSequences}
 use Rattle.durable.specs.Store.{Known, HasPast}
 use Rattle.store_past.specs.Past.{Past, applied}
-use Rattle.recover.specs.Recovery.{IsWorn, RefusesRecovery}
-use Rattle.recover.specs.Study.{IsStudyOf}
-use Rattle.recover.specs.declared.error.RecoverError.{RecoverError}
-use Rattle.recover.specs.declared.studied.Study.{Study}
+use Rattle.recover.specs.Recovery.{IsWorn}
 use Rattle.survival.specs.History.{KeepsHistory}
-use Rattle.survival.specs.WholeRun.{CannotRecover, MayBeLeft}
+use Rattle.survival.specs.Taken.{IsTaken}
+use Rattle.survival.specs.WholeRun.{MayBeLeft}
 
--- Recovery takes the image, unless a call fails, memory is wanting, or the control's sequence is at its last value; and it keeps whole
--- sections of the history, each with all that it depends on, among them all that was acknowledged before.
-pub record KeepsOfHistory (l : Layout) (s : Setting) (p : Past) (history : List (ℕ × Event)) (image : List ℕ) : Type 0 where
-  pub study : Study
-  pub of : IsStudyOf image study
-  pub taken : (e : RecoverError) → RefusesRecovery image e → CannotRecover image e
+-- Recovery accepts the image, and keeps one set of sections. It includes every section that was acknowledged in this past. In each of these
+-- histories they are whole sections, each with every section that it depends on, and the heap has what they stored, in the history's order.
+pub record KeepsIn (histories : List (ℕ × Event) → Type 0) (l : Layout) (s : Setting) (p : Past) (image : List ℕ) : Type 0 where
+  pub accepted : IsTaken image
   pub cut : ℕ → ℕ
   pub stays : (lane : ℕ) → p.cut lane ≤ cut lane
-  pub kept_are : (lane : ℕ) → lane < l.lanes → counts_of study.report.kept lane ≡ cut lane
-  pub keeps : KeepsHistory l s history cut study.heap.items
+  pub kept_are : (lane : ℕ) → lane < l.lanes → counts_of accepted.study.report.kept lane ≡ cut lane
+  pub keeps : (history : List (ℕ × Event)) → histories history → KeepsHistory l s history cut accepted.study.heap.items
 
--- So is each image that a crash left at any moment of a run whose calls applied, thread by thread, a beginning of what a legal history logs.
+-- So it does in this one history.
+abbrev pub KeepsOfHistory : Layout → Setting → Past → (history : List (ℕ × Event)) → (image : List ℕ) → Type 0
+KeepsOfHistory l s p history image = KeepsIn (λ other. other ≡ history) l s p image
+
+-- A store of this past had the old device. The calls that it has made since left the new device; a fault may have cut the last one off.
+pub record RunsSince (l : Layout) (s : Setting) (p : Past) (old new : Device) : Type 0 where
+  pub store : Known
+  pub layout : store.layout ≡ l
+  pub has : HasPast store s p old
+  pub now : Past
+  pub has_failed : Bool
+  pub ran : HasRun l s p old now new has_failed
+
+-- Whatever a crash left at any moment of such a run, recovery keeps so in each legal history of which it applied, lane by lane, a beginning.
 abbrev pub RunLaw : Type 0
-RunLaw = (x : Known) (s : Setting) (p q : Past) (old new : Device) (has_failed : Bool) (history : List (ℕ × Event)) (image : List ℕ) → HasPast x s p old → HasRun x.layout s p old q new has_failed →
-    IsLegalHistory s history → IsLaneWisePrefix (applied q) (log_of s history) → MayBeLeft old new image → KeepsOfHistory x.layout s p history image
+RunLaw = (l : Layout) (s : Setting) (p : Past) (old new : Device) (history : List (ℕ × Event)) (image : List ℕ)
+    → (run : RunsSince l s p old new) → IsLegalHistory s history → IsLaneWisePrefix (applied run.now) (log_of s history)
+    → MayBeLeft old new image → KeepsOfHistory l s p history image
 
 -- Of the control's sequences some calls take so many at most, and those behind them so many: both together take the sum.
 abbrev pub TakesOnLaw : Type 0

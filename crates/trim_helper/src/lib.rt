@@ -15,6 +15,7 @@ mod helper;
 mod meeting;
 mod meets;
 mod opening;
+mod own_disk;
 mod published;
 mod rings;
 mod settling;
