@@ -3,3 +3,4 @@ pub mod Beginnings
 pub mod Ending
 pub mod Meetings
 pub mod Living
+pub mod Failing

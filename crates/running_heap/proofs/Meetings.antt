@@ -19,12 +19,14 @@ use Rattle.trim_helper.specs.Taken.{trimmed_of}
 use Rattle.running_heap.specs.Closed.{IsClosed, IsClosedFrom, WasTold, WereTold}
 use Rattle.running_heap.proofs.Ending.{of_parts}
 
-pub closed_of : (h : Home) (l : Layout) (es : List Ended) (p : Past) (seat : Helping) (since d : Device) → IsClosedDown (plan h) h.plan.lanes l (parts_of es) p seat since d → IsClosed h l es d
+pub closed_of : (h : Home) (l : Layout) (es : List Ended) (p : Past) (seat : Helping) (since d : Device) → IsClosedDown h.plan l (parts_of es) p seat since d → IsClosed h l es d
 closed_of h l es p seat since d down = record {
   history = down.history;
   legal = down.one.legal;
   told = of_parts (λ x. lane x.lane down.history ≡ x.events) es down.one.part;
   no_other = down.one.no_other;
+  words = down.words;
+  spelled = down.spelled;
   now = down.now;
   logs = down.logs;
   left = down.left;
@@ -52,7 +54,7 @@ told_of h c lanes rings log seat acknowledged trimmed (e ∷ es) count all known
     (told_of h c lanes rings log seat acknowledged trimmed es count (All-tail (IsEnded h c rings) e es all) (λ x among. known x (inr among)))
 
 pub closed_from : (h : Home) (l : Layout) (c : ℕ) (rings : Rings) (es : List Ended) (p : Past) (seat : Helping) (since d : Device) → length rings ≡ h.plan.lanes → All (IsEnded h c rings) es →
-    IsClosedDown (plan h) h.plan.lanes l (parts_of es) p seat since d → IsClosedFrom h l es p seat since d
+    IsClosedDown h.plan l (parts_of es) p seat since d → IsClosedFrom h l es p seat since d
 unfolding closed_of
 closed_from h l c rings es p seat since d count all down = record {
   closed = closed_of h l es p seat since d down;

@@ -13,8 +13,10 @@ use Rattle.undo_log.specs.StandsFor.{StandsFor}
 use Rattle.store_image.specs.KeptHeap.{StandsForCut, values_below}
 use Rattle.store_past.specs.Past.{Past, applied}
 use Rattle.durable.specs.Runs.{HasRun, IsLeftBy}
+use Rattle.monitor.specs.Rule.{Spelled}
 use Rattle.monitor.specs.Seats.{Helping, Home}
 use Rattle.monitor.specs.Views.{GoesOn}
+use Rattle.monitor.specs.Words.{Words}
 use Rattle.steps.specs.Views.{plan, view}
 use Rattle.trim_helper.specs.Counts.{IsCutCount, WasCount}
 use Rattle.trim_helper.specs.Parts.{Parts}
@@ -30,6 +32,10 @@ pub record IsClosed (h : Home) (l : Layout) (ended : List Ended) (d : Device) : 
   pub legal : IsLegalHistory (plan h) history
   pub told : All (λ e. lane (view e.seat).lane.0 history ≡ (view e.seat).events) ended
   pub no_other : (k : ℕ) → h.plan.lanes ≤ k → lane k history ≡ []
+  -- The words as the threads left them: lock words, fat words, masks and fields.
+  pub words : Words
+  -- They spell the state after that history.
+  pub spelled : Spelled h.plan words (state_after (plan h) history)
   pub now : Past
   pub logs : (k : ℕ) → lane k (applied now) ≡ lane k (log_of (plan h) history)
   pub left : Always d (IsLeftBy l (plan h) now)

@@ -33,11 +33,19 @@ module _ {D : Type 0} (device : D → Device) where
 
   -- and it goes on over a round after which the store hasn't failed
   abbrev pub LifeLaw : Type 0
-  LifeLaw = (h : Home) (opened : Device) (p : Past) (x y : Parts D) (answer : Result ℕ StoreError) → HasLived h opened x p → HasGoneOn h x y → (round : Rounds device (plan h) p x y answer) → y.store.known.has_failed ≡ false → HasLived h opened y round.now
+  LifeLaw = (h : Home) (opened : Device) (p : Past) (x y : Parts D) (answer : Result ℕ StoreError) → HasLived h opened x p → HasGoneOn h x y →
+      (round : Rounds device (plan h) p x y answer) → y.store.known.has_failed ≡ false → HasLived h opened y round.now
 
   -- and over a drain
   abbrev pub DrainLifeLaw : Type 0
-  DrainLifeLaw = (h : Home) (opened : Device) (x y : Parts D) (p : Past) (n : ℕ) → HasLived h opened x p → y.seat ≡ x.seat → HasDrained device x y n → (y.is_settled ≡ true → (x.is_settled ≡ true) × (n ≡ 0)) → (q : Past) × HasLived h opened y q
+  DrainLifeLaw = (h : Home) (opened : Device) (x y : Parts D) (p : Past) (n : ℕ) → HasLived h opened x p → y.seat ≡ x.seat → HasDrained device x y n →
+      (y.is_settled ≡ true → (x.is_settled ≡ true) × (n ≡ 0)) → (q : Past) × HasLived h opened y q
+
+  -- A round of a helper whose store has failed applies nothing and makes no call: the helper serves the same past, by the same store.
+  abbrev pub FailedLaw : Type 0
+  FailedLaw = (h : Home) (p : Past) (x y : Parts D) (answer : Result ℕ StoreError) → IsServing device x (plan h) p → HasGoneOn h x y →
+      Rounds device (plan h) p x y answer → x.store.known.has_failed ≡ true →
+      IsServing device y (plan h) p × (y.store ≡ x.store)
 
   -- until the heap is closed
   abbrev pub ClosedLifeLaw : Type 0

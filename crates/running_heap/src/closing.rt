@@ -32,8 +32,8 @@ pub fn end(session: Session) -> Ended
 }
 
 /// Lets the sessions that have ended meet their helper: all that they sent is applied, made durable and acknowledged, and the
-/// device is given back. One legal history has what each session was told as its part, recovery takes the device, whatever a crash
-/// leaves of it, and the device stands for the history's heap. The history goes on from the one that the helper had seen; so each
+/// device is given back. One legal history has what each session was told as its part, and lock words, fat words, masks and fields, as
+/// the threads left them, spell the state after it. Recovery takes the device, whatever a crash leaves of it, and the device stands for the history's heap. The history goes on from the one that the helper had seen; so each
 /// session's part goes on from what was seen of its lane. A count that a session read as stable, the helper had published as
 /// acknowledged, and there is a whole, closed cut of the one history with so many of the session's sections.
 ///

@@ -16,7 +16,7 @@ use Rattle.store_past.specs.declared.error.StoreError.TheVariants.{Failed}
 use Rattle.trim_helper.specs.Rings.{received_of, known_of, held_back, waiting_in, stream}
 use Rattle.trim_helper.specs.Moves.{Moves, most_room, known_sum, held_sum}
 use Rattle.trim_helper.specs.Taken.{Taking, HasTaken, Advances, IsLaneStuck, IsStuckAt, applied_more}
-use Rattle.trim_helper.specs.Draining.{Empties, GoesOn, HasAll, Rests, RunsOn, Takes, Turns}
+use Rattle.trim_helper.specs.Draining.{Empties, AppliesNext, HasAll, Rests, AppliesLane, Takes, AppliesLanes}
 use Rattle.trim_helper.proofs.Progress.{stream_own, stream_other}
 use Rattle.trim_helper.proofs.RingMoves.{same_refl, same_then, known_most, held_most}
 use Rattle.trim_helper.proofs.Seeing.{keeps_refl, keeps_then}
@@ -76,12 +76,13 @@ module _ {D : Type 0} (device : D → Device) where
     running = ap (λ (z : stores.Parts D). z.known.has_failed) same;
     sequence = ap (λ (z : stores.Parts D). z.known.committed.sequence) same;
     uncalled = ap (λ (z : stores.Parts D). device z.disk) same;
+    still = λ off. (refl, same);
   }
 
   pub advances_one : (x y : Taking D) (lane : ℕ) (r : Record) → Moves lane (r ∷ []) x.rings x.waiting y.rings y.waiting →
       ((s : Setting) (p : Past) → HasPast x.store.known s p (device x.store.disk) → HasPast y.store.known s (after_apply p lane r) (device y.store.disk)) → y.store.known.layout ≡ x.store.known.layout →
-      y.store.known.has_failed ≡ x.store.known.has_failed → y.store.known.committed.sequence ≡ x.store.known.committed.sequence → y.store.disk ≡ x.store.disk → Advances device x y 1
-  advances_one x y lane r moves makes layout running sequence same = record {
+      y.store.known.has_failed ≡ x.store.known.has_failed → y.store.known.committed.sequence ≡ x.store.known.committed.sequence → y.store.disk ≡ x.store.disk → x.store.known.has_failed ≡ false → Advances device x y 1
+  advances_one x y lane r moves makes layout running sequence same runs = record {
     made = λ s p has. ((lane, r) ∷ [], refl, applied_has x y lane r s p moves has (makes s p has.has));
     whole = whole_all x.rings y.rings x.waiting y.waiting lane (r ∷ []) moves;
     left = moves.left;
@@ -92,10 +93,11 @@ module _ {D : Type 0} (device : D → Device) where
     running = running;
     sequence = sequence;
     uncalled = ap device same;
+    still = λ off. absurd (let no : false ≡ true = sym runs ∙ off in cc);
   }
 
   pub advances_start : (x : Taking D) → Advances device x x 0
-  advances_start x = record { made = λ s p has. ([], refl, has); whole = λ l. refl; left = omega arith; same = same_refl x.rings; told = keeps_refl x.rings; slots = refl; layout = refl; running = refl; sequence = refl; uncalled = refl }
+  advances_start x = record { made = λ s p has. ([], refl, has); whole = λ l. refl; left = omega arith; same = same_refl x.rings; told = keeps_refl x.rings; slots = refl; layout = refl; running = refl; sequence = refl; uncalled = refl; still = λ off. (refl, refl) }
 
   pub advances_then : (x y z : Taking D) (n m : ℕ) → Advances device x y n → Advances device y z m → Advances device x z (n + m)
   advances_then x y z n m one two = record {
@@ -115,6 +117,7 @@ module _ {D : Type 0} (device : D → Device) where
     running = two.running ∙ one.running;
     sequence = two.sequence ∙ one.sequence;
     uncalled = two.uncalled ∙ one.uncalled;
+    still = λ off. let a = one.still off in let b = two.still (one.running ∙ off) in (omega (arith, a.0, b.0), b.1 ∙ a.1);
   }
 
   pub advances_done : (x y z : Taking D) (n m : ℕ) → Advances device x y n → Advances device y z m → m ≡ 0 → Advances device x z n
@@ -171,16 +174,16 @@ module _ {D : Type 0} (device : D → Device) where
   }
 
   -- nothing went, and the lane rests
-  pub goes_not : (x y : Taking D) (lane : ℕ) → Moves lane [] x.rings x.waiting y.rings y.waiting → y.store ≡ x.store → IsStuckAt device y lane → GoesOn device lane x y (Ok false)
+  pub goes_not : (x y : Taking D) (lane : ℕ) → Moves lane [] x.rings x.waiting y.rings y.waiting → y.store ≡ x.store → IsStuckAt device y lane → AppliesNext device lane x y (Ok false)
   goes_not x y lane moves same stuck = record { takes = takes_done x y 0 (advances_none x y lane moves same); rests = λ none. rests_so x y lane moves same stuck }
 
   -- one went
-  pub goes_one : (x y : Taking D) (lane : ℕ) → Advances device x y 1 → GoesOn device lane x y (Ok true)
+  pub goes_one : (x y : Taking D) (lane : ℕ) → Advances device x y 1 → AppliesNext device lane x y (Ok true)
   goes_one x y lane on = record { takes = takes_done x y 1 on; rests = λ no. absurd (let not : true ≡ false = no in cc) }
 
   -- the store has failed
   pub goes_failed : (x y : Taking D) (lane : ℕ) (e : StoreError) → Moves lane [] x.rings x.waiting y.rings y.waiting → y.store ≡ x.store → e ≡ Failed →
-      ((s : Setting) (p : Past) → HasPast x.store.known s p (device x.store.disk) → x.store.known.has_failed ≡ true) → GoesOn device lane x y (Err e)
+      ((s : Setting) (p : Past) → HasPast x.store.known s p (device x.store.disk) → x.store.known.has_failed ≡ true) → AppliesNext device lane x y (Err e)
   goes_failed x y lane e moves same is why = record {
     takes = record { ok = tt; kept = (0, advances_none x y lane moves same); failed = is; why = λ s p taken. why s p taken.has };
     rests = tt;
@@ -200,17 +203,17 @@ none_is false is = refl
 
 module _ {D : Type 0} (device : D → Device) where
   -- one record more was applied
-  pub advances_by_one : (x y z : Taking D) (lane n : ℕ) (b : Bool) → b ≡ true → Advances device x y n → GoesOn device lane y z (Ok b) → Advances device x z (n + 1)
+  pub advances_by_one : (x y z : Taking D) (lane n : ℕ) (b : Bool) → b ≡ true → Advances device x y n → AppliesNext device lane y z (Ok b) → Advances device x z (n + 1)
   advances_by_one x y z lane n b is one go = subst (λ k. Advances device x z (n + k)) (one_is b is) (advances_then device x y z n (if b then 1 else 0) one go.takes.ok)
 
-  pub count_one_more : (x y z : Taking D) (lane n : ℕ) (b : Bool) → b ≡ true → Advances device x y n → GoesOn device lane y z (Ok b) → most_room x.rings ≤ 4096 → length x.rings ≤ 32 → length x.waiting ≡ 32 → n + 1 < 2 ^ 64
+  pub count_one_more : (x y z : Taking D) (lane n : ℕ) (b : Bool) → b ≡ true → Advances device x y n → AppliesNext device lane y z (Ok b) → most_room x.rings ≤ 4096 → length x.rings ≤ 32 → length x.waiting ≡ 32 → n + 1 < 2 ^ 64
   count_one_more x y z lane n b is one go room few slots = subst (λ k. n + k < 2 ^ 64) (one_is b is) (count_most device x y z n (if b then 1 else 0) one go.takes.ok room few slots)
 
-  pub goes_less : (x y : Taking D) (lane : ℕ) (b : Bool) → b ≡ true → GoesOn device lane x y (Ok b) → known_sum y.rings + held_sum y.waiting < known_sum x.rings + held_sum x.waiting
+  pub goes_less : (x y : Taking D) (lane : ℕ) (b : Bool) → b ≡ true → AppliesNext device lane x y (Ok b) → known_sum y.rings + held_sum y.waiting < known_sum x.rings + held_sum x.waiting
   goes_less x y lane b is go = turn_less device x y 1 (subst (λ k. Advances device x y k) (one_is b is) go.takes.ok) (λ no. absurd (omega arith))
 
   -- the lane has run on as long as it could
-  pub runs_done : (x y z : Taking D) (lane n : ℕ) (b : Bool) → b ≡ false → Advances device x y n → (n ≡ 0 → y ≡ x) → GoesOn device lane y z (Ok b) → RunsOn device lane x z (Ok n)
+  pub runs_done : (x y z : Taking D) (lane n : ℕ) (b : Bool) → b ≡ false → Advances device x y n → (n ≡ 0 → y ≡ x) → AppliesNext device lane y z (Ok b) → AppliesLane device lane x z (Ok n)
   runs_done x y z lane n b not one still go =
       let rests = go.rests not in
       record {
@@ -219,7 +222,7 @@ module _ {D : Type 0} (device : D → Device) where
         rests = λ none. subst (λ k. Rests device lane k z) (still none) rests;
       }
 
-  pub runs_failed : (x y z : Taking D) (lane n : ℕ) (e : StoreError) → Advances device x y n → GoesOn device lane y z (Err e) → RunsOn device lane x z (Err e)
+  pub runs_failed : (x y z : Taking D) (lane n : ℕ) (e : StoreError) → Advances device x y n → AppliesNext device lane y z (Err e) → AppliesLane device lane x z (Err e)
   runs_failed x y z lane n e one go = record { takes = takes_failed device x y z n e one go.takes; stuck = tt; rests = tt }
 
   -- The lanes below this one had their turn, and so many records were applied.
@@ -230,7 +233,7 @@ module _ {D : Type 0} (device : D → Device) where
   pub turned_none : (x : Taking D) → Turned x x 0 0
   turned_none x = record { advances = advances_start device x; stuck = λ none l lt. absurd (omega arith) }
 
-  pub turned_more : (x y z : Taking D) (went n lane : ℕ) → Turned x y went lane → RunsOn device lane y z (Ok n) → Turned x z (went + n) (lane + 1)
+  pub turned_more : (x y z : Taking D) (went n lane : ℕ) → Turned x y went lane → AppliesLane device lane y z (Ok n) → Turned x z (went + n) (lane + 1)
   turned_more x y z went n lane was ran = record {
     advances = advances_then device x y z went n was.advances ran.takes.ok;
     stuck = λ none l lt.
@@ -242,17 +245,17 @@ module _ {D : Type 0} (device : D → Device) where
   }
 
   -- each lane had its turn
-  pub turns_done : (x y : Taking D) (went lane : ℕ) → length y.rings ≤ lane → Turned x y went lane → Turns device x y (Ok went)
+  pub turns_done : (x y : Taking D) (went lane : ℕ) → length y.rings ≤ lane → Turned x y went lane → AppliesLanes device x y (Ok went)
   turns_done x y went lane all was = record { takes = takes_done device x y went was.advances; stuck = λ none l lt. was.stuck none l (omega arith) }
 
-  pub turns_failed : (x y z : Taking D) (went lane : ℕ) (e : StoreError) → Turned x y went lane → RunsOn device lane y z (Err e) → Turns device x z (Err e)
+  pub turns_failed : (x y z : Taking D) (went lane : ℕ) (e : StoreError) → Turned x y went lane → AppliesLane device lane y z (Err e) → AppliesLanes device x z (Err e)
   turns_failed x y z went lane e was ran = record { takes = takes_failed device x y z went e was.advances ran.takes; stuck = tt }
 
   -- a turn in which none went was the last
-  pub empties_done : (x y z : Taking D) (n m : ℕ) → m ≡ 0 → Advances device x y n → Turns device y z (Ok m) → HasAll device z → Empties device x z (Ok n)
+  pub empties_done : (x y z : Taking D) (n m : ℕ) → m ≡ 0 → Advances device x y n → AppliesLanes device y z (Ok m) → HasAll device z → Empties device x z (Ok n)
   empties_done x y z n m none one last all = record { takes = takes_done device x z n (advances_done device x y z n m one last.takes.ok none); stuck = last.stuck none; whole = all }
 
-  pub empties_failed : (x y z : Taking D) (n : ℕ) (e : StoreError) → Advances device x y n → Turns device y z (Err e) → Empties device x z (Err e)
+  pub empties_failed : (x y z : Taking D) (n : ℕ) (e : StoreError) → Advances device x y n → AppliesLanes device y z (Err e) → Empties device x z (Err e)
   empties_failed x y z n e one last = record { takes = takes_failed device x y z n e one last.takes; stuck = tt; whole = tt }
 
 pub longer : (k n m : ℕ) → m ≡ n → k < n → k < m

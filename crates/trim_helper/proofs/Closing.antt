@@ -35,10 +35,12 @@ use Rattle.trim_helper.specs.Settled.{IsSettled, closed_value}
 use Rattle.trim_helper.specs.Serving.{Part, Among, IsOneHistory}
 use Rattle.trim_helper.specs.Meeting.{HasPart, HaveMet}
 use Rattle.trim_helper.specs.Closed.{HasSpelled, IsClosedDown}
-use Rattle.monitor.specs.Seats.{Final, Helping}
+use Rattle.monitor.specs.Rule.{Spelled}
+use Rattle.monitor.specs.Seats.{Final, Helping, final_value}
 use Rattle.monitor.specs.Views.{GoesOn}
+use Rattle.monitor.specs.Words.{fields, setting_of, spread}
+use Rattle.monitor.specs.declared.view.Plan.{Plan}
 use Rattle.trim_helper.specs.Counts.{IsCutCount, WasCount}
-use Rattle.trim_helper.specs.Helping.{Spells}
 use Rattle.trim_helper.proofs.Refusing.{drained}
 
 -- a later start leaves more room
@@ -101,11 +103,14 @@ module _ (s : Setting) (lanes capacity : ℕ) (place : ℕ → ℕ) (parts : Lis
             (λ l lt. stuck l (omega arith) s (applied_more made.0 p) made.2.has),
       )
 
-module _ (s : Setting) (lanes : ℕ) (parts : List Part) (h : List (ℕ × Event)) (one : IsOneHistory s lanes parts h) (log_law : LogLaw) (order_law : OrderLaw) (all_kept : AllKeptLaw) (one_stable : OneStableLaw) (unlogged : UnloggedLaw)
-    (words : Final) (spelled : Spells words (state_after s h)) (p : Past) (told : (x : Part) → Among parts x → x.lane < lanes → x.count ≤ p.cut x.lane) (places : (x : Part) → Among parts x → x.lane < lanes → x.place ≤ trimmed_of p x.lane)
-    (seat : Helping) (later : GoesOn h seat.view.history) (published : (x : Part) → Among parts x → x.lane < lanes → WasCount seat x.lane x.count) (counts : (x : Part) → Among parts x → x.lane < lanes → IsCutCount (log_of s h) x.lane x.count)
-    (x : Known) (since d : Device) (now : Past) (ran : HasRun x.layout s p since now d false) (has : HasPast x s now d) (running : x.has_failed ≡ false) (settled : IsSettled s now)
-    (same : (l : ℕ) → lane l (applied now) ≡ lane l (log_of s h)) (free : (l : ℕ) → length (holding (map action (lane l (log_of s h)))) ≡ 0) where
+module _ (k : Plan) (parts : List Part) (h : List (ℕ × Event)) (one : IsOneHistory (setting_of k) k.lanes parts h) (log_law : LogLaw) (order_law : OrderLaw) (all_kept : AllKeptLaw) (one_stable : OneStableLaw) (unlogged : UnloggedLaw)
+    (words : Final) (spelled : Spelled k (spread k words.words) (state_after (setting_of k) h)) (last_values : (f : ℕ) → f < fields k → final_value words f ≡ (state_after (setting_of k) h).value f) (p : Past) (told : (x : Part) → Among parts x → x.lane < k.lanes → x.count ≤ p.cut x.lane) (places : (x : Part) → Among parts x → x.lane < k.lanes → x.place ≤ trimmed_of p x.lane)
+    (seat : Helping) (later : GoesOn h seat.view.history) (published : (x : Part) → Among parts x → x.lane < k.lanes → WasCount seat x.lane x.count) (counts : (x : Part) → Among parts x → x.lane < k.lanes → IsCutCount (log_of (setting_of k) h) x.lane x.count)
+    (x : Known) (since d : Device) (now : Past) (ran : HasRun x.layout (setting_of k) p since now d false) (has : HasPast x (setting_of k) now d) (running : x.has_failed ≡ false) (settled : IsSettled (setting_of k) now)
+    (same : (l : ℕ) → lane l (applied now) ≡ lane l (log_of (setting_of k) h)) (free : (l : ℕ) → length (holding (map action (lane l (log_of (setting_of k) h)))) ≡ 0) where
+  abbrev s : Setting
+  s = setting_of k
+
   abbrev cut : ℕ → ℕ
   cut = all_ended (actions (log_of s h))
 
@@ -125,7 +130,7 @@ module _ (s : Setting) (lanes : ℕ) (parts : List Part) (h : List (ℕ × Event
   cut_is : (l : ℕ) → now.cut l ≡ cut l
   cut_is l =
       let stable : IsStable (actions now.logged) now.cut = subst (λ (xs : List (ℕ × Record)). IsStable (actions xs) now.cut) (sym logged_is) settled.stable in
-      let all : IsStable (actions now.logged) (all_ended (actions now.logged)) = (all_kept s now.logged (subst (IsLegal s) (sym logged_is) has.past.legal) (λ k. ap (λ (xs : List Action). length (holding xs)) (acts_same k) ∙ free_log k)).0 in
+      let all : IsStable (actions now.logged) (all_ended (actions now.logged)) = (all_kept s now.logged (subst (IsLegal s) (sym logged_is) has.past.legal) (λ l. ap (λ (xs : List Action). length (holding xs)) (acts_same l) ∙ free_log l)).0 in
       one_stable (actions now.logged) now.cut (all_ended (actions now.logged)) stable all l ∙ ap (λ (xs : List Action). ended xs) (acts_same l)
 
   cuts_are : now.cut ≡ cut
@@ -148,10 +153,12 @@ module _ (s : Setting) (lanes : ℕ) (parts : List Part) (h : List (ℕ × Event
     | false ↦ λ not. (unlogged s (log_of s h) f (log_law s h one.legal) not).1 cut
   ] refl
 
-  closed_down : IsClosedDown s lanes x.layout parts p seat since d
+  closed_down : IsClosedDown k x.layout parts p seat since d
   closed_down = record {
     history = h;
     one = one;
+    words = spread k words.words;
+    spelled = spelled;
     later = later;
     now = now;
     ran = ran;
@@ -166,9 +173,9 @@ module _ (s : Setting) (lanes : ℕ) (parts : List Part) (h : List (ℕ × Event
     counts = counts;
   }
 
-  pub has_spelled : HasSpelled s lanes x.layout parts p seat since d words
+  pub has_spelled : HasSpelled k x.layout parts p seat since d words
   unfolding closed_down
-  has_spelled = record { closed = closed_down; spelled = spelled }
+  has_spelled = record { closed = closed_down; are = refl; values = last_values }
 
 -- the same records, lane by lane
 pub same_lanes : (xs ys zs : List (ℕ × Record)) → xs ≡ ys → ((l : ℕ) → lane l ys ≡ lane l zs) → (l : ℕ) → lane l xs ≡ lane l zs

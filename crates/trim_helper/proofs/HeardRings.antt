@@ -16,7 +16,7 @@ use Rattle.monitor.specs.Words.{setting_of}
 use Rattle.store_past.specs.Past.{Past, applied}
 use Rattle.store_past.specs.declared.error.StoreError.{StoreError}
 use Rattle.durable.specs.Store as stores
-use Rattle.trim_helper.specs.Calls.{AreStuck, HasGoneOn, Rounds}
+use Rattle.trim_helper.specs.Calls.{AreStuck, HasGoneOn, SettlesAll}
 use Rattle.trim_helper.specs.Heard.{HasSeen, Hears, SeenLaw}
 use Rattle.trim_helper.specs.Hearing.{IsNoted, KeepsRecords}
 use Rattle.trim_helper.specs.Helping.{IsHelper}
@@ -81,7 +81,7 @@ module _ {D : Type 0} (device : D → Device) (y : Parts D) (rings : List Receiv
   still_unpublished h (Err e) was = noted_then h y.seat seat was same
 
   -- and a round that made it is one
-  pub rounds_heard : (s : Setting) (p : Past) (x : Parts D) (answer : Result ℕ StoreError) → Rounds device s p x y answer → Rounds device s p x (parts_from y.store rings y.waiting y.is_settled seat) answer
+  pub rounds_heard : (s : Setting) (p : Past) (x : Parts D) (answer : Result ℕ StoreError) → SettlesAll device s p x y answer → SettlesAll device s p x (parts_from y.store rings y.waiting y.is_settled seat) answer
   rounds_heard s p x answer r = record {
     newer = r.newer;
     count = r.count;
@@ -95,8 +95,10 @@ module _ {D : Type 0} (device : D → Device) (y : Parts D) (rings : List Receiv
     serves = heard_serves s r.now r.serves;
     takes = r.takes;
     settled = r.settled;
+    durable = r.durable;
     left = r.left;
     quiet = r.quiet;
+    still = r.still;
     failed = r.failed;
     refused = r.refused;
     unsettled = r.unsettled;
@@ -131,8 +133,8 @@ module _ {D : Type 0} (device : D → Device) (home : Home) (z y : Parts D) (hea
   pub drained_parts : z ≡ parts_from y.store z.rings y.waiting y.is_settled z.seat
   drained_parts = λ i. record { store = sym hears.store i; rings = z.rings; waiting = sym hears.waiting i; is_settled = sym hears.settled i; seat = z.seat }
 
-  pub round_heard : (s : Setting) (p : Past) (x : Parts D) (answer : Result ℕ StoreError) → Rounds device s p x z answer → Rounds device s p x y answer
-  round_heard s p x answer r = subst (λ (k : Parts D). Rounds device s p x k answer) heard_parts (rounds_heard device z y.rings y.seat hears.records hears.noted s p x answer r)
+  pub round_heard : (s : Setting) (p : Past) (x : Parts D) (answer : Result ℕ StoreError) → SettlesAll device s p x z answer → SettlesAll device s p x y answer
+  round_heard s p x answer r = subst (λ (k : Parts D). SettlesAll device s p x k answer) heard_parts (rounds_heard device z y.rings y.seat hears.records hears.noted s p x answer r)
 
   pub goes_on_heard : (x : Parts D) → HasGoneOn home x z → HasGoneOn home x y
   goes_on_heard x on = record {

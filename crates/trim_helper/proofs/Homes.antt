@@ -101,6 +101,10 @@ home_moved x y LogFull same h = elim h [ ]
 home_moved x y Unwritten same h = elim h [ ]
 home_moved x y Unfinished same h = elim h [ ]
 
+-- a store that had failed logs nothing, and stays as it was
+pub log_still : {D : Type 0} (x y : stores.Parts D) (p : Past) (e : StoreError) → RefusesLog x.known p e → (e ≡ Fault) ⊎ (y ≡ x) → x.known.has_failed ≡ true → y ≡ x
+log_still x y p e h why off = ⊎_elim (λ (is : e ≡ Fault). absurd (let no : false ≡ true = sym (subst (RefusesLog x.known p) is h) ∙ off in cc)) (λ (same : y ≡ x). same) why
+
 -- nothing could be logged
 pub refused_log : (x y : Known) (p : Past) (e : StoreError) → RefusesLog x p e → (e ≡ Fault) ⊎ (y ≡ x) → (e ≡ Fault → y.has_failed ≡ true) → RefusesRound x y e
 refused_log x y p Failed h same off = (h, ⊎_elim (λ no. absurd cc) (λ as_was. ap (λ (z : Known). z.has_failed) as_was ∙ h) same)

@@ -40,6 +40,7 @@ module _ {D : Type 0} (device : D → Device) where
     running = on.running;
     sequence = on.sequence;
     uncalled = on.uncalled;
+    still = on.still;
   }
 
   -- the rings were looked at, and then emptied
@@ -75,6 +76,7 @@ module _ {D : Type 0} (device : D → Device) where
       running = refl;
       sequence = refl;
       uncalled = refl;
+      still = λ off. (refl, refl);
     };
     stuck = λ some. absurd (omega arith);
     whole = λ some. absurd (omega arith);
@@ -102,6 +104,7 @@ module _ {D : Type 0} (device : D → Device) where
     running = two.running ∙ one.running;
     sequence = two.sequence ∙ one.sequence;
     uncalled = two.uncalled ∙ one.uncalled;
+    still = λ off. let a = one.still off in let b = two.still (one.running ∙ off) in (omega (arith, a.0, b.0), b.1 ∙ a.1);
   }
 
   pub looked_again : (x y z : Taking D) (n m looks : ℕ) → Looked x y n looks → DrainsRings device 1 y z (Ok m) → Looked x z (n + m) (looks + 1)
@@ -120,6 +123,7 @@ module _ {D : Type 0} (device : D → Device) where
     running = was.running;
     sequence = was.sequence;
     uncalled = was.uncalled;
+    still = was.still;
   }
 
   pub looked_done : (x y : Taking D) (n looks most : ℕ) → 0 < looks → looks ≤ most → Looked x y n looks → DrainsRings device most x y (Ok n)

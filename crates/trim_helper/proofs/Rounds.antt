@@ -20,7 +20,7 @@ use Rattle.durable.specs.Store as stores
 use Rattle.durable.specs.Store.{Known, HasPast}
 use Rattle.durable.proofs.Sequences.{takes_more, takes_none, takes_then}
 use Rattle.durable.proofs.Running.{left_always, ran_applied, ran_less, ran_none, ran_then}
-use Rattle.trim_helper.specs.Calls.{AreStuck, Drains, HasGoneOn, Rounds}
+use Rattle.trim_helper.specs.Calls.{AreStuck, Drains, HasGoneOn, Publishes, Rounds, SettlesAll}
 use Rattle.trim_helper.specs.Counts.{AddsCounts, StandForCuts, WasCount}
 use Rattle.trim_helper.specs.Draining.{DrainsRings}
 use Rattle.trim_helper.specs.declared.draining.TheConstants.{LOOKS}
@@ -29,7 +29,7 @@ use Rattle.trim_helper.specs.Parts.{HasDrained, IsServing, IsWhole, Parts, takin
 use Rattle.trim_helper.specs.Rings.{received_of, known_of, held_back, waiting_in, stream}
 use Rattle.trim_helper.specs.Moves.{SameRings}
 use Rattle.trim_helper.specs.Taken.{Taking, HasTaken, Advances, AllStuck, applied_more, trimmed_of}
-use Rattle.trim_helper.specs.Settled.{HasSame, IsSettled, RefusesRound, SettlesAndTrimsApplied}
+use Rattle.trim_helper.specs.Settled.{HasSame, IsDurable, IsSettled, RefusesRound, SettlesAndTrimsApplied, StaysFailed}
 use Rattle.heap_model.specs.Log.{IsLegal}
 use Rattle.trim_helper.specs.Closed.{AreSent, Stood}
 use Rattle.trim_helper.specs.declared.ended.Ended.{Ended}
@@ -140,19 +140,17 @@ module _ {D : Type 0} (device : D → Device) where
       }
 
   -- and it is published
-  pub published_serves : (z : Parts D) (w : stores.Parts D) (seat : Helping) (s : Setting) (p : Past) → w.known.layout ≡ z.store.known.layout → IsServing device z s p → (h : HasSame (device z.store.disk) w.known (device w.disk) s p) → w.known.has_failed ≡ false → IsSettled s h.now → IsTrimmed h.now →
-      IsPublished seat w.known.layout.lanes h.now → ((l n : ℕ) → l < w.known.layout.lanes → WasCount seat l n → WasCount z.seat l n ⊎ (n ≡ h.now.cut l)) → IsServing device (parts_from w z.rings z.waiting true seat) s h.now
-  published_serves z w seat s p layout was h runs settled trimmed published added = record {
-    taken = same_taken (taking_of z) w s p was.taken h;
+  pub published_serves : (z : Parts D) (seat : Helping) (s : Setting) (p : Past) → IsServing device z s p → IsDurable z.store.known s p → IsPublished seat z.store.known.layout.lanes p →
+      ((l n : ℕ) → l < z.store.known.layout.lanes → WasCount seat l n → WasCount z.seat l n ⊎ (n ≡ p.cut l)) → IsServing device (parts_from z.store z.rings z.waiting true seat) s p
+  published_serves z seat s p was durable published added = record {
+    taken = was.taken;
     counts = λ l lt. omega (arith, (published l lt).0);
     places = λ l lt. omega (arith, (published l lt).1);
-    running = λ is. runs;
-    settled = λ is. settled;
-    trimmed = λ is. trimmed;
+    running = λ is. durable.running;
+    settled = λ is. durable.settled;
+    trimmed = λ is. durable.trimmed;
     published = λ is l lt. published l lt;
-    stand = subst (λ (k : Layout). StandForCuts seat k.lanes h.now) (sym layout)
-        (stand_added z.seat seat z.store.known.layout.lanes h.now settled.stable (subst (λ (k : Layout). (l n : ℕ) → l < k.lanes → WasCount seat l n → WasCount z.seat l n ⊎ (n ≡ h.now.cut l)) layout added)
-        (stand_same z.seat z.store.known.layout.lanes p h.now h.same was.stand));
+    stand = stand_added z.seat seat z.store.known.layout.lanes p durable.settled.stable added was.stand;
   }
 
   -- each lane has its ring still
@@ -227,7 +225,7 @@ module _ {D : Type 0} (device : D → Device) where
   -- a helper's drain, by its rings'
   pub helper_drains : (x : Parts D) (y : Taking D) (b : Bool) (answer : Result ℕ StoreError) → IsWhole device x → DrainsRings device LOOKS (taking_of x) y answer → IfOk answer (λ n. b ≡ true → (x.is_settled ≡ true) × (n ≡ 0)) →
       IfOk answer (λ n. n ≡ 0 → x.is_settled ≡ true → b ≡ true) → OnErr answer (b ≡ false) → Drains device x (parts_from y.store y.rings y.waiting b x.seat) answer
-  helper_drains x y b (Ok n) whole drains settled stays off = record { rings = drains; failed = tt; settled = settled; stays = stays; unsettled = tt; seat = refl; layout = drains.ok.layout }
+  helper_drains x y b (Ok n) whole drains settled stays off = record { rings = drains; failed = tt; settled = settled; stays = stays; unsettled = tt; seat = refl; layout = drains.ok.layout; still = λ is_off. (drains.ok.still is_off).1 }
   helper_drains x y b (Err e) whole drains settled stays off = record {
     rings = drains;
     failed = (drains.failed, drains.why whole.setting whole.past whole.serving.taken);
@@ -236,6 +234,7 @@ module _ {D : Type 0} (device : D → Device) where
     unsettled = off;
     seat = refl;
     layout = drains.kept.1.layout;
+    still = λ is_off. (drains.kept.1.still is_off).1;
   }
 
   -- no lane goes on after the drain
@@ -296,7 +295,7 @@ goes_on_drained device h x z (Err e) of drains = goes_drained h x z of drains.se
 -- A round, from the drain on.
 module _ {D : Type 0} (device : D → Device) (s : Setting) (p : Past) (x : Parts D) (serving : IsServing device x s p) (z : Parts D) where
   -- nothing could be applied
-  pub rounds_failed : (e : StoreError) → Drains device x z (Err e) → Rounds device s p x z (Err e)
+  pub rounds_failed : (e : StoreError) → Drains device x z (Err e) → SettlesAll device s p x z (Err e)
   rounds_failed e drains =
       let kept = drains.rings.kept in
       let is : e ≡ Failed = drains.failed.0 in
@@ -317,8 +316,10 @@ module _ {D : Type 0} (device : D → Device) (s : Setting) (p : Past) (x : Part
         serves = was.serves;
         takes = takes_more 0 2 _ _ _ _ (omega arith) (takes_none x.store.known z.store.known (device x.store.disk) (device z.store.disk) kept.1.sequence kept.1.uncalled);
         settled = tt;
+        durable = tt;
         left = tt;
         quiet = λ settled none. absurd (let no : false ≡ true = sym (serving.running settled) ∙ off in cc);
+        still = λ is_off. let stays = kept.1.still is_off in (none_of was.newer (was.long ∙ stays.0), stays.1);
         failed = λ was_off. ap Err is;
         refused = subst (λ k. RefusesRound x.store.known z.store.known k) (sym is) (off, kept.1.running ∙ off);
         unsettled = unsettled;
@@ -341,7 +342,7 @@ module _ {D : Type 0} (device : D → Device) (s : Setting) (p : Past) (x : Part
     stuck_now = stuck_drained device x z n s drained.now drains.rings.ok drained.serves.taken.has drains.rings.stuck
 
     -- all was settled, and nothing new came
-    pub rounds_quiet : z.is_settled ≡ true → Rounds device s p x z (Ok n)
+    pub rounds_quiet : z.is_settled ≡ true → SettlesAll device s p x z (Ok n)
     rounds_quiet settled =
         let was_so = drains.settled settled in
         let runs = drains.rings.ok.running ∙ serving.running was_so.0 in
@@ -357,9 +358,11 @@ module _ {D : Type 0} (device : D → Device) (s : Setting) (p : Past) (x : Part
           ran = drained.ran;
           serves = drained.serves;
           takes = takes_more 0 2 _ _ _ _ (omega arith) drained_takes;
-          settled = settled;
+          settled = tt;
+          durable = record { running = runs; settled = drained.serves.settled settled; trimmed = drained.serves.trimmed settled };
           left = left_by z.store.known (device z.store.disk) s drained.now drained.serves.taken.has runs;
           quiet = λ is empty. (ap Ok was_so.1, drains.rings.ok.uncalled);
+          still = λ off. absurd (let no : false ≡ true = sym (serving.running was_so.0) ∙ off in cc);
           failed = λ off. absurd (let no : false ≡ true = sym (serving.running was_so.0) ∙ off in cc);
           refused = tt;
           unsettled = tt;
@@ -380,8 +383,8 @@ module _ {D : Type 0} (device : D → Device) (s : Setting) (p : Past) (x : Part
           let none : n ≡ 0 = sym drained.long ∙ ap (λ (xs : List (ℕ × Record)). length xs) empty in
           absurd (let no : false ≡ true = sym unsettled ∙ drains.stays none is in cc)
 
-      pub rounds_refused : (e : StoreError) → SettlesAndTrimsApplied device z.store w (Err e) → TakesSequences 2 z.store.known (device z.store.disk) w.known (device w.disk) → HasCause (device z.store.disk).failures (device w.disk).failures Fault (refusal e) → Rounds device s p x (record z { store = w }) (Err e)
-      rounds_refused e settles takes cause =
+      pub rounds_refused : (e : StoreError) → SettlesAndTrimsApplied device z.store w (Err e) → StaysFailed device z.store w → TakesSequences 2 z.store.known (device z.store.disk) w.known (device w.disk) → HasCause (device z.store.disk).failures (device w.disk).failures Fault (refusal e) → SettlesAll device s p x (record z { store = w }) (Err e)
+      rounds_refused e settles still takes cause =
           let told = (settles s drained.now drained.serves.taken.has).settles in
           let h = told.same in
           record {
@@ -397,8 +400,11 @@ module _ {D : Type 0} (device : D → Device) (s : Setting) (p : Past) (x : Part
             serves = same_serves device z w s drained.now unsettled layout drained.serves h;
             takes = takes_on takes;
             settled = tt;
+            durable = tt;
             left = tt;
             quiet = λ is empty. never_quiet is empty;
+            still = λ off. let stays = drains.rings.ok.still off in
+                (none_of drained.newer (drained.long ∙ stays.0), still s drained.now drained.serves.taken.has (drains.rings.ok.running ∙ off) ∙ stays.1);
             failed = λ off. ap Err (err_same (Err e) e Failed refl (told.failed (drains.rings.ok.running ∙ off)));
             refused = refused_moved x.store.known z.store.known w.known e drains.rings.ok.running told.refused;
             unsettled = unsettled;
@@ -406,9 +412,9 @@ module _ {D : Type 0} (device : D → Device) (s : Setting) (p : Past) (x : Part
             cause = cause_since _ _ _ Fault (refusal e) (omega (arith, same_failures)) cause;
           }
 
-      pub rounds_done : {t : Unit {0}} (seat : Helping) → w.known.has_failed ≡ false → SettlesAndTrimsApplied device z.store w (Ok t) → TakesSequences 2 z.store.known (device z.store.disk) w.known (device w.disk) → (device z.store.disk).failures ≤ (device w.disk).failures → HasPublished device w seat → AddsCounts device w z.seat seat →
-          Rounds device s p x (parts_from w z.rings z.waiting true seat) (Ok n)
-      rounds_done {t} seat runs settles takes later published added =
+      pub rounds_done : {t : Unit {0}} → w.known.has_failed ≡ false → SettlesAndTrimsApplied device z.store w (Ok t) → TakesSequences 2 z.store.known (device z.store.disk) w.known (device w.disk) → (device z.store.disk).failures ≤ (device w.disk).failures →
+          SettlesAll device s p x (record z { store = w }) (Ok n)
+      rounds_done {t} runs settles takes later =
           let both = settles s drained.now drained.serves.taken.has in
           let told = both.settles in
           let h = told.same in
@@ -422,14 +428,83 @@ module _ {D : Type 0} (device : D → Device) (s : Setting) (p : Past) (x : Part
             cut = λ l. omega (arith, drained.cut l, h.cut l);
             places = λ l. omega (arith, drained.places l, h.places l);
             ran = ran_to h.now h.ran;
-            serves = published_serves device z w seat s drained.now layout drained.serves h runs told.settled both.trimmed (published s h.now h.has) (added s h.now h.has);
+            serves = same_serves device z w s drained.now unsettled layout drained.serves h;
             takes = takes_on takes;
-            settled = refl;
+            settled = tt;
+            durable = record { running = runs; settled = told.settled; trimmed = both.trimmed };
             left = left_by w.known (device w.disk) s h.now h.has runs;
             quiet = λ is empty. never_quiet is empty;
+            still = λ off. absurd (let no = told.failed (drains.rings.ok.running ∙ off) in cc);
             failed = λ off. absurd (let no = told.failed (drains.rings.ok.running ∙ off) in cc);
             refused = tt;
             unsettled = tt;
             unpublished = tt;
             cause = no_fault_of _ _ _ (omega (arith, same_failures, later)) (λ is. absurd cc);
           }
+
+-- A settling, and then what it has made durable is published.
+module _ {D : Type 0} (device : D → Device) (s : Setting) (p : Past) (x z : Parts D) where
+  -- a refused settling is a refused round
+  pub round_refused : (e : StoreError) → SettlesAll device s p x z (Err e) → Rounds device s p x z (Err e)
+  round_refused e r = record {
+    newer = r.newer;
+    count = tt;
+    most = r.most;
+    stuck = r.stuck;
+    now = r.now;
+    same = r.same;
+    cut = r.cut;
+    places = r.places;
+    ran = r.ran;
+    serves = r.serves;
+    takes = r.takes;
+    settled = tt;
+    durable = tt;
+    left = tt;
+    quiet = r.quiet;
+    still = r.still;
+    failed = r.failed;
+    refused = r.refused;
+    unsettled = r.unsettled;
+    unpublished = r.unpublished;
+    cause = r.cause;
+  }
+
+  module _ (h : Home) (y : Parts D) (published : Publishes device h z y) where
+    -- but for its seat, and that all is settled, the helper is as it was
+    published_parts : parts_from z.store z.rings z.waiting true y.seat ≡ y
+    published_parts = λ i. record { store = sym published.store i; rings = sym published.rings i; waiting = sym published.waiting i; is_settled = sym published.settled i; seat = y.seat }
+
+    pub round_published : (n : ℕ) → SettlesAll device s p x z (Ok n) → Rounds device s p x y (Ok n)
+    round_published n r = subst (λ (k : Parts D). Rounds device s p x k (Ok n)) published_parts record {
+      newer = r.newer;
+      count = r.count;
+      most = r.most;
+      stuck = r.stuck;
+      now = r.now;
+      same = r.same;
+      cut = r.cut;
+      places = r.places;
+      ran = r.ran;
+      serves = subst (λ (k : Parts D). IsServing device k s r.now) (sym published_parts) (published.serves s r.now r.serves r.durable);
+      takes = r.takes;
+      settled = refl;
+      durable = r.durable;
+      left = r.left;
+      quiet = r.quiet;
+      still = r.still;
+      failed = r.failed;
+      refused = tt;
+      unsettled = tt;
+      unpublished = tt;
+      cause = r.cause;
+    }
+
+-- publishing keeps the words, the lanes and the rings
+pub goes_on_published : {D : Type 0} (device : D → Device) (h : Home) (x z y : Parts D) → Publishes device h z y → HasGoneOn h x z → HasGoneOn h x y
+goes_on_published device h x z y published on = record {
+  seat = published.seat;
+  taken = published.taken ∙ on.taken;
+  rings = subst (λ (k : List Receiving). SameRings x.rings k) (sym published.rings) on.rings;
+  layout = ap (λ (k : stores.Parts _). k.known.layout) published.store ∙ on.layout;
+}

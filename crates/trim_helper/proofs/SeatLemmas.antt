@@ -12,7 +12,7 @@ use Rattle.monitor.specs.declared.view.Part as raw
 use Rattle.monitor.specs.Posts.{knowing_post}
 use Rattle.monitor.specs.Words.{setting_of}
 use Rattle.monitor.specs.Views.{noted, keeping}
-use Rattle.monitor.specs.Seats.{Ended, Helping}
+use Rattle.monitor.specs.Seats.{Ended, Final, Helping}
 use Rattle.trim_helper.specs.Serving.{Part, Among, IsOneHistory}
 use Rattle.trim_helper.specs.Helping.{count_published, place_published, part_of, taken_in}
 
@@ -37,14 +37,14 @@ pub among : (gs : List raw.Part) (x : Part) → Among (map part_of gs) x → (j 
 among [] x h = absurd h
 among (g ∷ gs) x h = ⊎_elim (λ (e : part_of g ≡ x). (0, g, refl, e)) (λ (r : Among (map part_of gs) x). let i = among gs x r in (suc i.0, i.1, i.2, i.3)) h
 
-pub one_history : (k : Plan) (h : Helping) (heap : ℕ → ℕ) (e : Ended k h.view h.next heap) → h.next ≡ k.lanes → IsOneHistory (setting_of k) k.lanes (taken_in h) e.0
-one_history k h heap e same = record {
-  legal = e.1;
-  part = λ x is. let i = among h.view.gathered x is in ap (λ (y : Part). lane y.lane e.0) (sym i.3) ∙ e.3 i.0 i.1 i.2 ∙ ap (λ (y : Part). y.events) i.3;
-  no_other = λ l le. e.2 l (omega arith);
+pub one_history : (k : Plan) (h : Helping) (w : Final) (e : Ended k h.view h.next w) → h.next ≡ k.lanes → IsOneHistory (setting_of k) k.lanes (taken_in h) e.history
+one_history k h w e same = record {
+  legal = e.legal;
+  part = λ x is. let i = among h.view.gathered x is in ap (λ (y : Part). lane y.lane e.history) (sym i.3) ∙ e.parts i.0 i.1 i.2 ∙ ap (λ (y : Part). y.events) i.3;
+  no_other = λ l le. e.undealt l (omega arith);
 }
 
-pub read_low : (k : Plan) (h : Helping) (heap : ℕ → ℕ) → Ended k h.view h.next heap → (x : Part) → Among (taken_in h) x → (x.count ≤ count_published h x.lane) × (x.place ≤ place_published h x.lane)
-read_low k h heap e x is =
+pub read_low : (k : Plan) (h : Helping) (w : Final) → Ended k h.view h.next w → (x : Part) → Among (taken_in h) x → (x.count ≤ count_published h x.lane) × (x.place ≤ place_published h x.lane)
+read_low k h w e x is =
     let i = among h.view.gathered x is in
-    subst (λ (y : Part). (y.count ≤ count_published h y.lane) × (y.place ≤ place_published h y.lane)) i.3 (e.4 i.0 i.1 i.1.lane.0 i.2, e.4 i.0 i.1 (32 + i.1.lane.0) i.2)
+    subst (λ (y : Part). (y.count ≤ count_published h y.lane) × (y.place ≤ place_published h y.lane)) i.3 (e.read i.0 i.1 i.1.lane.0 i.2, e.read i.0 i.1 (32 + i.1.lane.0) i.2)

@@ -12,8 +12,10 @@ use Rattle.store_past.specs.Past.{Past, applied}
 use Rattle.store_past.specs.declared.error.StoreError.{StoreError}
 use Rattle.store_past.specs.declared.error.StoreError.TheVariants.{Failed, Fault}
 use Rattle.durable.specs.Runs.{HasRun, IsLeftBy, TakesSequences}
+use Rattle.durable.specs.Store as stores
 use Rattle.durable.specs.Store.{Known, HasPast}
 use Rattle.monitor.specs.Seats.{Final, Helping, Home}
+use Rattle.monitor.specs.Views.{GoesOn}
 use Rattle.monitor.specs.Words.{setting_of}
 use Rattle.trim_helper.specs.Closed.{HasSpelled, IsClosedDown, Stood, disk_of}
 use Rattle.trim_helper.specs.Counts.{StandForCuts}
@@ -23,8 +25,9 @@ use Rattle.trim_helper.specs.Hearing.{IsNoted}
 use Rattle.trim_helper.specs.Helping.{IsBehind, IsHelper, taken_in}
 use Rattle.trim_helper.specs.Moves.{SameRings}
 use Rattle.trim_helper.specs.Parts.{Parts, IsServing, taking_of}
+use Rattle.trim_helper.specs.Seen.{SameSight}
 use Rattle.trim_helper.specs.Rings.{received_of}
-use Rattle.trim_helper.specs.Settled.{RefusesRound}
+use Rattle.trim_helper.specs.Settled.{IsDurable, RefusesRound}
 use Rattle.trim_helper.specs.Taken.{Taking, HasTaken, IsLaneStuck, applied_more, trimmed_of}
 use Rattle.trim_helper.specs.declared.draining.TheConstants.{LOOKS}
 use Rattle.trim_helper.specs.declared.close_error.CloseError.{CloseError}
@@ -58,47 +61,100 @@ module _ {D : Type 0} (device : D → Device) where
     pub unsettled : OnErr answer (y.is_settled ≡ false)
     pub seat : y.seat ≡ x.seat
     pub layout : y.store.known.layout ≡ x.store.known.layout
+    -- A store that has failed stays as it is, and so does its device.
+    pub still : x.store.known.has_failed ≡ true → y.store ≡ x.store
 
-  -- A round, of a helper that serves this past. Each lane goes on as far as it can; then store calls make durable what was applied,
-  -- acknowledge its stable cut and trim that, and both are published. Whatever a crash leaves meanwhile shows what some of these calls
-  -- make of the past, so that recovery takes it, with the stable cut only where a settling was running.
-  pub record Rounds (s : Setting) (p : Past) (x y : Parts D) (answer : Result ℕ StoreError) : Type 0 where
-    -- these records were applied, the newest first, at most a ring's a look of each lane, and it answers how many
+  -- What a helper that serves this past makes of it. Each lane goes on as far as it can; then store calls make durable what was applied,
+  -- acknowledge its stable cut and trim that. Whatever a crash leaves meanwhile shows what some of these calls make of the past, so that
+  -- recovery takes it, with the stable cut only where a settling was running. `Done` is what holds of the helper after Ok.
+  pub record Works (Done : Type 0) (s : Setting) (p : Past) (x y : Parts D) (answer : Result ℕ StoreError) : Type 0 where
+    -- The records that it has applied, the newest first.
     pub newer : List (ℕ × Record)
+    -- It answers how many records it has applied.
     pub count : IfOk answer (λ n. length newer ≡ n)
+    -- It takes at most a ring's fill of each lane for each look at the rings.
     pub most : (l : ℕ) → length (received_of y.rings l) ≤ length (received_of x.rings l) + LOOKS * RING_RECORDS
-    -- whatever it answers, none was left that could be
+    -- Whatever it answers, it leaves no record that could be applied, unless the store had failed.
     pub stuck : x.store.known.has_failed ≡ false → AreStuck x.store.known.layout (device x.store.disk) y.rings y.waiting s (applied_more newer p)
-    -- the past since, which the helper serves: what was acknowledged and what was trimmed stays so
+    -- The past that the helper's store has afterwards.
     pub now : Past
+    -- What was applied afterwards is what was applied before, and these records.
     pub same : applied now ≡ newer ++ applied p
+    -- What was acknowledged stays acknowledged.
     pub cut : (l : ℕ) → p.cut l ≤ now.cut l
+    -- What was trimmed stays trimmed.
     pub places : (l : ℕ) → trimmed_of p l ≤ trimmed_of now l
+    -- Store calls make the past afterwards of the past before.
     pub ran : HasRun y.store.known.layout s p (device x.store.disk) now (device y.store.disk) y.store.known.has_failed
+    -- The helper serves the past afterwards.
     pub serves : IsServing device y s now
-    -- it commits twice at most
+    -- It commits the control twice at most.
     pub takes : TakesSequences 2 x.store.known (device x.store.disk) y.store.known (device y.store.disk)
-    -- after Ok all is settled and published, and whatever a crash leaves, a store of that past leaves
-    pub settled : OnOk answer (y.is_settled ≡ true)
+    -- After Ok, the helper has done what the call is for.
+    pub settled : OnOk answer Done
+    -- After Ok, all that was applied is durable, and its stable cut is acknowledged and trimmed.
+    pub durable : OnOk answer (IsDurable y.store.known s now)
+    -- After Ok, whatever a crash leaves, a store of the past afterwards leaves.
     pub left : OnOk answer (Always (device y.store.disk) (IsLeftBy y.store.known.layout s now))
-    -- where all was settled and nothing new came, the device isn't called, and nothing is refused
+    -- If all was settled and nothing new came, the device isn't called, and nothing is refused.
     pub quiet : x.is_settled ≡ true → newer ≡ [] → (answer ≡ Ok 0) × (device y.store.disk ≡ device x.store.disk)
-    -- a refusal has its cause, publishes nothing and takes nobody in
+    -- A store that has failed stays as it is, and so does its device; nothing is applied.
+    pub still : x.store.known.has_failed ≡ true → (newer ≡ []) × (y.store ≡ x.store)
+    -- A store that has failed refuses it.
     pub failed : x.store.known.has_failed ≡ true → IsErrOf answer Failed
+    -- Each refusal has its reason.
     pub refused : IfErr answer (RefusesRound x.store.known y.store.known)
+    -- After a refusal, something is left to settle.
     pub unsettled : OnErr answer (y.is_settled ≡ false)
+    -- After a refusal, nothing was published, and nobody taken in.
     pub unpublished : OnErr answer (IsNoted x.seat y.seat)
+    -- It answers a fault only if a call of the device failed meanwhile.
     pub cause : HasCause (device x.store.disk).failures (device y.store.disk).failures Fault answer
+
+  -- a settling: what it has made durable is not published yet
+  abbrev pub SettlesAll : Setting → Past → (x y : Parts D) → Result ℕ StoreError → Type 0
+  SettlesAll s p x y answer = Works (Unit {0}) s p x y answer
+
+  -- a round: after Ok all is settled and published
+  abbrev pub Rounds : Setting → Past → (x y : Parts D) → Result ℕ StoreError → Type 0
+  Rounds s p x y answer = Works (y.is_settled ≡ true) s p x y answer
+
+  -- all that was applied is durable, by some past that the helper serves, so that it may be published
+  abbrev pub MayBePublished : Parts D → Type 0
+  MayBePublished x = (s : Setting) × (p : Past) × IsServing device x s p × IsDurable x.store.known s p
+
+  -- What is acknowledged and trimmed is published, and nothing else is done.
+  pub record Publishes (h : Home) (x y : Parts D) : Type 0 where
+    -- The store and its device stay as they are.
+    pub store : y.store ≡ x.store
+    -- The rings stay as they are.
+    pub rings : y.rings ≡ x.rings
+    -- Each record that waits to be next goes on waiting.
+    pub waiting : y.waiting ≡ x.waiting
+    -- The seat is the helper's of this heap.
+    pub seat : IsHelper h y.seat
+    -- The helper takes nobody in.
+    pub taken : taken_in y.seat ≡ taken_in x.seat
+    -- The helper sees no more of the history.
+    pub sight : SameSight x.seat y.seat
+    -- The helper notes each number that it publishes, and no note is lost.
+    pub notes : GoesOn y.seat.view.notes x.seat.view.notes
+    -- All is settled and published.
+    pub settled : y.is_settled ≡ true
+    -- The helper serves each past that it served, if all that was applied is durable.
+    pub serves : (s : Setting) (p : Past) → IsServing device x s p → IsDurable x.store.known s p → IsServing device y s p
 
   -- Sessions that have ended meet a helper that serves this past, and the device is given back. Once none of them stops it, what they sent
   -- is applied, made durable and acknowledged.
   pub record Closes (h : Home) (ended : List Ended) (p : Past) (x : Parts D) (answer : Result D (D × CloseError)) : Type 0 where
-    pub ok : IfOk answer (λ disk. IsClosedDown (setting_of h.plan) h.plan.lanes x.store.known.layout (parts_of ended) p x.seat (device x.store.disk) (device disk))
+    pub ok : IfOk answer (λ disk. IsClosedDown h.plan x.store.known.layout (parts_of ended) p x.seat (device x.store.disk) (device disk))
     pub refused : MatchResult answer (λ disk. HoldNone ended × IsComplete x.store.known.layout.lanes ended) (λ back. RefusesClosing x.store.known.layout.lanes ended back.1)
     pub failed : x.store.known.has_failed ≡ true → HoldNone ended → IsComplete x.store.known.layout.lanes ended → IsErrAnd answer (λ back. back.1 ≡ close.Failed)
     pub why : IfErr answer (λ back. IsCloseWhy x.store.known (device x.store.disk) (device back.0) back.1)
     -- where the sessions stop it the device is as it was; whatever stops it, a crash leaves what some store calls make of the past
     pub untouched : IfErr answer (λ back. IsOfSessions back.1 → back.0 ≡ x.store.disk)
+    -- The device of a store that had failed comes back as it was.
+    pub still : x.store.known.has_failed ≡ true → disk_of answer ≡ x.store.disk
     pub stood : Stood x.store.known.layout (setting_of h.plan) p ended (device x.store.disk) (device (disk_of answer))
     pub later : IfOk answer (λ disk. (device x.store.disk).failures ≤ (device disk).failures)
     -- it commits twice at most: so far the control of each image is that a crash left meanwhile
@@ -108,13 +164,17 @@ module _ {D : Type 0} (device : D → Device) where
   -- acknowledged, and the words at the end are those of its history; or the store stops that.
   pub record HasFinished (h : Home) (seat : Helping) (ended : List Ended) (p : Past) (x : Taking D) (now : Device) (answer : Result Final CloseError) : Type 0 where
     pub ok : IsBehind seat x.store.known.layout.lanes p → StandForCuts seat x.store.known.layout.lanes p →
-        IfOk answer (HasSpelled (setting_of h.plan) h.plan.lanes x.store.known.layout (parts_of ended) p seat (device x.store.disk) now)
+        IfOk answer (HasSpelled h.plan x.store.known.layout (parts_of ended) p seat (device x.store.disk) now)
     pub stop : IfErr answer IsCloseStop
     pub why : IfErr answer (IsCloseWhy x.store.known (device x.store.disk) now)
     pub failed : x.store.known.has_failed ≡ true → IsErrOf answer close.Failed
     pub stood : Stood x.store.known.layout (setting_of h.plan) p ended (device x.store.disk) now
     pub later : OnOk answer ((device x.store.disk).failures ≤ now.failures)
     pub shown : LeavesOnly (device x.store.disk) now (ShowsUpTo x.store.known.layout (x.store.known.committed.sequence + 2))
+
+  -- A store that has failed stays as it is, and so does its device.
+  abbrev pub StaysFailedTaking : Taking D → stores.Parts D → Type 0
+  StaysFailedTaking x y = (s : Setting) (p : Past) → HasTaken device x s p → x.store.known.has_failed ≡ true → y ≡ x.store
 
   -- so it is, whatever past the store has
   abbrev pub Finishes : Home → Helping → List Ended → Taking D → (now : Device) → Result Final CloseError → Type 0

@@ -16,10 +16,12 @@ use Rattle.trim_helper.specs.Settled.{closed_value}
 use Rattle.image.specs.declared.layout.Layout.{Layout}
 use Rattle.undo_log.specs.StandsFor.{StandsFor}
 use Rattle.store_image.specs.KeptHeap.{StandsForCut, values_below}
-use Rattle.monitor.specs.Seats.{Final, Helping}
+use Rattle.monitor.specs.Rule.{Spelled}
+use Rattle.monitor.specs.Seats.{Final, Helping, final_value}
 use Rattle.monitor.specs.Views.{GoesOn}
+use Rattle.monitor.specs.Words.{Words, fields, setting_of, spread}
+use Rattle.monitor.specs.declared.view.Plan.{Plan}
 use Rattle.trim_helper.specs.Counts.{IsCutCount, WasCount}
-use Rattle.trim_helper.specs.Helping.{Spells}
 use Rattle.trim_helper.specs.Serving.{Among, Part, IsOneHistory}
 use Rattle.trim_helper.specs.declared.ended.Ended.{Ended}
 use Rattle.trim_helper.specs.Endings.{HoldNone, IsComplete}
@@ -31,25 +33,32 @@ use Rattle.trim_helper.specs.Taken.{trimmed_of}
 -- all its sections: after it the persistent fields have these values, and the transient ones begin anew. None of the threads was told of more sections than were acknowledged before, nor of a
 -- place past what was trimmed. The history goes on from the one that the helper's seat had seen; and each count of sections that a thread
 -- last read, the helper had published, and it is that of a whole, closed cut of the history's log.
-pub record IsClosedDown (s : Setting) (lanes : ℕ) (l : Layout) (parts : List Part) (p : Past) (seat : Helping) (since d : Device) : Type 0 where
+pub record IsClosedDown (k : Plan) (l : Layout) (parts : List Part) (p : Past) (seat : Helping) (since d : Device) : Type 0 where
   pub history : List (ℕ × Event)
-  pub one : IsOneHistory s lanes parts history
+  pub one : IsOneHistory (setting_of k) k.lanes parts history
+  -- The words as the threads left them: lock words, fat words, masks and fields.
+  pub words : Words
+  -- They spell the state after that history.
+  pub spelled : Spelled k words (state_after (setting_of k) history)
   pub later : GoesOn history seat.view.history
   pub now : Past
-  pub ran : HasRun l s p since now d false
-  pub logs : (k : ℕ) → lane k (applied now) ≡ lane k (log_of s history)
-  pub left : Always d (IsLeftBy l s now)
-  pub stands : Always d (StandsForCut l s (log_of s history) (all_ended (actions (log_of s history))))
-  pub values : Always d (λ image. StandsFor l image (values_below (closed_value s (state_after s history).value) l.fields))
-  pub told : (x : Part) → Among parts x → x.lane < lanes → x.count ≤ p.cut x.lane
-  pub places : (x : Part) → Among parts x → x.lane < lanes → x.place ≤ trimmed_of p x.lane
-  pub published : (x : Part) → Among parts x → x.lane < lanes → WasCount seat x.lane x.count
-  pub counts : (x : Part) → Among parts x → x.lane < lanes → IsCutCount (log_of s history) x.lane x.count
+  pub ran : HasRun l (setting_of k) p since now d false
+  pub logs : (i : ℕ) → lane i (applied now) ≡ lane i (log_of (setting_of k) history)
+  pub left : Always d (IsLeftBy l (setting_of k) now)
+  pub stands : Always d (StandsForCut l (setting_of k) (log_of (setting_of k) history) (all_ended (actions (log_of (setting_of k) history))))
+  pub values : Always d (λ image. StandsFor l image (values_below (closed_value (setting_of k) (state_after (setting_of k) history).value) l.fields))
+  pub told : (x : Part) → Among parts x → x.lane < k.lanes → x.count ≤ p.cut x.lane
+  pub places : (x : Part) → Among parts x → x.lane < k.lanes → x.place ≤ trimmed_of p x.lane
+  pub published : (x : Part) → Among parts x → x.lane < k.lanes → WasCount seat x.lane x.count
+  pub counts : (x : Part) → Among parts x → x.lane < k.lanes → IsCutCount (log_of (setting_of k) history) x.lane x.count
 
--- So it is, and the words at the end spell the state after that history.
-pub record HasSpelled (s : Setting) (lanes : ℕ) (l : Layout) (parts : List Part) (p : Past) (seat : Helping) (since d : Device) (words : Final) : Type 0 where
-  pub closed : IsClosedDown s lanes l parts p seat since d
-  pub spelled : Spells words (state_after s closed.history)
+-- So it is, and these are the words.
+pub record HasSpelled (k : Plan) (l : Layout) (parts : List Part) (p : Past) (seat : Helping) (since d : Device) (words : Final) : Type 0 where
+  pub closed : IsClosedDown k l parts p seat since d
+  -- The words at the end are those that the closing tells of.
+  pub are : closed.words ≡ spread k words.words
+  -- The last value of each field is its value after that history.
+  pub values : (f : ℕ) → f < fields k → final_value words f ≡ (state_after (setting_of k) closed.history).value f
 
 -- the session sent the records that the log has of its lane, in their order, and maybe more
 abbrev pub WasSent : List (ℕ × Record) → Ended → Type 0

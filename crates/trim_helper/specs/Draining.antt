@@ -36,18 +36,18 @@ module _ {D : Type 0} (device : D → Device) where
     pub others : (l : ℕ) (s : Setting) (p : Past) → lane ≢ l → IsLaneStuck x.store.known x.rings x.waiting s p l → IsLaneStuck y.store.known y.rings y.waiting s p l
 
   -- One lane's next record is applied, if one is known and it is next: it answers whether.
-  pub record GoesOn (lane : ℕ) (x y : Taking D) (answer : Result Bool StoreError) : Type 0 where
+  pub record AppliesNext (lane : ℕ) (x y : Taking D) (answer : Result Bool StoreError) : Type 0 where
     pub takes : Takes x y (counted answer)
     pub rests : IfOk answer (λ gone. gone ≡ false → Rests lane x y)
 
-  -- One lane goes on as long as it can.
-  pub record RunsOn (lane : ℕ) (x y : Taking D) (answer : Result ℕ StoreError) : Type 0 where
+  -- One lane's records are applied, as long as the next one can be.
+  pub record AppliesLane (lane : ℕ) (x y : Taking D) (answer : Result ℕ StoreError) : Type 0 where
     pub takes : Takes x y answer
     pub stuck : OnOk answer (IsStuckAt device y lane)
     pub rests : IfOk answer (λ n. n ≡ 0 → Rests lane x y)
 
-  -- Each lane in turn goes on as long as it can. Where none did, none can.
-  pub record Turns (x y : Taking D) (answer : Result ℕ StoreError) : Type 0 where
+  -- Each lane's records are applied in turn, as long as the next one can be. Where none was, none can be.
+  pub record AppliesLanes (x y : Taking D) (answer : Result ℕ StoreError) : Type 0 where
     pub takes : Takes x y answer
     pub stuck : IfOk answer (λ n. n ≡ 0 → AllStuck device y)
 
@@ -77,6 +77,8 @@ module _ {D : Type 0} (device : D → Device) where
     -- the control is as it was, and the device wasn't called
     pub sequence : y.store.known.committed.sequence ≡ x.store.known.committed.sequence
     pub uncalled : device y.store.disk ≡ device x.store.disk
+    -- A store that has failed stays as it is, and nothing is applied.
+    pub still : x.store.known.has_failed ≡ true → (n ≡ 0) × (y.store ≡ x.store)
 
   -- The rings are looked at, at most so often, and each time the lanes go on until none can.
   pub record DrainsRings (looks : ℕ) (x y : Taking D) (answer : Result ℕ StoreError) : Type 0 where

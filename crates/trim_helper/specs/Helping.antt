@@ -3,7 +3,6 @@ use Rattle.std.specs.Prelude.{ℕ, ◌≡◌, ◌+◌, ◌<◌, ◌≤◌, List,
 use Rattle.heap_model.specs.declared.event.Event.{Event}
 use Rattle.heap_model.specs.History.{state_after}
 use Rattle.heap_model.specs.Setting.{Setting}
-use Rattle.heap_model.specs.State.{State}
 use Rattle.block_disk.specs.Device.{Device}
 use Rattle.durable.specs.Store as stores
 use Rattle.durable.specs.Store.{HasPast}
@@ -12,7 +11,8 @@ use Rattle.monitor.specs.declared.view.Post.TheVariants.{Stable, Trimmed}
 use Rattle.monitor.specs.declared.view.Part as raw
 use Rattle.monitor.specs.Posts.{known_post}
 use Rattle.monitor.specs.Views.{GoesOn, noted}
-use Rattle.monitor.specs.Words.{setting_of}
+use Rattle.monitor.specs.Rule.{Spelled}
+use Rattle.monitor.specs.Words.{fields, setting_of, spread}
 use Rattle.monitor.specs.Seats.{Home, Helping, Final, IsHelperOf, final_value}
 use Rattle.store_past.specs.Past.{Past}
 use Rattle.trim_helper.specs.Counts.{WasCount}
@@ -61,10 +61,6 @@ module _ {D : Type 0} (device : D → Device) where
 abbrev pub HaveRead : Helping → Type 0
 HaveRead h = (x : Part) → Among (taken_in h) x → (x.count ≤ count_published h x.lane) × (x.place ≤ place_published h x.lane)
 
--- the words at the end spell the state
-abbrev pub Spells : Final → State → Type 0
-Spells w s = (f : ℕ) → f < w.fields → final_value w f ≡ s.value f
-
 -- each count of sections that a lane which it took in has read, it had published
 abbrev pub HavePublished : Helping → Type 0
 HavePublished h = (x : Part) → Among (taken_in h) x → WasCount h x.lane x.count
@@ -75,4 +71,5 @@ pub record TellsHistory (k : Plan) (h : Helping) (w : Final) : Type 0 where
   pub history : List (ℕ × Event)
   pub one : IsOneHistory (setting_of k) k.lanes (taken_in h) history
   pub later : GoesOn history h.view.history
-  pub spelled : Spells w (state_after (setting_of k) history)
+  pub spelled : Spelled k (spread k w.words) (state_after (setting_of k) history)
+  pub values : (f : ℕ) → f < fields k → final_value w f ≡ (state_after (setting_of k) history).value f

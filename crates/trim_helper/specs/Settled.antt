@@ -35,6 +35,15 @@ pub record IsSettled (s : Setting) (p : Past) : Type 0 where
   pub clean : (f : ℕ) → f < s.fields → p.is_dirty f ≡ false
   pub stable : IsStable (actions (applied p)) p.cut
 
+-- What was applied is durable, so that it may be published, where a store of this past runs.
+pub record IsDurable (x : Known) (s : Setting) (p : Past) : Type 0 where
+  -- The store hasn't failed.
+  pub running : x.has_failed ≡ false
+  -- All that was applied is logged and at home, and its stable cut is acknowledged.
+  pub settled : IsSettled s p
+  -- All that is acknowledged is trimmed.
+  pub trimmed : IsTrimmed p
+
 -- why a helper stops
 abbrev pub IsStop : StoreError → Type 0
 IsStop e = (e ≡ Failed) ⊎ ((e ≡ Worn) ⊎ (e ≡ Fault))
@@ -76,6 +85,10 @@ module _ {D : Type 0} (device : D → Device) where
 
   abbrev pub SettlesAndTrimsApplied : (x y : stores.Parts D) → Result (Unit {0}) StoreError → Type 0
   SettlesAndTrimsApplied x y answer = (s : Setting) (p : Past) → HasPast x.known s p (device x.disk) → SettlesAndTrims s p x.known (device x.disk) y.known (device y.disk) answer
+
+  -- A store that has failed stays as it is, and so does its device.
+  abbrev pub StaysFailed : (x y : stores.Parts D) → Type 0
+  StaysFailed x y = (s : Setting) (p : Past) → HasPast x.known s p (device x.disk) → x.known.has_failed ≡ true → y ≡ x
 
 -- the field's value once all is at home: a persistent one's last, and a transient one's first
 abbrev pub closed_value : Setting → (value : ℕ → ℕ) → (field : ℕ) → ℕ

@@ -1,5 +1,5 @@
 -- What takes records from the rings: what it has taken, and what became of it.
-use Rattle.std.specs.Prelude.{ℕ, ◌≡◌, ◌≢◌, ◌+◌, ◌<◌, List, [], ◌++◌, length, Option, MatchOption}
+use Rattle.std.specs.Prelude.{ℕ, ◌≡◌, ◌≢◌, ◌+◌, ◌<◌, true, List, [], ◌++◌, length, Option, MatchOption}
 use Rattle.lane_rings.specs.Rings.{Receiving}
 use Rattle.heap_model.specs.declared.record.Record.{Record}
 use Rattle.heap_model.specs.Setting.{Setting}
@@ -62,6 +62,8 @@ module _ {D : Type 0} (device : D → Device) where
     -- the control is as it was, and the device wasn't called
     pub sequence : y.store.known.committed.sequence ≡ x.store.known.committed.sequence
     pub uncalled : device y.store.disk ≡ device x.store.disk
+    -- A store that has failed stays as it is, and nothing is applied.
+    pub still : x.store.known.has_failed ≡ true → (n ≡ 0) × (y.store ≡ x.store)
 
   -- whatever past the store has, the lane doesn't go on
   abbrev pub IsStuckAt : Taking D → (lane : ℕ) → Type 0

@@ -2,7 +2,7 @@
 ghost use Rattle.std.specs.Prelude.{◌≡◌, ◌<◌, ◌≤◌, [], ℕ, ◌⊎◌, MatchOption, MatchResult, length};
 ghost use Rattle.store_past.specs.Past.{Past};
 ghost use Rattle.monitor.specs.Words.{setting_of};
-ghost use Rattle.trim_helper.specs.Calls.{Closes, Finishes};
+ghost use Rattle.trim_helper.specs.Calls.{Closes, Finishes, StaysFailedTaking};
 ghost use Rattle.trim_helper.specs.Helping.{IsHelper, taken_in};
 ghost use Rattle.trim_helper.specs.Endings.{AreEnded, HasOpen, HoldNone, IsComplete, RefusesEnded, count_lane};
 ghost use Rattle.trim_helper.specs.Moves.{most_room};
@@ -100,7 +100,8 @@ fn finish<D: Disk>(
     requires none { HoldNone ended.items }
     requires complete { IsComplete store.old.known.layout.lanes ended.items }
     requires nothing { taken_in seat ≡ [] }
-    ensures { Finishes D.device shared seat ended.items (with_rings store.old rings.old waiting.old) (D.device store.new.disk) result }
+    ensures finishes { Finishes D.device shared seat ended.items (with_rings store.old rings.old waiting.old) (D.device store.new.disk) result }
+    ensures still { StaysFailedTaking D.device (with_rings store.old rings.old waiting.old) store.new }
 {
     log_law();
     own_log_law();

@@ -2,11 +2,11 @@
 ghost use Rattle.std.specs.Prelude.{◌≡◌, ◌<◌, ◌≤◌, length};
 ghost use Rattle.heap_model.specs.declared.limits.TheConstants.{RING_RECORDS};
 ghost use Rattle.trim_helper.specs.declared.draining.TheConstants.{LOOKS};
-ghost use Rattle.trim_helper.specs.Draining.{DrainsRings, Empties, GoesOn, RunsOn, Turns};
+ghost use Rattle.trim_helper.specs.Draining.{DrainsRings, Empties, AppliesNext, AppliesLane, AppliesLanes};
 ghost use Rattle.trim_helper.specs.Moves.{most_room};
 ghost use Rattle.trim_helper.specs.Taken.{with_rings};
 
-use crate::rings::{fetch, let_go, look};
+use crate::rings::{clear_waiting, fetch, look};
 use block_disk::Disk;
 use durable::{Store, StoreError};
 use heap_model::{Lane, RING_RECORDS, Record};
@@ -17,7 +17,7 @@ use lane_rings::Receiver;
 pub const LOOKS: usize = 16;
 
 /// Applies the lane's next record, if one is known and it is next. Answers whether it did.
-pub fn go_on<D: Disk>(
+pub fn apply_next<D: Disk>(
     store: &mut Store<D>,
     rings: &mut [Receiver],
     waiting: &mut [Option<Record>],
@@ -26,7 +26,7 @@ pub fn go_on<D: Disk>(
     requires ring { lane < length rings.old }
     requires slot { lane < length waiting.old }
     requires few { lane < 32 }
-    ensures { GoesOn D.device lane (with_rings store.old rings.old waiting.old) (with_rings store.new rings.new waiting.new) result }
+    ensures { AppliesNext D.device lane (with_rings store.old rings.old waiting.old) (with_rings store.new rings.new waiting.new) result }
 {
     fetch(rings, waiting, lane);
     let Some(next) = waiting[lane] else {
@@ -34,18 +34,20 @@ pub fn go_on<D: Disk>(
     };
     match store.apply(Lane(lane as u8), next) {
         Ok(()) => {
-            let_go(waiting, lane);
+            clear_waiting(waiting, lane);
             Ok(true)
         }
         Err(reason) => match reason {
             StoreError::Failed => Err(reason),
+            // The store runs, and refuses this record: as not next, for want of room, or at an end of numbers. It waits for the next
+            // drain, and the other lanes go on.
             _ => Ok(false),
         },
     }
 }
 
-/// Lets the lane go on as long as it can, and answers by how many records it did.
-pub fn run_on<D: Disk>(
+/// Applies the lane's records as long as the next one can be, and answers how many it applied.
+pub fn apply_lane<D: Disk>(
     store: &mut Store<D>,
     rings: &mut [Receiver],
     waiting: &mut [Option<Record>],
@@ -55,11 +57,11 @@ pub fn run_on<D: Disk>(
     requires slots { length waiting.old ≡ 32 }
     requires few { length rings.old ≤ 32 }
     requires room { most_room rings.old ≤ RING_RECORDS }
-    ensures { RunsOn D.device lane (with_rings store.old rings.old waiting.old) (with_rings store.new rings.new waiting.new) result }
+    ensures { AppliesLane D.device lane (with_rings store.old rings.old waiting.old) (with_rings store.new rings.new waiting.new) result }
 {
     let mut count = 0u64;
     'records: loop {
-        match go_on(store, rings, waiting, lane) {
+        match apply_next(store, rings, waiting, lane) {
             Ok(gone) => {
                 if !gone {
                     return Ok(count);
@@ -71,8 +73,8 @@ pub fn run_on<D: Disk>(
     }
 }
 
-/// Lets each lane go on as long as it can, in turn. Answers by how many records they did.
-pub fn turn<D: Disk>(
+/// Applies each lane's records in turn, as long as the next one can be. Answers how many it applied.
+pub fn apply_lanes<D: Disk>(
     store: &mut Store<D>,
     rings: &mut [Receiver],
     waiting: &mut [Option<Record>],
@@ -80,11 +82,11 @@ pub fn turn<D: Disk>(
     requires slots { length waiting.old ≡ 32 }
     requires few { length rings.old ≤ 32 }
     requires room { most_room rings.old ≤ RING_RECORDS }
-    ensures { Turns D.device (with_rings store.old rings.old waiting.old) (with_rings store.new rings.new waiting.new) result }
+    ensures { AppliesLanes D.device (with_rings store.old rings.old waiting.old) (with_rings store.new rings.new waiting.new) result }
 {
     let mut went = 0u64;
     for lane in 0..rings.len() {
-        match run_on(store, rings, waiting, lane) {
+        match apply_lane(store, rings, waiting, lane) {
             Ok(gone) => went += gone,
             Err(reason) => return Err(reason),
         }
@@ -109,7 +111,7 @@ pub fn drain_known<D: Disk>(
     own_log_law();
     let mut count = 0u64;
     'turns: loop {
-        match turn(store, rings, waiting) {
+        match apply_lanes(store, rings, waiting) {
             Ok(went) => {
                 if went == 0 {
                     return Ok(count);

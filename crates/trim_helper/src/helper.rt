@@ -1,11 +1,12 @@
 //! The helper.
-ghost use Rattle.std.specs.Prelude.{◌≡◌, ◌<◌, ◌≤◌, [], ℕ, true, false, vec_len};
+ghost use Rattle.std.specs.Prelude.{◌≡◌, ◌<◌, ◌≤◌, [], ℕ, true, false, vec_len, OnOk};
 ghost use Rattle.durable.specs.Store.{HasPast};
 ghost use Rattle.heap_model.specs.Setting.{Setting};
 ghost use Rattle.monitor.specs.Views.{GoesOn};
 ghost use Rattle.store_past.specs.Past.{Past, no_past};
-ghost use Rattle.trim_helper.specs.Calls.{Drains, HasGoneOn, Rounds};
+ghost use Rattle.trim_helper.specs.Calls.{Drains, HasGoneOn, MayBePublished, Publishes, Rounds, SettlesAll};
 ghost use Rattle.trim_helper.specs.Heard.{HasSeen, Hears};
+ghost use Rattle.trim_helper.specs.Hearing.{IsNoted};
 ghost use Rattle.trim_helper.specs.Helping.{IsHelper};
 ghost use Rattle.trim_helper.specs.Moves.{most_room};
 ghost use Rattle.trim_helper.specs.Parts.{IsServing};
@@ -112,16 +113,21 @@ impl<D: Disk> Helper<D> {
         catch_up(shared, &mut self.rings, &mut self.seat);
     }
 
-    /// Drains the rings, hears what they tell of the one history, logs what was applied, writes it home, acknowledges its stable cut, forgets what is acknowledged, and
-    /// then publishes both. So each lane has its area but for the records that aren't acknowledged. It answers how many records
-    /// it applied. With nothing applied since the last round that answered Ok, or since the opening, it makes no device call, and isn't refused.
+    /// The first half of a round. It drains the rings, hears what they tell of the one history, logs what was applied, writes it home,
+    /// acknowledges its stable cut and forgets what is acknowledged, so that each lane has its area but for the records that aren't
+    /// acknowledged. It publishes nothing. It answers how many records it applied. With nothing applied since the last round that
+    /// answered Ok, or since the opening, it makes no device call, and isn't refused.
     ///
     /// Refusals: `Failed`; `Worn`: a control must be written, and its sequence is at its last value; `Fault`: a call of the device
-    /// failed now. What was done before one stands, and nothing is published.
-    pub fn round(&mut self, shared: &Shared) -> Result<u64, StoreError>
+    /// failed now. What was done before one stands.
+    pub fn settle(&mut self, shared: &Shared) -> Result<u64, StoreError>
         requires seat { IsHelper shared.now self.old.seat }
         requires lanes { shared.now.plan.lanes ≡ self.old.store.known.layout.lanes }
-        ensures rounds { (s : Setting) (p : Past) → IsServing D.device self.old s p → Rounds D.device s p self.old self.new result }
+        ensures settles { (s : Setting) (p : Past) → IsServing D.device self.old s p → SettlesAll D.device s p self.old self.new result }
+        // After Ok, what is acknowledged may be published.
+        ensures ready { OnOk result (MayBePublished D.device self.new) }
+        // Settling publishes nothing: what the sessions may have read is what was published before.
+        ensures noted { IsNoted self.old.seat self.new.seat }
         ensures goes_on { HasGoneOn shared.now self.old self.new }
         // What is applied, the helper has seen: it hears the rings before anything of it is logged.
         ensures seen { self.old.store.known.has_failed ≡ false → HasSeen shared.now self.new }
@@ -138,9 +144,47 @@ impl<D: Disk> Helper<D> {
         if let Err(reason) = settle_and_trim(&mut self.store) {
             return Err(reason);
         }
+        Ok(count)
+    }
+
+    /// The second half of a round: publishes by lane what is acknowledged and trimmed. It makes no call of the device. It may follow a
+    /// [`settle`](Helper::settle) that answered Ok, with nothing between.
+    pub fn publish(&mut self, shared: &Shared)
+        requires seat { IsHelper shared.now self.old.seat }
+        requires lanes { shared.now.plan.lanes ≡ self.old.store.known.layout.lanes }
+        requires durable { MayBePublished D.device self.old }
+        // Publishing changes neither the store nor its device: what a session reads meanwhile is durable already.
+        ensures { Publishes D.device shared.now self.old self.new }
+    {
+        if self.is_settled {
+            return;
+        }
         publish_all(&self.store, shared, &mut self.seat);
         self.is_settled = true;
-        Ok(count)
+    }
+
+    /// A round: [`settle`](Helper::settle), and then, if that answered Ok, [`publish`](Helper::publish). It answers how many records it
+    /// applied. With nothing applied since the last round that answered Ok, or since the opening, it makes no device call, and isn't
+    /// refused.
+    ///
+    /// Refusals: `Failed`; `Worn`: a control must be written, and its sequence is at its last value; `Fault`: a call of the device
+    /// failed now. What was done before one stands, and nothing is published.
+    pub fn round(&mut self, shared: &Shared) -> Result<u64, StoreError>
+        requires seat { IsHelper shared.now self.old.seat }
+        requires lanes { shared.now.plan.lanes ≡ self.old.store.known.layout.lanes }
+        ensures rounds { (s : Setting) (p : Past) → IsServing D.device self.old s p → Rounds D.device s p self.old self.new result }
+        ensures goes_on { HasGoneOn shared.now self.old self.new }
+        // What is applied, the helper has seen: it hears the rings before anything of it is logged.
+        ensures seen { self.old.store.known.has_failed ≡ false → HasSeen shared.now self.new }
+        ensures later { GoesOn self.new.seat.view.history self.old.seat.view.history }
+    {
+        match self.settle(shared) {
+            Ok(count) => {
+                self.publish(shared);
+                Ok(count)
+            }
+            Err(reason) => Err(reason),
+        }
     }
 
     /// Its store, as it is. What waits and what is in the rings is dropped.

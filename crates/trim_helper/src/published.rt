@@ -1,6 +1,7 @@
 //! The shared words, as the helper uses them.
 ghost use Rattle.std.specs.Prelude.{◌≡◌, ◌==◌, ◌<◌, ◌≤◌, ◌⊎◌, ◌∷◌, ℕ, if◌then◌else◌};
 ghost use Rattle.monitor.specs.Seats.{IsSeatOf};
+ghost use Rattle.monitor.specs.Views.{GoesOn};
 ghost use Rattle.trim_helper.specs.Counts.{AddsCounts, WasCount};
 ghost use Rattle.trim_helper.specs.Endings.{part_at};
 ghost use Rattle.trim_helper.specs.Helping.{HasPublished, HavePublished, HaveRead, IsHelper, MayPublish, TellsHistory, count_published, place_published, taken_in};
@@ -18,6 +19,7 @@ pub fn publish_all<D: Disk>(store: &Store<D>, shared: &Shared, seat: &mut Helper
     requires rises { MayPublish D.device store.now seat.old }
     ensures published { HasPublished D.device store.now seat.new }
     ensures counts { AddsCounts D.device store.now seat.old seat.new }
+    ensures notes { GoesOn seat.new.view.notes seat.old.view.notes }
     ensures seat { IsHelper shared.now seat.new }
     ensures gathered { taken_in seat.new ≡ taken_in seat.old }
     ensures sight { SameSight seat.old seat.new }
@@ -41,6 +43,7 @@ fn publish(shared: &Shared, seat: &mut HelperSeat, lane: Lane, acknowledged: u64
     ensures count { (l : ℕ) → l < 32 → count_published seat.new l ≡ (if lane.0 == l then acknowledged else count_published seat.old l) }
     ensures place { (l : ℕ) → l < 32 → place_published seat.new l ≡ (if lane.0 == l then trimmed else place_published seat.old l) }
     ensures counts { (l n : ℕ) → l < 32 → WasCount seat.new l n → WasCount seat.old l n ⊎ ((lane.0 ≡ l) × (n ≡ acknowledged)) }
+    ensures notes { GoesOn seat.new.view.notes seat.old.view.notes }
     ensures gathered { taken_in seat.new ≡ taken_in seat.old }
     ensures sight { SameSight seat.old seat.new }
 {
@@ -61,8 +64,8 @@ pub fn gather(shared: &Shared, helper: &mut HelperSeat, seat: Seat)
     shared.gather(helper, seat);
 }
 
-/// Nobody goes on: one legal history has the lanes that were taken in as its parts and goes on from what the helper had seen, the words
-/// spell its state, and nobody read more than was published, nor a count that wasn't.
+/// Nobody goes on: one legal history has the lanes that were taken in as its parts and goes on from what the helper had seen, lock words,
+/// fat words, masks and fields spell its state, and nobody read more than was published, nor a count that wasn't.
 pub fn close(shared: Shared, helper: HelperSeat) -> Finals
     requires helper { IsHelper shared helper }
     ensures history { TellsHistory shared.plan helper result }

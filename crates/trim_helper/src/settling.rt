@@ -3,7 +3,7 @@ ghost use Rattle.std.specs.Prelude.{◌≡◌, OnOk, false};
 ghost use Rattle.block_disk.specs.Device.{HasCause};
 ghost use Rattle.store_past.specs.declared.error.StoreError.TheVariants.{Fault};
 ghost use Rattle.durable.specs.Runs.{TakesSequences};
-ghost use Rattle.trim_helper.specs.Settled.{SettlesAndTrimsApplied, SettlesApplied, WritesHome};
+ghost use Rattle.trim_helper.specs.Settled.{SettlesAndTrimsApplied, SettlesApplied, StaysFailed, WritesHome};
 
 use block_disk::Disk;
 use cut_laws::{stable_law, stay_law};
@@ -31,6 +31,7 @@ fn write_home<D: Disk>(store: &mut Store<D>) -> Result<(), StoreError>
 /// Logs what was applied, writes it home, and acknowledges its stable cut.
 pub fn settle_applied<D: Disk>(store: &mut Store<D>) -> Result<(), StoreError>
     ensures settles { SettlesApplied D.device store.old store.new result }
+    ensures still { StaysFailed D.device store.old store.new }
     ensures running { OnOk result (store.new.known.has_failed ≡ false) }
     ensures cause { HasCause (D.device store.old.disk).failures (D.device store.new.disk).failures Fault result }
     ensures takes { TakesSequences 2 store.old.known (D.device store.old.disk) store.new.known (D.device store.new.disk) }
@@ -51,6 +52,7 @@ pub fn settle_applied<D: Disk>(store: &mut Store<D>) -> Result<(), StoreError>
 /// syncs.
 pub fn settle_and_trim<D: Disk>(store: &mut Store<D>) -> Result<(), StoreError>
     ensures settles { SettlesAndTrimsApplied D.device store.old store.new result }
+    ensures still { StaysFailed D.device store.old store.new }
     ensures running { OnOk result (store.new.known.has_failed ≡ false) }
     ensures cause { HasCause (D.device store.old.disk).failures (D.device store.new.disk).failures Fault result }
     ensures takes { TakesSequences 2 store.old.known (D.device store.old.disk) store.new.known (D.device store.new.disk) }

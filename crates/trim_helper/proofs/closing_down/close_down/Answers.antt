@@ -1,4 +1,4 @@
-use Rattle.std.proofs.Common.{◌≡◌, ◌+◌, ◌≤◌, [], Err, Ok, ap, sym, subst}
+use Rattle.std.proofs.Common.{◌≡◌, ◌+◌, ◌≤◌, ◌∙◌, [], Err, Ok, ap, sym, subst}
 use Rattle.block_disk.specs.Images.{LeavesOnly}
 use Rattle.block_disk.proofs.Images.{begin}
 use Rattle.monitor.specs.Words.{setting_of}
@@ -43,14 +43,15 @@ returns-in-Ok g c = record {
       let has = subst (λ v. IsServing g.D.Disk.device v s p) (sym c.helper.view_is) serving in
       let lanes = ap (λ l. l.lanes) c.layout-lanes.ensures in
       let taken = subst (λ rings. HasTaken g.D.Disk.device (with_rings x.store rings x.waiting) s p) (sym c.deref_mut.ensures.value) has.taken in
-      let finished = c.in-Ok.ensures p taken in
+      let finished = c.in-Ok.ensures.finishes p taken in
       let disk = c.into_disk-in-Ok.ensures.disk in
       subst (λ v. Closes g.D.Disk.device c.args.shared c.args.ended.items p v (Ok c.into_disk-in-Ok.result)) c.helper.view_is (record {
-        ok = subst (λ d. IsClosedDown s c.args.shared.plan.lanes x.store.known.layout (parts_of c.args.ended.items) p x.seat (g.D.Disk.device x.store.disk) (g.D.Disk.device d)) (sym disk) (finished.ok (λ l lt. (has.counts l lt, has.places l lt)) has.stand).closed;
+        ok = subst (λ d. IsClosedDown c.args.shared.plan x.store.known.layout (parts_of c.args.ended.items) p x.seat (g.D.Disk.device x.store.disk) (g.D.Disk.device d)) (sym disk) (finished.ok (λ l lt. (has.counts l lt, has.places l lt)) has.stand).closed;
         refused = (subst HoldNone c.deref.ensures.value c.in_default.ensures.0, subst (λ n. IsComplete n c.args.ended.items) lanes (subst (λ es. IsComplete c.layout-lanes.result.lanes es) c.deref.ensures.value c.in_default.ensures.1));
         failed = λ off none complete. absurd (let no = finished.failed off in cc);
         why = tt;
         untouched = tt;
+        still = λ off. absurd (let no = finished.failed off in cc);
         stood = subst (λ d. Stood x.store.known.layout s p c.args.ended.items (g.D.Disk.device x.store.disk) (g.D.Disk.device d)) (sym disk) finished.stood;
         later = subst (λ d. (g.D.Disk.device x.store.disk).failures ≤ (g.D.Disk.device d).failures) (sym disk) finished.later;
         shown = subst (λ d. LeavesOnly (g.D.Disk.device x.store.disk) (g.D.Disk.device d) (ShowsUpTo x.store.known.layout (x.store.known.committed.sequence + 2))) (sym disk) finished.shown;
@@ -66,7 +67,7 @@ returns-in-Err-finished g c = record {
       let has = subst (λ v. IsServing g.D.Disk.device v s p) (sym c.helper.view_is) serving in
       let lanes = ap (λ l. l.lanes) c.layout-lanes.ensures in
       let taken = subst (λ rings. HasTaken g.D.Disk.device (with_rings x.store rings x.waiting) s p) (sym c.deref_mut.ensures.value) has.taken in
-      let finished = c.in-Err-finished.ensures p taken in
+      let finished = c.in-Err-finished.ensures.finishes p taken in
       let disk = c.into_disk-in-Err-finished.ensures.disk in
       subst (λ v. Closes g.D.Disk.device c.args.shared c.args.ended.items p v (Err (c.into_disk-in-Err-finished.result, c.in-Err-finished.reason))) c.helper.view_is (record {
         ok = tt;
@@ -76,6 +77,7 @@ returns-in-Err-finished g c = record {
         failed = λ off none complete. let is = finished.failed off in let same : Err c.in-Err-finished.reason ≡ Err CloseFailed = is in cc;
         why = subst (λ d. IsCloseWhy x.store.known (g.D.Disk.device x.store.disk) (g.D.Disk.device d) c.in-Err-finished.reason) (sym disk) finished.why;
         untouched = λ is. absurd (not_sessions c.in-Err-finished.reason finished.stop is);
+        still = λ off. disk ∙ ap (λ z. z.disk) (c.in-Err-finished.ensures.still s p taken off);
         stood = subst (λ d. Stood x.store.known.layout s p c.args.ended.items (g.D.Disk.device x.store.disk) (g.D.Disk.device d)) (sym disk) finished.stood;
         later = tt;
         shown = subst (λ d. LeavesOnly (g.D.Disk.device x.store.disk) (g.D.Disk.device d) (ShowsUpTo x.store.known.layout (x.store.known.committed.sequence + 2))) (sym disk) finished.shown;
@@ -98,6 +100,7 @@ returns-in-Err g c = record {
         failed = λ off none complete. absurd (never_refused x.store.known.layout.lanes c.args.ended.items c.in-Err.reason told none complete);
         why = never_why x.store.known.layout.lanes c.args.ended.items _ _ _ c.in-Err.reason told;
         untouched = λ is. c.into_disk.ensures.disk;
+        still = λ off. c.into_disk.ensures.disk;
         stood = stood_still _ s p c.args.ended.items _ _ has.taken.has.past.legal (λ none complete. absurd (never_refused x.store.known.layout.lanes c.args.ended.items c.in-Err.reason told none complete)) (ap g.D.Disk.device c.into_disk.ensures.disk);
         later = tt;
         shown = subst (λ d. LeavesOnly (g.D.Disk.device x.store.disk) (g.D.Disk.device d) (ShowsUpTo x.store.known.layout (x.store.known.committed.sequence + 2))) (sym c.into_disk.ensures.disk)

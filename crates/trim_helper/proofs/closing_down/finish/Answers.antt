@@ -22,8 +22,8 @@ use Rattle.trim_helper.proofs.Closing.{all_applied, all_free, has_spelled, same_
 use Rattle.store_past.specs.declared.error.StoreError.TheVariants.{Failed as StoreFailed}
 use Rattle.trim_helper.proofs.closing_down.finish.Goals as goal
 
-pub returns : goal.returns
-returns g c = λ p has.
+pub returns-clause-finishes : goal.returns-clause-finishes
+returns-clause-finishes g c = λ p has.
     let s = setting_of c.args.shared.plan in
     let layout = c.layout-layout.ensures in
     let lanes : c.args.shared.plan.lanes ≡ c.args.store.now.known.layout.lanes = c.requires.lanes in
@@ -53,9 +53,9 @@ returns g c = λ p has.
           let since = g.D.Disk.device c.args.store.now.disk in
           let device = g.D.Disk.device w.disk in
           let ran = settled_then _ w.known.layout s p now since _ device every.0 w.known.has_failed c.in_default-settle_applied.ensures.running on.uncalled every.1.has.past c.settle_applied.ensures.layout settled.same.ran in
-          subst (λ parts. HasSpelled s c.args.shared.plan.lanes c.args.store.now.known.layout parts p seat since device c.close-words.result) c.meet.ensures.gathered
-          (subst (λ l. HasSpelled s c.args.shared.plan.lanes l (taken_in c.meet.new.seat) p seat since device c.close-words.result) (c.settle_applied.ensures.layout ∙ on.layout)
-          (has_spelled s c.args.shared.plan.lanes (taken_in c.meet.new.seat) history.history history.one c.log_law.ensures c.order_law.ensures c.all_kept_law.ensures c.stable_law.ensures.one c.unlogged_law.ensures c.close-words.result history.spelled p
+          subst (λ parts. HasSpelled c.args.shared.plan c.args.store.now.known.layout parts p seat since device c.close-words.result) c.meet.ensures.gathered
+          (subst (λ l. HasSpelled c.args.shared.plan l (taken_in c.meet.new.seat) p seat since device c.close-words.result) (c.settle_applied.ensures.layout ∙ on.layout)
+          (has_spelled c.args.shared.plan (taken_in c.meet.new.seat) history.history history.one c.log_law.ensures c.order_law.ensures c.all_kept_law.ensures c.stable_law.ensures.one c.unlogged_law.ensures c.close-words.result history.spelled history.values p
           (λ x among lt. let counts = c.meet.ensures.count x.lane in omega (arith, (c.close-words.ensures.read x among).0, (places x.lane (omega arith)).0))
           (λ x among lt. let place = c.meet.ensures.place x.lane in omega (arith, (c.close-words.ensures.read x among).1, (places x.lane (omega arith)).1))
           seat (subst (λ (seen : List (ℕ × Event)). GoesOn history.history seen) c.meet.ensures.sight.history history.later) (λ x among lt. read x among)
@@ -72,8 +72,8 @@ returns g c = λ p has.
       shown = (takes_then 0 2 c.args.store.now.known y.store.known w.known _ _ _ on.layout (takes_none c.args.store.now.known y.store.known _ _ on.sequence on.uncalled) c.settle_applied.ensures.takes).shown;
     }
 
-pub returns-in-Err : goal.returns-in-Err
-returns-in-Err g c = λ p has.
+pub returns-in-Err-clause-finishes : goal.returns-in-Err-clause-finishes
+returns-in-Err-clause-finishes g c = λ p has.
     let s = setting_of c.args.shared.plan in
     let x = with_rings c.args.store.now c.args.rings.now c.args.waiting.now in
     let taken = looks_taken g.D.Disk.device x c.meet.new.rings s p c.meet.ensures.looks has in
@@ -90,8 +90,8 @@ returns-in-Err g c = λ p has.
       shown = (takes_more 0 2 c.args.store.now.known _ _ _ (omega arith) (takes_none c.args.store.now.known c.drain_known.new.store.known _ _ takes.kept.1.sequence takes.kept.1.uncalled)).shown;
     }
 
-pub returns-in-Err-settle_applied : goal.returns-in-Err-settle_applied
-returns-in-Err-settle_applied g c = λ p has.
+pub returns-in-Err-settle_applied-clause-finishes : goal.returns-in-Err-settle_applied-clause-finishes
+returns-in-Err-settle_applied-clause-finishes g c = λ p has.
     let s = setting_of c.args.shared.plan in
     let x = with_rings c.args.store.now c.args.rings.now c.args.waiting.now in
     let met = with_rings c.args.store.now c.meet.new.rings c.args.waiting.now in
@@ -116,3 +116,20 @@ returns-in-Err-settle_applied g c = λ p has.
       later = tt;
       shown = took.shown;
     }
+
+pub returns-clause-still : goal.returns-clause-still
+returns-clause-still g c = λ s p taken off.
+    let x = with_rings c.args.store.now c.args.rings.now c.args.waiting.now in
+    let on = c.in_default.ensures.takes.ok in
+    let made = on.made s p (looks_taken g.D.Disk.device x c.meet.new.rings s p c.meet.ensures.looks taken) in
+    absurd (let no = (c.in_default-settle_applied.ensures.settles s (applied_more made.0 p) made.2.has).failed (on.running ∙ off) in cc)
+
+pub returns-in-Err-clause-still : goal.returns-in-Err-clause-still
+returns-in-Err-clause-still g c = λ s p taken off. (c.in-Err.ensures.takes.kept.1.still off).1
+
+pub returns-in-Err-settle_applied-clause-still : goal.returns-in-Err-settle_applied-clause-still
+returns-in-Err-settle_applied-clause-still g c = λ s p taken off.
+    let x = with_rings c.args.store.now c.args.rings.now c.args.waiting.now in
+    let on = c.in_default.ensures.takes.ok in
+    let made = on.made s p (looks_taken g.D.Disk.device x c.meet.new.rings s p c.meet.ensures.looks taken) in
+    c.settle_applied.ensures.still s (applied_more made.0 p) made.2.has (on.running ∙ off) ∙ (on.still off).1

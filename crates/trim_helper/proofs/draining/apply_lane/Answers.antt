@@ -1,6 +1,6 @@
 use Rattle.std.proofs.Common.{refl, arith}
 use Rattle.trim_helper.proofs.Advancing.{advances_by_one, advances_start, count_one_more, goes_less, runs_done, runs_failed}
-use Rattle.trim_helper.proofs.draining.run_on.Goals as goal
+use Rattle.trim_helper.proofs.draining.apply_lane.Goals as goal
 
 pub records-init : goal.records-init
 records-init g c = record { advances = advances_start g.D.Disk.device _; still = λ none. refl }

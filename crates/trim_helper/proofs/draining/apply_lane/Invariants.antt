@@ -1,7 +1,7 @@
 use Rattle.std.proofs.Common.{◌+◌, ◌≡◌}
 use Rattle.trim_helper.specs.Moves.{known_sum, held_sum}
 use Rattle.trim_helper.specs.Taken.{Advances, with_rings}
-use Rattle.trim_helper.proofs.draining.run_on.Given as goal
+use Rattle.trim_helper.proofs.draining.apply_lane.Given as goal
 
 abbrev pub invariant-records : goal.invariant-records
 invariant-records g l = record {

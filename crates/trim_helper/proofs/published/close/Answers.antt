@@ -1,4 +1,3 @@
-use Rattle.std.proofs.Common.{◌<◌, subst}
 use Rattle.trim_helper.proofs.Counting.{have_published}
 use Rattle.trim_helper.proofs.SeatLemmas.{one_history, read_low}
 use Rattle.trim_helper.proofs.published.close.Goals as goal
@@ -6,10 +5,11 @@ use Rattle.trim_helper.proofs.published.close.Goals as goal
 pub returns-clause-history : goal.returns-clause-history
 returns-clause-history c = let e = c.close.ensures.ended in let h = c.requires.helper in
     record {
-      history = e.0;
+      history = e.history;
       one = one_history c.args.shared.plan c.args.helper _ e h.all;
-      later = e.6;
-      spelled = λ f low. e.5 f (subst (λ n. f < n) c.close.ensures.fields low);
+      later = e.later;
+      spelled = e.spelled;
+      values = e.values;
     }
 
 pub returns-clause-read : goal.returns-clause-read

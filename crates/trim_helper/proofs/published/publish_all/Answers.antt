@@ -1,12 +1,13 @@
-use Rattle.std.proofs.Common.{ℕ, ◌<◌, ◌+◌, ◌≢◌, ◌∙◌, refl, ap, inl, inr, arith}
+use Rattle.std.proofs.Common.{ℕ, [], ◌<◌, ◌+◌, ◌≢◌, ◌∙◌, refl, ap, inl, inr, arith}
 use Rattle.std.proofs.lemmas.Bool.Decides.{eqb_tells}
+use Rattle.monitor.proofs.Histories.{goes_back}
 use Rattle.trim_helper.specs.Taken.{trimmed_of}
 use Rattle.trim_helper.proofs.Rounds.{chosen, unchosen}
 use Rattle.trim_helper.proofs.Seeing.{sight_refl, sight_then}
 use Rattle.trim_helper.proofs.published.publish_all.Goals as goal
 
 pub loop-lane-init : goal.loop-lane-init
-loop-lane-init g c = record { seat = c.requires.seat; done = λ s p has k lt. absurd (omega arith); rest = λ k le lt. (refl, refl); counts = λ s p has k n lt was. inl was; gathered = refl; sight = sight_refl c.args.seat.now }
+loop-lane-init g c = record { seat = c.requires.seat; done = λ s p has k lt. absurd (omega arith); rest = λ k le lt. (refl, refl); counts = λ s p has k n lt was. inl was; notes = ([], refl); gathered = refl; sight = sight_refl c.args.seat.now }
 
 pub publish-requires-clause-seat : goal.publish-requires-clause-seat
 publish-requires-clause-seat g c = c.loop-lane.invariant.seat
@@ -57,6 +58,7 @@ loop-lane-preserved g c =
         | inl before ↦ c.loop-lane.invariant.counts s p has k n lt before
         | inr here ↦ inr (here.1 ∙ c.acknowledged-acknowledged.ensures s p has ∙ ap p.cut here.0)
       ];
+      notes = goes_back _ _ _ c.publish.ensures.notes c.loop-lane.invariant.notes;
       gathered = c.publish.ensures.gathered ∙ c.loop-lane.invariant.gathered;
       sight = sight_then _ _ _ c.loop-lane.invariant.sight c.publish.ensures.sight;
     }
@@ -75,3 +77,6 @@ returns-clause-gathered g c = c.loop-lane.invariant.gathered
 
 pub returns-clause-sight : goal.returns-clause-sight
 returns-clause-sight g c = c.loop-lane.invariant.sight
+
+pub returns-clause-notes : goal.returns-clause-notes
+returns-clause-notes g c = c.loop-lane.invariant.notes

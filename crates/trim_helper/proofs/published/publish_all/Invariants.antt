@@ -1,5 +1,6 @@
 use Rattle.std.proofs.Common.{ℕ, ◌≡◌, ◌<◌, ◌≤◌, ◌⊎◌}
 use Rattle.heap_model.specs.Setting.{Setting}
+use Rattle.monitor.specs.Views.{GoesOn}
 use Rattle.store_past.specs.Past.{Past}
 use Rattle.durable.specs.Store.{HasPast}
 use Rattle.trim_helper.specs.Counts.{WasCount}
@@ -14,6 +15,7 @@ invariant-loop-lane g l = record {
   done : (s : Setting) (p : Past) → HasPast l.store.known s p (g.D.Disk.device l.store.disk) → (k : ℕ) → k < l.lane → (count_published l.seat k ≡ p.cut k) × (place_published l.seat k ≡ trimmed_of p k);
   rest : (k : ℕ) → l.lane ≤ k → k < 32 → (count_published l.seat k ≡ count_published l.initial.seat k) × (place_published l.seat k ≡ place_published l.initial.seat k);
   counts : (s : Setting) (p : Past) → HasPast l.store.known s p (g.D.Disk.device l.store.disk) → (k n : ℕ) → k < 32 → WasCount l.seat k n → WasCount l.initial.seat k n ⊎ (n ≡ p.cut k);
+  notes : GoesOn l.seat.view.notes l.initial.seat.view.notes;
   gathered : taken_in l.seat ≡ taken_in l.initial.seat;
   sight : SameSight l.initial.seat l.seat;
 }

@@ -1,8 +1,8 @@
-use Rattle.std.proofs.Common.{◌∙◌, refl, arith}
+use Rattle.std.proofs.Common.{◌≡◌, ◌∙◌, false, true, refl, sym, arith}
 use Rattle.heap_model.specs.Sections.{actions}
 use Rattle.store_past.specs.Past.{IsTrimmed, applied, after_log, after_settle, after_trim}
 use Rattle.trim_helper.specs.Settled.{HasSame, IsSettled}
-use Rattle.trim_helper.proofs.Homes.{not_home, not_logged, passed_on, homes_then, refused_then, same_dirtied, dirtied, ok_weaker, settle_refused, trims_by}
+use Rattle.trim_helper.proofs.Homes.{log_still, not_home, not_logged, passed_on, homes_then, refused_then, same_dirtied, dirtied, ok_weaker, settle_refused, trims_by}
 use Rattle.trim_helper.proofs.Trims.{acknowledged_now}
 use Rattle.block_disk.proofs.Failures.{cause_since}
 use Rattle.durable.proofs.Running.{ran_both, ran_both_refused}
@@ -70,3 +70,12 @@ returns-clause-takes g c =
     takes_then 1 1 _ _ _ _ _ _ (c.write_home.ensures.layout ∙ c.log_at_once.ensures.writes.layout)
     (takes_then 1 0 _ _ _ _ _ _ c.log_at_once.ensures.writes.layout (record { known = c.log_at_once.ensures.writes.sequence; shown = c.log_at_once.ensures.writes.any_sequence }) c.write_home.ensures.takes)
     (record { known = c.settle_and_trim.ensures.writes.sequence; shown = c.settle_and_trim.ensures.writes.any_sequence })
+
+pub returns-in-Err-clause-still : goal.returns-in-Err-clause-still
+returns-in-Err-clause-still g c = λ s p has off. log_still c.args.store.now c.log_at_once.new.self p c.in-Err.reason (c.in-Err.ensures.answer s p has) c.in-Err.ensures.writes.refused off
+
+pub returns-in-Err-write_home-clause-still : goal.returns-in-Err-write_home-clause-still
+returns-in-Err-write_home-clause-still g c = λ s p has off. absurd (let no : false ≡ true = sym c.in_default.ensures.writes.running.0 ∙ off in cc)
+
+pub returns-clause-still : goal.returns-clause-still
+returns-clause-still g c = λ s p has off. absurd (let no : false ≡ true = sym c.in_default.ensures.writes.running.0 ∙ off in cc)

@@ -1,152 +1,25 @@
-use Rattle.std.proofs.Common.{◌≡◌, ◌∙◌, ◌++◌, [], Ok, Err, false, true, refl, sym, ap, subst, arith}
-use Rattle.store_past.specs.declared.error.StoreError.TheVariants.{Fault}
-use Rattle.monitor.specs.Seats.{Helping}
-use Rattle.trim_helper.specs.Calls.{Drains}
-use Rattle.trim_helper.specs.Heard.{HasSeen, Hears}
-use Rattle.trim_helper.proofs.Counting.{added_noted}
-use Rattle.trim_helper.proofs.HeardRings.{drained_parts, goes_on_heard, round_heard, rounds_heard, seen_still}
-use Rattle.trim_helper.proofs.Homes.{passed_on}
-use Rattle.trim_helper.proofs.Noting.{noted_same}
-use Rattle.trim_helper.proofs.RingMoves.{same_refl}
-use Rattle.trim_helper.proofs.Rounds.{goes_on_drained, parts_from, published_serves, rounds_done, rounds_failed, rounds_quiet, rounds_refused, same_serves, whole_still}
-use Rattle.trim_helper.proofs.Seeing.{sees_same}
+use Rattle.std.proofs.Common.{◌∙◌, sym, ap}
+use Rattle.trim_helper.proofs.HeardRings.{seen_still}
+use Rattle.trim_helper.proofs.Rounds.{goes_on_published, round_published, round_refused}
 use Rattle.trim_helper.proofs.helper.Helper.round.Goals as goal
 
--- nothing was heard
 pub returns-in-Err-clause-rounds : goal.returns-in-Err-clause-rounds
-returns-in-Err-clause-rounds g c = λ s p serving. rounds_failed g.D.Disk.device s p c.args.self.now serving c.drain.new.self c.in-Err.reason c.in-Err.ensures
+returns-in-Err-clause-rounds g c = λ s p serving. round_refused g.D.Disk.device s p c.args.self.now c.settle.new.self c.in-Err.reason (c.in-Err.ensures.settles s p serving)
 
-pub returns-in-Err-clause-goes_on : goal.returns-in-Err-clause-goes_on
-returns-in-Err-clause-goes_on g c = goes_on_drained g.D.Disk.device c.args.shared.now c.args.self.now c.drain.new.self _ c.requires.seat c.in-Err.ensures
+pub publish-requires-clause-seat : goal.publish-requires-clause-seat
+publish-requires-clause-seat g c = c.in-Ok.ensures.goes_on.seat
 
-pub returns-in-Err-clause-seen : goal.returns-in-Err-clause-seen
-returns-in-Err-clause-seen g c = λ runs. absurd (let no : false ≡ true = sym runs ∙ c.in-Err.ensures.failed.1 in cc)
+pub publish-requires-clause-lanes : goal.publish-requires-clause-lanes
+publish-requires-clause-lanes g c = c.requires.lanes ∙ sym (ap (λ l. l.lanes) c.in-Ok.ensures.goes_on.layout)
 
-pub returns-in-Err-clause-later : goal.returns-in-Err-clause-later
-returns-in-Err-clause-later g c = ([], ap (λ (k : Helping). k.view.history) c.in-Err.ensures.seat)
+pub returns-in-Ok-clause-rounds : goal.returns-in-Ok-clause-rounds
+returns-in-Ok-clause-rounds g c = λ s p serving. round_published g.D.Disk.device s p c.args.self.now c.settle.new.self c.args.shared.now c.publish.new.self c.publish.ensures c.in-Ok.count (c.in-Ok.ensures.settles s p serving)
 
-pub hear-requires : goal.hear-requires
-hear-requires g c = record { seat = (goes_on_drained g.D.Disk.device c.args.shared.now c.args.self.now c.drain.new.self _ c.requires.seat c.in-Ok.ensures).seat }
+pub returns-in-Ok-clause-goes_on : goal.returns-in-Ok-clause-goes_on
+returns-in-Ok-clause-goes_on g c = goes_on_published g.D.Disk.device c.args.shared.now c.args.self.now c.settle.new.self c.publish.new.self c.publish.ensures c.in-Ok.ensures.goes_on
 
--- nothing is to be made durable
-pub returns-then-self-clause-rounds : goal.returns-then-self-clause-rounds
-returns-then-self-clause-rounds g c = λ s p serving. let hears = c.hear.ensures in
-    round_heard g.D.Disk.device c.args.shared.now c.drain.new.self c.hear.new.self hears s p c.args.self.now (Ok c.in-Ok.count)
-    (rounds_quiet g.D.Disk.device s p c.args.self.now serving c.drain.new.self c.in-Ok.count c.in-Ok.ensures (sym hears.settled ∙ ap (λ x. x.is_settled) (sym c.self.view_is) ∙ c.if-self.true))
+pub returns-in-Ok-clause-seen : goal.returns-in-Ok-clause-seen
+returns-in-Ok-clause-seen g c = λ runs. seen_still c.args.shared.now c.settle.new.self c.publish.new.self c.publish.ensures.rings c.publish.ensures.sight.history (c.in-Ok.ensures.seen runs)
 
-pub returns-then-self-clause-goes_on : goal.returns-then-self-clause-goes_on
-returns-then-self-clause-goes_on g c = goes_on_heard g.D.Disk.device c.args.shared.now c.drain.new.self c.hear.new.self c.hear.ensures c.args.self.now (goes_on_drained g.D.Disk.device c.args.shared.now c.args.self.now c.drain.new.self _ c.requires.seat c.in-Ok.ensures)
-
-pub returns-then-self-clause-seen : goal.returns-then-self-clause-seen
-returns-then-self-clause-seen g c = λ runs. c.hear.ensures.seen
-
-pub returns-then-self-clause-later : goal.returns-then-self-clause-later
-returns-then-self-clause-later g c = let goes = c.hear.ensures.goes_on in (goes.0, goes.1 ∙ ap (λ (k : Helping). goes.0 ++ k.view.history) c.in-Ok.ensures.seat)
-
--- what was drained is made durable, as far as that goes
-
-pub returns-in-Err-settle_and_trim-clause-rounds : goal.returns-in-Err-settle_and_trim-clause-rounds
-returns-in-Err-settle_and_trim-clause-rounds g c = λ s p serving.
-    let x = c.self.inside in
-    let d = c.drain.new.self in
-    let y = parts_from x.store x.rings.items x.waiting x.is_settled x.seat in
-    let hears : Hears c.args.shared.now d y = subst (λ k. Hears c.args.shared.now d k) (sym c.self.view_is) c.hear.ensures in
-    let z = parts_from x.store d.rings x.waiting x.is_settled d.seat in
-    let drains = subst (λ k. Drains g.D.Disk.device c.args.self.now k (Ok c.in-Ok.count)) (drained_parts g.D.Disk.device c.args.shared.now d y hears) c.in-Ok.ensures in
-    let w = c.settle_and_trim.new.store in
-    rounds_heard g.D.Disk.device (parts_from w d.rings x.waiting x.is_settled d.seat) x.rings.items x.seat hears.records hears.noted s p c.args.self.now _
-    (rounds_refused g.D.Disk.device s p c.args.self.now serving z c.in-Ok.count drains w c.if-self.false c.settle_and_trim.ensures.layout c.in-Err-settle_and_trim.reason c.in-Err-settle_and_trim.ensures.settles c.settle_and_trim.ensures.takes
-    (passed_on _ _ _ c.settle_and_trim.result (Err c.in-Err-settle_and_trim.reason) Fault c.in-Err-settle_and_trim.reason c.in-Err-settle_and_trim.is refl (omega arith) c.settle_and_trim.ensures.cause))
-
-pub returns-in-Err-settle_and_trim-clause-goes_on : goal.returns-in-Err-settle_and_trim-clause-goes_on
-returns-in-Err-settle_and_trim-clause-goes_on g c =
-    let x = c.self.inside in
-    let d = c.drain.new.self in
-    let y = parts_from x.store x.rings.items x.waiting x.is_settled x.seat in
-    let hears = subst (λ k. Hears c.args.shared.now d k) (sym c.self.view_is) c.hear.ensures in
-    let on = goes_on_heard g.D.Disk.device c.args.shared.now d y hears c.args.self.now (goes_on_drained g.D.Disk.device c.args.shared.now c.args.self.now d _ c.requires.seat c.in-Ok.ensures) in
-    record { seat = on.seat; taken = on.taken; rings = on.rings; layout = c.settle_and_trim.ensures.layout ∙ on.layout }
-
-pub returns-in-Err-settle_and_trim-clause-seen : goal.returns-in-Err-settle_and_trim-clause-seen
-returns-in-Err-settle_and_trim-clause-seen g c = λ runs.
-    let x = c.self.inside in
-    let seen = subst (λ k. HasSeen c.args.shared.now k) (sym c.self.view_is) c.hear.ensures.seen in
-    record { legal = seen.legal; logs = seen.logs }
-
-pub returns-in-Err-settle_and_trim-clause-later : goal.returns-in-Err-settle_and_trim-clause-later
-returns-in-Err-settle_and_trim-clause-later g c = let goes = c.hear.ensures.goes_on in
-    (goes.0, ap (λ x. x.seat.view.history) c.self.view_is ∙ goes.1 ∙ ap (λ (k : Helping). goes.0 ++ k.view.history) c.in-Ok.ensures.seat)
-
-pub publish_all-requires-clause-seat : goal.publish_all-requires-clause-seat
-publish_all-requires-clause-seat g c = (subst (λ k. Hears c.args.shared.now c.drain.new.self k) (sym c.self.view_is) c.hear.ensures).seat
-
-pub publish_all-requires-clause-lanes : goal.publish_all-requires-clause-lanes
-publish_all-requires-clause-lanes g c = c.requires.lanes ∙ sym (ap (λ l. l.lanes) (c.settle_and_trim.ensures.layout ∙ ap (λ x. x.store.known.layout) c.self.view_is ∙ ap (λ k. k.known.layout) c.hear.ensures.store ∙ c.in-Ok.ensures.layout))
-
-pub publish_all-requires-clause-rises : goal.publish_all-requires-clause-rises
-publish_all-requires-clause-rises g c =
-    let known = c.self.invariant in
-    let was = known.serving in
-    let h = (c.in_default.ensures.settles known.setting known.past was.taken.has).settles.same in
-    let lanes = ap (λ l. l.lanes) c.settle_and_trim.ensures.layout in (
-      known.setting,
-      h.now,
-      h.has,
-      λ l lt. (omega (arith, was.counts l (omega arith), h.cut l), omega (arith, was.places l (omega arith), h.places l)),
-    )
-
-pub returns-clause-rounds : goal.returns-clause-rounds
-returns-clause-rounds g c = λ s p serving.
-    let x = c.self.inside in
-    let d = c.drain.new.self in
-    let y = parts_from x.store x.rings.items x.waiting x.is_settled x.seat in
-    let hears : Hears c.args.shared.now d y = subst (λ k. Hears c.args.shared.now d k) (sym c.self.view_is) c.hear.ensures in
-    let z = parts_from x.store d.rings x.waiting x.is_settled d.seat in
-    let drains = subst (λ k. Drains g.D.Disk.device c.args.self.now k (Ok c.in-Ok.count)) (drained_parts g.D.Disk.device c.args.shared.now d y hears) c.in-Ok.ensures in
-    let w = c.settle_and_trim.new.store in
-    let seat = c.publish_all.new.seat in
-    rounds_heard g.D.Disk.device (parts_from w d.rings x.waiting true seat) x.rings.items seat hears.records (noted_same seat seat refl) s p c.args.self.now (Ok c.in-Ok.count)
-    (rounds_done g.D.Disk.device s p c.args.self.now serving z c.in-Ok.count drains w c.if-self.false c.settle_and_trim.ensures.layout seat c.in_default.ensures.running c.in_default.ensures.settles c.settle_and_trim.ensures.takes
-    c.settle_and_trim.ensures.cause.later c.publish_all.ensures.published (added_noted g.D.Disk.device w d.seat x.seat seat hears.noted c.publish_all.ensures.counts))
-
-pub returns-clause-goes_on : goal.returns-clause-goes_on
-returns-clause-goes_on g c =
-    let x = c.self.inside in
-    let d = c.drain.new.self in
-    let y = parts_from x.store x.rings.items x.waiting x.is_settled x.seat in
-    let hears = subst (λ k. Hears c.args.shared.now d k) (sym c.self.view_is) c.hear.ensures in
-    let on = goes_on_heard g.D.Disk.device c.args.shared.now d y hears c.args.self.now (goes_on_drained g.D.Disk.device c.args.shared.now c.args.self.now d _ c.requires.seat c.in-Ok.ensures) in
-    record { seat = c.publish_all.ensures.seat; taken = c.publish_all.ensures.gathered ∙ on.taken; rings = on.rings; layout = c.settle_and_trim.ensures.layout ∙ on.layout }
-
-pub returns-clause-seen : goal.returns-clause-seen
-returns-clause-seen g c = λ runs.
-    let x = c.self.inside in
-    let y = parts_from x.store x.rings.items x.waiting x.is_settled x.seat in
-    let seen = subst (λ k. HasSeen c.args.shared.now k) (sym c.self.view_is) c.hear.ensures.seen in
-    seen_still c.args.shared.now y (parts_from c.settle_and_trim.new.store x.rings.items x.waiting true c.publish_all.new.seat) refl c.publish_all.ensures.sight.history seen
-
-pub returns-clause-later : goal.returns-clause-later
-returns-clause-later g c = let goes = c.hear.ensures.goes_on in
-    (goes.0, c.publish_all.ensures.sight.history ∙ ap (λ x. x.seat.view.history) c.self.view_is ∙ goes.1 ∙ ap (λ (k : Helping). goes.0 ++ k.view.history) c.in-Ok.ensures.seat)
-
-pub invariant_of-self : goal.invariant_of-self
-invariant_of-self g c =
-    let x = c.self.inside in
-    let z = parts_from x.store x.rings.items x.waiting x.is_settled x.seat in
-    let whole = c.self.invariant in
-    let w = c.settle_and_trim.new.store in
-    let h = (c.in-Err-settle_and_trim.ensures.settles whole.setting whole.past whole.serving.taken.has).settles.same in
-    whole_still g.D.Disk.device z (parts_from w x.rings.items x.waiting x.is_settled x.seat) whole (same_refl x.rings.items) whole.sees c.settle_and_trim.ensures.layout h.now
-    (same_serves g.D.Disk.device z w whole.setting whole.past c.if-self.false c.settle_and_trim.ensures.layout whole.serving h)
-
-pub invariant_of-self-2 : goal.invariant_of-self-2
-invariant_of-self-2 g c =
-    let x = c.self.inside in
-    let z = parts_from x.store x.rings.items x.waiting x.is_settled x.seat in
-    let whole = c.self.invariant in
-    let w = c.settle_and_trim.new.store in
-    let seat = c.publish_all.new.seat in
-    let both = c.in_default.ensures.settles whole.setting whole.past whole.serving.taken.has in
-    let h = both.settles.same in
-    whole_still g.D.Disk.device z (parts_from w x.rings.items x.waiting true seat) whole (same_refl x.rings.items) (sees_same x.seat seat c.publish_all.ensures.sight 0 x.rings.items whole.sees) c.settle_and_trim.ensures.layout h.now
-    (published_serves g.D.Disk.device z w seat whole.setting whole.past c.settle_and_trim.ensures.layout whole.serving h c.in_default.ensures.running both.settles.settled both.trimmed (c.publish_all.ensures.published whole.setting h.now h.has) (c.publish_all.ensures.counts whole.setting h.now h.has))
+pub returns-in-Ok-clause-later : goal.returns-in-Ok-clause-later
+returns-in-Ok-clause-later g c = let goes = c.in-Ok.ensures.later in (goes.0, c.publish.ensures.sight.history ∙ goes.1)
