@@ -309,10 +309,12 @@ ZELAMIKU_MUST_USE zelamiku_status zelamiku_open(zelamiku_handle *heap, const uin
 ZELAMIKU_MUST_USE zelamiku_status zelamiku_open_telling(zelamiku_handle *heap, const uint8_t *image, size_t size, zelamiku_told *told,
                                                         zelamiku_dropped *dropped, size_t count);
 
-/* Opens the heap of these bytes as zelamiku_open does, also where their image has version 1, from before there were transient fields: once
- * the calls of its recovery are made, which zelamiku_next_call tells first, the image has version 2, in place, with the same heap. Until
- * then it has version 1, whatever of the calls was made: call it again then. A library from before can't open it any more afterwards, so
- * call it where the user has asked for that, or keep a copy of the image, and else call zelamiku_open.
+/* Opens the heap of these bytes as zelamiku_open does, also where their image has version 1, from before there were transient fields. The
+ * calls of its recovery, which zelamiku_next_call tells first, give the image version 2, in place, with the same heap. A crash while the host
+ * makes them leaves that heap too: call zelamiku_upgrade again, which takes both versions. The image has version 1 until the last gate is
+ * written. Between that write and the return of its sync it may have either version, and after the sync it has version 2.
+ * A library from before can't open version 2. So call this where the user has asked for it, or keep a copy of the image first; call
+ * zelamiku_open otherwise.
  * As zelamiku_open, but for OLD_VERSION. */
 ZELAMIKU_MUST_USE zelamiku_status zelamiku_upgrade(zelamiku_handle *heap, const uint8_t *image, size_t size, zelamiku_found *found);
 
@@ -333,8 +335,10 @@ ZELAMIKU_MUST_USE zelamiku_status zelamiku_session(zelamiku_handle *heap, zelami
  * After a refusal `call` is ZELAMIKU_NO_CALL. */
 ZELAMIKU_MUST_USE zelamiku_status zelamiku_next_call(zelamiku_handle *heap, zelamiku_call *call, uint8_t *bytes, size_t size);
 
-/* Says that the host has made the call that zelamiku_next_call told.
- * NONE_LEFT: no call was told. */
+/* Says that the host has made the call that zelamiku_next_call told, which is the first of those that are left. The library can't see
+ * whether the host has made it: say it once for each call, and only after that call was told and made.
+ * NONE_LEFT: of the calls that the library has taken up to a sync, by zelamiku_next_call or zelamiku_acknowledged, none is left; nothing was
+ * done. */
 ZELAMIKU_MUST_USE zelamiku_status zelamiku_call_done(zelamiku_handle *heap);
 
 /* Says that the host couldn't make the call that zelamiku_next_call told.
@@ -348,8 +352,9 @@ ZELAMIKU_MUST_USE zelamiku_status zelamiku_call_failed(zelamiku_handle *heap);
  * and leaves the calls of that to zelamiku_next_call: make them after each round, or in a thread that orders its calls with this one.
  * `applied` gets how many records were taken. With none there is no call.
  * CLOSED: nothing was done. CALLS_LEFT: the host hasn't made its calls for so many rounds
- * that those of one more might have no room: nothing was done; make them, and go on. FAULT, FAILED, WORN: the heap has stopped; what
- * was acknowledged stays: free the handles, and open it again. */
+ * that those of one more might have no room: nothing was done; make them, and go on. FAULT, FAILED: the heap has stopped; what was
+ * acknowledged stays: free the handles, and open it again. WORN: the control's sequence is at its end. The heap hasn't stopped, but no round
+ * that has to write acknowledges anything from now on; what was acknowledged stays. */
 ZELAMIKU_MUST_USE zelamiku_status zelamiku_round(zelamiku_handle *heap, uint64_t *applied);
 
 /* How many sections of the lane are acknowledged since the heap was opened: no crash of the device loses them.
@@ -358,9 +363,12 @@ ZELAMIKU_MUST_USE zelamiku_status zelamiku_round(zelamiku_handle *heap, uint64_t
 ZELAMIKU_MUST_USE zelamiku_status zelamiku_acknowledged(zelamiku_handle *heap, uint32_t lane, uint64_t *sections);
 
 /* Closes the heap, once each session that was handed out has ended: the last round. Make the calls that are left, and then free it.
- * RUNNING: a session hasn't ended; the heap goes on. CALLS_LEFT: the calls of the last round might have no room: make those that are
- * left, and close it then; the heap goes on. UNFINISHED, NO_MEMORY, FAULT, FAILED, WORN: the heap has stopped; what was acknowledged
- * stays. CLOSED, by an earlier call: nothing was done. */
+ * RUNNING: a session that was handed out hasn't ended, or each has and another thread is still inside zelamiku_end; the heap goes on. In
+ * the second case the lanes that were never handed out have ended too, so that zelamiku_session hands out none of them anew but goes on
+ * with their sessions. CALLS_LEFT: the calls of the last round might have no room: make those that are left, and close it then; the heap
+ * goes on. UNFINISHED, NO_MEMORY, FAULT, FAILED, WORN: the heap is closed without its last round, or with a part of it. What was
+ * acknowledged stays: make the calls that are left, free the handle, and open the heap again. UNFINISHED and NO_MEMORY have left no call.
+ * WORN: the control's sequence is at its end, and zelamiku_open answers WORN too. CLOSED, by an earlier call: nothing was done. */
 ZELAMIKU_MUST_USE zelamiku_status zelamiku_close(zelamiku_handle *heap);
 
 /* Lets go of what is behind a handle. A heap stops, as if the process had: what was acknowledged stays. The handle is as at the
@@ -414,8 +422,8 @@ ZELAMIKU_MUST_USE zelamiku_status zelamiku_notify_all(zelamiku_handle *session, 
  * UNKNOWN_OBJECT: `sight` is that of a free monitor. */
 ZELAMIKU_MUST_USE zelamiku_status zelamiku_look(zelamiku_handle *session, uint32_t object, zelamiku_sight *sight);
 
-/* How many sections of the session's lane the last round acknowledged. They are durable once the host has made that round's calls;
- * zelamiku_acknowledged tells only of such. */
+/* How many sections of the session's lane the last round acknowledged. They are durable once the host has made that round's calls: from then
+ * on no crash loses them, even if the heap is never closed. zelamiku_acknowledged tells only of such. */
 ZELAMIKU_MUST_USE zelamiku_status zelamiku_round_sections(zelamiku_handle *session, uint64_t *sections);
 
 /* Tells the session's lane, and how many sections of it have ended since the heap was opened, also those of the sessions that had the lane

@@ -236,9 +236,10 @@ impl Heap {
     }
 
     /// Opens the heap of these bytes as [`open`](Heap::open) does, also where their image has version 1, from before there were transient
-    /// fields: once the calls of its recovery are made, which are the first of [`make_calls`](Heap::make_calls), the image has version
-    /// 2, in place, with the same heap. Until then it has version 1, whatever of the calls was made: upgrade it again then. A library
-    /// from before can't open it any more afterwards.
+    /// fields. The calls of its recovery, which are the first of [`make_calls`](Heap::make_calls), give the image version 2, in place, with
+    /// the same heap. A crash while they are made leaves that heap too: upgrade it again, which takes both versions. The image has version
+    /// 1 until the last gate is written. Between that write and the return of its sync it may have either version, and after the sync it
+    /// has version 2, which a library from before can't open.
     pub fn upgrade(image: &[u8]) -> Result<(Heap, Found), Refusal> {
         let mut handle = Owned::none();
         let mut found = Found::default();

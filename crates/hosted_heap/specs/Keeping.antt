@@ -13,8 +13,9 @@ use Rattle.hosted_heap.specs.Lanes.{AreNewHere, ArePaired, IsJoinedHere, IsLaneE
 use Rattle.hosted_heap.specs.Sessions.{Seated}
 use Rattle.hosted_heap.specs.declared.lane_end.LaneEnd.{LaneEnd}
 
--- The helper is of these words, and the host's calls are those of its disk. The sessions that weren't handed out are of these words too, and learn of a stop by this word, and what comes back meets the helper. There is an end for each lane, the
--- last lane's first, and the sessions that weren't handed out are awaited by the first of these.
+-- The helper is of these words, and the host's calls are those of its disk. The sessions that weren't handed out are of these words too, and
+-- learn of a stop by this word, and what comes back meets the helper. There is an end for each lane, the last lane's first, and the sessions
+-- that weren't handed out are awaited by the first of these.
 pub record IsHosting (h : Home) (x : Parts Deferred) (c : Host) (l : Layout) (word : ℕ) (unused : List Seated) (lanes : List LaneEnd) : Type 0 where
   pub helping : IsHelping hosted_device h x
   pub host : IsHostOf x.store.disk c

@@ -9,6 +9,7 @@
 mod again;
 mod beginning;
 mod closing;
+mod copying;
 mod error;
 mod heap;
 mod lane_end;
