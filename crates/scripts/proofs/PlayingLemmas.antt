@@ -9,7 +9,7 @@ use Rattle.heap_model.specs.declared.limits.TheConstants.{LAST_NUMBER}
 use Rattle.heap_model.specs.Setting.{Setting}
 use Rattle.heap_model.specs.State.{State}
 use Rattle.heap_model.specs.Events.{MayDo, IsEventOf, after_event}
-use Rattle.heap_model.specs.History.{state_after, logged, with_record, log_of}
+use Rattle.heap_model.specs.History.{state_after, logged, with_record}
 use Rattle.heap_model.specs.Sections.{actions}
 use Rattle.heap_model.specs.Cuts.{IsStable}
 use Rattle.cut_laws.proofs.Existence.{stable_exists}

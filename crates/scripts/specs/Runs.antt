@@ -1,5 +1,5 @@
 -- What the run of a script reads, does and prints (docs/SCRIPTS.md).
-use Rattle.std.specs.Prelude.{◌≡◌, ◌≢◌, ◌⊎◌, Result, Ok, Err, ℕ, ◌+◌, ◌-◌, ◌<◌, ◌≤◌, Option, Some, List, [], ◌∷◌, ◌++◌, length, take, slice_get}
+use Rattle.std.specs.Prelude.{◌≡◌, ◌≢◌, ◌⊎◌, Result, Ok, Err, IfErr, OnOk, ℕ, ◌+◌, ◌-◌, ◌<◌, ◌≤◌, Option, Some, List, [], ◌∷◌, ◌++◌, length, take, slice_get}
 use Rattle.std.specs.Io.KnownBytes.{Appends}
 use Rattle.std.specs.List.{AllByRecursion, concat}
 pub use Rattle.inspect.specs.Written.{AppendsPart}
@@ -11,7 +11,7 @@ use Rattle.script_lines.specs.declared.error.ScriptErrorKind.TheVariants as kind
 use Rattle.script_lines.specs.declared.reader.Ending.{Ending}
 use Rattle.script_lines.specs.declared.reader.Ending.TheVariants as endings
 use Rattle.script_lines.specs.Grammar.{Asks}
-use Rattle.script_lines.specs.Lines.{IsText, IsSkipped, IsFit, HasFault}
+use Rattle.script_lines.specs.Lines.{IsText, IsSkipped, IsFit, HasFault, lines_of}
 use Rattle.script_machine.specs.Machine.{MachineState, IsStart, Steps}
 use Rattle.script_lines.specs.Orders.{Order}
 use Rattle.scripts.specs.Texts.{text_of}
@@ -146,3 +146,28 @@ pub record PlaysInPart (old : MachineState) (line : List ℕ) (new : MachineStat
   pub output : List ℕ
   pub plays : PlaysLine old line output new
   pub part : AppendsPart before after output
+
+-- what a call prints to a writer, whose contents are known or not
+
+abbrev pub PutsLine : {W E : Type 0} → (contents : W → Option (List ℕ)) → (w v : W) → (start : MachineState) → (line : List ℕ) → (end : MachineState) → Result (Unit {0}) E → Type 0
+PutsLine contents w v start line end result = OnOk result (PlaysAndPrints start line end (contents w) (contents v))
+
+-- if the writer hasn't failed, a line that stops the run has printed nothing
+abbrev pub PutsNothing : {W : Type 0} → (contents : W → Option (List ℕ)) → (w v : W) → Result (Unit {0}) ScriptErrorKind → Type 0
+PutsNothing contents w v result = IfErr result (λ kind. kind ≢ kinds.Write → PrintsNothing (contents w) (contents v))
+
+-- if it has, it has a part of what the line prints
+abbrev pub InPart : {W : Type 0} → (contents : W → Option (List ℕ)) → (w v : W) → (start : MachineState) → (line : List ℕ) → (end : MachineState) → Result (Unit {0}) ScriptErrorKind → Type 0
+InPart contents w v start line end result = IfErr result (λ kind. kind ≡ kinds.Write → PlaysInPart start line end (contents w) (contents v))
+
+-- so it is of lines, which follow one another in this text
+abbrev pub PutsAll : {W A E : Type 0} → (contents : W → Option (List ℕ)) → (w v : W) → (start : MachineState) → (text : List ℕ) → (end : MachineState) → Result A E → Type 0
+PutsAll contents w v start text end result = OnOk result (PrintsOn start (lines_of text) end (contents w) (contents v))
+
+abbrev pub PutsUpTo : {W A : Type 0} → (contents : W → Option (List ℕ)) → (w v : W) → (start : MachineState) → (text : List ℕ) → Result A ScriptError → Type 0
+PutsUpTo contents w v start text result =
+    IfErr result (λ e. e.kind ≢ kinds.Write → PrintsFrom start (take (e.line - 1) (lines_of text)) (contents w) (contents v))
+
+abbrev pub PutsPartOf : {W A : Type 0} → (contents : W → Option (List ℕ)) → (w v : W) → (start : MachineState) → (text : List ℕ) → Result A ScriptError → Type 0
+PutsPartOf contents w v start text result =
+    IfErr result (λ e. e.kind ≡ kinds.Write → PrintsPartFrom start e.line (lines_of text) (contents w) (contents v))

@@ -1,5 +1,5 @@
 -- What answers print (docs/SCRIPTS.md, "Lines" and "Refusals").
-use Rattle.std.specs.Prelude.{ℕ, ◌+◌, Option, None, Some, List, [], ◌∷◌, ◌++◌, codes}
+use Rattle.std.specs.Prelude.{ℕ, Option, None, Some, List, [], ◌∷◌, ◌++◌, codes}
 use Rattle.std.specs.Fmt.{decimal}
 use Rattle.std.specs.List.{flat_map}
 use Rattle.heap_model.specs.declared.ids.Lane.{Lane}
@@ -7,6 +7,7 @@ use Rattle.inspect.specs.Pieces.{thread_of}
 use Rattle.inspect.specs.ReportText.{report_text}
 use Rattle.inspect.specs.StudyText.{study_text}
 use Rattle.script_machine.specs.declared.answer.Answer.{Answer}
+use Rattle.script_machine.specs.declared.answer.Report.{Report}
 use Rattle.script_machine.specs.declared.answer.Answer.TheVariants as answers
 use Rattle.script_machine.specs.declared.answer.Refusal.{Refusal}
 use Rattle.script_machine.specs.declared.answer.Refusal.TheVariants as refusals
@@ -64,6 +65,10 @@ abbrev pub woke_line : List Lane → List ℕ
 woke_line [] = codes "none\n"
 woke_line (lane ∷ lanes) = codes "woke" ++ woken_threads (lane ∷ lanes) ++ codes "\n"
 
+-- what a recovery found
+abbrev pub text_of_report : Report → List ℕ
+text_of_report report = report_text report.found report.heap.items report.lanes
+
 -- what a line prints
 abbrev pub text_of : Answer → List ℕ
 text_of answers.Silent = []
@@ -78,5 +83,5 @@ text_of (answers.Acknowledged counts) = list_line (codes "acknowledged") counts.
 text_of (answers.Heap values) = list_line (codes "heap") values.items
 text_of answers.Crashed = codes "crashed\n"
 text_of (answers.Shown study) = study_text study
-text_of (answers.Recovered report) = report_text report.found report.heap.items report.lanes
+text_of (answers.Recovered report) = text_of_report report
 text_of (answers.Refused refusal) = refused_line refusal

@@ -1,9 +1,8 @@
 //! Plays a script from a reader to a writer.
-ghost use Rattle.std.specs.Prelude.{◌≡◌, ◌≢◌, ◌-◌, ◌≤◌, take, length, OnOk, IfOk, IfErr};
+ghost use Rattle.std.specs.Prelude.{◌≡◌, ◌≤◌, length, IfOk, IfErr};
 ghost use Rattle.script_lines.specs.Lines.{lines_of};
 ghost use Rattle.script_lines.specs.Endings.{OfScript};
-ghost use Rattle.scripts.specs.Runs.{Ends, EndsOn, PrintsFrom, PrintsOn, PrintsPartFrom, StopsAt, PlaysAndPrints, PrintsNothing, PlaysInPart, MayStop};
-ghost use Rattle.script_lines.specs.declared.error.ScriptErrorKind.TheVariants as kinds;
+ghost use Rattle.scripts.specs.Runs.{Ends, EndsOn, InPart, MayStop, PutsAll, PutsLine, PutsNothing, PutsPartOf, PutsUpTo, StopsAt};
 
 use crate::texts::text;
 use crate::writer::put;
@@ -62,14 +61,12 @@ fn play<W: Write>(
     lines: &[u8],
     writer: &mut W,
 ) -> Result<u64, ScriptError>
-    ensures written { OnOk result (PrintsOn machine.old (lines_of lines.now) machine.new (W.contents writer.old) (W.contents writer.new)) }
+    ensures ok { PutsAll W.contents writer.old writer.new machine.old lines.now machine.new result }
     ensures count { IfOk result (λ played. played ≡ length (lines_of lines.now)) }
     ensures bound { IfOk result (λ played. played ≤ length lines.now) }
     ensures fault { IfErr result (λ e. StopsAt (lines_of lines.now) e) }
-    ensures before { IfErr result (λ e. e.kind ≢ kinds.Write
-        → PrintsFrom machine.old (take (e.line - 1) (lines_of lines.now)) (W.contents writer.old) (W.contents writer.new)) }
-    ensures part { IfErr result (λ e. e.kind ≡ kinds.Write
-        → PrintsPartFrom machine.old e.line (lines_of lines.now) (W.contents writer.old) (W.contents writer.new)) }
+    ensures before { PutsUpTo W.contents writer.old writer.new machine.old lines.now result }
+    ensures part { PutsPartOf W.contents writer.old writer.new machine.old lines.now result }
 {
     let mut rest = lines;
     let mut played = 0u64;
@@ -93,10 +90,10 @@ fn play_line<W: Write>(
     line: &[u8],
     writer: &mut W,
 ) -> Result<(), ScriptErrorKind>
-    ensures ok { OnOk result (PlaysAndPrints machine.old line.now machine.new (W.contents writer.old) (W.contents writer.new)) }
+    ensures ok { PutsLine W.contents writer.old writer.new machine.old line.now machine.new result }
     ensures fault { IfErr result (λ kind. MayStop line.now kind) }
-    ensures before { IfErr result (λ kind. kind ≢ kinds.Write → PrintsNothing (W.contents writer.old) (W.contents writer.new)) }
-    ensures part { IfErr result (λ kind. kind ≡ kinds.Write → PlaysInPart machine.old line.now machine.new (W.contents writer.old) (W.contents writer.new)) }
+    ensures before { PutsNothing W.contents writer.old writer.new result }
+    ensures part { InPart W.contents writer.old writer.new machine.old line.now machine.new result }
 {
     let Some(command) = read_line(line)? else {
         return Ok(());

@@ -1,9 +1,8 @@
 //! The text of an answer.
 ghost use Rattle.std.specs.Prelude.{◌≡◌, ◌+◌, ◌++◌, IfOk, OnOk, codes, string_bytes};
 ghost use Rattle.std.specs.Fmt.{decimal};
-ghost use Rattle.inspect.specs.ReportText.{report_text};
 ghost use Rattle.inspect.specs.StudyText.{study_text};
-ghost use Rattle.scripts.specs.Texts.{text_of, list_line, refused_line, why_refused, place_of, place_text, woke_line, woken_threads};
+ghost use Rattle.scripts.specs.Texts.{text_of, text_of_report, list_line, refused_line, why_refused, place_of, place_text, woke_line, woken_threads};
 
 use heap_model::Lane;
 use inspect::{write_report, write_study};
@@ -100,7 +99,7 @@ fn shown(alloc: Global, study: &ImageStudy) -> Result<Vec<u8>, AllocError>
 }
 
 fn recovered(alloc: Global, report: &Report) -> Result<Vec<u8>, AllocError>
-    ensures { IfOk result (λ text. text.items ≡ report_text report.now.found report.now.heap.items report.now.lanes) }
+    ensures { IfOk result (λ text. text.items ≡ text_of_report report.now) }
 {
     let mut text = Vec::new(alloc);
     match write_report(&report.found, &report.heap, report.lanes, &mut text) {

@@ -22,8 +22,8 @@ loop-rest-preserved g c =
     let some = some_left c.loop-rest.rest.now (sym c.is_empty.ensures ∙ c.loop-rest-test.true) in
     played-more c.args.machine.now c.args.lines.now c.loop-rest.machine c.loop-rest.rest.now c.loop-rest.played _ _ c.cut_line.result.0.now c.cut_line.result.1.now c.play_line.new.machine _ c.loop-rest.invariant (c.cut_line.ensures.lines some) (c.cut_line.ensures.shorter some) c.in_default.ensures.ok
 
-pub returns-clause-written : goal.returns-clause-written
-returns-clause-written g c =
+pub returns-clause-ok : goal.returns-clause-ok
+returns-clause-ok g c =
     printed_all c.args.machine.now c.args.lines.now c.loop-rest.machine c.loop-rest.rest.now c.loop-rest.played _ _ c.loop-rest.invariant (sym c.is_empty.ensures ∙ c.loop-rest-test.false)
 
 pub returns-clause-count : goal.returns-clause-count

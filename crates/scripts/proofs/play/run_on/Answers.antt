@@ -1,4 +1,4 @@
-use Rattle.std.proofs.Common.{◌≡◌, ◌+◌, sym, ap, subst, ◌∙◌, inr}
+use Rattle.std.proofs.Common.{◌+◌, sym, ap, subst, ◌∙◌, inr}
 use Rattle.scripts.proofs.PlayLemmas.{prints-fit, prints-front}
 use Rattle.script_lines.specs.Lines.{lines_of}
 use Rattle.scripts.specs.Runs.{IsMissing}
@@ -6,7 +6,7 @@ use Rattle.scripts.proofs.play.run_on.Goals as goal
 use Rattle.scripts.proofs.play.run_on.Goals.{in-TooLong, in-Fault, in-NoMemory}
 
 pub returns-in-Whole : goal.returns-in-Whole
-returns-in-Whole g c = (c.in-Whole.is, prints-fit _ _ _ _ _ c.in_ok-played.ensures.written, c.in_ok-played.ensures.written)
+returns-in-Whole g c = (c.in-Whole.is, prints-fit _ _ _ _ _ c.in_ok-played.ensures.ok, c.in_ok-played.ensures.ok)
 
 pub returns : goal.returns
 returns g c =
@@ -20,9 +20,9 @@ returns g c =
       inr (record {
         counted = ap (λ n. n + 1) c.in_ok-played.ensures.count;
         why = missing;
-        before = prints-fit _ _ _ _ _ c.in_ok-played.ensures.written;
+        before = prints-fit _ _ _ _ _ c.in_ok-played.ensures.ok;
       }),
-      (λ _. prints-front _ lines _ c.in_ok-played.played _ _ c.in_ok-played.ensures.count c.in_ok-played.ensures.written),
+      (λ _. prints-front _ lines _ c.in_ok-played.played _ _ c.in_ok-played.ensures.count c.in_ok-played.ensures.ok),
       (λ e. elim c.match-ending.branch [
         | in-TooLong w ↦ absurd (let no = sym w.kind-is ∙ e in cc)
         | in-Fault w ↦ absurd (let no = sym w.kind-is ∙ e in cc)
