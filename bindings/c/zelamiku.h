@@ -290,6 +290,14 @@ ZELAMIKU_MUST_USE zelamiku_status zelamiku_session(zelamiku_handle *heap, zelami
  * After a refusal `call` is ZELAMIKU_NO_CALL. */
 ZELAMIKU_MUST_USE zelamiku_status zelamiku_next_call(zelamiku_handle *heap, zelamiku_call *call, uint8_t *bytes, size_t size);
 
+/* Copies bytes of the heap's image, from byte `at` of it on: as many as `bytes` has room for and the image has. `copied` gets how many: 0 at the
+ * image's end and past it, so that a host loops as with pread. The image is that of the disk in memory: what the device has once each call
+ * that was told, or is left, is made. So what opens the copy finds all that is acknowledged by then. Nothing changes by it. Between the first
+ * and the last piece of one copy there may be no zelamiku_round and no zelamiku_close; sessions and calls may go on. A heap that was closed, or
+ * has stopped by FAULT, FAILED or WORN, is copied too.
+ * NOTHING, WRONG_KIND, STOPPED: `copied` is 0, and `bytes` is as it was. */
+ZELAMIKU_MUST_USE zelamiku_status zelamiku_copy(zelamiku_handle *heap, uint64_t at, uint8_t *bytes, size_t size, uint64_t *copied);
+
 /* Says that the host has made the call that zelamiku_next_call told.
  * NONE_LEFT: no call was told. */
 ZELAMIKU_MUST_USE zelamiku_status zelamiku_call_done(zelamiku_handle *heap);
