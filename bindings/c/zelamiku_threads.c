@@ -504,9 +504,8 @@ static void shut(heap *of, bool is_for_good) {
 }
 
 /* Under the mutex: the heap is at its end, and whoever sleeps is told. */
-static void end(heap *of, zelamiku_status status, int error) {
+static void end(heap *of, zelamiku_status status) {
     if (of->over != 0) return;
-    of->error = error;
     of->over = (uint32_t)status;
     shut(of, true);
     for (uint32_t lane = 0; lane < of->lanes; lane++) ring_seat(seat_at(of, lane));
@@ -536,12 +535,11 @@ static void finish(heap *of, zelamiku_status status, int error, const zelamiku_s
     of->is_troubled = is_trouble;
     add_up(&of->stats, round);
     of->stats.syncs = of->syncs_made;
-    if (is_trouble) {
-        of->error = error;
-        of->troubles++;
-    }
+    /* Of what the heap has ended with the first cause, also where a stop has set another status meanwhile. */
+    if (is_trouble || (is_end && !of->is_settled)) of->error = error;
+    of->troubles += is_trouble;
     if (is_end) {
-        end(of, status, error);
+        end(of, status);
         of->is_settled = 1;
     }
     of->rounds++;
@@ -1369,7 +1367,7 @@ zelamiku_status zelamiku_heap_close(zelamiku_heap heap_) {
         pthread_mutex_unlock(&of->mutex);
         return tell_end(of, status, of->error, "close");
     }
-    end(of, ZELAMIKU_CLOSED, 0);
+    end(of, ZELAMIKU_CLOSED);
     of->is_settled = 1;
     bool is_clean = status == ZELAMIKU_OK;
     end_helper(of);
@@ -1393,7 +1391,7 @@ static zelamiku_status stop(zelamiku_heap heap_, zelamiku_status why, const char
         pthread_mutex_unlock(&of->mutex);
         return tell_end(of, status, of->error, call);
     }
-    end(of, why, 0);
+    end(of, why);
     end_helper(of);
     int error = of->error;
     if (status == ZELAMIKU_OK) {
