@@ -4,8 +4,8 @@
  * stores the fields that they guard, and exits. What it does from its first enter to its last exit is a section: after a crash
  * each section is there whole or not at all, and with it each section that it has seen.
  *
- * Build and link, where KIT is the folder of the Rattle kit, $(dirname "$(rt doc)"):
- *     cc program.c -I bindings/c crates/zelamiku/out/libzelamiku.a KIT/c/liblibc_c.a -pthread
+ * Build and link, after tools/c-library:
+ *     cc program.c -I bindings/c crates/zelamiku/out/host/libzelamiku.a -pthread
  *
  * What the caller upholds, for each call:
  *  - a handle begins as ZELAMIKU_NONE, isn't copied, and is changed by these calls alone. A handle may go to another thread;
@@ -18,9 +18,9 @@
  *  - no call comes from a signal handler, or in a child that was forked by a process with threads.
  * Everything else is answered by a status. No call waits, blocks, starts a thread or panics; each out-parameter is always set.
  *
- * The device. The library has no file: it works in memory, and asks the host to write and sync. On a file of the system zelamiku_file.h
- * does that: zelamiku_open_file, zelamiku_upgrade_file, zelamiku_format_file, zelamiku_make_calls; on a network block device
- * zelamiku_nbd.h; on whole sectors zelamiku_sectors.h. Elsewhere zelamiku_next_call tells the next call, the host makes it on a device
+ * The device. The proved library has no file: it works in memory, and asks the host to write and sync. On a file of the system
+ * zelamiku_threads.h does that, with a scheduler for threads; on a network block device zelamiku_nbd.h; on whole sectors
+ * zelamiku_sectors.h. Elsewhere zelamiku_next_call tells the next call, the host makes it on a device
  * of its own (a volume, a ring of requests), and zelamiku_call_done says that it has:
  *     uint8_t buffer[ZELAMIKU_MOST_BYTES];
  *     zelamiku_call call = {0};
@@ -45,7 +45,7 @@
  * device of sectors, and the system's page cache, write the neighbours of a range again too, so there it holds exactly where rewriting a
  * durable byte with its own value can't lose it (SQLite's powersafe overwrite). NVMe promises that of a logical block, and replicated Ceph
  * RBD does; ATA and SCSI don't, nor drives without power-loss protection, nor parity RAID without a journal: docs/FORMAT.md, "What the
- * device keeps". zelamiku_file.h and zelamiku_nbd.h rest on it too.
+ * device keeps". zelamiku_threads.h and zelamiku_nbd.h rest on it too.
  * One host writes the device at a time. Where another machine may open it, the device ends the other one's access first, with its requests
  * that are underway: docs/EMBEDDING.md, "Another machine".
  *
@@ -141,9 +141,9 @@ typedef enum {
     ZELAMIKU_BAD_CONTROL = 29,    /* the image's control can't be read */
     ZELAMIKU_BAD_RECORD = 30,     /* the image has a record that can't be read */
     ZELAMIKU_ILLEGAL_LOG = 31,    /* no threads can have left the image's log */
-    ZELAMIKU_DEVICE = 32,         /* of zelamiku_file.h, zelamiku_nbd.h, zelamiku_sectors.h: a call of the file, the server or the sectors has failed */
-    ZELAMIKU_LOST = 33,           /* of zelamiku_file.h, zelamiku_nbd.h: a sync has failed, or the connection has ended, and the heap has stopped */
-    ZELAMIKU_BUSY = 34,           /* of zelamiku_file.h alone: another open of the file has its heap, or the file was replaced or removed */
+    ZELAMIKU_DEVICE = 32,         /* of the hosts: a call of the file, the server or the sectors has failed */
+    ZELAMIKU_LOST = 33,           /* of the hosts: a sync has failed, or the connection has ended, and the heap has stopped */
+    ZELAMIKU_BUSY = 34,           /* of zelamiku_threads.h: another open of the file has its heap, or the file was replaced or removed */
     ZELAMIKU_STOPPED = 35,        /* the heap has stopped since the host told that it couldn't make a sync (zelamiku_call_failed) */
     ZELAMIKU_POOL_EMPTY = 36,     /* no slot of the pool is free */
     ZELAMIKU_NOT_TAKEN = 37,      /* the slot isn't taken, or the pool has no such slot */

@@ -1068,13 +1068,19 @@ static zelamiku_status open_image(door *at, uint64_t size) {
     return status;
 }
 
-/* Whether a heap may be made in the file: it is empty, has only zeros, or is an image whose making was cut off, by its name. */
+/* How an image begins (docs/FORMAT.md), also one whose making was cut off. */
+static const uint8_t NAME[8] = {'M', 'O', 'N', 'I', 'H', 'E', 'A', 'P'};
+
+/* Whether a heap may be made in the file: it is empty, has only zeros, or is an image whose making was cut off: it has the name, or only zeros
+ * and a part of that. */
 static zelamiku_status must_be_free(door *at, uint64_t size) {
     uint8_t bytes[4096], zeros[sizeof bytes] = {0};
     for (uint64_t from = 0, count; from < size; from += count) {
         count = size - from < sizeof bytes ? size - from : sizeof bytes;
         if (!read_all(at->of->file, bytes, count, from)) return no_file(at, "it can't be read");
-        if (from == 0 && count >= 8 && memcmp(bytes, "MONIHEAP", 8) == 0) return ZELAMIKU_OK;
+        if (from == 0 && count >= sizeof NAME && memcmp(bytes, NAME, sizeof NAME) == 0) return ZELAMIKU_OK;
+        for (size_t i = 0; from == 0 && i < sizeof NAME && i < count; i++)
+            if (bytes[i] == NAME[i]) bytes[i] = 0;
         if (memcmp(bytes, zeros, (size_t)count) != 0) return refuse(at, ZELAMIKU_NOT_FORMATTED, 0);
     }
     return ZELAMIKU_OK;
@@ -1091,7 +1097,8 @@ static bool write_zeros(int file, uint64_t old_size, uint64_t size) {
         count = size - at < sizeof zeros ? size - at : sizeof zeros;
         if (!write_all(file, zeros, count, at)) return false;
     }
-    return fsync(file) == 0;
+    /* Then the name, by which the next open knows a making that was cut off, whichever of its writes a crash has kept. */
+    return fsync(file) == 0 && write_all(file, NAME, sizeof NAME, 0) && sync_file(file);
 }
 
 /* Makes a heap. The folder is synced before the heap's first calls make the file one: so a file that has a heap is found after a power failure,
