@@ -1170,16 +1170,22 @@ static zelamiku_status open_locked(door *at, const char *real_path) {
     return no_file(at, "a write or a sync of it has failed");
 }
 
-/* The descriptor is the heap's own. While it is opened the registry has it, for a fork. */
-static zelamiku_status open_path(door *at) {
+/* The descriptor is the heap's own. As soon as it is open the registry has it, for a fork. */
+static bool open_file(heap *of, const char *path, int flags) {
     pthread_mutex_lock(&registry);
-    int file = open(at->path, O_RDWR | O_CLOEXEC);
-    at->is_new = file < 0 && errno == ENOENT;
-    if (at->is_new) file = open(at->path, O_RDWR | O_CREAT | O_CLOEXEC, 0666);
-    at->of->file = file;
+    of->file = open(path, O_RDWR | O_CLOEXEC | flags, 0666);
     pthread_mutex_unlock(&registry);
-    if (file < 0) return no_file(at, "it can't be opened");
-    zelamiku_status status = lock_file(at);
+    return of->file >= 0;
+}
+
+/* Where there is no file none is made for a plan that is no good. */
+static zelamiku_status open_path(door *at) {
+    at->is_new = !open_file(at->of, at->path, 0) && errno == ENOENT;
+    if (at->of->file < 0 && !at->is_new) return no_file(at, "it can't be opened");
+    zelamiku_status status = check_plan(at);
+    if (status != ZELAMIKU_OK) return status;
+    if (at->is_new && !open_file(at->of, at->path, O_CREAT)) return no_file(at, "it can't be opened");
+    status = lock_file(at);
     if (status != ZELAMIKU_OK) return status;
     char real_path[PATH_MAX];
     if (realpath(at->path, real_path) == NULL) return no_file(at, "it can't be used");
@@ -1220,8 +1226,6 @@ zelamiku_status zelamiku_heap_open(zelamiku_heap *heap_, const char *path, const
     door at = {.path = path, .plan = plan, .report = report};
     at.lanes = plan->lanes != 0 ? plan->lanes : ZELAMIKU_DEFAULT_LANES;
     at.capacity = plan->capacity != 0 ? plan->capacity : ZELAMIKU_DEFAULT_CAPACITY;
-    zelamiku_status status = check_plan(&at);
-    if (status != ZELAMIKU_OK) return status;
     at.of = new_place();
     if (at.of == NULL) return fail(path, ZELAMIKU_NONE_LEFT, 0, "256 heaps are open", "close one", "open");
     free(at.of->path);
@@ -1231,7 +1235,7 @@ zelamiku_status zelamiku_heap_open(zelamiku_heap *heap_, const char *path, const
         return refuse(&at, ZELAMIKU_NO_MEMORY, 0);
     }
     clear_place(at.of, plan);
-    status = open_door(&at, heap_);
+    zelamiku_status status = open_door(&at, heap_);
     if (status != ZELAMIKU_OK) return status;
     const char *how = report->is_made != 0 ? "made" : report->is_upgraded != 0 ? "upgraded and recovered" : "recovered";
     tell_log(at.of, ZELAMIKU_LOG_INFO, "%s: %llu bytes, %u lanes; %llu sections were dropped", how, (unsigned long long)at.of->size,
