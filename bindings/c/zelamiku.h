@@ -4,8 +4,8 @@
  * stores the fields that they guard, and exits. What it does from its first enter to its last exit is a section: after a crash
  * each section is there whole or not at all, and with it each section that it has seen.
  *
- * Build and link, where KIT is the folder of the Rattle kit, $(dirname "$(rt doc)"):
- *     cc program.c -I bindings/c crates/zelamiku/out/libzelamiku.a KIT/c/liblibc_c.a -pthread
+ * Build and link, after tools/c-library:
+ *     cc program.c -I bindings/c crates/zelamiku/out/host/libzelamiku.a -pthread
  *
  * What the caller upholds, for each call:
  *  - a handle begins as ZELAMIKU_NONE, isn't copied, and is changed by these calls alone. A handle may go to another thread;
@@ -18,9 +18,9 @@
  *  - no call comes from a signal handler, or in a child that was forked by a process with threads.
  * Everything else is answered by a status. No call waits, blocks, starts a thread or panics; each out-parameter is always set.
  *
- * The device. The library has no file: it works in memory, and asks the host to write and sync. On a file of the system zelamiku_file.h
- * does that: zelamiku_open_file, zelamiku_upgrade_file, zelamiku_format_file, zelamiku_make_calls; on a network block device
- * zelamiku_nbd.h; on whole sectors zelamiku_sectors.h. Elsewhere zelamiku_next_call tells the next call, the host makes it on a device
+ * The device. The proved library has no file: it works in memory, and asks the host to write and sync. On a file of the system
+ * zelamiku_threads.h does that, with a scheduler for threads; on a network block device zelamiku_nbd.h; on whole sectors
+ * zelamiku_sectors.h. Elsewhere zelamiku_next_call tells the next call, the host makes it on a device
  * of its own (a volume, a ring of requests), and zelamiku_call_done says that it has:
  *     uint8_t buffer[ZELAMIKU_MOST_BYTES];
  *     zelamiku_call call = {0};
@@ -45,7 +45,7 @@
  * device of sectors, and the system's page cache, write the neighbours of a range again too, so there it holds exactly where rewriting a
  * durable byte with its own value can't lose it (SQLite's powersafe overwrite). NVMe promises that of a logical block, and replicated Ceph
  * RBD does; ATA and SCSI don't, nor drives without power-loss protection, nor parity RAID without a journal: docs/FORMAT.md, "What the
- * device keeps". zelamiku_file.h and zelamiku_nbd.h rest on it too.
+ * device keeps". zelamiku_threads.h and zelamiku_nbd.h rest on it too.
  * One host writes the device at a time. Where another machine may open it, the device ends the other one's access first, with its requests
  * that are underway: docs/EMBEDDING.md, "Another machine".
  *
@@ -141,15 +141,18 @@ typedef enum {
     ZELAMIKU_BAD_CONTROL = 29,    /* the image's control can't be read */
     ZELAMIKU_BAD_RECORD = 30,     /* the image has a record that can't be read */
     ZELAMIKU_ILLEGAL_LOG = 31,    /* no threads can have left the image's log */
-    ZELAMIKU_DEVICE = 32,         /* of zelamiku_file.h, zelamiku_nbd.h, zelamiku_sectors.h: a call of the file, the server or the sectors has failed */
-    ZELAMIKU_LOST = 33,           /* of zelamiku_file.h, zelamiku_nbd.h: a sync has failed, or the connection has ended, and the heap has stopped */
-    ZELAMIKU_BUSY = 34,           /* of zelamiku_file.h alone: another open of the file has its heap, or the file was replaced or removed */
+    ZELAMIKU_DEVICE = 32,         /* of the hosts: a call of the file, the server or the sectors has failed */
+    ZELAMIKU_LOST = 33,           /* of the hosts: a sync has failed, or the connection has ended, and the heap has stopped */
+    ZELAMIKU_BUSY = 34,           /* of zelamiku_threads.h: another open of the file has its heap, or the file was replaced or removed */
     ZELAMIKU_STOPPED = 35,        /* the heap has stopped since the host told that it couldn't make a sync (zelamiku_call_failed) */
     ZELAMIKU_POOL_EMPTY = 36,     /* no slot of the pool is free */
     ZELAMIKU_NOT_TAKEN = 37,      /* the slot isn't taken, or the pool has no such slot */
     ZELAMIKU_DAMAGED = 38,        /* a field of the pool names no slot: it isn't a pool's, or was stored to by other calls */
     ZELAMIKU_CLOSED = 39,         /* the heap was closed */
-    ZELAMIKU_OLD_VERSION = 40     /* the image has version 1, from before there were transient fields: zelamiku_upgrade opens it */
+    ZELAMIKU_OLD_VERSION = 40,    /* the image has version 1, from before there were transient fields: zelamiku_upgrade opens it */
+    ZELAMIKU_FORKED = 41,         /* of zelamiku_threads.h: the heap is that of the process that has forked this one */
+    ZELAMIKU_ABANDONED = 42,      /* of zelamiku_threads.h: the heap was abandoned */
+    ZELAMIKU_OTHER_HEAP = 43      /* of zelamiku_threads.h: the file's heap isn't that of the plan */
 } zelamiku_status;
 
 /* A field of a heap that is to be made. */
@@ -227,56 +230,10 @@ ZELAMIKU_HAS_SIZE(zelamiku_told, 312);
 ZELAMIKU_HAS_SIZE(zelamiku_dropped, 32);
 ZELAMIKU_HAS_SIZE(zelamiku_call, 24);
 ZELAMIKU_HAS_SIZE(zelamiku_sight, 16);
-#undef ZELAMIKU_HAS_SIZE
 #endif
 
-/* A text of a status, for people. */
-static inline const char *zelamiku_status_text(uint32_t status) {
-    switch (status) {
-    case ZELAMIKU_OK: return "ok";
-    case ZELAMIKU_NOTHING: return "nothing is behind the handle";
-    case ZELAMIKU_OPEN: return "the handle to be opened has something behind it";
-    case ZELAMIKU_WRONG_KIND: return "the handle is of the wrong kind";
-    case ZELAMIKU_NO_MEMORY: return "there was no memory";
-    case ZELAMIKU_WAITING: return "the session waits for a monitor";
-    case ZELAMIKU_NONE_LEFT: return "no session or call is left";
-    case ZELAMIKU_CALLS_LEFT: return "the host has yet to make calls of the device";
-    case ZELAMIKU_BAD_LANE: return "there is no such lane";
-    case ZELAMIKU_RUNNING: return "a session of the heap hasn't ended";
-    case ZELAMIKU_UNKNOWN_OBJECT: return "there is no such object";
-    case ZELAMIKU_UNKNOWN_FIELD: return "there is no such field";
-    case ZELAMIKU_NOT_HELD: return "the session doesn't hold the monitor";
-    case ZELAMIKU_BEHIND: return "there is no room for a whole section's records before a round";
-    case ZELAMIKU_SECTION_FULL: return "the section would have more than 1,000 records";
-    case ZELAMIKU_TOO_MANY: return "too many monitors are held, or too many objects or fields declared";
-    case ZELAMIKU_TOO_DEEP: return "the monitor is held by as many locks as can be counted";
-    case ZELAMIKU_NO_FAT: return "no place is left for a monitor that is waited for or locked more than 256 times";
-    case ZELAMIKU_WORN: return "a number has come to its end";
-    case ZELAMIKU_HELD: return "another session has the monitor";
-    case ZELAMIKU_IN_SET: return "nobody has notified the session";
-    case ZELAMIKU_FAULT: return "there was no memory for the calls of the device";
-    case ZELAMIKU_FAILED: return "the heap has stopped in an earlier call";
-    case ZELAMIKU_UNFINISHED: return "a session was ended while it held a monitor";
-    case ZELAMIKU_EMPTY: return "there is no object or no field";
-    case ZELAMIKU_NOT_FORMATTED: return "the bytes are no image of a heap";
-    case ZELAMIKU_BAD_HEADER: return "a number of the image, or of the heap to be made, is out of its limits";
-    case ZELAMIKU_TOO_SMALL: return "the bytes are fewer than the image has";
-    case ZELAMIKU_NO_CONTROL: return "the image has no control";
-    case ZELAMIKU_BAD_CONTROL: return "the image's control can't be read";
-    case ZELAMIKU_BAD_RECORD: return "the image has a record that can't be read";
-    case ZELAMIKU_ILLEGAL_LOG: return "no threads can have left the image's log";
-    case ZELAMIKU_DEVICE: return "a call of the device has failed";
-    case ZELAMIKU_LOST: return "a sync has failed or the connection has ended, and the heap has stopped";
-    case ZELAMIKU_BUSY: return "another process has the heap of the file, or the file was replaced or removed";
-    case ZELAMIKU_STOPPED: return "the heap has stopped since its host couldn't make a sync";
-    case ZELAMIKU_POOL_EMPTY: return "no slot of the pool is free";
-    case ZELAMIKU_NOT_TAKEN: return "the slot isn't taken, or the pool has no such slot";
-    case ZELAMIKU_DAMAGED: return "a field of the pool names no slot";
-    case ZELAMIKU_CLOSED: return "the heap was closed";
-    case ZELAMIKU_OLD_VERSION: return "the image has a version from before there were transient fields";
-    default: return "no status of zelamiku.h";
-    }
-}
+/* A text of a status, for people. zelamiku_heap_message (zelamiku_threads.h) tells more of a call that failed. */
+const char *zelamiku_status_text(uint32_t status);
 
 /* The version of the library, as ZELAMIKU_VERSION_NUMBER is of this header: other numbers, other releases. */
 ZELAMIKU_MUST_USE uint32_t zelamiku_version(void);
@@ -334,6 +291,14 @@ ZELAMIKU_MUST_USE zelamiku_status zelamiku_session(zelamiku_handle *heap, zelami
  * such a call, and can't make it.
  * After a refusal `call` is ZELAMIKU_NO_CALL. */
 ZELAMIKU_MUST_USE zelamiku_status zelamiku_next_call(zelamiku_handle *heap, zelamiku_call *call, uint8_t *bytes, size_t size);
+
+/* Copies bytes of the heap's image, from byte `at` of it on: as many as `bytes` has room for and the image has. `copied` gets how many: 0 at the
+ * image's end and past it, so that a host loops as with pread. The image is that of the disk in memory: what the device has once each call
+ * that was told, or is left, is made. So what opens the copy finds all that is acknowledged by then. Nothing changes by it. Between the first
+ * and the last piece of one copy there may be no zelamiku_round and no zelamiku_close; sessions and calls may go on. A heap that was closed, or
+ * has stopped by FAULT, FAILED or WORN, is copied too.
+ * NOTHING, WRONG_KIND, STOPPED: `copied` is 0, and `bytes` is as it was. */
+ZELAMIKU_MUST_USE zelamiku_status zelamiku_copy(zelamiku_handle *heap, uint64_t at, uint8_t *bytes, size_t size, uint64_t *copied);
 
 /* Says that the host has made the call that zelamiku_next_call told, which is the first of those that are left. The library can't see
  * whether the host has made it: say it once for each call, and only after that call was told and made.

@@ -1,6 +1,6 @@
 /* Zelamiku on a network block device: a heap on an NBD export, over zelamiku.h and libnbd.
  *
- * As zelamiku_file.h does for a file, these functions make the calls that the library tells: they are C, and nothing proves them. Link
+ * As zelamiku_threads.h does for a file, these functions make the calls that the library tells: they are C, and nothing proves them. Link
  * with -lnbd, and define _POSIX_C_SOURCE as 200809L, or _GNU_SOURCE, before the first #include.
  *
  *     struct nbd_handle *nbd = nbd_create();
@@ -11,7 +11,7 @@
  *     if (zelamiku_make_calls_nbd(&heap, &host, &made) != ZELAMIKU_OK) ...                then, and after each round and the closing
  *     zelamiku_end_nbd(&host);                                                           after zelamiku_free
  *
- * For threads: zelamiku_threads_start_over(&all, &heap, zelamiku_make_calls_of_nbd, &host, 5000).
+ * For threads: zelamiku_heap_start(&all, "name", &heap, zelamiku_make_calls_of_nbd, &host, NULL).
  *
  * A batch is what is written between two syncs. It is written by whole blocks, up to 64 requests at once; once all are answered comes the
  * flush; and the sync is done when that is answered. A batch of one request has its flush with it, where the server can (FUA). The image is
@@ -27,8 +27,12 @@
  *  - one heap at a time is on a host, one call at a time has them, and nothing else uses the connection. */
 #ifndef ZELAMIKU_NBD_H
 #define ZELAMIKU_NBD_H
+#include <errno.h>
 #include <libnbd.h>
-#include "zelamiku_file.h"
+#include <poll.h>
+#include <stdlib.h>
+#include <string.h>
+#include "zelamiku_threads.h"
 #ifdef __cplusplus
 extern "C" {
 #endif
@@ -288,10 +292,10 @@ static inline zelamiku_status zelamiku_nbd_open(zelamiku_handle *heap, zelamiku_
     zelamiku_status status = zelamiku_nbd_flush(host);
     if (status == ZELAMIKU_OK) status = zelamiku_nbd_read(host, ZELAMIKU_HEADER_BYTES);
     if (status != ZELAMIKU_OK) return zelamiku_nbd_told(host, status);
-    /* As in zelamiku_open_file. */
+    /* No image is so small: of a header alone it is told, and what is none is refused by it. */
     status = opening(heap, host->image, ZELAMIKU_HEADER_BYTES, told, dropped, count);
     if (status != ZELAMIKU_TOO_SMALL) return status;
-    uint64_t size = zelamiku_file_image_size(host->image, host->size);
+    uint64_t size = zelamiku_image_size(host->image, host->size);
     status = zelamiku_nbd_read(host, size);
     if (status != ZELAMIKU_OK) return zelamiku_nbd_told(host, status);
     return opening(heap, host->image, (size_t)size, told, dropped, count);
@@ -352,7 +356,7 @@ ZELAMIKU_MUST_USE static inline zelamiku_status zelamiku_make_calls_nbd(zelamiku
     }
 }
 
-/* The same, for zelamiku_threads_start_over: `host` is a zelamiku_nbd. */
+/* The same, for zelamiku_heap_start: `host` is a zelamiku_nbd. */
 static inline zelamiku_status zelamiku_make_calls_of_nbd(zelamiku_handle *heap, void *host, uint64_t *made) {
     return zelamiku_make_calls_nbd(heap, (zelamiku_nbd *)host, made);
 }

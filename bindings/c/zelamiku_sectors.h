@@ -1,6 +1,6 @@
 /* Zelamiku on a device of sectors: a heap on whatever reads, writes and flushes whole sectors, over zelamiku.h.
  *
- * As zelamiku_file.h does for a file, these functions make the calls that the library tells: they are C, and nothing proves them. How two
+ * As zelamiku_threads.h does for a file, these functions make the calls that the library tells: they are C, and nothing proves them. How two
  * places lie on a device is in docs/FORMAT.md, "Sectors in two places"; heapctl reads one that is in a file.
  *
  *     zelamiku_sectors host = {.device = {&disk, read, write, flush, sectors}, .sector = 4096, .layout = ZELAMIKU_TWO_PLACES};
@@ -270,7 +270,7 @@ ZELAMIKU_MUST_USE static inline zelamiku_status zelamiku_make_calls_sectors(zela
     }
 }
 
-/* The same, for zelamiku_threads_start_over: `host` is a zelamiku_sectors. */
+/* The same, for zelamiku_heap_start: `host` is a zelamiku_sectors. */
 static inline zelamiku_status zelamiku_make_calls_of_sectors(zelamiku_handle *heap, void *host, uint64_t *made) {
     return zelamiku_make_calls_sectors(heap, (zelamiku_sectors *)host, made);
 }

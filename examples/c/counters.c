@@ -4,44 +4,43 @@
  *
  *     counters FILE [SECONDS]
  * prints the counters that it finds, and then how many counts are acknowledged since, again and again. It counts for so long (for ever
- * without SECONDS), closes the heap, and prints the counters again. A file that is empty or has only zeros gets a heap. One process may
- * count at a time: another is told so, and ends.
- *
- * After a power failure soon after the file was made there may be no file: a program that minds syncs its folder too. */
+ * without SECONDS), closes the heap, and prints the counters again. Where there is no file a heap is made. One process may count at a time:
+ * another is told so, and ends. */
 #define _GNU_SOURCE
 #include <inttypes.h>
+#include <pthread.h>
 #include <stdatomic.h>
 #include <stdio.h>
+#include <stdlib.h>
+#include <string.h>
+#include <time.h>
 #include "zelamiku_threads.h"
+#ifdef HELGRIND /* which knows nothing of atomics */
+#include <valgrind/helgrind.h>
+#endif
 
 /* Object 0 has the total, and the counts since the start; object i and field i are worker i's. */
-enum { WORKERS = 4, TOTAL = 0, SINCE = WORKERS + 1, FIELDS = WORKERS + 2, CAPACITY = 4096, LINGER = 5000 };
+enum { WORKERS = 4, TOTAL = 0, SINCE = WORKERS + 1, FIELDS = WORKERS + 2 };
 
-static int file;
-static zelamiku_threads heap;
+static zelamiku_heap heap;
 static atomic_bool stopping;
 
-static void must(zelamiku_status status, const char *what) {
-    if (status != ZELAMIKU_OK) {
-        char text[256];
-        fprintf(stderr, "%s: %s\n", what, zelamiku_file_text(status, text, sizeof text));
-        /* A sync that failed isn't made again: a later one may succeed though the file has lost what was written. */
-        if (status == ZELAMIKU_LOST) fprintf(stderr, "Mount the file system again before you start on this file.\n");
-        exit(2);
-    }
+static void must(zelamiku_status status) {
+    if (status == ZELAMIKU_OK) return;
+    fprintf(stderr, "%s\n", zelamiku_heap_message());
+    exit(2);
 }
 
-static void must_do(bool is_done, const char *what) {
-    if (!is_done) {
-        perror(what);
-        exit(2);
-    }
+static void must_do(int error, const char *what) {
+    if (error == 0) return;
+    fprintf(stderr, "%s: %s\n", what, strerror(error));
+    exit(2);
 }
 
-static void count(zelamiku_thread *thread, uint32_t field) {
+static void count(zelamiku_thread thread, uint32_t field) {
     uint64_t value = 0;
-    must(zelamiku_thread_load(thread, field, &value), "load");
-    must(zelamiku_thread_store(thread, field, value + 1), "store");
+    must(zelamiku_thread_load(thread, field, &value));
+    must(zelamiku_thread_store(thread, field, value + 1));
 }
 
 typedef struct {
@@ -52,50 +51,24 @@ typedef struct {
 static void *work(void *data) {
     worker *w = data;
     while (!stopping) {
-        must(zelamiku_thread_enter(&w->thread, w->own), "enter");
-        count(&w->thread, w->own);
-        must(zelamiku_thread_enter(&w->thread, TOTAL), "enter");
-        count(&w->thread, TOTAL);
-        count(&w->thread, SINCE);
-        must(zelamiku_thread_exit(&w->thread, TOTAL), "exit");
-        must(zelamiku_thread_exit(&w->thread, w->own), "exit");
+        must(zelamiku_thread_enter(w->thread, w->own));
+        count(w->thread, w->own);
+        must(zelamiku_thread_enter(w->thread, TOTAL));
+        count(w->thread, TOTAL);
+        count(w->thread, SINCE);
+        must(zelamiku_thread_exit(w->thread, TOTAL));
+        must(zelamiku_thread_exit(w->thread, w->own));
     }
     return NULL;
 }
 
-/* Whether a heap may be made in the file: it has no bytes, or only zeros, or the beginning of an image whose making was cut off. */
-static bool is_free(void) {
-    char bytes[4096];
-    ssize_t size;
-    for (off_t at = 0; (size = pread(file, bytes, sizeof bytes, at)) > 0; at += size) {
-        if (at == 0 && size >= 8 && memcmp(bytes, "MONIHEAP", 8) == 0) return true;
-        for (ssize_t i = 0; i < size; i++)
-            if (bytes[i] != 0) return false;
-    }
-    return size == 0;
-}
-
-/* Opens the heap of the file, or makes one, and starts its helper. */
-static void begin(const char *name) {
-    zelamiku_handle handle = ZELAMIKU_NONE;
-    zelamiku_found found = {0};
-    zelamiku_status answer = zelamiku_open_file(&handle, file, &found);
-    if (answer == ZELAMIKU_NOT_FORMATTED && is_free()) {
-        zelamiku_field fields[FIELDS];
-        for (uint32_t i = 0; i <= WORKERS; i++) fields[i] = (zelamiku_field){.owner = i, .guard = i};
-        fields[SINCE] = (zelamiku_field){.owner = TOTAL, .guard = TOTAL, .is_transient = 1};
-        must(zelamiku_format_file(&handle, file, WORKERS + 1, fields, FIELDS, WORKERS + 1, CAPACITY), "format");
-    } else if (answer == ZELAMIKU_NOT_FORMATTED) {
-        fprintf(stderr, "%s has no heap, and isn't empty: it is left as it is\n", name);
-        exit(2);
-    } else {
-        must(answer, name);
-        if (found.objects != WORKERS + 1 || found.fields != FIELDS || found.lanes != WORKERS + 1) {
-            fprintf(stderr, "%s has the heap of another program\n", name);
-            exit(2);
-        }
-    }
-    must(zelamiku_threads_start(&heap, &handle, file, LINGER), "start");
+/* Opens the heap of the file, or makes it. */
+static void begin(const char *path) {
+    zelamiku_field fields[FIELDS];
+    for (uint32_t i = 0; i <= WORKERS; i++) fields[i] = (zelamiku_field){.owner = i, .guard = i};
+    fields[SINCE] = (zelamiku_field){.owner = TOTAL, .guard = TOTAL, .is_transient = 1};
+    zelamiku_plan plan = {.fields = fields, .count = FIELDS, .objects = WORKERS + 1, .lanes = WORKERS + 1};
+    must(zelamiku_heap_open(&heap, path, &plan, NULL));
 }
 
 typedef struct {
@@ -103,12 +76,12 @@ typedef struct {
 } counters;
 
 /* Reads all counters in one section. It takes the monitors in the workers' order: the total's last. */
-static counters look(zelamiku_thread *own) {
+static counters look(zelamiku_thread own) {
     counters found = {{0}};
-    for (uint32_t i = 1; i <= WORKERS; i++) must(zelamiku_thread_enter(own, i), "enter");
-    must(zelamiku_thread_enter(own, TOTAL), "enter");
-    for (uint32_t i = 0; i < FIELDS; i++) must(zelamiku_thread_load(own, i, &found.value[i]), "load");
-    for (uint32_t i = 0; i <= WORKERS; i++) must(zelamiku_thread_exit(own, i), "exit");
+    for (uint32_t i = 1; i <= WORKERS; i++) must(zelamiku_thread_enter(own, i));
+    must(zelamiku_thread_enter(own, TOTAL));
+    for (uint32_t i = 0; i < FIELDS; i++) must(zelamiku_thread_load(own, i, &found.value[i]));
+    for (uint32_t i = 0; i <= WORKERS; i++) must(zelamiku_thread_exit(own, i));
     return found;
 }
 
@@ -138,7 +111,7 @@ static void tell_acknowledged(const worker *workers, const char *seconds) {
     double until = (double)now.tv_sec + 1e-9 * (double)now.tv_nsec + (seconds != NULL ? strtod(seconds, NULL) : 0);
     while (seconds == NULL || (double)now.tv_sec + 1e-9 * (double)now.tv_nsec < until) {
         uint64_t sum = 0;
-        for (uint32_t i = 0; i < WORKERS; i++) sum += zelamiku_thread_durable(&workers[i].thread);
+        for (uint32_t i = 0; i < WORKERS; i++) sum += zelamiku_thread_durable(workers[i].thread);
         if (sum > 0) printf("acknowledged %" PRIu64 "\n", sum);
         nanosleep(&nap, NULL);
         clock_gettime(CLOCK_MONOTONIC, &now);
@@ -150,30 +123,29 @@ int main(int argc, char **argv) {
         fprintf(stderr, "counters FILE [SECONDS]\n");
         return 2;
     }
-    ZELAMIKU_IS_ATOMIC(stopping);
+#ifdef HELGRIND
+    VALGRIND_HG_DISABLE_CHECKING(&stopping, sizeof stopping);
+#endif
     setvbuf(stdout, NULL, _IOLBF, 0);
-    file = open(argv[1], O_RDWR | O_CREAT | O_CLOEXEC, 0644);
-    must_do(file >= 0, argv[1]);
     begin(argv[1]);
     zelamiku_thread own;
-    must(zelamiku_thread_begin(&own, &heap), "begin");
-    counters first = look(&own);
+    must(zelamiku_thread_begin(&own, heap));
+    counters first = look(own);
     must_be_since(first, 0);
     tell(first);
     static worker workers[WORKERS];
     pthread_t threads[WORKERS];
     for (uint32_t i = 0; i < WORKERS; i++) {
-        must(zelamiku_thread_begin(&workers[i].thread, &heap), "begin");
+        must(zelamiku_thread_begin(&workers[i].thread, heap));
         workers[i].own = i + 1;
     }
-    for (uint32_t i = 0; i < WORKERS; i++) must_do((errno = pthread_create(&threads[i], NULL, work, &workers[i])) == 0, "thread");
+    for (uint32_t i = 0; i < WORKERS; i++) must_do(pthread_create(&threads[i], NULL, work, &workers[i]), "thread");
     tell_acknowledged(workers, argc > 2 ? argv[2] : NULL);
     stopping = true;
-    for (uint32_t i = 0; i < WORKERS; i++) must_do((errno = pthread_join(threads[i], NULL)) == 0, "join");
-    counters last = look(&own);
+    for (uint32_t i = 0; i < WORKERS; i++) must_do(pthread_join(threads[i], NULL), "join");
+    counters last = look(own);
     must_be_since(last, last.value[TOTAL] - first.value[TOTAL]);
-    must(zelamiku_threads_stop(&heap), "stop");
+    must(zelamiku_heap_close(heap));
     tell(last); /* durable now */
-    must_do(close(file) == 0, "close");
     return 0;
 }

@@ -13,16 +13,18 @@
  *     nbdkit -U counters.sock --filter=limit file counters.image limit=1 */
 #define _GNU_SOURCE
 #include <inttypes.h>
+#include <pthread.h>
 #include <stdatomic.h>
 #include <stdio.h>
-#include "zelamiku_threads.h"
+#include <string.h>
+#include <time.h>
 #include "zelamiku_nbd.h"
 
 /* Object 0 has the total; object i and field i are worker i's. */
-enum { WORKERS = 4, TOTAL = 0, COUNTERS = WORKERS + 1, CAPACITY = 4096, LINGER = 5000 };
+enum { WORKERS = 4, TOTAL = 0, COUNTERS = WORKERS + 1, CAPACITY = 4096 };
 
 static zelamiku_nbd host;
-static zelamiku_threads heap;
+static zelamiku_heap heap;
 static atomic_bool stopping;
 
 static void must(zelamiku_status status, const char *what) {
@@ -47,13 +49,13 @@ static void nap(void) {
 }
 
 /* A server that refuses writes for a while, for want of room say, is waited for. */
-static void enter(zelamiku_thread *thread, uint32_t object) {
+static void enter(zelamiku_thread thread, uint32_t object) {
     zelamiku_status status;
     while ((status = zelamiku_thread_enter(thread, object)) == ZELAMIKU_DEVICE) nap();
     must(status, "enter");
 }
 
-static void count(zelamiku_thread *thread, uint32_t field) {
+static void count(zelamiku_thread thread, uint32_t field) {
     uint64_t value = 0;
     must(zelamiku_thread_load(thread, field, &value), "load");
     must(zelamiku_thread_store(thread, field, value + 1), "store");
@@ -67,12 +69,12 @@ typedef struct {
 static void *work(void *data) {
     worker *w = data;
     while (!stopping) {
-        enter(&w->thread, w->own);
-        count(&w->thread, w->own);
-        enter(&w->thread, TOTAL);
-        count(&w->thread, TOTAL);
-        must(zelamiku_thread_exit(&w->thread, TOTAL), "exit");
-        must(zelamiku_thread_exit(&w->thread, w->own), "exit");
+        enter(w->thread, w->own);
+        count(w->thread, w->own);
+        enter(w->thread, TOTAL);
+        count(w->thread, TOTAL);
+        must(zelamiku_thread_exit(w->thread, TOTAL), "exit");
+        must(zelamiku_thread_exit(w->thread, w->own), "exit");
     }
     return NULL;
 }
@@ -82,7 +84,7 @@ typedef struct {
 } counters;
 
 /* Reads the counters in one section, which takes the monitors in the workers' order, and waits until that, and all it saw, is durable. */
-static counters look(zelamiku_thread *own) {
+static counters look(zelamiku_thread own) {
     counters found = {{0}};
     for (uint32_t i = 1; i <= WORKERS; i++) enter(own, i);
     enter(own, TOTAL);
@@ -116,7 +118,7 @@ static double seconds_now(void) {
 static void tell_acknowledged(const worker *workers, double seconds) {
     for (double until = seconds_now() + seconds; seconds == 0 || seconds_now() < until; nap()) {
         uint64_t sum = 0;
-        for (uint32_t i = 0; i < WORKERS; i++) sum += zelamiku_thread_durable(&workers[i].thread);
+        for (uint32_t i = 0; i < WORKERS; i++) sum += zelamiku_thread_durable(workers[i].thread);
         if (sum > 0) printf("acknowledged %" PRIu64 "\n", sum);
     }
 }
@@ -151,12 +153,12 @@ static void open_heap(zelamiku_handle *handle, const char *server) {
 }
 
 /* Counts until the seconds are over. */
-static void run(zelamiku_thread *own, double seconds) {
+static void run(zelamiku_thread own, double seconds) {
     static worker workers[WORKERS];
     pthread_t threads[WORKERS];
     tell(look(own));
     for (uint32_t i = 0; i < WORKERS; i++) {
-        must(zelamiku_thread_begin(&workers[i].thread, &heap), "begin");
+        must(zelamiku_thread_begin(&workers[i].thread, heap), "begin");
         workers[i].own = i + 1;
     }
     for (uint32_t i = 0; i < WORKERS; i++) must_do(pthread_create(&threads[i], NULL, work, &workers[i]), "thread");
@@ -172,7 +174,6 @@ int main(int argc, char **argv) {
         fprintf(stderr, "counters_nbd SERVER format\ncounters_nbd SERVER [SECONDS [PATIENCE [BLOCK]]]\n");
         return 2;
     }
-    ZELAMIKU_IS_ATOMIC(stopping);
     setvbuf(stdout, NULL, _IOLBF, 0);
     connect_to(argv[1], argc > 4 ? (uint32_t)atoi(argv[4]) : 0, argc > 3 ? atoi(argv[3]) : 10000);
     if (argc > 2 && strcmp(argv[2], "format") == 0) {
@@ -180,12 +181,12 @@ int main(int argc, char **argv) {
     } else {
         zelamiku_thread own;
         open_heap(&handle, argv[1]);
-        must(zelamiku_threads_start_over(&heap, &handle, zelamiku_make_calls_of_nbd, &host, LINGER), "start");
-        must(zelamiku_thread_begin(&own, &heap), "begin");
-        run(&own, argc > 2 ? strtod(argv[2], NULL) : 0);
+        must(zelamiku_heap_start(&heap, argv[1], &handle, zelamiku_make_calls_of_nbd, &host, NULL), "start");
+        must(zelamiku_thread_begin(&own, heap), "begin");
+        run(own, argc > 2 ? strtod(argv[2], NULL) : 0);
         zelamiku_status status;
-        while ((status = zelamiku_threads_stop(&heap)) == ZELAMIKU_DEVICE) nap();
-        must(status, "stop");
+        while ((status = zelamiku_heap_close(heap)) == ZELAMIKU_DEVICE) nap();
+        must(status, "close");
     }
     zelamiku_end_nbd(&host);
     return 0;

@@ -9,7 +9,9 @@
 #include <stdio.h>
 #include <stdlib.h>
 #include <time.h>
-#include "zelamiku_file.h"
+#include <fcntl.h>
+#include <unistd.h>
+#include "zelamiku_threads.h"
 
 enum { LANES = 4, SHARED = LANES, CAPACITY = 4000 };
 
@@ -17,9 +19,8 @@ enum { LANES = 4, SHARED = LANES, CAPACITY = 4000 };
 typedef enum { ALL, WRITES, NONE } calls;
 
 static void must(zelamiku_status status, const char *what) {
-    char text[256];
     if (status == ZELAMIKU_OK) return;
-    fprintf(stderr, "%s: %s\n", what, zelamiku_file_text(status, text, sizeof text));
+    fprintf(stderr, "%s: %s\n", what, zelamiku_status_text(status));
     exit(2);
 }
 
@@ -69,7 +70,9 @@ static void measure(const char *path, unsigned rounds, unsigned sections, calls 
         exit(2);
     }
     for (uint32_t i = 0; i <= LANES; i++) fields[i] = (zelamiku_field){.owner = i, .guard = i};
-    must(zelamiku_format_file(&heap, file, LANES + 1, fields, LANES + 1, LANES, CAPACITY), path);
+    uint64_t size = 0;
+    must(zelamiku_format(&heap, LANES + 1, fields, LANES + 1, LANES, CAPACITY, &size), path);
+    if (ftruncate(file, 0) != 0 || ftruncate(file, (off_t)size) != 0 || fsync(file) != 0) exit(2);
     make_calls(&heap, file, which);
     for (uint32_t lane = 0; lane < LANES; lane++) {
         sessions[lane] = ZELAMIKU_NONE;

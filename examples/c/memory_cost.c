@@ -11,10 +11,16 @@
  * waits for its sections; those of a heap are counted once they are acknowledged. It prints, of each turn, millions of sections a second
  * with how many times the ceiling's rate of that turn, and microseconds of processor time a section, of all threads; and then medians. */
 #define _GNU_SOURCE
+#include <errno.h>
+#include <pthread.h>
+#include <sched.h>
 #include <stdatomic.h>
 #include <stdio.h>
 #include <stdlib.h>
+#include <string.h>
 #include <sys/resource.h>
+#include <time.h>
+#include <unistd.h>
 #include "zelamiku_threads.h"
 
 enum { MOST = 32, SHARED = MOST, RING = 4096, KINDS = 3, MOST_ROUNDS = 100, SPINS = 100 };
@@ -191,7 +197,7 @@ static void *help_by_rounds(void *data) {
 
 /* ---- a heap over zelamiku_threads.h ---- */
 
-static zelamiku_threads all;
+static zelamiku_heap all;
 
 static zelamiku_status no_calls(zelamiku_handle *heap, void *device, uint64_t *made) {
     (void)device;
@@ -199,7 +205,7 @@ static zelamiku_status no_calls(zelamiku_handle *heap, void *device, uint64_t *m
     return ZELAMIKU_OK;
 }
 
-static void add_by_threads(zelamiku_thread *thread, uint32_t field) {
+static void add_by_threads(zelamiku_thread thread, uint32_t field) {
     uint64_t value = 0;
     must(zelamiku_thread_load(thread, field, &value), "load");
     must(zelamiku_thread_store(thread, field, value + 1), "store");
@@ -208,18 +214,18 @@ static void add_by_threads(zelamiku_thread *thread, uint32_t field) {
 static uint64_t work_by_threads(uint32_t own, zelamiku_handle *session) {
     zelamiku_thread thread;
     (void)session;
-    must(zelamiku_thread_begin(&thread, &all), "begin");
+    must(zelamiku_thread_begin(&thread, all), "begin");
     while (goes_on()) {
-        must(zelamiku_thread_enter(&thread, own), "enter");
-        add_by_threads(&thread, own);
-        must(zelamiku_thread_enter(&thread, SHARED), "enter");
-        add_by_threads(&thread, SHARED);
-        must(zelamiku_thread_exit(&thread, SHARED), "exit");
-        must(zelamiku_thread_exit(&thread, own), "exit");
+        must(zelamiku_thread_enter(thread, own), "enter");
+        add_by_threads(thread, own);
+        must(zelamiku_thread_enter(thread, SHARED), "enter");
+        add_by_threads(thread, SHARED);
+        must(zelamiku_thread_exit(thread, SHARED), "exit");
+        must(zelamiku_thread_exit(thread, own), "exit");
     }
-    must(zelamiku_thread_await(&thread), "await");
-    uint64_t sections = zelamiku_thread_sections(&thread);
-    must(zelamiku_thread_end(&thread), "end");
+    must(zelamiku_thread_await(thread), "await");
+    uint64_t sections = zelamiku_thread_sections(thread);
+    must(zelamiku_thread_end(thread), "end");
     return sections;
 }
 
@@ -272,7 +278,7 @@ static result measure(int kind, uint32_t threads, unsigned seconds, uint32_t cap
     pthread_t helper;
     uint64_t sections = 0, told = 0;
     if (kind != 0) make_heap(&heap, threads, capacity);
-    if (kind == 2) must(zelamiku_threads_start_over(&all, &heap, no_calls, NULL, 5000), "start");
+    if (kind == 2) must(zelamiku_heap_start(&all, "memory", &heap, no_calls, NULL, NULL), "start");
     for (uint32_t i = 0; i < threads; i++) {
         workers[i] = (worker){.work = works[kind], .own = i};
         if (kind == 1) must(zelamiku_session(&heap, &workers[i].session), "session");
@@ -293,7 +299,7 @@ static result measure(int kind, uint32_t threads, unsigned seconds, uint32_t cap
     atomic_store(&helping, false);
     if (kind != 2) must_do((errno = pthread_join(helper, NULL)) == 0, "join");
     result answer = {(double)sections / (now() - began), 1e6 * (processor_time() - used) / (double)sections};
-    if (kind == 2) must(zelamiku_threads_stop(&all), "stop");
+    if (kind == 2) must(zelamiku_heap_close(all), "close");
     for (uint32_t i = 0; kind == 1 && i < threads; i++) {
         must(zelamiku_acknowledged(&heap, i, &told), "acknowledged");
         must_do(told == workers[i].sections, "all sections acknowledged");

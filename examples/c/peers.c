@@ -12,12 +12,14 @@
 #define _GNU_SOURCE
 #include <fcntl.h>
 #include <inttypes.h>
+#include <pthread.h>
 #include <stdatomic.h>
 #include <stdio.h>
 #include <stdlib.h>
 #include <string.h>
 #include <sys/resource.h>
 #include <time.h>
+#include <unistd.h>
 #include "zelamiku_threads.h"
 #ifdef WITH_SQLITE
 #include <sqlite3.h>
@@ -57,43 +59,40 @@ typedef struct {
 
 /* ---- zelamiku ---- */
 
-static zelamiku_threads heap;
-static int file;
+static zelamiku_heap heap;
 
 static void z(zelamiku_status status, const char *what) {
     if (status != ZELAMIKU_OK) {
-        char text[256];
-        fprintf(stderr, "%s: %s\n", what, zelamiku_file_text(status, text, sizeof text));
+        fprintf(stderr, "%s: %s\n", what, zelamiku_heap_message());
         exit(2);
     }
 }
 
 static void z_open(void) {
-    zelamiku_handle handle = ZELAMIKU_NONE;
     zelamiku_field fields[MOST + 1];
     for (uint32_t i = 0; i <= (uint32_t)threads; i++) fields[i] = (zelamiku_field){.owner = i, .guard = i};
-    file = open(path, O_RDWR | O_CREAT | O_CLOEXEC, 0644);
-    must(file >= 0, path);
-    z(zelamiku_format_file(&handle, file, threads + 1, fields, threads + 1, threads, 4096), "format");
-    z(zelamiku_threads_start(&heap, &handle, file, 5000), "start");
+    uint32_t count = (uint32_t)threads + 1;
+    zelamiku_plan plan = {.fields = fields, .count = count, .objects = count, .lanes = (uint32_t)threads};
+    (void)unlink(path);
+    z(zelamiku_heap_open(&heap, path, &plan, NULL), "open");
 }
 
 static void *z_begin(uint32_t own) {
     (void)own;
     zelamiku_thread *thread = malloc(sizeof *thread);
     must(thread != NULL, "thread");
-    z(zelamiku_thread_begin(thread, &heap), "begin");
+    z(zelamiku_thread_begin(thread, heap), "begin");
     return thread;
 }
 
-static void z_add(zelamiku_thread *thread, uint32_t field) {
+static void z_add(zelamiku_thread thread, uint32_t field) {
     uint64_t value = 0;
     z(zelamiku_thread_load(thread, field, &value), "load");
     z(zelamiku_thread_store(thread, field, value + 1), "store");
 }
 
 static void z_count(void *use, uint32_t own, uint64_t sections) {
-    zelamiku_thread *thread = use;
+    zelamiku_thread thread = *(zelamiku_thread *)use;
     for (uint64_t i = 0; i < sections; i++) {
         z(zelamiku_thread_enter(thread, own), "enter");
         z(zelamiku_thread_enter(thread, TOTAL), "enter");
@@ -106,13 +105,12 @@ static void z_count(void *use, uint32_t own, uint64_t sections) {
 }
 
 static void z_end(void *use) {
-    z(zelamiku_thread_end(use), "end");
+    z(zelamiku_thread_end(*(zelamiku_thread *)use), "end");
     free(use);
 }
 
 static void z_close(void) {
-    z(zelamiku_threads_stop(&heap), "stop");
-    close(file);
+    z(zelamiku_heap_close(heap), "close");
 }
 
 /* ---- SQLite ---- */

@@ -7,16 +7,22 @@
  * It prints how many sections were acknowledged, how many of a lane at once (the least, those of which a tenth, a half and nine tenths were
  * fewer, and the most), and the processor time of a section, of all threads and the helper. */
 #define _GNU_SOURCE
+#include <errno.h>
+#include <fcntl.h>
 #include <inttypes.h>
+#include <pthread.h>
 #include <stdatomic.h>
 #include <stdio.h>
 #include <stdlib.h>
+#include <string.h>
 #include <sys/resource.h>
+#include <time.h>
+#include <unistd.h>
 #include "zelamiku_threads.h"
 
 enum { MOST = ZELAMIKU_MOST_LANES, SHARED = 2 * MOST, MOST_SEEN = 1 << 16 };
 
-static zelamiku_threads heap;
+static zelamiku_heap heap;
 static atomic_bool stopping;
 static struct timespec sync_time;
 static bool is_shared;
@@ -33,9 +39,8 @@ typedef struct {
 static worker workers[MOST];
 
 static void must(zelamiku_status status, const char *what) {
-    char text[256];
     if (status == ZELAMIKU_OK) return;
-    fprintf(stderr, "%s: %s\n", what, zelamiku_file_text(status, text, sizeof text));
+    fprintf(stderr, "%s: %s; %s\n", what, zelamiku_status_text(status), zelamiku_heap_message());
     exit(2);
 }
 
@@ -48,20 +53,20 @@ static zelamiku_status slow_calls(zelamiku_handle *of, void *descriptor, uint64_
         if (status != ZELAMIKU_OK || call.kind == ZELAMIKU_NO_CALL) return status;
         if (call.kind == ZELAMIKU_SYNC)
             nanosleep(&sync_time, NULL);
-        else if (call.size > sizeof bytes || !zelamiku_file_write((int)(intptr_t)descriptor, bytes, (size_t)call.size, call.at))
+        else if (call.size > sizeof bytes || pwrite((int)(intptr_t)descriptor, bytes, (size_t)call.size, (off_t)call.at) != (ssize_t)call.size)
             return zelamiku_call_failed(of) == ZELAMIKU_OK ? ZELAMIKU_DEVICE : ZELAMIKU_LOST;
         status = zelamiku_call_done(of);
         if (status != ZELAMIKU_OK) return status;
     }
 }
 
-static void count_in(zelamiku_thread *thread, uint32_t field) {
+static void count_in(zelamiku_thread thread, uint32_t field) {
     uint64_t value = 0;
     must(zelamiku_thread_load(thread, field, &value), "load");
     must(zelamiku_thread_store(thread, field, value + 1), "store");
 }
 
-static void section(zelamiku_thread *thread, uint32_t first, uint32_t second) {
+static void section(zelamiku_thread thread, uint32_t first, uint32_t second) {
     must(zelamiku_thread_enter(thread, first), "enter");
     count_in(thread, first);
     must(zelamiku_thread_enter(thread, second), "enter");
@@ -75,15 +80,15 @@ static void *work(void *data) {
     worker *w = (worker *)data;
     zelamiku_thread thread;
     uint64_t before = 0;
-    must(zelamiku_thread_begin(&thread, &heap), "begin");
+    must(zelamiku_thread_begin(&thread, heap), "begin");
     while (!atomic_load_explicit(&stopping, memory_order_relaxed)) {
-        section(&thread, w->own, is_shared ? SHARED : w->own + MOST);
-        uint64_t durable = zelamiku_thread_durable(&thread);
+        section(thread, w->own, is_shared ? SHARED : w->own + MOST);
+        uint64_t durable = zelamiku_thread_durable(thread);
         if (durable != before && w->count < MOST_SEEN) w->seen[w->count++] = durable - before;
         before = durable;
     }
     w->sections = before;
-    must(zelamiku_thread_end(&thread), "end");
+    must(zelamiku_thread_end(thread), "end");
     return NULL;
 }
 
@@ -131,13 +136,14 @@ int main(int count, char **words) {
     zelamiku_handle handle = ZELAMIKU_NONE;
     zelamiku_field fields[SHARED + 1];
     for (uint32_t i = 0; i <= SHARED; i++) fields[i] = (zelamiku_field){.owner = i, .guard = i};
-    int file = open(words[1], O_RDWR | O_CREAT | O_CLOEXEC, 0644);
-    if (file < 0) {
+    uint64_t size = 0;
+    must(zelamiku_format(&handle, SHARED + 1, fields, SHARED + 1, threads, capacity, &size), words[1]);
+    int file = open(words[1], O_RDWR | O_CREAT | O_TRUNC | O_CLOEXEC, 0644);
+    if (file < 0 || ftruncate(file, (off_t)size) != 0) {
         perror(words[1]);
         return 2;
     }
-    must(zelamiku_format_file(&handle, file, SHARED + 1, fields, SHARED + 1, threads, capacity), words[1]);
-    must(zelamiku_threads_start_over(&heap, &handle, slow_calls, (void *)(intptr_t)file, 5000), "start");
+    must(zelamiku_heap_start(&heap, words[1], &handle, slow_calls, (void *)(intptr_t)file, NULL), "start");
     double before = processor_time();
     for (uint32_t i = 0; i < threads; i++) {
         workers[i].own = i;
@@ -149,6 +155,6 @@ int main(int count, char **words) {
     for (uint32_t i = 0; i < threads; i++)
         if (pthread_join(workers[i].thread, NULL) != 0) return 2;
     tell(threads, (double)seconds, time);
-    must(zelamiku_threads_stop(&heap), "stop");
+    must(zelamiku_heap_close(heap), "close");
     return close(file);
 }

@@ -10,34 +10,37 @@
  * thread makes the round and its calls. Under valgrind --tool=callgrind --toggle-collect='by_handles*', or 'by_threads*', it counts the
  * instructions of the sections alone. */
 #define _GNU_SOURCE
+#include <fcntl.h>
+#include <pthread.h>
 #include <sched.h>
 #include <stdatomic.h>
 #include <stdio.h>
 #include <stdlib.h>
+#include <string.h>
 #include <sys/resource.h>
+#include <unistd.h>
 #include "zelamiku_threads.h"
 
 enum { MOST = 32, SHARED = 0 };
 
-static zelamiku_threads heap;
+static zelamiku_heap heap;
 static atomic_bool stopping;
 static bool waits = true;
 
 static inline void must(zelamiku_status status, const char *what) {
-    char text[256];
     if (status == ZELAMIKU_OK) return;
-    fprintf(stderr, "%s: %s\n", what, zelamiku_file_text(status, text, sizeof text));
+    fprintf(stderr, "%s: %s; %s\n", what, zelamiku_status_text(status), zelamiku_heap_message());
     exit(2);
 }
 
-static inline void add_one(zelamiku_thread *own, uint32_t field) {
+static inline void add_one(zelamiku_thread own, uint32_t field) {
     uint64_t value;
     must(zelamiku_thread_load(own, field, &value), "load");
     must(zelamiku_thread_store(own, field, value + 1), "store");
 }
 
 /* A section over zelamiku_threads.h. */
-__attribute__((noinline)) static void by_threads(zelamiku_thread *own, uint32_t object) {
+__attribute__((noinline)) static void by_threads(zelamiku_thread own, uint32_t object) {
     must(zelamiku_thread_enter(own, object), "enter");
     add_one(own, object);
     must(zelamiku_thread_enter(own, SHARED), "enter");
@@ -73,14 +76,14 @@ __attribute__((noinline)) static void by_handles(zelamiku_handle *session, uint3
 static void *work(void *data) {
     uint32_t object = *(uint32_t *)data;
     zelamiku_thread own;
-    must(zelamiku_thread_begin(&own, &heap), "begin");
+    must(zelamiku_thread_begin(&own, heap), "begin");
     uint64_t count = 0;
     while (!atomic_load(&stopping)) {
-        by_threads(&own, object);
-        if (waits) must(zelamiku_thread_await(&own), "await");
+        by_threads(own, object);
+        if (waits) must(zelamiku_thread_await(own), "await");
         count++;
     }
-    must(zelamiku_thread_end(&own), "end");
+    must(zelamiku_thread_end(own), "end");
     uint64_t *answer = (uint64_t *)malloc(sizeof count);
     if (answer == NULL) exit(2);
     *answer = count;
@@ -94,22 +97,28 @@ static double processor_time(void) {
     return 1e6 * (double)(used.ru_utime.tv_sec + used.ru_stime.tv_sec) + (double)(used.ru_utime.tv_usec + used.ru_stime.tv_usec);
 }
 
+static zelamiku_field fields[MOST + 1];
+
+/* A new file at the path, for the bare handles. */
+static int make_file(zelamiku_handle *handle, const char *path) {
+    uint64_t size = 0;
+    int file = open(path, O_RDWR | O_CREAT | O_TRUNC | O_CLOEXEC, 0644);
+    must(zelamiku_format(handle, MOST + 1, fields, MOST + 1, 1, 4096, &size), path);
+    if (file >= 0 && ftruncate(file, (off_t)size) == 0 && fsync(file) == 0) return file;
+    perror(path);
+    exit(2);
+}
+
 /* A heap of so many lanes in a file that is replaced. */
-static int make(zelamiku_handle *handle, const char *path, uint32_t lanes) {
-    int file = open(path, O_RDWR | O_CREAT | O_CLOEXEC, 0644);
-    if (file < 0) {
-        perror(path);
-        exit(2);
-    }
-    zelamiku_field fields[MOST + 1];
-    for (uint32_t i = 0; i <= MOST; i++) fields[i] = (zelamiku_field){.owner = i, .guard = i};
-    must(zelamiku_format_file(handle, file, MOST + 1, fields, MOST + 1, lanes, 4096), path);
-    return file;
+static void make(const char *path, uint32_t lanes, uint32_t linger) {
+    zelamiku_plan plan = {.fields = fields, .count = MOST + 1, .objects = MOST + 1, .lanes = lanes, .linger = linger};
+    (void)unlink(path);
+    must(zelamiku_heap_open(&heap, path, &plan, NULL), path);
 }
 
 static int groups_by_handles(const char *path, unsigned groups, unsigned sections) {
     zelamiku_handle handle = ZELAMIKU_NONE, session = ZELAMIKU_NONE;
-    int file = make(&handle, path, 1);
+    int file = make_file(&handle, path);
     uint64_t count = 0;
     must(zelamiku_make_calls(&handle, file, &count), "calls");
     must(zelamiku_session(&handle, &session), "session");
@@ -126,27 +135,22 @@ static int groups_by_handles(const char *path, unsigned groups, unsigned section
 }
 
 static int groups_by_threads(const char *path, unsigned groups, unsigned sections) {
-    zelamiku_handle handle = ZELAMIKU_NONE;
     zelamiku_thread own;
-    int file = make(&handle, path, 1);
-    /* No round but those that are waited for. */
-    must(zelamiku_threads_start(&heap, &handle, file, UINT32_MAX), "start");
-    must(zelamiku_thread_begin(&own, &heap), "begin");
+    make(path, 1, UINT32_MAX); /* no round but those that are waited for */
+    must(zelamiku_thread_begin(&own, heap), "begin");
     for (unsigned group = 1; group <= groups; group++) {
-        for (unsigned i = 0; i < sections; i++) by_threads(&own, 1);
-        must(zelamiku_thread_await(&own), "await");
+        for (unsigned i = 0; i < sections; i++) by_threads(own, 1);
+        must(zelamiku_thread_await(own), "await");
     }
-    must(zelamiku_thread_end(&own), "end");
-    must(zelamiku_threads_stop(&heap), "stop");
-    return close(file);
+    must(zelamiku_thread_end(own), "end");
+    must(zelamiku_heap_close(heap), "close");
+    return 0;
 }
 
 static int rate(const char *path, int threads, int seconds) {
     uint32_t objects[MOST + 1];
     for (uint32_t i = 0; i <= MOST; i++) objects[i] = i;
-    zelamiku_handle handle = ZELAMIKU_NONE;
-    int file = make(&handle, path, (uint32_t)threads);
-    must(zelamiku_threads_start(&heap, &handle, file, 5000), "start");
+    make(path, (uint32_t)threads, 0);
     pthread_t workers[MOST];
     double before = processor_time();
     for (int i = 0; i < threads; i++)
@@ -163,8 +167,8 @@ static int rate(const char *path, int threads, int seconds) {
     double time = processor_time() - before;
     printf("%d threads that wait for %s: %.0f sections a second, %.2f us of processor time a section\n", threads,
            waits ? "each section" : "none", (double)sections / seconds, time / (double)sections);
-    must(zelamiku_threads_stop(&heap), "stop");
-    return close(file);
+    must(zelamiku_heap_close(heap), "close");
+    return 0;
 }
 
 int main(int count, char **words) {
@@ -172,6 +176,7 @@ int main(int count, char **words) {
         fprintf(stderr, "threads_cost FILE [THREADS [SECONDS [none]]], or threads_cost FILE handles | threads GROUPS SECTIONS\n");
         return 2;
     }
+    for (uint32_t i = 0; i <= MOST; i++) fields[i] = (zelamiku_field){.owner = i, .guard = i};
     waits = count < 5 || strcmp(words[4], "none") != 0;
     if (count == 5 && waits) {
         unsigned groups = (unsigned)atoi(words[3]), sections = (unsigned)atoi(words[4]);

@@ -1,13 +1,10 @@
 /* Tests of a pool by C: its calls' answers, and a stack that is linked by slots, which a heap opened again still has.
  *
- *     pool FOLDER      prints nothing but a last line, and answers 0, where all is as it must be */
-#define _GNU_SOURCE
-#include <fcntl.h>
+ *     pool      prints nothing but a last line, and answers 0, where all is as it must be */
 #include <stdio.h>
 #include <stdlib.h>
 #include <string.h>
-#include <unistd.h>
-#include "zelamiku_threads.h"
+#include "zelamiku.h"
 
 #define MUST(is_so) \
     do { \
@@ -99,34 +96,45 @@ static void lay_out(zelamiku_field *fields) {
     }
 }
 
-static void make_rounds(zelamiku_handle *heap, int file) {
-    uint64_t count;
-    OK(zelamiku_make_calls(heap, file, &count));
-    OK(zelamiku_round(heap, &count));
-    OK(zelamiku_make_calls(heap, file, &count));
+static uint8_t device[1 << 20];
+
+static void make_calls(zelamiku_handle *heap) {
+    zelamiku_call call;
+    uint8_t bytes[ZELAMIKU_MOST_BYTES];
+    for (;;) {
+        OK(zelamiku_next_call(heap, &call, bytes, sizeof bytes));
+        if (call.kind == ZELAMIKU_NO_CALL) return;
+        MUST(call.at + call.size <= sizeof device);
+        if (call.kind == ZELAMIKU_WRITE) memcpy(device + call.at, bytes, (size_t)call.size);
+        OK(zelamiku_call_done(heap));
+    }
 }
 
-int main(int count, char **words) {
-    char path[4096];
-    MUST(count == 2 && snprintf(path, sizeof path, "%s/pool.image", words[1]) < (int)sizeof path);
+static void make_rounds(zelamiku_handle *heap) {
+    uint64_t count;
+    make_calls(heap);
+    OK(zelamiku_round(heap, &count));
+    make_calls(heap);
+}
+
+int main(void) {
+    uint64_t size;
     MUST(zelamiku_version() == ZELAMIKU_VERSION_NUMBER);
-    int file = open(path, O_RDWR | O_CREAT | O_TRUNC, 0600);
-    MUST(file >= 0);
     zelamiku_field fields[FIELDS];
     lay_out(fields);
     zelamiku_handle heap = ZELAMIKU_NONE, session = ZELAMIKU_NONE;
-    OK(zelamiku_format_file(&heap, file, 2, fields, FIELDS, 2, ZELAMIKU_LEAST_CAPACITY));
+    OK(zelamiku_format(&heap, 2, fields, FIELDS, 2, ZELAMIKU_LEAST_CAPACITY, &size));
     OK(zelamiku_session(&heap, &session));
     refusals(&session, &heap);
     all_slots(&session);
     for (uint64_t value = 10; value < 13; value++) push(&session, value);
     MUST(pop(&session) == 12);
-    make_rounds(&heap, file);
+    make_rounds(&heap);
     push(&session, 99); /* and no round: it is lost */
     zelamiku_free(&session);
     zelamiku_free(&heap);
     zelamiku_found found;
-    OK(zelamiku_open_file(&heap, file, &found));
+    OK(zelamiku_open(&heap, device, (size_t)size, &found));
     OK(zelamiku_session(&heap, &session));
     /* Two slots are taken, and three free. */
     push(&session, 20);
@@ -147,7 +155,6 @@ int main(int count, char **words) {
     MUST(zelamiku_acknowledged(&heap, 0, &applied) == ZELAMIKU_CLOSED);
     zelamiku_free(&heap);
     MUST(zelamiku_round(&heap, &applied) == ZELAMIKU_NOTHING);
-    MUST(close(file) == 0);
     puts("a pool, by C: as it must be");
     return 0;
 }
