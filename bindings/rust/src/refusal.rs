@@ -39,7 +39,7 @@ refusals! {
     3 WrongKind "the handle is of the wrong kind"
     4 NoMemory "there was no memory"
     5 Waiting "the session waits for a monitor"
-    6 NoneLeft "no session or call is left"
+    6 NoneLeft "all lanes are in use, or no call of the device is left"
     7 CallsLeft "the host has yet to make calls of the device"
     8 BadLane "there is no such lane"
     9 Running "a session of the heap hasn't ended"
@@ -65,6 +65,8 @@ refusals! {
     29 BadControl "the image's control can't be read"
     30 BadRecord "the image has a record that can't be read"
     31 IllegalLog "no threads can have left the image's log"
+    32 Device "a call of the file failed"
+    33 Lost "a sync of the file failed"
     34 Busy "another process has the heap of the file, or the file was replaced or removed"
     35 Stopped "the heap has stopped since its host couldn't make a sync"
     36 PoolEmpty "no slot of the pool is free"
@@ -72,6 +74,9 @@ refusals! {
     38 Damaged "a field of the pool names no slot"
     39 Closed "the heap was closed"
     40 OldVersion "the image has a version from before there were transient fields"
+    41 Forked "the process was forked, and its parent has the heap"
+    42 Abandoned "the heap was abandoned"
+    43 OtherHeap "the file has another heap than the plan's"
 }
 
 impl Refusal {

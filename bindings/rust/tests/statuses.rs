@@ -96,14 +96,7 @@ fn the_header_and_this_crate_have_the_same_names_and_texts() {
     let most = header.keys().max().unwrap() + 10;
     for number in 1..=most {
         match Refusal::from(number) {
-            // DEVICE and LOST are answers of C functions alone, which this crate has as errors of std.
-            Refusal::Unknown(_) => {
-                let name = header.get(&number).map(String::as_str);
-                assert!(
-                    matches!(name, None | Some("DEVICE" | "LOST")),
-                    "{name:?} has no refusal"
-                );
-            }
+            Refusal::Unknown(_) => assert_eq!(header.get(&number), None, "it has no refusal"),
             refusal => {
                 let name = header
                     .get(&number)
