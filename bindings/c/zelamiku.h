@@ -149,7 +149,10 @@ typedef enum {
     ZELAMIKU_NOT_TAKEN = 37,      /* the slot isn't taken, or the pool has no such slot */
     ZELAMIKU_DAMAGED = 38,        /* a field of the pool names no slot: it isn't a pool's, or was stored to by other calls */
     ZELAMIKU_CLOSED = 39,         /* the heap was closed */
-    ZELAMIKU_OLD_VERSION = 40     /* the image has version 1, from before there were transient fields: zelamiku_upgrade opens it */
+    ZELAMIKU_OLD_VERSION = 40,    /* the image has version 1, from before there were transient fields: zelamiku_upgrade opens it */
+    ZELAMIKU_FORKED = 41,         /* of zelamiku_threads.h: the heap is that of the process that has forked this one */
+    ZELAMIKU_ABANDONED = 42,      /* of zelamiku_threads.h: the heap was abandoned */
+    ZELAMIKU_OTHER_HEAP = 43      /* of zelamiku_threads.h: the file's heap isn't that of the plan */
 } zelamiku_status;
 
 /* A field of a heap that is to be made. */
@@ -227,56 +230,10 @@ ZELAMIKU_HAS_SIZE(zelamiku_told, 312);
 ZELAMIKU_HAS_SIZE(zelamiku_dropped, 32);
 ZELAMIKU_HAS_SIZE(zelamiku_call, 24);
 ZELAMIKU_HAS_SIZE(zelamiku_sight, 16);
-#undef ZELAMIKU_HAS_SIZE
 #endif
 
-/* A text of a status, for people. */
-static inline const char *zelamiku_status_text(uint32_t status) {
-    switch (status) {
-    case ZELAMIKU_OK: return "ok";
-    case ZELAMIKU_NOTHING: return "nothing is behind the handle";
-    case ZELAMIKU_OPEN: return "the handle to be opened has something behind it";
-    case ZELAMIKU_WRONG_KIND: return "the handle is of the wrong kind";
-    case ZELAMIKU_NO_MEMORY: return "there was no memory";
-    case ZELAMIKU_WAITING: return "the session waits for a monitor";
-    case ZELAMIKU_NONE_LEFT: return "no session or call is left";
-    case ZELAMIKU_CALLS_LEFT: return "the host has yet to make calls of the device";
-    case ZELAMIKU_BAD_LANE: return "there is no such lane";
-    case ZELAMIKU_RUNNING: return "a session of the heap hasn't ended";
-    case ZELAMIKU_UNKNOWN_OBJECT: return "there is no such object";
-    case ZELAMIKU_UNKNOWN_FIELD: return "there is no such field";
-    case ZELAMIKU_NOT_HELD: return "the session doesn't hold the monitor";
-    case ZELAMIKU_BEHIND: return "there is no room for a whole section's records before a round";
-    case ZELAMIKU_SECTION_FULL: return "the section would have more than 1,000 records";
-    case ZELAMIKU_TOO_MANY: return "too many monitors are held, or too many objects or fields declared";
-    case ZELAMIKU_TOO_DEEP: return "the monitor is held by as many locks as can be counted";
-    case ZELAMIKU_NO_FAT: return "no place is left for a monitor that is waited for or locked more than 256 times";
-    case ZELAMIKU_WORN: return "a number has come to its end";
-    case ZELAMIKU_HELD: return "another session has the monitor";
-    case ZELAMIKU_IN_SET: return "nobody has notified the session";
-    case ZELAMIKU_FAULT: return "there was no memory for the calls of the device";
-    case ZELAMIKU_FAILED: return "the heap has stopped in an earlier call";
-    case ZELAMIKU_UNFINISHED: return "a session was ended while it held a monitor";
-    case ZELAMIKU_EMPTY: return "there is no object or no field";
-    case ZELAMIKU_NOT_FORMATTED: return "the bytes are no image of a heap";
-    case ZELAMIKU_BAD_HEADER: return "a number of the image, or of the heap to be made, is out of its limits";
-    case ZELAMIKU_TOO_SMALL: return "the bytes are fewer than the image has";
-    case ZELAMIKU_NO_CONTROL: return "the image has no control";
-    case ZELAMIKU_BAD_CONTROL: return "the image's control can't be read";
-    case ZELAMIKU_BAD_RECORD: return "the image has a record that can't be read";
-    case ZELAMIKU_ILLEGAL_LOG: return "no threads can have left the image's log";
-    case ZELAMIKU_DEVICE: return "a call of the device has failed";
-    case ZELAMIKU_LOST: return "a sync has failed or the connection has ended, and the heap has stopped";
-    case ZELAMIKU_BUSY: return "another process has the heap of the file, or the file was replaced or removed";
-    case ZELAMIKU_STOPPED: return "the heap has stopped since its host couldn't make a sync";
-    case ZELAMIKU_POOL_EMPTY: return "no slot of the pool is free";
-    case ZELAMIKU_NOT_TAKEN: return "the slot isn't taken, or the pool has no such slot";
-    case ZELAMIKU_DAMAGED: return "a field of the pool names no slot";
-    case ZELAMIKU_CLOSED: return "the heap was closed";
-    case ZELAMIKU_OLD_VERSION: return "the image has a version from before there were transient fields";
-    default: return "no status of zelamiku.h";
-    }
-}
+/* A text of a status, for people. zelamiku_heap_message (zelamiku_threads.h) tells more of a call that failed. */
+const char *zelamiku_status_text(uint32_t status);
 
 /* The version of the library, as ZELAMIKU_VERSION_NUMBER is of this header: other numbers, other releases. */
 ZELAMIKU_MUST_USE uint32_t zelamiku_version(void);
@@ -332,6 +289,14 @@ ZELAMIKU_MUST_USE zelamiku_status zelamiku_session(zelamiku_handle *heap, zelami
  * such a call, and can't make it.
  * After a refusal `call` is ZELAMIKU_NO_CALL. */
 ZELAMIKU_MUST_USE zelamiku_status zelamiku_next_call(zelamiku_handle *heap, zelamiku_call *call, uint8_t *bytes, size_t size);
+
+/* Copies bytes of the heap's image, from byte `at` of it on: as many as `bytes` has room for and the image has. `copied` gets how many: 0 at the
+ * image's end and past it, so that a host loops as with pread. The image is that of the disk in memory: what the device has once each call
+ * that was told, or is left, is made. So what opens the copy finds all that is acknowledged by then. Nothing changes by it. Between the first
+ * and the last piece of one copy there may be no zelamiku_round and no zelamiku_close; sessions and calls may go on. A heap that was closed, or
+ * has stopped by FAULT, FAILED or WORN, is copied too.
+ * NOTHING, WRONG_KIND, STOPPED: `copied` is 0, and `bytes` is as it was. */
+ZELAMIKU_MUST_USE zelamiku_status zelamiku_copy(zelamiku_handle *heap, uint64_t at, uint8_t *bytes, size_t size, uint64_t *copied);
 
 /* Says that the host has made the call that zelamiku_next_call told.
  * NONE_LEFT: no call was told. */

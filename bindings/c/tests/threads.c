@@ -1,19 +1,14 @@
-/* Tests of zelamiku_threads.h, on a file whose writes and syncs may fail.
+/* Tests of zelamiku_threads.c, on a file whose writes and syncs may fail, last or hang.
  *
- *     threads FOLDER      prints nothing but a last line, and answers 0, where all is as it must be */
+ *     threads FOLDER [MILLISECONDS]      answers 0 where all is as it must be */
 #define _GNU_SOURCE
 #include <errno.h>
 #include <fcntl.h>
-#include <pthread.h>
-#include <stdio.h>
-#include <stdlib.h>
-#include <sched.h>
 #include <sys/resource.h>
 #include <sys/types.h>
-#include <time.h>
 #include <unistd.h>
 
-static int writes_fail, syncs_fail; /* by the helper's thread, and set while it rests */
+static int writes_fail, syncs_fail; /* by who leads, and set while nobody does */
 static int syncs_hang;              /* a sync returns once this is 0 */
 static unsigned sync_time;          /* in microseconds; set while there is no helper */
 static unsigned syncs;
@@ -37,27 +32,16 @@ static int flaky_fdatasync(int file) {
     return fdatasync(file);
 }
 
-static const void *helpers_bell;
-static unsigned sleeps; /* how often threads have slept, but for the helper */
+#include "zelamiku.h"
 
-static int counted_cond_wait(pthread_cond_t *bell, pthread_mutex_t *mutex) {
-    if (bell != helpers_bell) __atomic_add_fetch(&sleeps, 1, __ATOMIC_SEQ_CST);
-    return pthread_cond_wait(bell, mutex);
-}
-
-#define pwrite flaky_pwrite
-#define fdatasync flaky_fdatasync
-#define pthread_cond_wait counted_cond_wait
-#include "zelamiku_file.h"
-
-static uint64_t *haste;               /* until when those without room look: set further, where a round lasts */
+static void make_haste(void);
 static unsigned round_waits;          /* so many microseconds before the library's call of a round */
-static int round_lasts;               /* and behind it until a thread has done more, or for a tenth of a second */
+static int round_lasts;               /* and after it until a thread has done more, or for a tenth of a second */
 static unsigned done;                 /* the sections of that thread */
-static unsigned went_on, stood_still; /* how often it had, and hadn't: by the helper's thread */
+static unsigned went_on, stood_still; /* how often it had, and hadn't: by who leads */
 
 static zelamiku_status lasting_round(zelamiku_handle *heap, uint64_t *applied) {
-    if (__atomic_load_n(&round_lasts, __ATOMIC_SEQ_CST)) __atomic_store_n(haste, UINT64_MAX, __ATOMIC_SEQ_CST);
+    if (__atomic_load_n(&round_lasts, __ATOMIC_SEQ_CST)) make_haste();
     if (round_waits > 0) usleep(round_waits);
     zelamiku_status status = zelamiku_round(heap, applied);
     unsigned before = __atomic_load_n(&done, __ATOMIC_SEQ_CST);
@@ -72,8 +56,10 @@ static zelamiku_status lasting_round(zelamiku_handle *heap, uint64_t *applied) {
     return status;
 }
 
+#define pwrite flaky_pwrite
+#define fdatasync flaky_fdatasync
 #define zelamiku_round lasting_round
-#include "zelamiku_threads.h"
+#include "../zelamiku_threads.c"
 #undef zelamiku_round
 
 #define MUST(is_so) \
@@ -88,27 +74,49 @@ enum { LANES = 8, TOTAL = 0, LIST = 1, COUNT = 1, TAKEN = 2, ROUNDS = 500 };
 
 static const zelamiku_field FIELDS[] = {{TOTAL, TOTAL, 0, 0}, {LIST, LIST, 0, 0}, {LIST, LIST, 0, 0}};
 
-static int file;
-static zelamiku_threads all;
+static zelamiku_heap all;
+static unsigned logged[3]; /* lines, by their level */
+
+/* Until when those without room look: set further, where a round lasts. */
+static void make_haste(void) {
+    heaps[all.number >> 8 & 255].haste = UINT64_MAX;
+}
+
+static void count_lines(void *of, uint32_t level, const char *text) {
+    MUST(level <= ZELAMIKU_LOG_ERROR && strstr(text, "threads.heap: ") == text && of == logged);
+    __atomic_add_fetch(&logged[level], 1, __ATOMIC_SEQ_CST);
+}
+
+static zelamiku_report begin_again(uint32_t capacity) {
+    zelamiku_plan plan = {.fields = FIELDS, .count = 3, .objects = 2, .lanes = LANES, .capacity = capacity, .linger = 1000, .log = count_lines,
+                          .log_of = logged};
+    zelamiku_report report;
+    MUST(zelamiku_heap_open(&all, "threads.heap", &plan, &report) == ZELAMIKU_OK && report.told.found.lanes == LANES);
+    return report;
+}
 
 static void begin_with(uint32_t capacity) {
-    zelamiku_handle heap = ZELAMIKU_NONE;
-    MUST(zelamiku_format_file(&heap, file, 2, FIELDS, 3, LANES, capacity) == ZELAMIKU_OK);
-    MUST(zelamiku_threads_start(&all, &heap, file, 1000) == ZELAMIKU_OK && all.lanes == LANES);
+    MUST(unlink("threads.heap") == 0 || errno == ENOENT);
+    MUST(begin_again(capacity).is_made == 1);
 }
 
 static void begin_anew(void) {
     begin_with(4000);
 }
 
-static void begin_again(void) {
-    zelamiku_handle heap = ZELAMIKU_NONE;
-    zelamiku_found found = {0};
-    MUST(zelamiku_open_file(&heap, file, &found) == ZELAMIKU_OK);
-    MUST(zelamiku_threads_start(&all, &heap, file, 1000) == ZELAMIKU_OK);
+static zelamiku_thread begin_thread(void) {
+    zelamiku_thread own;
+    MUST(zelamiku_thread_begin(&own, all) == ZELAMIKU_OK);
+    return own;
 }
 
-static uint64_t add(zelamiku_thread *own, uint32_t object, uint32_t field, uint64_t more) {
+static zelamiku_stats stats(void) {
+    zelamiku_stats found;
+    MUST(zelamiku_heap_stats(all, &found) == ZELAMIKU_OK);
+    return found;
+}
+
+static uint64_t add(zelamiku_thread own, uint32_t object, uint32_t field, uint64_t more) {
     uint64_t value = 0;
     MUST(zelamiku_thread_enter(own, object) == ZELAMIKU_OK && zelamiku_thread_load(own, field, &value) == ZELAMIKU_OK);
     if (more > 0) MUST(zelamiku_thread_store(own, field, value + more) == ZELAMIKU_OK);
@@ -117,10 +125,9 @@ static uint64_t add(zelamiku_thread *own, uint32_t object, uint32_t field, uint6
 }
 
 static uint64_t look(uint32_t object, uint32_t field) {
-    zelamiku_thread own;
-    MUST(zelamiku_thread_begin(&own, &all) == ZELAMIKU_OK);
-    uint64_t value = add(&own, object, field, 0);
-    MUST(zelamiku_thread_end(&own) == ZELAMIKU_OK);
+    zelamiku_thread own = begin_thread();
+    uint64_t value = add(own, object, field, 0);
+    MUST(zelamiku_thread_end(own) == ZELAMIKU_OK);
     return value;
 }
 
@@ -131,74 +138,81 @@ static void run(void *(*body)(void *), unsigned count) {
 }
 
 static void *count(void *data) {
-    zelamiku_thread own;
-    MUST(zelamiku_thread_begin(&own, &all) == ZELAMIKU_OK);
+    zelamiku_thread own = begin_thread();
     for (unsigned i = 1; i <= ROUNDS; i++) {
-        add(&own, TOTAL, 0, 1);
-        MUST(zelamiku_thread_sections(&own) == i);
-        if ((uintptr_t)data < 4 && i % 8 == 0)
-            MUST(zelamiku_thread_await(&own) == ZELAMIKU_OK && zelamiku_thread_durable(&own) == i);
+        add(own, TOTAL, 0, 1);
+        MUST(zelamiku_thread_sections(own) == i);
+        if ((uintptr_t)data < 4 && i % 8 == 0) MUST(zelamiku_thread_await(own) == ZELAMIKU_OK && zelamiku_thread_durable(own) == i);
     }
-    MUST(zelamiku_thread_end(&own) == ZELAMIKU_OK);
+    MUST(zelamiku_thread_end(own) == ZELAMIKU_OK);
     return NULL;
 }
 
 /* Even ones put, odd ones take, and at most four are there. */
 static void *pass(void *data) {
     bool puts = (uintptr_t)data % 2 == 0;
-    zelamiku_thread own;
+    zelamiku_thread own = begin_thread();
     uint64_t value = 0;
-    MUST(zelamiku_thread_begin(&own, &all) == ZELAMIKU_OK);
+    uint32_t woken = 0;
     for (unsigned i = 0; i < ROUNDS; i++) {
-        MUST(zelamiku_thread_enter(&own, LIST) == ZELAMIKU_OK);
+        MUST(zelamiku_thread_enter(own, LIST) == ZELAMIKU_OK);
         for (;;) {
-            MUST(zelamiku_thread_load(&own, COUNT, &value) == ZELAMIKU_OK);
+            MUST(zelamiku_thread_load(own, COUNT, &value) == ZELAMIKU_OK);
             if (value != (puts ? 4 : 0)) break;
-            MUST(zelamiku_thread_wait(&own, LIST) == ZELAMIKU_OK);
+            MUST(zelamiku_thread_wait(own, LIST) == ZELAMIKU_OK);
         }
-        MUST(zelamiku_thread_store(&own, COUNT, puts ? value + 1 : value - 1) == ZELAMIKU_OK);
+        MUST(zelamiku_thread_store(own, COUNT, puts ? value + 1 : value - 1) == ZELAMIKU_OK);
         if (!puts) {
-            MUST(zelamiku_thread_load(&own, TAKEN, &value) == ZELAMIKU_OK);
-            MUST(zelamiku_thread_store(&own, TAKEN, value + 1) == ZELAMIKU_OK);
+            MUST(zelamiku_thread_load(own, TAKEN, &value) == ZELAMIKU_OK);
+            MUST(zelamiku_thread_store(own, TAKEN, value + 1) == ZELAMIKU_OK);
         }
-        MUST(zelamiku_thread_notify_all(&own, LIST) == ZELAMIKU_OK && zelamiku_thread_exit(&own, LIST) == ZELAMIKU_OK);
+        MUST(zelamiku_thread_notify_all(own, LIST, &woken) == ZELAMIKU_OK && zelamiku_thread_exit(own, LIST) == ZELAMIKU_OK);
     }
-    MUST(zelamiku_thread_end(&own) == ZELAMIKU_OK);
+    MUST(zelamiku_thread_end(own) == ZELAMIKU_OK);
     return NULL;
+}
+
+static void lives(void) {
+    begin_anew();
+    run(count, LANES);
+    run(pass, LANES);
+    zelamiku_stats found = stats();
+    MUST(found.rounds > 0 && found.calls > found.syncs && found.syncs > 0 && found.calls_time > 0 && found.longest_round > 0);
+    MUST(found.lent == 0 && found.awaiting == 0 && found.entering == 0 && found.troubles == 0 && found.last_cause != ZELAMIKU_ROUND_NONE);
+    MUST(zelamiku_heap_close(all) == ZELAMIKU_OK);
+    MUST(begin_again(4000).is_made == 0);
+    MUST(look(TOTAL, 0) == LANES * ROUNDS && look(LIST, COUNT) == 0 && look(LIST, TAKEN) == LANES / 2 * ROUNDS);
+    MUST(zelamiku_heap_close(all) == ZELAMIKU_OK);
+    MUST(logged[ZELAMIKU_LOG_INFO] == 4 && logged[ZELAMIKU_LOG_WARNING] == 0 && logged[ZELAMIKU_LOG_ERROR] == 0);
 }
 
 /* A thread that never awaits finds room again and again, and its last section is durable in time. */
 static void unawaited(void) {
-    zelamiku_thread own;
-    struct timespec nap = {0, 1000000};
     begin_anew();
-    MUST(zelamiku_thread_begin(&own, &all) == ZELAMIKU_OK);
-    for (unsigned i = 0; i < 20000; i++) add(&own, TOTAL, 0, 1);
-    for (unsigned i = 0; zelamiku_thread_durable(&own) < 20000; i++) {
-        MUST(i < 20000);
-        nanosleep(&nap, NULL);
+    zelamiku_thread own = begin_thread();
+    for (unsigned sections = 20000; sections <= 20001; sections++) {
+        for (uint64_t i = zelamiku_thread_sections(own); i < sections; i++) add(own, TOTAL, 0, 1);
+        for (unsigned i = 0; zelamiku_thread_durable(own) < sections; i++) {
+            MUST(i < 20000);
+            usleep(1000);
+        }
     }
-    add(&own, TOTAL, 0, 1);
-    for (unsigned i = 0; zelamiku_thread_durable(&own) < 20001; i++) {
-        MUST(i < 20000);
-        nanosleep(&nap, NULL);
-    }
-    MUST(zelamiku_threads_stop(&all) == ZELAMIKU_OK);
+    MUST(zelamiku_heap_close(all) == ZELAMIKU_OK);
 }
+
+/* ---- room ---- */
 
 enum { SECTIONS = 20000 }; /* many times what a ring has room for */
 
 static void *do_sections(void *data) {
-    zelamiku_thread own;
-    MUST(zelamiku_thread_begin(&own, &all) == ZELAMIKU_OK);
+    zelamiku_thread own = begin_thread();
     for (unsigned i = 0; i < SECTIONS; i++) {
-        add(&own, TOTAL, 0, 1);
+        add(own, TOTAL, 0, 1);
         __atomic_add_fetch(&done, 1, __ATOMIC_SEQ_CST);
     }
     __atomic_store_n(&round_lasts, 0, __ATOMIC_SEQ_CST);
-    MUST(zelamiku_thread_await(&own) == ZELAMIKU_OK && zelamiku_thread_end(&own) == ZELAMIKU_OK);
-    (void)data;
-    return NULL;
+    MUST(zelamiku_thread_await(own) == ZELAMIKU_OK && zelamiku_thread_end(own) == ZELAMIKU_OK);
+    return data;
 }
 
 /* Whether a thread without room went on in four of five rounds that lasted until it did. */
@@ -207,287 +221,426 @@ static bool goes_on_while_a_round_takes(void) {
     round_lasts = 1;
     begin_with(65536);
     run(do_sections, 1);
-    MUST(zelamiku_threads_stop(&all) == ZELAMIKU_OK);
+    MUST(zelamiku_heap_close(all) == ZELAMIKU_OK);
     return went_on > 0 && stood_still <= went_on / 4;
 }
 
-/* A thread without room looks again while a round takes records, also before it has taken the first. A busy machine may keep it
- * from that, so that one of five tries has to show it. */
+/* A thread without room looks again while a round takes records, also before it has taken the first. A busy machine may keep it from that,
+ * so that one of five tries has to show it. */
 static void room_while_a_round_takes(void) {
     bool has_gone_on = false;
     round_waits = 1000;
     sync_time = 20000;
     for (unsigned tries = 0; tries < 5 && !has_gone_on; tries++) has_gone_on = goes_on_while_a_round_takes();
-#ifndef HELGRIND /* under which a tenth of a second is too short for that */
+#ifndef SLOWLY /* under a tool a tenth of a second is too short for that */
     MUST(has_gone_on);
 #endif
 }
 
 /* One that has looked in vain, and sleeps, goes on once the round has taken them. */
-static void room_behind_a_round(void) {
+static void room_after_a_round(void) {
     round_waits = 30000;
     begin_with(65536);
     run(do_sections, 1);
-    MUST(zelamiku_threads_stop(&all) == ZELAMIKU_OK);
+    MUST(zelamiku_heap_close(all) == ZELAMIKU_OK);
     round_waits = sync_time = 0;
 }
 
-static void lives(void) {
+/* Without room try_enter and a deadline answer BEHIND, and have asked for a round. */
+static void room_that_is_not_waited_for(void) {
     begin_anew();
-    run(count, LANES);
-    run(pass, LANES);
-    MUST(zelamiku_threads_stop(&all) == ZELAMIKU_OK);
-    begin_again();
-    MUST(look(TOTAL, 0) == LANES * ROUNDS && look(LIST, COUNT) == 0 && look(LIST, TAKEN) == LANES / 2 * ROUNDS);
-    MUST(zelamiku_threads_stop(&all) == ZELAMIKU_OK);
+    zelamiku_thread own = begin_thread();
+    zelamiku_status status;
+    MUST(zelamiku_thread_await(own) == ZELAMIKU_OK);
+    __atomic_store_n(&syncs_hang, 1, __ATOMIC_SEQ_CST);
+    while ((status = zelamiku_thread_enter_until(own, TOTAL, zelamiku_now() + 20000000)) == ZELAMIKU_OK)
+        MUST(zelamiku_thread_store(own, 0, 7) == ZELAMIKU_OK && zelamiku_thread_exit(own, TOTAL) == ZELAMIKU_OK);
+    MUST(status == ZELAMIKU_BEHIND && zelamiku_thread_try_enter(own, TOTAL) == ZELAMIKU_BEHIND);
+    __atomic_store_n(&syncs_hang, 0, __ATOMIC_SEQ_CST);
+    while ((status = zelamiku_thread_try_enter(own, TOTAL)) == ZELAMIKU_BEHIND) usleep(100);
+    MUST(status == ZELAMIKU_OK && zelamiku_thread_exit(own, TOTAL) == ZELAMIKU_OK && zelamiku_heap_close(all) == ZELAMIKU_OK);
 }
 
+/* ---- waits, and refusals ---- */
+
 static void *wait_once(void *data) {
-    zelamiku_thread own;
-    MUST(zelamiku_thread_begin(&own, &all) == ZELAMIKU_OK && zelamiku_thread_enter(&own, TOTAL) == ZELAMIKU_OK);
-    MUST(zelamiku_thread_enter(&own, TOTAL) == ZELAMIKU_OK && zelamiku_thread_store(&own, 0, 1) == ZELAMIKU_OK);
-    zelamiku_status status = zelamiku_thread_wait(&own, TOTAL);
+    zelamiku_thread own = begin_thread();
+    MUST(zelamiku_thread_enter(own, TOTAL) == ZELAMIKU_OK && zelamiku_thread_enter(own, TOTAL) == ZELAMIKU_OK);
+    MUST(zelamiku_thread_store(own, 0, 1) == ZELAMIKU_OK);
+    zelamiku_status status = zelamiku_thread_wait(own, TOTAL);
     if (status != ZELAMIKU_OK) return (void *)(uintptr_t)status;
     /* By both locks. */
-    MUST(zelamiku_thread_exit(&own, TOTAL) == ZELAMIKU_OK && zelamiku_thread_sections(&own) == 1);
-    MUST(zelamiku_thread_exit(&own, TOTAL) == ZELAMIKU_OK && zelamiku_thread_exit(&own, TOTAL) == ZELAMIKU_NOT_HELD);
-    MUST(zelamiku_thread_sections(&own) == 2 && zelamiku_thread_await(&own) == ZELAMIKU_OK);
-    MUST(zelamiku_thread_end(&own) == ZELAMIKU_OK);
+    MUST(zelamiku_thread_exit(own, TOTAL) == ZELAMIKU_OK && zelamiku_thread_sections(own) == 1);
+    MUST(zelamiku_thread_exit(own, TOTAL) == ZELAMIKU_OK && zelamiku_thread_exit(own, TOTAL) == ZELAMIKU_NOT_HELD);
+    MUST(zelamiku_thread_sections(own) == 2 && zelamiku_thread_await(own) == ZELAMIKU_OK);
+    MUST(zelamiku_thread_end(own) == ZELAMIKU_OK);
     (void)data;
     return NULL;
 }
 
-static void await_waiter(zelamiku_thread *own) {
+static void await_waiter(zelamiku_thread own) {
     while (add(own, TOTAL, 0, 0) == 0) sched_yield();
 }
 
-/* A heap isn't stopped while a session waits or a section is open, and lanes come and go. */
+/* A heap isn't closed while a thread waits or a section is open, and lanes come and go. */
 static void refusals(void) {
     begin_anew();
-    zelamiku_thread own, others[LANES];
+    zelamiku_thread own = begin_thread(), others[LANES];
     pthread_t waiter;
-    bool is_woken = true;
-    MUST(zelamiku_thread_begin(&own, &all) == ZELAMIKU_OK);
+    uint32_t woken = 9;
+    zelamiku_sight sight;
     MUST(pthread_create(&waiter, NULL, wait_once, NULL) == 0);
-    await_waiter(&own);
-    MUST(zelamiku_threads_stop(&all) == ZELAMIKU_RUNNING);
-    MUST(zelamiku_thread_enter(&own, 2) == ZELAMIKU_UNKNOWN_OBJECT && zelamiku_thread_notify(&own, TOTAL, &is_woken) == ZELAMIKU_NOT_HELD);
-    MUST(!is_woken && zelamiku_thread_enter(&own, TOTAL) == ZELAMIKU_OK);
-    MUST(zelamiku_thread_store(&own, 3, 0) == ZELAMIKU_UNKNOWN_FIELD);
-    MUST(zelamiku_thread_notify(&own, TOTAL, &is_woken) == ZELAMIKU_OK && is_woken);
-    MUST(zelamiku_thread_notify(&own, TOTAL, &is_woken) == ZELAMIKU_OK && !is_woken);
-    MUST(zelamiku_thread_end(&own) == ZELAMIKU_UNFINISHED && zelamiku_thread_exit(&own, TOTAL) == ZELAMIKU_OK);
+    await_waiter(own);
+    MUST(zelamiku_heap_close(all) == ZELAMIKU_RUNNING);
+    MUST(zelamiku_thread_notify(own, TOTAL, &woken) == ZELAMIKU_NOT_HELD && woken == 0 && zelamiku_thread_enter(own, TOTAL) == ZELAMIKU_OK);
+    MUST(zelamiku_thread_look(own, TOTAL, &sight) == ZELAMIKU_OK && sight.owner == zelamiku_thread_lane(own) && sight.locks == 1);
+    MUST(zelamiku_thread_notify(own, TOTAL, &woken) == ZELAMIKU_OK && woken == 1);
+    MUST(zelamiku_thread_notify(own, TOTAL, &woken) == ZELAMIKU_OK && woken == 0);
+    MUST(zelamiku_thread_end(own) == ZELAMIKU_UNFINISHED && zelamiku_thread_exit(own, TOTAL) == ZELAMIKU_OK);
     MUST(pthread_join(waiter, NULL) == 0);
-    for (unsigned i = 0; i < LANES - 1; i++) MUST(zelamiku_thread_begin(&others[i], &all) == ZELAMIKU_OK);
-    MUST(zelamiku_thread_begin(&others[LANES - 1], &all) == ZELAMIKU_NONE_LEFT);
-    MUST(zelamiku_thread_end(&others[0]) == ZELAMIKU_OK && zelamiku_thread_begin(&others[0], &all) == ZELAMIKU_OK);
-    MUST(zelamiku_thread_sections(&others[0]) == 0 && zelamiku_thread_await(&others[0]) == ZELAMIKU_OK);
-    MUST(zelamiku_thread_enter(&others[0], LIST) == ZELAMIKU_OK && zelamiku_threads_stop(&all) == ZELAMIKU_RUNNING);
-    MUST(zelamiku_thread_exit(&others[0], LIST) == ZELAMIKU_OK);
+    for (unsigned i = 0; i < LANES - 1; i++) others[i] = begin_thread();
+    MUST(zelamiku_thread_begin(&others[LANES - 1], all) == ZELAMIKU_NONE_LEFT && stats().lent == LANES);
+    MUST(zelamiku_thread_end(others[0]) == ZELAMIKU_OK && zelamiku_thread_begin(&others[0], all) == ZELAMIKU_OK);
+    MUST(zelamiku_thread_sections(others[0]) == 0 && zelamiku_thread_await(others[0]) == ZELAMIKU_OK);
+    MUST(zelamiku_thread_enter(others[0], LIST) == ZELAMIKU_OK && zelamiku_heap_close(all) == ZELAMIKU_RUNNING);
+    MUST(zelamiku_thread_exit(others[0], LIST) == ZELAMIKU_OK);
     /* Those that are lent and have nothing open don't matter. */
-    MUST(zelamiku_threads_stop(&all) == ZELAMIKU_OK);
+    MUST(zelamiku_heap_close(all) == ZELAMIKU_OK);
 }
+
+static void *hold_for_a_moment(void *data) {
+    zelamiku_thread own = *(zelamiku_thread *)data;
+    usleep(20000);
+    MUST(zelamiku_thread_exit(own, TOTAL) == ZELAMIKU_OK);
+    return NULL;
+}
+
+/* A monitor that isn't waited for, that is waited for too short, and long enough. */
+static void enters_with_deadlines(void) {
+    begin_anew();
+    zelamiku_thread own = begin_thread(), other = begin_thread();
+    pthread_t thread;
+    MUST(zelamiku_thread_enter(other, TOTAL) == ZELAMIKU_OK && zelamiku_thread_try_enter(own, TOTAL) == ZELAMIKU_HELD);
+    MUST(zelamiku_thread_enter_until(own, TOTAL, zelamiku_now() + 5000000) == ZELAMIKU_HELD && stats().entering == 0);
+    MUST(pthread_create(&thread, NULL, hold_for_a_moment, &other) == 0);
+    MUST(zelamiku_thread_enter_until(own, TOTAL, zelamiku_now() + 60000000000) == ZELAMIKU_OK);
+    MUST(pthread_join(thread, NULL) == 0 && zelamiku_thread_exit(own, TOTAL) == ZELAMIKU_OK);
+    /* What was given up isn't busy. */
+    MUST(zelamiku_heap_close(all) == ZELAMIKU_OK);
+}
+
+/* ---- writes and syncs that fail ---- */
 
 static void failing_writes(void) {
     begin_anew();
-    zelamiku_thread own;
-    MUST(zelamiku_thread_begin(&own, &all) == ZELAMIKU_OK);
-    add(&own, TOTAL, 0, 1);
-    MUST(zelamiku_thread_await(&own) == ZELAMIKU_OK);
+    unsigned warnings = logged[ZELAMIKU_LOG_WARNING], infos = logged[ZELAMIKU_LOG_INFO];
+    zelamiku_thread own = begin_thread();
+    add(own, TOTAL, 0, 1);
+    MUST(zelamiku_thread_await(own) == ZELAMIKU_OK);
     __atomic_store_n(&writes_fail, 1, __ATOMIC_SEQ_CST);
-    add(&own, TOTAL, 0, 1);
+    add(own, TOTAL, 0, 1);
     for (int i = 0; i < 3; i++) {
-        errno = 0;
-        MUST(zelamiku_thread_await(&own) == ZELAMIKU_DEVICE && errno == ENOSPC);
+        MUST(zelamiku_thread_await(own) == ZELAMIKU_DEVICE && zelamiku_heap_error() == ENOSPC);
+        MUST(strstr(zelamiku_heap_message(), "threads.heap: await: a write has failed: No space left on device") != NULL);
     }
-    MUST(zelamiku_thread_durable(&own) == 1 && zelamiku_threads_stop(&all) == ZELAMIKU_DEVICE);
+    MUST(zelamiku_thread_durable(own) == 1 && zelamiku_heap_close(all) == ZELAMIKU_DEVICE);
     /* A lane without room is told too. */
     zelamiku_status status = ZELAMIKU_OK;
-    while ((status = zelamiku_thread_enter(&own, TOTAL)) == ZELAMIKU_OK)
-        MUST(zelamiku_thread_store(&own, 0, 7) == ZELAMIKU_OK && zelamiku_thread_exit(&own, TOTAL) == ZELAMIKU_OK);
-    MUST(status == ZELAMIKU_DEVICE);
+    while ((status = zelamiku_thread_enter(own, TOTAL)) == ZELAMIKU_OK)
+        MUST(zelamiku_thread_store(own, 0, 7) == ZELAMIKU_OK && zelamiku_thread_exit(own, TOTAL) == ZELAMIKU_OK);
+    MUST(status == ZELAMIKU_DEVICE && zelamiku_heap_error() == ENOSPC);
     __atomic_store_n(&writes_fail, 0, __ATOMIC_SEQ_CST);
     /* A round that began before may be told. */
-    while ((status = zelamiku_thread_await(&own)) == ZELAMIKU_DEVICE) {}
-    MUST(status == ZELAMIKU_OK && zelamiku_thread_durable(&own) == zelamiku_thread_sections(&own));
-    MUST(zelamiku_threads_stop(&all) == ZELAMIKU_OK);
-    begin_again();
-    MUST(look(TOTAL, 0) == 7 && zelamiku_threads_stop(&all) == ZELAMIKU_OK);
+    while ((status = zelamiku_thread_await(own)) == ZELAMIKU_DEVICE) {}
+    MUST(status == ZELAMIKU_OK && zelamiku_thread_durable(own) == zelamiku_thread_sections(own));
+    MUST(stats().troubles >= 3 && logged[ZELAMIKU_LOG_WARNING] == warnings + 1 && logged[ZELAMIKU_LOG_INFO] == infos + 1);
+    MUST(zelamiku_heap_close(all) == ZELAMIKU_OK);
+    (void)begin_again(4000);
+    MUST(look(TOTAL, 0) == 7 && zelamiku_heap_close(all) == ZELAMIKU_OK);
+}
+
+/* Where nobody asks, the helper makes a write again after a second. */
+static void writes_again(void) {
+    begin_anew();
+    zelamiku_thread own = begin_thread();
+    __atomic_store_n(&writes_fail, 1, __ATOMIC_SEQ_CST);
+    add(own, TOTAL, 0, 1);
+    while (stats().troubles == 0) usleep(1000);
+    __atomic_store_n(&writes_fail, 0, __ATOMIC_SEQ_CST);
+    for (unsigned i = 0; zelamiku_thread_durable(own) < 1; i++) {
+        MUST(i < 10000);
+        usleep(1000);
+    }
+    MUST(stats().last_cause == ZELAMIKU_ROUND_AGAIN && zelamiku_heap_close(all) == ZELAMIKU_OK);
 }
 
 static void failing_syncs(void) {
     begin_anew();
-    zelamiku_thread own;
+    zelamiku_thread own = begin_thread(), other;
     pthread_t waiter;
     void *answer = NULL;
-    MUST(zelamiku_thread_begin(&own, &all) == ZELAMIKU_OK && pthread_create(&waiter, NULL, wait_once, NULL) == 0);
-    await_waiter(&own);
-    add(&own, TOTAL, 0, 1);
-    MUST(zelamiku_thread_await(&own) == ZELAMIKU_OK);
-    MUST(zelamiku_thread_enter(&own, TOTAL) == ZELAMIKU_OK && zelamiku_thread_store(&own, 0, 3) == ZELAMIKU_OK);
+    MUST(pthread_create(&waiter, NULL, wait_once, NULL) == 0);
+    await_waiter(own);
+    add(own, TOTAL, 0, 1);
+    MUST(zelamiku_thread_await(own) == ZELAMIKU_OK);
+    MUST(zelamiku_thread_enter(own, TOTAL) == ZELAMIKU_OK && zelamiku_thread_store(own, 0, 3) == ZELAMIKU_OK);
     __atomic_store_n(&syncs_fail, 1, __ATOMIC_SEQ_CST);
     /* A round may have taken a part of the section, so that its end is told already. */
-    zelamiku_status status = zelamiku_thread_exit(&own, TOTAL);
+    zelamiku_status status = zelamiku_thread_exit(own, TOTAL);
     MUST(status == ZELAMIKU_OK || status == ZELAMIKU_LOST);
-    errno = 0;
-    MUST(zelamiku_thread_await(&own) == ZELAMIKU_LOST && errno == EIO);
+    MUST(zelamiku_thread_await(own) == (status == ZELAMIKU_OK ? ZELAMIKU_LOST : ZELAMIKU_OK));
     __atomic_store_n(&syncs_fail, 0, __ATOMIC_SEQ_CST);
     unsigned before = __atomic_load_n(&syncs, __ATOMIC_SEQ_CST);
     MUST(pthread_join(waiter, &answer) == 0 && (uintptr_t)answer == ZELAMIKU_LOST);
-    zelamiku_thread other;
-    errno = 0;
-    MUST(zelamiku_thread_enter(&own, TOTAL) == ZELAMIKU_LOST && errno == EIO);
-    errno = 0;
-    MUST(zelamiku_thread_begin(&other, &all) == ZELAMIKU_LOST && errno == EIO && zelamiku_thread_await(&own) == ZELAMIKU_LOST);
-    errno = 0;
-    MUST(zelamiku_threads_stop(&all) == ZELAMIKU_LOST && errno == EIO);
-    MUST(__atomic_load_n(&syncs, __ATOMIC_SEQ_CST) == before);
-    begin_again();
+    MUST(zelamiku_thread_enter(own, TOTAL) == ZELAMIKU_LOST && zelamiku_heap_error() == EIO);
+    MUST(strstr(zelamiku_heap_message(), "Input/output error; close the heap, mount the file system") != NULL);
+    MUST(zelamiku_thread_begin(&other, all) == ZELAMIKU_LOST && zelamiku_heap_error() == EIO);
+    MUST(zelamiku_heap_close(all) == ZELAMIKU_LOST && zelamiku_heap_error() == EIO);
+    MUST(__atomic_load_n(&syncs, __ATOMIC_SEQ_CST) == before && logged[ZELAMIKU_LOG_ERROR] == 1);
+    (void)begin_again(4000);
     uint64_t value = look(TOTAL, 0);
-    MUST((value == 2 || value == 3) && zelamiku_threads_stop(&all) == ZELAMIKU_OK);
+    MUST((value == 2 || value == 3) && zelamiku_heap_close(all) == ZELAMIKU_OK);
 }
 
-static struct timespec after(long milliseconds) {
-    struct timespec due;
-    MUST(clock_gettime(CLOCK_MONOTONIC, &due) == 0);
-    due.tv_nsec += milliseconds * 1000000;
-    due.tv_sec += due.tv_nsec / 1000000000;
-    due.tv_nsec %= 1000000000;
-    return due;
-}
-
-static bool is_past(const struct timespec *due) {
-    struct timespec now = after(0);
-    return now.tv_sec > due->tv_sec || (now.tv_sec == due->tv_sec && now.tv_nsec >= due->tv_nsec);
-}
-
-/* A deadline that passes leaves all as it was, and the round that was asked for goes on. */
+/* Waits with a deadline, while a sync hangs. Others go on meanwhile, and ask. */
 static void deadlines(void) {
     begin_anew();
-    zelamiku_thread own;
-    bool is_durable = true;
-    MUST(zelamiku_thread_begin(&own, &all) == ZELAMIKU_OK);
-    add(&own, TOTAL, 0, 1);
-    struct timespec due = after(10000);
-    MUST(zelamiku_thread_await_until(&own, &due, &is_durable) == ZELAMIKU_OK && is_durable && !is_past(&due));
+    zelamiku_thread own = begin_thread();
+    bool is = true;
+    uint64_t rounds = 0;
+    MUST(zelamiku_thread_await_until(own, ZELAMIKU_ALL_SECTIONS, 1, &is) == ZELAMIKU_OK && is);
+    add(own, TOTAL, 0, 1);
+    MUST(zelamiku_thread_await(own) == ZELAMIKU_OK);
     __atomic_store_n(&syncs_hang, 1, __ATOMIC_SEQ_CST);
-    add(&own, TOTAL, 0, 1);
-    for (long milliseconds = -5; milliseconds <= 20; milliseconds += 25) {
-        due = after(milliseconds);
-        MUST(zelamiku_thread_await_until(&own, &due, &is_durable) == ZELAMIKU_OK && !is_durable && is_past(&due));
-    }
-    MUST(zelamiku_thread_durable(&own) == 1);
-    add(&own, TOTAL, 0, 1);
+    add(own, TOTAL, 0, 1);
+    MUST(zelamiku_thread_await_until(own, 1, ZELAMIKU_NO_DEADLINE, &is) == ZELAMIKU_OK && is);
+    uint64_t due = zelamiku_now() + 50000000;
+    MUST(zelamiku_thread_await_until(own, ZELAMIKU_ALL_SECTIONS, due, &is) == ZELAMIKU_OK && !is && zelamiku_now() >= due);
+    MUST(zelamiku_thread_await_until(own, 2, 0, &is) == ZELAMIKU_OK && !is && zelamiku_thread_durable(own) == 1);
+    MUST(zelamiku_heap_await_round(all, stats().rounds, zelamiku_now() + 10000000, &rounds) == ZELAMIKU_OK && rounds == stats().rounds);
+    MUST(add(own, TOTAL, 0, 1) == 2 && stats().awaiting == 0);
     __atomic_store_n(&syncs_hang, 0, __ATOMIC_SEQ_CST);
-    due = after(10000);
-    MUST(zelamiku_thread_await_until(&own, &due, &is_durable) == ZELAMIKU_OK && is_durable && zelamiku_thread_durable(&own) == 3);
-    due = after(-5);
-    MUST(zelamiku_thread_await_until(&own, &due, &is_durable) == ZELAMIKU_OK && is_durable);
-    __atomic_store_n(&syncs_fail, 1, __ATOMIC_SEQ_CST);
-    add(&own, TOTAL, 0, 1);
-    due = after(10000);
-    MUST(zelamiku_thread_await_until(&own, &due, &is_durable) == ZELAMIKU_LOST && !is_durable);
-    __atomic_store_n(&syncs_fail, 0, __ATOMIC_SEQ_CST);
-    MUST(zelamiku_threads_stop(&all) == ZELAMIKU_LOST);
+    MUST(zelamiku_heap_await_round(all, rounds, ZELAMIKU_NO_DEADLINE, &rounds) == ZELAMIKU_OK);
+    MUST(zelamiku_thread_await(own) == ZELAMIKU_OK && zelamiku_thread_durable(own) == 3 && zelamiku_heap_close(all) == ZELAMIKU_OK);
 }
 
-/* The helper hangs in a sync of the first round, which has nothing of a thread's. */
-static void begin_hanging(void) {
-    zelamiku_handle heap = ZELAMIKU_NONE;
-    MUST(zelamiku_format_file(&heap, file, 2, FIELDS, 3, LANES, 2000) == ZELAMIKU_OK);
-    unsigned before = __atomic_load_n(&syncs, __ATOMIC_SEQ_CST);
-    __atomic_store_n(&syncs_hang, 1, __ATOMIC_SEQ_CST);
-    MUST(zelamiku_threads_start(&all, &heap, file, 1000) == ZELAMIKU_OK);
-    while (__atomic_load_n(&syncs, __ATOMIC_SEQ_CST) == before) usleep(100);
+/* Whether the thread ends within ten seconds. */
+static bool ends(pthread_t thread, void **answer) {
+    struct timespec due;
+    MUST(clock_gettime(CLOCK_REALTIME, &due) == 0);
+    due.tv_sec += 10;
+    return pthread_timedjoin_np(thread, answer, &due) == 0;
 }
 
 static void *fail_soon(void *data) {
-    usleep(20000);
+    usleep(50000);
     __atomic_store_n(&syncs_fail, 1, __ATOMIC_SEQ_CST);
     __atomic_store_n(&syncs_hang, 0, __ATOMIC_SEQ_CST);
     return data;
 }
 
-/* A stop that looks just when a sync fails doesn't hide that: sooner or later it is answered LOST. */
-static void stops_beside_failing_syncs(void) {
-    for (unsigned tries = 0; tries < 100; tries++) {
-        zelamiku_thread own;
-        zelamiku_status status;
-        begin_hanging();
-        MUST(zelamiku_thread_begin(&own, &all) == ZELAMIKU_OK && zelamiku_thread_enter(&own, TOTAL) == ZELAMIKU_OK);
-        MUST(zelamiku_threads_stop(&all) == ZELAMIKU_RUNNING);
-        struct timespec due = after(10000);
-        __atomic_store_n(&syncs_fail, 1, __ATOMIC_SEQ_CST);
-        __atomic_store_n(&syncs_hang, 0, __ATOMIC_SEQ_CST);
-        while ((status = zelamiku_threads_stop(&all)) == ZELAMIKU_RUNNING) MUST(!is_past(&due));
-        MUST(status == ZELAMIKU_LOST && errno == EIO);
-        __atomic_store_n(&syncs_fail, 0, __ATOMIC_SEQ_CST);
-    }
-    /* And where all is durable, so that it has closed the heap meanwhile. */
-    pthread_t other;
-    begin_hanging();
-    MUST(pthread_create(&other, NULL, fail_soon, NULL) == 0);
-    errno = 0;
-    MUST(zelamiku_threads_stop(&all) == ZELAMIKU_LOST && errno == EIO && pthread_join(other, NULL) == 0);
-    __atomic_store_n(&syncs_fail, 0, __ATOMIC_SEQ_CST);
+static void *await_one(void *data) {
+    zelamiku_thread own = begin_thread();
+    add(own, LIST, COUNT, 1);
+    (void)data;
+    return (void *)(uintptr_t)zelamiku_thread_await(own);
 }
 
-/* Whether the thread ends within ten seconds. */
-static bool ends(pthread_t thread) {
-    struct timespec due;
-    MUST(clock_gettime(CLOCK_REALTIME, &due) == 0);
-    due.tv_sec += 10;
-    return pthread_timedjoin_np(thread, NULL, &due) == 0;
+/* A sync that fails while the heap is closed, and while it is stopped. */
+static void ends_beside_failing_syncs(void) {
+    for (int stops = 0; stops < 2; stops++) {
+        begin_anew();
+        pthread_t other, waiter;
+        void *answer = NULL;
+        zelamiku_thread own = begin_thread();
+        __atomic_store_n(&syncs_hang, 1, __ATOMIC_SEQ_CST);
+        MUST(pthread_create(&waiter, NULL, await_one, NULL) == 0);
+        while (stats().awaiting == 0) usleep(100);
+        add(own, TOTAL, 0, 1);
+        MUST(pthread_create(&other, NULL, fail_soon, NULL) == 0);
+        MUST((stops ? zelamiku_heap_stop(all) : zelamiku_heap_close(all)) == ZELAMIKU_LOST && zelamiku_heap_error() == EIO);
+        MUST(pthread_join(other, NULL) == 0 && ends(waiter, &answer));
+        MUST((uintptr_t)answer == ZELAMIKU_LOST || (stops && (uintptr_t)answer == ZELAMIKU_CLOSED));
+        __atomic_store_n(&syncs_fail, 0, __ATOMIC_SEQ_CST);
+    }
+}
+
+/* ---- the end ---- */
+
+static zelamiku_thread holder;
+
+static void *want_monitor(void *data) {
+    zelamiku_thread own = begin_thread();
+    (void)data;
+    return (void *)(uintptr_t)zelamiku_thread_enter(own, TOTAL);
+}
+
+static void *await_what_depends(void *data) {
+    zelamiku_thread own = begin_thread();
+    add(own, TOTAL, 0, 1);
+    (void)data;
+    return (void *)(uintptr_t)zelamiku_thread_await(own);
+}
+
+/* A stop while threads hold, want, wait and await: each returns. What had ended is kept, what hadn't is dropped, with what depends on it. */
+static void stops(zelamiku_status why) {
+    begin_anew();
+    zelamiku_thread own = begin_thread();
+    pthread_t waits, wants, awaits;
+    void *answer[3];
+    MUST(pthread_create(&waits, NULL, wait_once, NULL) == 0);
+    await_waiter(own);
+    add(own, LIST, COUNT, 5);
+    /* It gives TOTAL back inside of its section: who takes it depends on that. */
+    holder = begin_thread();
+    MUST(zelamiku_thread_enter(holder, LIST) == ZELAMIKU_OK && zelamiku_thread_enter(holder, TOTAL) == ZELAMIKU_OK);
+    MUST(zelamiku_thread_store(holder, 0, 90) == ZELAMIKU_OK && zelamiku_thread_exit(holder, TOTAL) == ZELAMIKU_OK);
+    MUST(pthread_create(&awaits, NULL, await_what_depends, NULL) == 0);
+    while (stats().awaiting == 0) usleep(100);
+    MUST(zelamiku_thread_enter(holder, TOTAL) == ZELAMIKU_OK);
+    MUST(pthread_create(&wants, NULL, want_monitor, NULL) == 0);
+    while (stats().entering == 0) usleep(100);
+    MUST((why == ZELAMIKU_CLOSED ? zelamiku_heap_stop(all) : zelamiku_heap_abandon(all)) == ZELAMIKU_OK);
+    MUST(ends(waits, &answer[0]) && ends(wants, &answer[1]) && ends(awaits, &answer[2]));
+    for (int i = 0; i < 3; i++) MUST((zelamiku_status)(uintptr_t)answer[i] == why);
+    MUST(zelamiku_thread_exit(holder, TOTAL) == why && zelamiku_thread_end(holder) == why && zelamiku_thread_end(own) == why);
+    zelamiku_report report = begin_again(4000);
+#ifndef MOCKED
+    MUST(report.told.found.dropped == 2 && look(TOTAL, 0) == 1);
+#endif
+    MUST(look(LIST, COUNT) == 5 && zelamiku_heap_close(all) == ZELAMIKU_OK);
+    (void)report;
+}
+
+static void *close_too(void *data) {
+    zelamiku_status status = zelamiku_heap_close(all);
+    MUST(status == ZELAMIKU_OK || status == ZELAMIKU_CLOSED || status == ZELAMIKU_NOTHING);
+    return status == ZELAMIKU_OK ? data : NULL;
+}
+
+/* Of many that close it one does. */
+static void closes_at_once(void) {
+    for (int i = 0; i < 20; i++) {
+        pthread_t threads[LANES];
+        unsigned closed = 0;
+        begin_anew();
+        zelamiku_thread own = begin_thread();
+        add(own, TOTAL, 0, 1);
+        for (unsigned k = 0; k < LANES; k++) MUST(pthread_create(&threads[k], NULL, close_too, &all) == 0);
+        for (unsigned k = 0; k < LANES; k++) {
+            void *answer;
+            MUST(pthread_join(threads[k], &answer) == 0);
+            closed += answer != NULL;
+        }
+        MUST(closed == 1);
+    }
+}
+
+static void *count_until_the_end(void *data) {
+    zelamiku_thread own;
+    zelamiku_status status = zelamiku_thread_begin(&own, all);
+    while (status == ZELAMIKU_OK) {
+        status = zelamiku_thread_enter(own, TOTAL);
+        if (status == ZELAMIKU_OK) status = zelamiku_thread_store(own, 0, 1);
+        if (status == ZELAMIKU_OK) status = zelamiku_thread_exit(own, TOTAL);
+        if (status == ZELAMIKU_OK && (uintptr_t)data % 2 == 0) status = zelamiku_thread_await(own);
+    }
+    MUST(status == ZELAMIKU_CLOSED || status == ZELAMIKU_ABANDONED);
+    return NULL;
+}
+
+/* Stops while all threads are busy, at any moment. */
+static void stops_in_full_run(void) {
+    for (unsigned i = 0; i < 100; i++) {
+        pthread_t threads[LANES];
+        begin_anew();
+        for (unsigned k = 0; k < LANES; k++) MUST(pthread_create(&threads[k], NULL, count_until_the_end, (void *)(uintptr_t)k) == 0);
+        usleep(i * 37 % 2000);
+        MUST((i % 2 == 0 ? zelamiku_heap_stop(all) : zelamiku_heap_abandon(all)) == ZELAMIKU_OK);
+        for (unsigned k = 0; k < LANES; k++) MUST(ends(threads[k], NULL));
+    }
+}
+
+/* ---- copies ---- */
+
+static void *copy_again(void *data) {
+    for (int i = 0; i < 20; i++) MUST(zelamiku_heap_copy(all, data == NULL ? "copy" : "other copy") == ZELAMIKU_OK);
+    return NULL;
+}
+
+/* A copy of a running heap has all that was durable before, and its parts fit together. */
+static void copies(void) {
+    begin_anew();
+    zelamiku_thread own = begin_thread();
+    add(own, TOTAL, 0, 3);
+    MUST(zelamiku_thread_await(own) == ZELAMIKU_OK && zelamiku_heap_copy(all, "copy") == ZELAMIKU_OK);
+    pthread_t threads[4], copiers[2];
+    for (unsigned i = 0; i < 4; i++) MUST(pthread_create(&threads[i], NULL, count, (void *)(uintptr_t)(2 * i)) == 0);
+    for (unsigned i = 0; i < 2; i++) MUST(pthread_create(&copiers[i], NULL, copy_again, i == 0 ? NULL : &all) == 0);
+    for (unsigned i = 0; i < 4; i++) MUST(pthread_join(threads[i], NULL) == 0);
+    for (unsigned i = 0; i < 2; i++) MUST(pthread_join(copiers[i], NULL) == 0);
+    MUST(zelamiku_heap_copy(all, "last copy") == ZELAMIKU_OK);
+    uint64_t total = 3 + 4 * ROUNDS;
+    zelamiku_heap before = all;
+    zelamiku_plan plan = {.fields = FIELDS, .count = 3, .objects = 2, .lanes = LANES};
+    static const char *const NAMES[] = {"copy", "other copy", "last copy"};
+    for (unsigned i = 0; i < 3; i++) {
+        MUST(zelamiku_heap_open(&all, NAMES[i], &plan, NULL) == ZELAMIKU_OK);
+        uint64_t found = look(TOTAL, 0);
+        MUST(i == 2 ? found == total : found >= 3 && found <= total);
+        MUST(zelamiku_heap_close(all) == ZELAMIKU_OK && unlink(NAMES[i]) == 0);
+    }
+    all = before;
+    MUST(zelamiku_heap_close(all) == ZELAMIKU_OK);
+}
+
+/* ---- sessions before ---- */
+
+static zelamiku_status no_calls(zelamiku_handle *heap, void *device, uint64_t *made) {
+    zelamiku_call call = {0, 0, 0};
+    uint8_t bytes[ZELAMIKU_MOST_BYTES];
+    (void)device;
+    for (*made = 0;; ++*made) {
+        zelamiku_status status = zelamiku_next_call(heap, &call, bytes, sizeof bytes);
+        if (status != ZELAMIKU_OK || call.kind == ZELAMIKU_NO_CALL) return status;
+        status = zelamiku_call_done(heap);
+        if (status != ZELAMIKU_OK) return status;
+    }
 }
 
 /* Where a session had a lane before, its sections aren't taken for a thread's, and each thread has the lane that it is known by. */
-static void behind_a_session(void) {
-    zelamiku_handle heap = ZELAMIKU_NONE, session = ZELAMIKU_NONE;
+static void after_a_session(void) {
+    zelamiku_handle handle = ZELAMIKU_NONE, session = ZELAMIKU_NONE;
     uint64_t number = 0;
-    zelamiku_thread own;
     pthread_t waiter;
-    bool is = true;
-    MUST(zelamiku_format_file(&heap, file, 2, FIELDS, 3, LANES, 2000) == ZELAMIKU_OK);
-    MUST(zelamiku_session(&heap, &session) == ZELAMIKU_OK && zelamiku_try_enter(&session, LIST) == ZELAMIKU_OK);
+    uint32_t woken = 0;
+    MUST(zelamiku_format(&handle, 2, FIELDS, 3, LANES, 2000, &number) == ZELAMIKU_OK);
+    MUST(zelamiku_session(&handle, &session) == ZELAMIKU_OK && zelamiku_try_enter(&session, LIST) == ZELAMIKU_OK);
     MUST(zelamiku_store(&session, COUNT, 7) == ZELAMIKU_OK && zelamiku_exit(&session, LIST) == ZELAMIKU_OK);
-    MUST(zelamiku_end(&session) == ZELAMIKU_OK && zelamiku_round(&heap, &number) == ZELAMIKU_OK);
-    MUST(zelamiku_make_calls(&heap, file, &number) == ZELAMIKU_OK);
-    MUST(zelamiku_threads_start(&all, &heap, file, 1000) == ZELAMIKU_OK && all.lanes == LANES);
-    MUST(zelamiku_thread_begin(&own, &all) == ZELAMIKU_OK && zelamiku_thread_sections(&own) == 0);
-    while (__atomic_load_n(&all.rounds, __ATOMIC_SEQ_CST) == 0) usleep(100);
-    __atomic_store_n(&syncs_hang, 1, __ATOMIC_SEQ_CST);
-    add(&own, LIST, COUNT, 1);
-    struct timespec due = after(50);
-    MUST(zelamiku_thread_await_until(&own, &due, &is) == ZELAMIKU_OK && !is && zelamiku_thread_durable(&own) == 0);
-    __atomic_store_n(&syncs_hang, 0, __ATOMIC_SEQ_CST);
-    MUST(zelamiku_thread_await(&own) == ZELAMIKU_OK && zelamiku_thread_durable(&own) == 1 && zelamiku_thread_sections(&own) == 1);
+    MUST(zelamiku_end(&session) == ZELAMIKU_OK && zelamiku_round(&handle, &number) == ZELAMIKU_OK);
+    MUST(no_calls(&handle, NULL, &number) == ZELAMIKU_OK);
+    MUST(zelamiku_heap_start(&all, "a device", &handle, no_calls, NULL, NULL) == ZELAMIKU_OK);
+    zelamiku_thread own = begin_thread();
+    MUST(zelamiku_thread_sections(own) == 0 && zelamiku_thread_durable(own) == 0);
+    add(own, LIST, COUNT, 1);
+    MUST(zelamiku_thread_await(own) == ZELAMIKU_OK && zelamiku_thread_durable(own) == 1 && zelamiku_thread_sections(own) == 1);
     MUST(pthread_create(&waiter, NULL, wait_once, NULL) == 0);
-    await_waiter(&own);
-    MUST(zelamiku_thread_enter(&own, TOTAL) == ZELAMIKU_OK);
-    MUST(zelamiku_thread_notify(&own, TOTAL, &is) == ZELAMIKU_OK && is && zelamiku_thread_exit(&own, TOTAL) == ZELAMIKU_OK);
-    MUST(ends(waiter));
-    MUST(zelamiku_thread_end(&own) == ZELAMIKU_OK && zelamiku_threads_stop(&all) == ZELAMIKU_OK);
-    begin_again();
-    MUST(look(LIST, COUNT) == 8 && zelamiku_threads_stop(&all) == ZELAMIKU_OK);
-    /* One that is out still, whichever lane it has. */
-    for (unsigned ended = 0; ended < 2; ended++) {
-        zelamiku_handle sessions[2] = {ZELAMIKU_NONE, ZELAMIKU_NONE};
-        MUST(zelamiku_format_file(&heap, file, 2, FIELDS, 3, LANES, 2000) == ZELAMIKU_OK);
-        for (unsigned i = 0; i < 2; i++) MUST(zelamiku_session(&heap, &sessions[i]) == ZELAMIKU_OK);
-        MUST(zelamiku_end(&sessions[ended]) == ZELAMIKU_OK);
-        MUST(zelamiku_threads_start(&all, &heap, file, 1000) == ZELAMIKU_RUNNING && heap.is_open);
-        zelamiku_free(&sessions[1 - ended]);
-        zelamiku_free(&heap);
-    }
+    await_waiter(own);
+    MUST(zelamiku_thread_enter(own, TOTAL) == ZELAMIKU_OK);
+    MUST(zelamiku_thread_notify_all(own, TOTAL, &woken) == ZELAMIKU_OK && woken == 1 && zelamiku_thread_exit(own, TOTAL) == ZELAMIKU_OK);
+    MUST(ends(waiter, NULL) && look(LIST, COUNT) == 8);
+    MUST(zelamiku_thread_end(own) == ZELAMIKU_OK && zelamiku_heap_close(all) == ZELAMIKU_OK);
 }
+
+/* ---- turns, and rest ---- */
 
 static unsigned order[LANES], in_order; /* under TOTAL's monitor */
 
 static void *take_turn(void *data) {
-    zelamiku_thread own;
-    MUST(zelamiku_thread_begin(&own, &all) == ZELAMIKU_OK && zelamiku_thread_enter(&own, TOTAL) == ZELAMIKU_OK);
+    zelamiku_thread own = begin_thread();
+    MUST(zelamiku_thread_enter(own, TOTAL) == ZELAMIKU_OK);
     order[in_order++] = (unsigned)(uintptr_t)data;
-    MUST(zelamiku_thread_exit(&own, TOTAL) == ZELAMIKU_OK && zelamiku_thread_end(&own) == ZELAMIKU_OK);
+    MUST(zelamiku_thread_exit(own, TOTAL) == ZELAMIKU_OK && zelamiku_thread_end(own) == ZELAMIKU_OK);
     return NULL;
 }
 
@@ -495,22 +648,21 @@ static void *take_turn(void *data) {
  * again so often, and keeps it until all that it has woken sleep again. */
 static void turns(unsigned takes_between) {
     begin_anew();
-    zelamiku_thread own;
+    zelamiku_thread own = begin_thread();
     pthread_t threads[LANES - 1];
-    MUST(zelamiku_thread_begin(&own, &all) == ZELAMIKU_OK && zelamiku_thread_enter(&own, TOTAL) == ZELAMIKU_OK);
+    MUST(zelamiku_thread_enter(own, TOTAL) == ZELAMIKU_OK);
     in_order = 0;
-    unsigned before = __atomic_load_n(&sleeps, __ATOMIC_SEQ_CST);
     for (unsigned i = 0; i < LANES - 1; i++) {
         MUST(pthread_create(&threads[i], NULL, take_turn, (void *)(uintptr_t)i) == 0);
-        /* One that only stands in its place may try once more. */
-        while (__atomic_load_n(&sleeps, __ATOMIC_SEQ_CST) - before <= i) usleep(100);
+        while (stats().entering <= i) usleep(100);
     }
+    usleep(20000); /* one that only stands in its place may try once more */
     for (unsigned i = 0; i < takes_between; i++)
-        MUST(zelamiku_thread_exit(&own, TOTAL) == ZELAMIKU_OK && zelamiku_thread_enter(&own, TOTAL) == ZELAMIKU_OK);
+        MUST(zelamiku_thread_exit(own, TOTAL) == ZELAMIKU_OK && zelamiku_thread_enter(own, TOTAL) == ZELAMIKU_OK);
     if (takes_between > 0) usleep(20000);
-    MUST(zelamiku_thread_exit(&own, TOTAL) == ZELAMIKU_OK);
+    MUST(zelamiku_thread_exit(own, TOTAL) == ZELAMIKU_OK);
     for (unsigned i = 0; i < LANES - 1; i++) MUST(pthread_join(threads[i], NULL) == 0 && order[i] == i);
-    MUST(zelamiku_thread_end(&own) == ZELAMIKU_OK && zelamiku_threads_stop(&all) == ZELAMIKU_OK);
+    MUST(zelamiku_thread_end(own) == ZELAMIKU_OK && zelamiku_heap_close(all) == ZELAMIKU_OK);
 }
 
 static double processor_time(void) {
@@ -520,55 +672,48 @@ static double processor_time(void) {
 }
 
 /* A heap with nothing to do, and a thread that waits, take no processor time. */
-static void rest(unsigned milliseconds) {
+static void rest_for(unsigned milliseconds) {
     begin_anew();
-    zelamiku_thread own;
+    zelamiku_thread own = begin_thread();
     pthread_t waiter;
-    struct timespec pause = {milliseconds / 1000, (long)(milliseconds % 1000) * 1000000};
-    bool is_woken = false;
-    MUST(zelamiku_thread_begin(&own, &all) == ZELAMIKU_OK && pthread_create(&waiter, NULL, wait_once, NULL) == 0);
-    await_waiter(&own);
-    MUST(zelamiku_thread_await(&own) == ZELAMIKU_OK);
-    struct timespec settle = {0, 50000000};
-    nanosleep(&settle, NULL);
+    uint32_t woken = 0;
+    MUST(pthread_create(&waiter, NULL, wait_once, NULL) == 0);
+    await_waiter(own);
+    MUST(zelamiku_thread_await(own) == ZELAMIKU_OK);
+    usleep(50000);
     double before = processor_time();
-    nanosleep(&pause, NULL);
+    usleep(milliseconds * 1000);
     double taken = processor_time() - before;
     printf("at rest for %u ms: %.6f s of processor time\n", milliseconds, taken);
     MUST(taken < 0.01);
-    MUST(zelamiku_thread_enter(&own, TOTAL) == ZELAMIKU_OK && zelamiku_thread_notify(&own, TOTAL, &is_woken) == ZELAMIKU_OK && is_woken);
-    MUST(zelamiku_thread_exit(&own, TOTAL) == ZELAMIKU_OK && pthread_join(waiter, NULL) == 0);
-    MUST(zelamiku_threads_stop(&all) == ZELAMIKU_OK);
+    MUST(zelamiku_thread_enter(own, TOTAL) == ZELAMIKU_OK && zelamiku_thread_notify(own, TOTAL, &woken) == ZELAMIKU_OK && woken == 1);
+    MUST(zelamiku_thread_exit(own, TOTAL) == ZELAMIKU_OK && pthread_join(waiter, NULL) == 0 && zelamiku_heap_close(all) == ZELAMIKU_OK);
 }
 
 int main(int argc, char **argv) {
     MUST(argc >= 2 && chdir(argv[1]) == 0);
-    file = open("threads.image", O_RDWR | O_CREAT | O_TRUNC, 0644);
-    MUST(file >= 0);
-    helpers_bell = &all.bell;
-    haste = &all.haste;
-    ZELAMIKU_IS_ATOMIC(writes_fail);
-    ZELAMIKU_IS_ATOMIC(syncs_fail);
-    ZELAMIKU_IS_ATOMIC(syncs_hang);
-    ZELAMIKU_IS_ATOMIC(syncs);
-    ZELAMIKU_IS_ATOMIC(sleeps);
-    ZELAMIKU_IS_ATOMIC(round_lasts);
-    ZELAMIKU_IS_ATOMIC(done);
     lives();
     unawaited();
     room_while_a_round_takes();
-    room_behind_a_round();
+    room_after_a_round();
+    room_that_is_not_waited_for();
     refusals();
+    enters_with_deadlines();
     failing_writes();
+    writes_again();
     failing_syncs();
     deadlines();
-    stops_beside_failing_syncs();
-    behind_a_session();
+    ends_beside_failing_syncs();
+    stops(ZELAMIKU_CLOSED);
+    stops(ZELAMIKU_ABANDONED);
+    closes_at_once();
+    stops_in_full_run();
+    copies();
+    after_a_session();
     turns(0);
     for (int i = 0; i < 5; i++) turns(20);
-    rest(argc > 2 ? (unsigned)strtoul(argv[2], NULL, 10) : 200);
-    printf("threads: lives of %d threads, room, refusals, writes and syncs that fail, deadlines, stops beside these, sessions before, turns, "
-           "and rest\n",
+    rest_for(argc > 2 ? (unsigned)strtoul(argv[2], NULL, 10) : 200);
+    printf("threads: lives of %d threads, room, refusals, deadlines, writes and syncs that fail, stops, copies, sessions before, turns, and rest\n",
            LANES);
     return 0;
 }

@@ -1,0 +1,548 @@
+/* Wrong calls of zelamiku_threads.h: each is answered by its status, says why, and breaks nothing.
+ *
+ *     wrong_calls FOLDER      prints how many there were, and answers 0, where each was answered as it must be */
+#define _GNU_SOURCE
+#include <errno.h>
+#include <fcntl.h>
+#include <pthread.h>
+#include <stdio.h>
+#include <stdlib.h>
+#include <string.h>
+#include <sys/resource.h>
+#include <sys/stat.h>
+#include <sys/wait.h>
+#include <unistd.h>
+#include "zelamiku_threads.h"
+
+static unsigned calls, wrong;
+
+/* Answers, and no failures: they leave the message as it was. */
+static bool has_message(zelamiku_status status) {
+    return status != ZELAMIKU_OK && status != ZELAMIKU_HELD && status != ZELAMIKU_BEHIND && status != ZELAMIKU_POOL_EMPTY;
+}
+
+static void look_at(zelamiku_status status, zelamiku_status expected, const char *text, const char *call, int line) {
+    calls++;
+    bool is_told = !has_message(expected) || strstr(zelamiku_heap_message(), text) != NULL;
+    if (status == expected && is_told) return;
+    wrong++;
+    fprintf(stderr, "line %d: %s: %s, and not %s; it says: %s\n", line, call, zelamiku_status_text(status), zelamiku_status_text(expected),
+            zelamiku_heap_message());
+}
+
+/* A call, what it must answer, and what its message must have in it. */
+#define IS(call, status, text) look_at((call), ZELAMIKU_##status, (text), #call, __LINE__)
+#define MUST(is_so) \
+    do { \
+        if (!(is_so)) { \
+            fprintf(stderr, "line %d: %s: %s\n", __LINE__, #is_so, zelamiku_heap_message()); \
+            exit(1); \
+        } \
+    } while (0)
+
+enum { OBJECTS = 20, FIELDS = 4 + 9, HEAD = 4, SLOTS = 8, POOL = 1 };
+static zelamiku_field fields[FIELDS];
+static zelamiku_plan plan = {.fields = fields, .count = FIELDS, .objects = OBJECTS, .lanes = 3, .capacity = 2000};
+
+static void prepare(void) {
+    for (uint32_t i = 0; i < 4; i++) fields[i] = (zelamiku_field){i, i, i, i == 3};
+    MUST(zelamiku_pool_fields(POOL, fields + HEAD, SLOTS + 1) == ZELAMIKU_OK);
+}
+
+/* ---- opening ---- */
+
+static void bad_plans(void) {
+    zelamiku_heap heap;
+    zelamiku_report report;
+    zelamiku_plan bad = plan;
+    zelamiku_field one = {0, 0, 0, 0};
+    IS(zelamiku_heap_open(NULL, "a", &plan, NULL), NOTHING, "NULL");
+    IS(zelamiku_heap_open(&heap, NULL, &plan, NULL), NOTHING, "NULL");
+    IS(zelamiku_heap_open(&heap, "a", NULL, NULL), NOTHING, "NULL");
+    bad.fields = NULL;
+    IS(zelamiku_heap_open(&heap, "a", &bad, &report), NOTHING, "NULL");
+    bad = plan, bad.objects = 0;
+    IS(zelamiku_heap_open(&heap, "a", &bad, &report), EMPTY, "objects is 0");
+    bad = plan, bad.objects = 4097;
+    IS(zelamiku_heap_open(&heap, "a", &bad, &report), TOO_MANY, "objects is 4097 in the plan; it may be 1 to 4096");
+    bad = plan, bad.count = 0;
+    IS(zelamiku_heap_open(&heap, "a", &bad, &report), EMPTY, "count of fields is 0");
+    bad.fields = NULL;
+    IS(zelamiku_heap_open(&heap, "a", &bad, &report), EMPTY, "count of fields is 0");
+    bad = plan, bad.count = 16385;
+    IS(zelamiku_heap_open(&heap, "a", &bad, &report), TOO_MANY, "16384");
+    bad = plan, bad.lanes = 33;
+    IS(zelamiku_heap_open(&heap, "a", &bad, &report), BAD_HEADER, "lanes is 33 in the plan; it may be 1 to 32");
+    bad = plan, bad.capacity = 1999;
+    IS(zelamiku_heap_open(&heap, "a", &bad, &report), BAD_HEADER, "capacity is 1999");
+    bad = plan, bad.capacity = 1048577;
+    IS(zelamiku_heap_open(&heap, "a", &bad, &report), BAD_HEADER, "1048576");
+    bad = plan, bad.fields = &one, bad.count = 1, one.owner = OBJECTS;
+    IS(zelamiku_heap_open(&heap, "a", &bad, &report), UNKNOWN_OBJECT, "the owner of field 0 is 20");
+    one.owner = 0, one.guard = UINT32_MAX;
+    IS(zelamiku_heap_open(&heap, "a", &bad, &report), UNKNOWN_OBJECT, "the guard of field 0 is 4294967295");
+    MUST(heap.number == 0 && access("a", F_OK) != 0);
+}
+
+static void bad_paths(void) {
+    zelamiku_heap heap;
+    char longest[5000];
+    memset(longest, 'x', sizeof longest - 1);
+    longest[sizeof longest - 1] = 0;
+    IS(zelamiku_heap_open(&heap, "", &plan, NULL), DEVICE, "No such file");
+    IS(zelamiku_heap_open(&heap, "no such folder/heap", &plan, NULL), DEVICE, "no such folder/heap: open: it can't be opened: No such file");
+    IS(zelamiku_heap_open(&heap, ".", &plan, NULL), DEVICE, "Is a directory");
+    IS(zelamiku_heap_open(&heap, "/dev/null", &plan, NULL), DEVICE, "it is no regular file");
+    IS(zelamiku_heap_open(&heap, "/dev/full", &plan, NULL), DEVICE, "it is no regular file");
+    IS(zelamiku_heap_open(&heap, longest, &plan, NULL), DEVICE, "File name too long");
+    MUST(mkfifo("fifo", 0600) == 0 && symlink("circle", "circle") == 0 && symlink("nowhere/at all", "dangling") == 0);
+    IS(zelamiku_heap_open(&heap, "fifo", &plan, NULL), DEVICE, "it is no regular file");
+    IS(zelamiku_heap_open(&heap, "circle", &plan, NULL), DEVICE, "Too many levels");
+    IS(zelamiku_heap_open(&heap, "dangling", &plan, NULL), DEVICE, "No such file");
+    MUST(zelamiku_heap_error() == ENOENT);
+}
+
+static void write_file(const char *path, const char *bytes, size_t size) {
+    int file = open(path, O_RDWR | O_CREAT | O_TRUNC | O_CLOEXEC, 0600);
+    MUST(file >= 0 && write(file, bytes, size) == (ssize_t)size && close(file) == 0);
+}
+
+static void must_have(const char *path, const char *bytes, size_t size) {
+    char found[256];
+    int file = open(path, O_RDONLY | O_CLOEXEC);
+    MUST(file >= 0 && read(file, found, sizeof found) == (ssize_t)size && memcmp(found, bytes, size) == 0 && close(file) == 0);
+}
+
+static void other_files(void) {
+    zelamiku_heap heap;
+    char almost[200] = {0};
+    almost[199] = 1;
+    write_file("notes", "notes", 5);
+    IS(zelamiku_heap_open(&heap, "notes", &plan, NULL), NOT_FORMATTED, "notes: open: it has no heap, and isn't empty");
+    must_have("notes", "notes", 5);
+    write_file("almost", almost, sizeof almost);
+    IS(zelamiku_heap_open(&heap, "almost", &plan, NULL), NOT_FORMATTED, "left as it is");
+    must_have("almost", almost, sizeof almost);
+    /* As root a file without rights is opened; then it is free, and gets a heap. */
+    if (getuid() != 0) {
+        write_file("locked", "", 0);
+        MUST(chmod("locked", 0) == 0);
+        IS(zelamiku_heap_open(&heap, "locked", &plan, NULL), DEVICE, "Permission denied");
+    }
+}
+
+/* A heap that is there, and plans that differ from it. */
+static void other_plans(void) {
+    zelamiku_heap heap;
+    zelamiku_report report;
+    zelamiku_field changed[FIELDS];
+    memcpy(changed, fields, sizeof fields);
+    zelamiku_plan bad = plan;
+    MUST(zelamiku_heap_open(&heap, "plans", &plan, NULL) == ZELAMIKU_OK && zelamiku_heap_close(heap) == ZELAMIKU_OK);
+    bad.lanes = 5;
+    IS(zelamiku_heap_open(&heap, "plans", &bad, &report), OTHER_HEAP, "heapctl format --lanes 5");
+    MUST(report.difference == ZELAMIKU_DIFFERENT_LANES && report.has == 3 && report.planned == 5);
+    bad = plan, bad.objects = OBJECTS + 1;
+    IS(zelamiku_heap_open(&heap, "plans", &bad, &report), OTHER_HEAP, "objects: 20 in the file, and 21 in the plan");
+    MUST(report.difference == ZELAMIKU_DIFFERENT_OBJECTS);
+    bad = plan, bad.count = FIELDS - 1;
+    IS(zelamiku_heap_open(&heap, "plans", &bad, &report), OTHER_HEAP, "fields: 13 in the file, and 12 in the plan");
+    bad = plan, bad.fields = changed, changed[1].owner = 7;
+    IS(zelamiku_heap_open(&heap, "plans", &bad, &report), OTHER_HEAP, "the owner of field 1: 1 in the file, and 7 in the plan");
+    MUST(report.difference == ZELAMIKU_DIFFERENT_OWNER && report.field == 1 && report.has == 1 && report.planned == 7);
+    changed[1].owner = 1, changed[2].guard = 0;
+    IS(zelamiku_heap_open(&heap, "plans", &bad, &report), OTHER_HEAP, "the guard of field 2: 2 in the file, and 0 in the plan");
+    changed[2].guard = 2, changed[3].is_transient = 0;
+    IS(zelamiku_heap_open(&heap, "plans", &bad, &report), OTHER_HEAP, "the transient mark of field 3");
+    changed[3].is_transient = 1, changed[0].is_transient = 1;
+    IS(zelamiku_heap_open(&heap, "plans", &bad, &report), OTHER_HEAP, "the transient mark of field 0");
+    /* Fewer lanes, another first value: the heap is the plan's. */
+    changed[0].is_transient = 0, changed[0].first = 77, bad.lanes = 1;
+    IS(zelamiku_heap_open(&heap, "plans", &bad, &report), OK, "");
+    MUST(report.told.found.lanes == 3 && report.difference == ZELAMIKU_SAME && report.is_made == 0);
+    IS(zelamiku_heap_close(heap), OK, "");
+}
+
+static void damaged(void) {
+    zelamiku_heap heap;
+    zelamiku_report report;
+    MUST(zelamiku_heap_open(&heap, "damaged", &plan, NULL) == ZELAMIKU_OK && zelamiku_heap_close(heap) == ZELAMIKU_OK);
+    static const struct {
+        off_t at;
+        uint8_t byte;
+        zelamiku_status status;
+    } CASES[] = {{9, 77, ZELAMIKU_BAD_HEADER}, {64, 0, ZELAMIKU_NO_CONTROL}, {20, 255, ZELAMIKU_BAD_HEADER}};
+    for (size_t i = 0; i < sizeof CASES / sizeof *CASES; i++) {
+        uint8_t before[2];
+        int file = open("damaged", O_RDWR | O_CLOEXEC);
+        MUST(file >= 0 && pread(file, before, 1, CASES[i].at) == 1 && pread(file, before + 1, 1, 1112) == 1);
+        uint8_t none = 0;
+        MUST(pwrite(file, &CASES[i].byte, 1, CASES[i].at) == 1);
+        if (CASES[i].at == 64) MUST(pwrite(file, &none, 1, 1112) == 1);
+        look_at(zelamiku_heap_open(&heap, "damaged", &plan, &report), CASES[i].status, "take the back-up", "a damaged heap", __LINE__);
+        MUST(pwrite(file, before, 1, CASES[i].at) == 1 && pwrite(file, before + 1, 1, 1112) == 1 && close(file) == 0);
+    }
+    MUST(truncate("damaged", 2000) == 0);
+    IS(zelamiku_heap_open(&heap, "damaged", &plan, &report), TOO_SMALL, "damaged: open: the bytes are fewer");
+}
+
+/* ---- handles ---- */
+
+/* Each call by a handle that is nothing. */
+static void by_nobody(zelamiku_thread thread, zelamiku_status status, const char *text) {
+    uint64_t value = 1;
+    uint32_t count = 1;
+    bool is = true;
+    zelamiku_sight sight;
+#define ANSWERS(call) look_at((call), status, text, #call, __LINE__)
+    ANSWERS(zelamiku_thread_enter(thread, 0));
+    ANSWERS(zelamiku_thread_try_enter(thread, 0));
+    ANSWERS(zelamiku_thread_enter_until(thread, 0, 1));
+    ANSWERS(zelamiku_thread_exit(thread, 0));
+    ANSWERS(zelamiku_thread_load(thread, 0, &value));
+    ANSWERS(zelamiku_thread_store(thread, 0, 1));
+    ANSWERS(zelamiku_thread_wait(thread, 0));
+    ANSWERS(zelamiku_thread_notify(thread, 0, &count));
+    ANSWERS(zelamiku_thread_notify_all(thread, 0, &count));
+    ANSWERS(zelamiku_thread_take(thread, HEAD, SLOTS, &count));
+    ANSWERS(zelamiku_thread_give(thread, HEAD, SLOTS, 0));
+    ANSWERS(zelamiku_thread_look(thread, 0, &sight));
+    MUST(value == 0 && sight.owner == ZELAMIKU_NOBODY);
+    if (status == ZELAMIKU_NOTHING) {
+        ANSWERS(zelamiku_thread_await(thread));
+        ANSWERS(zelamiku_thread_await_until(thread, 3, 1, &is));
+        MUST(!is && zelamiku_thread_sections(thread) == 0 && zelamiku_thread_durable(thread) == 0);
+        MUST(zelamiku_thread_lane(thread) == ZELAMIKU_NOBODY);
+    }
+    ANSWERS(zelamiku_thread_end(thread));
+}
+
+static void by_no_heap(zelamiku_heap heap, zelamiku_status status, const char *text) {
+    zelamiku_thread thread = {1};
+    zelamiku_stats stats;
+    uint64_t rounds = 1;
+    size_t told = 1;
+    ANSWERS(zelamiku_thread_begin(&thread, heap));
+    if (status == ZELAMIKU_NOTHING) {
+        ANSWERS(zelamiku_heap_stats(heap, &stats));
+        ANSWERS(zelamiku_heap_dropped(heap, 0, NULL, 0, &told));
+    }
+    ANSWERS(zelamiku_heap_await_round(heap, 0, 1, &rounds));
+    ANSWERS(zelamiku_heap_copy(heap, "copy"));
+    ANSWERS(zelamiku_heap_close(heap));
+    ANSWERS(zelamiku_heap_stop(heap));
+    ANSWERS(zelamiku_heap_abandon(heap));
+    MUST(thread.number == 0);
+}
+
+static void handles(void) {
+    zelamiku_heap heap, second;
+    zelamiku_thread own, other, garbage = {0x123456789abcdefu}, none = {0}, all_ones = {UINT64_MAX};
+    by_nobody(none, ZELAMIKU_NOTHING, "nothing is behind the handle");
+    by_nobody(garbage, ZELAMIKU_NOTHING, "nothing is behind the handle");
+    by_nobody(all_ones, ZELAMIKU_NOTHING, "nothing is behind the handle");
+    by_no_heap((zelamiku_heap){0}, ZELAMIKU_NOTHING, "nothing");
+    by_no_heap((zelamiku_heap){12345}, ZELAMIKU_NOTHING, "nothing");
+    MUST(zelamiku_heap_open(&heap, "handles", &plan, NULL) == ZELAMIKU_OK);
+    by_nobody((zelamiku_thread){heap.number}, ZELAMIKU_NOTHING, "nothing");
+    MUST(zelamiku_thread_begin(&own, heap) == ZELAMIKU_OK);
+    by_no_heap((zelamiku_heap){own.number}, ZELAMIKU_NOTHING, "nothing");
+    by_nobody((zelamiku_thread){own.number + 1}, ZELAMIKU_NOTHING, "nothing");
+    /* Ended, and its lane lent again: the old handle stays nothing. */
+    MUST(zelamiku_thread_end(own) == ZELAMIKU_OK);
+    by_nobody(own, ZELAMIKU_NOTHING, "nothing");
+    MUST(zelamiku_thread_begin(&other, heap) == ZELAMIKU_OK);
+    by_nobody(own, ZELAMIKU_NOTHING, "nothing");
+    /* The same file, by three names. */
+    MUST(link("handles", "hard") == 0 && symlink("handles", "soft") == 0);
+    IS(zelamiku_heap_open(&second, "handles", &plan, NULL), BUSY, "handles: open: this process has its heap open already");
+    IS(zelamiku_heap_open(&second, "hard", &plan, NULL), BUSY, "this process has its heap open already");
+    IS(zelamiku_heap_open(&second, "soft", &plan, NULL), BUSY, "this process has its heap open already");
+    IS(zelamiku_heap_copy(heap, "handles"), BUSY, "a heap of that path is open");
+    MUST(second.number == 0);
+    zelamiku_thread third, fourth;
+    MUST(zelamiku_thread_begin(&own, heap) == ZELAMIKU_OK && zelamiku_thread_begin(&third, heap) == ZELAMIKU_OK);
+    IS(zelamiku_thread_begin(&fourth, heap), NONE_LEFT, "handles: begin: all lanes are in use");
+    by_nobody(fourth, ZELAMIKU_NOTHING, "nothing");
+    IS(zelamiku_thread_begin(NULL, heap), NOTHING, "NULL");
+    IS(zelamiku_heap_stats(heap, NULL), NOTHING, "NULL");
+    IS(zelamiku_heap_copy(heap, NULL), NOTHING, "NULL");
+    IS(zelamiku_heap_await_round(heap, 0, 1, NULL), NOTHING, "NULL");
+    IS(zelamiku_heap_dropped(heap, 0, NULL, 0, NULL), NOTHING, "NULL");
+    IS(zelamiku_heap_close(heap), OK, "");
+    by_nobody(own, ZELAMIKU_CLOSED, "handles: ");
+    by_nobody(third, ZELAMIKU_CLOSED, "the heap was closed or stopped");
+    by_no_heap(heap, ZELAMIKU_CLOSED, "handles: ");
+}
+
+/* ---- a thread's calls ---- */
+
+static void sections(void) {
+    zelamiku_heap heap;
+    zelamiku_thread own, other;
+    uint64_t value = 5;
+    uint32_t count = 5, slot = 0;
+    bool is = true;
+    MUST(zelamiku_heap_open(&heap, "sections", &plan, NULL) == ZELAMIKU_OK);
+    MUST(zelamiku_thread_begin(&own, heap) == ZELAMIKU_OK && zelamiku_thread_begin(&other, heap) == ZELAMIKU_OK);
+    IS(zelamiku_thread_load(own, 0, NULL), NOTHING, "NULL");
+    IS(zelamiku_thread_notify(own, 0, NULL), NOTHING, "NULL");
+    IS(zelamiku_thread_notify_all(own, 0, NULL), NOTHING, "NULL");
+    IS(zelamiku_thread_take(own, HEAD, SLOTS, NULL), NOTHING, "NULL");
+    IS(zelamiku_thread_look(own, 0, NULL), NOTHING, "NULL");
+    IS(zelamiku_thread_await_until(own, 0, 0, NULL), NOTHING, "NULL");
+    for (unsigned in = 0; in < 2; in++) {
+        /* Without a monitor, and with another one. */
+        if (in == 1) MUST(zelamiku_thread_enter(own, 2) == ZELAMIKU_OK);
+        IS(zelamiku_thread_load(own, 0, &value), NOT_HELD, "sections: load field 0");
+        IS(zelamiku_thread_load(own, FIELDS, &value), UNKNOWN_FIELD, "load field 13");
+        IS(zelamiku_thread_store(own, 0, 1), NOT_HELD, "store field 0");
+        IS(zelamiku_thread_store(own, UINT32_MAX, 1), UNKNOWN_FIELD, "store field 4294967295");
+        IS(zelamiku_thread_exit(own, 0), NOT_HELD, "exit object 0");
+        IS(zelamiku_thread_exit(own, OBJECTS), UNKNOWN_OBJECT, "exit object 20");
+        IS(zelamiku_thread_wait(own, 0), NOT_HELD, "object 0");
+        IS(zelamiku_thread_wait(own, OBJECTS), UNKNOWN_OBJECT, "object 20");
+        IS(zelamiku_thread_notify(own, 0, &count), NOT_HELD, "object 0");
+        IS(zelamiku_thread_notify(own, OBJECTS, &count), UNKNOWN_OBJECT, "object 20");
+        IS(zelamiku_thread_notify_all(own, 0, &count), NOT_HELD, "object 0");
+        IS(zelamiku_thread_notify_all(own, OBJECTS, &count), UNKNOWN_OBJECT, "object 20");
+        IS(zelamiku_thread_take(own, HEAD, SLOTS, &slot), NOT_HELD, "4");
+        IS(zelamiku_thread_give(own, HEAD, SLOTS, 0), NOT_HELD, "");
+        IS(zelamiku_thread_take(own, 99, SLOTS, &slot), UNKNOWN_FIELD, "99");
+        IS(zelamiku_thread_enter(own, OBJECTS), UNKNOWN_OBJECT, "sections: enter object 20");
+        IS(zelamiku_thread_try_enter(own, UINT32_MAX), UNKNOWN_OBJECT, "object 4294967295");
+        IS(zelamiku_thread_enter_until(own, OBJECTS, 0), UNKNOWN_OBJECT, "object 20");
+        MUST(value == 0 && count == 0 && slot == ZELAMIKU_NO_SLOT);
+    }
+    IS(zelamiku_thread_end(own), UNFINISHED, "sections: end: the thread holds a monitor; exit it before");
+    IS(zelamiku_heap_close(heap), RUNNING, "sections: close: a section is open or a thread waits");
+    IS(zelamiku_thread_try_enter(other, 2), HELD, "");
+    IS(zelamiku_thread_enter_until(other, 2, 0), HELD, "");
+    IS(zelamiku_thread_enter_until(other, 2, zelamiku_now() + 1000000), HELD, "");
+    IS(zelamiku_thread_exit(own, 2), OK, "");
+    IS(zelamiku_thread_enter_until(other, 2, 1), OK, "");
+    IS(zelamiku_thread_exit(other, 2), OK, "");
+    IS(zelamiku_thread_await_until(own, ZELAMIKU_ALL_SECTIONS, 0, &is), OK, "");
+    zelamiku_sight sight;
+    IS(zelamiku_thread_look(own, OBJECTS, &sight), UNKNOWN_OBJECT, "look at object 20");
+    IS(zelamiku_heap_close(heap), OK, "");
+}
+
+static void limits(void) {
+    zelamiku_heap heap;
+    zelamiku_thread own;
+    uint32_t slot = 0;
+    MUST(zelamiku_heap_open(&heap, "limits", &plan, NULL) == ZELAMIKU_OK && zelamiku_thread_begin(&own, heap) == ZELAMIKU_OK);
+    for (uint32_t i = 0; i < ZELAMIKU_MOST_HELD; i++) MUST(zelamiku_thread_enter(own, i) == ZELAMIKU_OK);
+    IS(zelamiku_thread_enter(own, 16), TOO_MANY, "limits: enter object 16: the thread holds 16 monitors");
+    for (uint32_t i = 0; i < ZELAMIKU_MOST_HELD; i++) MUST(zelamiku_thread_exit(own, i) == ZELAMIKU_OK);
+    MUST(zelamiku_thread_enter(own, 0) == ZELAMIKU_OK);
+    zelamiku_status status = ZELAMIKU_OK;
+    unsigned stores = 0;
+    while ((status = zelamiku_thread_store(own, 0, stores)) == ZELAMIKU_OK && stores < 2000) stores++;
+    look_at(status, ZELAMIKU_SECTION_FULL, "more than 1,000 records", "the last store", __LINE__);
+    IS(zelamiku_thread_exit(own, 0), OK, "");
+    MUST(zelamiku_thread_enter(own, 0) == ZELAMIKU_OK);
+    for (uint32_t i = 1; (status = zelamiku_thread_enter(own, 0)) == ZELAMIKU_OK && i < 70000; i++) {}
+    look_at(status, ZELAMIKU_TOO_DEEP, "65,536 locks", "the last enter", __LINE__);
+    for (uint32_t i = 0; i < ZELAMIKU_MOST_LOCKS; i++) MUST(zelamiku_thread_exit(own, 0) == ZELAMIKU_OK);
+    IS(zelamiku_thread_exit(own, 0), NOT_HELD, "exit object 0");
+    /* A pool. */
+    MUST(zelamiku_thread_enter(own, POOL) == ZELAMIKU_OK);
+    IS(zelamiku_thread_give(own, HEAD, SLOTS, 0), NOT_TAKEN, "limits: give back slot 0");
+    IS(zelamiku_thread_give(own, HEAD, SLOTS, SLOTS), NOT_TAKEN, "slot 8");
+    for (uint32_t i = 0; i < SLOTS; i++) MUST(zelamiku_thread_take(own, HEAD, SLOTS, &slot) == ZELAMIKU_OK);
+    IS(zelamiku_thread_take(own, HEAD, SLOTS, &slot), POOL_EMPTY, "");
+    MUST(slot == ZELAMIKU_NO_SLOT && zelamiku_thread_give(own, HEAD, SLOTS, 3) == ZELAMIKU_OK);
+    IS(zelamiku_thread_give(own, HEAD, SLOTS, 3), NOT_TAKEN, "slot 3");
+    MUST(zelamiku_thread_store(own, HEAD, 1000) == ZELAMIKU_OK);
+    IS(zelamiku_thread_take(own, HEAD, SLOTS, &slot), DAMAGED, "limits: take of the pool at field 4");
+    IS(zelamiku_thread_exit(own, POOL), OK, "");
+    IS(zelamiku_heap_close(heap), OK, "");
+}
+
+/* Copies that can't be. */
+static void copies(void) {
+    zelamiku_heap heap;
+    MUST(zelamiku_heap_open(&heap, "copies", &plan, NULL) == ZELAMIKU_OK);
+    MUST(mkdir("folder", 0700) == 0);
+    IS(zelamiku_heap_copy(heap, "no such folder/copy"), DEVICE, "no such folder/copy: copy: the copy can't be written: No such file");
+    IS(zelamiku_heap_copy(heap, "folder"), DEVICE, "Is a directory");
+    IS(zelamiku_heap_copy(heap, ""), DEVICE, "");
+    MUST(zelamiku_heap_close(heap) == ZELAMIKU_OK);
+}
+
+/* ---- ends ---- */
+
+static void *hold(void *data) {
+    zelamiku_thread own = *(zelamiku_thread *)data;
+    MUST(zelamiku_thread_enter(own, 0) == ZELAMIKU_OK && zelamiku_thread_store(own, 0, 99) == ZELAMIKU_OK);
+    return NULL; /* inside its section */
+}
+
+static void *sleeps_in_vain(void *data) {
+    zelamiku_thread own = *(zelamiku_thread *)data;
+    return (void *)(uintptr_t)zelamiku_thread_enter(own, 0);
+}
+
+/* A thread has ended inside its section. Those that wait for it go on, and the section is dropped. */
+static void abandoned(void) {
+    zelamiku_heap heap;
+    zelamiku_thread dead, waiting, own;
+    zelamiku_report report;
+    pthread_t thread, waiter;
+    void *answer;
+    uint64_t value = 0;
+    MUST(zelamiku_heap_open(&heap, "abandoned", &plan, NULL) == ZELAMIKU_OK && zelamiku_thread_begin(&dead, heap) == ZELAMIKU_OK);
+    MUST(zelamiku_thread_begin(&waiting, heap) == ZELAMIKU_OK && zelamiku_thread_begin(&own, heap) == ZELAMIKU_OK);
+    MUST(zelamiku_thread_enter(own, 1) == ZELAMIKU_OK && zelamiku_thread_store(own, 1, 7) == ZELAMIKU_OK);
+    MUST(zelamiku_thread_exit(own, 1) == ZELAMIKU_OK && zelamiku_thread_enter(own, 2) == ZELAMIKU_OK);
+    MUST(pthread_create(&thread, NULL, hold, &dead) == 0 && pthread_join(thread, NULL) == 0);
+    MUST(pthread_create(&waiter, NULL, sleeps_in_vain, &waiting) == 0);
+    usleep(20000);
+    IS(zelamiku_heap_close(heap), RUNNING, "or stop the heap");
+    IS(zelamiku_heap_abandon(heap), OK, "");
+    MUST(pthread_join(waiter, &answer) == 0);
+    look_at((zelamiku_status)(uintptr_t)answer, ZELAMIKU_ABANDONED, "", "an enter that slept", __LINE__);
+    IS(zelamiku_thread_load(own, 2, &value), ABANDONED, "abandoned: load: the heap was abandoned; open it again");
+    by_nobody(own, ZELAMIKU_ABANDONED, "the heap was abandoned");
+    IS(zelamiku_thread_await(waiting), OK, ""); /* it has no section */
+    by_nobody(dead, ZELAMIKU_ABANDONED, "the heap was abandoned");
+    by_no_heap(heap, ZELAMIKU_ABANDONED, "abandoned");
+    IS(zelamiku_heap_open(&heap, "abandoned", &plan, &report), OK, "");
+    MUST(report.told.found.dropped == 2 && zelamiku_thread_begin(&own, heap) == ZELAMIKU_OK);
+    zelamiku_dropped dropped[3];
+    size_t told = 0;
+    MUST(zelamiku_heap_dropped(heap, 0, dropped, 3, &told) == ZELAMIKU_OK && told == 2 && dropped[0].why == ZELAMIKU_NOT_ENDED);
+    MUST(zelamiku_heap_dropped(heap, 1, dropped, 3, &told) == ZELAMIKU_OK && told == 1);
+    MUST(zelamiku_heap_dropped(heap, 9, dropped, 3, &told) == ZELAMIKU_OK && told == 0);
+    MUST(zelamiku_thread_enter(own, 0) == ZELAMIKU_OK && zelamiku_thread_load(own, 0, &value) == ZELAMIKU_OK && value == 0);
+    MUST(zelamiku_thread_enter(own, 1) == ZELAMIKU_OK && zelamiku_thread_load(own, 1, &value) == ZELAMIKU_OK && value == 7);
+    IS(zelamiku_heap_stop(heap), OK, "");
+    by_nobody(own, ZELAMIKU_CLOSED, "closed or stopped");
+}
+
+/* In a child every call answers FORKED, also of a thread in its section, and the parent goes on. */
+static void forks(void) {
+    zelamiku_heap heap, other;
+    zelamiku_thread own, busy;
+    MUST(zelamiku_heap_open(&heap, "forks", &plan, NULL) == ZELAMIKU_OK && zelamiku_thread_begin(&own, heap) == ZELAMIKU_OK);
+    MUST(zelamiku_thread_begin(&busy, heap) == ZELAMIKU_OK && zelamiku_thread_enter(busy, 0) == ZELAMIKU_OK);
+    fflush(stdout);
+    pid_t child = fork();
+    MUST(child >= 0);
+    if (child == 0) {
+        wrong = 0;
+        by_nobody(own, ZELAMIKU_FORKED, "forks: ");
+        by_nobody(busy, ZELAMIKU_FORKED, "forks: ");
+        by_no_heap(heap, ZELAMIKU_FORKED, "has forked this one");
+        IS(zelamiku_thread_await(own), FORKED, "forks: await");
+        IS(zelamiku_heap_open(&other, "forks", &plan, NULL), BUSY, "another process has the heap");
+        IS(zelamiku_heap_open(&other, "child", &plan, NULL), OK, "");
+        IS(zelamiku_heap_close(other), OK, "");
+        _exit(wrong == 0 ? 0 : 1);
+    }
+    int status = 1;
+    MUST(waitpid(child, &status, 0) == child && status == 0);
+    MUST(zelamiku_thread_store(busy, 0, 5) == ZELAMIKU_OK && zelamiku_thread_exit(busy, 0) == ZELAMIKU_OK);
+    MUST(zelamiku_thread_await(busy) == ZELAMIKU_OK && zelamiku_heap_close(heap) == ZELAMIKU_OK);
+    /* A child that lives on keeps no lock. */
+    MUST(zelamiku_heap_open(&heap, "forks", &plan, NULL) == ZELAMIKU_OK);
+    child = fork();
+    MUST(child >= 0);
+    if (child == 0) _exit(sleep(1) == 0 ? 0 : 1);
+    MUST(zelamiku_heap_close(heap) == ZELAMIKU_OK);
+    IS(zelamiku_heap_open(&heap, "forks", &plan, NULL), OK, "");
+    MUST(zelamiku_heap_close(heap) == ZELAMIKU_OK && waitpid(child, &status, 0) == child && status == 0);
+}
+
+/* ---- hosts ---- */
+
+static zelamiku_status no_calls(zelamiku_handle *heap, void *device, uint64_t *made) {
+    zelamiku_call call = {0, 0, 0};
+    uint8_t bytes[ZELAMIKU_MOST_BYTES];
+    (void)device;
+    for (*made = 0;; ++*made) {
+        zelamiku_status status = zelamiku_next_call(heap, &call, bytes, sizeof bytes);
+        if (status != ZELAMIKU_OK || call.kind == ZELAMIKU_NO_CALL) return status;
+        status = zelamiku_call_done(heap);
+        if (status != ZELAMIKU_OK) return status;
+    }
+}
+
+static void hosts(void) {
+    zelamiku_handle handle = ZELAMIKU_NONE, session = ZELAMIKU_NONE;
+    zelamiku_heap heap;
+    uint64_t size = 0, made = 0;
+    IS(zelamiku_heap_start(NULL, "host", &handle, no_calls, NULL, NULL), NOTHING, "NULL");
+    IS(zelamiku_heap_start(&heap, NULL, &handle, no_calls, NULL, NULL), NOTHING, "NULL");
+    IS(zelamiku_heap_start(&heap, "host", NULL, no_calls, NULL, NULL), NOTHING, "NULL");
+    IS(zelamiku_heap_start(&heap, "host", &handle, NULL, NULL, NULL), NOTHING, "NULL");
+    IS(zelamiku_heap_start(&heap, "host", &handle, no_calls, NULL, NULL), NOTHING, "host: ");
+    MUST(zelamiku_format(&handle, OBJECTS, fields, FIELDS, 3, 2000, &size) == ZELAMIKU_OK);
+    MUST(zelamiku_session(&handle, &session) == ZELAMIKU_OK);
+    IS(zelamiku_heap_start(&heap, "host", &session, no_calls, NULL, NULL), WRONG_KIND, "host: ");
+    IS(zelamiku_heap_start(&heap, "host", &handle, no_calls, NULL, NULL), RUNNING, "host: ");
+    MUST(handle.is_open && zelamiku_end(&session) == ZELAMIKU_OK);
+    int file = open("calls", O_RDWR | O_CREAT | O_APPEND | O_CLOEXEC, 0600);
+    calls += 4;
+    MUST(zelamiku_make_calls(&handle, file, &made) == ZELAMIKU_DEVICE && errno == EBADF && made == 0 && close(file) == 0);
+    file = open("calls", O_RDONLY | O_CLOEXEC);
+    MUST(zelamiku_make_calls(&handle, file, &made) == ZELAMIKU_DEVICE && errno == EBADF && made == 0 && close(file) == 0);
+    MUST(zelamiku_make_calls(&handle, -1, &made) == ZELAMIKU_DEVICE && errno == EBADF && made == 0);
+    MUST(zelamiku_make_calls(NULL, -1, &made) == ZELAMIKU_NOTHING);
+    zelamiku_free(&handle);
+    MUST(zelamiku_format(&handle, OBJECTS, fields, FIELDS, 3, 2000, &size) == ZELAMIKU_OK);
+    zelamiku_heap second = {1};
+    IS(zelamiku_heap_start(&heap, "host", &handle, no_calls, NULL, NULL), OK, "");
+    MUST(!handle.is_open);
+    IS(zelamiku_heap_start(&second, "host", &handle, no_calls, NULL, NULL), NOTHING, "host: ");
+    MUST(second.number == 0);
+    IS(zelamiku_heap_close(heap), OK, "");
+}
+
+/* A full disk leaves no file, and as many heaps as there may be are open. */
+static void full(void) {
+    zelamiku_heap heap, heaps[ZELAMIKU_MOST_HEAPS];
+    zelamiku_plan small = {.fields = fields, .count = 1, .objects = 1, .lanes = 1, .capacity = 2000};
+    struct rlimit before, most;
+    struct stat info;
+    MUST(getrlimit(RLIMIT_FSIZE, &before) == 0);
+    most = before, most.rlim_cur = 10000;
+    MUST(setrlimit(RLIMIT_FSIZE, &most) == 0 && signal(SIGXFSZ, SIG_IGN) != SIG_ERR);
+    IS(zelamiku_heap_open(&heap, "full", &small, NULL), DEVICE, "full: open: a heap can't be made in it: File too large");
+    MUST(access("full", F_OK) != 0);
+    write_file("full", "", 0);
+    IS(zelamiku_heap_open(&heap, "full", &small, NULL), DEVICE, "File too large");
+    MUST(stat("full", &info) == 0 && info.st_size == 0);
+    MUST(setrlimit(RLIMIT_FSIZE, &before) == 0);
+    unsigned open_heaps = 0;
+    zelamiku_status status = ZELAMIKU_OK;
+    for (; status == ZELAMIKU_OK && open_heaps < ZELAMIKU_MOST_HEAPS; open_heaps++) {
+        char name[32];
+        (void)snprintf(name, sizeof name, "many-%u", open_heaps);
+        status = zelamiku_heap_open(&heaps[open_heaps], name, &small, NULL);
+    }
+    look_at(status, ZELAMIKU_NONE_LEFT, "256 heaps are open; close one", "one heap too many", __LINE__);
+    for (unsigned i = 0; i < open_heaps - 1; i++) MUST(zelamiku_heap_close(heaps[i]) == ZELAMIKU_OK);
+}
+
+int main(int argc, char **argv) {
+    MUST(argc == 2 && chdir(argv[1]) == 0 && mkdir("wrong calls", 0700) == 0 && chdir("wrong calls") == 0);
+    prepare();
+    bad_plans();
+    bad_paths();
+    other_files();
+    other_plans();
+    damaged();
+    handles();
+    sections();
+    limits();
+    copies();
+    abandoned();
+    forks();
+    hosts();
+    full();
+    printf("wrong calls: %u, of which %u were answered wrongly\n", calls, wrong);
+    return wrong == 0 ? 0 : 1;
+}
