@@ -73,6 +73,17 @@ pub struct Field {
     pub is_transient: bool,
 }
 
+impl From<Field> for raw::Field {
+    fn from(field: Field) -> raw::Field {
+        raw::Field {
+            owner: field.owner,
+            guard: field.guard,
+            first: field.first,
+            is_transient: field.is_transient.into(),
+        }
+    }
+}
+
 /// What a look shows of a monitor.
 #[derive(Clone, Copy, Debug, PartialEq, Eq)]
 pub struct Sight {
@@ -175,12 +186,6 @@ impl Hosted {
             made += 1;
         }
     }
-
-    // Whether the library has stopped since a sync of the device failed.
-    fn has_failed(&mut self) -> bool {
-        let mut call = raw::Call::default();
-        answer(self.handle.next_call(&mut call, &mut [])) == Err(Refusal::Stopped)
-    }
 }
 
 /// A heap: its helper, and the calls of its device.
@@ -194,11 +199,6 @@ pub struct Closed {
 }
 
 impl Heap {
-    // Whether a sync of the device has failed.
-    fn has_failed(&mut self) -> bool {
-        self.hosted.has_failed()
-    }
-
     fn of(handle: Owned) -> Heap {
         Heap {
             hosted: Hosted {
@@ -211,15 +211,7 @@ impl Heap {
     /// Makes a heap and opens it, and tells the bytes of its image. The device has to have as many zero bytes, durably, before
     /// [`make_calls`](Heap::make_calls).
     pub fn format(objects: u32, fields: &[Field], lanes: u32, capacity: u32) -> Result<(Heap, u64), Refusal> {
-        let rows: Vec<raw::Field> = fields
-            .iter()
-            .map(|f| raw::Field {
-                owner: f.owner,
-                guard: f.guard,
-                first: f.first,
-                is_transient: f.is_transient.into(),
-            })
-            .collect();
+        let rows: Vec<raw::Field> = fields.iter().map(|field| (*field).into()).collect();
         let mut handle = Owned::none();
         let mut size = 0;
         answer(handle.format(objects, &rows, lanes, capacity, &mut size))?;
@@ -308,11 +300,6 @@ impl Heap {
 }
 
 impl Closed {
-    // Whether a sync of the device has failed.
-    fn has_failed(&mut self) -> bool {
-        self.hosted.has_failed()
-    }
-
     /// Makes the last calls. Then the device has all that the sessions did. It fails as [`Heap::make_calls`] does.
     pub fn make_calls(&mut self, device: &mut dyn Device) -> io::Result<u64> {
         self.hosted.make_calls(device)

@@ -1,9 +1,11 @@
-//! The functions of `zelamiku.h`, and calls of them that keep the header's rules: all that is unsafe is here.
+//! The functions of `zelamiku.h`, and calls of them that keep the header's rules: all that is unsafe is in this module.
 use std::ffi::c_void;
 
-/// Of the statuses, which are named in `Refusal`: the call was made; and nothing is behind the handle.
+#[cfg(unix)]
+pub mod threads;
+
+/// Of the statuses, which are named in `Refusal`: the call was made.
 pub const OK: u32 = 0;
-pub const NOTHING: u32 = 1;
 
 pub const NO_CALL: u32 = 0;
 pub const WRITE: u32 = 1;

@@ -68,6 +68,16 @@ impl From<&raw::Dropped> for Dropped {
     }
 }
 
+impl Report {
+    pub(crate) fn of(told: &raw::Told, dropped: &[raw::Dropped]) -> Report {
+        Report {
+            found: told.found,
+            kept: told.kept[..told.found.lanes as usize].to_vec(),
+            dropped: dropped.iter().map(Dropped::from).collect(),
+        }
+    }
+}
+
 // Of a process that has died few sections are dropped.
 const FEW: usize = 256;
 
@@ -101,11 +111,6 @@ fn open_by(
             dropped.resize(count, raw::Dropped::default());
             continue;
         }
-        let report = Report {
-            found: told.found,
-            kept: told.kept[..told.found.lanes as usize].to_vec(),
-            dropped: dropped[..count].iter().map(Dropped::from).collect(),
-        };
-        return Ok((handle, report));
+        return Ok((handle, Report::of(&told, &dropped[..count])));
     }
 }

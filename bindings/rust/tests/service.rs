@@ -336,14 +336,16 @@ fn files_that_are_no_such_heap_are_left_as_they_are() {
     counters(2).open(&scratch.0).unwrap().close().unwrap();
     let before = std::fs::read(&scratch.0).unwrap();
     let others = [
-        counters(3),
-        counters(2).field(2, 0, 0),
-        Heap::options().lanes(2).objects(3).field(0, 0, 0).field(1, 1, 0),
+        (counters(3), "lanes: 2 in the file, and 3 in the plan"),
+        (counters(2).field(2, 0, 0), "fields: 2 in the file, and 3 in the plan"),
+        (Heap::options().lanes(2).objects(3).field(0, 0, 0).field(1, 1, 0), "objects: 2 in the file, and 3 in the plan"),
+        (Heap::options().lanes(2).objects(2).field(0, 0, 0).field(1, 0, 0), "field 1"),
+        (Heap::options().lanes(2).objects(2).field(0, 0, 0).transient(1, 1, 0), "field 1"),
     ];
-    for other in others {
+    for (other, told) in others {
         let error = other.open(&scratch.0).unwrap_err();
         assert_eq!(error.kind(), ErrorKind::OtherHeap);
-        assert!(error.to_string().contains("2 objects, 2 fields and 2 lanes"), "{error}");
+        assert!(error.to_string().contains(told), "{error}");
     }
     assert_eq!(std::fs::read(&scratch.0).unwrap(), before);
     // More lanes than were asked for are there to be used.

@@ -36,12 +36,12 @@ fn of_header() -> BTreeMap<u32, String> {
     }))
 }
 
-// Of the header: `    case ZELAMIKU_NAME: return "TEXT";`.
-fn texts_of_header() -> BTreeMap<String, String> {
-    let header = read("../c/zelamiku.h");
-    let texts = header.lines().filter_map(|line| {
-        let (name, rest) = line.trim().strip_prefix("case ZELAMIKU_")?.split_once(": return \"")?;
-        Some((name.to_string(), rest.strip_suffix("\";")?.to_string()))
+// Of the library's C: `    [ZELAMIKU_NAME] = {"TEXT", "CURE"},`.
+fn texts() -> BTreeMap<String, String> {
+    let source = read("../c/zelamiku_threads.c");
+    let texts = source.lines().filter_map(|line| {
+        let (name, rest) = line.trim().strip_prefix("[ZELAMIKU_")?.split_once("] = {\"")?;
+        Some((name.to_string(), rest.split_once('"')?.0.to_string()))
     });
     texts.collect()
 }
@@ -77,33 +77,26 @@ fn the_library_and_the_header_have_the_same_numbers() {
     for (number, name) in &library {
         assert_eq!(header.get(number), Some(name));
     }
-    // What the header has more is of zelamiku_file.h, and said to be.
+    // What the header has more is of the hosts' side, and said to be.
     let text = read("../c/zelamiku.h");
     for (number, name) in header.iter().filter(|(number, _)| !library.contains_key(number)) {
         let line = text
             .lines()
             .find(|line| line.contains(&format!("ZELAMIKU_{name} = {number}")))
             .unwrap();
-        assert!(line.contains("of zelamiku_file.h"), "{line}");
+        assert!(line.contains("of zelamiku_"), "{line}");
     }
 }
 
 #[test]
 fn the_header_and_this_crate_have_the_same_names_and_texts() {
-    let (header, texts) = (of_header(), texts_of_header());
+    let (header, texts) = (of_header(), texts());
     assert_eq!(header.len(), texts.len());
     // The last known number, and some past it.
     let most = header.keys().max().unwrap() + 10;
     for number in 1..=most {
         match Refusal::from(number) {
-            // DEVICE and LOST are answers of C functions alone, which this crate has as errors of std.
-            Refusal::Unknown(_) => {
-                let name = header.get(&number).map(String::as_str);
-                assert!(
-                    matches!(name, None | Some("DEVICE" | "LOST")),
-                    "{name:?} has no refusal"
-                );
-            }
+            Refusal::Unknown(_) => assert_eq!(header.get(&number), None, "it has no refusal"),
             refusal => {
                 let name = header
                     .get(&number)

@@ -1,4 +1,5 @@
 //! Why a call of a service failed.
+use crate::raw::{self, threads};
 use crate::Refusal;
 use std::fmt;
 use std::io;
@@ -11,11 +12,11 @@ use std::sync::Arc;
 pub enum ErrorKind {
     /// The file couldn't be opened, locked, read or made. There is no heap; the file has what it had, or less where it was being made.
     File,
-    /// Another process has the heap of the file, or another opening of this one; or the file was replaced or removed while it was opened.
+    /// Another process has the heap of the file, or this one has it open already; or the file was replaced or removed while it was opened.
     Busy,
     /// The file has other bytes than a heap's. It was left as it is.
     NotAHeap,
-    /// The file has a heap, and not the one that was asked for: other numbers of objects or fields, or fewer lanes. It was left as it is.
+    /// The file has a heap, and not the one that was asked for: the cause is the first difference. It was left as it is.
     OtherHeap,
     /// The heap can't be made, or the file's can't be recovered: the cause is the library's refusal.
     Opening,
@@ -38,6 +39,8 @@ pub enum ErrorKind {
     /// A thread panicked in a section, or let a section go without its end. The heap has stopped as a crash stops it: that section is
     /// dropped when the heap is opened again, with all that depends on it. Anything else that had ended was made durable.
     Panicked,
+    /// The process was forked since the heap was opened: it is the parent's.
+    Forked,
 }
 
 impl ErrorKind {
@@ -52,27 +55,28 @@ impl ErrorKind {
     pub fn is_final(self) -> bool {
         matches!(
             self,
-            ErrorKind::Closed | ErrorKind::Sync | ErrorKind::Stopped | ErrorKind::Panicked
+            ErrorKind::Closed | ErrorKind::Sync | ErrorKind::Stopped | ErrorKind::Panicked | ErrorKind::Forked
         )
     }
 
     fn text(self) -> &'static str {
         match self {
             ErrorKind::File => "the file can't be used",
-            ErrorKind::Busy => "another process has its heap, or it was replaced or removed",
+            ErrorKind::Busy => "its heap is open already, in this process or in another, or it was replaced or removed",
             ErrorKind::NotAHeap => "it has no heap, and isn't empty: it was left as it is",
-            ErrorKind::OtherHeap => "it has the heap of another program",
+            ErrorKind::OtherHeap => "its heap isn't the one that was asked for",
             ErrorKind::Opening => "its heap can't be opened",
             ErrorKind::NoneLeft => "all lanes are in use",
             ErrorKind::Refused => "refused",
             ErrorKind::Write => "a write failed, and will be made again",
-            ErrorKind::Running => "a section is open or a session waits",
+            ErrorKind::Running => "a section is open, or a session waits",
             ErrorKind::Closed => "the heap was closed or stopped",
             ErrorKind::Sync => {
                 "a sync failed, and the heap was let go; mount the file system again before it is opened"
             }
             ErrorKind::Stopped => "the heap has stopped; it may be opened again",
             ErrorKind::Panicked => "a thread panicked in a section, and the heap has stopped; it may be opened again",
+            ErrorKind::Forked => "the process was forked, and its parent has the heap",
         }
     }
 }
@@ -137,6 +141,50 @@ impl Error {
         Error::new(kind, path, Cause::Told(text.into()))
     }
 
+    // Of a call that was refused so on a heap that was opened, which is one of this thread's last.
+    #[cold]
+    pub(super) fn of(path: &Arc<Path>, refusal: Refusal) -> Error {
+        let kind = match refusal {
+            Refusal::NoneLeft => ErrorKind::NoneLeft,
+            Refusal::Device => ErrorKind::Write,
+            Refusal::Running | Refusal::Unfinished => ErrorKind::Running,
+            Refusal::Closed | Refusal::Nothing => ErrorKind::Closed,
+            Refusal::Lost => ErrorKind::Sync,
+            Refusal::Fault | Refusal::Failed | Refusal::Stopped => ErrorKind::Stopped,
+            Refusal::Abandoned => ErrorKind::Panicked,
+            Refusal::Forked => ErrorKind::Forked,
+            _ => ErrorKind::Refused,
+        };
+        match kind {
+            ErrorKind::Write | ErrorKind::Sync => Error::by_system(kind, path, refusal),
+            ErrorKind::Refused | ErrorKind::Stopped => Error::refused(kind, path, refusal),
+            _ => Error::bare(kind, path),
+        }
+    }
+
+    // Of an open, and the lane and place of the record that it may have been for; none where it succeeded.
+    pub(super) fn of_opening(path: &Arc<Path>, status: u32, record: (u32, u64)) -> Option<Error> {
+        if status == raw::OK {
+            return None;
+        }
+        Some(match Refusal::from(status) {
+            Refusal::Busy => Error::bare(ErrorKind::Busy, path),
+            Refusal::NotFormatted => Error::bare(ErrorKind::NotAHeap, path),
+            Refusal::OtherHeap => Error::told(ErrorKind::OtherHeap, path, what_differs(path)),
+            refusal @ (Refusal::Device | Refusal::Lost) => Error::by_system(ErrorKind::File, path, refusal),
+            refusal @ (Refusal::BadRecord | Refusal::IllegalLog) => Error::for_record(path, refusal, record.0, record.1),
+            refusal => Error::refused(ErrorKind::Opening, path, refusal),
+        })
+    }
+
+    // By what the system said to this thread last, or by the refusal where it said nothing.
+    fn by_system(kind: ErrorKind, path: &Arc<Path>, refusal: Refusal) -> Error {
+        match threads::last_failure() {
+            (_, 0) => Error::refused(kind, path, refusal),
+            (_, number) => Error::system(kind, path, io::Error::from_raw_os_error(number)),
+        }
+    }
+
     /// What kind of failure it is.
     ///
     /// ```
@@ -178,6 +226,13 @@ impl Error {
             _ => None,
         }
     }
+}
+
+// What the library says of a heap that isn't the plan's, without the path.
+fn what_differs(path: &Path) -> String {
+    let (text, _) = threads::last_failure();
+    let beginning = format!("{}: ", path.display());
+    text.strip_prefix(&beginning).unwrap_or(&text).to_owned()
 }
 
 impl fmt::Display for Error {

@@ -22,38 +22,29 @@
 //! monitor to the moment that it holds none is a section. After a crash each section is there whole or not at all, with all that it
 //! depends on; once [`Session::durable`] has answered, no crash loses what the session had ended.
 //!
-//! The helper's thread makes rounds while there is work, and makes their calls on the file; without work it sleeps, and no thread that
-//! waits spins but for a moment. A round comes when a thread waits for one ([`Session::durable`], or a lane without room), when a lane has
-//! sent a quarter of what its ring holds, and else so long after a section's end as [`Options::linger`] says.
+//! The helper, a thread of the library, makes rounds while there is work, and makes their calls on the file; without work it sleeps, and no
+//! thread that waits spins but for a moment. A round comes when a thread waits for one ([`Session::durable`], or a lane without room), when
+//! a lane has sent a part of what its ring holds, and else so long after a section's end as [`Options::linger`] says.
 //!
 //! [`ErrorKind`] says of each failure whether the heap goes on.
+use crate::raw::threads::{self, HeapNumber};
 use crate::{Field, Found, Pool, Refusal, Report};
 use std::fmt;
 use std::path::Path;
-use std::sync::{mpsc, Arc, Mutex};
-use std::thread::JoinHandle;
+use std::sync::Arc;
 use std::time::Duration;
 
 mod error;
-mod file;
-mod helper;
-mod queue;
-mod seat;
+mod log;
+mod opening;
 mod session;
-mod shared;
-#[cfg(test)]
-mod tests;
 
 pub use error::{Error, ErrorKind};
+pub use log::{Cause, Level, Stats};
 pub use session::{Held, Session};
 
-use file::{Opened, Plan};
-use helper::Helper;
-use seat::lock;
-use shared::{Shared, Spare};
-
-// The records of a lane that a round takes at most: the room between a session and the helper.
-const RING: u32 = 4_096;
+use log::Hook;
+use opening::Opening;
 
 /// What a heap is made of, and how its helper works. Made by [`Heap::options`].
 ///
@@ -78,12 +69,17 @@ const RING: u32 = 4_096;
 #[derive(Clone, Debug)]
 #[must_use = "a heap is opened by `open`"]
 pub struct Options {
-    plan: Plan,
+    objects: u32,
+    fields: Vec<Field>,
+    lanes: u32,
+    capacity: u32,
     // The numbers that `field` was told, with their places.
     misplaced: Option<(u32, usize)>,
     // Of a pool that can't be.
     refused: Option<Refusal>,
     linger: Duration,
+    upgrades: bool,
+    hook: Option<Hook>,
 }
 
 impl Options {
@@ -94,7 +90,7 @@ impl Options {
     /// let options = zelamiku::service::Heap::options().lanes(32);
     /// ```
     pub fn lanes(mut self, lanes: u32) -> Options {
-        self.plan.lanes = lanes;
+        self.lanes = lanes;
         self
     }
 
@@ -106,7 +102,7 @@ impl Options {
     /// let options = zelamiku::service::Heap::options().capacity(65_536);
     /// ```
     pub fn capacity(mut self, records: u32) -> Options {
-        self.plan.capacity = records;
+        self.capacity = records;
         self
     }
 
@@ -116,7 +112,7 @@ impl Options {
     /// let options = zelamiku::service::Heap::options().objects(3);
     /// ```
     pub fn objects(mut self, objects: u32) -> Options {
-        self.plan.objects = objects;
+        self.objects = objects;
         self
     }
 
@@ -151,14 +147,14 @@ impl Options {
     pub fn pool(mut self, pool: Pool, object: u32) -> Options {
         self.must_be_next(pool.head());
         match pool.fields(object) {
-            Ok(fields) => self.plan.fields.extend(fields),
+            Ok(fields) => self.fields.extend(fields),
             Err(refusal) => self.refused = self.refused.or(Some(refusal)),
         }
         self
     }
 
     fn must_be_next(&mut self, number: u32) {
-        let place = self.plan.fields.len();
+        let place = self.fields.len();
         if number as usize != place && self.misplaced.is_none() {
             self.misplaced = Some((number, place));
         }
@@ -181,7 +177,7 @@ impl Options {
     /// let options = zelamiku::service::Heap::options().objects(2).guarded(field);
     /// ```
     pub fn guarded(mut self, field: Field) -> Options {
-        self.plan.fields.push(field);
+        self.fields.push(field);
         self
     }
 
@@ -197,7 +193,7 @@ impl Options {
             first,
             is_transient: false,
         };
-        self.plan.fields.extend((0..count).map(|_| field));
+        self.fields.extend((0..count).map(|_| field));
         self
     }
 
@@ -213,10 +209,33 @@ impl Options {
         self
     }
 
-    /// Opens the heap of the file, and recovers it, or makes one where there is no file, an empty one, one of zeros, or one whose
-    /// making was cut off. Any other file is left as it is. Where no such heap can be made, a file that wasn't there is left empty.
+    /// Whether a heap of an older version is upgraded in place; it isn't where this isn't said, and is refused by
+    /// [`Refusal::OldVersion`](crate::Refusal::OldVersion). A library from before can't open it any more afterwards.
     ///
-    /// That the file's heap is this one is known by its numbers of objects, fields and lanes alone.
+    /// ```
+    /// let options = zelamiku::service::Heap::options().upgrades(true);
+    /// ```
+    pub fn upgrades(mut self, upgrades: bool) -> Options {
+        self.upgrades = upgrades;
+        self
+    }
+
+    /// Tells the hook what the heap has to say: one line a call, without its end. It is called by the helper's thread, or by one that opens,
+    /// closes or copies, and calls nothing of this heap. A panic of it ends there.
+    ///
+    /// ```
+    /// let options = zelamiku::service::Heap::options().log(|level, line| eprintln!("{level:?}: {line}"));
+    /// ```
+    pub fn log(mut self, hook: impl Fn(Level, &str) + Send + Sync + 'static) -> Options {
+        self.hook = Some(Hook::new(hook));
+        self
+    }
+
+    /// Opens the heap of the file, and recovers it, or makes one where there is no file, an empty one, one of zeros, or one whose
+    /// making was cut off. Any other file is left as it is, and where no such heap can be made, no file is left that wasn't there.
+    ///
+    /// The file's heap has to be this one: of as many objects and fields, each with this owner, guard and mark of a transient field,
+    /// and of at least as many lanes.
     ///
     /// [`ErrorKind::File`], [`ErrorKind::Busy`], [`ErrorKind::NotAHeap`], [`ErrorKind::OtherHeap`], [`ErrorKind::Opening`].
     ///
@@ -236,11 +255,12 @@ impl Options {
             let text = format!("field {number} was declared where field {place} comes next");
             return Err(Error::told(ErrorKind::Opening, &path, text));
         }
-        if let Some(refusal) = self.refused {
+        // To the library 0 is as good as nothing said.
+        let is_none = self.lanes == 0 || self.capacity == 0;
+        if let Some(refusal) = self.refused.or(is_none.then_some(Refusal::BadHeader)) {
             return Err(Error::refused(ErrorKind::Opening, &path, refusal));
         }
-        let opened = file::open(&path, &self.plan)?;
-        Heap::start(path, opened, &self.plan, self.linger)
+        Heap::open(path, self)
     }
 }
 
@@ -250,16 +270,15 @@ impl Options {
 /// succeeded. [`close`](Heap::close) says it.
 #[must_use = "it is closed when it is dropped"]
 pub struct Heap {
-    shared: Arc<Shared>,
-    helper: Mutex<Option<JoinHandle<()>>>,
+    opening: Arc<Opening>,
+    found: Found,
     report: Option<Report>,
-    most_records: u64,
 }
 
 impl fmt::Debug for Heap {
     fn fmt(&self, f: &mut fmt::Formatter<'_>) -> fmt::Result {
         f.debug_struct("Heap")
-            .field("path", &self.shared.path)
+            .field("path", &self.opening.path)
             .field("lanes", &self.lanes())
             .finish_non_exhaustive()
     }
@@ -279,57 +298,53 @@ impl Heap {
     /// ```
     pub fn options() -> Options {
         Options {
-            plan: Plan {
-                objects: 0,
-                fields: Vec::new(),
-                lanes: 8,
-                capacity: RING,
-            },
+            objects: 0,
+            fields: Vec::new(),
+            lanes: 8,
+            capacity: 4_096,
             misplaced: None,
             refused: None,
             linger: Duration::from_millis(5),
+            upgrades: false,
+            hook: None,
         }
     }
 
-    // The sessions of all lanes are taken here, and lent out.
-    fn start(path: Arc<Path>, opened: Opened, plan: &Plan, linger: Duration) -> Result<Heap, Error> {
-        let Opened {
-            mut heap,
-            device,
-            report,
-        } = opened;
-        let found = report.as_ref().map(|report| report.found);
-        let (lanes, capacity) = found.map_or((plan.lanes, plan.capacity), |found| (found.lanes, found.capacity));
-        let mut free = Vec::new();
-        for lane in 0..lanes as usize {
-            let session = heap
-                .session()
-                .map_err(|refusal| Error::refused(ErrorKind::Opening, &path, refusal))?;
-            free.push(Spare {
-                lane,
-                handle: session.handle,
-                ended: 0,
-            });
-        }
-        // Lane 0 comes first.
-        free.reverse();
-        let shared = Arc::new(Shared::new(path, plan.objects, free));
-        let helper = Helper {
-            shared: Arc::clone(&shared),
-            heap,
-            device,
-            linger,
-            calls_time: Duration::ZERO,
+    fn open(path: Arc<Path>, options: Options) -> Result<Heap, Error> {
+        let Some(text) = threads::text_of(&path) else {
+            return Err(Error::told(ErrorKind::File, &path, "the path has a zero byte".into()));
         };
-        let thread = std::thread::Builder::new()
-            .name("zelamiku".into())
-            .spawn(move || helper.run());
-        let thread = thread.map_err(|error| Error::system(ErrorKind::File, &shared.path, error))?;
+        let fields: Vec<_> = options.fields.iter().map(|field| (*field).into()).collect();
+        let mut opening = Opening {
+            path,
+            heap: HeapNumber::default(),
+            hook: options.hook.map(Box::new),
+        };
+        let plan = threads::Plan {
+            fields: &fields,
+            objects: options.objects,
+            lanes: options.lanes,
+            capacity: options.capacity,
+            // To the library 0 is as good as nothing said.
+            linger: u32::try_from(options.linger.as_micros()).unwrap_or(u32::MAX).max(1),
+            upgrades: options.upgrades,
+            log: opening.hook.as_deref().map(Hook::log),
+        };
+        let mut told = threads::Report::default();
+        let status = threads::open(&mut opening.heap, &text, &plan, &mut told);
+        let record = (told.told.bad_lane, told.told.bad_place);
+        if let Some(error) = Error::of_opening(&opening.path, status, record) {
+            return Err(error);
+        }
+        let found = told.told.found;
+        let report = (told.is_made == 0).then(|| {
+            let dropped = opening.heap.dropped(found.dropped as usize);
+            Report::of(&told.told, &dropped)
+        });
         Ok(Heap {
-            shared,
-            helper: Mutex::new(Some(thread)),
+            opening: Arc::new(opening),
+            found,
             report,
-            most_records: u64::from(capacity.min(RING) / 4),
         })
     }
 
@@ -348,10 +363,7 @@ impl Heap {
     /// # Ok::<(), Box<dyn std::error::Error>>(())
     /// ```
     pub fn session(&self) -> Result<Session, Error> {
-        self.shared.must_go_on()?;
-        let spare = lock(&self.shared.free).pop();
-        let spare = spare.ok_or_else(|| Error::bare(ErrorKind::NoneLeft, &self.shared.path))?;
-        Ok(Session::new(Arc::clone(&self.shared), spare, self.most_records))
+        Session::begin(Arc::clone(&self.opening))
     }
 
     /// How many lanes the heap has.
@@ -367,7 +379,7 @@ impl Heap {
     /// ```
     #[must_use]
     pub fn lanes(&self) -> u32 {
-        self.shared.seats.len() as u32
+        self.found.lanes
     }
 
     /// What recovery found, where the heap was there; `None` where it was made.
@@ -429,19 +441,7 @@ impl Heap {
     /// # Ok::<(), Box<dyn std::error::Error>>(())
     /// ```
     pub fn close(&self) -> Result<(), Error> {
-        let answer = self.shared.must_go_on().and_then(|()| self.ask_to_close());
-        // The helper has the file until it has ended.
-        if answer.as_ref().map_or_else(|error| error.kind().is_final(), |()| true) {
-            self.join();
-        }
-        answer
-    }
-
-    fn ask_to_close(&self) -> Result<(), Error> {
-        let (reply, answer) = mpsc::channel();
-        self.shared.ask_to_close(reply);
-        // One that is asked for while the helper ends isn't answered.
-        answer.recv().unwrap_or_else(|_| Err(self.shared.why()))
+        self.opening.answer(self.opening.heap.close())
     }
 
     /// Stops the heap for all its sessions: those that sleep, for a monitor or in a wait, answer [`ErrorKind::Closed`], and each call
@@ -461,21 +461,89 @@ impl Heap {
     /// # Ok::<(), Box<dyn std::error::Error>>(())
     /// ```
     pub fn stop(&self) {
-        self.shared.stop(Error::bare(ErrorKind::Closed, &self.shared.path));
-        self.join();
+        // At its end it answers why, which its sessions are told.
+        let _ = self.opening.heap.stop();
     }
 
-    fn join(&self) {
-        if let Some(thread) = lock(&self.helper).take() {
-            // What it had to say stands in the reason of the stop.
-            let _ = thread.join();
+    /// The same, and calls answer [`ErrorKind::Panicked`] from then on, as after a panic in a section: for a heap one of whose threads
+    /// has failed inside of its section. The next open drops that section, with all that depends on it.
+    ///
+    /// ```
+    /// # use zelamiku::service::{ErrorKind, Heap};
+    /// # let path = std::env::temp_dir().join(format!("zelamiku-abandon-{}", std::process::id()));
+    /// # let _ = std::fs::remove_file(&path);
+    /// let heap = Heap::options().objects(1).field(0, 0, 100).open(&path)?;
+    /// let mut session = heap.session()?;
+    /// let mut guard = session.enter(0)?;
+    /// guard.store(0, 90)?;
+    /// heap.abandon();
+    /// assert_eq!(guard.store(0, 80).unwrap_err().kind(), ErrorKind::Panicked);
+    /// drop(guard);
+    /// drop(heap);
+    /// let heap = Heap::options().objects(1).field(0, 0, 100).open(&path)?;
+    /// assert_eq!(heap.session()?.synchronized(0, |s| s.load(0))?, 100);
+    /// # std::fs::remove_file(path)?;
+    /// # Ok::<(), Box<dyn std::error::Error>>(())
+    /// ```
+    pub fn abandon(&self) {
+        let _ = self.opening.heap.abandon();
+    }
+
+    /// Writes a copy of the heap, of a moment between two rounds, to the path: written beside it, synced, and renamed over what is there.
+    /// Threads go on meanwhile. Opening the copy gives all that was durable when the call began.
+    ///
+    /// [`ErrorKind::Write`]: the copy can't be written, and what is at the path stays. [`ErrorKind::Refused`] by `Busy`: the path is the
+    /// heap's own. Each final kind.
+    ///
+    /// ```
+    /// # use zelamiku::service::Heap;
+    /// # let path = std::env::temp_dir().join(format!("zelamiku-copied-{}", std::process::id()));
+    /// # let copy = path.with_extension("copy");
+    /// # let _ = std::fs::remove_file(&path);
+    /// let heap = Heap::options().objects(1).field(0, 0, 100).open(&path)?;
+    /// let mut session = heap.session()?;
+    /// session.synchronized(0, |s| s.store(0, 90))?;
+    /// session.durable()?;
+    /// heap.copy_to(&copy)?;
+    /// let copied = Heap::options().objects(1).field(0, 0, 100).open(&copy)?;
+    /// assert_eq!(copied.session()?.synchronized(0, |s| s.load(0))?, 90);
+    /// # std::fs::remove_file(path)?;
+    /// # std::fs::remove_file(copy)?;
+    /// # Ok::<(), Box<dyn std::error::Error>>(())
+    /// ```
+    pub fn copy_to(&self, path: impl AsRef<Path>) -> Result<(), Error> {
+        let path: Arc<Path> = path.as_ref().into();
+        match threads::text_of(&path) {
+            Some(text) => self.opening.answer_at(&path, self.opening.heap.copy(&text)),
+            None => Err(Error::told(ErrorKind::Write, &path, "the path has a zero byte".into())),
         }
+    }
+
+    /// What the heap has done since it was opened, and who waits.
+    ///
+    /// ```
+    /// # use zelamiku::service::Heap;
+    /// # let path = std::env::temp_dir().join(format!("zelamiku-stats-{}", std::process::id()));
+    /// # let _ = std::fs::remove_file(&path);
+    /// let heap = Heap::options().objects(1).field(0, 0, 100).open(&path)?;
+    /// let mut session = heap.session()?;
+    /// session.synchronized(0, |s| s.store(0, 90))?;
+    /// session.durable()?;
+    /// let stats = heap.stats()?;
+    /// assert_eq!((stats.sections, stats.sessions), (1, 1));
+    /// # std::fs::remove_file(path)?;
+    /// # Ok::<(), Box<dyn std::error::Error>>(())
+    /// ```
+    pub fn stats(&self) -> Result<Stats, Error> {
+        let mut stats = threads::Stats::default();
+        self.opening.answer(self.opening.heap.stats(&mut stats))?;
+        Ok(stats.into())
     }
 }
 
 impl Drop for Heap {
     fn drop(&mut self) {
-        if self.close().is_err() {
+        if self.close().is_err_and(|error| !error.kind().is_final()) {
             self.stop();
         }
     }

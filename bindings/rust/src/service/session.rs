@@ -1,21 +1,13 @@
 //! A session of a service, and the monitors that it holds.
-use super::error::{Error, ErrorKind};
-use super::seat::{lock, Seat};
-use super::shared::{is_taking, Shared, Spare};
-use crate::raw::{self, Owned};
-use crate::{answer, lane, Pool, Refusal, Sight};
+use super::error::Error;
+use super::opening::Opening;
+use crate::raw::threads::{self, ThreadNumber};
+use crate::raw::{self, OK};
+use crate::{Pool, Refusal, Sight};
 use std::fmt;
-use std::hint::spin_loop;
 use std::mem::ManuallyDrop;
-use std::sync::atomic::Ordering;
 use std::sync::Arc;
 use std::time::Instant;
-
-// A monitor that is held for a moment is waited for by so many tries, before the thread sleeps.
-const TRIES: u32 = 40;
-
-// How often a round is asked for by one that has no room. A later one gives room once other sections have ended.
-const DEMANDS: u32 = 3;
 
 /// One thread's use of the heap: a lane of it. It may go to another thread, and one thread uses it at a time.
 ///
@@ -41,77 +33,40 @@ const DEMANDS: u32 = 3;
 /// # Ok::<(), Box<dyn std::error::Error>>(())
 /// ```
 pub struct Session {
-    shared: Arc<Shared>,
-    seat: Arc<Seat>,
-    handle: Owned,
-    lane: usize,
-    // By how many locks monitors are held, all of them together: the library counts each one's.
-    locks: u32,
-    // A wait of it was cut off by the end of the heap: its handle can do nothing more.
-    is_lost: bool,
-    // The sections of the lane that have ended, and those that had when the lane was handed out.
-    ended: u64,
-    before: u64,
-    // About how many records were sent since that round, and after how many the next is asked for.
-    records: u64,
-    rounds: u64,
-    most_records: u64,
+    opening: Arc<Opening>,
+    thread: ThreadNumber,
 }
 
 impl fmt::Debug for Session {
     fn fmt(&self, f: &mut fmt::Formatter<'_>) -> fmt::Result {
         f.debug_struct("Session")
-            .field("lane", &self.lane)
+            .field("lane", &self.thread.lane())
             .field("sections", &self.sections())
             .finish_non_exhaustive()
     }
 }
 
 impl Session {
-    pub(super) fn new(shared: Arc<Shared>, spare: Spare, most_records: u64) -> Session {
-        Session {
-            seat: Arc::clone(&shared.seats[spare.lane]),
-            shared,
-            handle: spare.handle,
-            lane: spare.lane,
-            locks: 0,
-            is_lost: false,
-            ended: spare.ended,
-            before: spare.ended,
-            records: 0,
-            rounds: 0,
-            most_records,
-        }
+    pub(super) fn begin(opening: Arc<Opening>) -> Result<Session, Error> {
+        let mut thread = ThreadNumber::default();
+        opening.answer(opening.heap.begin(&mut thread))?;
+        Ok(Session { opening, thread })
     }
 
-    // A call of the library, unless the heap is at its end. What is called here stands in the program's own code, and is short: a
-    // status other than OK is looked into elsewhere.
+    // What a call of the library came to.
     #[inline]
-    fn call(&mut self, call: impl FnOnce(&mut Owned) -> u32) -> u32 {
-        if self.shared.is_over() {
-            return raw::NOTHING;
+    fn answer(&self, status: u32) -> Result<(), Error> {
+        if status == OK {
+            Ok(())
+        } else {
+            Err(self.refused(status))
         }
-        call(&mut self.handle)
     }
 
-    // Why such a call wasn't answered OK.
     #[cold]
     #[inline(never)]
     fn refused(&self, status: u32) -> Error {
-        if self.shared.is_over() {
-            return self.shared.why();
-        }
-        if self.is_lost {
-            // A wait was cut off by the same.
-            return Error::refused(ErrorKind::Sync, &self.shared.path, Refusal::Stopped);
-        }
-        let refusal = Refusal::from(status);
-        // The library may tell a session that a sync has failed before the helper has told why the heap has ended.
-        let kind = match refusal {
-            Refusal::Stopped => ErrorKind::Sync,
-            _ => ErrorKind::Refused,
-        };
-        Error::refused(kind, &self.shared.path, refusal)
+        Error::of(&self.opening.path, Refusal::from(status))
     }
 
     /// Takes the object's monitor and answers a guard of it, which gives it back when it is dropped. The thread sleeps while another one
@@ -135,12 +90,67 @@ impl Session {
     /// ```
     #[inline]
     pub fn enter(&mut self, object: u32) -> Result<Held<'_>, Error> {
-        self.take_monitor(object)?;
-        Ok(Held {
+        let status = self.thread.enter(object);
+        self.answer(status)?;
+        Ok(self.hold(object))
+    }
+
+    /// The same, and doesn't sleep: `None` where another thread has the monitor, or where the lane has no room before a round, which is
+    /// asked for.
+    ///
+    /// ```
+    /// # use zelamiku::service::Heap;
+    /// # let path = std::env::temp_dir().join(format!("zelamiku-try-enter-{}", std::process::id()));
+    /// # let _ = std::fs::remove_file(&path);
+    /// # let heap = Heap::options().objects(1).field(0, 0, 0).open(&path)?;
+    /// let (mut session, mut other) = (heap.session()?, heap.session()?);
+    /// let guard = session.enter(0)?;
+    /// assert!(other.try_enter(0)?.is_none());
+    /// drop(guard);
+    /// assert!(other.try_enter(0)?.is_some());
+    /// # std::fs::remove_file(path)?;
+    /// # Ok::<(), Box<dyn std::error::Error>>(())
+    /// ```
+    pub fn try_enter(&mut self, object: u32) -> Result<Option<Held<'_>>, Error> {
+        let status = self.thread.try_enter(object);
+        self.held_or_none(object, status)
+    }
+
+    /// The same, and sleeps until the deadline at most.
+    ///
+    /// ```
+    /// # use zelamiku::service::Heap;
+    /// # let path = std::env::temp_dir().join(format!("zelamiku-enter-until-{}", std::process::id()));
+    /// # let _ = std::fs::remove_file(&path);
+    /// # let heap = Heap::options().objects(1).field(0, 0, 0).open(&path)?;
+    /// use std::time::{Duration, Instant};
+    /// let (mut session, mut other) = (heap.session()?, heap.session()?);
+    /// let guard = session.enter(0)?;
+    /// assert!(other.enter_until(0, Instant::now() + Duration::from_millis(20))?.is_none());
+    /// # drop(guard);
+    /// # std::fs::remove_file(path)?;
+    /// # Ok::<(), Box<dyn std::error::Error>>(())
+    /// ```
+    pub fn enter_until(&mut self, object: u32, deadline: Instant) -> Result<Option<Held<'_>>, Error> {
+        let status = self.thread.enter_until(object, time_of(deadline));
+        self.held_or_none(object, status)
+    }
+
+    fn held_or_none(&mut self, object: u32, status: u32) -> Result<Option<Held<'_>>, Error> {
+        match Refusal::from(status) {
+            _ if status == OK => Ok(Some(self.hold(object))),
+            Refusal::Held | Refusal::Behind => Ok(None),
+            _ => Err(self.refused(status)),
+        }
+    }
+
+    #[inline]
+    fn hold(&mut self, object: u32) -> Held<'_> {
+        Held {
             session: self,
             object,
             was_panicking: std::thread::panicking(),
-        })
+        }
     }
 
     /// Does the work while the object's monitor is held. With the outermost monitor a section ends: also where the work answers an
@@ -173,7 +183,8 @@ impl Session {
         object: u32,
         work: impl FnOnce(&mut Held<'_>) -> Result<T, Error>,
     ) -> Result<T, Error> {
-        self.take_monitor(object)?;
+        let status = self.thread.enter(object);
+        self.answer(status)?;
         // Nothing but a panic of the work drops it.
         let mut held = Held {
             session: self,
@@ -181,7 +192,7 @@ impl Session {
             was_panicking: false,
         };
         let answer = work(&mut held);
-        let left = ManuallyDrop::new(held).session.leave(object);
+        let left = ManuallyDrop::new(held).leave();
         let answer = answer?;
         left?;
         Ok(answer)
@@ -202,7 +213,7 @@ impl Session {
     /// ```
     #[must_use]
     pub fn sections(&self) -> u64 {
-        self.ended - self.before
+        self.thread.sections()
     }
 
     /// Whether the session's section of this number, from 1 on, is durable: no crash loses it. One that hasn't ended isn't.
@@ -223,8 +234,7 @@ impl Session {
     /// ```
     #[must_use]
     pub fn is_durable(&self, number: u64) -> bool {
-        let acknowledged = self.seat.acknowledged.load(Ordering::SeqCst);
-        number <= self.sections() && self.before + number <= acknowledged
+        number <= self.thread.durable()
     }
 
     /// Sleeps until all sections that this session has ended are durable: no crash loses them. It asks for a round, and sleeps on while
@@ -245,7 +255,7 @@ impl Session {
     /// # Ok::<(), Box<dyn std::error::Error>>(())
     /// ```
     pub fn durable(&mut self) -> Result<(), Error> {
-        self.await_round(None).map(|_| ())
+        self.await_until(threads::NO_DEADLINE).map(|_| ())
     }
 
     /// Sleeps until all sections that this session has ended are durable, or until the deadline; whether they are.
@@ -271,44 +281,14 @@ impl Session {
     /// # Ok::<(), Box<dyn std::error::Error>>(())
     /// ```
     pub fn durable_by(&mut self, deadline: Instant) -> Result<bool, Error> {
-        self.await_round(Some(deadline))
+        self.await_until(time_of(deadline))
     }
 
-    fn await_round(&mut self, deadline: Option<Instant>) -> Result<bool, Error> {
-        let seat = &self.seat;
-        if seat.acknowledged.load(Ordering::SeqCst) >= self.ended {
-            return Ok(true);
-        }
-        let troubles = self.shared.troubles.load(Ordering::SeqCst);
-        self.shared.awaiting.fetch_add(1, Ordering::SeqCst);
-        seat.wanted.store(self.ended, Ordering::SeqCst);
-        self.shared.demand();
-        let answer = self.sleep_until_durable(troubles, deadline);
-        seat.wanted.store(0, Ordering::SeqCst);
-        self.shared.awaiting.fetch_sub(1, Ordering::SeqCst);
-        answer
-    }
-
-    fn sleep_until_durable(&self, troubles: u64, deadline: Option<Instant>) -> Result<bool, Error> {
-        let seat = &self.seat;
-        let mut is_early = true;
-        loop {
-            // Before the sections are looked at, since the helper's last round comes before it says so.
-            let is_settled = self.shared.is_settled.load(Ordering::SeqCst);
-            if seat.acknowledged.load(Ordering::SeqCst) >= self.ended {
-                return Ok(true);
-            }
-            if is_settled {
-                return Err(self.shared.why());
-            }
-            if self.shared.troubles.load(Ordering::SeqCst) != troubles {
-                return Err(self.shared.trouble());
-            }
-            if !is_early {
-                return Ok(false);
-            }
-            is_early = seat.sleep_until(deadline);
-        }
+    fn await_until(&mut self, deadline: u64) -> Result<bool, Error> {
+        let mut is_durable = false;
+        let status = self.thread.await_until(threads::ALL_SECTIONS, deadline, &mut is_durable);
+        self.answer(status)?;
+        Ok(is_durable)
     }
 
     /// Looks at a monitor, which needn't be held.
@@ -325,243 +305,25 @@ impl Session {
     /// ```
     pub fn look(&mut self, object: u32) -> Result<Sight, Error> {
         let mut sight = raw::Sight::default();
-        match self.call(|handle| handle.look(object, &mut sight)) {
-            raw::OK => Ok(Sight::from(sight)),
-            status => Err(self.refused(status)),
-        }
+        let status = self.thread.look(object, &mut sight);
+        self.answer(status)?;
+        Ok(Sight::from(sight))
     }
+}
 
-    // Takes the monitor, at once where it can.
-    #[inline]
-    fn take_monitor(&mut self, object: u32) -> Result<(), Error> {
-        if self.locks == 0 {
-            self.seat.is_busy.store(true, Ordering::Release);
-        }
-        if self.call(|handle| handle.try_enter(object)) != raw::OK {
-            self.await_monitor(object)?;
-        }
-        self.locks += 1;
-        Ok(())
-    }
-
-    // Takes the monitor, or sleeps until it can.
-    #[cold]
-    #[inline(never)]
-    fn await_monitor(&mut self, object: u32) -> Result<(), Error> {
-        let answer = self.await_monitor_once(object);
-        if answer.is_err() && self.locks == 0 {
-            self.seat.is_busy.store(false, Ordering::Release);
-        }
-        answer
-    }
-
-    fn await_monitor_once(&mut self, object: u32) -> Result<(), Error> {
-        for _ in 1..TRIES {
-            let status = self.call(|handle| handle.try_enter(object));
-            match answer(status) {
-                Ok(()) => return Ok(()),
-                Err(Refusal::Held) => spin_loop(),
-                Err(Refusal::Behind) => break,
-                Err(_) => return Err(self.refused(status)),
-            }
-        }
-        let answer = self.sleep_for_monitor(object);
-        self.shared.queue.remove(self.lane);
-        if answer.is_err() {
-            // It may have been woken for a monitor that it doesn't take.
-            self.shared.wake_first(object);
-        }
-        answer
-    }
-
-    fn sleep_for_monitor(&mut self, object: u32) -> Result<(), Error> {
-        let mut demands = 0;
-        loop {
-            let step = self.shared.step();
-            let status = self.call(|handle| handle.try_enter(object));
-            match answer(status) {
-                Ok(()) => return Ok(()),
-                // It is put down before the next try, so that whoever has the monitor then finds it there.
-                Err(Refusal::Held) => {
-                    if !self.shared.queue.put(object, self.lane) {
-                        self.seat.sleep();
-                    }
-                }
-                Err(Refusal::Behind) => {
-                    if self.shared.queue.remove(self.lane) {
-                        self.shared.wake_first(object);
-                    }
-                    self.await_room(step, &mut demands)?;
-                }
-                Err(_) => return Err(self.refused(status)),
-            }
-        }
-    }
-
-    // Waits for room, of which there was none at that step of the helper. While the helper takes records the thread looks again and
-    // again, so that what it does then is taken by the same round; while the helper makes calls, which may last, it sleeps.
-    fn await_room(&self, step: u64, demands: &mut u32) -> Result<(), Error> {
-        if is_taking(step) && self.shared.is_hasty() {
-            self.shared.pause();
-            return Ok(());
-        }
-        self.sleep_for_step(step, demands)
-    }
-
-    // Sleeps until the helper's next step. It asks for the first few rounds, unless one takes records or has begun to since: what a round
-    // of one's own can't give, only the end of another section can, after which there is a round.
-    fn sleep_for_step(&self, step: u64, demands: &mut u32) -> Result<(), Error> {
-        let (shared, seat) = (&self.shared, &self.seat);
-        let troubles = shared.troubles.load(Ordering::SeqCst);
-        shared.awaiting.fetch_add(1, Ordering::SeqCst);
-        seat.is_behind.store(true, Ordering::SeqCst);
-        if !is_taking(step) && shared.step() == step && *demands < DEMANDS {
-            *demands += 1;
-            shared.demand();
-        }
-        let answer = loop {
-            if shared.troubles.load(Ordering::SeqCst) != troubles {
-                break Err(shared.trouble());
-            }
-            if let Err(error) = shared.must_go_on() {
-                break Err(error);
-            }
-            if shared.step() != step {
-                break Ok(());
-            }
-            seat.sleep();
-        };
-        seat.is_behind.store(false, Ordering::SeqCst);
-        shared.awaiting.fetch_sub(1, Ordering::SeqCst);
-        answer
-    }
-
-    // Gives one lock back. One that a wait has lost with its heap isn't there any more, and is refused.
-    #[inline]
-    fn leave(&mut self, object: u32) -> Result<(), Error> {
-        let status = self.handle.exit(object);
-        if status != raw::OK {
-            return Err(self.refused(status));
-        }
-        self.locks -= 1;
-        // It was taken before.
-        self.records += 2;
-        if self.locks == 0 {
-            self.end_section(false);
-        }
-        if self.shared.queue.has(object) {
-            self.hand_on(object);
-        }
-        self.shared.must_go_on()
-    }
-
-    // Nothing is held any more: a section has ended, after which nothing is open unless the session waits.
-    #[inline]
-    fn end_section(&mut self, waits: bool) {
-        self.ended += 1;
-        // Sequentially consistent, as the look behind it at whether the helper knows of work, and as that this was told before the
-        // helper took all work to be known: so the helper learns of this section by one or by the other.
-        self.seat.ended.store(self.ended, Ordering::SeqCst);
-        self.seat.is_busy.store(waits, Ordering::Release);
-        let rounds = self.shared.rounds.load(Ordering::Relaxed);
-        if rounds != self.rounds {
-            (self.rounds, self.records) = (rounds, 0);
-        }
-        if self.records >= self.most_records {
-            // A round should come before the lane has no room.
-            self.records = 0;
-            self.shared.demand();
-        } else if !self.shared.knows_of_work() {
-            self.shared.tell_of_work();
-        }
-    }
-
-    // Wakes the first that waits for the monitor, unless it is held still, by another lock.
-    #[cold]
-    #[inline(never)]
-    fn hand_on(&mut self, object: u32) {
-        if self.locks == 0 || self.locks_of(object) == 0 {
-            self.shared.wake_first(object);
-        }
-    }
-
-    // By how many locks the monitor is held.
-    fn locks_of(&mut self, object: u32) -> u32 {
-        let mut sight = raw::Sight::default();
-        let is_ours = self.handle.look(object, &mut sight) == raw::OK && lane(sight.owner) == Some(self.lane as u32);
-        if is_ours {
-            sight.locks
-        } else {
-            0
-        }
-    }
-
-    // Frees the monitor, sleeps until the session is notified, and takes the monitor again by as many locks.
-    fn wait_for(&mut self, object: u32) -> Result<(), Error> {
-        let locks = self.locks_of(object);
-        self.begin_wait(object)?;
-        self.locks -= locks;
-        self.records += 2;
-        if self.locks == 0 {
-            self.end_section(true);
-        }
-        if self.shared.queue.has(object) {
-            self.shared.wake_first(object);
-        }
-        let answer = self.sleep_for_notice(object);
-        self.shared.queue.remove(self.lane);
-        if answer.is_err() {
-            self.is_lost = true;
-            self.shared.wake_first(object);
-            self.seat.is_busy.store(self.locks > 0, Ordering::Release);
-        } else {
-            self.locks += locks;
-        }
-        answer
-    }
-
-    fn begin_wait(&mut self, object: u32) -> Result<(), Error> {
-        let mut demands = 0;
-        loop {
-            let step = self.shared.step();
-            let status = self.call(|handle| handle.begin_wait(object));
-            match answer(status) {
-                Ok(()) => return Ok(()),
-                // What holds the monitor may be what the room waits for.
-                Err(Refusal::Behind) if demands < DEMANDS => self.await_room(step, &mut demands)?,
-                Err(_) => return Err(self.refused(status)),
-            }
-        }
-    }
-
-    fn sleep_for_notice(&mut self, object: u32) -> Result<(), Error> {
-        loop {
-            let status = self.call(Owned::try_resume);
-            match answer(status) {
-                Ok(()) => return Ok(()),
-                // It tries once more where it wasn't down before: whoever notified it may have put it there.
-                Err(Refusal::Held) if self.shared.queue.put(object, self.lane) => {}
-                Err(Refusal::Held | Refusal::InSet) => self.seat.sleep(),
-                Err(_) => return Err(self.refused(status)),
-            }
-        }
-    }
+// A deadline, by the clock of the library.
+fn time_of(deadline: Instant) -> u64 {
+    let rest = deadline.saturating_duration_since(Instant::now());
+    threads::now().saturating_add(u64::try_from(rest.as_nanos()).unwrap_or(u64::MAX))
 }
 
 impl Drop for Session {
     fn drop(&mut self) {
-        if self.is_lost {
-            return;
-        }
-        if self.locks > 0 {
+        if Refusal::from(self.thread.end()) == Refusal::Unfinished {
             // A guard was forgotten: nobody will give its monitor back.
-            return self.shared.stop(Error::bare(ErrorKind::Panicked, &self.shared.path));
+            let _ = self.opening.heap.abandon();
+            let _ = self.thread.end();
         }
-        lock(&self.shared.free).push(Spare {
-            lane: self.lane,
-            handle: std::mem::replace(&mut self.handle, Owned::none()),
-            ended: self.ended,
-        });
     }
 }
 
@@ -621,10 +383,9 @@ impl Held<'_> {
     #[inline]
     pub fn load(&mut self, field: u32) -> Result<u64, Error> {
         let mut value = 0;
-        match self.session.call(|handle| handle.load(field, &mut value)) {
-            raw::OK => Ok(value),
-            status => Err(self.session.refused(status)),
-        }
+        let status = self.session.thread.load(field, &mut value);
+        self.session.answer(status)?;
+        Ok(value)
     }
 
     /// Stores a field whose guard is held. [`ErrorKind::Refused`] by `UnknownField`, `NotHeld`, or `SectionFull` where the section
@@ -644,13 +405,8 @@ impl Held<'_> {
     /// ```
     #[inline]
     pub fn store(&mut self, field: u32, value: u64) -> Result<(), Error> {
-        match self.session.call(|handle| handle.store(field, value)) {
-            raw::OK => {
-                self.session.records += 1;
-                Ok(())
-            }
-            status => Err(self.session.refused(status)),
-        }
+        let status = self.session.thread.store(field, value);
+        self.session.answer(status)
     }
 
     /// Takes a slot of the pool, whose object's monitor is held; none where no slot is free. It costs the section two records.
@@ -672,16 +428,11 @@ impl Held<'_> {
     /// ```
     pub fn take(&mut self, pool: Pool) -> Result<Option<u32>, Error> {
         let mut slot = raw::NO_SLOT;
-        let status = self
-            .session
-            .call(|handle| handle.pool_take(pool.head, pool.slots, &mut slot));
-        match answer(status) {
-            Ok(()) => {
-                self.session.records += 2;
-                Ok(Some(slot))
-            }
-            Err(Refusal::PoolEmpty) => Ok(None),
-            Err(_) => Err(self.session.refused(status)),
+        let status = self.session.thread.take(pool.head, pool.slots, &mut slot);
+        match Refusal::from(status) {
+            _ if status == OK => Ok(Some(slot)),
+            Refusal::PoolEmpty => Ok(None),
+            _ => Err(self.session.refused(status)),
         }
     }
 
@@ -706,16 +457,8 @@ impl Held<'_> {
     /// # Ok::<(), Box<dyn std::error::Error>>(())
     /// ```
     pub fn give(&mut self, pool: Pool, slot: u32) -> Result<(), Error> {
-        let status = self
-            .session
-            .call(|handle| handle.pool_give(pool.head, pool.slots, slot));
-        match status {
-            raw::OK => {
-                self.session.records += 2;
-                Ok(())
-            }
-            status => Err(self.session.refused(status)),
-        }
+        let status = self.session.thread.give(pool.head, pool.slots, slot);
+        self.session.answer(status)
     }
 
     /// Takes one more monitor, or this one once more, inside of this one. Besides what [`Session::enter`] refuses,
@@ -794,7 +537,8 @@ impl Held<'_> {
     /// # Ok::<(), Box<dyn std::error::Error>>(())
     /// ```
     pub fn wait(&mut self) -> Result<(), Error> {
-        self.session.wait_for(self.object)
+        let status = self.session.thread.wait(self.object);
+        self.session.answer(status)
     }
 
     /// Wakes one session that waits for this monitor; whether there was one. It goes on once the monitor is free. Which of several isn't
@@ -811,14 +555,10 @@ impl Held<'_> {
     /// # Ok::<(), Box<dyn std::error::Error>>(())
     /// ```
     pub fn notify(&mut self) -> Result<bool, Error> {
-        let (object, mut woken) = (self.object, raw::NOBODY);
-        match self.session.call(|handle| handle.notify(object, &mut woken)) {
-            raw::OK => {
-                self.put_notified(lane(woken));
-                Ok(lane(woken).is_some())
-            }
-            status => Err(self.session.refused(status)),
-        }
+        let mut woken = 0;
+        let status = self.session.thread.notify(self.object, &mut woken);
+        self.session.answer(status)?;
+        Ok(woken > 0)
     }
 
     /// Wakes all sessions that wait for this monitor, and answers how many. In which order they go on isn't promised.
@@ -834,21 +574,10 @@ impl Held<'_> {
     /// # Ok::<(), Box<dyn std::error::Error>>(())
     /// ```
     pub fn notify_all(&mut self) -> Result<u32, Error> {
-        let (object, mut lanes) = (self.object, 0);
-        match self.session.call(|handle| handle.notify_all(object, &mut lanes)) {
-            raw::OK => {
-                self.put_notified((0..64).filter(|lane| lanes >> lane & 1 == 1));
-                Ok(lanes.count_ones())
-            }
-            status => Err(self.session.refused(status)),
-        }
-    }
-
-    // Those that were notified wait for the monitor from now on: they are woken when it is free, and not before.
-    fn put_notified(&self, lanes: impl IntoIterator<Item = u32>) {
-        for lane in lanes {
-            self.session.shared.queue.put(self.object, lane as usize);
-        }
+        let mut woken = 0;
+        let status = self.session.thread.notify_all(self.object, &mut woken);
+        self.session.answer(status)?;
+        Ok(woken)
     }
 
     /// Gives the monitor back, as dropping it does, and tells whether the heap goes on.
@@ -866,20 +595,24 @@ impl Held<'_> {
     /// ```
     #[inline]
     pub fn exit(self) -> Result<(), Error> {
-        let mut held = ManuallyDrop::new(self);
-        let object = held.object;
-        held.session.leave(object)
+        ManuallyDrop::new(self).leave()
+    }
+
+    // Gives one lock back. One that a wait has lost with its heap isn't there any more, and is refused.
+    #[inline]
+    fn leave(&mut self) -> Result<(), Error> {
+        let status = self.session.thread.exit(self.object);
+        self.session.answer(status)
     }
 }
 
 impl Drop for Held<'_> {
     fn drop(&mut self) {
         if !self.was_panicking && std::thread::panicking() {
-            let error = Error::bare(ErrorKind::Panicked, &self.session.shared.path);
-            self.session.shared.stop(error);
+            let _ = self.session.opening.heap.abandon();
         } else {
             // A guard can't say that the heap has stopped: the session's next call does.
-            let _ = self.session.leave(self.object);
+            let _ = self.leave();
         }
     }
 }
