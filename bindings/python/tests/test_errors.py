@@ -7,7 +7,7 @@ import zelamiku
 from zelamiku import errors
 
 # What only calls of the library itself, or of its other hosts, are answered; or what a session makes no exception of.
-WITHOUT_A_KIND = {1, 2, 3, 5, 7, 8, 19, 20, 23, 36}
+WITHOUT_A_KIND = {2, 3, 5, 7, 8, 19, 20, 23, 36}
 
 
 class Kinds(unittest.TestCase):

@@ -167,8 +167,9 @@ _REOPEN = "close the heap and open it again"
 _BACKUP = "take the back-up; `heapctl show` tells more"
 _MAKE = "choose another path, or remove the file"
 
-# By the numbers of zelamiku.h.
+# By the numbers of zelamiku.h. The first is that of a handle whose heap was closed, and whose place another has.
 KINDS = {
+    1: Kind(Closed, "the heap was closed or stopped", "open it again"),
     4: Kind(NoMemory, "there was no memory", "free some memory and try again"),
     6: Kind(NoLaneFree, "all lanes are in use", "end a thread that uses the heap, or open a heap of more lanes (32 at most)"),
     9: Kind(Running, "a section is open or a thread waits", "let all threads leave their sections, or call stop()"),
@@ -216,7 +217,7 @@ OPENING_KINDS = {
 # The same of a copy.
 COPY_KINDS = {
     32: Kind(CopyFailed, "the copy can't be written", "see the system's cause"),
-    34: Kind(CopyFailed, "the copy's path is that of the heap itself", "choose another path"),
+    34: Kind(CopyFailed, "a heap of that path is open", "choose another path"),
 }
 
 

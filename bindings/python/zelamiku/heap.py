@@ -194,7 +194,7 @@ class Heap:
             self._let_go(status, None)
 
     def stop(self) -> None:
-        """Closes the heap also where threads are in sections or wait: their calls are :class:`Closed` at once, also where they sleep.
+        """Closes the heap also where threads are in sections or wait: who sleeps is answered :class:`Closed` at once, others where they leave.
 
         What has ended is made durable first, but for what depends on a section that is open; those are dropped by the next opening. Of a
         heap that is closed it does nothing.

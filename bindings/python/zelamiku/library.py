@@ -27,6 +27,7 @@ NO_DEADLINE = 2**64 - 1
 ALL_SECTIONS = 2**64 - 1
 
 OK = 0
+NOTHING = 1
 NO_MEMORY = 4
 RUNNING = 9
 NOT_HELD = 12
@@ -172,6 +173,7 @@ _TELLING: dict[str, tuple[list[Any], Any]] = {
     "version": ([], c_uint32),
     "heap_message": ([], c_char_p),
     "heap_error": ([], c_int),
+    "pool_fields": ([c_uint32, POINTER(FieldRow), c_size_t], c_uint32),
     "thread_lane": ([_THREAD], c_uint32),
     "thread_sections": ([_THREAD], c_uint64),
     "thread_durable": ([_THREAD], c_uint64),

@@ -4,7 +4,7 @@ from __future__ import annotations
 import threading
 
 from .errors import Abandoned, Error, NotHeld, for_status
-from .library import ABANDONED, DEVICE, LOST, NO_MEMORY, NOT_HELD, OK, Library
+from .library import ABANDONED, DEVICE, LOST, NO_MEMORY, NOT_HELD, NOTHING, OK, Library
 from .plan import Plan
 
 
@@ -20,7 +20,7 @@ class Link:
 
     def error(self, status: int, doing: str = "") -> Error:
         """The exception for what a call of this thread has just answered."""
-        if status == ABANDONED and self._reason:
+        if status in (ABANDONED, NOTHING) and self._reason:
             return Abandoned(self.path, self._reason, "close the heap and open it again")
         has_cause = status in (NO_MEMORY, DEVICE, LOST)
         return for_status(self.path, status, self.calls.heap_error() if has_cause else 0, doing=doing)
@@ -47,7 +47,7 @@ class Link:
         # Before others are woken, since they ask for it.
         self._reason = self._reason or f"{reason}, in the thread {threading.current_thread().name}: the heap has stopped"
         status = self.calls.heap_abandon(self.handle)
-        if status in (OK, ABANDONED):
+        if status in (OK, ABANDONED, NOTHING):
             return self.error(ABANDONED)
         self._reason = ""
         return self.error(status)
