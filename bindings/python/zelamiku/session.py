@@ -20,7 +20,7 @@ _TICK = 200_000_000
 class NoSession:
     """What a thread has of a heap before its first section, and in none: all that needs a monitor is refused."""
 
-    sections: Sequence[Section] = ()
+    sections: Sequence[int] = ()
 
     def __init__(self, link: Link) -> None:
         self._link = link
@@ -38,11 +38,13 @@ class NoSession:
 class Session:
     """A thread's lane, lent when its first section begins. It is given back when the thread ends, and with it this."""
 
+    _begun: c_uint64 | None = None
+
     def __init__(self, link: Link) -> None:
         self._link = link
         self._calls = link.calls
-        self.sections: list[Section] = []
-        """Those that the thread is in, the outermost first."""
+        self.sections: list[int] = []
+        """Those that the thread is in, the outermost first, by their id()."""
         self._held: list[int] = []
         self._has_stored = False
         # What the library writes to, kept since a call would otherwise make it anew each time.
@@ -50,14 +52,15 @@ class Session:
         self._value_place = byref(self._value)
         self._count = c_uint32()
         self._count_place = byref(self._count)
-        handle = c_uint64()
-        status = self._calls.thread_begin(byref(handle), link.handle)
-        self.handle = handle.value
+        # Before the lane is lent, since a signal's handler may raise an exception right after it.
+        self._begun = c_uint64()
+        status = self._calls.thread_begin(byref(self._begun), link.handle)
         if status != OK:
             raise link.error(status)
+        self.handle = self._begun.value
 
     def __del__(self) -> None:
-        if self._calls.thread_end(self.handle) == UNFINISHED:
+        if self._begun is not None and self._calls.thread_end(self._begun.value) == UNFINISHED:
             self._link.abandon("a thread has ended inside a section")
 
     # ---- sections ----
@@ -69,16 +72,17 @@ class Session:
             self._must_be_in_order(section)
         else:
             self._has_stored = False
-        before = len(held)
+        before, depth = len(held), len(self.sections)
         try:
             deadline = _deadline(section.timeout)
             for of in section.objects:
                 self._take_monitor(of, deadline)
                 held.append(of._number)
-            self.sections.append(section)
+            self.sections.append(id(section))
+            section.is_open = True
         except BaseException:
             # A signal's handler may have raised it anywhere.
-            del held[before:]
+            del held[before:], self.sections[depth:]
             self._restore(section)
             raise
 
@@ -104,21 +108,22 @@ class Session:
 
     def leave(self, section: Section, error: BaseException | None) -> None:
         """Gives the section's monitors back; or stops the heap where an exception leaves a section that has stored."""
-        if not self.sections or self.sections[-1] is not section:
+        if not self.sections or self.sections[-1] != id(section):
+            section.is_open = False
             raise self._link.abandon("sections have ended in another order than they began, as by an await or a yield in one")
-        self.sections.pop()
-        if error is not None and self._has_stored:
-            self._held.clear()
-            self._link.abandon(f"an exception has left a section that had stored ({type(error).__name__}: {error})")
-            return
         left = len(self._held) - len(section.objects)
         try:
+            if error is not None and self._has_stored:
+                self._link.abandon(f"an exception has left a section that had stored ({type(error).__name__}: {error})")
             status = self._give_back(left)
         except BaseException:
             # A signal's handler has raised it.
             del self._held[left:]
             self._restore(section)
             raise
+        finally:
+            section.is_open = False
+            self.sections.pop()
         # An exception that is on its way says more.
         if status and error is None:
             raise self._link.error(status)
@@ -249,9 +254,10 @@ class Own(threading.local):
 class Section:
     """Monitors that are held inside of its ``with``: :meth:`Heap.synchronized` makes it."""
 
-    __slots__ = ("_own", "objects", "timeout")
+    __slots__ = ("_own", "objects", "timeout", "is_open")
 
     def __init__(self, own: Own, objects: Sequence[Object], timeout: float | None) -> None:
+        self.is_open = False
         self._own = own
         self.objects = objects
         self.timeout = timeout
@@ -265,8 +271,14 @@ class Section:
     def __exit__(self, kind: type[BaseException] | None, error: BaseException | None, trace: TracebackType | None) -> None:
         session = self._own.session
         if isinstance(session, NoSession):
+            self.is_open = False
             raise self._own.link.abandon("a section has ended in another thread than it began")
         session.leave(self, error)
+
+    def __del__(self) -> None:
+        if self.is_open:
+            # A signal's handler has raised an exception just where it was to end.
+            self.__exit__(None, InterruptedError("its end was cut off"), None)
 
 
 def _deadline(timeout: float | None) -> int:
