@@ -63,10 +63,10 @@ class Numbers(unittest.TestCase):
                 Plan({"it": wrong})
 
     def test_names_of_the_heap_and_wrong_numbers_are_refused_before_the_library(self):
-        for name in ("close", "objects", "synchronized", "__init__"):
+        for name in ("close", "objects", "synchronized", "_own", "__init__"):
             with self.assertRaisesRegex(ValueError, "a name of zelamiku.Heap's own"):
                 zelamiku.open("never.heap", **{name: Account})
-        for name, value in (("lanes", 0), ("lanes", 33), ("lanes", -1), ("capacity", 1_999), ("capacity", 2**40), ("linger", 10**6)):
+        for name, value in (("lanes", 0), ("lanes", 33), ("lanes", -1), ("capacity", 1_999), ("capacity", 2**40), ("linger", 10**6), ("linger", -1)):
             with self.subTest(name=name, value=value), self.assertRaisesRegex(zelamiku.BadPlan, name):
                 zelamiku.open("never.heap", it=Account, **{name: value})
         with self.assertRaises(TypeError):

@@ -49,14 +49,14 @@ def open(
     """
     plan = Plan(objects)
     for name in objects:
-        if hasattr(Heap, name):
+        if name.startswith("_") or hasattr(Heap, name):
             raise ValueError(f"no object can be named {name}, which is a name of zelamiku.Heap's own")
     text = os.fspath(path)
     wanted = PlanRow(
         lanes=_within(text, "lanes", lanes, 1, MOST_LANES),
         capacity=_within(text, "capacity", capacity, 2_000, 1_048_576),
-        # By the library 0 is 5,000.
-        linger=_within(text, "linger, in microseconds,", max(1, round(linger * 1e6)), 1, 2**32 - 1),
+        # To the library 0 would be 5,000.
+        linger=_within(text, "linger, in microseconds,", round(linger * 1e6), 0, 2**32 - 1) or 1,
         upgrades=upgrade,
     )
     calls = library()
@@ -83,6 +83,8 @@ class Heap:
         self._finish = weakref.finalize(self, _end_unclosed, link, self._waiter)
 
     def __getattr__(self, name: str) -> Any:
+        if name.startswith("_"):
+            raise AttributeError(name)
         raise AttributeError(f"{self._link.path} has no object {name}: zelamiku.open declares each by its name")
 
     def __repr__(self) -> str:
