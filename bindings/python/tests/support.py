@@ -30,12 +30,16 @@ class OnFile(unittest.TestCase):
     """A test with a folder of its own, which may not take longer than a minute."""
 
     def setUp(self) -> None:
-        faulthandler.dump_traceback_later(PATIENCE, exit=True)
+        self.be_patient()
         self.addCleanup(faulthandler.cancel_dump_traceback_later)
         folder = tempfile.TemporaryDirectory()
         self.addCleanup(folder.cleanup)
         self.folder = Path(folder.name)
         self.path = str(self.folder / "a.heap")
+
+    def be_patient(self) -> None:
+        """It may take a minute from now on."""
+        faulthandler.dump_traceback_later(PATIENCE, exit=True)
 
     def open(self, **declared: Any) -> zelamiku.Heap:
         return zelamiku.open(self.path, **(declared or {"alice": Account, "bob": Account}))

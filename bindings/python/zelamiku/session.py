@@ -13,7 +13,7 @@ from .errors import InSection, OutOfOrder, TimedOut
 from .library import ALL_SECTIONS, BEHIND, HELD, NO_DEADLINE, NOT_HELD, OK, POOL_EMPTY, UNFINISHED, Sight
 from .link import Link
 
-# Nanoseconds after which a thread that sleeps until its sections are durable handles its signals, as that of Ctrl-C.
+# Nanoseconds after which the main thread, where it sleeps until its sections are durable, handles signals, as that of Ctrl-C.
 _TICK = 200_000_000
 
 
@@ -47,6 +47,7 @@ class Session:
         """Those that the thread is in, the outermost first, by their id()."""
         self._held: list[int] = []
         self._has_stored = False
+        self._handles_signals = threading.current_thread() is threading.main_thread()
         # What the library writes to, kept since a call would otherwise make it anew each time.
         self._value = c_uint64()
         self._value_place = byref(self._value)
@@ -217,12 +218,10 @@ class Session:
         if self.sections:
             raise InSection(self._link.path, "this section hasn't ended, so it can't be durable", "leave it first")
         deadline = _deadline(timeout)
-        while True:
-            tick = min(deadline, time.monotonic_ns() + _TICK)
+        while self._handles_signals and (tick := time.monotonic_ns() + _TICK) < deadline:
             if self.is_durable(tick):
                 return True
-            if tick == deadline:
-                return False
+        return self.is_durable(deadline)
 
     def is_durable(self, deadline: int) -> bool:
         """Asks for a round, and sleeps until then at most; 0 is past. Whether all that the thread has ended is durable."""
