@@ -136,11 +136,11 @@ class Openings(OnFile):
             before = file.read()
         cases = [
             (dict(alice=Account, bob=Account, lanes=5), r"it has 4 lanes, and 5 are asked for; .*heapctl"),
-            (dict(alice=Account), r"it has 2 objects, and declared are 1: alice;"),
-            (dict(alice=Account, bob=Two), r"it has 2 fields, and declared are 3: 1 of alice, 2 of bob;"),
-            (dict(alice=Two, bob=Bare), r"alice\.other \(field 1\): it has it in object 1 \(bob\), and declared is object 0 \(alice\);"),
-            (dict(alice=Account, bob=Transient), r"bob\.balance \(field 1\): there it is durable, and declared as transient;"),
-            (dict(alice=Account, bob=Guarded), r"bob\.balance \(field 1\): there object 1 \(bob\) guards it, and declared is object 0 \(alice\);"),
+            (dict(alice=Account, lanes=2), r"it has 2 objects, and declared are 1: alice;"),
+            (dict(alice=Account, bob=Two, lanes=4), r"it has 2 fields, and declared are 3: 1 of alice, 2 of bob;"),
+            (dict(alice=Two, bob=Bare, lanes=4), r"alice\.other \(field 1\): it has it in object 1 \(bob\), and declared is object 0 \(alice\);"),
+            (dict(alice=Account, bob=Transient, lanes=1), r"bob\.balance \(field 1\): there it is durable, and declared as transient;"),
+            (dict(alice=Account, bob=Guarded, lanes=4), r"bob\.balance \(field 1\): there object 1 \(bob\) guards it, and declared is object 0 \(alice\);"),
         ]
         for declared, text in cases:
             with self.subTest(text), self.assertRaisesRegex(zelamiku.OtherHeap, text):
@@ -253,7 +253,6 @@ class Endings(OnFile):
         for call in (
             lambda: heap.synchronized(heap.alice).__enter__(),
             lambda: in_thread(lambda: heap.synchronized(heap.alice).__enter__()),
-            lambda: heap.stats(),
             lambda: heap.copy_to(self.path + ".copy"),
             lambda: heap.alice.balance,
             lambda: setattr(heap.alice, "balance", 2),

@@ -159,7 +159,7 @@ class Heap:
             await self._waiter.durable(session)
 
     def stats(self) -> Stats:
-        """What the heap has done since it was opened. :class:`Stopped`."""
+        """What the heap has done since it was opened. Of one at its end: what it had, until another heap has its place; then :class:`Closed`."""
         row = StatsRow()
         status = self._link.calls.heap_stats(self._link.handle, byref(row))
         if status != OK:

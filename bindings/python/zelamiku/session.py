@@ -3,10 +3,11 @@ from __future__ import annotations
 
 import threading
 import time
-from collections.abc import Sequence
+import weakref
+from collections.abc import Callable, Sequence
 from ctypes import byref, c_bool, c_uint32, c_uint64
 from types import TracebackType
-from typing import NoReturn
+from typing import NamedTuple, NoReturn
 
 from .declare import Object
 from .errors import InSection, OutOfOrder, TimedOut
@@ -17,10 +18,19 @@ from .link import Link
 _TICK = 200_000_000
 
 
+class _Open(NamedTuple):
+    """A section that a thread is in."""
+
+    section: weakref.ref[Section]
+    objects: Sequence[Object]
+    before: int
+    """How many monitors were held before it."""
+
+
 class NoSession:
     """What a thread has of a heap before its first section, and in none: all that needs a monitor is refused."""
 
-    sections: Sequence[int] = ()
+    sections: Sequence[_Open] = ()
 
     def __init__(self, link: Link) -> None:
         self._link = link
@@ -43,11 +53,12 @@ class Session:
     def __init__(self, link: Link) -> None:
         self._link = link
         self._calls = link.calls
-        self.sections: list[int] = []
-        """Those that the thread is in, the outermost first, by their id()."""
+        self.sections: list[_Open] = []
+        """Those that the thread is in, the outermost first."""
         self._held: list[int] = []
         self._has_stored = False
-        self._handles_signals = threading.current_thread() is threading.main_thread()
+        self._thread = threading.get_ident()
+        self._when_cut_off = _when_cut_off(weakref.ref(self))
         # What the library writes to, kept since a call would otherwise make it anew each time.
         self._value = c_uint64()
         self._value_place = byref(self._value)
@@ -79,12 +90,11 @@ class Session:
             for of in section.objects:
                 self._take_monitor(of, deadline)
                 held.append(of._number)
-            self.sections.append(id(section))
-            section.is_open = True
+            self.sections.append(_Open(weakref.ref(section, self._when_cut_off), section.objects, before))
         except BaseException:
             # A signal's handler may have raised it anywhere.
             del held[before:], self.sections[depth:]
-            self._restore(section)
+            self._restore(section.objects)
             raise
 
     def _must_be_in_order(self, section: Section) -> None:
@@ -109,25 +119,44 @@ class Session:
 
     def leave(self, section: Section, error: BaseException | None) -> None:
         """Gives the section's monitors back; or stops the heap where an exception leaves a section that has stored."""
-        if not self.sections or self.sections[-1] != id(section):
-            section.is_open = False
-            raise self._link.abandon("sections have ended in another order than they began, as by an await or a yield in one")
-        left = len(self._held) - len(section.objects)
+        last = depth = len(self.sections) - 1
+        while depth >= 0 and self.sections[depth].section() is not section:
+            depth -= 1
+        # An exception may have cut off the end of those inside of it.
+        if depth < 0 or (depth < last and error is None):
+            stopped = self._link.abandon("sections have ended in another order than they began, as by an await or a yield in one")
+            # An exception that is on its way says more.
+            if error is None:
+                raise stopped
+            return
+        self._leave(depth, error)
+
+    def _leave(self, depth: int, error: BaseException | None) -> None:
+        before = self.sections[depth].before
+        is_all = False
         try:
             if error is not None and self._has_stored:
                 self._link.abandon(f"an exception has left a section that had stored ({type(error).__name__}: {error})")
-            status = self._give_back(left)
-        except BaseException:
-            # A signal's handler has raised it.
-            del self._held[left:]
-            self._restore(section)
-            raise
+            status = self._give_back(before)
+            is_all = depth + 1 == len(self.sections)
         finally:
-            section.is_open = False
-            self.sections.pop()
-        # An exception that is on its way says more.
+            left = self.sections[depth:]
+            del self._held[before:], self.sections[depth:]
+            if not is_all:
+                for each in left:
+                    self._restore(each.objects)
         if status and error is None:
             raise self._link.error(status)
+
+    def cut_off(self, section: weakref.ref[Section]) -> None:
+        """A section is gone that hasn't ended: a signal's handler has raised an exception just where it was to end."""
+        error = InterruptedError("its end was cut off")
+        if threading.get_ident() != self._thread:
+            self._link.abandon("a section's end was cut off")
+            return
+        for depth, each in enumerate(self.sections):
+            if each.section is section:
+                return self._leave(depth, error)
 
     def _give_back(self, left: int) -> int:
         """Gives monitors back, the last first, until so many are held. Answers the first status that isn't OK."""
@@ -137,11 +166,11 @@ class Session:
             first = first or status
         return first
 
-    def _restore(self, section: Section) -> None:
-        """Gives back what the thread holds of the section's monitors beyond what it should: an exception has cut off a take or a give."""
+    def _restore(self, objects: Sequence[Object]) -> None:
+        """Gives back what the thread holds of these monitors beyond what it should: an exception has cut off a take or a give."""
         sight = Sight()
         lane = self._calls.thread_lane(self.handle)
-        for of in section.objects:
+        for of in objects:
             is_told = self._calls.thread_look(self.handle, of._number, byref(sight)) == OK
             locks = sight.locks if is_told and sight.owner == lane else 0
             for _ in range(locks - self._held.count(of._number)):
@@ -218,7 +247,7 @@ class Session:
         if self.sections:
             raise InSection(self._link.path, "this section hasn't ended, so it can't be durable", "leave it first")
         deadline = _deadline(timeout)
-        while self._handles_signals and (tick := time.monotonic_ns() + _TICK) < deadline:
+        while self._thread == threading.main_thread().ident and (tick := time.monotonic_ns() + _TICK) < deadline:
             if self.is_durable(tick):
                 return True
         return self.is_durable(deadline)
@@ -242,6 +271,17 @@ class Session:
         return durable >= count
 
 
+def _when_cut_off(of: weakref.ref[Session]) -> Callable[[weakref.ref[Section]], None]:
+    """What is called where a section is gone that hasn't ended. It doesn't keep the session, which goes with its thread."""
+
+    def tell(section: weakref.ref[Section]) -> None:
+        session = of()
+        if session is not None:
+            session.cut_off(section)
+
+    return tell
+
+
 class Own(threading.local):
     """What each thread has of a heap by itself."""
 
@@ -253,10 +293,9 @@ class Own(threading.local):
 class Section:
     """Monitors that are held inside of its ``with``: :meth:`Heap.synchronized` makes it."""
 
-    __slots__ = ("_own", "objects", "timeout", "is_open")
+    __slots__ = ("_own", "objects", "timeout", "__weakref__")
 
     def __init__(self, own: Own, objects: Sequence[Object], timeout: float | None) -> None:
-        self.is_open = False
         self._own = own
         self.objects = objects
         self.timeout = timeout
@@ -269,15 +308,12 @@ class Section:
 
     def __exit__(self, kind: type[BaseException] | None, error: BaseException | None, trace: TracebackType | None) -> None:
         session = self._own.session
-        if isinstance(session, NoSession):
-            self.is_open = False
-            raise self._own.link.abandon("a section has ended in another thread than it began")
-        session.leave(self, error)
-
-    def __del__(self) -> None:
-        if self.is_open:
-            # A signal's handler has raised an exception just where it was to end.
-            self.__exit__(None, InterruptedError("its end was cut off"), None)
+        if isinstance(session, Session):
+            session.leave(self, error)
+            return
+        stopped = self._own.link.abandon("a section has ended in another thread than it began")
+        if error is None:
+            raise stopped
 
 
 def _deadline(timeout: float | None) -> int:
