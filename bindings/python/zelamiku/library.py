@@ -9,8 +9,6 @@ from __future__ import annotations
 import ctypes
 import functools
 import os
-import shutil
-import subprocess
 from collections.abc import Iterator
 from ctypes import POINTER, c_bool, c_char_p, c_int, c_size_t, c_uint32, c_uint64, c_void_p
 from pathlib import Path
@@ -236,8 +234,11 @@ def places() -> Iterator[Path]:
 
 
 def _asked_of_pkg_config() -> str:
-    program = shutil.which("pkg-config")
-    if program is None:
+    import subprocess  # which few need, and takes its time
+
+    words = ["pkg-config", "--variable=libdir", "zelamiku"]
+    try:
+        return subprocess.run(words, stdout=subprocess.PIPE, stderr=subprocess.DEVNULL, text=True, check=False).stdout.strip()
+    except OSError:
+        # It isn't installed.
         return ""
-    words = [program, "--variable=libdir", "zelamiku"]
-    return subprocess.run(words, stdout=subprocess.PIPE, stderr=subprocess.DEVNULL, text=True, check=False).stdout.strip()

@@ -1,15 +1,18 @@
 """One thread that waits, for all tasks of a program, until sections are durable."""
 from __future__ import annotations
 
-import asyncio
 import threading
 from ctypes import byref, c_uint64
 from dataclasses import dataclass
+from typing import TYPE_CHECKING
 
 from .errors import Error
 from .library import CLOSED, NO_DEADLINE, OK
 from .link import Link
 from .session import Session
+
+if TYPE_CHECKING:
+    import asyncio
 
 
 @dataclass(frozen=True)
@@ -48,6 +51,9 @@ class Waiter:
 
     def durable(self, session: Session) -> asyncio.Future[None]:
         """A future of the running loop, done once all is durable that the session has ended by now."""
+        # Whose program has a running loop has it by now; to others it would be a tenth of a second.
+        import asyncio
+
         awaited = _Awaited(session, session.ended(), asyncio.get_running_loop().create_future())
         with self._changed:
             if self._is_over:

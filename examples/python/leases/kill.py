@@ -128,7 +128,7 @@ class Client(threading.Thread):
                 body = json.loads(answer.read())
             except ConnectionRefusedError:
                 # Nothing was asked.
-                time.sleep(0.01)
+                time.sleep(0.05)
             except (OSError, http.client.HTTPException, ValueError):
                 self._was_cut_off = True
                 self._truth.add("cut off")
@@ -183,108 +183,6 @@ def free_port(chance: random.Random) -> int:
         with socket.socket() as probe, contextlib.suppress(OSError):
             probe.bind(("127.0.0.1", port))
             return port
-
-
-def run(self) -> None:
-        try:
-            turn = 0
-            while not self._truth.is_over.is_set():
-                turn += 1
-                name = self._random.choice((*SHARED, f"of-{self._number}", f"of-{self._number}-{turn}"))
-                self._turn(name, self._number << 32 | turn)
-        except Wrong as wrong:
-            self._truth.wrong.append(f"client {self._number}: {wrong}")
-            self._truth.is_over.set()
-
-    def _turn(self, name: str, holder: int) -> None:
-        truth = self._truth
-        floor = truth.greatest
-        status, answer = self._ask("POST", f"/leases/{name}?holder={holder}&seconds={SECONDS}")
-        if status == 409:
-            truth.add("refused")
-            return
-        if status != 200:
-            raise Wrong(f"acquiring {name} was answered {status}: {answer}")
-        token = answer["token"]
-        truth.acquired(name, holder, token, floor)
-        if self._was_cut_off:
-            truth.add("repeated after a cut")
-        for _ in range(self._random.randrange(4)):
-            status, answer = self._ask("PUT", f"/leases/{name}?token={token}&seconds={SECONDS}")
-            if (status, answer.get("token")) != (200, token):
-                raise Wrong(f"{name} was held by token {token}, and renewing it was answered {status}: {answer}")
-            truth.add("renewed")
-        truth.releases(name)
-        status, answer = self._ask("DELETE", f"/leases/{name}?token={token}")
-        # A try before may have released it, and been cut off.
-        if status != 200 and not (status == 404 and self._was_cut_off):
-            raise Wrong(f"releasing {name} by token {token} was answered {status}: {answer}")
-        truth.add("released")
-
-    def _ask(self, method: str, path: str):
-        """Until it is answered."""
-        self._was_cut_off = False
-        while True:
-            connection = http.client.HTTPConnection("127.0.0.1", self._port, timeout=30)
-            try:
-                connection.request(method, path)
-                answer = connection.getresponse()
-                body = json.loads(answer.read())
-            except ConnectionRefusedError:
-                # Nothing was asked.
-                time.sleep(0.01)
-            except (OSError, http.client.HTTPException, ValueError):
-                self._was_cut_off = True
-                self._truth.add("cut off")
-                time.sleep(0.01)
-            else:
-                if answer.status != 503:
-                    return answer.status, body
-                self._was_cut_off = True
-            finally:
-                connection.close()
-
-
-def started(file: Path, port: int) -> subprocess.Popen[str]:
-    words = [sys.executable, str(HERE), str(file), "--port", str(port)]
-    return subprocess.Popen(words, stdout=subprocess.PIPE, stderr=subprocess.PIPE, text=True)
-
-
-def found(server: subprocess.Popen[str]) -> int:
-    """How many leases the server tells that it has found."""
-    line = server.stdout.readline()
-    if " has " not in line:
-        raise Wrong(f"the server didn't start: {line}{server.stderr.read()}")
-    return int(line.split()[2])
-
-
-def kill_often(file: Path, port: int, kills: int, truth: Truth, chance: random.Random) -> None:
-    for number in range(kills):
-        if truth.is_over.is_set():
-            return
-        # What is held now, and has been acquired by an answer, must be found. Releases come only while a server answers.
-        held = len(truth.holding)
-        server = started(file, port)
-        try:
-            if number % 4 == 0:
-                time.sleep(chance.uniform(0, 0.3))
-            else:
-                count = found(server)
-                if count < held:
-                    raise Wrong(f"{held} leases were held, and {count} were found")
-                time.sleep(chance.uniform(0.01, 0.7))
-            if server.poll() is not None:
-                raise Wrong(f"the server has ended by itself: {server.stderr.read()}")
-        finally:
-            server.kill()
-            server.communicate()
-
-
-def free_port() -> int:
-    with socket.socket() as probe:
-        probe.bind(("127.0.0.1", 0))
-        port: int = probe.getsockname()[1]
-        return port
 
 
 def run(folder: Path, kills: int, clients: int, seed: int) -> Truth:
