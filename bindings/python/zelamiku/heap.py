@@ -125,12 +125,11 @@ class Heap:
         """
         if not objects:
             raise TypeError("synchronized() wants an object, or several")
+        own = self._own
         for of in objects:
-            if not isinstance(of, Object) or of._own is not self._own:
+            if not isinstance(of, Object) or of._own is not own:
                 raise ValueError(f"{of!r} is no object of {self._link.path}")
-        if len(objects) == 1:
-            return Section(self._own, objects, timeout)
-        return Section(self._own, sorted(set(objects), key=_number), timeout)
+        return Section(own, sorted(set(objects), key=_number) if len(objects) > 1 else objects, timeout)
 
     def durable(self, timeout: float | None = None) -> bool:
         """Sleeps until no crash loses what this thread has ended, or so many seconds at most; whether that is so.

@@ -10,7 +10,7 @@ from types import TracebackType
 from typing import NamedTuple, NoReturn
 
 from .declare import Object
-from .errors import InSection, OutOfOrder, TimedOut
+from .errors import Error, InSection, OutOfOrder, TimedOut
 from .library import ALL_SECTIONS, BEHIND, HELD, NO_DEADLINE, NOT_HELD, OK, POOL_EMPTY, UNFINISHED, Sight
 from .link import Link
 
@@ -28,12 +28,21 @@ class _Open(NamedTuple):
 
 
 class NoSession:
-    """What a thread has of a heap before its first section, and in none: all that needs a monitor is refused."""
+    """What a thread has of a heap before its first section: all that needs a monitor is refused."""
 
     sections: Sequence[_Open] = ()
 
     def __init__(self, link: Link) -> None:
         self._link = link
+
+    def enter(self, section: Section) -> None:
+        """Begins the thread's session, and takes the section's monitors."""
+        section.own.session = session = Session(self._link)
+        session.enter(section)
+
+    def leave(self, section: Section, error: BaseException | None) -> None:
+        """Stops the heap: the section has begun in another thread."""
+        _tell(self._link.abandon("a section has ended in another thread than it began"), error)
 
     def _refuse_field(self, field: int, *_: int) -> NoReturn:
         raise self._link.field_error(NOT_HELD, field)
@@ -85,10 +94,13 @@ class Session:
         else:
             self._has_stored = False
         before, depth = len(held), len(self.sections)
+        deadline = None
         try:
-            deadline = _deadline(section.timeout)
             for of in section.objects:
-                self._take_monitor(of, deadline)
+                status = self._calls.thread_try_enter(self.handle, of._number)
+                if status:
+                    deadline = _deadline(section.timeout) if deadline is None else deadline
+                    self._await_monitor(of, status, deadline)
                 held.append(of._number)
             self.sections.append(_Open(weakref.ref(section, self._when_cut_off), section.objects, before))
         except BaseException:
@@ -104,13 +116,12 @@ class Session:
                 cause = f"{of._name} comes before a monitor that the thread holds already"
                 raise OutOfOrder(self._link.path, cause, "take all of them by one synchronized(..), or declare it after")
 
-    def _take_monitor(self, of: Object, deadline: int) -> None:
-        status = self._calls.thread_try_enter(self.handle, of._number)
-        if status in (HELD, BEHIND) and deadline:
-            if deadline == NO_DEADLINE:
-                status = self._calls.thread_enter(self.handle, of._number)
-            else:
-                status = self._calls.thread_enter_until(self.handle, of._number, deadline)
+    def _await_monitor(self, of: Object, status: int, deadline: int) -> None:
+        """Takes a monitor of which a try has answered this."""
+        if status in (HELD, BEHIND) and deadline == NO_DEADLINE:
+            status = self._calls.thread_enter(self.handle, of._number)
+        elif status in (HELD, BEHIND) and deadline:
+            status = self._calls.thread_enter_until(self.handle, of._number, deadline)
         if status in (HELD, BEHIND):
             cause = "another thread has its monitor" if status == HELD else "the lane has no room for a section's records"
             raise TimedOut(self._link.path, f"{of._name}: {cause}, still after the timeout", "try again")
@@ -124,12 +135,9 @@ class Session:
             depth -= 1
         # An exception may have cut off the end of those inside of it.
         if depth < 0 or (depth < last and error is None):
-            stopped = self._link.abandon("sections have ended in another order than they began, as by an await or a yield in one")
-            # An exception that is on its way says more.
-            if error is None:
-                raise stopped
-            return
-        self._leave(depth, error)
+            _tell(self._link.abandon("sections have ended in another order than they began, as by an await or a yield in one"), error)
+        else:
+            self._leave(depth, error)
 
     def _leave(self, depth: int, error: BaseException | None) -> None:
         before = self.sections[depth].before
@@ -145,8 +153,8 @@ class Session:
             if not is_all:
                 for each in left:
                     self._restore(each.objects)
-        if status and error is None:
-            raise self._link.error(status)
+        if status:
+            _tell(self._link.error(status), error)
 
     def cut_off(self, section: weakref.ref[Section]) -> None:
         """A section is gone that hasn't ended: a signal's handler has raised an exception just where it was to end."""
@@ -293,27 +301,24 @@ class Own(threading.local):
 class Section:
     """Monitors that are held inside of its ``with``: :meth:`Heap.synchronized` makes it."""
 
-    __slots__ = ("_own", "objects", "timeout", "__weakref__")
+    __slots__ = ("own", "objects", "timeout", "__weakref__")
 
     def __init__(self, own: Own, objects: Sequence[Object], timeout: float | None) -> None:
-        self._own = own
+        self.own = own
         self.objects = objects
         self.timeout = timeout
 
     def __enter__(self) -> None:
-        own = self._own
-        if isinstance(own.session, NoSession):
-            own.session = Session(own.link)
-        own.session.enter(self)
+        self.own.session.enter(self)
 
     def __exit__(self, kind: type[BaseException] | None, error: BaseException | None, trace: TracebackType | None) -> None:
-        session = self._own.session
-        if isinstance(session, Session):
-            session.leave(self, error)
-            return
-        stopped = self._own.link.abandon("a section has ended in another thread than it began")
-        if error is None:
-            raise stopped
+        self.own.session.leave(self, error)
+
+
+def _tell(stopped: Error, error: BaseException | None) -> None:
+    """Raises what has stopped a section's end, unless an exception is on its way, which says more."""
+    if error is None:
+        raise stopped
 
 
 def _deadline(timeout: float | None) -> int:
