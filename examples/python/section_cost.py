@@ -2,7 +2,8 @@
 
     python3 examples/python/section_cost.py [FOLDER]
 
-Each row is the median of so many rounds by turns, of one process. A section adds to a field, or moves an amount between two objects' fields;
+Each row has microseconds of time, and of the processors' (by all threads of the process, the heap's helper too), for one piece of work: the
+medians of rounds by turns in one process. A section adds to a field, or moves an amount between two objects' fields;
 SQLite does the same to rows of a table, by prepared statements inside BEGIN IMMEDIATE and COMMIT, with journal_mode=WAL. Where nobody waits
 for durability SQLite has synchronous=OFF; where each one is durable, FULL. FOLDER says where the files lie: their disk's syncs count there.
 """
@@ -28,23 +29,22 @@ class Account(zelamiku.Object):
     balance = zelamiku.Field(first=2**40)
 
 
-def rate(work: Callable[[], None], threads: int = 1) -> float:
-    """How often a second the threads do the work, all together."""
+def cost(work: Callable[[], None], threads: int) -> tuple[float, float]:
+    """Microseconds of time and of the processors' for one piece of work, where so many threads do it."""
     counts = [0] * threads
-    end = time.monotonic() + SECONDS
+    begun, used = time.monotonic(), time.process_time()
 
     def run(place: int) -> None:
-        while time.monotonic() < end:
+        while time.monotonic() < begun + SECONDS:
             work()
             counts[place] += 1
 
-    begun = time.monotonic()
     running = [threading.Thread(target=run, args=(place,)) for place in range(threads)]
     for thread in running:
         thread.start()
     for thread in running:
         thread.join()
-    return sum(counts) / (time.monotonic() - begun)
+    return (time.monotonic() - begun) * 1e6 / sum(counts), (time.process_time() - used) * 1e6 / sum(counts)
 
 
 class Zelamiku:
@@ -144,14 +144,14 @@ def main() -> None:
             ("each durable, 16 threads", 16, 1, heap.move_durably, durable.move),
             ("durable in groups of 1,000", 1, GROUP, heap.move_group, durable.move_group),
         ]
-        print(f"{'':28}{'Zelamiku, us':>14}{'sqlite3, us':>14}{'times as fast':>15}")
+        print(f"{'':28}{'Zelamiku':>12}{'processors':>12}{'sqlite3':>12}{'processors':>12}{'times as fast':>15}")
         for text, threads, group, *works in rows:
-            found: list[list[float]] = [[], []]
+            found: list[list[tuple[float, float]]] = [[], []]
             for _ in range(ROUNDS):
                 for place, work in enumerate(works):
-                    found[place].append(rate(work, threads) * group)
-            own, other = (1e6 / statistics.median(rates) for rates in found)
-            print(f"{text:28}{own:14.1f}{other:14.1f}{other / own:15.2f}", flush=True)
+                    found[place].append(cost(work, threads))
+            own, own_used, other, other_used = (statistics.median(each) / group for costs in found for each in zip(*costs))
+            print(f"{text:28}{own:12.1f}{own_used:12.1f}{other:12.1f}{other_used:12.1f}{other / own:15.2f}", flush=True)
         heap.close()
 
 
