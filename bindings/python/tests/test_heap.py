@@ -395,18 +395,20 @@ class Living(OnFile):
             threads = [threading.Thread(target=pay) for _ in range(3)]
             for thread in threads:
                 thread.start()
-            for _ in range(5):
-                with heap.synchronized(heap.alice, heap.bob):
-                    least = heap.alice.balance
-                heap.durable()
-                heap.copy_to(copy)
-                with zelamiku.open(copy, alice=Account, bob=Account) as copied:
-                    with copied.synchronized(copied.alice, copied.bob):
-                        self.assertGreaterEqual(copied.alice.balance, least)
-                        self.assertEqual(copied.bob.balance, max(0, 200 - copied.alice.balance))
-            is_over.set()
-            for thread in threads:
-                thread.join()
+            try:
+                for _ in range(5):
+                    with heap.synchronized(heap.alice, heap.bob):
+                        least = heap.alice.balance
+                    heap.durable()
+                    heap.copy_to(copy)
+                    with zelamiku.open(copy, alice=Account, bob=Account) as copied:
+                        with copied.synchronized(copied.alice, copied.bob):
+                            self.assertGreaterEqual(copied.alice.balance, least)
+                            self.assertEqual(copied.bob.balance, max(0, 200 - copied.alice.balance))
+            finally:
+                is_over.set()
+                for thread in threads:
+                    thread.join()
 
     def test_a_copy_that_can_not_be_written(self):
         with self.open() as heap:

@@ -183,6 +183,8 @@ class Exceptions(OnFile):
         for thread in threads:
             thread.join()
         self.assertEqual([type(each) for each in told], [zelamiku.Abandoned] * 2)
+        with self.assertRaises(zelamiku.Abandoned):
+            heap.close()
 
     def test_a_yield_in_a_section_that_mixes_two_stops_the_heap(self):
         def section(heap, of):

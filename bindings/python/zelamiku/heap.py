@@ -236,12 +236,12 @@ def _number(of: Object) -> int:
 
 def _end_unclosed(link: Link, waiter: Waiter) -> None:
     """The heap's last reference is gone, or the program ends: what has ended is made durable."""
-    warnings.warn(f"the heap of {link.path} wasn't closed", ResourceWarning, stacklevel=2)
     status = link.calls.heap_close(link.handle)
     if status in (RUNNING, DEVICE):
         status = link.calls.heap_stop(link.handle)
     if status != FORKED:
         waiter.end(for_status(link.path, CLOSED))
+    warnings.warn(f"the heap of {link.path} wasn't closed", ResourceWarning, stacklevel=2)
 
 
 # ---- opening ----

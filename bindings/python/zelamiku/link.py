@@ -1,8 +1,6 @@
 """An open heap of the library: its handle, and how what it answers becomes an exception."""
 from __future__ import annotations
 
-import threading
-
 from .errors import Abandoned, Error, NotHeld, for_status
 from .library import ABANDONED, DEVICE, LOST, NO_MEMORY, NOT_HELD, NOTHING, OK, Library
 from .plan import Plan
@@ -45,7 +43,7 @@ class Link:
         What has ended is made durable first. Answers what each later call is told: the reason, or why the heap had ended before.
         """
         # Before others are woken, since they ask for it.
-        self._reason = self._reason or f"{reason}, in the thread {threading.current_thread().name}: the heap has stopped"
+        self._reason = self._reason or f"{reason}: the heap has stopped"
         status = self.calls.heap_abandon(self.handle)
         if status in (OK, ABANDONED, NOTHING):
             return self.error(ABANDONED)

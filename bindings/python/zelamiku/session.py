@@ -66,7 +66,7 @@ class Session:
         """Those that the thread is in, the outermost first."""
         self._held: list[int] = []
         self._has_stored = False
-        self._thread = threading.get_ident()
+        self._thread = threading.current_thread()
         self._when_cut_off = _when_cut_off(weakref.ref(self))
         # What the library writes to, kept since a call would otherwise make it anew each time.
         self._value = c_uint64()
@@ -82,7 +82,10 @@ class Session:
 
     def __del__(self) -> None:
         if self._begun is not None and self._calls.thread_end(self._begun.value) == UNFINISHED:
-            self._link.abandon("a thread has ended inside a section")
+            self._abandon("a thread has ended inside a section")
+
+    def _abandon(self, reason: str) -> Error:
+        return self._link.abandon(f"{reason}, in the thread {self._thread.name}")
 
     # ---- sections ----
 
@@ -135,7 +138,7 @@ class Session:
             depth -= 1
         # An exception may have cut off the end of those inside of it.
         if depth < 0 or (depth < last and error is None):
-            _tell(self._link.abandon("sections have ended in another order than they began, as by an await or a yield in one"), error)
+            _tell(self._abandon("sections have ended in another order than they began, as by an await or a yield in one"), error)
         else:
             self._leave(depth, error)
 
@@ -144,7 +147,7 @@ class Session:
         is_all = False
         try:
             if error is not None and self._has_stored:
-                self._link.abandon(f"an exception has left a section that had stored ({type(error).__name__}: {error})")
+                self._abandon(f"an exception has left a section that had stored ({type(error).__name__}: {error})")
             status = self._give_back(before)
             is_all = depth + 1 == len(self.sections)
         finally:
@@ -159,8 +162,8 @@ class Session:
     def cut_off(self, section: weakref.ref[Section]) -> None:
         """A section is gone that hasn't ended: a signal's handler has raised an exception just where it was to end."""
         error = InterruptedError("its end was cut off")
-        if threading.get_ident() != self._thread:
-            self._link.abandon("a section's end was cut off")
+        if threading.get_ident() != self._thread.ident:
+            self._abandon("a section's end was cut off")
             return
         for depth, each in enumerate(self.sections):
             if each.section is section:
@@ -255,7 +258,7 @@ class Session:
         if self.sections:
             raise InSection(self._link.path, "this section hasn't ended, so it can't be durable", "leave it first")
         deadline = _deadline(timeout)
-        while self._thread == threading.main_thread().ident and (tick := time.monotonic_ns() + _TICK) < deadline:
+        while self._thread is threading.main_thread() and (tick := time.monotonic_ns() + _TICK) < deadline:
             if self.is_durable(tick):
                 return True
         return self.is_durable(deadline)
