@@ -1,0 +1,447 @@
+"""Heaps that are made, used, closed and opened again."""
+import gc
+import os
+import threading
+import unittest
+import warnings
+
+import zelamiku
+from support import Account, OnFile, Queue, in_process, in_thread
+from zelamiku.library import FieldRow, library
+
+
+class All(zelamiku.Object):
+    whole = zelamiku.Field(first=7)
+    signed = zelamiku.Signed(first=-7)
+    yes = zelamiku.Bool(first=True)
+    real = zelamiku.Float(first=0.5)
+    link = zelamiku.Ref()
+    many = zelamiku.Array(zelamiku.Signed(first=-1), 3)
+    count = zelamiku.Field(first=9, transient=True)
+
+
+class Values(OnFile):
+    def test_the_five_lines(self):
+        def pay(heap, amount):
+            with heap.synchronized(heap.alice, heap.bob):
+                heap.alice.balance -= amount
+                heap.bob.balance += amount
+            return heap.durable()
+
+        for balances in ([90, 110], [80, 120]):
+            with zelamiku.open(self.path, alice=Account, bob=Account, lanes=8) as heap:
+                self.assertIs(pay(heap, 10), True)
+                self.assertEqual(self.values(heap), balances)
+
+    def test_each_kind_is_found_again_and_a_transient_field_begins_anew(self):
+        with self.open(it=All, others=[Account, All]) as heap:
+            it = heap.others[1]
+            with heap.synchronized(it):
+                self.assertEqual((it.whole, it.signed, it.yes, it.real, it.link, list(it.many), it.count), (7, -7, True, 0.5, None, [-1] * 3, 9))
+                it.whole, it.signed, it.yes, it.real, it.link, it.count = 2**64 - 1, -(2**63), False, 1e-300, heap.others[0], 10
+                it.many[1] = -5
+                self.assertEqual(it.count, 10)
+            with heap.synchronized(heap.it):
+                self.assertEqual(heap.it.whole, 7)
+        with self.open(it=All, others=[Account, All]) as heap:
+            it = heap.others[1]
+            with heap.synchronized(it):
+                self.assertEqual((it.whole, it.signed, it.yes, it.real, it.link), (2**64 - 1, -(2**63), False, 1e-300, 1))
+                self.assertEqual((list(it.many), it.count), ([-1, -5, -1], 9))
+                self.assertIs(heap.objects[it.link], heap.others[0])
+
+    def test_a_value_without_place_stores_nothing(self):
+        with self.open() as heap:
+            with heap.synchronized(heap.alice):
+                for wrong, kind in ((-1, zelamiku.OutOfRange), (2**64, zelamiku.OutOfRange), (1.5, TypeError), (None, TypeError)):
+                    with self.assertRaises(kind):
+                        heap.alice.balance = wrong
+                self.assertEqual(heap.alice.balance, 100)
+
+    def test_a_field_may_have_another_guard(self):
+        class Guarded(zelamiku.Object):
+            total = zelamiku.Field(guard="alice")
+
+        with self.open(total=Guarded, alice=Account) as heap:
+            with heap.synchronized(heap.alice):
+                heap.total.total = 5
+            with heap.synchronized(heap.total), self.assertRaisesRegex(zelamiku.NotHeld, r"heap\.synchronized\(heap\.alice\)"):
+                heap.total.total = 6
+
+    def test_a_pool_gives_each_slot_once(self):
+        class Seats(zelamiku.Object):
+            free = zelamiku.Pool(3)
+
+        with self.open(seats=Seats) as heap:
+            free = heap.seats.free
+            with heap.synchronized(heap.seats):
+                self.assertEqual([free.take() for _ in range(4)], [0, 1, 2, None])
+                free.give(1)
+                for wrong, kind in ((1, zelamiku.NotTaken), (3, IndexError), (-1, IndexError), (0.5, TypeError)):
+                    with self.assertRaises(kind):
+                        free.give(wrong)
+                self.assertEqual(len(free), 3)
+            for refused in (free.take, lambda: free.give(0)):
+                with self.assertRaises(zelamiku.NotHeld):
+                    refused()
+        with self.open(seats=Seats) as heap, heap.synchronized(heap.seats):
+            self.assertEqual([heap.seats.free.take() for _ in range(2)], [1, None])
+
+    def test_a_pool_begins_as_the_library_says(self):
+        for slots in (1, 2, 5):
+            rows = (FieldRow * (slots + 1))()
+            self.assertEqual(library().pool_fields(0, rows, slots + 1), 0)
+            self.assertEqual([row.first for row in rows], zelamiku.Pool(slots).firsts())
+
+
+class Openings(OnFile):
+    def test_the_report_tells_what_was_found(self):
+        with self.open(alice=Account, bob=Account, lanes=3, capacity=2_000) as heap:
+            made = heap.report
+            self.values(heap)
+        with self.open(alice=Account, bob=Account, lanes=2) as heap:
+            found = heap.report
+        self.assertTrue(made.is_made and not found.is_made and not found.is_upgraded)
+        self.assertEqual((made.lanes, made.capacity, found.lanes, found.capacity), (3, 2_000, 3, 2_000))
+        self.assertEqual(made.size, os.path.getsize(self.path))
+        self.assertEqual((found.size, found.kept, found.dropped, found.undone), (made.size, (1, 0, 0), (), 0))
+
+    def test_another_opening_is_busy(self):
+        with self.open():
+            with self.assertRaises(zelamiku.Busy):
+                self.open()
+            os.link(self.path, self.path + ".link")
+            with self.assertRaises(zelamiku.Busy):
+                zelamiku.open(self.path + ".link", alice=Account, bob=Account)
+            told = in_process(OPENS, self.path)
+            self.assertIn("Busy", told.stdout, told.stderr)
+        self.assertIn("opened", in_process(OPENS, self.path).stdout)
+
+    def test_another_heap_is_told_by_name(self):
+        class Two(zelamiku.Object):
+            balance = zelamiku.Field()
+            other = zelamiku.Field()
+
+        class Transient(zelamiku.Object):
+            balance = zelamiku.Field(transient=True)
+
+        class Guarded(zelamiku.Object):
+            balance = zelamiku.Field(guard="alice")
+
+        class Bare(zelamiku.Object):
+            pass
+
+        self.open(alice=Account, bob=Account, lanes=4).close()
+        with open(self.path, "rb") as file:
+            before = file.read()
+        cases = [
+            (dict(alice=Account, bob=Account, lanes=5), r"it has 4 lanes, and 5 are asked for; .*heapctl"),
+            (dict(alice=Account, lanes=2), r"it has 2 objects, and declared are 1: alice;"),
+            (dict(alice=Account, bob=Two, lanes=4), r"it has 2 fields, and declared are 3: 1 of alice, 2 of bob;"),
+            (dict(alice=Two, bob=Bare, lanes=4), r"alice\.other \(field 1\): it has it in object 1 \(bob\), and declared is object 0 \(alice\);"),
+            (dict(alice=Account, bob=Transient, lanes=1), r"bob\.balance \(field 1\): there it is durable, and declared as transient;"),
+            (dict(alice=Account, bob=Guarded, lanes=4), r"bob\.balance \(field 1\): there object 1 \(bob\) guards it, and declared is object 0 \(alice\);"),
+        ]
+        for declared, text in cases:
+            with self.subTest(text), self.assertRaisesRegex(zelamiku.OtherHeap, text):
+                self.open(**declared)
+        with open(self.path, "rb") as file:
+            self.assertEqual(file.read(), before)
+
+    def test_what_is_no_heap_is_left_as_it_is(self):
+        with open(self.path, "wb") as file:
+            file.write(b"notes" * 1000)
+        with self.assertRaises(zelamiku.NotAHeap):
+            self.open()
+        self.assertEqual(os.path.getsize(self.path), 5000)
+        for path in (str(self.folder / "none" / "a.heap"), str(self.folder)):
+            with self.assertRaises(zelamiku.FileError) as caught:
+                zelamiku.open(path, alice=Account)
+            self.assertIsInstance(caught.exception.__cause__, OSError)
+            self.assertEqual(caught.exception.path, path)
+        with self.assertRaisesRegex(ValueError, "null byte"):
+            zelamiku.open("a\0b", alice=Account)
+
+    def test_an_empty_file_and_one_of_zeros_become_heaps(self):
+        for size in (0, 10_000):
+            with open(self.path, "wb") as file:
+                file.write(bytes(size))
+            with self.open() as heap:
+                self.assertTrue(heap.report.is_made)
+            os.remove(self.path)
+
+    def test_a_file_that_was_changed_is_broken(self):
+        self.open().close()
+        with open(self.path, "r+b") as file:
+            whole = file.read()
+            file.truncate(200)
+        with self.assertRaises(zelamiku.BrokenFile):
+            self.open()
+        for at, size in ((64, 2_096), (2_160, 32)):
+            with open(self.path, "wb") as file:
+                file.write(whole[:at] + b"\xa5" * size + whole[at + size :])
+            with self.subTest(at=at), self.assertRaises(zelamiku.OpenError):
+                self.open()
+
+    def test_what_can_be_no_heap_is_refused_and_leaves_no_file(self):
+        class Much(zelamiku.Object):
+            fields = zelamiku.Array(zelamiku.Field(), 16_385)
+
+        class Bare(zelamiku.Object):
+            pass
+
+        cases = [{"it": Much}, {"it": [Account] * 4_097}, {"it": Bare}, {"it": []}]
+        for declared in cases:
+            with self.assertRaises(zelamiku.BadPlan):
+                self.open(**declared)
+            self.assertFalse(os.path.exists(self.path))
+        with self.assertRaises(zelamiku.BadPlan):
+            zelamiku.open(self.path)
+
+    def test_an_older_version_is_upgraded_where_that_is_asked_for(self):
+        self.open().close()
+        with open(self.path, "r+b") as file:
+            # The control's version, in both of its slots (docs/FORMAT.md).
+            for slot in (64, 1_112):
+                file.seek(slot + 8 + 8)
+                file.write((1).to_bytes(4, "big"))
+        with self.assertRaisesRegex(zelamiku.OldVersion, "upgrade=True"):
+            self.open()
+        with self.open(alice=Account, bob=Account, upgrade=True) as heap:
+            self.assertTrue(heap.report.is_upgraded)
+            self.assertEqual(self.values(heap), [100, 100])
+        self.open().close()
+
+    def test_a_path_is_any_that_the_system_takes(self):
+        folder = os.fsencode(self.folder)
+        for path in (self.folder / "b.heap", str(self.folder / "ä ö.heap"), os.fsdecode(folder + b"/\xff.heap")):
+            with zelamiku.open(path, alice=Account) as heap:
+                self.assertEqual(heap.path, os.fspath(path))
+            self.assertTrue(os.path.exists(path))
+
+
+OPENS = """
+import sys, zelamiku
+class Account(zelamiku.Object):
+    balance = zelamiku.Field(first=100)
+try:
+    zelamiku.open(sys.argv[1], alice=Account, bob=Account).close()
+    print("opened")
+except zelamiku.Error as error:
+    print(type(error).__name__, error)
+"""
+
+
+LEAVES = """
+import sys, zelamiku
+class Account(zelamiku.Object):
+    balance = zelamiku.Field(first=100)
+heap = zelamiku.open(sys.argv[1], alice=Account, bob=Account)
+with heap.synchronized(heap.alice):
+    heap.alice.balance = 4
+"""
+
+
+class Endings(OnFile):
+    def test_a_closed_heap_answers_closed(self):
+        heap = self.open()
+        with heap.synchronized(heap.alice):
+            heap.alice.balance = 1
+        heap.close()
+        heap.close()
+        heap.stop()
+        for call in (
+            lambda: heap.synchronized(heap.alice).__enter__(),
+            lambda: in_thread(lambda: heap.synchronized(heap.alice).__enter__()),
+            lambda: heap.copy_to(self.path + ".copy"),
+            lambda: heap.alice.balance,
+            lambda: setattr(heap.alice, "balance", 2),
+            lambda: heap.alice.notify(),
+            lambda: heap.alice.wait(),
+        ):
+            try:
+                answer = call()
+            except zelamiku.Error as error:
+                answer = error
+            self.assertIsInstance(answer, zelamiku.Closed)
+        self.assertIn("closed", repr(heap))
+        with self.open() as heap:
+            self.assertEqual(self.values(heap), [1, 100])
+
+    def test_an_open_section_keeps_it_open(self):
+        heap = self.open()
+        with heap.synchronized(heap.alice):
+            with self.assertRaises(zelamiku.Running):
+                heap.close()
+            heap.alice.balance = 5
+        heap.close()
+
+    def test_stop_answers_those_that_sleep_and_drops_what_is_open(self):
+        heap = self.open(alice=Account, bob=Account, queue=Queue)
+        with heap.synchronized(heap.bob):
+            heap.bob.balance = 7
+        told = []
+
+        def wait():
+            with heap.synchronized(heap.queue):
+                heap.queue.wait()
+
+        def store():
+            with heap.synchronized(heap.alice):
+                heap.alice.balance = 1
+                entered.set()
+                heap.queue_is_stopped.wait()
+                heap.alice.balance = 2
+
+        heap.queue_is_stopped, entered = threading.Event(), threading.Event()
+        threads = [threading.Thread(target=lambda work=work: told.append(in_thread(work))) for work in (wait, store)]
+        for thread in threads:
+            thread.start()
+        entered.wait()
+        while heap.stats().lent < 3:
+            pass
+        heap.stop()
+        heap.queue_is_stopped.set()
+        for thread in threads:
+            thread.join()
+        self.assertEqual([type(each) for each in told], [zelamiku.Closed] * 2)
+        with self.open(alice=Account, bob=Account, queue=Queue) as heap:
+            self.assertEqual(self.values(heap), [100, 7])
+            self.assertEqual([each.why for each in heap.report.dropped if each.why is not zelamiku.Why.NOT_ENDED], [])
+
+    def test_the_end_of_a_with_closes_it_and_hides_no_exception(self):
+        with self.assertRaises(KeyError), self.open() as heap:
+            raise KeyError("its own")
+        self.assertIn("closed", repr(heap))
+        release = threading.Event()
+        entered = threading.Event()
+
+        def hold(heap):
+            with heap.synchronized(heap.alice):
+                entered.set()
+                release.wait()
+
+        for raised, caught in ((None, zelamiku.Running), (KeyError("its own"), KeyError)):
+            entered.clear(), release.clear()
+            with self.assertRaises(caught):
+                with self.open() as heap:
+                    thread = threading.Thread(target=in_thread, args=(lambda: hold(heap),))
+                    thread.start()
+                    entered.wait()
+                    if raised:
+                        raise raised
+            release.set()
+            thread.join()
+            self.open().close()
+
+    def test_one_that_is_forgotten_is_closed(self):
+        with warnings.catch_warnings(record=True) as told:
+            warnings.simplefilter("always")
+            heap = self.open()
+            with heap.synchronized(heap.alice):
+                heap.alice.balance = 3
+            del heap
+            gc.collect()
+        self.assertEqual([each.category for each in told], [ResourceWarning])
+        with self.open() as heap:
+            self.assertEqual(self.values(heap), [3, 100])
+
+    def test_the_end_of_the_program_makes_durable_what_has_ended(self):
+        told = in_process(LEAVES, self.path)
+        self.assertEqual((told.returncode, told.stdout), (0, ""), told.stderr)
+        with self.open() as heap:
+            self.assertEqual(self.values(heap), [4, 100])
+
+    def test_a_name_that_is_no_object(self):
+        with self.open() as heap:
+            with self.assertRaisesRegex(AttributeError, "has no object carol"):
+                heap.carol
+            self.assertIn("alice, object 0 of", repr(heap.alice))
+            self.assertEqual(heap.objects, (heap.alice, heap.bob))
+            with self.assertRaisesRegex(TypeError, "wants an object"):
+                heap.synchronized()
+            for wrong in (0, "alice", Account, None):
+                with self.assertRaisesRegex(ValueError, "no object of"):
+                    heap.synchronized(wrong)
+            with zelamiku.open(self.path + ".other", alice=Account) as other:
+                with self.assertRaisesRegex(ValueError, "no object of"):
+                    heap.synchronized(heap.bob, other.alice)
+
+
+class Living(OnFile):
+    def test_stats_count(self):
+        with self.open() as heap:
+            for _ in range(10):
+                with heap.synchronized(heap.alice):
+                    heap.alice.balance += 1
+            heap.durable()
+            stats = heap.stats()
+        self.assertEqual((stats.sections, stats.records, stats.troubles, stats.awaiting, stats.entering), (10, 30, 0, 0, 0))
+        self.assertTrue(stats.rounds >= 1 and stats.calls > stats.syncs >= 4 and stats.lent >= 1)
+        self.assertTrue(0 < stats.calls_time < 60 and 0 < stats.longest_round < 60)
+        self.assertIsInstance(stats.last_cause, zelamiku.Cause)
+
+    def test_a_copy_of_a_heap_that_runs_has_what_was_durable(self):
+        copy = self.folder / "copy.heap"
+        with self.open() as heap:
+            is_over = threading.Event()
+
+            def pay():
+                while not is_over.is_set():
+                    with heap.synchronized(heap.alice, heap.bob):
+                        heap.alice.balance += 1
+                        heap.bob.balance -= heap.bob.balance > 0
+
+            threads = [threading.Thread(target=pay) for _ in range(3)]
+            for thread in threads:
+                thread.start()
+            try:
+                for _ in range(5):
+                    with heap.synchronized(heap.alice, heap.bob):
+                        least = heap.alice.balance
+                    heap.durable()
+                    heap.copy_to(copy)
+                    with zelamiku.open(copy, alice=Account, bob=Account) as copied:
+                        with copied.synchronized(copied.alice, copied.bob):
+                            self.assertGreaterEqual(copied.alice.balance, least)
+                            self.assertEqual(copied.bob.balance, max(0, 200 - copied.alice.balance))
+            finally:
+                is_over.set()
+                for thread in threads:
+                    thread.join()
+
+    def test_a_copy_that_can_not_be_written(self):
+        with self.open() as heap:
+            kept = self.folder / "kept"
+            kept.mkdir()
+            for path in (self.folder / "none" / "copy", kept, self.path):
+                with self.subTest(path=path), self.assertRaises(zelamiku.CopyFailed):
+                    heap.copy_to(path)
+            with self.assertRaisesRegex(ValueError, "null byte"):
+                heap.copy_to("a\0b")
+            self.assertEqual(self.values(heap), [100, 100])
+
+    def test_a_forked_child_has_no_heap(self):
+        with self.open() as heap:
+            with heap.synchronized(heap.alice):
+                heap.alice.balance = 8
+            reader, writer = os.pipe()
+            child = os.fork()
+            if child == 0:
+                told = []
+                for call in (lambda: self.values(heap), heap.durable, heap.stats, heap.close):
+                    try:
+                        told.append(call())
+                    except zelamiku.Error as error:
+                        told.append(type(error).__name__)
+                os.write(writer, repr(told).encode())
+                os._exit(0)
+            os.close(writer)
+            os.waitpid(child, 0)
+            with os.fdopen(reader) as told:
+                self.assertEqual(told.read(), repr(["Forked"] * 4))
+            self.assertEqual(self.values(heap), [8, 100])
+
+
+if __name__ == "__main__":
+    unittest.main()

@@ -1,0 +1,96 @@
+"""A bank whose process is killed again and again: no payment that was answered durable is lost, and none is there by half.
+
+    python3 bindings/python/tests/test_kills.py KILLS
+"""
+import os
+import random
+import signal
+import subprocess
+import sys
+import threading
+import time
+import unittest
+from pathlib import Path
+
+import zelamiku
+from support import OnFile
+
+ACCOUNTS, PAYERS, FIRST = 16, 8, 1_000
+KILLS = 6
+
+
+class Account(zelamiku.Object):
+    balance = zelamiku.Field(first=FIRST)
+
+
+class Payer(zelamiku.Object):
+    payments = zelamiku.Field()
+    balance = zelamiku.Signed()
+
+
+def opened(path: str) -> zelamiku.Heap:
+    return zelamiku.open(path, accounts=[Account] * ACCOUNTS, payers=[Payer] * PAYERS, lanes=PAYERS + 1)
+
+
+def pay_for_ever(heap: zelamiku.Heap, number: int) -> None:
+    """From one account to another and to the payer's own, told by number once no crash loses it."""
+    payer, chance = heap.payers[number], random.Random()
+    while True:
+        source, target = chance.sample(heap.accounts, 2)
+        with heap.synchronized(payer, target, source):
+            amount = min(source.balance, chance.randrange(50))
+            source.balance -= amount
+            target.balance += amount - amount // 3
+            payer.balance += amount // 3
+            payer.payments += 1
+            payments = payer.payments
+        heap.durable()
+        os.write(1, b"%d %d\n" % (number, payments))
+
+
+def serve(path: str) -> None:
+    heap = opened(path)
+    for number in range(PAYERS):
+        threading.Thread(target=pay_for_ever, args=(heap, number)).start()
+
+
+class Kills(OnFile):
+    def test_each_payment_that_was_answered_is_there(self):
+        told = [0] * PAYERS
+        answers = 0
+        for kill in range(KILLS):
+            self.be_patient()
+            bank = subprocess.Popen([sys.executable, __file__, "serve", self.path], stdout=subprocess.PIPE, cwd=Path(__file__).parent)
+            # One in four may come while the heap is made or opened.
+            if kill % 4:
+                bank.stdout.readline()
+            time.sleep(random.uniform(0, 0.3))
+            bank.send_signal(signal.SIGKILL)
+            lines = bank.communicate()[0].splitlines(keepends=True)
+            self.assertEqual(bank.returncode, -signal.SIGKILL)
+            for line in lines:
+                if line.endswith(b"\n"):
+                    number, payments = map(int, line.split())
+                    told[number] = max(told[number], payments)
+                    answers += 1
+            with opened(self.path) as heap:
+                with heap.synchronized(*heap.accounts):
+                    total = sum(account.balance for account in heap.accounts)
+                for number, payer in enumerate(heap.payers):
+                    with heap.synchronized(payer):
+                        total += payer.balance
+                        self.assertGreaterEqual(payer.payments, told[number])
+                self.assertEqual(total, ACCOUNTS * FIRST)
+                self.assertTrue(all(each.why in zelamiku.Why for each in heap.report.dropped))
+        self.assertGreater(answers, 0)
+        if KILLS > 100:
+            print(f"{KILLS} kills, {answers} payments answered")
+
+
+if __name__ == "__main__":
+    if sys.argv[1:2] == ["serve"]:
+        serve(sys.argv[2])
+    else:
+        if len(sys.argv) > 1:
+            KILLS = int(sys.argv.pop())
+        unittest.main()

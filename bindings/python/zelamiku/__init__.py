@@ -1,0 +1,107 @@
+"""Objects of 64-bit fields in a file, for threads. Change them under locks; a crash shows each critical section whole or not at all.
+
+::
+
+    import zelamiku
+
+    class Account(zelamiku.Object):
+        balance = zelamiku.Field(first=100)
+
+    with zelamiku.open("accounts.heap", alice=Account, bob=Account, lanes=8) as heap:    # made or recovered
+        with heap.synchronized(heap.alice, heap.bob):                                    # a section, by monitors
+            heap.alice.balance -= 10
+            heap.bob.balance += 10
+        heap.durable()                                                                   # no crash loses it now
+
+A program declares its objects by classes of :class:`Field`, :class:`Signed`, :class:`Bool`, :class:`Float`, :class:`Ref`, :class:`Array` and
+:class:`Pool`, and opens them by :func:`open`. Its threads hold their monitors by :meth:`Heap.synchronized`, load and store fields, wait and
+notify (:meth:`Object.wait`, :meth:`Object.notify`). Each thread that does has a lane of the heap, until it ends. Whoever needs to know that
+no crash loses what was done calls :meth:`Heap.durable`, or awaits :meth:`Heap.durable_async`.
+
+Each failure is an :class:`Error` of its kind, with the path, the cause and the cure.
+"""
+from .declare import Array, Bool, Field, Float, Items, Object, Pool, Ref, Signed, Slots
+from .errors import (
+    Abandoned,
+    BadPlan,
+    BrokenFile,
+    Busy,
+    Closed,
+    CopyFailed,
+    DamagedPool,
+    Error,
+    FileError,
+    Forked,
+    InSection,
+    NoLaneFree,
+    NoLibrary,
+    NoMemory,
+    NotAHeap,
+    NotHeld,
+    NotTaken,
+    OldVersion,
+    OpenError,
+    OtherHeap,
+    OutOfOrder,
+    OutOfRange,
+    Refused,
+    Running,
+    SectionFull,
+    Stopped,
+    SyncFailed,
+    TimedOut,
+    TooManyHeld,
+    WriteFailed,
+)
+from .heap import Heap, open
+from .report import Cause, Dropped, Report, Stats, Why
+
+__all__ = [
+    "Abandoned",
+    "Array",
+    "BadPlan",
+    "Bool",
+    "BrokenFile",
+    "Busy",
+    "Cause",
+    "Closed",
+    "CopyFailed",
+    "DamagedPool",
+    "Dropped",
+    "Error",
+    "Field",
+    "FileError",
+    "Float",
+    "Forked",
+    "Heap",
+    "InSection",
+    "Items",
+    "NoLaneFree",
+    "NoLibrary",
+    "NoMemory",
+    "NotAHeap",
+    "NotHeld",
+    "NotTaken",
+    "Object",
+    "OldVersion",
+    "OpenError",
+    "OtherHeap",
+    "OutOfOrder",
+    "OutOfRange",
+    "Pool",
+    "Ref",
+    "Refused",
+    "Report",
+    "Running",
+    "SectionFull",
+    "Signed",
+    "Slots",
+    "Stats",
+    "Stopped",
+    "SyncFailed",
+    "TimedOut",
+    "TooManyHeld",
+    "Why",
+    "WriteFailed",
+    "open",
+]

@@ -1,0 +1,308 @@
+"""A heap in a file: opened, used by threads, closed."""
+from __future__ import annotations
+
+import contextlib
+import operator
+import os
+import warnings
+import weakref
+from collections.abc import Iterator, Sequence
+from ctypes import byref, c_size_t, c_uint64
+from types import TracebackType
+from typing import Any
+
+from .declare import Object, bind
+from .errors import COPY_KINDS, OPENING_KINDS, BadPlan, Error, InSection, OtherHeap, Running, Stopped, WriteFailed, for_status
+from .library import BAD_RECORD, BUSY, CLOSED, DEVICE, FORKED, ILLEGAL_LOG, MOST_LANES, OK, OTHER_HEAP, RUNNING
+from .library import DroppedRow, FieldRow, Library, PlanRow, ReportRow, StatsRow, library
+from .link import Link
+from .plan import Declared, Plan
+from .report import Cause, Dropped, Report, Stats, Why
+from .session import Own, Section, Session
+from .waiter import Waiter
+
+
+def open(
+    path: str | os.PathLike[str],
+    /,
+    *,
+    lanes: int = 8,
+    capacity: int = 4096,
+    linger: float = 0.005,
+    upgrade: bool = False,
+    **objects: Declared,
+) -> Heap:
+    """Opens the heap of the file at this path, and recovers it; or makes one where there is no file, an empty one, or one of zeros.
+
+    Each further argument names an object and gives its class, or names several and gives a sequence of classes (``accounts=[Account] * 64``).
+    They and their fields are numbered in the order in which they are declared; a file whose heap is another is refused and left as it is.
+
+    ``lanes`` is how many threads may use the heap at once, 1 to 32; a heap that is there may have more. ``capacity`` is how many records a
+    lane's log holds, 2,000 to 1,048,576; a heap that is there keeps its own. ``linger`` is how many seconds a section that nobody waits for
+    may lie before a round makes it durable; less makes more syncs. ``upgrade`` opens a heap of an older version too, and makes it one of this
+    version in place.
+
+    The file is locked for this opening, and syncing and reading it may take seconds. Close the heap, or use it as a context manager.
+
+    :class:`NoLibrary`, :class:`NoMemory`, and each kind of :class:`OpenError`: there is no heap. TypeError and ValueError: what is declared is
+    no object.
+    """
+    plan = Plan(objects)
+    for name in objects:
+        if name.startswith("_") or hasattr(Heap, name):
+            raise ValueError(f"no object can be named {name}, which is a name of zelamiku.Heap's own")
+    text = os.fspath(path)
+    wanted = PlanRow(
+        lanes=_within(text, "lanes", lanes, 1, MOST_LANES),
+        capacity=_within(text, "capacity", capacity, 2_000, 1_048_576),
+        # To the library 0 would be 5,000.
+        linger=_within(text, "linger, in microseconds,", round(linger * 1e6), 0, 2**32 - 1) or 1,
+        upgrades=upgrade,
+    )
+    calls = library()
+    handle, row = _opened(calls, text, plan, wanted)
+    return Heap(Link(calls, handle, text, plan), plan, _report(calls, handle, row))
+
+
+class Heap:
+    """A heap that is open, made by :func:`open`. Its objects are its attributes, by their names. Threads share it.
+
+    As a context manager it is closed at the end of its ``with``. There a heap that can't be closed, since a section of another thread is open
+    or a write fails, is stopped, and told by the exception of :meth:`close`.
+    """
+
+    def __init__(self, link: Link, plan: Plan, report: Report) -> None:
+        own = Own(link)
+        self._link = link
+        self._own = own
+        self._waiter = Waiter(link)
+        self._report = report
+        self._objects = tuple(bind(each.cls, own, each.name, number, each.numbers) for number, each in enumerate(plan.objects))
+        for name, place in plan.places.items():
+            self.__dict__[name] = self._objects[place] if isinstance(place, int) else self._objects[place.start : place.stop]
+        self._finish = weakref.finalize(self, _end_unclosed, link, self._waiter)
+
+    def __getattr__(self, name: str) -> Any:
+        if name.startswith("_"):
+            raise AttributeError(name)
+        raise AttributeError(f"{self._link.path} has no object {name}: zelamiku.open declares each by its name")
+
+    def __repr__(self) -> str:
+        return f"<zelamiku.Heap {self._link.path}{'' if self._finish.alive else ', closed'}>"
+
+    @property
+    def path(self) -> str:
+        """The file, as it was given to :func:`open`."""
+        return self._link.path
+
+    @property
+    def objects(self) -> Sequence[Object]:
+        """All objects, by their numbers: a :class:`Ref` has such a number."""
+        return self._objects
+
+    @property
+    def report(self) -> Report:
+        """What the opening found, and which sections it kept and dropped."""
+        return self._report
+
+    def synchronized(self, *objects: Object, timeout: float | None = None) -> Section:
+        """A context manager that holds these objects' monitors inside its ``with``. The thread sleeps until it has them.
+
+        What a thread does from its first monitor to the moment that it holds none is a section: after a crash it is there whole or not at
+        all, with all that it depends on. Monitors are taken in the order of their objects, whichever is named first, so that no two threads
+        wait for each other's. So a ``with`` inside another takes only what comes after all that is held, or is held already; else it is refused
+        by :class:`OutOfOrder`. After ``timeout`` seconds, where they are given, it is :class:`TimedOut`; 0 never sleeps. No signal is
+        handled while the thread sleeps.
+
+        An exception that leaves the ``with`` of a section which has stored stops the heap as a crash would: the next opening drops that
+        section, so that nobody ever sees a half of it, and each other thread's call is :class:`Abandoned`. Where the section has stored
+        nothing its monitors are given back, and the heap goes on. There is no rollback: look before you store.
+
+        A section isn't durable while one that it depends on is open, so keep them short. Let no await and no yield stand in one.
+
+        :class:`NoLaneFree`: other threads use all lanes. :class:`TooManyHeld`, :class:`SectionFull`, :class:`Refused`, :class:`WriteFailed`,
+        :class:`Stopped`: what was held before stays held.
+        """
+        if not objects:
+            raise TypeError("synchronized() wants an object, or several")
+        own = self._own
+        for of in objects:
+            if not isinstance(of, Object) or of._own is not own:
+                raise ValueError(f"{of!r} is no object of {self._link.path}")
+        return Section(own, sorted(set(objects), key=_number) if len(objects) > 1 else objects, timeout)
+
+    def durable(self, timeout: float | None = None) -> bool:
+        """Sleeps until no crash loses what this thread has ended, or so many seconds at most; whether that is so.
+
+        It asks for a round, and sleeps on while a section that one of them depends on is open. After a timeout the sections are as if nobody
+        had waited: they will be durable, and may be waited for again.
+
+        :class:`InSection`. :class:`WriteFailed`: they aren't durable yet, and may be waited for again. :class:`Stopped`: they weren't durable
+        before.
+        """
+        session = self._own.session
+        return session.durable(timeout) if isinstance(session, Session) else True
+
+    async def durable_async(self) -> None:
+        """The same for a task of asyncio, without a timeout: one thread waits for all tasks, and the loop goes on meanwhile.
+
+        It waits for what the loop's thread has ended before the call. :class:`InSection`, :class:`WriteFailed`, :class:`Stopped`, as
+        :meth:`durable`.
+        """
+        session = self._own.session
+        if not isinstance(session, Session):
+            return
+        if session.sections:
+            raise InSection(self._link.path, "this section hasn't ended, so it can't be durable", "leave it first")
+        if not session.is_durable(0):
+            await self._waiter.durable(session)
+
+    def stats(self) -> Stats:
+        """What the heap has done since it was opened. Of one at its end: what it had, until another heap has its place; then :class:`Closed`."""
+        row = StatsRow()
+        status = self._link.calls.heap_stats(self._link.handle, byref(row))
+        if status != OK:
+            raise self._link.error(status)
+        counts = {name: getattr(row, name) for name, _ in StatsRow._fields_}
+        counts["calls_time"] /= 1e9
+        counts["longest_round"] /= 1e9
+        counts["last_cause"] = Cause(counts["last_cause"])
+        return Stats(**counts)
+
+    def copy_to(self, path: str | os.PathLike[str]) -> None:
+        """Writes a copy of the heap to this path, while threads go on: beside it, synced, and renamed over what is there.
+
+        Opening the copy gives all that was durable when the call began. :class:`CopyFailed`: what was at the path stays. :class:`Stopped`.
+        """
+        text = os.fspath(path)
+        calls = self._link.calls
+        status = calls.heap_copy(self._link.handle, _encoded(text))
+        if status in (BUSY, DEVICE):
+            raise for_status(text, status, calls.heap_error(), also=COPY_KINDS)
+        if status != OK:
+            raise self._link.error(status)
+
+    def close(self) -> None:
+        """Closes the heap, whose sections have all ended, once all of them are durable. Of one that is closed it does nothing.
+
+        :class:`Running`, :class:`WriteFailed`: the heap goes on, and may be closed later. :class:`Stopped`, which says with what the heap had
+        ended: it is let go.
+        """
+        if self._finish.alive:
+            status = self._link.calls.heap_close(self._link.handle)
+            if status in (RUNNING, DEVICE):
+                raise self._link.error(status)
+            self._let_go(status, None)
+
+    def stop(self) -> None:
+        """Closes the heap also where threads are in sections or wait: who sleeps is answered :class:`Closed` at once, others where they leave.
+
+        What has ended is made durable first, but for what depends on a section that is open; those are dropped by the next opening. Of a
+        heap that is closed it does nothing.
+
+        :class:`Stopped`, which says with what the heap had ended: it is let go.
+        """
+        if self._finish.alive:
+            self._let_go(self._link.calls.heap_stop(self._link.handle), for_status(self._link.path, CLOSED))
+
+    def _let_go(self, status: int, for_others: Error | None) -> None:
+        """The heap is at its end: tells tasks that wait, those whose sections aren't durable by an error if there is one."""
+        self._finish.detach()
+        error = None if status == OK else self._link.error(status)
+        # A child that was forked has no such thread.
+        if status != FORKED:
+            self._waiter.end(error or for_others)
+        if error is not None:
+            raise error
+
+    def __enter__(self) -> Heap:
+        return self
+
+    def __exit__(self, kind: type[BaseException] | None, error: BaseException | None, trace: TracebackType | None) -> None:
+        try:
+            self.close()
+        except Error as failure:
+            if isinstance(failure, (Running, WriteFailed)):
+                with contextlib.suppress(Stopped):
+                    self.stop()
+            # An exception that is on its way says more.
+            if error is None:
+                raise
+
+
+def _number(of: Object) -> int:
+    return of._number
+
+
+def _end_unclosed(link: Link, waiter: Waiter) -> None:
+    """The heap's last reference is gone, or the program ends: what has ended is made durable."""
+    status = link.calls.heap_close(link.handle)
+    if status in (RUNNING, DEVICE):
+        status = link.calls.heap_stop(link.handle)
+    if status != FORKED:
+        waiter.end(for_status(link.path, CLOSED))
+    warnings.warn(f"the heap of {link.path} wasn't closed", ResourceWarning, stacklevel=2)
+
+
+# ---- opening ----
+
+
+def _opened(calls: Library, path: str, plan: Plan, wanted: PlanRow) -> tuple[int, ReportRow]:
+    """The handle of the heap, and what the library reports."""
+    fields = (FieldRow * len(plan.fields))(*[FieldRow(each.owner, each.guard, each.first, each.is_transient) for each in plan.fields])
+    wanted.fields = fields
+    wanted.count = len(fields)
+    wanted.objects = len(plan.objects)
+    handle, row = c_uint64(), ReportRow()
+    status = calls.heap_open(byref(handle), _encoded(path), byref(wanted), byref(row))
+    if status == OK:
+        return handle.value, row
+    if status == OTHER_HEAP:
+        raise OtherHeap(path, plan.difference(row.difference, row.field, row.has, row.planned), _OTHER_CURE[row.difference == _FEWER_LANES])
+    has_record = status in (BAD_RECORD, ILLEGAL_LOG)
+    record = f"lane {row.told.bad_lane}, place {row.told.bad_place}" if has_record else ""
+    raise for_status(path, status, calls.heap_error(), doing=record, also=OPENING_KINDS)
+
+
+_FEWER_LANES = 1
+_OTHER_CURE = (
+    "declare what the file has, or choose another path",
+    "ask for as many, or make a heap of more (`heapctl dump`, then `format --lanes`)",
+)
+
+
+def _within(path: str, name: str, value: int, least: int, most: int) -> int:
+    if not least <= operator.index(value) <= most:
+        raise BadPlan(path, f"{name} is {value}", f"choose {least:,} to {most:,}")
+    return value
+
+
+def _encoded(path: str) -> bytes:
+    encoded = os.fsencode(path)
+    if b"\0" in encoded:
+        raise ValueError("the path has a null byte")
+    return encoded
+
+
+def _report(calls: Library, handle: int, row: ReportRow) -> Report:
+    found = row.told.found
+    return Report(
+        is_made=bool(row.is_made),
+        is_upgraded=bool(row.is_upgraded),
+        size=found.size,
+        lanes=found.lanes,
+        capacity=found.capacity,
+        kept=tuple(row.told.kept[: found.lanes]),
+        dropped=tuple(_dropped(calls, handle, found.dropped)),
+        undone=found.undone,
+    )
+
+
+def _dropped(calls: Library, handle: int, count: int) -> Iterator[Dropped]:
+    rows, told = (DroppedRow * count)(), c_size_t()
+    # A heap that has ended by then has no more to tell.
+    if count == 0 or calls.heap_dropped(handle, 0, rows, count, byref(told)) != OK:
+        return
+    for row in rows[: told.value]:
+        why = Why(row.why)
+        yield Dropped(row.lane, row.section, why, (row.other_lane, row.other_section) if why is Why.DEPENDED else None)

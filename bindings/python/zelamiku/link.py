@@ -1,0 +1,51 @@
+"""An open heap of the library: its handle, and how what it answers becomes an exception."""
+from __future__ import annotations
+
+from .errors import Abandoned, Error, NotHeld, for_status
+from .library import ABANDONED, DEVICE, LOST, NO_MEMORY, NOT_HELD, NOTHING, OK, Library
+from .plan import Plan
+
+
+class Link:
+    """What threads share of an open heap."""
+
+    def __init__(self, calls: Library, handle: int, path: str, plan: Plan) -> None:
+        self.calls = calls
+        self.handle = handle
+        self.path = path
+        self._plan = plan
+        self._reason = ""
+
+    def error(self, status: int, doing: str = "") -> Error:
+        """The exception for what a call of this thread has just answered."""
+        if status in (ABANDONED, NOTHING) and self._reason:
+            return Abandoned(self.path, self._reason, "close the heap and open it again")
+        has_cause = status in (NO_MEMORY, DEVICE, LOST)
+        return for_status(self.path, status, self.calls.heap_error() if has_cause else 0, doing=doing)
+
+    def field_error(self, status: int, field: int) -> Error:
+        """The same of a call on a field."""
+        planned = self._plan.fields[field]
+        return self._not_held(planned.name, planned.guard) if status == NOT_HELD else self.error(status, planned.name)
+
+    def object_error(self, status: int, number: int) -> Error:
+        """The same of a call on an object's monitor."""
+        name = self._plan.objects[number].name
+        return self._not_held(name, number) if status == NOT_HELD else self.error(status, name)
+
+    def _not_held(self, name: str, guard: int) -> NotHeld:
+        monitor = self._plan.objects[guard].name
+        return NotHeld(self.path, f"{name}: the thread doesn't hold the monitor of {monitor}", f"take it: `with heap.synchronized(heap.{monitor})`")
+
+    def abandon(self, reason: str) -> Error:
+        """Stops the heap as a crash would, so that the next opening drops the sections that are open. Threads that sleep are answered at once.
+
+        What has ended is made durable first. Answers what each later call is told: the reason, or why the heap had ended before.
+        """
+        # Before others are woken, since they ask for it.
+        self._reason = self._reason or f"{reason}: the heap has stopped"
+        status = self.calls.heap_abandon(self.handle)
+        if status in (OK, ABANDONED, NOTHING):
+            return self.error(ABANDONED)
+        self._reason = ""
+        return self.error(status)

@@ -1,0 +1,100 @@
+"""What an opening found, and what a heap has done since."""
+from __future__ import annotations
+
+import enum
+from dataclasses import dataclass
+
+
+class Why(enum.Enum):
+    """Why recovery dropped a section."""
+
+    NOT_ENDED = 1
+    """It hadn't ended."""
+    DEPENDED = 2
+    """It depends on another section that wasn't kept."""
+    UNSETTLED = 3
+    """It had ended, and wasn't durable yet."""
+
+
+@dataclass(frozen=True)
+class Dropped:
+    """A section that recovery dropped. It wasn't durable."""
+
+    lane: int
+    section: int
+    """Its number in its lane, from 1 on, since the opening before."""
+    why: Why
+    depended: tuple[int, int] | None
+    """The lane and the number of the section on which it depends, after :attr:`Why.DEPENDED`."""
+
+
+@dataclass(frozen=True)
+class Report:
+    """What an opening found."""
+
+    is_made: bool
+    """There was no heap, and this opening made one."""
+    is_upgraded: bool
+    """The heap was of an older version."""
+    size: int
+    """How many bytes the heap has."""
+    lanes: int
+    """How many threads may use it at once."""
+    capacity: int
+    """How many records a lane's log holds."""
+    kept: tuple[int, ...]
+    """How many sections of each lane were kept, since the opening before."""
+    dropped: tuple[Dropped, ...]
+    """Those that weren't, by lane and then by number."""
+    undone: int
+    """How many fields took an old value back."""
+
+
+class Cause(enum.Enum):
+    """Why a round came."""
+
+    NONE = 0
+    """There was none yet."""
+    OPENING = 1
+    """The calls of opening and making."""
+    AWAITED = 2
+    """A thread waits until its sections are durable."""
+    ROOM = 3
+    """A thread has no room for a section's records."""
+    FULL = 4
+    """A lane has sent a quarter of its ring."""
+    LINGER = 5
+    """The linger has passed."""
+    AGAIN = 6
+    """A write had failed a second before."""
+    CLOSING = 7
+    """The heap was being closed."""
+
+
+@dataclass(frozen=True)
+class Stats:
+    """Counts since the opening, of moments close to each other. Times are seconds."""
+
+    rounds: int
+    """Rounds that have ended, also those of which a call failed."""
+    sections: int
+    """Sections that are durable."""
+    records: int
+    """Records that rounds took."""
+    calls: int
+    """Calls that were made on the file, syncs among them."""
+    syncs: int
+    troubles: int
+    """Rounds of which a write failed."""
+    calls_time: float
+    """In the calls of all rounds."""
+    longest_round: float
+    """From its first record to its last call."""
+    lent: int
+    """Lanes in use."""
+    awaiting: int
+    """Threads that sleep until their sections are durable, or until there is room."""
+    entering: int
+    """Threads that sleep for a monitor."""
+    last_cause: Cause
+    """Why the last round came."""

@@ -1,0 +1,148 @@
+"""What the table of leases and the server answer."""
+import http.client
+import json
+import subprocess
+import sys
+import tempfile
+import time
+import unittest
+from pathlib import Path
+
+import zelamiku
+
+HERE = Path(__file__).parent
+sys.path.insert(0, str(HERE))
+
+from table import MOST_SWEPT, NAME_BYTES, SLOTS, Full, Leases, Table  # noqa: E402
+
+
+class OnFile(unittest.TestCase):
+    def setUp(self) -> None:
+        folder = tempfile.TemporaryDirectory()
+        self.addCleanup(folder.cleanup)
+        self.path = str(Path(folder.name, "leases.heap"))
+
+    def open(self) -> zelamiku.Heap:
+        return zelamiku.open(self.path, table=Table, lanes=2)
+
+
+class Tables(OnFile):
+    def test_a_lease_is_held_by_one(self):
+        with self.open() as heap:
+            leases = Leases(heap)
+            first = leases.acquire("one", 7, 60)
+            self.assertEqual((first.name, first.token), ("one", 1))
+            self.assertTrue(59 < first.seconds <= 60)
+            self.assertIsNone(leases.acquire("one", 8, 60))
+            # Who asks again has it.
+            self.assertEqual(leases.acquire("one", 7, 30).token, 1)
+            self.assertEqual(leases.acquire("two", 8, 60).token, 2)
+            self.assertEqual(sorted(lease.name for lease in leases.all()), ["one", "two"])
+            for wrong in (0, 2, 3):
+                self.assertIsNone(leases.renew("one", wrong, 60))
+                self.assertFalse(leases.release("one", wrong))
+            self.assertEqual(leases.renew("one", 1, 90).token, 1)
+            self.assertIsNone(leases.renew("none", 1, 60))
+            self.assertTrue(leases.release("one", 1))
+            self.assertFalse(leases.release("one", 1))
+            self.assertIsNone(leases.renew("one", 1, 60))
+            self.assertEqual(leases.acquire("one", 7, 60).token, 3)
+
+    def test_one_whose_time_is_over_goes_to_the_next(self):
+        with self.open() as heap:
+            leases = Leases(heap)
+            leases.acquire("one", 7, 0.05)
+            time.sleep(0.06)
+            self.assertEqual(leases.all(), [])
+            self.assertIsNone(leases.renew("one", 1, 60))
+            self.assertEqual(leases.acquire("one", 8, 60).token, 2)
+            self.assertIsNone(leases.renew("one", 1, 60))
+            leases.acquire("two", 7, 0.05)
+            time.sleep(0.06)
+            self.assertEqual(leases.acquire("two", 7, 60).token, 4)
+
+    def test_an_opening_finds_leases_with_their_whole_time(self):
+        names = ["a", "ä" * 24, "x" * NAME_BYTES, "a/b c"]
+        with self.open() as heap:
+            leases = Leases(heap)
+            for holder, name in enumerate(names):
+                leases.acquire(name, 2**64 - 1 - holder, 0.5)
+            leases.release("a", 1)
+            time.sleep(0.3)
+        with self.open() as heap:
+            leases = Leases(heap)
+            found = {lease.name: lease for lease in leases.all()}
+            self.assertEqual({name: lease.token for name, lease in found.items()}, {name: token for token, name in enumerate(names[1:], 2)})
+            self.assertTrue(all(0.3 < lease.seconds <= 0.5 for lease in found.values()))
+            self.assertEqual(leases.acquire("a", 1, 60).token, 5)
+
+    def test_wrong_names(self):
+        with self.open() as heap:
+            leases = Leases(heap)
+            for name in ("", "x" * (NAME_BYTES + 1), "ä" * 25, "a\0b"):
+                with self.assertRaises(ValueError):
+                    leases.acquire(name, 1, 60)
+            self.assertEqual(leases.all(), [])
+
+    def test_slots_of_those_whose_time_is_over_are_used_again(self):
+        with self.open() as heap:
+            leases = Leases(heap)
+            for number in range(SLOTS):
+                leases.acquire(f"name {number}", 1, 60 if number % 2 else 0.001)
+            time.sleep(0.01)
+            for number in range(SLOTS // 2):
+                self.assertIsNotNone(leases.acquire(f"more {number}", 1, 60))
+            with self.assertRaises(Full):
+                leases.acquire("one more", 1, 60)
+            self.assertEqual(len(leases.all()), SLOTS)
+            self.assertLess(MOST_SWEPT, SLOTS // 2)
+        with self.open() as heap:
+            self.assertEqual(len(Leases(heap).all()), SLOTS)
+
+
+class Servers(OnFile):
+    def test_requests(self):
+        server = subprocess.Popen([sys.executable, str(HERE), self.path, "--port", "0"], stdout=subprocess.PIPE, text=True)
+        self.addCleanup(server.communicate)
+        self.addCleanup(server.terminate)
+        port = int(server.stdout.readline().split("/")[2].split(":")[1])
+
+        def ask(method, path):
+            connection = http.client.HTTPConnection("127.0.0.1", port, timeout=30)
+            connection.request(method, path)
+            answer = connection.getresponse()
+            told = answer.status, json.loads(answer.read())
+            connection.close()
+            return told
+
+        status, lease = ask("POST", "/leases/a%20b?holder=7&seconds=30")
+        self.assertEqual((status, lease["name"], lease["token"]), (200, "a b", 1))
+        self.assertEqual(ask("POST", "/leases/a%20b?holder=8&seconds=30"), (409, {}))
+        self.assertEqual(ask("PUT", "/leases/a%20b?token=1&seconds=60")[0], 200)
+        self.assertEqual(ask("PUT", "/leases/a%20b?token=2&seconds=60")[0], 404)
+        self.assertEqual([lease["name"] for lease in ask("GET", "/leases")[1]], ["a b"])
+        for path in (
+            "/leases/x?holder=7",
+            "/leases/x?seconds=7",
+            "/leases/x?holder=x&seconds=7",
+            "/leases/x?holder=-1&seconds=7",
+            f"/leases/x?holder={2**64}&seconds=7",
+            "/leases/x?holder=7&seconds=0",
+            "/leases/x?holder=7&seconds=nan",
+            "/leases/x?holder=7&holder=8&seconds=7",
+            "/leases/?holder=7&seconds=7",
+            "/leases/x/y?holder=7&seconds=7",
+            "/other/x?holder=7&seconds=7",
+            "/leases/%ff?holder=7&seconds=7",
+        ):
+            with self.subTest(path=path):
+                status, told = ask("POST", path)
+                self.assertEqual((status, list(told)), (400, ["error"]))
+        self.assertEqual(ask("DELETE", "/leases/a%20b?token=1"), (200, {}))
+        self.assertEqual(ask("DELETE", "/leases/a%20b?token=1"), (404, {}))
+        server.terminate()
+        self.assertEqual(server.wait(30), 0)
+
+
+if __name__ == "__main__":
+    unittest.main()
