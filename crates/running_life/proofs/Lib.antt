@@ -3,3 +3,5 @@ pub mod Kept
 pub mod Running
 pub mod Seen
 pub mod Told
+pub mod Faults
+pub mod Halves

@@ -2,3 +2,5 @@
 pub mod Running
 pub mod Crashes
 pub mod Told
+pub mod Faults
+pub mod Halves

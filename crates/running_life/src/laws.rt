@@ -1,5 +1,7 @@
 //! Laws of a heap's life, each the contract of a function that does nothing.
 ghost use Rattle.running_life.specs.Crashes.{CrashLaw};
+ghost use Rattle.running_life.specs.Faults.{CrashInFailedCloseLaw, RunsOnFailedLaw};
+ghost use Rattle.running_life.specs.Halves.{ReadWhilePublishingLaw, ReadWhileSettlingLaw};
 ghost use Rattle.running_life.specs.Running.{CrashBetweenLaw, CrashInRoundLaw, CrashInRunLaw, CrashNowLaw, CrashSinceLaw, SeesMoreLaw, ToldLaw};
 ghost use Rattle.running_life.specs.Told.{KeepsReadAtRestLaw, KeepsReadInRoundLaw, KeepsReadLaw, KeepsToldLaw, ReadLaw, RestLaw, RisesLaw};
 
@@ -60,8 +62,8 @@ pub fn crash_law<D: Disk>()
 /// (`since`, `in_round`, `at_rest`). What it keeps are whole sections of one legal history, each with every section that it depends on;
 /// in that history each lane's part is just what its session had been told when the crash came (`keeps`).
 ///
-/// "From then on" begins when the helper rested between two rounds and had published so much (`rest`, `read`, `rises`). While the helper
-/// publishes, its device stays as the round left it. A moment is a state of the shared words between two steps of the threads, whose rule
+/// "From then on" begins when the helper rested between two rounds and had published so much (`rest`, `read`, `rises`), or in the midst of
+/// a round ([`halves_law`]). A moment is a state of the shared words between two steps of the threads, whose rule
 /// says so (`monitor`, `Kept`). No call is made at a moment, and no session meets the helper.
 pub fn stable_law<D: Disk>()
     ensures keeps { KeepsToldLaw }
@@ -74,4 +76,25 @@ pub fn stable_law<D: Disk>()
 {
     round_law::<D>();
     seen_law::<D>();
+}
+
+/// After a fault nothing more happens to what a crash keeps. A run whose store has failed goes on over each further round as it is
+/// (`rounds`), so that [`round_law`] says of the moments since what it said before: recovery keeps whole sections of the threads' history,
+/// and every section that was acknowledged. A closing then gives the device back as it was (`closing`).
+pub fn failed_law<D: Disk>()
+    ensures rounds { RunsOnFailedLaw D.device }
+    ensures closing { CrashInFailedCloseLaw D.device }
+{
+    life_law::<D>();
+    round_law::<D>();
+}
+
+/// What a session reads as stable in the midst of a round is under [`stable_law`] too. While the helper settles, it publishes nothing: the
+/// count is acknowledged in the past that the helper served before (`settling`). While it publishes, its device stays: the count is
+/// acknowledged in the past that it serves after, on the same device (`publishing`).
+pub fn halves_law<D: Disk>()
+    ensures settling { ReadWhileSettlingLaw D.device }
+    ensures publishing { ReadWhilePublishingLaw D.device }
+{
+    stable_law::<D>();
 }

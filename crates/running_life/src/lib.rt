@@ -8,4 +8,4 @@
 
 mod laws;
 
-pub use laws::{crash_law, round_law, stable_law};
+pub use laws::{crash_law, failed_law, halves_law, round_law, stable_law};

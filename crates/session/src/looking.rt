@@ -36,8 +36,8 @@ impl Session {
         self.parts.held.len() as u32
     }
 
-    /// Sees the one history of all threads so far (JLS 17.1, 17.2). From then on [`stands`](Session::stands) names this history or one that goes on
-    /// from it, as does the next call of this. One load.
+    /// Sees the one history of all threads so far (JLS 17.1, 17.2). From then on [`stands`](Session::stands) names this history, or one
+    /// that goes on from it, as does the next call of this. One load.
     pub fn see(&mut self, shared: &Shared)
         requires seat { IsSessionOf shared.now self.old }
         ensures seat { IsSessionOf shared.now self.new }
@@ -83,6 +83,8 @@ impl Session {
 
     /// How many sections of the lane were acknowledged at the helper's last publication, counted from the session's first; 0
     /// before the first. It never falls. One load.
+    ///
+    /// Whatever a crash leaves from the reading on, recovery keeps at least so many sections of the lane (`running_life::stable_law`).
     pub fn stable(&mut self, shared: &Shared) -> u64
         requires seat { IsSessionOf shared.now self.old }
         ensures seat { IsSessionOf shared.now self.new }

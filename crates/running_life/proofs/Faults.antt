@@ -1,0 +1,36 @@
+-- What a crash keeps after a fault.
+use Rattle.std.proofs.Common.{ℕ, ◌≡◌, sym, ap, ◌∙◌, subst}
+use Rattle.block_disk.specs.Device.{Device}
+use Rattle.durable.specs.Runs.{HasRun}
+use Rattle.durable.specs.Store as stores
+use Rattle.steps.specs.Views.{plan}
+use Rattle.survival.specs.WholeRun.{MayBeLeft}
+use Rattle.trim_helper.specs.Heard.{IsSeenOf}
+use Rattle.running_heap.specs.Life.{FailedLaw}
+use Rattle.running_life.specs.Running.{CrashInRunLaw}
+use Rattle.running_life.specs.Faults.{CrashInFailedCloseLaw, RunsOnFailedLaw}
+
+module _ {D : Type 0} (device : D → Device) where
+  pub runs_on_failed : FailedLaw device → RunsOnFailedLaw device
+  runs_on_failed failed h p old y z answer seen on off goes round =
+      let run = on.run in
+      let still = failed h run.now y z answer on.serves goes round off in
+      let same : z.store ≡ y.store = still.1 in
+      let layout : z.store.known.layout ≡ y.store.known.layout = ap (λ (x : stores.Parts D). x.known.layout) same in
+      record {
+        run = record {
+          store = run.store;
+          layout = run.layout ∙ sym layout;
+          has = run.has;
+          now = run.now;
+          has_failed = run.has_failed;
+          ran = subst (λ (x : stores.Parts D). HasRun x.known.layout (plan h) p old run.now (device x.disk) run.has_failed) (sym same) run.ran;
+        };
+        serves = still.0;
+        legal = on.legal;
+        seen_of = subst (λ (n : ℕ). IsSeenOf h n run.now seen) (sym goes.rings.count) on.seen_of;
+      }
+
+  pub failed_close_kept : CrashInRunLaw device → CrashInFailedCloseLaw device
+  failed_close_kept crash h p old y ended answer seen image on off closes left =
+      crash h p old y seen image on (subst (λ (x : D). MayBeLeft old (device x) image) (closes.still off) left)
