@@ -25,9 +25,7 @@ use Rattle.drive.specs.declared.error.DriveError.TheVariants.{NoMemory, Schema, 
 
 -- recovery takes what it keeps something of
 pub kept_taken : (h : Home) (l : Layout) (history : List (ℕ × Event)) (old new : Device) → KeepsEach h l history old new → TakesEach old new
-kept_taken h l history old new keeps image left =
-    let kept = keeps image left in
-    record { study = kept.study; of = kept.of; taken = kept.taken }
+kept_taken h l history old new keeps image left = (keeps image left).accepted
 
 -- the recovery behind a closing is stopped by no other part of a run
 pub telling_crashes : (h : Home) (l : Layout) (opened closed new : Device) (e : DriveError) → IsLeftBehind h l opened new → StopsTelling closed new e → CrashesOf h l opened new e
@@ -47,7 +45,7 @@ on_layout h l k opened new e same crashes = subst (λ (m : Layout). CrashesOf h 
 module _ {D : Type 0} (device : D → Device) where
   -- between two rounds
   living_keeps : (h : Home) (opened : Device) (x : Parts D) (p : Past) → CrashBetweenLaw device → IsLiving device h opened x p → KeepsSome h x.store.known.layout opened (device x.store.disk)
-  living_keeps h opened x p law was = record { seen = was.seen; each = λ image left. law h opened p x was.seen image was.lived was.legal was.of left }
+  living_keeps h opened x p law was = record { seen = was.seen; each = λ image left. law h opened p x was.seen image was.lived (record { serves = was.lived.serving; legal = was.legal; seen_of = was.of }) left }
 
   -- of a helper whose device is given back: for want of memory, or since a worker's session was refused
   pub back_wanting : (h : Home) (x : Parts D) (disk : D) → CrashBetweenLaw device → disk ≡ x.store.disk → CrashesBy device h x (device disk) NoMemory

@@ -59,7 +59,7 @@ module _ {D : Type 0} (device : D → Device) (h : Home) (x y : Parts D) (r : Re
       )
 
   pub crashes_since : CrashSinceLaw device → CrashesSince device h x y
-  crashes_since law opened p was image left = law h opened p x y r image was.lived on (rounds (plan h) p was.lived.serving) seen left
+  crashes_since law opened p was image left = law h opened p x y r image was.lived (record { on = on; round = rounds (plan h) p was.lived.serving; seen = seen }) left
 
 pub lives_same : {D : Type 0} (device : D → Device) (h : Home) (x : Parts D) → LivesOn device h x x
 lives_same device h x opened p was = (p, was)

@@ -25,7 +25,8 @@ use Rattle.survival.specs.Accepted.{IsLeftBy}
 use Rattle.survival.specs.Again.{ByStore, HasStudyLaw}
 use Rattle.survival.proofs.Accepts.{accepted, isnt_old, of_today}
 use Rattle.survival.proofs.WholeRuns.{cannot, left_by, shows_some}
-use Rattle.drive.specs.Crashes.{IsTaken, RecoveredLaw, RecoveryTakenLaw, RunTakenLaw}
+use Rattle.survival.specs.Taken.{IsTaken}
+use Rattle.drive.specs.Crashes.{RecoveredLaw, RecoveryTakenLaw, RunTakenLaw}
 
 -- what a store leaves
 taken_of : HasStudyLaw → (l : Layout) (s : Setting) (p : Past) (image : List ℕ) → IsLeftBy l s p image → IsTaken image

@@ -11,26 +11,18 @@ use Rattle.image.specs.declared.guard_row.GuardRow.{GuardRow}
 use Rattle.image.specs.declared.layout.Layout.{Layout}
 use Rattle.image.specs.declared.slot.Slot.{Slot}
 use Rattle.monitor.specs.Seats.{Home}
-use Rattle.recover.specs.Recovery.{IsCutOff, RefusesRecovery}
-use Rattle.recover.specs.Study.{IsStudyOf}
-use Rattle.recover.specs.declared.error.RecoverError.{RecoverError}
-use Rattle.recover.specs.declared.studied.Study.{Study}
+use Rattle.recover.specs.Recovery.{IsCutOff}
 use Rattle.running_heap.specs.Closed.{IsClosed}
 use Rattle.running_life.specs.Running.{KeepsRunning}
 use Rattle.steps.specs.Views.{plan}
 use Rattle.store_past.specs.Past.{Past, applied, no_past}
 use Rattle.survival.specs.Running.{KeepsOfHistory}
-use Rattle.survival.specs.WholeRun.{CannotRecover, MayBeLeft}
+use Rattle.survival.specs.Taken.{IsTaken}
+use Rattle.survival.specs.WholeRun.{MayBeLeft}
 use Rattle.trim_helper.specs.Endings.{HoldNone, IsComplete}
 use Rattle.trim_helper.specs.declared.ended.Ended.{Ended}
 use Rattle.drive.specs.declared.error.DriveError.{DriveError}
 use Rattle.drive.specs.declared.error.DriveError.TheVariants.{NoMemory, Helper, Session, Close, Recover}
-
--- Recovery takes the image, unless a call fails, memory is wanting, or the control's sequence is at its last value.
-pub record IsTaken (image : List ℕ) : Type 0 where
-  pub study : Study
-  pub of : IsStudyOf image study
-  pub taken : (e : RecoverError) → RefusesRecovery image e → CannotRecover image e
 
 -- it takes whatever a crash left of the other device, at any moment since this one
 abbrev pub TakesEach : (old new : Device) → Type 0

@@ -1,11 +1,11 @@
 -- What is known of workers as they begin and as they end.
-use Rattle.std.specs.Prelude.{ℕ, ◌≡◌, ◌<◌, List, [], map, All, Vec, Result, IfOk, IfSome}
+use Rattle.std.specs.Prelude.{ℕ, ◌≡◌, ◌<◌, ◌≤◌, List, [], length, map, All, Vec, Result, IfOk, IfSome}
 use Rattle.std.specs.declared.alloc.Global.{Global}
 use Rattle.std.specs.declared.alloc.AllocError.{AllocError}
 use Rattle.monitor.specs.Seats.{Home}
 use Rattle.session.specs.Sessions.{IsSessionOf, view_of}
 use Rattle.session.specs.declared.session.Session.{Session}
-use Rattle.running_heap.specs.Joined.{IsJoined}
+use Rattle.running_heap.specs.Joined.{AreNew, IsJoined}
 use Rattle.trim_helper.specs.Endings.{IsEnded, Rings}
 use Rattle.drive.specs.Working.{HoldsJust, StopsWorker}
 use Rattle.drive.specs.declared.workers.Worker.{Worker}
@@ -20,6 +20,11 @@ pub record IsReady (h : Home) (w : Worker) : Type 0 where
 -- each is
 abbrev pub AreReady : Home → List Worker → Type 0
 AreReady h workers = All (IsReady h) workers
+
+-- Numbering makes workers ready of sessions that were told nothing and are joined to a helper, one a lane at most.
+abbrev pub AreMadeReady : List Session → Result (Vec Worker Global) AllocError → Type 0
+AreMadeReady sessions answer = (h : Home) (capacity : ℕ) (rings : Rings) → All (IsJoined h capacity rings) sessions → AreNew 0 sessions
+    → length sessions ≤ h.plan.lanes → h.plan.lanes ≤ 32 → IfOk answer (λ w. AreReady h w.items)
 
 -- and is joined to the helper of these rings
 abbrev pub AreJoined : (h : Home) (capacity : ℕ) (rings : Rings) → List Worker → Type 0

@@ -1,6 +1,6 @@
 //! The workers, as they begin and as they end.
 ghost use Rattle.std.specs.Prelude.{ℕ, ◌≡◌, ◌<◌, ◌≤◌, All, IfOk, IfSome, MatchOption, length, reverse};
-ghost use Rattle.drive.specs.Workers.{AreJoined, AreReady, AreWorked, HaveWorked, IsReady, IsWorked, lanes_begun, lanes_opened, lanes_worked};
+ghost use Rattle.drive.specs.Workers.{AreJoined, AreMadeReady, AreReady, AreWorked, HaveWorked, IsReady, IsWorked, lanes_begun, lanes_opened, lanes_worked};
 ghost use Rattle.drive.specs.Working.{StopsWorker};
 ghost use Rattle.monitor.specs.Seats.{Home};
 ghost use Rattle.running_heap.specs.Joined.{AreNew, IsJoined};
@@ -37,7 +37,7 @@ pub struct Worked {
 /// The sessions, lane i's as the i-th, with their numbers.
 pub fn number_all(alloc: Global, sessions: Vec<Session>) -> Result<Vec<Worker>, AllocError>
     ensures joined { (h : Home) (capacity : ℕ) (rings : Rings) → All (IsJoined h capacity rings) sessions.items → IfOk result (λ w. AreJoined h capacity rings w.items) }
-    ensures ready { (h : Home) (capacity : ℕ) (rings : Rings) → All (IsJoined h capacity rings) sessions.items → AreNew 0 sessions.items → length sessions.items ≤ h.plan.lanes → h.plan.lanes ≤ 32 → IfOk result (λ w. AreReady h w.items) }
+    ensures ready { AreMadeReady sessions.items result }
     ensures lanes { IfOk result (λ w. lanes_begun w.items ≡ reverse (lanes_opened sessions.items)) }
 {
     let mut left = sessions;

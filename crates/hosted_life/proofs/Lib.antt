@@ -1,3 +1,4 @@
 mod Safe
 mod Running
 mod Told
+mod Copies

@@ -1,11 +1,12 @@
 -- What a crash of the host's device keeps while threads run.
-use Rattle.std.proofs.Common.{suc, List, ℕ, false, refl, sym, ◌∙◌, arith}
+use Rattle.std.proofs.Common.{suc, Bool, List, ℕ, false, refl, sym, subst, ◌∙◌, arith}
 use Rattle.block_disk.specs.Device.{Device}
 use Rattle.block_disk.specs.Images.{Continues}
 use Rattle.deferred_disk.specs.Deferred.{Deferred, onto}
 use Rattle.deferred_disk.specs.Host.{Host}
 use Rattle.deferred_disk.specs.Syncs.{syncs_in}
 use Rattle.deferred_disk.proofs.Moments.{left_since_then}
+use Rattle.durable.specs.Runs.{HasRun}
 use Rattle.durable.proofs.Running.{ran_then}
 use Rattle.running_heap.specs.Life.{ClosedLifeLaw}
 use Rattle.running_life.specs.Crashes.{CrashLaw}
@@ -14,27 +15,36 @@ use Rattle.steps.specs.Views.{plan}
 use Rattle.survival.specs.WholeRun.{MayBeLeft}
 use Rattle.trim_helper.specs.Heard.{SeenLaw}
 use Rattle.hosted_heap.specs.Hosting.{hosted_device}
-use Rattle.hosted_life.specs.Running.{HostClosingLaw, HostRoundLaw, HostRunLaw, LeavesSince}
+use Rattle.hosted_life.specs.Running.{HostClosingLaw, HostRoundLaw, HostRunLaw}
+use Rattle.hosted_life.specs.Safe.{LeavesSince}
 use Rattle.hosted_life.proofs.Safe.{syncs_onto}
 
 -- it is left of the heap's own disk, since then
 left_since : (old : Device) (d : Deferred) (c : Host) (image : List ℕ) → Continues old (hosted_device d) → LeavesSince old d c image → MayBeLeft old (hosted_device d) image
 left_since old d c image grows since =
-    left_since_then (suc (syncs_in (onto c.made since.next))) old (hosted_device d) image grows (omega (arith, since.made, syncs_onto c.made since.next))
-    (since.met.synced since.next since.more image since.left since.leaves)
+    let by = since.by in
+    left_since_then (suc (syncs_in (onto c.made by.next))) old (hosted_device d) image grows (omega (arith, since.made, syncs_onto c.made by.next))
+    (by.met.synced by.next by.more image by.left by.leaves)
 
 pub run_keeps : CrashInRunLaw hosted_device → HostRunLaw
-run_keeps keeps h was p q old y failed seen c image has layout ran serving legal is_seen since =
-    keeps h was p q old y failed seen image has layout ran serving legal is_seen (left_since old y.store.disk c image ran.shown.grows since)
+run_keeps keeps h p old y seen c image on since = keeps h p old y seen image on (left_since old y.store.disk c image on.run.ran.shown.grows since)
 
 pub round_keeps : CrashInRunLaw hosted_device → SeenLaw hosted_device → HostRoundLaw
-round_keeps keeps seen_of x y answer was first p old c image has layout ran serving runs makes heard since =
-    let round = makes p serving in
-    let seen = heard.seen runs in
+round_keeps keeps seen_of x y answer p old c image ran makes heard since =
+    let run = ran.run in
+    let round = makes run.now ran.serves in
+    let seen = heard.seen ran.running in
     let same = heard.goes_on.layout in
-    let on = ran_then x.helper.store.known.layout y.helper.store.known.layout (plan x.home) first p round.now old (hosted_device x.helper.store.disk) (hosted_device y.helper.store.disk) false y.helper.store.known.has_failed same ran (ran.whole refl) round.ran in
-    run_keeps keeps x.home was first round.now old y.helper y.helper.store.known.has_failed y.helper.seat.view.history c image has (layout ∙ sym same) on round.serves seen.legal
-    (seen_of x.home (plan x.home) round.now y.helper seen round.serves) since
+    let before : HasRun x.helper.store.known.layout (plan x.home) p old run.now (hosted_device x.helper.store.disk) false =
+    subst (λ (b : Bool). HasRun x.helper.store.known.layout (plan x.home) p old run.now (hosted_device x.helper.store.disk) b) ran.whole run.ran in
+    let on = ran_then x.helper.store.known.layout y.helper.store.known.layout (plan x.home) p run.now round.now old (hosted_device x.helper.store.disk) (hosted_device y.helper.store.disk) false y.helper.store.known.has_failed same before (before.whole refl) round.ran in
+    run_keeps keeps x.home p old y.helper y.helper.seat.view.history c image
+    (record {
+      run = record { store = run.store; layout = run.layout ∙ sym same; has = run.has; now = round.now; has_failed = y.helper.store.known.has_failed; ran = on };
+      serves = round.serves;
+      legal = seen.legal;
+      seen_of = seen_of x.home (plan x.home) round.now y.helper seen round.serves;
+    }) since
 
 pub closing_keeps : CrashLaw hosted_device → ClosedLifeLaw hosted_device → HostClosingLaw
 closing_keeps keeps lives h opened x p d c image lived closing since =

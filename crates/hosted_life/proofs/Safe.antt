@@ -18,8 +18,9 @@ use Rattle.image.specs.declared.layout.Layout.{Layout}
 use Rattle.monitor.specs.Seats.{Home}
 use Rattle.recover.specs.declared.versions.Versions.TheVariants.{Current}
 use Rattle.steps.specs.Views.{plan}
-use Rattle.store_past.specs.Past.{no_past}
+use Rattle.store_past.specs.Past.{Past, no_past}
 use Rattle.survival.specs.Again.{ByStore, HasStudyLaw}
+use Rattle.survival.specs.WholeRun.{MayBeLeft}
 use Rattle.survival.proofs.Accepts.{accepted, isnt_old, of_today}
 use Rattle.survival.proofs.WholeRuns.{cannot, found, left_by, of_run, shows_some}
 use Rattle.trim_helper.specs.Closed.{disk_of}
@@ -28,8 +29,9 @@ use Rattle.hosted_heap.specs.Hosting.{hosted_device}
 use Rattle.hosted_life.specs.Safe.{AcknowledgedLaw, BegunLaw, ClosedLaw, EndsLaw, HostLaw, IsSafe, KeptRunLaw, LivesLaw, NowLaw, OpeningLaw}
 use Rattle.hosted_heap.specs.Opening.{device_on}
 
-pub keeps_run : HasStudyLaw → KeptRunLaw
-keeps_run studied x s p q old new failed image has ran left =
+-- what a crash left of a store's run
+store_keeps : HasStudyLaw → (x : Known) (s : Setting) (p q : Past) (old new : Device) (failed : Bool) (image : List ℕ) → HasPast x s p old → HasRun x.layout s p old q new failed → MayBeLeft old new image → IsSafe x.layout p.cut image
+store_keeps studied x s p q old new failed image has ran left =
     let all : List StoreCall = ran.calls ++ ran.cut_off in
     let some = shows_some x s p all old new image has ran.shown left in
     let by = left_by x.layout s some.then some.doubt image some.is some.of_lanes some.shows in
@@ -37,11 +39,18 @@ keeps_run studied x s p q old new failed image has ran left =
     let kept = counts_of study.0.report.kept in
     let survives = of_run x s p all image study.0.heap.items kept has.past some (found x.layout s some.then some.doubt image some.is some.of_lanes some.shows study.0 study.1) in
     record {
-      study = study.0;
-      of = study.1;
-      taken = λ e refused. cannot Current image (λ r refuses. accepted x.layout s by.past image (of_today x.layout s by.past image by.is) r refuses) (isnt_old x.layout s by.past image (of_today x.layout s by.past image by.is) refl) e refused;
+      accepted = record {
+        study = study.0;
+        of = study.1;
+        taken = λ e refused. cannot Current image (λ r refuses. accepted x.layout s by.past image (of_today x.layout s by.past image by.is) r refuses) (isnt_old x.layout s by.past image (of_today x.layout s by.past image by.is) refl) e refused;
+      };
       keeps = λ lane below. let stays = survives.stays lane in let same = survives.kept_are lane below in omega (arith, stays, same);
     }
+
+pub keeps_run : HasStudyLaw → KeptRunLaw
+keeps_run studied l s p old new image run left =
+    let ran : HasRun run.store.layout s p old run.now new run.has_failed = subst (λ (k : Layout). HasRun k s p old run.now new run.has_failed) (sym run.layout) run.ran in
+    subst (λ (k : Layout). IsSafe k p.cut image) run.layout (store_keeps studied run.store s p run.now old new run.has_failed image run.has ran left)
 
 -- no call takes a sync back
 pub syncs_onto : (made : List Stop) (calls : List DeviceCall) → syncs_in made ≤ syncs_in (onto made calls)
@@ -50,30 +59,36 @@ syncs_onto made (Write at bytes ∷ calls) = syncs_onto (stop_of (Write at bytes
 syncs_onto made (Sync ∷ calls) = let more = syncs_onto (stop_of Sync ∷ made) calls in omega (arith, more)
 
 pub by_host : KeptRunLaw → HostLaw
-by_host kept x s p q old d failed c next more image has ran met far split left =
-    let up = syncs_onto c.made next in
-    kept x s p q old (hosted_device d) failed image has ran
-    (left_since_then (suc (syncs_in (onto c.made next))) old (hosted_device d) image ran.shown.grows (omega (arith, far, up)) (met.synced next more image split left))
+by_host kept l s p old d c image run since =
+    let by = since.by in
+    let far = since.made in
+    let up = syncs_onto c.made by.next in
+    let synced = by.met.synced by.next by.more image by.left by.leaves in
+    kept l s p old (hosted_device d) image run
+    (left_since_then (suc (syncs_in (onto c.made by.next))) old (hosted_device d) image run.ran.shown.grows (omega (arith, far, up)) synced)
 
 pub by_host_begun : KeptRunLaw → BegunLaw
-by_host_begun kept schema r x q d failed c next more image begun ran met far split left =
+by_host_begun kept schema r x q d failed c image begun ran since =
     let had : HasPast x.helper.store.known (plan x.home) no_past (hosted_device r.disk) =
     subst (λ (e : Deferred). HasPast x.helper.store.known (plan x.home) no_past (hosted_device e)) begun.disk_is begun.untold.taken.has in
-    subst (λ (l : Layout). IsSafe l no_past.cut image) begun.layout_is
-    (by_host kept x.helper.store.known (plan x.home) no_past q (hosted_device r.disk) d failed c next more image had
-    (subst (λ (l : Layout). HasRun l (plan x.home) no_past (hosted_device r.disk) q (hosted_device d) failed) (sym begun.layout_is) ran) met far split left)
+    by_host kept r.layout (plan x.home) no_past (hosted_device r.disk) d c image
+    (record { store = x.helper.store.known; layout = begun.layout_is; has = had; now = q; has_failed = failed; ran = ran }) since
 
 pub by_host_acknowledged : KeptRunLaw → AcknowledgedLaw
-by_host_acknowledged kept x y same were made p q d failed c next more image serving ran met more_made split left =
+by_host_acknowledged kept x y same were made p d c image serving run later =
     let old = hosted_device y.helper.store.disk in
-    let had : HasPast x.helper.store.known (plan x.home) p old = subst (λ (e : Device). HasPast x.helper.store.known (plan x.home) p e) (sym same.helper.device_is) serving.taken.has in
+    let more_made = later.made in
     let all : durable_moments (moments_of old) ≡ suc (syncs_in y.calls.made) = were.all made.none_left made.none_known in
-    by_host kept x.helper.store.known (plan x.home) p q old d failed c next more image had ran met (omega (arith, all, more_made)) split left
+    by_host kept x.helper.store.known.layout (plan x.home) p old d c image run (record { by = later.by; made = omega (arith, all, more_made) })
 
 pub by_host_now : KeptRunLaw → NowLaw
 by_host_now kept x y same met made p image serving left =
-    by_host_acknowledged kept x y same met made p p y.helper.store.disk false y.calls [] [] image serving
-    (ran_none x.helper.store.known.layout (plan x.home) p (hosted_device y.helper.store.disk) false) met (omega arith) made.none_left left
+    let known = x.helper.store.known in
+    let disk = y.helper.store.disk in
+    let had : HasPast known (plan x.home) p (hosted_device disk) = subst (λ (e : Device). HasPast known (plan x.home) p e) (sym same.helper.device_is) serving.taken.has in
+    by_host_acknowledged kept x y same met made p disk y.calls image serving
+    (record { store = known; layout = refl; has = had; now = p; has_failed = false; ran = ran_none known.layout (plan x.home) p (hosted_device disk) false })
+    (record { by = record { met = met; next = []; more = []; left = made.none_left; leaves = left }; made = omega arith })
 
 pub lives_on : LivesLaw
 lives_on x y answer old first p serving ran makes stays =
@@ -109,9 +124,9 @@ as_found c bytes image (inr (inl first)) = first.1
 as_found c bytes image (inr (inr none)) = elim none [ ]
 
 pub opens_on : OpeningLaw
-opens_on versions bytes x report s c next more image found of met split leaves =
+opens_on versions bytes x report s c image found of by =
     let left : LeftSince 0 (hosted_device found.found.disk) image =
-    subst (λ (e : Deferred). LeftSince 0 (hosted_device e) image) found.begun.disk_is (met.earlier next more image split leaves) in
+    subst (λ (e : Deferred). LeftSince 0 (hosted_device e) image) found.begun.disk_is (by.met.earlier by.next by.more image by.left by.leaves) in
     elim ((found.any_moment s of).each 0 image (omega arith) left) [
       | inl before ↦ inl (as_found x.calls bytes image before)
       | inr way ↦ inr way

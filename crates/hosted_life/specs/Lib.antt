@@ -2,3 +2,4 @@
 pub mod Safe
 pub mod Running
 pub mod Told
+pub mod Copies

@@ -12,14 +12,12 @@ use Rattle.deferred_disk.specs.Host.{HaveMet, Host}
 use Rattle.deferred_disk.specs.Syncs.{durable_moments, moments_of, syncs_in}
 use Rattle.deferred_disk.specs.declared.call.DeviceCall.{DeviceCall}
 use Rattle.durable.specs.Runs.{HasRun, IsLeftBy}
-use Rattle.durable.specs.Store.{HasPast, Known}
 use Rattle.guards.specs.Schema.{Declarations}
 use Rattle.image.specs.Recovered.{Parts as Recovered}
 use Rattle.image.specs.declared.layout.Layout.{Layout}
 use Rattle.monitor.specs.Seats.{Home}
-use Rattle.recover.specs.Recovery.{IsOnTheWay, RefusesRecovery}
+use Rattle.recover.specs.Recovery.{IsOnTheWay}
 use Rattle.recover.specs.Study.{IsStudyOf}
-use Rattle.recover.specs.declared.error.RecoverError.{RecoverError}
 use Rattle.recover.specs.declared.report.Report.{Report}
 use Rattle.recover.specs.declared.studied.Study.{Study}
 use Rattle.recover.specs.declared.versions.Versions.{Versions}
@@ -27,7 +25,9 @@ use Rattle.steps.specs.Views.{plan}
 use Rattle.store_image.specs.KeptHeap.{StandsForCut, values_below}
 use Rattle.store_past.specs.Past.{Past, no_past}
 use Rattle.store_past.specs.declared.error.StoreError.{StoreError}
-use Rattle.survival.specs.WholeRun.{CannotRecover, MayBeLeft}
+use Rattle.survival.specs.Running.{RunsSince}
+use Rattle.survival.specs.Taken.{IsTaken}
+use Rattle.survival.specs.WholeRun.{MayBeLeft}
 use Rattle.trim_helper.specs.Closed.{disk_of}
 use Rattle.trim_helper.specs.Parts.{IsServing, Parts}
 use Rattle.trim_helper.specs.Settled.{closed_value}
@@ -39,44 +39,61 @@ use Rattle.hosted_heap.specs.Meeting.{AreAllMade, SameButMet, host_moment}
 use Rattle.hosted_heap.specs.Opening.{HasBegun, IsFound}
 use Rattle.hosted_heap.specs.Rounds.{KeepsSessions, MakesRound}
 
--- Recovery takes the image, unless a call fails, memory is wanting, or the control's sequence is at its last value; and of each lane it keeps
--- at least so many sections.
+-- Recovery accepts the image, and keeps of each lane at least so many sections.
 pub record IsSafe (l : Layout) (least : ℕ → ℕ) (image : List ℕ) : Type 0 where
-  pub study : Study
-  pub of : IsStudyOf image study
-  pub taken : (e : RecoverError) → RefusesRecovery image e → CannotRecover image e
-  pub keeps : (lane : ℕ) → lane < l.lanes → least lane ≤ counts_of study.report.kept lane
+  pub accepted : IsTaken image
+  pub keeps : (lane : ℕ) → lane < l.lanes → least lane ≤ counts_of accepted.study.report.kept lane
 
--- So is each image that a crash left at any moment of a run: all that was acknowledged before its first call is kept.
+-- Whatever a crash left at any moment of a run of store calls is safe: all is kept that was acknowledged when the run began.
 abbrev pub KeptRunLaw : Type 0
-KeptRunLaw = (x : Known) (s : Setting) (p q : Past) (old new : Device) (has_failed : Bool) (image : List ℕ) → HasPast x s p old → HasRun x.layout s p old q new has_failed → MayBeLeft old new image → IsSafe x.layout p.cut image
+KeptRunLaw = (l : Layout) (s : Setting) (p : Past) (old new : Device) (image : List ℕ)
+    → RunsSince l s p old new → MayBeLeft old new image → IsSafe l p.cut image
 
 -- what a crash of the host's device may leave of a heap, where the host has made of the calls that are left these too
 abbrev pub HostLeaves : (d : Deferred) (c : Host) (next : List DeviceCall) → List ℕ → Type 0
 HostLeaves d c next image = Image (moment_after d.memory.first (onto c.made next)) image
 
--- A store had this past, and has run since, over a disk that has met its host. The host has made all calls that had been handed over by then,
--- and maybe more. Then whatever a crash of its device leaves is safe, now or when some of the calls that are left are made.
+-- The disk has met its host. Now, or when the host has made some more of the calls that are left, a crash of the host's device leaves this.
+pub record LeavesBy (d : Deferred) (c : Host) (image : List ℕ) : Type 0 where
+  pub met : HaveMet d c
+  pub next : List DeviceCall
+  pub more : List DeviceCall
+  pub left : c.left ≡ next ++ more
+  pub leaves : HostLeaves d c next image
+
+-- So it does, and the host has made all calls that had been handed over when its disk was the old one, and maybe more.
+pub record LeavesSince (old : Device) (d : Deferred) (c : Host) (image : List ℕ) : Type 0 where
+  pub by : LeavesBy d c image
+  pub made : durable_moments (moments_of old) ≤ suc (syncs_in c.made)
+
+-- So it does, and the host's device was synced as often as when these calls were made, or more often.
+pub record LeavesLater (before : Host) (d : Deferred) (c : Host) (image : List ℕ) : Type 0 where
+  pub by : LeavesBy d c image
+  pub made : syncs_in before.made ≤ syncs_in c.made
+
+-- A store of this past had the old device, and has run since. The host has made the calls that had been handed over by then. Then whatever a
+-- crash of its device leaves is safe: all is kept that was acknowledged in that past.
 abbrev pub HostLaw : Type 0
-HostLaw = (x : Known) (s : Setting) (p q : Past) (old : Device) (d : Deferred) (has_failed : Bool) (c : Host) (next more : List DeviceCall) (image : List ℕ) → HasPast x s p old →
-    HasRun x.layout s p old q (deferred_device d) has_failed → HaveMet d c → durable_moments (moments_of old) ≤ suc (syncs_in c.made) → c.left ≡ next ++ more → HostLeaves d c next image → IsSafe x.layout p.cut image
+HostLaw = (l : Layout) (s : Setting) (p : Past) (old : Device) (d : Deferred) (c : Host) (image : List ℕ)
+    → RunsSince l s p old (deferred_device d) → LeavesSince old d c image → IsSafe l p.cut image
 
 -- So it is since the heap was opened, once the host has made the calls of that.
 abbrev pub BegunLaw : Type 0
-BegunLaw = (schema : Declarations) (r : Recovered Deferred) (x : Hosting) (q : Past) (d : Deferred) (has_failed : Bool) (c : Host) (next more : List DeviceCall) (image : List ℕ) → HasBegun schema r x →
-    HasRun r.layout (plan x.home) no_past (hosted_device r.disk) q (hosted_device d) has_failed → HaveMet d c → durable_moments (moments_of (hosted_device r.disk)) ≤ suc (syncs_in c.made) → c.left ≡ next ++ more →
-    HostLeaves d c next image → IsSafe r.layout no_past.cut image
+BegunLaw = (schema : Declarations) (r : Recovered Deferred) (x : Hosting) (q : Past) (d : Deferred) (has_failed : Bool) (c : Host) (image : List ℕ)
+    → HasBegun schema r x → HasRun r.layout (plan x.home) no_past (hosted_device r.disk) q (hosted_device d) has_failed
+    → LeavesSince (hosted_device r.disk) d c image → IsSafe r.layout no_past.cut image
 
 -- Whatever store calls are made since, and whichever of theirs the host makes: whatever a crash of its device leaves is safe, and keeps what
 -- was acknowledged then.
 abbrev pub KeepsFrom : (x y : Hosting) → Type 0
-KeepsFrom x y = (p q : Past) (d : Deferred) (has_failed : Bool) (c : Host) (next more : List DeviceCall) (image : List ℕ) → IsServing hosted_device x.helper (plan x.home) p →
-    HasRun x.helper.store.known.layout (plan x.home) p (hosted_device y.helper.store.disk) q (hosted_device d) has_failed → HaveMet d c → syncs_in y.calls.made ≤ syncs_in c.made → c.left ≡ next ++ more →
-    HostLeaves d c next image → IsSafe x.helper.store.known.layout p.cut image
+KeepsFrom x y = (p : Past) (d : Deferred) (c : Host) (image : List ℕ) → IsServing hosted_device x.helper (plan x.home) p
+    → RunsSince x.helper.store.known.layout (plan x.home) p (hosted_device y.helper.store.disk) (hosted_device d)
+    → LeavesLater y.calls d c image → IsSafe x.helper.store.known.layout p.cut image
 
 -- And so it is right then.
 abbrev pub KeepsNow : (x y : Hosting) → Type 0
-KeepsNow x y = (p : Past) (image : List ℕ) → IsServing hosted_device x.helper (plan x.home) p → Image (host_moment y) image → IsSafe x.helper.store.known.layout p.cut image
+KeepsNow x y = (p : Past) (image : List ℕ) → IsServing hosted_device x.helper (plan x.home) p
+    → Image (host_moment y) image → IsSafe x.helper.store.known.layout p.cut image
 
 -- So it is once the host has made all calls that were handed over.
 abbrev pub AcknowledgedLaw : Type 0
@@ -87,15 +104,16 @@ NowLaw = (x y : Hosting) → SameButMet x y → HaveMet y.helper.store.disk y.ca
 
 -- A round of the heap goes on with the run, unless the store had failed before.
 abbrev pub LivesLaw : Type 0
-LivesLaw = (x y : Hosting) (answer : Result ℕ StoreError) (old : Device) (first p : Past) → IsServing hosted_device x.helper (plan x.home) p →
-    HasRun x.helper.store.known.layout (plan x.home) first old p (hosted_device x.helper.store.disk) false → MakesRound x y answer → KeepsSessions x y →
-    (q : Past) × IsServing hosted_device y.helper (plan y.home) q × HasRun y.helper.store.known.layout (plan y.home) first old q (hosted_device y.helper.store.disk) y.helper.store.known.has_failed
+LivesLaw = (x y : Hosting) (answer : Result ℕ StoreError) (old : Device) (first p : Past) → IsServing hosted_device x.helper (plan x.home) p
+    → HasRun x.helper.store.known.layout (plan x.home) first old p (hosted_device x.helper.store.disk) false
+    → MakesRound x y answer → KeepsSessions x y → (q : Past) × IsServing hosted_device y.helper (plan y.home) q
+    × HasRun y.helper.store.known.layout (plan y.home) first old q (hosted_device y.helper.store.disk) y.helper.store.known.has_failed
 
 -- So does a closing, whatever it answers, up to the disk that it leaves.
 abbrev pub EndsLaw : Type 0
-EndsLaw = (h : Home) (x : Parts Deferred) (ended : List Ended) (answer : Result Deferred (Deferred × CloseError)) (old : Device) (first p : Past) → IsServing hosted_device x (plan h) p →
-    HasRun x.store.known.layout (plan h) first old p (hosted_device x.store.disk) false → HaveMetHelper h x ended answer →
-    (q : Past) × HasRun x.store.known.layout (plan h) first old q (hosted_device (disk_of answer)) true
+EndsLaw = (h : Home) (x : Parts Deferred) (ended : List Ended) (answer : Result Deferred (Deferred × CloseError)) (old : Device) (first p : Past)
+    → IsServing hosted_device x (plan h) p → HasRun x.store.known.layout (plan h) first old p (hosted_device x.store.disk) false
+    → HaveMetHelper h x ended answer → (q : Past) × HasRun x.store.known.layout (plan h) first old q (hosted_device (disk_of answer)) true
 
 -- The image is the heap of this history with all its sections: a store of this past may have left it, so that recovery takes it, and behind that
 -- the persistent fields have the history's values, and the transient ones begin anew.
@@ -104,13 +122,14 @@ pub record IsHeapOf (s : Setting) (l : Layout) (history : List (ℕ × Event)) (
   pub stands : StandsForCut l s (log_of s history) (all_ended (actions (log_of s history))) image
   pub values : StandsFor l image (values_below (closed_value s (state_after s history).value) l.fields)
 
--- So is whatever a crash of the host's device leaves behind a closing, once the host has made all calls that were handed over.
+-- So is whatever a crash of the host's device leaves after a closing, once the host has made all calls that were handed over.
 abbrev pub ClosedLaw : Type 0
-ClosedLaw = (h : Home) (x : Parts Deferred) (d : Deferred) (c : Host) (image : List ℕ) → (closing : IsClosedWith h x d) → HaveMet d c → AreAllMade c → HostLeaves d c [] image →
-    IsHeapOf (plan h) x.store.known.layout closing.closed.history closing.closed.now image
+ClosedLaw = (h : Home) (x : Parts Deferred) (d : Deferred) (c : Host) (image : List ℕ) → (closing : IsClosedWith h x d)
+    → HaveMet d c → AreAllMade c → HostLeaves d c [] image → IsHeapOf (plan h) x.store.known.layout closing.closed.history closing.closed.now image
 
--- While the host makes the calls by which a heap was opened, or upgraded, a crash of its device leaves the bytes that it had, or an image on recovery's way,
--- which has the same heap: so it may be opened again.
+-- While the host makes the calls by which a heap was opened, or upgraded, a crash of its device leaves the bytes that it had, or an image on
+-- recovery's way, which has the same heap. So the heap may be opened again.
 abbrev pub OpeningLaw : Type 0
-OpeningLaw = (versions : Versions) (bytes : List ℕ) (x : Hosting) (report : Report) (s : Study) (c : Host) (next more : List DeviceCall) (image : List ℕ) → IsFound versions bytes x report → IsStudyOf bytes s →
-    HaveMet x.helper.store.disk c → c.left ≡ next ++ more → HostLeaves x.helper.store.disk c next image → Image (record { bytes = bytes; pending = [] }) image ⊎ IsOnTheWay s image
+OpeningLaw = (versions : Versions) (bytes : List ℕ) (x : Hosting) (report : Report) (s : Study) (c : Host) (image : List ℕ)
+    → IsFound versions bytes x report → IsStudyOf bytes s → LeavesBy x.helper.store.disk c image
+    → Image (record { bytes = bytes; pending = [] }) image ⊎ IsOnTheWay s image

@@ -1,4 +1,5 @@
 //! Laws of a hosted heap's life, each the contract of a function that does nothing.
+ghost use Rattle.hosted_life.specs.Copies.{ClosedCopyLaw, CopyLaw, RunningCopyLaw};
 ghost use Rattle.hosted_life.specs.Running.{HostClosingLaw, HostRoundLaw, HostRunLaw};
 ghost use Rattle.hosted_life.specs.Safe.{AcknowledgedLaw, BegunLaw, ClosedLaw, EndsLaw, HostLaw, KeptRunLaw, LivesLaw, NowLaw, OpeningLaw};
 ghost use Rattle.hosted_life.specs.Told.{AcknowledgedToldLaw, HostReadLaw};
@@ -9,17 +10,24 @@ use running_life::{crash_law, round_law, stable_law};
 use survival::has_study_law;
 use trim_helper::seen_law;
 
-/// Recovery takes whatever a crash left at any moment of a run of store calls, and keeps all that was acknowledged before the first.
+/// Recovery accepts whatever a crash left at any moment of a run of store calls, and keeps every section that was acknowledged when the run
+/// began.
 pub fn kept_law()
     ensures { KeptRunLaw }
 {
     has_study_law();
 }
 
-/// What a crash of the host's device leaves, at whatever moment it comes: before the host has made a call, in it or behind it. Once the
-/// host has made the calls that were handed over when the heap was opened, recovery takes it; once it has made those that were handed
-/// over when a count of sections was told as acknowledged, it keeps so many. No later call takes that back, nor does a closing, whatever
-/// it answers. Once the host has made the calls that are left of a heap that was closed, it keeps all sections.
+/// What a crash of the host's device leaves, at whatever moment it comes: before a call that the host makes, in it or after it.
+/// - `opening`: while the host makes the calls by which a heap was opened or upgraded, a crash leaves the bytes that there were, or an
+///   image that has the same heap;
+/// - `begun`: once the host has made those calls, recovery accepts whatever a crash leaves;
+/// - `acknowledged`, `now`: once the host has made the calls that were handed over when a count of sections was told as acknowledged,
+///   recovery keeps so many, right then and later; `any_moment` is the general case;
+/// - `lives`, `ends`: no later call takes that back, nor does a closing, whatever it answers;
+/// - `closed`: once the host has made the calls that are left of a heap that was closed, recovery keeps all sections;
+/// - `copy`, `closed_copy`: a copy of the disk in memory is kept so too: each section that is acknowledged by then, or all of them after
+///   the closing.
 pub fn host_law()
     ensures any_moment { HostLaw }
     ensures begun { BegunLaw }
@@ -29,13 +37,18 @@ pub fn host_law()
     ensures ends { EndsLaw }
     ensures closed { ClosedLaw }
     ensures opening { OpeningLaw }
+    ensures copy { CopyLaw }
+    ensures closed_copy { ClosedCopyLaw }
 {
     kept_law();
 }
 
-/// What a crash of the host's device keeps while threads run, at whatever moment it comes: the heap of whole sections of the threads'
-/// history, each with all that it depends on. With them is all that was acknowledged when the host had made the calls that were handed
-/// over by then, or when the heap was opened.
+/// What a crash of the host's device keeps while threads run, at whatever moment it comes: whole sections of the threads' history, each
+/// with every section that it depends on. They include every section that was acknowledged when the host had made the calls that were
+/// handed over by then, or when the heap was opened.
+/// - `run`: since any moment at which the store had a past; `round`: up to the end of a round, whatever the round answers;
+/// - `closing`: while the host makes the calls of a closing, sections of the history that the closing tells of;
+/// - `copy`: a copy of the disk in memory keeps what a crash right now would.
 ///
 /// The law speaks of each legal history that goes on from what the heap's helper has seen of the threads (`running_life::round_law`),
 /// and of each way in which the host comes on with the calls that it was handed.
@@ -43,6 +56,7 @@ pub fn running_law()
     ensures run { HostRunLaw }
     ensures round { HostRoundLaw }
     ensures closing { HostClosingLaw }
+    ensures copy { RunningCopyLaw }
 {
     crash_law::<DeferredDisk>();
     life_law::<DeferredDisk>();
@@ -50,9 +64,11 @@ pub fn running_law()
     seen_law::<DeferredDisk>();
 }
 
-/// What was told of a hosted heap no crash of the host's device takes back, though the heap is never closed: what the heap told as
-/// acknowledged from then on, and what a session has read as stable once the host has made the calls of the round that published it. The
-/// sections kept are of the one history of the crash, in which each lane's part is what its session had been told by then
+/// No crash of the host's device takes back what was told of a hosted heap, even if the heap is never closed.
+/// - `acknowledged`: what the heap told as acknowledged, from then on;
+/// - `read`: what a session has read as stable, once the host has made the calls of the round that published it.
+///
+/// The kept sections are of the one history of the crash, in which each lane's part is what its session had been told by then
 /// (`running_life::stable_law`).
 pub fn told_law()
     ensures acknowledged { AcknowledgedToldLaw }

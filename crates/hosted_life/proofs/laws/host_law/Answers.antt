@@ -1,3 +1,4 @@
+use Rattle.hosted_life.proofs.Copies.{closed_copy, copy_safe}
 use Rattle.hosted_life.proofs.Safe.{by_host, by_host_acknowledged, by_host_begun, by_host_now, closed_on, ends_on, lives_on, opens_on}
 use Rattle.hosted_life.proofs.laws.host_law.Goals as goal
 
@@ -24,3 +25,9 @@ returns-clause-closed c = closed_on
 
 pub returns-clause-opening : goal.returns-clause-opening
 returns-clause-opening c = opens_on
+
+pub returns-clause-copy : goal.returns-clause-copy
+returns-clause-copy c = copy_safe c.kept_law.ensures
+
+pub returns-clause-closed_copy : goal.returns-clause-closed_copy
+returns-clause-closed_copy c = closed_copy

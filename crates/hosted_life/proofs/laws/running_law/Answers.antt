@@ -1,3 +1,4 @@
+use Rattle.hosted_life.proofs.Copies.{copy_keeps}
 use Rattle.hosted_life.proofs.Running.{closing_keeps, round_keeps, run_keeps}
 use Rattle.hosted_life.proofs.laws.running_law.Goals as goal
 
@@ -9,3 +10,6 @@ returns-clause-round c = round_keeps c.round_law.ensures.run c.seen_law.ensures
 
 pub returns-clause-closing : goal.returns-clause-closing
 returns-clause-closing c = closing_keeps c.crash_law.ensures c.life_law.ensures.closed
+
+pub returns-clause-copy : goal.returns-clause-copy
+returns-clause-copy c = copy_keeps c.round_law.ensures.now

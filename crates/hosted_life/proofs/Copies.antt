@@ -1,0 +1,30 @@
+-- A copy of a heap's disk in memory.
+use Rattle.std.proofs.Common.{length, refl, arith}
+use Rattle.block_disk.specs.Device.{Device}
+use Rattle.block_disk.proofs.Images.{image_now, left_since}
+use Rattle.durable.proofs.Running.{ran_none}
+use Rattle.running_life.specs.Running.{CrashNowLaw}
+use Rattle.steps.specs.Views.{plan}
+use Rattle.survival.specs.WholeRun.{MayBeLeft}
+use Rattle.hosted_heap.specs.Hosting.{hosted_device}
+use Rattle.hosted_life.specs.Copies.{ClosedCopyLaw, CopyLaw, RunningCopyLaw}
+use Rattle.hosted_life.specs.Safe.{KeptRunLaw}
+
+-- its bytes are an image that a crash leaves of a device right now
+left_as_is : (d : Device) → MayBeLeft d d d.now.bytes
+left_as_is d = left_since (length d.past) d d.now.bytes (omega arith) (image_now d)
+
+pub copy_safe : KeptRunLaw → CopyLaw
+copy_safe kept x p serving =
+    let d : Device = hosted_device x.helper.store.disk in
+    let known = x.helper.store.known in
+    kept known.layout (plan x.home) p d d d.now.bytes
+    (record { store = known; layout = refl; has = serving.taken.has; now = p; has_failed = known.has_failed; ran = ran_none known.layout (plan x.home) p d known.has_failed }) (left_as_is d)
+
+pub copy_keeps : CrashNowLaw hosted_device → RunningCopyLaw
+copy_keeps now x p seen rests = now x.home p x.helper seen (hosted_device x.helper.store.disk).now.bytes rests (left_as_is (hosted_device x.helper.store.disk))
+
+pub closed_copy : ClosedCopyLaw
+closed_copy h x d closing =
+    let is = image_now (hosted_device d) in
+    record { left = closing.closed.left (hosted_device d).now.bytes is; stands = closing.closed.stands (hosted_device d).now.bytes is; values = closing.closed.values (hosted_device d).now.bytes is }
