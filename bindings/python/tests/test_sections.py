@@ -104,6 +104,8 @@ class Monitors(OnFile):
 class Exceptions(OnFile):
     def test_one_before_the_first_store_lets_the_heap_go_on(self):
         with self.open() as heap:
+            with heap.synchronized(heap.alice):
+                heap.alice.balance = 100
             for kind in (ValueError, KeyboardInterrupt, GeneratorExit):
                 with self.assertRaises(kind), heap.synchronized(heap.alice, heap.bob):
                     self.assertEqual(heap.alice.balance, 100)
@@ -436,6 +438,39 @@ class Durability(OnFile):
             release.set()
             self.assertTrue(heap.durable())
             thread.join()
+
+    def test_a_signal_is_handled_while_the_main_thread_sleeps(self):
+        class Ring(Exception):
+            pass
+
+        def ring(*_):
+            raise Ring
+
+        with self.open() as heap:
+            entered, release = threading.Event(), threading.Event()
+
+            def hold():
+                with heap.synchronized(heap.alice):
+                    with heap.synchronized(heap.bob):
+                        heap.bob.balance = 1
+                    entered.set()
+                    release.wait()
+
+            thread = threading.Thread(target=hold)
+            thread.start()
+            entered.wait()
+            with heap.synchronized(heap.bob):
+                heap.bob.balance = 2
+            before = signal.signal(signal.SIGALRM, ring)
+            try:
+                signal.setitimer(signal.ITIMER_REAL, 0.3)
+                with self.assertRaises(Ring):
+                    heap.durable()
+            finally:
+                signal.signal(signal.SIGALRM, before)
+            release.set()
+            thread.join()
+            self.assertTrue(heap.durable())
 
     def test_what_is_answered_durable_survives_a_kill(self):
         for _ in range(3):

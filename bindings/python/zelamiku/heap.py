@@ -129,7 +129,7 @@ class Heap:
         for of in objects:
             if not isinstance(of, Object) or of._own is not own:
                 raise ValueError(f"{of!r} is no object of {self._link.path}")
-        return Section(own, sorted(set(objects), key=_number) if len(objects) > 1 else objects, timeout)
+        return Section(own, sorted(objects, key=_number) if len(objects) > 1 else objects, timeout)
 
     def durable(self, timeout: float | None = None) -> bool:
         """Sleeps until no crash loses what this thread has ended, or so many seconds at most; whether that is so.
