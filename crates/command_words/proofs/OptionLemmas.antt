@@ -9,7 +9,7 @@ use Rattle.clap.specs.Simple.{App, app_of, with_rule, with_subcommand}
 use Rattle.clap.specs.Walk.{rule_of}
 use Rattle.clap.specs.declared.builder.arg.Arg.{Arg}
 use Rattle.clap.specs.declared.builder.command.Command.{Command}
-use Rattle.command_words.specs.Words.{MayRead, Reads}
+use Rattle.command_words.specs.Words.{LastIs, MayRead, Reads}
 
 -- a number
 pub reads_number : {E : Type 0} (gives : List ℕ → Result ℕ E → Type 0) (bits : ℕ) (o : Option (List ℕ)) (r : Option ℕ)
@@ -26,6 +26,11 @@ pub may_read_number : {E : Type 0} (gives : List ℕ → Result ℕ E → Type 0
 may_read_number gives bits None r by none reads = none refl
 may_read_number gives bits (Some t) (Some n) by none reads = λ numeral fits. ap Some (by t (Ok n) (reads t refl)).1
 may_read_number gives bits (Some t) None by none reads = λ numeral fits. let failed = reads t refl in absurd (by t (Err failed.0) failed.1 (numeral, fits))
+
+-- a number that is 50 where it is missing
+pub reads_last : (o : Option (List ℕ)) (r : Option ℕ) → MayRead 32 o r → LastIs o (unwrap_or r 50)
+reads_last None r reads = ap (λ x. unwrap_or x 50) reads
+reads_last (Some t) r reads = λ numeral fits. ap (λ x. unwrap_or x 50) (reads numeral fits)
 
 -- the type of a value
 abbrev pub type_of : {E : Type 0} → E → Type 0

@@ -1,5 +1,5 @@
 -- Which words the program takes, and what they ask for (this project's own; read as clap 4 reads them).
-use Rattle.std.specs.Prelude.{◌≡◌, ◌≢◌, ◌⊎◌, ℕ, ◌^◌, ◌<◌, List, [], ◌∷◌, true, codes, pos, Option, None, Some, Result, Ok, Err, option_map, unwrap_or}
+use Rattle.std.specs.Prelude.{◌≡◌, ◌≢◌, ◌↔◌, ◌⊎◌, ℕ, Bool, IsTrue, ◌^◌, ◌<◌, List, [], ◌∷◌, true, codes, pos, Option, None, Some, Result, Ok, Err, option_map, unwrap_or}
 use Rattle.std.specs.Str.Parse.{IsNumeral, digits_value, without_leading_plus}
 use Rattle.clap.specs.Simple.{App, Shape, new_app, new_shape, new_rule, subcommand_of, with_rule, with_subcommand}
 use Rattle.clap.specs.Faults.{fault_of}
@@ -64,7 +64,7 @@ seconds_option = record (new_rule (codes "seconds")) {
   parser = Some (Signed (pos 1) (pos 3600));
 }
 
--- the bytes of a sector, which may be missing; 512 to 4,096, of which only these two are taken
+-- the bytes of a sector, which may be missing; 512 to 4,096, of which only the last is taken
 abbrev pub sectors_option : Rule
 sectors_option = record (new_rule (codes "sectors")) {
   long = Some (codes "sectors");
@@ -72,31 +72,30 @@ sectors_option = record (new_rule (codes "sectors")) {
   parser = Some (Signed (pos 512) (pos 4096));
 }
 
--- how many of a thread's sections are drawn, the last ones, and 50 where nothing is said
+-- how many of a thread's sections are drawn, the last ones, which may be missing
 abbrev pub last_option : Rule
 last_option = record (new_rule (codes "last")) {
   long = Some (codes "last");
   value_names = 1;
-  defaults = codes "50" ∷ [];
   parser = Some (Signed (pos 1) (pos 1000000000));
 }
 
--- the flag that asks for a graph
-abbrev pub dot_flag : Rule
-dot_flag = record (new_rule (codes "dot")) { long = Some (codes "dot"); action = Some SetTrue }
+-- an option that is met or isn't
+abbrev pub flag_option : Text → Rule
+flag_option name = record (new_rule name) { long = Some name; action = Some SetTrue }
 
--- the word `format` with its options, without the last
+-- the word `format` with its options, without the last two
 abbrev pub plain_format_words : App
 plain_format_words = with_rule (with_rule (with_rule (with_rule (new_app (codes "format"))
     (path_option (codes "image"))) (path_option (codes "schema"))) lanes_option) capacity_option
 
--- and with it
+-- and with them
 abbrev pub format_words : App
-format_words = with_rule plain_format_words sectors_option
+format_words = with_rule (with_rule plain_format_words sectors_option) (flag_option (codes "force"))
 
 -- the word `show` with its options
 abbrev pub show_words : App
-show_words = with_rule (with_rule (with_rule (with_rule (new_app (codes "show")) (path_option (codes "image"))) dot_flag) last_option) (file_option (codes "schema"))
+show_words = with_rule (with_rule (with_rule (with_rule (new_app (codes "show")) (path_option (codes "image"))) (flag_option (codes "dot"))) last_option) (file_option (codes "schema"))
 
 -- the word `dump` with its options
 abbrev pub dump_words : App
@@ -141,6 +140,12 @@ MayRead bits None number = number ≡ None
 MayRead bits (Some text) number = IsNumeral 10 (without_leading_plus text) → digits_value 10 (without_leading_plus text) < 2 ^ bits
     → number ≡ Some (digits_value 10 (without_leading_plus text))
 
+-- how many sections are drawn, by the option's text: 50 where it is missing
+abbrev pub LastIs : Option Text → ℕ → Type 0
+LastIs None last = last ≡ 50
+LastIs (Some text) last = IsNumeral 10 (without_leading_plus text) → digits_value 10 (without_leading_plus text) < 2 ^ 32
+    → last ≡ digits_value 10 (without_leading_plus text)
+
 -- the flag was met: it reads as `true`
 abbrev pub IsSet : Text → List Row → Type 0
 IsSet name options = one_of name options ≡ Some (codes "true")
@@ -154,17 +159,25 @@ abbrev pub schema_of : List Row → Text
 schema_of options = unwrap_or (first_of (codes "schema") options) []
 
 -- an image file is to be made, as the options behind the word say
-pub record AsksToFormat (options : List Row) (image schema : Text) (lanes capacity : ℕ) (sectors : Option ℕ) : Type 0 where
+pub record AsksToFormat (options : List Row) (image schema : Text) (lanes capacity : ℕ) (sectors : Option ℕ) (is_forced : Bool) : Type 0 where
   pub image_is : image ≡ image_of options
   pub schema_is : schema ≡ schema_of options
   pub lanes_are : Reads 8 (one_of (codes "lanes") options) lanes
   pub capacity_is : Reads 32 (one_of (codes "capacity") options) capacity
   pub sectors_are : MayRead 32 (one_of (codes "sectors") options) sectors
+  pub force_is : IsTrue is_forced ↔ IsSet (codes "force") options
+
+-- what an image holds is to be printed, as the options behind the word say
+pub record AsksToShow (options : List Row) (image : Text) (last : Option ℕ) (schema : Option Text) : Type 0 where
+  pub image_is : image ≡ image_of options
+  pub last_is : MayRead 32 (one_of (codes "last") options) last
+  pub schema_is : schema ≡ first_of (codes "schema") options
+  pub plain : IsSet (codes "dot") options → ⊥
 
 -- sections are to be drawn, as the options behind the word say
 pub record AsksToDraw (options : List Row) (image : Text) (last : ℕ) (schema : Option Text) : Type 0 where
   pub image_is : image ≡ image_of options
-  pub last_is : Reads 32 (one_of (codes "last") options) last
+  pub last_is : LastIs (one_of (codes "last") options) last
   pub schema_is : schema ≡ first_of (codes "schema") options
   pub dot : IsSet (codes "dot") options
 
@@ -197,10 +210,10 @@ pub record IsNoWord (found : Option (Text × List Row)) (image schema : Option T
 abbrev pub AsksFor : Option (Text × List Row) → Words → Type 0
 AsksFor found (words.Run image schema) = IsNoWord found (option_map (λ path. path.now) image) (option_map (λ path. path.now) schema)
     ⊎ ((options : List Row) × (found ≡ Some (codes "run", options)) × AsksToPlay options (option_map (λ path. path.now) image) (option_map (λ path. path.now) schema))
-AsksFor found (words.Format image schema lanes capacity sectors) =
-    (options : List Row) × (found ≡ Some (codes "format", options)) × AsksToFormat options image.now schema.now lanes capacity sectors
-AsksFor found (words.Show image) =
-    (options : List Row) × (found ≡ Some (codes "show", options)) × (image.now ≡ image_of options) × (IsSet (codes "dot") options → ⊥)
+AsksFor found (words.Format image schema lanes capacity sectors is_forced) =
+    (options : List Row) × (found ≡ Some (codes "format", options)) × AsksToFormat options image.now schema.now lanes capacity sectors is_forced
+AsksFor found (words.Show image last schema) =
+    (options : List Row) × (found ≡ Some (codes "show", options)) × AsksToShow options image.now last (option_map (λ path. path.now) schema)
 AsksFor found (words.Draw image last schema) =
     (options : List Row) × (found ≡ Some (codes "show", options)) × AsksToDraw options image.now last (option_map (λ path. path.now) schema)
 AsksFor found (words.Dump image schema) =
@@ -214,7 +227,7 @@ AsksFor found (words.Drive workers rounds seconds image) =
 
 -- an image file is to be made in the place of its own schema file
 abbrev pub HasOnePath : Words → Type 0
-HasOnePath (words.Format image schema lanes capacity sectors) = image.now ≡ schema.now
+HasOnePath (words.Format image schema lanes capacity sectors is_forced) = image.now ≡ schema.now
 HasOnePath _ = ⊥
 
 -- it is said in two ways how long workers are to work
@@ -222,10 +235,17 @@ abbrev pub HasBothLengths : Words → Type 0
 HasBothLengths (words.Drive workers (Some rounds) (Some seconds) image) = Unit {0}
 HasBothLengths _ = ⊥
 
--- an image is to lie on sectors of other than 512 or 4,096 bytes
+-- an image is to lie on sectors of other than 4,096 bytes
 abbrev pub HasOtherSectors : Words → Type 0
-HasOtherSectors (words.Format image schema lanes capacity (Some bytes)) = (bytes ≢ 512) × (bytes ≢ 4096)
+HasOtherSectors (words.Format image schema lanes capacity (Some bytes) is_forced) = bytes ≢ 4096
 HasOtherSectors _ = ⊥
+
+-- an option is named that does nothing: names for a script in memory, or what a graph has a use for where none is asked for
+abbrev pub HasIdleOptions : Words → Type 0
+HasIdleOptions (words.Run None (Some schema)) = Unit {0}
+HasIdleOptions (words.Show image (Some last) schema) = Unit {0}
+HasIdleOptions (words.Show image None (Some schema)) = Unit {0}
+HasIdleOptions _ = ⊥
 
 -- the words are those of `format`, with one path behind `--image` and `--schema`
 pub record NamesOneFile (texts : List Text) : Type 0 where
@@ -246,15 +266,44 @@ pub record SaysOtherSectors (texts : List Text) : Type 0 where
   pub found : subcommand_of program texts ≡ Some (codes "format", options)
   pub bytes : ℕ
   pub reads : MayRead 32 (one_of (codes "sectors") options) (Some bytes)
-  pub other : (bytes ≢ 512) × (bytes ≢ 4096)
+  pub other : bytes ≢ 4096
 
--- the answer's kind is one that clap gives to such words; or clap takes them, and they are one file's, say two lengths or other sectors
+-- the words are those of `run`, with `--schema` and without `--image`
+pub record NamesNoImage (texts : List Text) : Type 0 where
+  pub options : List Row
+  pub found : subcommand_of program texts ≡ Some (codes "run", options)
+  pub no_image : first_of (codes "image") options ≡ None
+  pub schema : first_of (codes "schema") options ≢ None
+
+-- the words are those of `show`, with `--last` or `--schema` and without `--dot`
+pub record DrawsNothing (texts : List Text) : Type 0 where
+  pub options : List Row
+  pub found : subcommand_of program texts ≡ Some (codes "show", options)
+  pub plain : IsSet (codes "dot") options → ⊥
+  pub idle : (one_of (codes "last") options ≢ None) ⊎ (first_of (codes "schema") options ≢ None)
+
+-- the words name an option that does nothing
+abbrev pub SaysIdleOptions : List Text → Type 0
+SaysIdleOptions texts = NamesNoImage texts ⊎ DrawsNothing texts
+
+-- clap takes such words, and the program doesn't: they are one file's, say two lengths or other sectors, or name an option that does nothing
+abbrev pub ClashesWith : List Text → Type 0
+ClashesWith texts = NamesOneFile texts ⊎ SaysBothLengths texts ⊎ SaysOtherSectors texts ⊎ SaysIdleOptions texts
+
+-- the answer's kind is one that clap gives to such words; or only the program refuses them
 abbrev pub Refuses : List Text → Error → Type 0
 Refuses texts answer = HasKind (fault_of program texts) answer
-    ⊎ ((fault_of program texts ≡ []) × (NamesOneFile texts ⊎ SaysBothLengths texts ⊎ SaysOtherSectors texts) × (kind_of answer ≡ ArgumentConflict))
+    ⊎ ((fault_of program texts ≡ []) × ClashesWith texts × (kind_of answer ≡ ArgumentConflict))
 
--- these words are taken where clap takes them, no file is named twice, no run has two lengths and no sector another size, and else they are refused;
--- or memory was wanting
+-- clap takes the words, no file is named twice, no run has two lengths, no sector another size, and each option does something
+pub record IsTaken (texts : List Text) (asked : Words) : Type 0 where
+  pub well_formed : fault_of program texts ≡ []
+  pub two_files : NamesOneFile texts → ⊥
+  pub one_length : HasBothLengths asked → ⊥
+  pub sectors : HasOtherSectors asked → ⊥
+  pub busy : HasIdleOptions asked → ⊥
+
+-- such words are taken, and else they are refused; or memory was wanting
 abbrev pub IsAnsweredBy : List Text → Result Words Error → Type 0
-IsAnsweredBy texts (Ok asked) = (fault_of program texts ≡ []) × (NamesOneFile texts → ⊥) × (HasBothLengths asked → ⊥) × (HasOtherSectors asked → ⊥)
+IsAnsweredBy texts (Ok asked) = IsTaken texts asked
 IsAnsweredBy texts (Err answer) = Refuses texts answer

@@ -5,7 +5,7 @@ ghost use Rattle.clap.specs.Values.{kind_of};
 ghost use Rattle.clap.specs.Walk.{Rule, first_of, one_of, rows_of, rule_of};
 ghost use Rattle.clap.specs.Matches.{found_of};
 ghost use Rattle.clap.specs.declared.error.kind.ErrorKind.TheVariants.{ArgumentConflict, OutOfMemory};
-ghost use Rattle.command_words.specs.Words.{AsksFor, HasBothLengths, HasOnePath, HasOtherSectors, IsAnsweredBy, IsSet, MayRead, Reads, capacity_option, dot_flag, drive_words, dump_words, file_option, format_words, lanes_option, last_option, path_option, plain_format_words, program, recover_words, rounds_option, run_words, seconds_option, sectors_option, show_words, top as top_words, upgrade_words, workers_option};
+ghost use Rattle.command_words.specs.Words.{AsksFor, HasBothLengths, HasIdleOptions, HasOnePath, HasOtherSectors, IsAnsweredBy, IsSet, LastIs, MayRead, Reads, capacity_option, drive_words, dump_words, file_option, flag_option, format_words, lanes_option, last_option, path_option, plain_format_words, program, recover_words, rounds_option, run_words, seconds_option, sectors_option, show_words, top as top_words, upgrade_words, workers_option};
 
 use clap::error::ErrorKind;
 use clap::{Arg, ArgAction, ArgMatches, Command, Error, value_parser};
@@ -31,13 +31,19 @@ pub enum Words<'a> {
         lanes: u8,
         /// The records that a lane's area holds, 2,000 to 1,048,576.
         capacity: u32,
-        /// The bytes of a sector, 512 or 4,096, where the image is to lie in two places.
+        /// The bytes of a sector, 4,096, where the image is to lie in two places.
         sectors: Option<u32>,
+        /// Whether an image that is there is replaced without being kept beside the new one.
+        is_forced: bool,
     },
     /// To print what an image file holds.
     Show {
         /// The image file's path.
         image: &'a str,
+        /// What only a graph has a use for: [`read_words`] takes no words that name it here.
+        last: Option<u32>,
+        /// The same.
+        schema: Option<&'a str>,
     },
     /// To print the sections of an image file as a graph for Graphviz.
     Draw {
@@ -79,17 +85,28 @@ pub enum Words<'a> {
 }
 
 // What stands at the end of the program's help.
-const EXIT_STATUSES: &str =
-    "Exit status: 0 where all is done; 2 for wrong words, or a schema file or script that is refused; 3 where another process has the image; 1 for every other fault, which standard error tells";
+const EXIT_STATUSES: &str = "\
+Exit status: 0 where all is done; 2 for wrong words, or a schema file or script
+that is refused; 3 where another process has the image; 1 for every other
+fault, which standard error tells";
 
-// What is told of one path for two files, of two lengths for one run, and of other sectors.
+// How many sections of each thread a graph has where nothing is said.
+const LAST: u32 = 50;
+
+// What is told of one path for two files, of two lengths for one run, of other sectors, and of options that do nothing.
 const ONE_PATH: &str =
     "the image and the schema are two files, and '--image' and '--schema' name one";
 
 const BOTH_LENGTHS: &str =
     "'--rounds' and '--seconds' both say how long the threads work: name one of them";
 
-const OTHER_SECTORS: &str = "'--sectors' names the bytes of a sector, which has 512 or 4096";
+const OTHER_SECTORS: &str =
+    "'--sectors' takes 4096: a file is written in pages of 4096 bytes, so that a power failure may tear all smaller sectors of a page at once; type '--sectors 4096'";
+
+const IDLE_SCHEMA: &str =
+    "'--schema' of 'run' names what an image file holds: name the file too, by '--image'";
+
+const IDLE_DOT: &str = "'--last' and '--schema' of 'show' are for a graph: type '--dot' too";
 
 // An option that takes the path of a file, and has to be there.
 fn path<'a>(alloc: Global, name: &'a str, about: &'a str) -> Arg<'a>
@@ -122,7 +139,7 @@ fn capacity<'a>(alloc: Global) -> Arg<'a>
     Arg::new(alloc, "capacity")
         .long("capacity")
         .value_name("N")
-        .help("The records that a thread's log holds, 2000 to 1048576")
+        .help("The records that a thread's log holds,\n2000 to 1048576")
         .value_parser(value_parser!(u32).range(2000..=1_048_576))
         .default_value("4000")
 }
@@ -158,7 +175,7 @@ fn rounds<'a>(alloc: Global) -> Arg<'a>
         .long("rounds")
         .value_name("N")
         .help(
-            "The sections that each thread works, 1 to 10000, in place of --seconds. 1000 without either",
+            "The sections that each thread works, 1 to 10000,\nin place of --seconds. 1000 without either",
         )
         .value_parser(value_parser!(u32).range(1..=10_000))
 }
@@ -171,7 +188,7 @@ fn seconds<'a>(alloc: Global) -> Arg<'a>
         .long("seconds")
         .value_name("N")
         .help(
-            "How long the threads work, 1 to 3600 seconds, in place of --rounds. In memory, what they write is kept",
+            "How long the threads work, 1 to 3600 seconds,\nin place of --rounds. In memory, what they write\nis kept",
         )
         .value_parser(value_parser!(u32).range(1..=3_600))
 }
@@ -183,18 +200,20 @@ fn last<'a>(alloc: Global) -> Arg<'a>
     Arg::new(alloc, "last")
         .long("last")
         .value_name("N")
-        .help("With --dot: how many sections of each thread are drawn at most, the last ones")
+        .help(
+            "With --dot: how many sections of each thread are\ndrawn at most, the last ones. 50 without this",
+        )
         .value_parser(value_parser!(u32).range(1..=1_000_000_000))
-        .default_value("50")
 }
 
-fn dot<'a>(alloc: Global) -> Arg<'a>
-    ensures rule { rule_of result ≡ dot_flag }
+// An option that is met or isn't.
+fn flag<'a>(alloc: Global, name: &'a str, about: &'a str) -> Arg<'a>
+    ensures rule { rule_of result ≡ flag_option name.entry.now }
     ensures own { result.global ≡ false }
 {
-    Arg::new(alloc, "dot")
-        .long("dot")
-        .help("Prints its sections as a graph for Graphviz, and nothing else")
+    Arg::new(alloc, name)
+        .long(name)
+        .help(about)
         .action(ArgAction::SetTrue)
 }
 
@@ -206,7 +225,7 @@ fn sectors<'a>(alloc: Global) -> Arg<'a>
         .long("sectors")
         .value_name("BYTES")
         .help(
-            "Keeps the image in two places, for a disk that may lose a sector that it was writing at a power failure: the bytes of a sector, 512 or 4096. In one place without this",
+            "Keeps the image in two places, for a disk that may\nlose a sector that it was writing at a power\nfailure: the bytes of a sector, 4096. In one place\nwithout this",
         )
         .value_parser(value_parser!(u32).range(512..=4096))
 }
@@ -250,10 +269,10 @@ fn plain_format<'a>(alloc: Global) -> Result<Command<'a>, AllocError>
     let image = path(
         alloc,
         "image",
-        "The image file to make, at another path than the schema file",
+        "The image file to make, at another path than the\nschema file",
     );
     let command = Command::new(alloc, "format").about(
-        "Makes an image file for the objects and fields of a schema file, and replaces an image that is there",
+        "Makes an image file for the objects and fields of a schema file. An image\nthat is there is kept beside it, at the path with '~' at its end",
     );
     let command = with_option(Ok(command), image);
     let command = with_option(command, path(alloc, "schema", "The schema file"));
@@ -264,7 +283,8 @@ fn plain_format<'a>(alloc: Global) -> Result<Command<'a>, AllocError>
 fn format<'a>(alloc: Global) -> Result<Command<'a>, AllocError>
     ensures { IfOk result (λ command. app_of command ≡ format_words) }
 {
-    with_option(plain_format(alloc), sectors(alloc))
+    let force = flag(alloc, "force", "Keeps nothing of an image that is there");
+    with_option(with_option(plain_format(alloc), sectors(alloc)), force)
 }
 
 fn show<'a>(alloc: Global) -> Result<Command<'a>, AllocError>
@@ -273,13 +293,18 @@ fn show<'a>(alloc: Global) -> Result<Command<'a>, AllocError>
     let schema = file(
         alloc,
         "schema",
-        "With --dot: the schema file of the image, for names. Numbers without this",
+        "With --dot: the schema file of the image, for names.\nNumbers without this",
     );
     let command = Command::new(alloc, "show").about(
         "Prints what an image file holds, and leaves the file as it is",
     );
     let command = with_option(Ok(command), path(alloc, "image", "The image file to read"));
-    let command = with_option(command, dot(alloc));
+    let dot = flag(
+        alloc,
+        "dot",
+        "Prints its sections as a graph for Graphviz, and\nnothing else",
+    );
+    let command = with_option(command, dot);
     let command = with_option(command, last(alloc));
     with_option(command, schema)
 }
@@ -290,10 +315,10 @@ fn dump<'a>(alloc: Global) -> Result<Command<'a>, AllocError>
     let schema = file(
         alloc,
         "schema",
-        "The schema file of the image, for names. Without this they are o0 and f0, and so on",
+        "The schema file of the image, for names. Without\nthis they are o0 and f0, and so on",
     );
     let command = Command::new(alloc, "dump").about(
-        "Prints a schema file whose first values are those that 'recover' gives, and leaves the image file as it is: 'format' of it, with more lines at its end or none, makes an image with the same heap",
+        "Prints a schema file whose first values are those that 'recover' gives,\nand leaves the image file as it is: 'format' of it, with more lines at\nits end or none, makes an image with the same heap",
     );
     let command = with_option(Ok(command), path(alloc, "image", "The image file to read"));
     with_option(command, schema)
@@ -304,7 +329,7 @@ fn recover<'a>(alloc: Global) -> Result<Command<'a>, AllocError>
 {
     Command::new(alloc, "recover")
         .about(
-            "Recovers an image file after a crash, and prints what was kept and dropped. Where the report must not be lost, run 'show' first",
+            "Recovers an image file after a crash, and prints what was kept and\ndropped. Where the report must not be lost, run 'show' first",
         )
         .arg(path(alloc, "image", "The image file to recover"))
 }
@@ -314,7 +339,7 @@ fn upgrade<'a>(alloc: Global) -> Result<Command<'a>, AllocError>
 {
     Command::new(alloc, "upgrade")
         .about(
-            "Makes an image file that an older release left one of this release, in place: recovers it, and prints what was kept and dropped",
+            "Makes an image file that an older release left one of this release, in\nplace: recovers it, and prints what was kept and dropped",
         )
         .arg(path(alloc, "image", "The image file to upgrade"))
 }
@@ -325,10 +350,10 @@ fn drive<'a>(alloc: Global) -> Result<Command<'a>, AllocError>
     let image = file(
         alloc,
         "image",
-        "The image file on which they work: made where it is missing or empty, and else gone on with. In memory without this",
+        "The image file on which they work: made where it is\nmissing or empty, and else gone on with. In memory\nwithout this",
     );
     let command = Command::new(alloc, "drive").about(
-        "Lets threads count on one heap, and prints how many sections of each are acknowledged, and what they have counted",
+        "Lets threads count on one heap, and prints how many sections of each are\nacknowledged, and what they have counted",
     );
     let command = with_option(Ok(command), workers(alloc));
     let command = with_option(command, rounds(alloc));
@@ -342,15 +367,15 @@ fn run<'a>(alloc: Global) -> Result<Command<'a>, AllocError>
     let image = file(
         alloc,
         "image",
-        "The image file to play the script over. In memory without this",
+        "The image file to play the script over. In memory\nwithout this",
     );
     let schema = file(
         alloc,
         "schema",
-        "With --image: the schema file of the image, for names. Without this they are o0 and f0, and so on",
+        "With --image: the schema file of the image, for\nnames. Without this they are o0 and f0, and so on",
     );
     let command = Command::new(alloc, "run").about(
-        "Plays the script on standard input, as no word at all does too. With --image it is played over an image file: the file is recovered, what the lines leave of it takes its place, and then the report and what they print is printed; where that can't be done, nothing is, and the file stays as it was",
+        "Plays the script on standard input, as no word at all does too. With\n--image it is played over an image file: the file is recovered, what the\nlines leave of it takes its place, and then the report and what they\nprint is printed; where that can't be done, nothing is, and the file\nstays as it was",
     );
     with_option(with_option(Ok(command), image), schema)
 }
@@ -383,7 +408,8 @@ fn command<'a>(alloc: Global) -> Result<Command<'a>, AllocError>
 /// An `Err` holds the text to print: for wrong words what is wrong, for `--help` and `--version` what they ask for. Its
 /// kind is `OutOfMemory` where there was no memory. `format` with one path for the image and for the schema, which would
 /// be replaced, is an `ArgumentConflict`: paths are compared as they are written. `drive` with both `--rounds` and `--seconds` is one too,
-/// and `format` with sectors of other than 512 or 4,096 bytes.
+/// `format` with sectors of other than 4,096 bytes, and an option that does nothing: `--schema` of `run` without `--image`, and `--last`
+/// or `--schema` of `show` without `--dot`.
 pub fn read_words<'a>(alloc: Global, words: &'a [String]) -> Result<Words<'a>, Error>
     ensures exact { IsAnsweredBy (map (λ s. string_bytes s) words.entry.now) result }
     ensures asked { IfOk result (λ asked. AsksFor (subcommand_of program (map (λ s. string_bytes s) words.entry.now)) asked) }
@@ -407,6 +433,9 @@ pub fn read_words<'a>(alloc: Global, words: &'a [String]) -> Result<Words<'a>, E
     }
     if has_other_sectors(&asked) {
         return Err(conflict(alloc, OTHER_SECTORS)?);
+    }
+    if has_idle_options(&asked) {
+        return Err(conflict(alloc, idle_text(&asked))?);
     }
     Ok(asked)
 }
@@ -443,8 +472,35 @@ fn has_other_sectors(words: &Words<'_>) -> bool
         Words::Format {
             sectors: Some(bytes),
             ..
-        } => *bytes != 512 && *bytes != 4096,
+        } => *bytes != 4096,
         _ => false,
+    }
+}
+
+// The words name an option that does nothing.
+fn has_idle_options(words: &Words<'_>) -> bool
+    ensures { IsTrue result ↔ HasIdleOptions words.now }
+{
+    match words {
+        Words::Run {
+            image: None,
+            schema: Some(_),
+        } => true,
+        Words::Show { last: Some(_), .. } => true,
+        Words::Show {
+            last: None,
+            schema: Some(_),
+            ..
+        } => true,
+        _ => false,
+    }
+}
+
+// What is told of it.
+fn idle_text(words: &Words<'_>) -> &'static str {
+    match words {
+        Words::Run { .. } => IDLE_SCHEMA,
+        _ => IDLE_DOT,
     }
 }
 
@@ -469,17 +525,22 @@ fn asked_by<'a>(matches: &ArgMatches<'a>) -> Words<'a>
             lanes: byte_of(found, "lanes"),
             capacity: number_of(found, "capacity"),
             sectors: found_number(found, "sectors"),
+            is_forced: is_set(found, "force"),
         },
         Some(("show", found)) => {
             let image = text_of(found, "image");
             if is_set(found, "dot") {
                 Words::Draw {
                     image,
-                    last: number_of(found, "last"),
+                    last: last_of(found),
                     schema: found_text(found, "schema"),
                 }
             } else {
-                Words::Show { image }
+                Words::Show {
+                    image,
+                    last: found_number(found, "last"),
+                    schema: found_text(found, "schema"),
+                }
             }
         }
         Some(("recover", found)) => Words::Recover {
@@ -546,6 +607,13 @@ fn found_number(found: &ArgMatches<'_>, name: &str) -> Option<u32>
     ensures { MayRead 32 (one_of name.now (rows_of (found_of found.now))) result }
 {
     found.get_one::<u32>(name)
+}
+
+// How many sections are drawn.
+fn last_of(found: &ArgMatches<'_>) -> u32
+    ensures { LastIs (one_of (codes "last") (rows_of (found_of found.now))) result }
+{
+    found_number(found, "last").unwrap_or(LAST)
 }
 
 // The flag was met.

@@ -1,11 +1,14 @@
 -- The size of an image, and what is said where none is made.
-use Rattle.std.proofs.Common.{ℕ, ◌≡◌, ◌+◌, ◌*◌, List, Option, ap, sym, ◌∙◌, inl, inr}
+use Rattle.std.proofs.Common.{ℕ, ◌≡◌, ◌+◌, ◌*◌, List, Option, ap, refl, sym, ◌∙◌, inl, inr}
 use Rattle.store_image.specs.Formatting.{AreLimits, layout_with}
-use Rattle.declarations.specs.SchemaFiles.{DeclaresSchema}
+use Rattle.declarations.specs.SchemaFiles.{DeclaresSchema, RefusesSchema}
+use Rattle.declarations.specs.declared.schema_fault.SchemaFault.{SchemaFault}
+use Rattle.declarations.specs.declared.schema_fault.SchemaFaultKind.{SchemaFaultKind}
+use Rattle.declarations.specs.declared.schema_fault.SchemaFaultKind.TheVariants as kinds
 use Rattle.guards.specs.Schema.{Declarations}
 use Rattle.image.specs.Layout.{IsLayoutOf, size_of}
 use Rattle.image.specs.declared.layout.Layout.{Layout}
-use Rattle.image_file.specs.Formatting.{IsBeforeFile, MayBlameNumbers, PrintsLess, PrintsLessOf, RefusesImage}
+use Rattle.image_file.specs.Formatting.{IsBeforeFile, MayBlameNumbers, PrintsLess, PrintsLessOf, RefusesImage, told_by_kind, told_of_schema}
 use Rattle.image_file.specs.declared.error.FormatError.{FormatError}
 use Rattle.image_file.specs.declared.error.FormatError.TheVariants as errors
 
@@ -41,3 +44,19 @@ blames old new lanes capacity errors.NotImage refused = tt
 pub less : (declared : Declarations → Type 0) (lanes capacity : ℕ) (old new : Option (List ℕ)) → PrintsLessOf declared lanes capacity old new → PrintsLess lanes capacity old new
 less declared lanes capacity old new (inl silent) = inl silent
 less declared lanes capacity old new (inr part) = inr record { schema = part.schema; so = tt; limits = part.limits; printed = part.printed }
+
+-- the schema file is refused
+by_kind : (old new : Option (List ℕ)) (lanes capacity : ℕ) (kind : SchemaFaultKind) (fault : SchemaFault) → fault.why ≡ kind → RefusesSchema old new fault
+    → RefusesImage old new lanes capacity (told_by_kind kind fault)
+by_kind old new lanes capacity kinds.Read fault is refused = tt
+by_kind old new lanes capacity kinds.Memory fault is refused = tt
+by_kind old new lanes capacity kinds.Syntax fault is refused = (refused, ap (λ k. told_by_kind k fault) is)
+by_kind old new lanes capacity kinds.NotText fault is refused = (refused, ap (λ k. told_by_kind k fault) is)
+by_kind old new lanes capacity kinds.TooLong fault is refused = (refused, ap (λ k. told_by_kind k fault) is)
+by_kind old new lanes capacity kinds.Empty fault is refused = (refused, ap (λ k. told_by_kind k fault) is)
+by_kind old new lanes capacity kinds.DoubleName fault is refused = (refused, ap (λ k. told_by_kind k fault) is)
+by_kind old new lanes capacity kinds.Unknown fault is refused = (refused, ap (λ k. told_by_kind k fault) is)
+by_kind old new lanes capacity kinds.TooMany fault is refused = (refused, ap (λ k. told_by_kind k fault) is)
+
+pub schema_refused : (old new : Option (List ℕ)) (lanes capacity : ℕ) (fault : SchemaFault) → RefusesSchema old new fault → RefusesImage old new lanes capacity (told_of_schema fault)
+schema_refused old new lanes capacity fault refused = by_kind old new lanes capacity fault.why fault refl refused

@@ -1,5 +1,5 @@
 mod FormatLemmas
-pub mod HeldLemmas
+pub mod PlaceLemmas
 mod RefusalLemmas
 mod ReportLemmas
 mod ShowingLemmas

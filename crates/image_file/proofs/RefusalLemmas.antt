@@ -1,11 +1,9 @@
 -- What is told of an image that isn't recovered, by the versions that are taken.
-use Rattle.std.proofs.Common.{ℕ, ◌≡◌, Option, None, Some, inl, inr}
-use Rattle.file_disk.specs.Backing.{Held}
-use Rattle.file_disk.specs.Mirror.{Mirror}
+use Rattle.std.proofs.Common.{ℕ, List}
+use Rattle.recover.specs.Recovery.{RefusesOf}
 use Rattle.recover.specs.declared.error.RecoverError.{RecoverError}
 use Rattle.recover.specs.declared.error.RecoverError.TheVariants.{Fault, NotFormatted, BadHeader, TooSmall, NoControl, BadControl, OldVersion, Worn, BadRecord, IllegalLog, NoMemory}
 use Rattle.recover.specs.declared.versions.Versions.{Versions}
-use Rattle.image_file.specs.Recovering.{RefusesHeld}
 use Rattle.image_file.specs.Showing.{told_of_attaching}
 use Rattle.image_file.specs.Telling.{MayBeRefusedBy}
 use Rattle.image_file.specs.declared.error.FileFault.{FileFault}
@@ -20,18 +18,15 @@ not_had versions files.InUse = tt
 not_had versions files.NotImage = tt
 
 -- it is refused
-pub not_taken : (versions : Versions) (file : Option Held) (why : RecoverError) (disk : Option Mirror) → RefusesHeld versions file disk why
-    → MayBeRefusedBy versions (images.Image why)
-not_taken versions file OldVersion None (inl is) = absurd cc
-not_taken versions file OldVersion None (inr is) = absurd cc
-not_taken versions file OldVersion (Some disk) h = (h.image, h.refused)
-not_taken versions file Fault disk h = tt
-not_taken versions file NotFormatted disk h = tt
-not_taken versions file BadHeader disk h = tt
-not_taken versions file TooSmall disk h = tt
-not_taken versions file NoControl disk h = tt
-not_taken versions file BadControl disk h = tt
-not_taken versions file Worn disk h = tt
-not_taken versions file (BadRecord lane place) disk h = tt
-not_taken versions file (IllegalLog lane place) disk h = tt
-not_taken versions file NoMemory disk h = tt
+pub not_taken : (versions : Versions) (image : List ℕ) (why : RecoverError) → RefusesOf versions image why → MayBeRefusedBy versions (images.Image why)
+not_taken versions image OldVersion refused = (image, refused)
+not_taken versions image Fault refused = tt
+not_taken versions image NotFormatted refused = tt
+not_taken versions image BadHeader refused = tt
+not_taken versions image TooSmall refused = tt
+not_taken versions image NoControl refused = tt
+not_taken versions image BadControl refused = tt
+not_taken versions image Worn refused = tt
+not_taken versions image (BadRecord lane place) refused = tt
+not_taken versions image (IllegalLog lane place) refused = tt
+not_taken versions image NoMemory refused = tt

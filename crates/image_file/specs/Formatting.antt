@@ -1,5 +1,5 @@
 -- What making an image for the schema of a file gives and refuses (docs/SCRIPTS.md, "The program's fault texts").
-use Rattle.std.specs.Prelude.{◌≡◌, ◌⊎◌, ℕ, List, [], ◌∷◌, Option, codes, replicate}
+use Rattle.std.specs.Prelude.{◌≡◌, ◌⊎◌, ℕ, List, [], ◌∷◌, Option, IfSome, codes, replicate}
 use Rattle.std.specs.Fmt.{decimal}
 use Rattle.std.specs.Io.KnownBytes.{Appends}
 use Rattle.block_disk.specs.Device.{Device, new_device}
@@ -7,6 +7,8 @@ use Rattle.file_disk.specs.declared.error.FileError.{FileError}
 use Rattle.file_disk.specs.declared.error.FileError.TheVariants as disks
 use Rattle.sector_disk.specs.declared.error.PlacesError.{PlacesError}
 use Rattle.sector_disk.specs.declared.error.PlacesError.TheVariants as places
+use Rattle.sector_disk.specs.declared.size.SectorSize.{SectorSize}
+use Rattle.sector_file.specs.ImageDisks.{room_for}
 use Rattle.guards.specs.Schema.{Declarations}
 use Rattle.image.specs.Calls.{after}
 use Rattle.image.specs.Format.{format_calls}
@@ -19,6 +21,8 @@ use Rattle.declarations.specs.declared.schema_fault.SchemaFault.{SchemaFault}
 use Rattle.declarations.specs.declared.schema_fault.SchemaFaultKind.{SchemaFaultKind}
 use Rattle.declarations.specs.declared.schema_fault.SchemaFaultKind.TheVariants as kinds
 use Rattle.declarations.specs.SchemaFiles.{DeclaresSchema, RefusesSchema}
+use Rattle.image_file.specs.Images.{IsThere, Stays}
+use Rattle.image_file.specs.declared.new_image.NewImage.{NewImage}
 use Rattle.image_file.specs.declared.error.FileFault.{FileFault}
 use Rattle.image_file.specs.declared.error.FileFault.TheVariants as files
 use Rattle.image_file.specs.declared.error.FormatError.{FormatError}
@@ -51,18 +55,23 @@ told_of_file files.NoMemory = errors.NoMemory
 told_of_file files.InUse = errors.InUse
 told_of_file files.NotImage = errors.NotImage
 
--- the device holds the image of this schema with so many lanes of so many records. It had the image's size, and all its bytes were zero
-pub record IsImageFor (schema : Declarations) (lanes capacity : ℕ) (layout : Layout) (d : Device) : Type 0 where
-  pub limits : AreLimits lanes capacity
-  pub layout_is : layout ≡ layout_with schema lanes capacity
-  pub made : d ≡ after (format_calls layout schema) (new_device (replicate (size_of layout) 0))
+-- the device holds the image of this schema that was asked for. It had room for it, and all its bytes were zero
+pub record IsImageFor (schema : Declarations) (asked : NewImage) (layout : Layout) (d : Device) : Type 0 where
+  pub limits : AreLimits asked.lanes asked.capacity
+  pub layout_is : layout ≡ layout_with schema asked.lanes asked.capacity
+  pub made : d ≡ after (format_calls layout schema) (new_device (replicate (room_for asked.sectors (size_of layout)) 0))
 
--- what was read of the schema file, by what the reader had left before and has left now: the file declares a schema, and the device
--- holds its image
-pub record MakesImage (old new : Option (List ℕ)) (lanes capacity : ℕ) (layout : Layout) (d : Device) : Type 0 where
-  pub schema : Declarations
-  pub declares : DeclaresSchema old new schema
-  pub image : IsImageFor schema lanes capacity layout d
+-- such an image lies as was asked, where it is known how it lies
+abbrev pub LiesSo : NewImage → Option (Option SectorSize) → Type 0
+LiesSo asked lies = IfSome lies (λ there. there ≡ asked.sectors)
+
+-- the image that was there is there still, or a whole new one of this schema is
+abbrev pub StaysOrIsMade : (schema : Declarations) (asked : NewImage) (had has : Option (List ℕ)) → Type 0
+StaysOrIsMade schema asked had has = Stays had has ⊎ ((layout : Layout) × (d : Device) × IsImageFor schema asked layout d × IsThere d.now.bytes has)
+
+-- the same where it isn't known of which schema
+abbrev pub MayBeMade : (asked : NewImage) (had has : Option (List ℕ)) → Type 0
+MayBeMade asked had has = Stays had has ⊎ ((schema : Declarations) × (layout : Layout) × (d : Device) × IsImageFor schema asked layout d × IsThere d.now.bytes has)
 
 -- the line that tells an image's size, in bytes
 abbrev pub formatted_line : ℕ → List ℕ
@@ -72,11 +81,20 @@ formatted_line size = line (codes "formatted " ∷ decimal size ∷ [])
 abbrev pub PrintsSize : ℕ → (old new : Option (List ℕ)) → Type 0
 PrintsSize size old new = Appends old new (formatted_line size)
 
--- the size of an image with so many lanes of so many records was written
-pub record PrintsImage (lanes capacity : ℕ) (old new : Option (List ℕ)) : Type 0 where
+-- the image that was asked for is there, of a schema that is one of these, and its size was written
+pub record FormatsAt (declared : Declarations → Type 0) (asked : NewImage) (has : Option (List ℕ)) (lies : Option (Option SectorSize)) (old new : Option (List ℕ)) : Type 0 where
   pub schema : Declarations
-  pub limits : AreLimits lanes capacity
-  pub printed : PrintsSize (size_of (layout_with schema lanes capacity)) old new
+  pub so : declared schema
+  pub layout : Layout
+  pub device : Device
+  pub image : IsImageFor schema asked layout device
+  pub there : IsThere device.now.bytes has
+  pub lies_so : LiesSo asked lies
+  pub printed : PrintsSize (size_of layout) old new
+
+-- the same where it isn't known of which schema
+abbrev pub MakesAt : (asked : NewImage) (has : Option (List ℕ)) (lies : Option (Option SectorSize)) (old new : Option (List ℕ)) → Type 0
+MakesAt asked has lies old new = FormatsAt (λ schema. Unit {0}) asked has lies old new
 
 -- a beginning of that line was written, and not all. The schema is one of these
 pub record PrintsPart (declared : Declarations → Type 0) (lanes capacity : ℕ) (old new : Option (List ℕ)) : Type 0 where

@@ -1,4 +1,5 @@
 -- The promise: what public clauses state.
+pub mod Images
 pub mod Formatting
 pub mod Telling
 pub mod Recovering

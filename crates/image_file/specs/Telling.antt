@@ -22,11 +22,7 @@ Tells text old new = (image : List ℕ) × Inspects text image old new
 abbrev pub TellsLess : (text : Study → List ℕ) → (old new : Option (List ℕ)) → Type 0
 TellsLess text old new = Appends old new [] ⊎ ((image : List ℕ) × InspectsPart text image old new)
 
--- the report on some image was written, which is of one of these versions
-abbrev pub TellsOfVersions : (versions : Versions) → (old new : Option (List ℕ)) → Type 0
-TellsOfVersions versions old new = (image : List ℕ) × (IsTooOld versions image → ⊥) × Inspects report_of image old new
-
--- nothing was written, or a beginning of it
+-- nothing was written, or a beginning of the report on some image, which is of one of these versions
 abbrev pub TellsLessOfVersions : (versions : Versions) → (old new : Option (List ℕ)) → Type 0
 TellsLessOfVersions versions old new = Appends old new [] ⊎ ((image : List ℕ) × (IsTooOld versions image → ⊥) × InspectsPart report_of image old new)
 

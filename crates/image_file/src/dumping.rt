@@ -35,8 +35,12 @@ pub fn dump_image<S: Read, W: Write>(
     given: Option<Schema>,
     writer: &mut W,
 ) -> Result<(), NamedFault>
-    ensures ok { OnOk result (DumpsRead given (S.remaining reader.old) (S.remaining reader.new) (W.contents writer.old) (W.contents writer.new)) }
-    ensures refused { IfErr result (RefusesToDump given (S.remaining reader.old) (S.remaining reader.new) (W.contents writer.old) (W.contents writer.new)) }
+    ensures ok { OnOk result
+        (DumpsRead given (S.remaining reader.old) (S.remaining reader.new) (W.contents writer.old)
+        (W.contents writer.new)) }
+    ensures refused { IfErr result
+        (RefusesToDump given (S.remaining reader.old) (S.remaining reader.new)
+        (W.contents writer.old) (W.contents writer.new)) }
 {
     let mut disk = match read_image(alloc, reader, room) {
         Ok(disk) => disk,
@@ -70,9 +74,14 @@ pub fn dump_file<F: BackingFile + Read + Drop, R: Files<File = F>, W: Write>(
     schema_path: Option<&str>,
     writer: &mut W,
 ) -> Result<(), NamedFault>
-    ensures printed { OnOk result (TellsNamed dump_text schema_path.entry (W.contents writer.old) (W.contents writer.new)) }
-    ensures silent { IfErr result (λ error. error ≢ Image (images.Image Fault) → Appends (W.contents writer.old) (W.contents writer.new) []) }
-    ensures part { OnErr result (TellsLessNamed dump_text schema_path.entry (W.contents writer.old) (W.contents writer.new)) }
+    ensures printed { OnOk result
+        (TellsNamed dump_text schema_path.entry (W.contents writer.old) (W.contents writer.new)) }
+    ensures silent { IfErr result
+        (λ error. error ≢ Image (images.Image Fault) → Appends (W.contents writer.old)
+        (W.contents writer.new) []) }
+    ensures part { OnErr result
+        (TellsLessNamed dump_text schema_path.entry (W.contents writer.old)
+        (W.contents writer.new)) }
 {
     let given = match schema_at(rt, alloc, trouble, schema_path) {
         Ok(given) => given,

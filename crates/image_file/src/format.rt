@@ -1,132 +1,178 @@
 //! Making an image for the schema of a file.
-ghost use Rattle.std.specs.Prelude.{◌≡◌, [], true, IfErr, IfOk, OnErr, OnOk};
+ghost use Rattle.std.specs.Prelude.{◌≡◌, [], IfErr, IfOk, IfSome, OnErr, OnOk};
 ghost use Rattle.std.specs.Io.KnownBytes.{Appends};
 ghost use Rattle.declarations.specs.SchemaFiles.{DeclaresSchema};
 ghost use Rattle.image.specs.Layout.{size_of};
 ghost use Rattle.inspect.specs.Written.{AppendsPart};
 ghost use Rattle.image_file.specs.declared.error.FormatError.TheVariants.{BadHeader, Fault};
 ghost use Rattle.store_image.specs.Formatting.{AreLimits, layout_with};
-ghost use Rattle.image_file.specs.Formatting.{IsBeforeFile, IsImageFor, IsSilent, MakesImage, MayBlameNumbers, PrintsImage, PrintsLess, PrintsLessOf, PrintsSize, RefusesImage, formatted_line};
+ghost use Rattle.image_file.specs.Images.{IsThere};
+ghost use Rattle.image_file.specs.Formatting.{FormatsAt, IsBeforeFile, IsImageFor, IsSilent, LiesSo, MakesAt, MayBeMade, MayBlameNumbers, PrintsLess, PrintsLessOf, PrintsSize, RefusesImage, StaysOrIsMade, formatted_line, told_of_schema};
 
-use crate::disk_maker::DiskMaker;
 use crate::error::{FileFault, FormatError};
-use crate::new_file::NewFile;
+use crate::images::Images;
+use crate::new_image::NewImage;
 use crate::trouble::{Place, Trouble};
 use crate::watched::Watched;
 use block_disk::Disk;
-use declarations::read_schema;
+use declarations::{SchemaFault, read_schema};
 use durable::Store;
-use file_disk::BackingFile;
 use guards::Schema;
-use image::{ImageError, Layout, Recovered};
+use image::{ImageError, Layout};
 use inspect::{Piece, WriteError, put_line};
-use sector_disk::SectorSize;
 use std::alloc::Global;
 use std::fs;
-use std::fs::OpenFile;
 use std::io::{Read, Write};
 use std::rt::Files;
 
-/// Makes an image of a device that is made for it, for the schema that `reader` has, and writes `formatted` and the
-/// image's size.
+/// Makes an image at a path for the schema that `reader` has, and writes `formatted` and the image's size.
 ///
 /// Refusals, in this order:
 /// - `Schema`: the schema is refused; `Fault` or `NoMemory` where it could not be read;
-/// - `BadHeader`: `lanes` isn't 1 to 32, or `capacity` isn't 2,000 to 1,048,576. No device was asked for until here;
-/// - `InUse`, `NotImage`, `Fault` and `NoMemory`: there is no device, or no whole image on it, or it isn't put in its place;
+/// - those of [`make_image`];
 /// - `Fault`: the line was not written whole. The image is in its place, and a beginning of the line is written.
-pub fn format_image<D: Disk + Drop, S: Read, M: DiskMaker<D>, W: Write>(
+pub fn format_image<D: Disk + Drop, P: Images<Medium = D>, S: Read, W: Write>(
+    images: &mut P,
     alloc: Global,
+    path: &str,
     reader: &mut S,
-    maker: &mut M,
-    lanes: u8,
-    capacity: u32,
+    new: NewImage,
     writer: &mut W,
-) -> Result<Recovered<D>, FormatError>
-    ensures ok { IfOk result (λ made. MakesImage (S.remaining reader.old) (S.remaining reader.new) lanes capacity made.layout (D.device made.disk)) }
-    ensures printed { IfOk result (λ made. PrintsSize (size_of made.layout) (W.contents writer.old) (W.contents writer.new)) }
-    ensures placed { OnOk result (M.is_placed maker.new ≡ true) }
-    ensures refused { IfErr result (λ error. RefusesImage (S.remaining reader.old) (S.remaining reader.new) lanes capacity error) }
-    ensures no_device { IfErr result (λ error. IsBeforeFile error → M.is_used maker.new ≡ M.is_used maker.old) }
-    ensures silent { IfErr result (λ error. IsSilent error → Appends (W.contents writer.old) (W.contents writer.new) []) }
-    ensures part { OnErr result (PrintsLessOf (DeclaresSchema (S.remaining reader.old) (S.remaining reader.new)) lanes capacity (W.contents writer.old) (W.contents writer.new)) }
+) -> Result<(), FormatError>
+    ensures ok { OnOk result (FormatsAt (DeclaresSchema (S.remaining reader.old) (S.remaining reader.new)) new (P.holds images.new path.now) (P.lies images.new path.now)
+        (W.contents writer.old) (W.contents writer.new)) }
+    ensures kept { OnErr result
+        (MayBeMade new (P.holds images.old path.now) (P.holds images.new path.now)) }
+    ensures refused { IfErr result
+        (λ error. RefusesImage (S.remaining reader.old) (S.remaining reader.new) new.lanes
+        new.capacity error) }
+    ensures untouched { IfErr result (λ error. IsBeforeFile error → images.new ≡ images.old) }
+    ensures silent { IfErr result
+        (λ error. IsSilent error → Appends (W.contents writer.old) (W.contents writer.new) []) }
+    ensures part { OnErr result (PrintsLessOf (DeclaresSchema (S.remaining reader.old) (S.remaining reader.new)) new.lanes new.capacity
+        (W.contents writer.old) (W.contents writer.new)) }
 {
-    let schema = read_schema(alloc, reader)?;
-    let tried = make_image(alloc, &schema, maker, lanes, capacity);
+    let schema = match read_schema(alloc, reader) {
+        Ok(schema) => schema,
+        Err(fault) => return Err(told(fault)),
+    };
+    let tried = make_image(images, alloc, path, &schema, new);
     drop(schema);
-    let made = match tried {
+    let (disk, layout) = match tried {
         Ok(made) => made,
         Err(error) => return Err(error),
     };
-    match print_size(made.layout().size(), writer) {
-        Ok(()) => Ok(made),
-        Err(error) => {
-            drop(made);
-            Err(error)
+    drop(disk);
+    match print_size(layout.size(), writer) {
+        Ok(()) => Ok(()),
+        Err(error) => Err(error),
+    }
+}
+
+/// Makes an image for this schema of a disk that is made for it, and puts it in the place of what is at the path. Its disk is given, and its
+/// layout.
+///
+/// Refusals, in this order:
+/// - `BadHeader`: `lanes` isn't 1 to 32, or `capacity` isn't 2,000 to 1,048,576. No disk was asked for until here;
+/// - `InUse`, `NotImage`, `Fault` and `NoMemory`: there is no disk, or no whole image on it, or it isn't put in its place.
+pub fn make_image<D: Disk + Drop, P: Images<Medium = D>>(
+    images: &mut P,
+    alloc: Global,
+    path: &str,
+    schema: &Schema,
+    new: NewImage,
+) -> Result<(D, Layout), FormatError>
+    ensures ok { IfOk result (λ made. IsImageFor schema.now new made.1 (D.device made.0)) }
+    ensures there { IfOk result
+        (λ made. IsThere (D.device made.0).now.bytes (P.holds images.new path.now)) }
+    ensures lies { OnOk result (LiesSo new (P.lies images.new path.now)) }
+    ensures bad_header { IfErr result
+        (λ error. IsBeforeFile error → (error ≡ BadHeader) ×
+        (AreLimits new.lanes new.capacity → ⊥)) }
+    ensures untouched { IfErr result (λ error. IsBeforeFile error → images.new ≡ images.old) }
+    ensures kept { OnErr result
+        (StaysOrIsMade schema.now new (P.holds images.old path.now) (P.holds images.new path.now)) }
+{
+    let Some(layout) = Layout::of(schema, new.lanes, new.capacity) else {
+        return Err(FormatError::BadHeader);
+    };
+    match make_in_place(images, alloc, path, schema, new, layout.size()) {
+        Ok(made) => Ok(made),
+        Err(fault) => {
+            images.give_up(path);
+            Err(FormatError::from(fault))
         }
     }
 }
 
-/// Makes an image for this schema of a device that is made for it, and puts it in its place.
-///
-/// Refusals, in this order:
-/// - `BadHeader`: `lanes` isn't 1 to 32, or `capacity` isn't 2,000 to 1,048,576. No device was asked for;
-/// - `InUse`, `NotImage`, `Fault` and `NoMemory`: there is no device, or no whole image on it, or it isn't put in its place.
-pub fn make_image<D: Disk + Drop, M: DiskMaker<D>>(
-    alloc: Global,
-    schema: &Schema,
-    maker: &mut M,
-    lanes: u8,
-    capacity: u32,
-) -> Result<Recovered<D>, FormatError>
-    ensures ok { IfOk result (λ made. IsImageFor schema.now lanes capacity made.layout (D.device made.disk)) }
-    ensures placed { OnOk result (M.is_placed maker.new ≡ true) }
-    ensures bad_header { IfErr result (λ error. IsBeforeFile error → (error ≡ BadHeader) × (AreLimits lanes capacity → ⊥)) }
-    ensures no_device { IfErr result (λ error. IsBeforeFile error → M.is_used maker.new ≡ M.is_used maker.old) }
+// How it is told that the schema file is refused.
+fn told(fault: SchemaFault) -> FormatError
+    ensures { result ≡ told_of_schema fault }
 {
-    let Some(layout) = Layout::of(schema, lanes, capacity) else {
-        return Err(FormatError::BadHeader);
-    };
-    match make_in_place(alloc, schema, maker, lanes, capacity, layout.size()) {
-        Ok(made) => Ok(made),
-        Err(fault) => Err(FormatError::from(fault)),
-    }
+    FormatError::from(fault)
 }
 
 // Makes the image, of this size, and puts it in its place.
-fn make_in_place<D: Disk + Drop, M: DiskMaker<D>>(
+fn make_in_place<D: Disk + Drop, P: Images<Medium = D>>(
+    images: &mut P,
     alloc: Global,
+    path: &str,
     schema: &Schema,
-    maker: &mut M,
-    lanes: u8,
-    capacity: u32,
+    new: NewImage,
     size: u64,
-) -> Result<Recovered<D>, FileFault>
-    requires { size ≡ size_of (layout_with schema.now lanes capacity) }
-    ensures placed { OnOk result (M.is_placed maker.new ≡ true) }
-    ensures ok { IfOk result (λ made. IsImageFor schema.now lanes capacity made.layout (D.device made.disk)) }
+) -> Result<(D, Layout), FileFault>
+    requires { size ≡ size_of (layout_with schema.now new.lanes new.capacity) }
+    ensures ok { IfOk result (λ made. IsImageFor schema.now new made.1 (D.device made.0)) }
+    ensures there { IfOk result
+        (λ made. IsThere (D.device made.0).now.bytes (P.holds images.new path.now)) }
+    ensures lies { OnOk result (LiesSo new (P.lies images.new path.now)) }
+    ensures kept { OnErr result
+        (StaysOrIsMade schema.now new (P.holds images.old path.now) (P.holds images.new path.now)) }
 {
-    let disk = match maker.make_disk(alloc, size) {
-        Ok(disk) => disk,
+    let (disk, layout) = match formatted(images, alloc, path, schema, new, size) {
+        Ok(made) => made,
         Err(fault) => return Err(fault),
     };
-    let made = match Store::format(alloc, disk, schema, lanes, capacity) {
-        Ok(made) => made,
-        Err((disk, why)) => {
-            drop(disk);
-            return Err(fault_of_formatting(why));
-        }
-    };
-    match maker.put_in_place() {
-        Ok(()) => Ok(made),
+    match images.replace(path, new.sectors, &disk, new.is_kept) {
+        Ok(()) => Ok((disk, layout)),
         Err(fault) => {
-            drop(made);
+            drop(disk);
             Err(fault)
         }
     }
 }
 
-// The device has the image's size, so that these two are all.
+// Makes the image on a disk that is to replace what is at the path.
+fn formatted<D: Disk + Drop, P: Images<Medium = D>>(
+    images: &mut P,
+    alloc: Global,
+    path: &str,
+    schema: &Schema,
+    new: NewImage,
+    size: u64,
+) -> Result<(D, Layout), FileFault>
+    requires { size ≡ size_of (layout_with schema.now new.lanes new.capacity) }
+    ensures ok { IfOk result (λ made. IsImageFor schema.now new made.1 (D.device made.0)) }
+    ensures durable { IfOk result (λ made. (D.device made.0).now.pending ≡ []) }
+    ensures same { P.holds images.new path.now ≡ P.holds images.old path.now }
+{
+    let disk = match images.make(alloc, path, new.sectors, size) {
+        Ok(disk) => disk,
+        Err(fault) => return Err(fault),
+    };
+    match Store::format(alloc, disk, schema, new.lanes, new.capacity) {
+        Ok(made) => {
+            let layout = made.layout();
+            Ok((made.into_disk(), layout))
+        }
+        Err((disk, why)) => {
+            drop(disk);
+            Err(fault_of_formatting(why))
+        }
+    }
+}
+
+// The disk has room for the image, so that these two are all.
 fn fault_of_formatting(why: ImageError) -> FileFault {
     match why {
         ImageError::NoMemory => FileFault::NoMemory,
@@ -138,7 +184,8 @@ fn fault_of_formatting(why: ImageError) -> FileFault {
 fn print_size<W: Write>(size: u64, writer: &mut W) -> Result<(), FormatError>
     ensures ok { OnOk result (PrintsSize size (W.contents writer.old) (W.contents writer.new)) }
     ensures fault { IfErr result (λ error. error ≡ Fault) }
-    ensures part { OnErr result (AppendsPart (W.contents writer.old) (W.contents writer.new) (formatted_line size)) }
+    ensures part { OnErr result
+        (AppendsPart (W.contents writer.old) (W.contents writer.new) (formatted_line size)) }
 {
     match put_line(writer, &[Piece::Words("formatted "), Piece::Number(size)]) {
         Ok(()) => Ok(()),
@@ -146,30 +193,42 @@ fn print_size<W: Write>(size: u64, writer: &mut W) -> Result<(), FormatError>
     }
 }
 
-/// Makes an image file for the schema that a schema file declares, and writes `formatted` and the image's size: what the
+/// Makes an image at a path for the schema that a schema file declares, and writes `formatted` and the image's size: what the
 /// program's word `format` does.
 ///
-/// The schema file is read first, and the image file is touched only where it isn't refused. An image that is there is replaced by the
-/// whole new one or stays, whatever stops this. Where `sectors` are named, the new one lies in two places on them. Refused as [`format_image`] says:
+/// The schema file is read first, and the image is touched only where it isn't refused. An image that is there is replaced by the whole
+/// new one or stays, whatever stops this. Refused as [`format_image`] says:
 /// - `InUse`: another process has the image that is there;
 /// - `NotImage`: what is there has bytes and is no image, the schema file for one.
 ///
-/// What the system says of a call that fails is noted as trouble.
-pub fn format_file<F: BackingFile + OpenFile + Read + Drop, R: Files<File = F>, W: Write>(
+/// What the system says of a call on the schema file that fails is noted as trouble.
+pub fn format_at<D, P, F, R, W>(
     rt: &R,
+    images: &mut P,
     alloc: Global,
     trouble: &Trouble,
-    image_path: &str,
+    path: &str,
     schema_path: &str,
-    lanes: u8,
-    capacity: u32,
-    sectors: Option<SectorSize>,
+    new: NewImage,
     writer: &mut W,
 ) -> Result<(), FormatError>
-    ensures printed { OnOk result (PrintsImage lanes capacity (W.contents writer.old) (W.contents writer.new)) }
-    ensures bad_header { IfErr result (MayBlameNumbers lanes capacity) }
-    ensures silent { IfErr result (λ error. IsSilent error → Appends (W.contents writer.old) (W.contents writer.new) []) }
-    ensures part { OnErr result (PrintsLess lanes capacity (W.contents writer.old) (W.contents writer.new)) }
+where
+    D: Disk + Drop,
+    P: Images<Medium = D>,
+    F: Read + Drop,
+    R: Files<File = F>,
+    W: Write,
+    ensures ok { OnOk result
+        (MakesAt new (P.holds images.new path.now) (P.lies images.new path.now)
+        (W.contents writer.old) (W.contents writer.new)) }
+    ensures kept { OnErr result
+        (MayBeMade new (P.holds images.old path.now) (P.holds images.new path.now)) }
+    ensures untouched { IfErr result (λ error. IsBeforeFile error → images.new ≡ images.old) }
+    ensures bad_header { IfErr result (MayBlameNumbers new.lanes new.capacity) }
+    ensures silent { IfErr result
+        (λ error. IsSilent error → Appends (W.contents writer.old) (W.contents writer.new) []) }
+    ensures part { OnErr result
+        (PrintsLess new.lanes new.capacity (W.contents writer.old) (W.contents writer.new)) }
 {
     let mut schema = match fs::open(rt, schema_path) {
         Ok(file) => Watched::new(file, Place::Schema, trouble),
@@ -178,19 +237,7 @@ pub fn format_file<F: BackingFile + OpenFile + Read + Drop, R: Files<File = F>, 
             return Err(FormatError::Fault);
         }
     };
-    let mut file = NewFile::at(rt, image_path, trouble).on(sectors);
-    let formatted = format_image(alloc, &mut schema, &mut file, lanes, capacity, writer);
+    let formatted = format_image(images, alloc, path, &mut schema, new, writer);
     drop(schema);
-    let ended = match formatted {
-        Ok(made) => {
-            drop(made);
-            Ok(())
-        }
-        Err(error) => {
-            file.give_up();
-            Err(error)
-        }
-    };
-    drop(file);
-    ended
+    formatted
 }

@@ -36,8 +36,12 @@ pub fn draw_named_image<S: Read, W: Write>(
     last: u32,
     writer: &mut W,
 ) -> Result<(), NamedFault>
-    ensures ok { OnOk result (DrawsRead given last (S.remaining reader.old) (S.remaining reader.new) (W.contents writer.old) (W.contents writer.new)) }
-    ensures refused { IfErr result (RefusesToDraw given last (S.remaining reader.old) (S.remaining reader.new) (W.contents writer.old) (W.contents writer.new)) }
+    ensures ok { OnOk result
+        (DrawsRead given last (S.remaining reader.old) (S.remaining reader.new)
+        (W.contents writer.old) (W.contents writer.new)) }
+    ensures refused { IfErr result
+        (RefusesToDraw given last (S.remaining reader.old) (S.remaining reader.new)
+        (W.contents writer.old) (W.contents writer.new)) }
 {
     let mut disk = match read_image(alloc, reader, room) {
         Ok(disk) => disk,
@@ -73,9 +77,15 @@ pub fn draw_named_file<F: BackingFile + Read + Drop, R: Files<File = F>, W: Writ
     last: u32,
     writer: &mut W,
 ) -> Result<(), NamedFault>
-    ensures printed { OnOk result (TellsNamed (λ given s. picture_text given last s) schema_path.entry (W.contents writer.old) (W.contents writer.new)) }
-    ensures silent { IfErr result (λ error. error ≢ Image (images.Image Fault) → Appends (W.contents writer.old) (W.contents writer.new) []) }
-    ensures part { OnErr result (TellsLessNamed (λ given s. picture_text given last s) schema_path.entry (W.contents writer.old) (W.contents writer.new)) }
+    ensures printed { OnOk result
+        (TellsNamed (λ given s. picture_text given last s) schema_path.entry
+        (W.contents writer.old) (W.contents writer.new)) }
+    ensures silent { IfErr result
+        (λ error. error ≢ Image (images.Image Fault) → Appends (W.contents writer.old)
+        (W.contents writer.new) []) }
+    ensures part { OnErr result
+        (TellsLessNamed (λ given s. picture_text given last s) schema_path.entry
+        (W.contents writer.old) (W.contents writer.new)) }
 {
     let given = match schema_at(rt, alloc, trouble, schema_path) {
         Ok(given) => given,

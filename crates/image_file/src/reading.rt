@@ -9,6 +9,7 @@ use crate::refusal::refusal_of_reading;
 use crate::trouble::{Place, Trouble};
 use crate::watched::Watched;
 use file_disk::{BackingFile, Claim, VolatileDisk};
+use heap_model::{LANES, MOST_CAPACITY, MOST_FIELDS};
 use recover::RecoverError;
 use sector_disk::Label;
 use sector_file::ImageBytes;
@@ -20,7 +21,7 @@ use std::rt::Files;
 // How many bytes a header has, and how many the image of the most and longest lanes and of the most fields.
 const HEADER_BYTES: u64 = 64;
 
-const MOST_BYTES: u64 = 2160 + 24 * 16_384 + 16 * 32 * 1_048_576;
+const MOST_BYTES: u64 = 2160 + 24 * MOST_FIELDS as u64 + 16 * LANES as u64 * MOST_CAPACITY as u64;
 
 /// An image file that is to be read: its header, which was read first, and what is behind it.
 pub(crate) type ImageReader<'a, F> = Chain<Cursor<Vec<u8>>, Take<ImageBytes<Watched<'a, F>>>>;
@@ -178,7 +179,9 @@ pub(crate) fn read_image<S: Read>(
     reader: &mut S,
     room: usize,
 ) -> Result<VolatileDisk, RecoverError>
-    ensures ok { IfOk result (λ (disk : Device). ReadsImage (S.remaining reader.old) (S.remaining reader.new) disk.now.bytes) }
+    ensures ok { IfOk result
+        (λ (disk : Device). ReadsImage (S.remaining reader.old) (S.remaining reader.new)
+        disk.now.bytes) }
     ensures unread { IfErr result IsUnread }
 {
     // One byte more, so that the end is found without more room.

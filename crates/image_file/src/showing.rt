@@ -31,8 +31,12 @@ pub fn show_image<S: Read, W: Write>(
     room: usize,
     writer: &mut W,
 ) -> Result<(), RecoverError>
-    ensures ok { OnOk result (Shows study_text (S.remaining reader.old) (S.remaining reader.new) (W.contents writer.old) (W.contents writer.new)) }
-    ensures refused { IfErr result (RefusesToShow study_text (S.remaining reader.old) (S.remaining reader.new) (W.contents writer.old) (W.contents writer.new)) }
+    ensures ok { OnOk result
+        (Shows study_text (S.remaining reader.old) (S.remaining reader.new) (W.contents writer.old)
+        (W.contents writer.new)) }
+    ensures refused { IfErr result
+        (RefusesToShow study_text (S.remaining reader.old) (S.remaining reader.new)
+        (W.contents writer.old) (W.contents writer.new)) }
 {
     let mut disk = read_image(alloc, reader, room)?;
     let shown = inspect(alloc, &mut disk, writer);
@@ -56,9 +60,12 @@ pub fn show_file<F: BackingFile + Read + Drop, R: Files<File = F>, W: Write>(
     image_path: &str,
     writer: &mut W,
 ) -> Result<(), ImageFault>
-    ensures printed { OnOk result (Tells study_text (W.contents writer.old) (W.contents writer.new)) }
-    ensures silent { IfErr result (λ error. error ≢ Image Fault → Appends (W.contents writer.old) (W.contents writer.new) []) }
-    ensures part { OnErr result (TellsLess study_text (W.contents writer.old) (W.contents writer.new)) }
+    ensures printed { OnOk result
+        (Tells study_text (W.contents writer.old) (W.contents writer.new)) }
+    ensures silent { IfErr result
+        (λ error. error ≢ Image Fault → Appends (W.contents writer.old) (W.contents writer.new) []) }
+    ensures part { OnErr result
+        (TellsLess study_text (W.contents writer.old) (W.contents writer.new)) }
 {
     let (mut reader, room) = match open_to_read(rt, alloc, image_path, trouble) {
         Ok(opened) => opened,

@@ -13,6 +13,8 @@ pub enum Place {
     Schema,
     /// The file beside the image file in which a new image is made, or the folder of both.
     Beside,
+    /// The path at which a replaced image is kept.
+    Kept,
     /// What is written.
     Output,
 }
@@ -61,6 +63,7 @@ fn noted(place: Place, code: i32) -> u64 {
         Place::Schema => 2,
         Place::Beside => 3,
         Place::Output => 4,
+        Place::Kept => 5,
     };
     number << 32 | u64::from(code.unsigned_abs())
 }
@@ -71,6 +74,7 @@ fn place_of(number: u64) -> Option<Place> {
         2 => Some(Place::Schema),
         3 => Some(Place::Beside),
         4 => Some(Place::Output),
+        5 => Some(Place::Kept),
         _ => None,
     }
 }

@@ -1,2 +1,3 @@
--- What the sectors of a file are, as clauses see them.
+-- The promise: the disk of an image file. Then what the sectors of a file are, as clauses see them.
+pub mod ImageDisks
 pub mod FileSectors

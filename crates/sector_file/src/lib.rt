@@ -1,13 +1,16 @@
-//! Files whose bytes lie in two places on sectors (docs/FORMAT.md, "Sectors in two places").
+//! Image files as disks: in one place, or in two on the sectors of the file (docs/FORMAT.md, "Sectors in two places").
 //!
-//! [`ImageBytes`] are a file's bytes, or those of the disk in two places that it is where it begins with a label, so that whoever works
-//! on a file works on both kinds. [`PlacedFile`] is such a disk as a file, and [`FileSectors`] the sectors of a file.
+//! [`ImageDisk`] is the disk of an image file of either kind; in two places it is the disk in two places itself, over [`FileSectors`].
+//! [`ImageBytes`] reads such a file from its beginning on, and needs no right to write it. [`label_of`] tells with which label a
+//! file begins.
 #![tactic(auto)]
 
 mod file_sectors;
 mod image_bytes;
-mod placed;
+mod image_disk;
+mod labels;
 
 pub use file_sectors::FileSectors;
-pub use image_bytes::{ImageBytes, label_of, read_head};
-pub use placed::PlacedFile;
+pub use image_bytes::ImageBytes;
+pub use image_disk::ImageDisk;
+pub use labels::label_of;

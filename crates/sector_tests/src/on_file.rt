@@ -2,9 +2,9 @@
 use crate::chance::Chance;
 use crate::medium::Medium;
 use crate::truth::{Truth, bytes_of, change};
-use file_disk::BackingFile;
+use block_disk::Disk;
 use sector_disk::SectorSize;
-use sector_file::ImageBytes;
+use sector_file::ImageDisk;
 use std::alloc::Global;
 
 // The bytes of two sectors.
@@ -23,7 +23,7 @@ fn wrong(alloc: Global, files: u64) -> Option<u64> {
 // How many of one file's crashes did.
 fn live(alloc: Global, chance: &mut Chance) -> Option<u64> {
     let medium = Medium::empty();
-    let made = ImageBytes::blank(alloc, medium.file(), Some(SectorSize::Bytes512), LEN as u64);
+    let made = ImageDisk::blank(alloc, medium.file(), Some(SectorSize::Bytes512), LEN as u64);
     let is_made = made.is_ok();
     drop(made);
     let wrong = if is_made {
@@ -58,16 +58,16 @@ fn is_right(
     truth: &mut Truth,
     chance: &mut Chance,
 ) -> Option<bool> {
-    let mut bytes = ImageBytes::found(alloc, medium.file()).ok()?;
+    let mut disk = ImageDisk::found(alloc, medium.file()).ok()?;
     medium.die_in(1 + chance.below(9));
     let mut is_done = true;
     for _ in 0..3 {
         if is_done {
             truth.settle();
-            is_done = write_some(&mut bytes, truth, chance);
+            is_done = write_some(&mut disk, truth, chance);
         }
     }
-    drop(bytes);
+    drop(disk);
     medium.come_back(chance);
     let mut found = vec![in alloc; 0u8; LEN].ok()?;
     if !read_back(alloc, medium, &mut found) || !truth.allows(&found, is_done) {
@@ -79,25 +79,25 @@ fn is_right(
 }
 
 fn read_back(alloc: Global, medium: &Medium, out: &mut [u8]) -> bool {
-    match ImageBytes::found(alloc, medium.file()) {
-        Ok(mut bytes) => {
-            let read = bytes.read_from(0, out);
-            drop(bytes);
+    match ImageDisk::found(alloc, medium.file()) {
+        Ok(mut disk) => {
+            let read = disk.read_at(0, out);
+            drop(disk);
             read.is_ok()
         }
         Err(_) => false,
     }
 }
 
-// Writes a few runs of bytes and settles them; whether that is done.
-fn write_some<F: BackingFile>(file: &mut F, truth: &mut Truth, chance: &mut Chance) -> bool {
+// Writes a few runs of bytes and syncs them; whether that is done.
+fn write_some<D: Disk>(disk: &mut D, truth: &mut Truth, chance: &mut Chance) -> bool {
     for _ in 0..1 + chance.below(3) {
         let run = change(truth, chance);
-        if file.write_to(run.at as u64, bytes_of(truth, run)).is_err() {
+        if disk.write_at(run.at as u64, bytes_of(truth, run)).is_err() {
             return false;
         }
     }
-    file.settle().is_ok()
+    disk.sync().is_ok()
 }
 
 #[test]

@@ -5,7 +5,7 @@ use Rattle.clap.specs.Kinds.{HasKind}
 use Rattle.clap.specs.Simple.{App, is_simple, subcommand_of}
 use Rattle.clap.specs.Takes.{takes}
 use Rattle.command_words.specs.Words.{AsksFor, program}
-use Rattle.command_words.proofs.PathLemmas.{both_lengths, not_none, none_says_both, none_says_other, not_run, one_file, other_sectors, run_says_both, run_says_other, two_files}
+use Rattle.command_words.proofs.PathLemmas.{both_lengths, idle_options, not_none, none_says_both, none_says_idle, none_says_other, not_run, one_file, other_sectors, run_says_both, run_says_idle, run_says_other, two_files}
 use Rattle.command_words.proofs.words.read_words.Goals as goal
 
 is_plain : is_simple_and_free program ≡ true
@@ -97,7 +97,7 @@ returns-then-has_other_sectors-clause-exact c =
     let met = (c.in-Ok.ensures.matches (ap is_simple is ∙ is_plainly_read)).1 ∙ ap (λ (a : App). subcommand_of a (map (λ s. string_bytes s) c.args.words.now)) is in
     let asks = subst (λ found. AsksFor found c.asked_by-asked.result) met c.asked_by-asked.ensures in
     let none = ap (λ (a : App). fault_of a (map (λ s. string_bytes s) c.args.words.now)) (sym is) ∙ c.in-Ok.ensures.kinds (ap is_simple_and_free is ∙ is_plain) in
-    inr (none, inr (inr (other_sectors (map (λ s. string_bytes s) c.args.words.now) c.asked_by-asked.result asks (c.has_other_sectors.ensures.0 c.if-has_other_sectors.true))), c.in_ok-conflict-3.ensures)
+    inr (none, inr (inr (inl (other_sectors (map (λ s. string_bytes s) c.args.words.now) c.asked_by-asked.result asks (c.has_other_sectors.ensures.0 c.if-has_other_sectors.true)))), c.in_ok-conflict-3.ensures)
 
 pub returns-then-has_other_sectors-clause-none : goal.returns-then-has_other_sectors-clause-none
 returns-then-has_other_sectors-clause-none c = λ name words_are.
@@ -115,18 +115,43 @@ returns-then-has_other_sectors-clause-run c = λ name words_are.
     absurd (run_says_other (map (λ s. string_bytes s) c.args.words.now) [] (ap (subcommand_of program) words_are ∙ meets_run name)
     (other_sectors (map (λ s. string_bytes s) c.args.words.now) c.asked_by-asked.result asks (c.has_other_sectors.ensures.0 c.if-has_other_sectors.true)))
 
+pub returns-then-has_idle_options-clause-exact : goal.returns-then-has_idle_options-clause-exact
+returns-then-has_idle_options-clause-exact c =
+    let is = c.in_ok-command.ensures in
+    let met = (c.in-Ok.ensures.matches (ap is_simple is ∙ is_plainly_read)).1 ∙ ap (λ (a : App). subcommand_of a (map (λ s. string_bytes s) c.args.words.now)) is in
+    let asks = subst (λ found. AsksFor found c.asked_by-asked.result) met c.asked_by-asked.ensures in
+    let none = ap (λ (a : App). fault_of a (map (λ s. string_bytes s) c.args.words.now)) (sym is) ∙ c.in-Ok.ensures.kinds (ap is_simple_and_free is ∙ is_plain) in
+    inr (none, inr (inr (inr (idle_options (map (λ s. string_bytes s) c.args.words.now) c.asked_by-asked.result asks (c.has_idle_options.ensures.0 c.if-has_idle_options.true)))), c.in_ok-conflict-4.ensures)
+
+pub returns-then-has_idle_options-clause-none : goal.returns-then-has_idle_options-clause-none
+returns-then-has_idle_options-clause-none c = λ name words_are.
+    let is = c.in_ok-command.ensures in
+    let met = (c.in-Ok.ensures.matches (ap is_simple is ∙ is_plainly_read)).1 ∙ ap (λ (a : App). subcommand_of a (map (λ s. string_bytes s) c.args.words.now)) is in
+    let asks = subst (λ found. AsksFor found c.asked_by-asked.result) met c.asked_by-asked.ensures in
+    absurd (none_says_idle (map (λ s. string_bytes s) c.args.words.now) (ap (subcommand_of program) words_are ∙ meets_none name)
+    (idle_options (map (λ s. string_bytes s) c.args.words.now) c.asked_by-asked.result asks (c.has_idle_options.ensures.0 c.if-has_idle_options.true)))
+
+pub returns-then-has_idle_options-clause-run : goal.returns-then-has_idle_options-clause-run
+returns-then-has_idle_options-clause-run c = λ name words_are.
+    let is = c.in_ok-command.ensures in
+    let met = (c.in-Ok.ensures.matches (ap is_simple is ∙ is_plainly_read)).1 ∙ ap (λ (a : App). subcommand_of a (map (λ s. string_bytes s) c.args.words.now)) is in
+    let asks = subst (λ found. AsksFor found c.asked_by-asked.result) met c.asked_by-asked.ensures in
+    absurd (run_says_idle (map (λ s. string_bytes s) c.args.words.now) (ap (subcommand_of program) words_are ∙ meets_run name)
+    (idle_options (map (λ s. string_bytes s) c.args.words.now) c.asked_by-asked.result asks (c.has_idle_options.ensures.0 c.if-has_idle_options.true)))
+
 pub returns-clause-exact : goal.returns-clause-exact
 returns-clause-exact c =
     let is = c.in_ok-command.ensures in
     let met = (c.in-Ok.ensures.matches (ap is_simple is ∙ is_plainly_read)).1 ∙ ap (λ (a : App). subcommand_of a (map (λ s. string_bytes s) c.args.words.now)) is in
     let asks = subst (λ found. AsksFor found c.asked_by-asked.result) met c.asked_by-asked.ensures in
-    let none = ap (λ (a : App). fault_of a (map (λ s. string_bytes s) c.args.words.now)) (sym is) ∙ c.in-Ok.ensures.kinds (ap is_simple_and_free is ∙ is_plain) in (
-      none,
-      two_files (map (λ s. string_bytes s) c.args.words.now) c.asked_by-asked.result asks
-          (λ same. let both : true ≡ false = sym (c.has_one_path.ensures.1 same) ∙ c.if-has_one_path.false in absurd cc),
-      (λ lengths. let both : true ≡ false = sym (c.has_both_lengths.ensures.1 lengths) ∙ c.if-has_both_lengths.false in absurd cc),
-      (λ other. let both : true ≡ false = sym (c.has_other_sectors.ensures.1 other) ∙ c.if-has_other_sectors.false in absurd cc),
-    )
+    record {
+      well_formed = ap (λ (a : App). fault_of a (map (λ s. string_bytes s) c.args.words.now)) (sym is) ∙ c.in-Ok.ensures.kinds (ap is_simple_and_free is ∙ is_plain);
+      two_files = two_files (map (λ s. string_bytes s) c.args.words.now) c.asked_by-asked.result asks
+          (λ same. let both : true ≡ false = sym (c.has_one_path.ensures.1 same) ∙ c.if-has_one_path.false in absurd cc);
+      one_length = λ lengths. let both : true ≡ false = sym (c.has_both_lengths.ensures.1 lengths) ∙ c.if-has_both_lengths.false in absurd cc;
+      sectors = λ other. let both : true ≡ false = sym (c.has_other_sectors.ensures.1 other) ∙ c.if-has_other_sectors.false in absurd cc;
+      busy = λ idle. let both : true ≡ false = sym (c.has_idle_options.ensures.1 idle) ∙ c.if-has_idle_options.false in absurd cc;
+    }
 
 pub returns-clause-asked : goal.returns-clause-asked
 returns-clause-asked c =

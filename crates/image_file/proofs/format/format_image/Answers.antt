@@ -1,34 +1,35 @@
-use Rattle.std.proofs.Common.{ℕ, ◌≡◌, ◌∙◌, ap, inl, inr, subst}
-use Rattle.std.proofs.KnownBytes.{Appends-nil}
-use Rattle.image.specs.Layout.{size_of}
-use Rattle.inspect.proofs.PartLemmas.{always}
-use Rattle.inspect.specs.Written.{AppendsPart}
-use Rattle.store_image.specs.Formatting.{layout_with}
-use Rattle.image_file.specs.Formatting.{formatted_line}
-use Rattle.image_file.proofs.FormatLemmas.{not_made}
+use Rattle.std.proofs.Common.{ℕ, ◌≡◌, inr, subst, sym}
+use Rattle.image_file.specs.Formatting.{PrintsSize, RefusesImage}
+use Rattle.image_file.specs.declared.error.FormatError.{FormatError}
+use Rattle.image_file.proofs.FormatLemmas.{schema_refused}
+use Rattle.image_file.proofs.PlaceLemmas.{may_be_made}
 use Rattle.image_file.proofs.format.format_image.Goals as goal
 
 pub returns-in-Ok-print_size-clause-ok : goal.returns-in-Ok-print_size-clause-ok
 returns-in-Ok-print_size-clause-ok g c =
-    record { schema = c.in_ok-schema.schema; declares = c.in_ok-schema.ensures.ok; image = c.in-Ok.ensures.ok }
+    let made = c.in-Ok-tried.made in
+    record {
+      schema = c.in-Ok.schema;
+      so = c.in-Ok.ensures.ok;
+      layout = made.1;
+      device = g.D.Disk.device made.0;
+      image = c.in-Ok-tried.ensures.ok;
+      there = c.in-Ok-tried.ensures.there;
+      lies_so = c.in-Ok-tried.ensures.lies;
+      printed = subst (λ (n : ℕ). PrintsSize n (g.W.Write.contents c.args.writer.now) (g.W.Write.contents c.print_size.new.writer)) c.size.ensures c.in-Ok-print_size.ensures.ok;
+    }
 
 pub returns-in-Err-clause-refused : goal.returns-in-Err-clause-refused
 returns-in-Err-clause-refused g c =
-    not_made _ _ c.args.lanes c.args.capacity c.in_ok-schema.schema c.in-Err.error c.in_ok-schema.ensures.ok c.in-Err.ensures.bad_header
+    let old = g.S.Read.remaining c.args.reader.now in
+    let new = g.S.Read.remaining c.read_schema.new.reader in
+    subst (λ (e : FormatError). RefusesImage old new c.args.new.lanes c.args.new.capacity e) (sym c.told.ensures)
+    (schema_refused old new c.args.new.lanes c.args.new.capacity c.in-Err.fault c.in-Err.ensures.refused)
 
-pub returns-in_err-schema-clause-part : goal.returns-in_err-schema-clause-part
-returns-in_err-schema-clause-part g c = always c.from_residual.result (inl (Appends-nil (g.W.Write.contents c.args.writer.now)))
+pub returns-in-Err-tried-clause-kept : goal.returns-in-Err-tried-clause-kept
+returns-in-Err-tried-clause-kept g c = may_be_made c.in-Ok.schema c.args.new _ _ c.in-Err-tried.ensures.kept
 
-pub returns-in-Err-print_size-clause-part : goal.returns-in-Err-print_size-clause-part
-returns-in-Err-print_size-clause-part g c =
-    let image = c.in-Ok.ensures.ok in
-    let old = g.W.Write.contents c.args.writer.now in
-    let new = g.W.Write.contents c.print_size.new.writer in
-    let schema = c.in_ok-schema.schema in
-    let sizes : c.size.result ≡ size_of (layout_with schema c.args.lanes c.args.capacity) = c.size.ensures ∙ ap size_of (c.layout.ensures.layout ∙ image.layout_is) in
-    inr (record {
-      schema = schema;
-      so = c.in_ok-schema.ensures.ok;
-      limits = image.limits;
-      printed = subst (λ (n : ℕ). AppendsPart old new (formatted_line n)) sizes c.in-Err-print_size.ensures.part;
-    })
+pub returns-in-Err-print_size-clause-kept : goal.returns-in-Err-print_size-clause-kept
+returns-in-Err-print_size-clause-kept g c =
+    let made = c.in-Ok-tried.made in
+    inr (c.in-Ok.schema, made.1, g.D.Disk.device made.0, c.in-Ok-tried.ensures.ok, c.in-Ok-tried.ensures.there)

@@ -1,0 +1,504 @@
+//! The images in files of the system.
+ghost use Rattle.std.specs.Prelude.{None};
+
+use crate::claiming::{Content, claim, claim_at, claim_image, content_of};
+use crate::error::FileFault;
+use crate::images::Images;
+use crate::trouble::{Place, Trouble};
+use crate::watched::Watched;
+use block_disk::Disk;
+use file_disk::BackingFile;
+use sector_disk::SectorSize;
+use sector_file::{ImageDisk, label_of};
+use std::alloc::Global;
+use std::fs::{OpenFile, OpenOptions};
+use std::io::ErrorKind;
+use std::path::Path;
+use std::rt::Files;
+use std::{fs, io};
+
+/// What stands at the end of an image's path while a new one is made beside it.
+pub const BESIDE: &str = ".heapctl-new";
+
+/// What stands at the end of the path at which a replaced image is kept.
+pub const KEPT: &str = "~";
+
+// What the system says where there is no file (ENOENT).
+const NO_FILE: i32 = 2;
+
+/// The images in files of the system.
+///
+/// A new image is made in a file beside the path, which takes its place once it is whole: a stop at any time leaves what was there, or the
+/// new one. Both files are claimed until another image is made, or this is dropped, so that no other process works on either.
+#[derive(Drop)]
+pub struct FileImages<'a, F: BackingFile + Drop, R> {
+    rt: &'a R,
+    trouble: &'a Trouble,
+    taken: Option<Taken<F>>,
+}
+
+// The place that was taken for a new image.
+#[derive(Drop)]
+struct Taken<F: Drop> {
+    names: Names,
+    sectors: Option<SectorSize>,
+    // What was there, which is claimed, and the file in which the new one is made.
+    old: Option<F>,
+    new: F,
+    is_there: bool,
+}
+
+// The path that was named; where the image is to be, at the end of links; where it is made; and where one that was there is kept.
+#[derive(Drop)]
+struct Names {
+    path: String,
+    target: String,
+    beside: String,
+    kept: String,
+}
+
+impl<'a, F, R> FileImages<'a, F, R>
+where
+    F: BackingFile + OpenFile + Drop,
+    R: Files<File = F>,
+{
+    /// No file is touched yet. What the system says of a call that fails is noted as trouble.
+    pub fn new(rt: &'a R, trouble: &'a Trouble) -> FileImages<'a, F, R> {
+        FileImages {
+            rt,
+            trouble,
+            taken: None,
+        }
+    }
+}
+
+impl<'a, F, R> Images for FileImages<'a, F, R>
+where
+    F: BackingFile + OpenFile + Drop,
+    R: Files<File = F>,
+{
+    type Medium = ImageDisk<Watched<'a, F>>;
+
+    ghost holds = { λ _ _. None };
+
+    ghost lies = { λ _ _. None };
+
+    fn is_vacant(&mut self, path: &str) -> Result<bool, FileFault> {
+        match claim_at(self.rt, path, self.trouble) {
+            Ok(Some(file)) => is_empty(file, self.trouble),
+            Ok(None) => Ok(true),
+            Err(fault) => Err(fault),
+        }
+    }
+
+    fn shape(&mut self, path: &str) -> Result<(u64, Option<SectorSize>), FileFault> {
+        shape_at(self.rt, path, self.trouble)
+    }
+
+    fn read(&mut self, alloc: Global, path: &str) -> Result<Vec<u8>, FileFault> {
+        match self.open(alloc, path) {
+            Ok(disk) => whole(alloc, disk),
+            Err(fault) => Err(fault),
+        }
+    }
+
+    fn open(&mut self, alloc: Global, path: &str) -> Result<ImageDisk<Watched<'a, F>>, FileFault> {
+        let file = match file_there(self.rt, path, &self.taken, self.trouble) {
+            Ok(file) => file,
+            Err(fault) => return Err(fault),
+        };
+        match ImageDisk::found(alloc, Watched::new(file, Place::Image, self.trouble)) {
+            Ok(disk) => Ok(disk),
+            Err(error) => Err(FileFault::from(error)),
+        }
+    }
+
+    fn close(&mut self, _path: &str, disk: ImageDisk<Watched<'a, F>>) {
+        drop(disk);
+    }
+
+    fn make(
+        &mut self,
+        alloc: Global,
+        path: &str,
+        sectors: Option<SectorSize>,
+        size: u64,
+    ) -> Result<ImageDisk<Watched<'a, F>>, FileFault> {
+        let taken = match take(self.rt, alloc, path, sectors, self.trouble) {
+            Ok(taken) => taken,
+            Err(fault) => return Err(fault),
+        };
+        let again = taken.new.try_clone();
+        keep(&mut self.taken, taken);
+        let file = match again {
+            Ok(file) => Watched::new(file, Place::Image, self.trouble),
+            Err(error) => return Err(noted(Place::Beside, &error, self.trouble)),
+        };
+        match ImageDisk::blank(alloc, file, sectors, size) {
+            Ok(disk) => Ok(disk),
+            Err(error) => Err(FileFault::from(error)),
+        }
+    }
+
+    fn replace(
+        &mut self,
+        path: &str,
+        sectors: Option<SectorSize>,
+        _disk: &ImageDisk<Watched<'a, F>>,
+        is_kept: bool,
+    ) -> Result<(), FileFault> {
+        let Some(taken) = &mut self.taken else {
+            return Err(FileFault::Fault);
+        };
+        if taken.names.path.as_str() != path || taken.sectors != sectors {
+            return Err(FileFault::Fault);
+        }
+        if is_kept {
+            if let Err(error) = keep_old(self.rt, taken) {
+                return Err(noted(Place::Kept, &error, self.trouble));
+            }
+        }
+        match move_over(self.rt, taken) {
+            Ok(()) => Ok(()),
+            Err(error) => Err(noted(Place::Beside, &error, self.trouble)),
+        }
+    }
+
+    fn give_up(&mut self, path: &str) {
+        if let Some(taken) = &self.taken {
+            if !taken.is_there && taken.names.path.as_str() == path {
+                let _ = self.rt.remove_file(taken.names.beside.as_str());
+            }
+        }
+    }
+}
+
+// The place that was taken, in place of one that was before.
+fn keep<F: Drop>(place: &mut Option<Taken<F>>, taken: Taken<F>) {
+    *place = Some(taken);
+}
+
+fn noted(place: Place, error: &io::Error, trouble: &Trouble) -> FileFault {
+    trouble.note(place, error);
+    FileFault::Fault
+}
+
+// Whether the file, which is claimed, has no bytes. One that has other bytes than an image's is refused.
+fn is_empty<F: BackingFile + OpenFile + Drop>(
+    mut file: F,
+    trouble: &Trouble,
+) -> Result<bool, FileFault> {
+    let content = content_of(&mut file, trouble);
+    drop(file);
+    match content {
+        Ok(Content::Nothing) => Ok(true),
+        Ok(Content::Image) => Ok(false),
+        Ok(Content::Other) => Err(FileFault::NotImage),
+        Err(fault) => Err(fault),
+    }
+}
+
+// How many bytes the image in the regular file at this path has, and where it lies in two places how many a sector has.
+fn shape_at<F, R>(
+    rt: &R,
+    path: &str,
+    trouble: &Trouble,
+) -> Result<(u64, Option<SectorSize>), FileFault>
+where
+    F: BackingFile + Drop,
+    R: Files<File = F>,
+{
+    let size = match size_at(rt, path, trouble) {
+        Ok(size) => size,
+        Err(fault) => return Err(fault),
+    };
+    let mut file = match fs::open(rt, path) {
+        Ok(file) => Watched::new(file, Place::Image, trouble),
+        Err(error) => return Err(noted(Place::Image, &error, trouble)),
+    };
+    let label = label_of(&mut file);
+    drop(file);
+    match label {
+        Ok(Some(label)) => {
+            let len = label.count.saturating_mul(label.size.bytes() as u64);
+            Ok((len, Some(label.size)))
+        }
+        Ok(None) => Ok((size, None)),
+        Err(_) => Err(FileFault::Fault),
+    }
+}
+
+// How many bytes the regular file at this path has.
+fn size_at<R: Files>(rt: &R, path: &str, trouble: &Trouble) -> Result<u64, FileFault> {
+    match rt.metadata(path) {
+        Ok(metadata) => {
+            if metadata.is_file() {
+                Ok(metadata.len())
+            } else {
+                Err(FileFault::NotImage)
+            }
+        }
+        Err(error) => Err(noted(Place::Image, &error, trouble)),
+    }
+}
+
+// The file at the path, claimed: one that was claimed for a new image is used again.
+fn file_there<F, R>(
+    rt: &R,
+    path: &str,
+    taken: &Option<Taken<F>>,
+    trouble: &Trouble,
+) -> Result<F, FileFault>
+where
+    F: BackingFile + OpenFile + Drop,
+    R: Files<File = F>,
+{
+    let Some(taken) = taken else {
+        return claim_image(rt, path, trouble);
+    };
+    if taken.names.path.as_str() != path {
+        return claim_image(rt, path, trouble);
+    }
+    let again = if taken.is_there {
+        taken.new.try_clone()
+    } else {
+        match &taken.old {
+            Some(old) => old.try_clone(),
+            None => Err(io::Error::from_raw_os_error(NO_FILE)),
+        }
+    };
+    match again {
+        Ok(file) => Ok(file),
+        Err(error) => Err(noted(Place::Image, &error, trouble)),
+    }
+}
+
+// All bytes of a disk.
+fn whole<D: Disk + Drop>(alloc: Global, mut disk: D) -> Result<Vec<u8>, FileFault> {
+    let Ok(mut image) = vec![in alloc; 0u8; disk.size() as usize] else {
+        drop(disk);
+        return Err(FileFault::NoMemory);
+    };
+    let read = disk.read_at(0, &mut image);
+    drop(disk);
+    match read {
+        Ok(()) => Ok(image),
+        Err(_) => Err(FileFault::Fault),
+    }
+}
+
+// Takes a place for a new image, at the path and beside it.
+fn take<F, R>(
+    rt: &R,
+    alloc: Global,
+    path: &str,
+    sectors: Option<SectorSize>,
+    trouble: &Trouble,
+) -> Result<Taken<F>, FileFault>
+where
+    F: BackingFile + OpenFile + Drop,
+    R: Files<File = F>,
+{
+    let names = match names_of(rt, alloc, path, trouble) {
+        Ok(names) => names,
+        Err(fault) => return Err(fault),
+    };
+    match take_files(rt, names.target.as_str(), names.beside.as_str(), trouble) {
+        Ok((old, new)) => Ok(Taken {
+            names,
+            sectors,
+            old,
+            new,
+            is_there: false,
+        }),
+        Err(fault) => {
+            drop(names);
+            Err(fault)
+        }
+    }
+}
+
+fn names_of<R: Files>(
+    rt: &R,
+    alloc: Global,
+    path: &str,
+    trouble: &Trouble,
+) -> Result<Names, FileFault> {
+    let target = match target_of(rt, alloc, path, trouble) {
+        Ok(target) => target,
+        Err(fault) => return Err(fault),
+    };
+    match names_at(alloc, path, target) {
+        Some(names) => Ok(names),
+        None => Err(FileFault::NoMemory),
+    }
+}
+
+// The names of a target. `None`: there was no memory.
+fn names_at(alloc: Global, path: &str, target: String) -> Option<Names> {
+    let path = String::from_str(alloc, path).ok()?;
+    let beside = format!(in alloc; "{target}{BESIDE}").ok()?;
+    let kept = format!(in alloc; "{target}{KEPT}").ok()?;
+    Some(Names {
+        path,
+        target,
+        beside,
+        kept,
+    })
+}
+
+// What is at the path is claimed, and is an image or has no bytes; the file beside it is claimed too, and what an earlier making that was
+// cut off has left there is taken for the new one.
+fn take_files<F, R>(
+    rt: &R,
+    target: &str,
+    beside: &str,
+    trouble: &Trouble,
+) -> Result<(Option<F>, F), FileFault>
+where
+    F: BackingFile + OpenFile + Drop,
+    R: Files<File = F>,
+{
+    let old = take_old(rt, target, trouble)?;
+    let new = match begin(rt, beside, trouble) {
+        Ok(new) => new,
+        Err(fault) => {
+            drop(old);
+            return Err(fault);
+        }
+    };
+    match &old {
+        Some(file) => keep_permissions(file, &new),
+        None => {
+            if rt.metadata(target).is_ok() {
+                // Another process has made one there before this one had the file beside it.
+                let _ = rt.remove_file(beside);
+                drop(new);
+                drop(old);
+                return Err(FileFault::InUse);
+            }
+        }
+    }
+    Ok((old, new))
+}
+
+// Claims the file at the path, if one is there.
+fn take_old<F, R>(rt: &R, target: &str, trouble: &Trouble) -> Result<Option<F>, FileFault>
+where
+    F: BackingFile + OpenFile + Drop,
+    R: Files<File = F>,
+{
+    let Some(mut file) = claim_at(rt, target, trouble)? else {
+        return Ok(None);
+    };
+    let fault = match content_of(&mut file, trouble) {
+        Ok(Content::Nothing | Content::Image) => return Ok(Some(file)),
+        Ok(Content::Other) => FileFault::NotImage,
+        Err(fault) => fault,
+    };
+    drop(file);
+    Err(fault)
+}
+
+// Where the path leads: a link stays, and what it leads to is replaced.
+fn target_of<R: Files>(
+    rt: &R,
+    alloc: Global,
+    path: &str,
+    trouble: &Trouble,
+) -> Result<String, FileFault> {
+    let found = match rt.canonicalize(alloc, path) {
+        Ok(target) => String::from_str(alloc, target.as_str()),
+        Err(error) => {
+            if error.kind() != ErrorKind::NotFound {
+                return Err(noted(Place::Image, &error, trouble));
+            }
+            if rt.symlink_metadata(path).is_ok() {
+                // A link to a file that isn't there would be replaced itself.
+                return Err(FileFault::NotImage);
+            }
+            String::from_str(alloc, path)
+        }
+    };
+    match found {
+        Ok(target) => Ok(target),
+        Err(_) => Err(FileFault::NoMemory),
+    }
+}
+
+// Opens and claims the file beside an image's path.
+fn begin<F, R>(rt: &R, beside: &str, trouble: &Trouble) -> Result<F, FileFault>
+where
+    F: BackingFile + OpenFile + Drop,
+    R: Files<File = F>,
+{
+    let mut options = OpenOptions::new();
+    options.read(true).write(true).create(true);
+    match options.open(rt, beside) {
+        Ok(file) => match claim(rt, beside, &file, Place::Beside, trouble) {
+            Ok(()) => Ok(file),
+            Err(fault) => {
+                drop(file);
+                Err(fault)
+            }
+        },
+        Err(error) => Err(noted(Place::Beside, &error, trouble)),
+    }
+}
+
+// The new file may be read and written by whom the old one may. Where that can't be had, it is as other new files are.
+fn keep_permissions<F: OpenFile>(old: &F, new: &F) {
+    if let Ok(metadata) = old.metadata() {
+        let _ = new.set_permissions(metadata.permissions());
+    }
+}
+
+// The new image, which is durable, takes its place, durably.
+fn move_over<F, R>(rt: &R, taken: &mut Taken<F>) -> io::Result<()>
+where
+    F: BackingFile + Drop,
+    R: Files<File = F>,
+{
+    rt.rename(taken.names.beside.as_str(), taken.names.target.as_str())?;
+    taken.is_there = true;
+    let mut options = OpenOptions::new();
+    options.read(true);
+    let mut folder = options.open(rt, folder_of(taken.names.target.as_str()))?;
+    folder.settle()
+}
+
+// The folder that a path's file is in.
+fn folder_of(path: &str) -> &str {
+    match Path::new(path).parent() {
+        Some(folder) => {
+            let text = folder.as_str();
+            if text.is_empty() { "." } else { text }
+        }
+        None => "/",
+    }
+}
+
+// An image that is there stays, at the path with `~` at its end; what was there goes.
+fn keep_old<F, R>(rt: &R, taken: &Taken<F>) -> io::Result<()>
+where
+    F: BackingFile + Drop,
+    R: Files<File = F>,
+{
+    let Some(old) = &taken.old else {
+        return Ok(());
+    };
+    if old.len()? == 0 {
+        return Ok(());
+    }
+    link_over(rt, taken.names.target.as_str(), taken.names.kept.as_str())
+}
+
+// Lets a second name lead to this file, in place of what it leads to.
+fn link_over<R: Files>(rt: &R, target: &str, kept: &str) -> io::Result<()> {
+    if let Err(error) = rt.remove_file(kept) {
+        if error.kind() != ErrorKind::NotFound {
+            return Err(error);
+        }
+    }
+    rt.hard_link(target, kept)
+}

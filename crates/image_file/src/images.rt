@@ -1,0 +1,90 @@
+//! The images that words name by paths.
+ghost use Rattle.std.specs.Prelude.{◌≡◌, ◌⊎◌, ◌↔◌, ℕ, List, [], Option, replicate, IfOk, IfSome, IsTrue, OnErr, OnOk};
+ghost use Rattle.block_disk.specs.Device.{new_device};
+ghost use Rattle.sector_disk.specs.declared.size.SectorSize.{SectorSize as Size};
+ghost use Rattle.sector_file.specs.ImageDisks.{room_for};
+ghost use Rattle.image_file.specs.Images.{IsLeft, IsThere};
+
+use crate::error::FileFault;
+use block_disk::Disk;
+use sector_disk::SectorSize;
+use std::alloc::Global;
+
+/// The images that words name by paths, and the disks that they are.
+///
+/// What is said here of an image is all that words know of it: they work over any such images. With the files of the system it is done by
+/// [`FileImages`](crate::FileImages), of which the clauses are trusted, since no contract says what a file holds.
+pub trait Images {
+    /// The disk of an image.
+    type Medium: Disk + Drop;
+
+    /// The bytes of the image at a path, where they are known; none of them where no file is there, or an empty one.
+    ghost holds: { Self → List ℕ → Option (List ℕ) };
+
+    /// How the image at a path lies, where that is known: in one place, or in two on sectors of so many bytes.
+    ghost lies: { Self → List ℕ → Option (Option Size) };
+
+    /// Whether there is no file at the path, or an empty one. `NotImage`: there is a file with other bytes than an image's.
+    fn is_vacant(&mut self, path: &str) -> Result<bool, FileFault>
+        ensures ok { IfOk result
+            (λ vacant. IfSome (holds self.old path.now) (λ image. IsTrue vacant ↔ (image ≡ []))) }
+        ensures same { holds self.new path.now ≡ holds self.old path.now };
+
+    /// How many bytes the image at the path has, and how it lies.
+    fn shape(&mut self, path: &str) -> Result<(u64, Option<SectorSize>), FileFault>
+        ensures ok { IfOk result
+            (λ shape. IfSome (lies self.old path.now) (λ sectors. sectors ≡ shape.1)) }
+        ensures same { holds self.new path.now ≡ holds self.old path.now };
+
+    /// The bytes of the image at the path.
+    fn read(&mut self, alloc: Global, path: &str) -> Result<Vec<u8>, FileFault>
+        ensures ok { IfOk result (λ image. IsThere image.items (holds self.old path.now)) }
+        ensures same { holds self.new path.now ≡ holds self.old path.now };
+
+    /// The disk of the image at the path, which nobody else has until it is dropped.
+    ///
+    /// `NotImage`: what is there isn't one; `InUse`: another process has it.
+    fn open(&mut self, alloc: Global, path: &str) -> Result<Self::Medium, FileFault>
+        ensures fresh { IfOk result
+            (λ disk. Self.Medium.device disk ≡ new_device (Self.Medium.device disk).now.bytes) }
+        ensures ok { IfOk result
+            (λ disk. IsThere (Self.Medium.device disk).now.bytes (holds self.old path.now)) }
+        ensures err { OnErr result (holds self.new path.now ≡ holds self.old path.now) };
+
+    /// Gives back the disk of the image at the path: one that was opened there, or that has replaced what was there.
+    fn close(&mut self, path: &str, disk: Self::Medium)
+        ensures { IsLeft (Self.Medium.device disk).now (holds self.new path.now) };
+
+    /// A disk of zeros for a new image at the path, which lies so and has room for so many bytes. What is there stays, and is kept from
+    /// others until the new one has replaced it, or is given up.
+    ///
+    /// `NotImage`: there is a file with other bytes than an image's; `InUse`: another process has what is there.
+    fn make(
+        &mut self,
+        alloc: Global,
+        path: &str,
+        sectors: Option<SectorSize>,
+        size: u64,
+    ) -> Result<Self::Medium, FileFault>
+        ensures ok { IfOk result
+            (λ disk. Self.Medium.device disk ≡ new_device (replicate (room_for sectors size) 0)) }
+        ensures same { holds self.new path.now ≡ holds self.old path.now };
+
+    /// Puts this disk in the place of what is at the path. It is the one that was made last for this path, and to lie so; else that is a
+    /// `Fault`. Where `is_kept`, an image that was there stays beside it, at the path with `~` at its end.
+    fn replace(
+        &mut self,
+        path: &str,
+        sectors: Option<SectorSize>,
+        disk: &Self::Medium,
+        is_kept: bool,
+    ) -> Result<(), FileFault>
+        ensures ok { OnOk result
+            (IsLeft (Self.Medium.device disk.now).now (holds self.new path.now)) }
+        ensures kind { OnOk result (IfSome (lies self.new path.now) (λ there. there ≡ sectors)) }
+        ensures err { OnErr result ((holds self.new path.now ≡ holds self.old path.now) ⊎ IsLeft (Self.Medium.device disk.now).now (holds self.new path.now)) };
+
+    /// Removes what was made last for this path, unless it has replaced what was there.
+    fn give_up(&mut self, path: &str)
+        ensures { holds self.new path.now ≡ holds self.old path.now };
+}

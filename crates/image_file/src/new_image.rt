@@ -1,0 +1,16 @@
+//! What a new image is to be.
+
+use sector_disk::SectorSize;
+
+/// What a new image is to be.
+#[derive(Clone, Copy)]
+pub struct NewImage {
+    /// The number of lanes, 1 to 32.
+    pub lanes: u8,
+    /// The records that a lane's area holds, 2,000 to 1,048,576.
+    pub capacity: u32,
+    /// How many bytes a sector has, where the image is to lie in two places.
+    pub sectors: Option<SectorSize>,
+    /// Whether an image that was there stays beside the new one.
+    pub is_kept: bool,
+}
