@@ -75,7 +75,8 @@ inline want(i, m) {
 }
 
 inline want_no_more(i, has_taken) {
-    atomic { !mutex -> before = wanted[i]; wanted[i] = 0; if :: before > 0 -> waiting[before - 1]-- :: else fi };
+    atomic { if :: wanted[i] > 0 -> before = wanted[i] :: else fi };
+    if :: before > 0 -> atomic { !mutex -> wanted[i] = 0; waiting[before - 1]-- } :: else fi;
 #if MISTAKE != 2 /* one that doesn't take the monitor keeps the wake that it had */
     if
     :: before == 1 && !has_taken -> wake_first(0)
@@ -92,20 +93,24 @@ inline make_round(is_helper) {
     atomic { !mutex -> urgent = 0 };
 #endif
 #if MISTAKE != 4 /* all work is taken to be known after the round has taken it */
-    has_work = 0;
-#endif
+    atomic { has_work = 0; step_to(1) };
+#else
     step_to(1);
-    d_step { is_full[0] = 0; taken[0] = finished[0] };
-    d_step { is_full[1] = 0; taken[1] = finished[1] };
-    d_step { is_full[2] = 0; taken[2] = finished[2] };
+#endif
+    d_step {
+        is_full[0] = 0; is_full[1] = 0; is_full[2] = 0;
+        taken[0] = finished[0]; taken[1] = finished[1]; taken[2] = finished[2]
+    };
 #if MISTAKE == 4
     has_work = 0;
 #endif
     step_to(0);
 #if MISTAKE != 5 /* those without room aren't told that there is some */
-    atomic { if :: is_behind[0] -> bell[0] = 1 :: else fi };
-    atomic { if :: is_behind[1] -> bell[1] = 1 :: else fi };
-    atomic { if :: is_behind[2] -> bell[2] = 1 :: else fi };
+    d_step {
+        if :: is_behind[0] -> bell[0] = 1 :: else fi;
+        if :: is_behind[1] -> bell[1] = 1 :: else fi;
+        if :: is_behind[2] -> bell[2] = 1 :: else fi
+    };
 #endif
     atomic {
         if
@@ -127,42 +132,37 @@ inline make_round(is_helper) {
 }
 
 proctype Helper() {
-    bit has_due, is_due, has_cause, has_begun, rings, sees_work;
+    bit has_due, is_due, has_cause, has_begun, rings;
     atomic { LOCK };
 rest:
     atomic { has_begun = 0; has_due = 0 };
 look:
-    atomic {
-        if :: is_ending -> UNLOCK; helper_ended = 1; goto ended_now :: else fi;
-#if MISTAKE == 7 /* it says that it looks no more after it has looked */
-        if :: is_due -> has_due = 0 :: else fi
-#else
-        if :: is_due -> has_due = 0; watches = 0 :: else fi
-#endif
-    };
-    atomic { sees_work = has_work; has_cause = !is_led && !over && urgent };
-    atomic {
-        if :: !is_led && !over && sees_work && (awaiting > 0 || is_due) -> has_cause = 1 :: else fi
-    };
-#if MISTAKE == 7
+#if MISTAKE != 7 /* it says that it looks no more after it has looked */
     atomic { if :: is_due -> watches = 0 :: else fi };
 #endif
     atomic {
-        is_due = 0;
-        sees_work = 0;
-        if :: has_cause -> has_cause = 0; is_led = 1; watches = 1; UNLOCK :: else -> goto sleeps fi
+        if :: is_ending -> UNLOCK; helper_ended = 1; goto ended_now :: else fi;
+        if :: is_due -> has_due = 0 :: else fi;
+        has_cause = !is_led && !over && (urgent || (has_work && (awaiting > 0 || is_due)));
+        if
+        :: has_cause -> has_cause = 0; is_due = 0; is_led = 1; watches = 1; UNLOCK
+        :: else ->
+            is_rung = 0;
+            if
+            :: !has_due && !over && (!has_begun || (!is_led && has_work)) -> has_due = 1; watches = 1; is_due = 0
+            :: else
+            fi;
+            has_begun = 1;
+            goto sleeps
+        fi
     };
     make_round(1);
     atomic { LOCK; goto rest };
 sleeps:
-    atomic { sees_work = !has_begun || (!is_led && has_work) };
-    atomic {
-        if :: !has_due && !over && sees_work -> has_due = 1; watches = 1 :: else fi;
-        sees_work = 0;
-        has_begun = 1;
-        is_rung = 0;
-        UNLOCK
-    };
+#if MISTAKE == 7
+    atomic { if :: is_due -> watches = 0 :: else fi };
+#endif
+    atomic { is_due = 0; UNLOCK };
     atomic { if :: is_rung :: has_due -> is_due = 1 fi };
     atomic { LOCK; goto look };
 ended_now:
@@ -183,15 +183,13 @@ inline sleep_seat(i) { atomic { bell[i] -> bell[i] = 0 } }
 
 /* Without room: sleeps until the next step. */
 inline await_room(i) {
-    atomic { awaiting++ };
-    is_behind[i] = 1;
+    atomic { awaiting++; is_behind[i] = 1 };
     if :: atomic { !was_taking && !stepped[i] -> skip }; demand() :: else fi;
     do
     :: atomic { over || stepped[i] -> break }
     :: atomic { else -> skip }; sleep_seat(i)
     od;
-    is_behind[i] = 0;
-    atomic { awaiting-- }
+    atomic { is_behind[i] = 0; awaiting-- }
 }
 
 /* Tries to take the monitor: 0 taken, 1 held, 2 no room. */
@@ -206,12 +204,14 @@ inline try_enter(i, m) {
 }
 
 inline enter(i, m) {
-    if :: locks[i] == 0 -> is_busy[i] = 1 :: else fi;
+    atomic { if :: locks[i] == 0 -> is_busy[i] = 1 :: else fi };
+#if END > 0
     /* A look at whether the heap can be closed may be underway. */
     if
     :: atomic { is_lent[i] -> skip }
-    :: atomic { over -> skip }; leave(i); goto gone
+    :: atomic { !is_lent[i] && over -> skip }; leave(i); goto gone
     fi;
+#endif
     do
     ::  d_step { was_taking = is_taking; stepped[i] = 0 };
         if :: atomic { over -> answer = 3 } :: atomic { else -> skip }; try_enter(i, m) fi;
@@ -239,7 +239,9 @@ inline enter(i, m) {
 inline freed(i, m, waits) {
     if
     :: locks[i] == 0 ->
+#if END > 0
         ended[i]++;
+#endif
         if
         :: atomic { !has_work -> has_work = 1 };
             if
@@ -264,11 +266,18 @@ inline give_back(i, m) {
         assert(!is_freed[i] && owner[m] == i + 1);
         owner[m] = 0;
         locks[i]--;
-        if :: locks[i] == 0 -> finished[i]++; is_full[i] = 1 :: else fi
+        if :: locks[i] == 0 -> finished[i]++; is_full[i] = 1 :: else fi;
+#if END == 0
+        if :: locks[i] == 0 -> ended[i]++ :: else fi
+#endif
     }
 }
 
+#if END > 0
 inline must_go_on(i) { if :: atomic { over -> skip }; leave(i); goto gone :: else fi }
+#else
+inline must_go_on(i) { skip }
+#endif
 
 inline exit(i, m) {
     must_go_on(i);
@@ -326,8 +335,12 @@ inline notify_all(i, m) {
 inline await(i) {
     if
     :: acknowledged[i] < ended[i] ->
-        atomic { awaiting++ };
-        atomic { !mutex -> rings = !is_led && !urgent && !over && awaiting == 1; if :: rings -> is_led = 1 :: else fi };
+        atomic {
+            !mutex ->
+            awaiting++;
+            rings = !is_led && !urgent && !over && awaiting == 1;
+            if :: rings -> is_led = 1 :: else fi
+        };
         if :: rings -> rings = 0; make_round(0) :: else -> demand() fi;
         do
         ::  told[i] = 0;
