@@ -227,8 +227,7 @@ inline enter(i, m) {
         :: answer == 2 -> want_no_more(i, 0); await_room(i)
         fi
     od;
-    is_new = 0;
-    was_taking = 0;
+    atomic { is_new = 0; was_taking = 0; stepped[i] = 1 }; /* nobody looks at it any more */
     if
     :: answer == 0 -> want_no_more(i, 1)
     :: else -> answer = 0; want_no_more(i, 0); leave(i); goto gone
@@ -348,7 +347,7 @@ inline await(i) {
             if :: atomic { acknowledged[i] >= ended[i] -> break } :: else fi;
             told[i]
         od;
-        atomic { awaiting-- }
+        atomic { awaiting--; told[i] = 1 }
     :: else
     fi
 }
@@ -356,16 +355,15 @@ inline await(i) {
 #define SECTION(m) enter(i, m); exit(i, m)
 
 proctype Thread(byte i) {
-    byte before, answer, notified, who;
+    byte before, answer, notified, who, own = i % 2;
     bit is_new, was_taking, rings;
-#if SCRIPT == 0 /* all want one monitor, and one waits for its section */
-    SECTION(0);
-    if :: i == 0 -> await(i) :: else fi
+#if SCRIPT == 0 /* all want one monitor */
+    SECTION(0)
 #elif SCRIPT == 1 /* two monitors, one inside of the other; a ring that is full */
     if
     :: i == 0 -> enter(i, 0); SECTION(1); exit(i, 0)
     :: i == 1 -> SECTION(1); SECTION(1)
-    :: i == 2 -> SECTION(0)
+    :: i == 2 -> skip
     fi
 #elif SCRIPT == 2 /* one waits in the set, one notifies, and one comes between */
     if
@@ -378,11 +376,19 @@ proctype Thread(byte i) {
     :: i == 2 -> enter(i, 0); is_said = 1; notify_all(i, 0); exit(i, 0)
     :: else -> enter(i, 0); if :: !is_said -> wait(i, 0) :: else fi; exit(i, 0)
     fi
-#else /* each waits for its section; what one waits for depends on what others have open */
+#elif SCRIPT == 4 /* each of two waits for its section, which may depend on what the other one has open */
     if
-    :: i == 0 -> SECTION(0); await(i)
-    :: i == 1 -> SECTION(1); await(i)
-    :: i == 2 -> SECTION(1)
+    :: i < 2 -> SECTION(own); await(i)
+    :: else -> skip
+    fi
+#elif SCRIPT == 5 /* one waits for its section, and two others end theirs meanwhile */
+    SECTION(own);
+    if :: i == 0 -> await(i) :: else fi
+#else /* one waits for one section after the other, beside one that doesn't wait */
+    if
+    :: i == 0 -> SECTION(0); await(i); SECTION(0); await(i)
+    :: i == 1 -> SECTION(1)
+    :: i == 2 -> skip
     fi
 #endif
     ;
@@ -448,6 +454,8 @@ refused:
 init {
     atomic {
         is_lent[0] = 1; is_lent[1] = 1; is_lent[2] = 1;
+        tell_all();
+        step_to(0);
         run Helper();
         run Thread(0); run Thread(1); run Thread(2);
 #if END > 0
