@@ -75,7 +75,8 @@ inline want(i, m) {
 }
 
 inline want_no_more(i, has_taken) {
-    atomic { !mutex -> before = wanted[i]; wanted[i] = 0; if :: before > 0 -> waiting[before - 1]-- :: else fi };
+    atomic { if :: wanted[i] > 0 -> before = wanted[i] :: else fi };
+    if :: before > 0 -> atomic { !mutex -> wanted[i] = 0; waiting[before - 1]-- } :: else fi;
 #if MISTAKE != 2 /* one that doesn't take the monitor keeps the wake that it had */
     if
     :: before == 1 && !has_taken -> wake_first(0)
@@ -92,20 +93,24 @@ inline make_round(is_helper) {
     atomic { !mutex -> urgent = 0 };
 #endif
 #if MISTAKE != 4 /* all work is taken to be known after the round has taken it */
-    has_work = 0;
-#endif
+    atomic { has_work = 0; step_to(1) };
+#else
     step_to(1);
-    d_step { is_full[0] = 0; taken[0] = finished[0] };
-    d_step { is_full[1] = 0; taken[1] = finished[1] };
-    d_step { is_full[2] = 0; taken[2] = finished[2] };
+#endif
+    d_step {
+        is_full[0] = 0; is_full[1] = 0; is_full[2] = 0;
+        taken[0] = finished[0]; taken[1] = finished[1]; taken[2] = finished[2]
+    };
 #if MISTAKE == 4
     has_work = 0;
 #endif
     step_to(0);
 #if MISTAKE != 5 /* those without room aren't told that there is some */
-    atomic { if :: is_behind[0] -> bell[0] = 1 :: else fi };
-    atomic { if :: is_behind[1] -> bell[1] = 1 :: else fi };
-    atomic { if :: is_behind[2] -> bell[2] = 1 :: else fi };
+    d_step {
+        if :: is_behind[0] -> bell[0] = 1 :: else fi;
+        if :: is_behind[1] -> bell[1] = 1 :: else fi;
+        if :: is_behind[2] -> bell[2] = 1 :: else fi
+    };
 #endif
     atomic {
         if
@@ -127,42 +132,37 @@ inline make_round(is_helper) {
 }
 
 proctype Helper() {
-    bit has_due, is_due, has_cause, has_begun, rings, sees_work;
+    bit has_due, is_due, has_cause, has_begun, rings;
     atomic { LOCK };
 rest:
     atomic { has_begun = 0; has_due = 0 };
 look:
-    atomic {
-        if :: is_ending -> UNLOCK; helper_ended = 1; goto ended_now :: else fi;
-#if MISTAKE == 7 /* it says that it looks no more after it has looked */
-        if :: is_due -> has_due = 0 :: else fi
-#else
-        if :: is_due -> has_due = 0; watches = 0 :: else fi
-#endif
-    };
-    atomic { sees_work = has_work; has_cause = !is_led && !over && urgent };
-    atomic {
-        if :: !is_led && !over && sees_work && (awaiting > 0 || is_due) -> has_cause = 1 :: else fi
-    };
-#if MISTAKE == 7
+#if MISTAKE != 7 /* it says that it looks no more after it has looked */
     atomic { if :: is_due -> watches = 0 :: else fi };
 #endif
     atomic {
-        is_due = 0;
-        sees_work = 0;
-        if :: has_cause -> has_cause = 0; is_led = 1; watches = 1; UNLOCK :: else -> goto sleeps fi
+        if :: is_ending -> UNLOCK; helper_ended = 1; goto ended_now :: else fi;
+        if :: is_due -> has_due = 0 :: else fi;
+        has_cause = !is_led && !over && (urgent || (has_work && (awaiting > 0 || is_due)));
+        if
+        :: has_cause -> has_cause = 0; is_due = 0; is_led = 1; watches = 1; UNLOCK
+        :: else ->
+            is_rung = 0;
+            if
+            :: !has_due && !over && (!has_begun || (!is_led && has_work)) -> has_due = 1; watches = 1; is_due = 0
+            :: else
+            fi;
+            has_begun = 1;
+            goto sleeps
+        fi
     };
     make_round(1);
     atomic { LOCK; goto rest };
 sleeps:
-    atomic { sees_work = !has_begun || (!is_led && has_work) };
-    atomic {
-        if :: !has_due && !over && sees_work -> has_due = 1; watches = 1 :: else fi;
-        sees_work = 0;
-        has_begun = 1;
-        is_rung = 0;
-        UNLOCK
-    };
+#if MISTAKE == 7
+    atomic { if :: is_due -> watches = 0 :: else fi };
+#endif
+    atomic { is_due = 0; UNLOCK };
     atomic { if :: is_rung :: has_due -> is_due = 1 fi };
     atomic { LOCK; goto look };
 ended_now:
@@ -183,15 +183,13 @@ inline sleep_seat(i) { atomic { bell[i] -> bell[i] = 0 } }
 
 /* Without room: sleeps until the next step. */
 inline await_room(i) {
-    atomic { awaiting++ };
-    is_behind[i] = 1;
+    atomic { awaiting++; is_behind[i] = 1 };
     if :: atomic { !was_taking && !stepped[i] -> skip }; demand() :: else fi;
     do
     :: atomic { over || stepped[i] -> break }
     :: atomic { else -> skip }; sleep_seat(i)
     od;
-    is_behind[i] = 0;
-    atomic { awaiting-- }
+    atomic { is_behind[i] = 0; awaiting-- }
 }
 
 /* Tries to take the monitor: 0 taken, 1 held, 2 no room. */
@@ -206,12 +204,14 @@ inline try_enter(i, m) {
 }
 
 inline enter(i, m) {
-    if :: locks[i] == 0 -> is_busy[i] = 1 :: else fi;
+    atomic { if :: locks[i] == 0 -> is_busy[i] = 1 :: else fi };
+#if END > 0
     /* A look at whether the heap can be closed may be underway. */
     if
     :: atomic { is_lent[i] -> skip }
-    :: atomic { over -> skip }; leave(i); goto gone
+    :: atomic { !is_lent[i] && over -> skip }; leave(i); goto gone
     fi;
+#endif
     do
     ::  d_step { was_taking = is_taking; stepped[i] = 0 };
         if :: atomic { over -> answer = 3 } :: atomic { else -> skip }; try_enter(i, m) fi;
@@ -227,8 +227,7 @@ inline enter(i, m) {
         :: answer == 2 -> want_no_more(i, 0); await_room(i)
         fi
     od;
-    is_new = 0;
-    was_taking = 0;
+    atomic { is_new = 0; was_taking = 0; stepped[i] = 1 }; /* nobody looks at it any more */
     if
     :: answer == 0 -> want_no_more(i, 1)
     :: else -> answer = 0; want_no_more(i, 0); leave(i); goto gone
@@ -239,7 +238,9 @@ inline enter(i, m) {
 inline freed(i, m, waits) {
     if
     :: locks[i] == 0 ->
+#if END > 0
         ended[i]++;
+#endif
         if
         :: atomic { !has_work -> has_work = 1 };
             if
@@ -264,11 +265,18 @@ inline give_back(i, m) {
         assert(!is_freed[i] && owner[m] == i + 1);
         owner[m] = 0;
         locks[i]--;
-        if :: locks[i] == 0 -> finished[i]++; is_full[i] = 1 :: else fi
+        if :: locks[i] == 0 -> finished[i]++; is_full[i] = 1 :: else fi;
+#if END == 0
+        if :: locks[i] == 0 -> ended[i]++ :: else fi
+#endif
     }
 }
 
+#if END > 0
 inline must_go_on(i) { if :: atomic { over -> skip }; leave(i); goto gone :: else fi }
+#else
+inline must_go_on(i) { skip }
+#endif
 
 inline exit(i, m) {
     must_go_on(i);
@@ -326,8 +334,12 @@ inline notify_all(i, m) {
 inline await(i) {
     if
     :: acknowledged[i] < ended[i] ->
-        atomic { awaiting++ };
-        atomic { !mutex -> rings = !is_led && !urgent && !over && awaiting == 1; if :: rings -> is_led = 1 :: else fi };
+        atomic {
+            !mutex ->
+            awaiting++;
+            rings = !is_led && !urgent && !over && awaiting == 1;
+            if :: rings -> is_led = 1 :: else fi
+        };
         if :: rings -> rings = 0; make_round(0) :: else -> demand() fi;
         do
         ::  told[i] = 0;
@@ -335,7 +347,7 @@ inline await(i) {
             if :: atomic { acknowledged[i] >= ended[i] -> break } :: else fi;
             told[i]
         od;
-        atomic { awaiting-- }
+        atomic { awaiting--; told[i] = 1 }
     :: else
     fi
 }
@@ -343,16 +355,15 @@ inline await(i) {
 #define SECTION(m) enter(i, m); exit(i, m)
 
 proctype Thread(byte i) {
-    byte before, answer, notified, who;
+    byte before, answer, notified, who, own = i % 2;
     bit is_new, was_taking, rings;
-#if SCRIPT == 0 /* all want one monitor, and one waits for its section */
-    SECTION(0);
-    if :: i == 0 -> await(i) :: else fi
+#if SCRIPT == 0 /* all want one monitor */
+    SECTION(0)
 #elif SCRIPT == 1 /* two monitors, one inside of the other; a ring that is full */
     if
     :: i == 0 -> enter(i, 0); SECTION(1); exit(i, 0)
     :: i == 1 -> SECTION(1); SECTION(1)
-    :: i == 2 -> SECTION(0)
+    :: i == 2 -> skip
     fi
 #elif SCRIPT == 2 /* one waits in the set, one notifies, and one comes between */
     if
@@ -365,11 +376,19 @@ proctype Thread(byte i) {
     :: i == 2 -> enter(i, 0); is_said = 1; notify_all(i, 0); exit(i, 0)
     :: else -> enter(i, 0); if :: !is_said -> wait(i, 0) :: else fi; exit(i, 0)
     fi
-#else /* each waits for its section; what one waits for depends on what others have open */
+#elif SCRIPT == 4 /* each of two waits for its section, which may depend on what the other one has open */
     if
-    :: i == 0 -> SECTION(0); await(i)
-    :: i == 1 -> SECTION(1); await(i)
-    :: i == 2 -> SECTION(1)
+    :: i < 2 -> SECTION(own); await(i)
+    :: else -> skip
+    fi
+#elif SCRIPT == 5 /* one waits for its section, and two others end theirs meanwhile */
+    SECTION(own);
+    if :: i == 0 -> await(i) :: else fi
+#else /* one waits for one section after the other, beside one that doesn't wait */
+    if
+    :: i == 0 -> SECTION(0); await(i); SECTION(0); await(i)
+    :: i == 1 -> SECTION(1)
+    :: i == 2 -> skip
     fi
 #endif
     ;
@@ -435,6 +454,8 @@ refused:
 init {
     atomic {
         is_lent[0] = 1; is_lent[1] = 1; is_lent[2] = 1;
+        tell_all();
+        step_to(0);
         run Helper();
         run Thread(0); run Thread(1); run Thread(2);
 #if END > 0

@@ -570,6 +570,10 @@ static void *copy_again(void *data) {
 
 /* A copy of a running heap has all that was durable before, and its parts fit together. */
 static void copies(void) {
+    if (zelamiku_copy == NULL) {
+        printf("NOT TRIED: copies, of which the library knows nothing yet\n");
+        return;
+    }
     begin_anew();
     zelamiku_thread own = begin_thread();
     add(own, TOTAL, 0, 3);
@@ -579,7 +583,9 @@ static void copies(void) {
     for (unsigned i = 0; i < 2; i++) MUST(pthread_create(&copiers[i], NULL, copy_again, i == 0 ? NULL : &all) == 0);
     for (unsigned i = 0; i < 4; i++) MUST(pthread_join(threads[i], NULL) == 0);
     for (unsigned i = 0; i < 2; i++) MUST(pthread_join(copiers[i], NULL) == 0);
-    MUST(zelamiku_heap_copy(all, "last copy") == ZELAMIKU_OK);
+    /* Whoever has had the monitor last depends on all that had it before. */
+    add(own, TOTAL, 0, 0);
+    MUST(zelamiku_thread_await(own) == ZELAMIKU_OK && zelamiku_heap_copy(all, "last copy") == ZELAMIKU_OK);
     uint64_t total = 3 + 4 * ROUNDS;
     zelamiku_heap before = all;
     zelamiku_plan plan = {.fields = FIELDS, .count = 3, .objects = 2, .lanes = LANES};
