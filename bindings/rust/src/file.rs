@@ -71,7 +71,7 @@ impl From<io::Error> for FileError {
     }
 }
 
-// Locks the file for this open alone, as `heapctl` and `zelamiku_file.h` do.
+// Locks the file for this open alone, as `heapctl` and the library do.
 fn lock(file: &File) -> Result<(), FileError> {
     while !raw::lock_alone(file) {
         let error = io::Error::last_os_error();

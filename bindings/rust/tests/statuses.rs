@@ -177,11 +177,9 @@ fn this_crate_has_the_numbers_of_the_headers() {
     for (name, path, constant) in numbers {
         assert_eq!(header_number(name), number_in(path, constant), "{name}");
     }
-    // A file's image: by a sum, in both.
-    let header = read("../c/zelamiku_file.h");
-    for name in ["HEADER_BYTES", "MOST_IMAGE_BYTES"] {
-        let start = format!("#define ZELAMIKU_{name} ");
-        let rest = header.lines().find_map(|line| line.strip_prefix(&start)).unwrap();
-        assert_eq!(rest.trim_matches(|c| c == '(' || c == ')'), constant_in("src/file.rs", name));
-    }
+    // A file's header, in both.
+    let header = read("../c/zelamiku_threads.h");
+    let start = "#define ZELAMIKU_HEADER_BYTES ";
+    let rest = header.lines().find_map(|line| line.strip_prefix(start)).unwrap();
+    assert_eq!(rest.trim(), constant_in("src/file.rs", "HEADER_BYTES"));
 }
