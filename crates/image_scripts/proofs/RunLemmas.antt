@@ -1,10 +1,15 @@
 -- From the play to the run, and from what is there to what is written.
-use Rattle.std.proofs.Common.{ℕ, ◌≡◌, ◌⊎◌, ◌++◌, Option, None, Some, List, [], Result, Ok, Err, IfErr, IfOk, OnErr, OnOk, inl, inr, refl, sym, subst, ap, ◌∙◌}
+use Rattle.std.proofs.Common.{ℕ, ◌≡◌, ◌⊎◌, ◌++◌, ◌+◌, ◌<◌, ◌≤◌, Option, None, Some, List, [], Result, Ok, Err, IfErr, IfOk, OnErr, OnOk, arith, inl, inr, length, get_or, refl, sym, subst, ap, ◌∙◌}
+use Rattle.std.proofs.lemmas.List.{ext_get_or}
+use Rattle.block_disk.proofs.Bytes.{length_spliced, spliced_at}
+use Rattle.block_disk.specs.Bytes.{spliced}
+use Rattle.block_disk.specs.Device.{Device, synced, written}
+use Rattle.image_file.proofs.PlaceLemmas.{reads_left}
+use Rattle.image_file.specs.Images.{IsLeft, IsThere}
 use Rattle.std.specs.Io.KnownBytes.{Appends}
 use Rattle.std.proofs.KnownBytes.{Appends-nil}
 use Rattle.block_disk.specs.Memory.{Memory, device_of, fresh}
 use Rattle.guards.specs.Schema.{Declarations}
-use Rattle.image_file.specs.Naming.{IsNamedBy}
 use Rattle.image_file.specs.Showing.{told_of_attaching}
 use Rattle.image_file.specs.declared.error.FileFault.{FileFault}
 use Rattle.image_file.specs.declared.error.ImageFault.TheVariants as images
@@ -14,15 +19,13 @@ use Rattle.recover.specs.Recovery.{RefusesOf}
 use Rattle.recover.specs.Reading.{RefusesImage}
 use Rattle.recover.specs.declared.error.RecoverError.TheVariants as recover
 use Rattle.recover.specs.declared.versions.Versions.TheVariants.{Current}
-use Rattle.script_lines.specs.Endings.{OfScript, Reads}
-use Rattle.script_lines.specs.Lines.{lines_of}
 use Rattle.script_lines.specs.declared.error.ScriptError.{ScriptError}
 use Rattle.script_lines.specs.declared.reader.Ending.{Ending}
 use Rattle.script_machine.specs.Machine.{MachineState, Down}
 use Rattle.script_machine.specs.States.{Wreck}
 use Rattle.scripts.specs.Runs.{AppendsPart, EndsOn}
 use Rattle.image_scripts.specs.Playing.{IsDown, IsNotRecovered, IsOver, IsRecovered, IsStopped, PlaysDown, PlaysOver, RefusesDown, RefusesNamed, RefusesOver, RefusesToPlay, shown_by}
-use Rattle.image_scripts.specs.Running.{IsPrinted, IsPrintedInPart, IsThere, PlaysHeld, RunsFile, RunsHeld}
+use Rattle.image_scripts.specs.Running.{PlaysHeld, RunsHeld}
 use Rattle.image_scripts.specs.declared.error.RunFault.{RunFault}
 use Rattle.image_scripts.specs.declared.error.RunFault.TheVariants.{Named, Script, Write}
 
@@ -76,37 +79,34 @@ not_put given lines ending had mid has old left text wrote why fault is played s
     (inr (record { left = left; text = text; played = played; unput = (why, refl); stays = still }), Appends-nil old) in
     subst (λ (f : RunFault). RunsHeld given lines ending (Err f) had has old old) (sym is) so
 
-module _ {P : Type 0} (path : Option P) (given : Option Declarations) (is_named : IsNamedBy path given) (read unread : Option (List ℕ)) (script : List ℕ) (ending : Ending) (taken : Reads read unread script ending) (had has old new : Option (List ℕ)) where
-  -- a run over an image that was claimed is one over an image file
-  pub of_held : (r : Result (Unit {0}) RunFault) → RunsHeld given (lines_of script) ending r had has old new → RunsFile path r read unread old new
-  of_held (Ok done) h = (
-    script,
-    ending,
-    taken,
-    record {
-      given = given;
-      is_named = is_named;
-      image = h.played.image;
-      left = h.left;
-      text = h.text;
-      plays = h.played.plays;
-      written = h.written;
-    },
-  )
-  of_held (Err Write) h = (
-    script,
-    ending,
-    taken,
-    record {
-      given = given;
-      is_named = is_named;
-      image = h.played.image;
-      left = h.left;
-      text = h.text;
-      plays = h.played.plays;
-      part = h.part;
-    },
-  )
-  of_held (Err (Script error)) (inl (why, told), same, silent) = absurd cc
-  of_held (Err (Script error)) (inr refused, same, silent) = ((script, ending, taken, refused.refused), silent)
-  of_held (Err (Named fault)) h = h.1
+-- the image isn't had, and is as it was
+pub not_had : (given : Option Declarations) (lines : List (List ℕ)) (ending : Ending) (had has old : Option (List ℕ)) (why : FileFault) (fault : RunFault)
+    → fault ≡ Named (named.Image (told_of_attaching why)) → has ≡ had → RunsHeld given lines ending (Err fault) had has old old
+not_had given lines ending had has old why fault is same =
+    let so : RunsHeld given lines ending (Err (Named (named.Image (told_of_attaching why)))) had has old old =
+    (inl (inl (why, refl), same), Appends-nil old) in
+    subst (λ (f : RunFault). RunsHeld given lines ending (Err f) had has old old) (sym is) so
+
+-- as many bytes in the place of all
+pub all_over : (bytes image : List ℕ) → length image ≡ length bytes → spliced bytes 0 image ≡ image
+all_over bytes image same =
+    let fits : 0 + length image ≤ length bytes = omega (arith, same) in
+    let long = length_spliced bytes image 0 fits in
+    ext_get_or 0 (spliced bytes 0 image) image (long ∙ sym same)
+    (λ i within.
+    let less : i < length image = omega (arith, within, long, same) in
+    let there : i ≡ 0 + i = omega arith in
+    ap (λ (k : ℕ). get_or (spliced bytes 0 image) k 0) there ∙ spliced_at bytes image 0 fits i less)
+
+-- what was written over all of a disk, and synced, is what is there
+pub is_put : (old new : Device) (image : List ℕ) (has : Option (List ℕ)) → new ≡ synced (written 0 image old) → length image ≡ length old.now.bytes
+    → IsLeft new.now has → IsThere image has
+is_put old new image has made same left =
+    let pending : new.now.pending ≡ [] = λ i. (made i).now.pending in
+    let reads : new.now.bytes ≡ image = (λ i. (made i).now.bytes) ∙ all_over old.now.bytes image same in
+    subst (λ (bytes : List ℕ). IsThere bytes has) reads (reads_left new has pending left)
+
+pub not_put_there : (old new : Device) (image : List ℕ) {T : Type 0} (had has : T) (there : Option (List ℕ)) → new ≡ synced (written 0 image old) → length image ≡ length old.now.bytes
+    → (has ≡ had) ⊎ IsLeft new.now there → (has ≡ had) ⊎ IsThere image there
+not_put_there old new image had has there made same (inl stays) = inl stays
+not_put_there old new image had has there made same (inr left) = inr (is_put old new image there made same left)

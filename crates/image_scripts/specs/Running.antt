@@ -1,7 +1,8 @@
--- How a run over an image that is kept somewhere ends (docs/SCRIPTS.md, "A script over an image file").
-use Rattle.std.specs.Prelude.{ℕ, ◌≡◌, ◌⊎◌, Option, IfSome, List, [], Result, Ok, Err}
+-- How a run over an image at a path ends (docs/SCRIPTS.md, "A script over an image file").
+use Rattle.std.specs.Prelude.{ℕ, ◌≡◌, ◌⊎◌, Option, List, [], Result, Ok, Err}
 use Rattle.std.specs.Io.KnownBytes.{Appends}
 use Rattle.guards.specs.Schema.{Declarations}
+use Rattle.image_file.specs.Images.{IsThere}
 use Rattle.image_file.specs.Naming.{IsNamedBy}
 use Rattle.image_file.specs.Showing.{told_of_attaching}
 use Rattle.image_file.specs.declared.error.FileFault.{FileFault}
@@ -13,10 +14,6 @@ use Rattle.scripts.specs.Runs.{AppendsPart}
 use Rattle.image_scripts.specs.Playing.{IsStopped, PlaysOver, RefusesToPlay}
 use Rattle.image_scripts.specs.declared.error.RunFault.{RunFault}
 use Rattle.image_scripts.specs.declared.error.RunFault.TheVariants.{Named, Script, Write}
-
--- this image is there, where it is known which one is
-abbrev pub IsThere : List ℕ → Option (List ℕ) → Type 0
-IsThere image held = IfSome held (λ there. there ≡ image)
 
 module _ (given : Option Declarations) (lines : List (List ℕ)) (ending : Ending) where
   -- the image that was there was read, and the lines played over it
@@ -70,31 +67,18 @@ module _ (given : Option Declarations) (lines : List (List ℕ)) (ending : Endin
   RunsHeld (Err (Script error)) had has old new = RefusesHeld had (Script error) × (has ≡ had) × Appends old new []
   RunsHeld (Err (Named fault)) had has old new = ((RefusesHeld had (Named fault) × (has ≡ had)) ⊎ IsNotPut had has (Named fault)) × Appends old new []
 
--- over an image file, whose bytes aren't known
-
--- the lines were played over some image, by the names of the schema file where one is named, and what they print was written
-pub record IsPrinted {P : Type 0} (path : Option P) (lines : List (List ℕ)) (ending : Ending) (old new : Option (List ℕ)) : Type 0 where
+-- by the names of the schema file, where one is named
+pub record RunsNamed {P : Type 0} (path : Option P) (lines : List (List ℕ)) (ending : Ending) (result : Result (Unit {0}) RunFault) (had has old new : Option (List ℕ)) : Type 0 where
   pub given : Option Declarations
   pub is_named : IsNamedBy path given
-  pub image : List ℕ
-  pub left : List ℕ
-  pub text : List ℕ
-  pub plays : PlaysOver given lines ending image left text
-  pub written : Appends old new text
+  pub runs : RunsHeld given lines ending result had has old new
 
--- a beginning of it was, and not all
-pub record IsPrintedInPart {P : Type 0} (path : Option P) (lines : List (List ℕ)) (ending : Ending) (old new : Option (List ℕ)) : Type 0 where
-  pub given : Option Declarations
-  pub is_named : IsNamedBy path given
-  pub image : List ℕ
-  pub left : List ℕ
-  pub text : List ℕ
-  pub plays : PlaysOver given lines ending image left text
-  pub part : AppendsPart old new text
+-- the schema file isn't had: nothing is done
+abbrev pub IsUnnamed : Result (Unit {0}) RunFault → (had has old new : Option (List ℕ)) → Type 0
+IsUnnamed (Err (Named fault)) had has old new = (has ≡ had) × Appends old new []
+IsUnnamed _ had has old new = ⊥
 
--- how the run over an image file ends, by what was read of the script and what was written
-abbrev pub RunsFile : {P : Type 0} (path : Option P) → Result (Unit {0}) RunFault → (read unread old new : Option (List ℕ)) → Type 0
-RunsFile path (Ok done) read unread old new = OfScript read unread (λ lines ending. IsPrinted path lines ending old new)
-RunsFile path (Err Write) read unread old new = OfScript read unread (λ lines ending. IsPrintedInPart path lines ending old new)
-RunsFile path (Err (Script error)) read unread old new = OfScript read unread (λ lines ending. IsStopped lines ending error) × Appends old new []
-RunsFile path (Err (Named fault)) read unread old new = Appends old new []
+-- how the run of a script ends, by the image that was there before and is now, what was read of the script and what was written
+abbrev pub RunsAt : {P : Type 0} (path : Option P) → Result (Unit {0}) RunFault → (had has read unread old new : Option (List ℕ)) → Type 0
+RunsAt path result had has read unread old new =
+    IsUnnamed result had has old new ⊎ OfScript read unread (λ lines ending. RunsNamed path lines ending result had has old new)

@@ -1,27 +1,27 @@
-//! Running a script over an image that is kept somewhere.
-ghost use Rattle.std.specs.Prelude.{◌≡◌, IfErr, IfOk};
+//! Running a script over an image at a path.
+ghost use Rattle.std.specs.Prelude.{◌≡◌, ◌⊎◌, length, IfErr, IfOk, OnErr, OnOk};
+ghost use Rattle.block_disk.specs.Device.{synced, written};
 ghost use Rattle.script_lines.specs.Lines.{lines_of};
+ghost use Rattle.image_file.specs.Images.{IsThere};
 ghost use Rattle.image_file.specs.Showing.{told_of_attaching};
 ghost use Rattle.image_file.specs.declared.error.NamedFault.TheVariants.{Image};
-ghost use Rattle.image_scripts.specs.Running.{PlaysHeld, RefusesHeld, RunsFile, RunsHeld};
+ghost use Rattle.image_scripts.specs.Running.{PlaysHeld, RefusesHeld, RunsAt, RunsHeld};
 ghost use Rattle.image_scripts.specs.declared.error.RunFault.TheVariants.{Named};
 
 use crate::error::RunFault;
-use crate::image_at::ImageAt;
-use crate::image_holder::ImageHolder;
 use crate::playing::{Played, play_over};
-use file_disk::BackingFile;
+use block_disk::Disk;
 use guards::Schema;
-use image_file::{FileFault, ImageFault, NamedFault, Trouble, schema_at};
+use image_file::{FileFault, ImageFault, Images, NamedFault, Trouble, schema_at};
 use script_lines::{Ending, read_lines};
 use scripts::put;
+use sector_disk::SectorSize;
 use std::alloc::Global;
-use std::fs::OpenFile;
 use std::io::{Read, Write};
 use std::rt::Files;
 
-/// Runs lines that were read over the image that `holder` has, as [`play_over`] says, puts in its place what they leave of it, and only
-/// then writes what they print.
+/// Runs lines that were read over the image at this path, as [`play_over`] says, puts in its place what they leave of it, and only then
+/// writes what they print.
 ///
 /// Refusals, in this order. Nothing is written, but for the last:
 /// - `Named`: the image isn't had, or as of [`play_over`]; the image is as it was;
@@ -29,21 +29,72 @@ use std::rt::Files;
 /// - `Named`: the image isn't replaced. It is as it was, or, by `Fault`, it may be that the new one is there and isn't known to be
 ///   durable;
 /// - `Write`: the image is replaced, and the writer failed. A beginning of the text is written.
-pub fn run_image<H: ImageHolder, W: Write>(
+pub fn run_image<D: Disk + Drop, P: Images<Medium = D>, W: Write>(
+    images: &mut P,
     alloc: Global,
-    holder: &mut H,
+    path: &str,
     given: Option<Schema>,
     script: &[u8],
     ending: Ending,
     writer: &mut W,
 ) -> Result<(), RunFault>
-    ensures { RunsHeld given (lines_of script.now) ending result (H.holds holder.old) (H.holds holder.new) (W.contents writer.old) (W.contents writer.new) }
+    ensures { RunsHeld given (lines_of script.now) ending result (P.holds images.old path.now)
+        (P.holds images.new path.now) (W.contents writer.old) (W.contents writer.new) }
 {
-    let played = match play_held(alloc, holder, given, script, ending) {
-        Ok(played) => played,
+    match place_for(images, alloc, path) {
+        Ok((disk, sectors)) => {
+            run_on(
+                images, alloc, path, disk, sectors, given, script, ending, writer,
+            )
+        }
+        Err(why) => {
+            drop(given);
+            Err(of_file(why))
+        }
+    }
+}
+
+// The disk on which the new image is made, as large as the one that is there, and how both lie.
+fn place_for<D: Disk + Drop, P: Images<Medium = D>>(
+    images: &mut P,
+    alloc: Global,
+    path: &str,
+) -> Result<(D, Option<SectorSize>), FileFault>
+    ensures same { P.holds images.new path.now ≡ P.holds images.old path.now }
+{
+    let (size, sectors) = match images.shape(path) {
+        Ok(shape) => shape,
         Err(fault) => return Err(fault),
     };
-    if let Err(why) = holder.put_image(&played.image) {
+    match images.make(alloc, path, sectors, size) {
+        Ok(disk) => Ok((disk, sectors)),
+        Err(fault) => Err(fault),
+    }
+}
+
+// Runs them, and makes the new image on this disk.
+fn run_on<D: Disk + Drop, P: Images<Medium = D>, W: Write>(
+    images: &mut P,
+    alloc: Global,
+    path: &str,
+    disk: D,
+    sectors: Option<SectorSize>,
+    given: Option<Schema>,
+    script: &[u8],
+    ending: Ending,
+    writer: &mut W,
+) -> Result<(), RunFault>
+    ensures { RunsHeld given (lines_of script.now) ending result (P.holds images.old path.now)
+        (P.holds images.new path.now) (W.contents writer.old) (W.contents writer.new) }
+{
+    let played = match play_held(images, alloc, path, given, script, ending) {
+        Ok(played) => played,
+        Err(fault) => {
+            drop(disk);
+            return Err(fault);
+        }
+    };
+    if let Err(why) = put_image(images, path, disk, sectors, &played.image) {
         return Err(of_file(why));
     }
     match put(writer, &played.text) {
@@ -52,19 +103,23 @@ pub fn run_image<H: ImageHolder, W: Write>(
     }
 }
 
-// Plays lines over the image that the holder has, which is only read.
-fn play_held<H: ImageHolder>(
+// Plays lines over the image at the path, which is only read.
+fn play_held<D: Disk + Drop, P: Images<Medium = D>>(
+    images: &mut P,
     alloc: Global,
-    holder: &mut H,
+    path: &str,
     given: Option<Schema>,
     script: &[u8],
     ending: Ending,
 ) -> Result<Played, RunFault>
-    ensures ok { IfOk result (λ played. PlaysHeld given (lines_of script.now) ending (H.holds holder.old) played.image.items played.text.items) }
-    ensures refused { IfErr result (RefusesHeld given (lines_of script.now) ending (H.holds holder.old)) }
-    ensures same { H.holds holder.new ≡ H.holds holder.old }
+    ensures ok { IfOk result
+        (λ played. PlaysHeld given (lines_of script.now) ending (P.holds images.old path.now)
+        played.image.items played.text.items) }
+    ensures refused { IfErr result
+        (RefusesHeld given (lines_of script.now) ending (P.holds images.old path.now)) }
+    ensures same { P.holds images.new path.now ≡ P.holds images.old path.now }
 {
-    match holder.read_image(alloc) {
+    match images.read(alloc, path) {
         Ok(image) => {
             let played = play_over(alloc, &image, given, script, ending);
             drop(image);
@@ -77,6 +132,47 @@ fn play_held<H: ImageHolder>(
     }
 }
 
+// Puts this image, made on this disk, in the place of what is at the path.
+fn put_image<D: Disk + Drop, P: Images<Medium = D>>(
+    images: &mut P,
+    path: &str,
+    disk: D,
+    sectors: Option<SectorSize>,
+    image: &[u8],
+) -> Result<(), FileFault>
+    ensures ok { OnOk result (IsThere image.now (P.holds images.new path.now)) }
+    ensures err { OnErr result
+        ((P.holds images.new path.now ≡ P.holds images.old path.now) ⊎ IsThere image.now
+        (P.holds images.new path.now)) }
+{
+    let mut disk = disk;
+    if let Err(fault) = write_over(&mut disk, image) {
+        drop(disk);
+        return Err(fault);
+    }
+    let replaced = images.replace(path, sectors, &disk, false);
+    drop(disk);
+    replaced
+}
+
+// Writes these bytes over those of the disk, which has as many, durably.
+fn write_over<D: Disk>(disk: &mut D, image: &[u8]) -> Result<(), FileFault>
+    ensures ok { OnOk result (D.device disk.new ≡ synced (written 0 image.now (D.device disk.old))) }
+    ensures all { OnOk result (length image.now ≡ length (D.device disk.old).now.bytes) }
+{
+    if disk.size() != image.len() as u64 {
+        return Err(FileFault::Fault);
+    }
+    match disk.write_at(0, image) {
+        Ok(()) => {}
+        Err(_) => return Err(FileFault::Fault),
+    }
+    match disk.sync() {
+        Ok(()) => Ok(()),
+        Err(_) => Err(FileFault::Fault),
+    }
+}
+
 // How it is told that an image isn't had, or isn't replaced.
 fn of_file(why: FileFault) -> RunFault
     ensures { result ≡ Named (Image (told_of_attaching why)) }
@@ -84,49 +180,53 @@ fn of_file(why: FileFault) -> RunFault
     RunFault::Named(NamedFault::Image(ImageFault::from(why)))
 }
 
-/// Runs the script that `reader` has over the image file at this path, by the names of the schema file, where one is named: what the
+/// Runs the script that `reader` has over the image at this path, by the names of the schema file, where one is named: what the
 /// program's word `run` does with `--image`.
 ///
-/// The schema file is read first, and then the script to its end. From then on the image file is claimed, until its new image is in its
-/// place; it is made beside it, so that a stop at any time leaves the old one or the new. Refusals, in this order:
+/// The schema file is read first, and then the script to its end. From then on nobody else has the image, until its new one is in its
+/// place. Refusals, in this order:
 /// - `Named`: the schema file is refused, or can't be read;
-/// - `Named`: the image file can't be had: another process has it (`InUse`), it doesn't begin as an image, or a call has failed;
+/// - `Named`: the image can't be had: another process has it (`InUse`), it doesn't begin as an image, or a call has failed;
 /// - as [`run_image`] says.
 ///
-/// What the system says of a call that fails is noted as trouble.
-pub fn run_file<F, R, S, W>(
+/// What the system says of a call on the schema file that fails is noted as trouble.
+pub fn run_at<D, P, F, R, S, W>(
     rt: &R,
+    images: &mut P,
     alloc: Global,
     trouble: &Trouble,
-    image_path: &str,
+    path: &str,
     schema_path: Option<&str>,
     reader: &mut S,
     writer: &mut W,
 ) -> Result<(), RunFault>
 where
-    F: BackingFile + OpenFile + Read + Drop,
+    D: Disk + Drop,
+    P: Images<Medium = D>,
+    F: Read + Drop,
     R: Files<File = F>,
     S: Read,
     W: Write,
-    ensures { RunsFile schema_path.entry result (S.remaining reader.old) (S.remaining reader.new) (W.contents writer.old) (W.contents writer.new) }
+    ensures { RunsAt schema_path.entry result (P.holds images.old path.now)
+        (P.holds images.new path.now) (S.remaining reader.old) (S.remaining reader.new)
+        (W.contents writer.old) (W.contents writer.new) }
 {
     let given = match schema_at(rt, alloc, trouble, schema_path) {
         Ok(given) => given,
         Err(fault) => return Err(RunFault::Named(fault)),
     };
     let (script, ending) = read_lines(alloc, reader);
-    match ImageAt::claim(rt, alloc, image_path, trouble) {
-        Ok(mut image) => {
-            let ended = run_image(alloc, &mut image, given, &script, ending, writer);
-            if ended.is_err() {
-                image.give_up();
-            }
-            drop(image);
-            ended
-        }
-        Err(why) => {
-            drop(given);
-            Err(of_file(why))
-        }
+    let ended = run_image(images, alloc, path, given, &script, ending, writer);
+    let is_done = ended.is_ok();
+    tidy(images, path, is_done);
+    ended
+}
+
+// Leaves nothing beside the path, unless a new image has taken its place.
+fn tidy<D: Disk + Drop, P: Images<Medium = D>>(images: &mut P, path: &str, is_done: bool)
+    ensures { P.holds images.new path.now ≡ P.holds images.old path.now }
+{
+    if !is_done {
+        images.give_up(path);
     }
 }

@@ -1,0 +1,31 @@
+use Rattle.std.proofs.Common.{ℕ, List, subst}
+use Rattle.std.specs.Io.KnownBytes.{Appends}
+use Rattle.script_lines.specs.Lines.{lines_of}
+use Rattle.scripts.specs.Runs.{AppendsPart}
+use Rattle.image_file.specs.Images.{IsThere}
+use Rattle.image_scripts.proofs.RunLemmas.{not_put}
+use Rattle.image_scripts.proofs.running.run_on.Goals as goal
+
+pub returns-in-Err-put_image : goal.returns-in-Err-put_image
+returns-in-Err-put_image g c =
+    not_put c.args.given (lines_of c.args.script.now) c.args.ending (g.P.Images.holds c.args.images.now c.args.path.now) (g.P.Images.holds c.play_held.new.images c.args.path.now) (g.P.Images.holds c.put_image.new.images c.args.path.now)
+    (g.W.Write.contents c.args.writer.now) c.in-Ok.played.image.items c.in-Ok.played.text.items c.deref.result.now c.in-Err-put_image.why c.of_file.result
+    c.of_file.ensures c.in-Ok.ensures.ok c.play_held.ensures.same c.deref.ensures.value c.in-Err-put_image.ensures.err
+
+pub returns-in-Ok-put : goal.returns-in-Ok-put
+returns-in-Ok-put g c = record {
+  left = c.in-Ok.played.image.items;
+  text = c.in-Ok.played.text.items;
+  played = c.in-Ok.ensures.ok;
+  is_there = subst (λ (l : List ℕ). IsThere l (g.P.Images.holds c.put_image.new.images c.args.path.now)) c.deref.ensures.value c.in_default.ensures.ok;
+  written = subst (λ (l : List ℕ). Appends (g.W.Write.contents c.args.writer.now) (g.W.Write.contents c.put.new.writer) l) c.deref-2.ensures.value c.in-Ok-put.ensures.ok;
+}
+
+pub returns : goal.returns
+returns g c = record {
+  left = c.in-Ok.played.image.items;
+  text = c.in-Ok.played.text.items;
+  played = c.in-Ok.ensures.ok;
+  is_there = subst (λ (l : List ℕ). IsThere l (g.P.Images.holds c.put_image.new.images c.args.path.now)) c.deref.ensures.value c.in_default.ensures.ok;
+  part = subst (λ (l : List ℕ). AppendsPart (g.W.Write.contents c.args.writer.now) (g.W.Write.contents c.put.new.writer) l) c.deref-2.ensures.value c.in-Err-put.ensures.part;
+}
