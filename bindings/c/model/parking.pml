@@ -438,6 +438,7 @@ proctype Ender() {
 #else
     atomic { LOCK };
 again:
+    skip;
     d_step { is_lent[0] = 0; is_lent[1] = 0; is_lent[2] = 0 };
     atomic { is_running = is_busy[0]; is_short = !is_busy[0] && acknowledged[0] < ended[0] };
     atomic { is_running = is_running || is_busy[1]; is_short = is_short || (!is_busy[1] && acknowledged[1] < ended[1]) };
