@@ -220,6 +220,9 @@ inline enter(i, m) {
         if :: atomic { over -> answer = 3 } :: atomic { else -> skip }; try_enter(i, m) fi;
         if
         :: answer == 0 || answer == 3 -> break
+#if SCRIPT == 7 /* its deadline may be over at any moment */
+        :: answer == 1 && i == 1 && wanted[i] > 0 -> answer = 4; break
+#endif
         :: answer == 1 ->
             want(i, m);
 #if MISTAKE == 8 /* it sleeps as soon as it stands in its place, without a last try */
@@ -233,6 +236,7 @@ inline enter(i, m) {
     atomic { is_new = 0; was_taking = 0; stepped[i] = 1 }; /* nobody looks at it any more */
     if
     :: answer == 0 -> want_no_more(i, 1)
+    :: answer == 4 -> answer = 0; want_no_more(i, 0); is_busy[i] = 0; goto gone
     :: else -> answer = 0; want_no_more(i, 0); leave(i); goto gone
     fi;
     locks[i]++
@@ -393,6 +397,8 @@ proctype Thread(byte i) {
 #elif SCRIPT == 5 /* one waits for its section, and two others end theirs meanwhile */
     SECTION(own);
     if :: i == 0 -> await(i) :: else fi
+#elif SCRIPT == 7 /* all want one monitor, and one of them gives up */
+    SECTION(0)
 #else /* one waits for one section after the other, beside one that doesn't wait */
     if
     :: i == 0 -> SECTION(0); await(i); SECTION(0); await(i)
@@ -432,6 +438,7 @@ proctype Ender() {
 #else
     atomic { LOCK };
 again:
+    skip;
     d_step { is_lent[0] = 0; is_lent[1] = 0; is_lent[2] = 0 };
     atomic { is_running = is_busy[0]; is_short = !is_busy[0] && acknowledged[0] < ended[0] };
     atomic { is_running = is_running || is_busy[1]; is_short = is_short || (!is_busy[1] && acknowledged[1] < ended[1]) };
