@@ -292,14 +292,6 @@ ZELAMIKU_MUST_USE zelamiku_status zelamiku_session(zelamiku_handle *heap, zelami
  * After a refusal `call` is ZELAMIKU_NO_CALL. */
 ZELAMIKU_MUST_USE zelamiku_status zelamiku_next_call(zelamiku_handle *heap, zelamiku_call *call, uint8_t *bytes, size_t size);
 
-/* Copies bytes of the heap's image, from byte `at` of it on: as many as `bytes` has room for and the image has. `copied` gets how many: 0 at the
- * image's end and past it, so that a host loops as with pread. The image is that of the disk in memory: what the device has once each call
- * that was told, or is left, is made. So what opens the copy finds all that is acknowledged by then. Nothing changes by it. Between the first
- * and the last piece of one copy there may be no zelamiku_round and no zelamiku_close; sessions and calls may go on. A heap that was closed, or
- * has stopped by FAULT, FAILED or WORN, is copied too.
- * NOTHING, WRONG_KIND, STOPPED: `copied` is 0, and `bytes` is as it was. */
-ZELAMIKU_MUST_USE zelamiku_status zelamiku_copy(zelamiku_handle *heap, uint64_t at, uint8_t *bytes, size_t size, uint64_t *copied);
-
 /* Says that the host has made the call that zelamiku_next_call told, which is the first of those that are left. The library can't see
  * whether the host has made it: say it once for each call, and only after that call was told and made.
  * NONE_LEFT: of the calls that the library has taken up to a sync, by zelamiku_next_call or zelamiku_acknowledged, none is left; nothing was

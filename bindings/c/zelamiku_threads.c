@@ -1466,13 +1466,10 @@ zelamiku_status zelamiku_heap_await_round(zelamiku_heap heap_, uint64_t seen, ui
     return status == ZELAMIKU_OK ? status : tell_end(of, status, of->error, "await a round");
 }
 
-#pragma weak zelamiku_copy /* until the proved library has it */
-
 /* The bytes of the disk in memory, between two rounds: what the device has once all calls that are left are made. */
 static zelamiku_status copy_bytes(heap *of, uint8_t *bytes) {
     zelamiku_status status = ZELAMIKU_OK;
     uint64_t copied = 1;
-    if (zelamiku_copy == NULL) return ZELAMIKU_FAILED;
     for (uint64_t at = 0; status == ZELAMIKU_OK && at < of->size && copied > 0; at += copied)
         status = zelamiku_copy(&of->handle, at, bytes + at, (size_t)(of->size - at), &copied);
     return status;
