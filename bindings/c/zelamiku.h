@@ -292,14 +292,6 @@ ZELAMIKU_MUST_USE zelamiku_status zelamiku_session(zelamiku_handle *heap, zelami
  * After a refusal `call` is ZELAMIKU_NO_CALL. */
 ZELAMIKU_MUST_USE zelamiku_status zelamiku_next_call(zelamiku_handle *heap, zelamiku_call *call, uint8_t *bytes, size_t size);
 
-/* Copies bytes of the heap's image, from byte `at` of it on: as many as `bytes` has room for and the image has. `copied` gets how many: 0 at the
- * image's end and past it, so that a host loops as with pread. The image is that of the disk in memory: what the device has once each call
- * that was told, or is left, is made. So what opens the copy finds all that is acknowledged by then. Nothing changes by it. Between the first
- * and the last piece of one copy there may be no zelamiku_round and no zelamiku_close; sessions and calls may go on. A heap that was closed, or
- * has stopped by FAULT, FAILED or WORN, is copied too.
- * NOTHING, WRONG_KIND, STOPPED: `copied` is 0, and `bytes` is as it was. */
-ZELAMIKU_MUST_USE zelamiku_status zelamiku_copy(zelamiku_handle *heap, uint64_t at, uint8_t *bytes, size_t size, uint64_t *copied);
-
 /* Says that the host has made the call that zelamiku_next_call told, which is the first of those that are left. The library can't see
  * whether the host has made it: say it once for each call, and only after that call was told and made.
  * NONE_LEFT: of the calls that the library has taken up to a sync, by zelamiku_next_call or zelamiku_acknowledged, none is left; nothing was
@@ -326,6 +318,20 @@ ZELAMIKU_MUST_USE zelamiku_status zelamiku_round(zelamiku_handle *heap, uint64_t
  * CLOSED, BAD_LANE. CALLS_LEFT: make the calls that are left, and ask again.
  * `sections` is 0 then. */
 ZELAMIKU_MUST_USE zelamiku_status zelamiku_acknowledged(zelamiku_handle *heap, uint32_t lane, uint64_t *sections);
+
+/* Copies bytes of the heap's image, from byte `at` on, into `bytes`: as many as there are and `size` has room for. `copied` gets how many; it
+ * is 0 where `at` is at the image's end or past it. After the copied bytes `bytes` stays as it was. The image is that of the heap's disk in
+ * memory: what the device holds once the host has made each call that is told or left. So it may be ahead of the device, and never behind it.
+ * Nothing else changes: no call is made or told by it, and a heap that stopped by FAULT, FAILED or WORN, or was closed, has its image too.
+ * Needs: between the first and the last piece of a copy, no zelamiku_round and no zelamiku_close of this heap. Sessions may go on meanwhile,
+ * and so may zelamiku_next_call and zelamiku_call_done.
+ *     for (uint64_t at = 0; zelamiku_copy(&heap, at, buffer, sizeof buffer, &copied) == ZELAMIKU_OK && copied > 0; at += copied)
+ *         if (pwrite(file, buffer, copied, (off_t)at) != (ssize_t)copied) ...
+ * A whole copy, once it is durable in a file of its own, is a heap that zelamiku_open takes: as if this one had crashed just then, with
+ * nothing in flight. It keeps each section that was acknowledged by then, also by zelamiku_round_sections; after zelamiku_close has
+ * answered OK it keeps all sections.
+ * After a refusal `copied` is 0, and `bytes` is as it was. */
+ZELAMIKU_MUST_USE zelamiku_status zelamiku_copy(zelamiku_handle *heap, uint64_t at, uint8_t *bytes, size_t size, uint64_t *copied);
 
 /* Closes the heap, once each session that was handed out has ended: the last round. Make the calls that are left, and then free it.
  * RUNNING: a session that was handed out hasn't ended, or each has and another thread is still inside zelamiku_end; the heap goes on. In
@@ -420,8 +426,9 @@ ZELAMIKU_MUST_USE zelamiku_status zelamiku_pool_give(zelamiku_handle *session, u
 
 /* ---- the end of a session ---- */
 
-/* Ends the session. Its handle has nothing behind it then, and its lane may be handed out again. Exit all monitors first: else it isn't, and
- * its heap can't be closed.
+/* Ends the session, and gives it back to its heap: its lane may be handed out again. Exit all monitors first: else it isn't, and its heap can't
+ * be closed. The handle keeps what is left of the session, a few hundred bytes, until it is opened again or freed: so free it, or hand it to
+ * zelamiku_session. Until then each call of a session answers NOTHING for it, and each call of a heap WRONG_KIND.
  * WAITING, WRONG_KIND: the handle is as it was. */
 ZELAMIKU_MUST_USE zelamiku_status zelamiku_end(zelamiku_handle *session);
 

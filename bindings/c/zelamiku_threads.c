@@ -22,6 +22,7 @@
 #include <signal.h>
 #include <stdarg.h>
 #include <stdatomic.h>
+#include <stddef.h>
 #include <stdio.h>
 #include <stdlib.h>
 #include <string.h>
@@ -32,9 +33,9 @@
 #include <unistd.h>
 #ifdef HELGRIND /* which knows nothing of atomics */
 #include <valgrind/helgrind.h>
-#define IS_ATOMIC(place) VALGRIND_HG_DISABLE_CHECKING(&(place), sizeof(place))
+#define ARE_ATOMIC(first, size) VALGRIND_HG_DISABLE_CHECKING(&(first), (size))
 #else
-#define IS_ATOMIC(place) ((void)0)
+#define ARE_ATOMIC(first, size) ((void)(first), (void)(size))
 #endif
 #define SELDOM(is_so) __builtin_expect((is_so), 0)
 #define COLD __attribute__((noinline, cold)) static
@@ -65,12 +66,12 @@ typedef struct {
     _Alignas(128) _Atomic uint64_t number; /* the handle that it is lent by; 0: calls look at `known` and the heap */
     _Atomic uint64_t open;               /* the same while a section is open, so that one look is enough for a load */
     _Atomic uint64_t known;              /* the handle, also after the heap's end */
-    heap *of;
-    zelamiku_handle session;             /* own; freed by who ends the heap where the thread isn't busy */
     _Atomic uint64_t ended;              /* how many sections the lane has ended */
-    uint64_t records;                    /* own: about how many it has sent since it last asked for a round */
     _Atomic uint32_t is_busy;            /* a section is open, or it waits: nobody else touches the session */
     uint32_t lane;
+    heap *of;
+    zelamiku_handle session;             /* own; freed by who ends the heap where the thread isn't busy */
+    uint64_t records;                    /* own: about how many it has sent since it last asked for a round */
     uint32_t locks;                      /* own: by how many monitors are held, all together */
 } seat;
 
@@ -759,14 +760,12 @@ static zelamiku_status take_lanes(heap *of, zelamiku_handle *handle) {
 }
 
 static void mark_atomics(heap *of) {
-    IS_ATOMIC(of->number), IS_ATOMIC(of->has_work), IS_ATOMIC(of->waiting), IS_ATOMIC(of->over), IS_ATOMIC(of->is_settled);
-    IS_ATOMIC(of->told), IS_ATOMIC(of->bell), IS_ATOMIC(of->watches), IS_ATOMIC(of->awaiting), IS_ATOMIC(of->arrivals);
-    IS_ATOMIC(of->expected), IS_ATOMIC(of->steps), IS_ATOMIC(of->haste), IS_ATOMIC(of->rounds), IS_ATOMIC(of->troubles), IS_ATOMIC(of->error);
+    ARE_ATOMIC(of->number, sizeof of->number);
+    ARE_ATOMIC(of->has_work, sizeof *of - offsetof(heap, has_work));
     for (uint32_t lane = 0; lane < of->lanes; lane++) {
         seat *own = seat_at(of, lane);
-        (void)own;
-        IS_ATOMIC(own->bell), IS_ATOMIC(own->is_behind), IS_ATOMIC(own->acknowledged), IS_ATOMIC(own->number), IS_ATOMIC(own->open);
-        IS_ATOMIC(own->known), IS_ATOMIC(own->ended), IS_ATOMIC(own->is_busy);
+        ARE_ATOMIC(own->bell, offsetof(seat, wanted));
+        ARE_ATOMIC(own->number, offsetof(seat, lane) - offsetof(seat, number));
     }
 }
 
@@ -1467,13 +1466,10 @@ zelamiku_status zelamiku_heap_await_round(zelamiku_heap heap_, uint64_t seen, ui
     return status == ZELAMIKU_OK ? status : tell_end(of, status, of->error, "await a round");
 }
 
-#pragma weak zelamiku_copy /* until the proved library has it */
-
 /* The bytes of the disk in memory, between two rounds: what the device has once all calls that are left are made. */
 static zelamiku_status copy_bytes(heap *of, uint8_t *bytes) {
     zelamiku_status status = ZELAMIKU_OK;
     uint64_t copied = 1;
-    if (zelamiku_copy == NULL) return ZELAMIKU_FAILED;
     for (uint64_t at = 0; status == ZELAMIKU_OK && at < of->size && copied > 0; at += copied)
         status = zelamiku_copy(&of->handle, at, bytes + at, (size_t)(of->size - at), &copied);
     return status;

@@ -2,7 +2,8 @@
  * tools/check-model searches it whole, for each script and each end, and sees that each planted mistake is found.
  *
  * SCRIPT says what the threads do, END who ends the heap: 0 nobody, 1 zelamiku_heap_stop at any moment, 2 zelamiku_heap_close at any moment,
- * which may be refused. MISTAKE plants one.
+ * which may be refused. With LATE a time is due only once nothing else can go on, and then no thread may wait that a ring would have helped: so
+ * a wake that only the linger makes up for is found too. MISTAKE plants one.
  *
  * What stands for what: a bell is a semaphore of one; a word that is slept on is a flag for each sleeper, which each change sets; a time that
  * is due may come at any moment. What one thread does under the mutex is one step, but for its looks at words that others write without it. The
@@ -40,6 +41,7 @@ bit bell[T], is_behind[T], is_busy[T], is_lent[T]; /* the last: the seat has the
 bit has_work, watches, over, is_settled, is_taking, is_rung;
 bit told[4];    /* the word has changed since that one looked: a thread, or who ends the heap */
 bit stepped[T]; /* the step has changed since */
+bit has_due; /* of the helper */
 bit helper_ended, is_done[T], end_is_done, is_said;
 
 #define LOCK !mutex -> mutex = 1
@@ -48,14 +50,7 @@ bit helper_ended, is_done[T], end_is_done, is_said;
 inline tell_all() { d_step { told[0] = 1; told[1] = 1; told[2] = 1; told[3] = 1 } }
 inline step_to(is) { d_step { is_taking = is; stepped[0] = 1; stepped[1] = 1; stepped[2] = 1 } }
 
-inline demand() {
-#if MISTAKE == 1 /* the helper is rung before it has a reason */
-    atomic { !mutex -> if :: !urgent -> is_rung = 1 :: else fi };
-    atomic { !mutex -> urgent = 1 }
-#else
-    atomic { !mutex -> if :: !urgent -> is_rung = 1 :: else fi; urgent = 1 }
-#endif
-}
+inline demand() { atomic { !mutex -> if :: !urgent -> is_rung = 1 :: else fi; urgent = 1 } }
 
 inline wake_first(m) {
     atomic {
@@ -89,9 +84,7 @@ inline want_no_more(i, has_taken) {
 
 /* The one that calls leads; afterwards it doesn't. */
 inline make_round(is_helper) {
-#if MISTAKE != 3 /* the reason is forgotten at the round's end */
     atomic { !mutex -> urgent = 0 };
-#endif
 #if MISTAKE != 4 /* all work is taken to be known after the round has taken it */
     atomic { has_work = 0; step_to(1) };
 #else
@@ -119,20 +112,21 @@ inline make_round(is_helper) {
         fi;
         taken[0] = 0; taken[1] = 0; taken[2] = 0
     };
-#if MISTAKE == 3
-    atomic { !mutex -> urgent = 0 };
-#endif
 #if MISTAKE == 6 /* the helper isn't rung where another has led */
     atomic { !mutex -> is_led = 0 };
 #else
     atomic { LOCK; is_led = 0; rings = !is_helper && (urgent || has_work || is_ending) };
     atomic { if :: rings -> is_rung = 1 :: else fi; rings = 0; UNLOCK };
 #endif
+#if MISTAKE == 3 /* one that leads itself tells nobody */
+    if :: is_helper -> tell_all() :: else fi
+#else
     tell_all()
+#endif
 }
 
 proctype Helper() {
-    bit has_due, is_due, has_cause, has_begun, rings;
+    bit is_due, has_cause, has_begun, rings;
     atomic { LOCK };
 rest:
     atomic { has_begun = 0; has_due = 0 };
@@ -163,7 +157,16 @@ sleeps:
     atomic { if :: is_due -> watches = 0 :: else fi };
 #endif
     atomic { is_due = 0; UNLOCK };
+#ifdef LATE
+    atomic {
+        if
+        :: is_rung
+        :: timeout && has_due && !is_rung -> assert(!urgent && (!has_work || awaiting == 0)); is_due = 1
+        fi
+    };
+#else
     atomic { if :: is_rung :: has_due -> is_due = 1 fi };
+#endif
     atomic { LOCK; goto look };
 ended_now:
     skip
@@ -217,6 +220,9 @@ inline enter(i, m) {
         if :: atomic { over -> answer = 3 } :: atomic { else -> skip }; try_enter(i, m) fi;
         if
         :: answer == 0 || answer == 3 -> break
+#if SCRIPT == 7 /* its deadline may be over at any moment */
+        :: answer == 1 && i == 1 && wanted[i] > 0 -> answer = 4; break
+#endif
         :: answer == 1 ->
             want(i, m);
 #if MISTAKE == 8 /* it sleeps as soon as it stands in its place, without a last try */
@@ -230,6 +236,7 @@ inline enter(i, m) {
     atomic { is_new = 0; was_taking = 0; stepped[i] = 1 }; /* nobody looks at it any more */
     if
     :: answer == 0 -> want_no_more(i, 1)
+    :: answer == 4 -> answer = 0; want_no_more(i, 0); is_busy[i] = 0; goto gone
     :: else -> answer = 0; want_no_more(i, 0); leave(i); goto gone
     fi;
     locks[i]++
@@ -342,9 +349,15 @@ inline await(i) {
         };
         if :: rings -> rings = 0; make_round(0) :: else -> demand() fi;
         do
+#if MISTAKE == 1 /* it takes the word as it is after it has looked */
+        ::  if :: atomic { is_settled -> break } :: else fi;
+            if :: atomic { acknowledged[i] >= ended[i] -> break } :: else fi;
+            told[i] = 0;
+#else
         ::  told[i] = 0;
             if :: atomic { is_settled -> break } :: else fi;
             if :: atomic { acknowledged[i] >= ended[i] -> break } :: else fi;
+#endif
             told[i]
         od;
         atomic { awaiting--; told[i] = 1 }
@@ -384,6 +397,8 @@ proctype Thread(byte i) {
 #elif SCRIPT == 5 /* one waits for its section, and two others end theirs meanwhile */
     SECTION(own);
     if :: i == 0 -> await(i) :: else fi
+#elif SCRIPT == 7 /* all want one monitor, and one of them gives up */
+    SECTION(0)
 #else /* one waits for one section after the other, beside one that doesn't wait */
     if
     :: i == 0 -> SECTION(0); await(i); SECTION(0); await(i)
@@ -423,6 +438,7 @@ proctype Ender() {
 #else
     atomic { LOCK };
 again:
+    skip;
     d_step { is_lent[0] = 0; is_lent[1] = 0; is_lent[2] = 0 };
     atomic { is_running = is_busy[0]; is_short = !is_busy[0] && acknowledged[0] < ended[0] };
     atomic { is_running = is_running || is_busy[1]; is_short = is_short || (!is_busy[1] && acknowledged[1] < ended[1]) };
@@ -467,7 +483,7 @@ init {
     /* When nothing can go on: all threads have ended, but for one that nobody has notified while the heap goes on; and all that has ended is
      * acknowledged, though nobody waits for it, unless one is inside of a section. */
     atomic {
-        timeout ->
+        timeout && !has_due ->
         assert(end_is_done);
         assert(is_done[0] || (in_set[0] != 0 && !over));
         assert(is_done[1] || (in_set[1] != 0 && !over));

@@ -570,10 +570,6 @@ static void *copy_again(void *data) {
 
 /* A copy of a running heap has all that was durable before, and its parts fit together. */
 static void copies(void) {
-    if (zelamiku_copy == NULL) {
-        printf("NOT TRIED: copies, of which the library knows nothing yet\n");
-        return;
-    }
     begin_anew();
     zelamiku_thread own = begin_thread();
     add(own, TOTAL, 0, 3);

@@ -361,15 +361,9 @@ static void limits(void) {
     IS(zelamiku_heap_close(heap), OK, "");
 }
 
-#pragma weak zelamiku_copy
-
 /* Copies that can't be. */
 static void copies(void) {
     zelamiku_heap heap;
-    if (zelamiku_copy == NULL) {
-        printf("NOT TRIED: copies, of which the library knows nothing yet\n");
-        return;
-    }
     MUST(zelamiku_heap_open(&heap, "copies", &plan, NULL) == ZELAMIKU_OK);
     MUST(mkdir("folder", 0700) == 0);
     IS(zelamiku_heap_copy(heap, "no such folder/copy"), DEVICE, "no such folder/copy: copy: the copy can't be written: No such file");

@@ -131,6 +131,24 @@ class Tasks(OnFile):
         with self.open() as heap:
             self.assertEqual(self.values(heap), [130, 100])
 
+    def test_a_task_that_is_cancelled_is_told_no_more(self):
+        told = []
+
+        async def main(heap):
+            asyncio.get_running_loop().set_exception_handler(lambda _, context: told.append(context))
+            for _ in range(20):
+                with heap.synchronized(heap.alice):
+                    heap.alice.balance += 1
+                waits = asyncio.ensure_future(heap.durable_async())
+                await asyncio.sleep(0)
+                waits.cancel()
+                await heap.durable_async()
+            await asyncio.sleep(0.1)
+
+        with self.open() as heap:
+            asyncio.run(main(heap))
+            self.assertEqual((told, self.values(heap)), ([], [120, 100]))
+
     def test_a_task_that_is_cancelled_or_whose_loop_ends_waits_no_more(self):
         async def main(heap):
             with heap.synchronized(heap.alice):

@@ -6,7 +6,7 @@ import unittest
 import warnings
 
 import zelamiku
-from support import Account, OnFile, Queue, in_process, in_thread
+from support import Account, OnFile, Queue, in_process, in_thread, with_copies
 from zelamiku.library import FieldRow, library
 
 
@@ -381,6 +381,7 @@ class Living(OnFile):
         self.assertTrue(0 < stats.calls_time < 60 and 0 < stats.longest_round < 60)
         self.assertIsInstance(stats.last_cause, zelamiku.Cause)
 
+    @with_copies
     def test_a_copy_of_a_heap_that_runs_has_what_was_durable(self):
         copy = self.folder / "copy.heap"
         with self.open() as heap:
@@ -410,6 +411,7 @@ class Living(OnFile):
                 for thread in threads:
                     thread.join()
 
+    @with_copies
     def test_a_copy_that_can_not_be_written(self):
         with self.open() as heap:
             kept = self.folder / "kept"

@@ -173,6 +173,7 @@ extern "C" {
     fn zelamiku_call_failed(heap: *mut Handle) -> u32;
     fn zelamiku_round(heap: *mut Handle, applied: *mut u64) -> u32;
     fn zelamiku_acknowledged(heap: *mut Handle, lane: u32, sections: *mut u64) -> u32;
+    fn zelamiku_copy(heap: *mut Handle, at: u64, bytes: *mut u8, size: usize, copied: *mut u64) -> u32;
     fn zelamiku_close(heap: *mut Handle) -> u32;
     fn zelamiku_free(handle: *mut Handle);
     fn zelamiku_try_enter(session: *mut Handle, object: u32) -> u32;
@@ -274,6 +275,12 @@ impl Owned {
 
     pub fn next_call(&mut self, call: &mut Call, bytes: &mut [u8]) -> u32 {
         unsafe { zelamiku_next_call(&mut self.0, call, bytes.as_mut_ptr(), bytes.len()) }
+    }
+
+    // The service's hot copy calls it.
+    #[allow(dead_code)]
+    pub fn copy(&mut self, at: u64, bytes: &mut [u8], copied: &mut u64) -> u32 {
+        unsafe { zelamiku_copy(&mut self.0, at, bytes.as_mut_ptr(), bytes.len(), copied) }
     }
 }
 

@@ -1,37 +1,33 @@
--- What is known of a file whose image was read.
-use Rattle.std.proofs.Common.{ℕ, ◌≡◌, ◌⊎◌, List, [], ◌∷◌, Option, None, Some, inl, inr, length, refl, sym, subst, ◌∙◌}
-use Rattle.std.specs.Prelude.{IfSome}
-use Rattle.drive.specs.Schemas.{HoldsWorkers}
-use Rattle.file_disk.specs.Backing.{Held, Reads}
-use Rattle.file_disk.specs.Mirror.{Mirror}
-use Rattle.image.specs.Recovered.{Parts}
-use Rattle.commands.specs.Telling.{HasLeft}
-pub use Rattle.image_file.proofs.HeldLemmas.{reads_disk, reads_image}
+-- What is known of the image at a path on which workers work.
+use Rattle.std.proofs.Common.{ℕ, ◌≡◌, ◌↔◌, List, [], Option, None, Some, Bool}
+use Rattle.std.specs.Prelude.{IfSome, IsTrue}
+use Rattle.block_disk.specs.Device.{Device}
+use Rattle.image_file.specs.Images.{IsThere}
+use Rattle.commands.specs.Faults.{HasNoDisk, HasNoImage, RefusesAt}
+use Rattle.commands.specs.declared.fault.WorkFault.{WorkFault}
+use Rattle.commands.specs.declared.fault.WorkFault.TheVariants.{Script, Format, Image, Named, Drive, File, Write}
 
-pub reads_theirs : (workers : ℕ) (image : List ℕ) (file : Option Held) → IfSome file (λ h. image ≡ h.reads) → HoldsWorkers workers image
-    → IfSome file (λ h. HoldsWorkers workers h.reads)
-reads_theirs workers image None given holds = tt
-reads_theirs workers image (Some h) given holds = subst (HoldsWorkers workers) given holds
+-- none was there
+pub none_there : (had : Option (List ℕ)) (vacant : Bool) → IfSome had (λ image. IsTrue vacant ↔ (image ≡ [])) → IsTrue vacant → IsThere [] had
+none_there None vacant told is = tt
+none_there (Some image) vacant told is = told.0 is
 
-no_bytes : (bytes : List ℕ) → 0 ≡ length bytes → bytes ≡ []
-no_bytes [] none = refl
-no_bytes (b ∷ bytes) none = absurd cc
+-- none is made, so that there is none
+pub no_disk : (workers : ℕ) (had has : Option (List ℕ)) (fault : WorkFault) → HasNoImage workers had has fault → HasNoDisk workers had has fault
+no_disk workers had has (File e) none = elim none [ ]
+no_disk workers had has (Format e) none = none
+no_disk workers had has (Drive e) none = elim none [ ]
+no_disk workers had has Write none = elim none [ ]
+no_disk workers had has (Script e) none = elim none [ ]
+no_disk workers had has (Image e) none = elim none [ ]
+no_disk workers had has (Named e) none = elim none [ ]
 
--- it was measured as empty
-pub empty_file : (workers size : ℕ) (file : Option Held) → size ≡ 0 → IfSome file (λ h. size ≡ length h.reads)
-    → IfSome file (λ h. (h.reads ≡ []) ⊎ HoldsWorkers workers h.reads)
-empty_file workers size None none measured = tt
-empty_file workers size (Some h) none measured = inl (no_bytes h.reads (sym none ∙ measured))
-
-pub empty_reads : (size : ℕ) (file : Option Held) → size ≡ 0 → IfSome file (λ h. size ≡ length h.reads) → Reads [] file
-empty_reads size None none measured = tt
-empty_reads size (Some h) none measured = no_bytes h.reads (sym none ∙ measured)
-
--- it isn't empty, and holds the workers' image
-pub or_theirs : (workers : ℕ) (file : Option Held) → IfSome file (λ h. HoldsWorkers workers h.reads)
-    → IfSome file (λ h. (h.reads ≡ []) ⊎ HoldsWorkers workers h.reads)
-or_theirs workers None holds = tt
-or_theirs workers (Some h) holds = inr holds
-
-pub left_so : (P Q : Parts Mirror → Type 0) (disk : Mirror) → ((now : Parts Mirror) → P now → Q now) → HasLeft P disk → HasLeft Q disk
-left_so P Q disk to left = record { now = left.now; there = left.there; is = to left.now left.is; reads = left.reads }
+-- there is none, so that they don't work
+pub no_run : {D : Type 0} (device : D → Device) (workers : ℕ) (had has : Option (List ℕ)) (fault : WorkFault) → HasNoDisk workers had has fault → RefusesAt device workers had has fault
+no_run device workers had has (File e) none = none
+no_run device workers had has (Format e) none = none
+no_run device workers had has (Drive e) none = elim none [ ]
+no_run device workers had has Write none = elim none [ ]
+no_run device workers had has (Script e) none = elim none [ ]
+no_run device workers had has (Image e) none = elim none [ ]
+no_run device workers had has (Named e) none = elim none [ ]

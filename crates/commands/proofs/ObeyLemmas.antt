@@ -1,17 +1,24 @@
 -- What is told of a run, of an image that was made, and of work on an image file.
-use Rattle.std.proofs.Common.{ℕ, List, [], Option, Result, Ok, Err, IfErr, OnOk, OnErr}
+use Rattle.std.specs.Prelude.{not}
+use Rattle.std.proofs.Common.{◌≢◌, ℕ, Bool, List, [], Option, Result, Ok, Err, IfErr, OnOk, OnErr}
 use Rattle.std.specs.Io.KnownBytes.{Appends}
 use Rattle.script_lines.specs.Endings.{OfScript}
 use Rattle.script_lines.specs.declared.error.ScriptError.{ScriptError}
 use Rattle.scripts.specs.Runs.{Ends}
 use Rattle.image_file.specs.declared.error.FormatError.{FormatError}
-use Rattle.image_file.specs.Formatting.{IsSilent, MayBlameNumbers, PrintsImage, PrintsLess}
+use Rattle.sector_disk.specs.declared.size.SectorSize.{SectorSize}
+use Rattle.recover.specs.declared.error.RecoverError.TheVariants.{Fault}
+use Rattle.image_file.specs.Formatting.{IsSilent, MakesAt, MayBeMade, MayBlameNumbers, PrintsLess}
+use Rattle.image_file.specs.Images.{Stays}
+use Rattle.image_file.specs.Recovering.{RecoversAt}
+use Rattle.image_file.specs.declared.error.ImageFault.TheVariants as images
+use Rattle.image_file.specs.declared.new_image.NewImage.{NewImage}
 use Rattle.image_file.specs.declared.error.ImageFault.{ImageFault}
 use Rattle.recover.specs.declared.studied.Study.{Study}
 use Rattle.guards.specs.Schema.{Declarations}
 use Rattle.image_file.specs.declared.error.NamedFault.{NamedFault}
 use Rattle.image_file.specs.Naming.{TellsNamed, TellsLessNamed}
-use Rattle.image_file.specs.Telling.{MayBeRefusedBy, Tells, TellsLess, TellsLessOfVersions, TellsOfVersions}
+use Rattle.image_file.specs.Telling.{MayBeRefusedBy, Tells, TellsLess, TellsLessOfVersions}
 use Rattle.recover.specs.declared.versions.Versions.{Versions}
 use Rattle.commands.specs.Obeying.{Formats, IsSilentImage, IsSilentNamed, PlaysScript, Recovers, TellsOf, TellsOfNamed, told_of_format, told_of_image, told_of_named, told_of_script}
 
@@ -20,11 +27,15 @@ pub played : (r : Result (Unit {0}) ScriptError) (read unread written now : Opti
 played (Ok done) read unread written now plays = plays
 played (Err error) read unread written now plays = plays
 
-pub made : (lanes capacity : ℕ) (r : Result (Unit {0}) FormatError) (written now : Option (List ℕ)) → OnOk r (PrintsImage lanes capacity written now)
-    → IfErr r (MayBlameNumbers lanes capacity) → IfErr r (λ error. IsSilent error → Appends written now []) → OnErr r (PrintsLess lanes capacity written now)
-    → Formats lanes capacity (told_of_format r) written now
-made lanes capacity (Ok done) written now printed numbers silent part = printed
-made lanes capacity (Err error) written now printed numbers silent part = record { numbers = numbers; silent = silent; part = part }
+-- an image that lies so, as words ask for one
+abbrev pub on : (lanes capacity : ℕ) (is_forced : Bool) (sectors : Option SectorSize) → NewImage
+on lanes capacity is_forced sectors = record { lanes = lanes; capacity = capacity; sectors = sectors; is_kept = not is_forced }
+
+pub made : (asked : NewImage) (r : Result (Unit {0}) FormatError) (had has : Option (List ℕ)) (lies : Option (Option SectorSize)) (written now : Option (List ℕ)) → OnOk r (MakesAt asked has lies written now)
+    → OnErr r (MayBeMade asked had has) → IfErr r (MayBlameNumbers asked.lanes asked.capacity) → IfErr r (λ error. IsSilent error → Appends written now [])
+    → OnErr r (PrintsLess asked.lanes asked.capacity written now) → Formats asked (told_of_format r) had has lies written now
+made asked (Ok done) had has lies written now makes left numbers silent part = makes
+made asked (Err error) had has lies written now makes left numbers silent part = record { left = left; numbers = numbers; silent = silent; part = part }
 
 pub told : (text : Study → List ℕ) (r : Result (Unit {0}) ImageFault) (written now : Option (List ℕ)) → OnOk r (Tells text written now)
     → OnErr r (TellsLess text written now) → IfErr r (λ error. IsSilentImage error written now) → TellsOf text (told_of_image r) written now
@@ -37,8 +48,8 @@ pub told_named : {P : Type 0} (text : Option Declarations → Study → List ℕ
 told_named text path (Ok done) written now all part silent = all
 told_named text path (Err error) written now all part silent = (part, silent)
 
-pub recovered : (versions : Versions) (r : Result (Unit {0}) ImageFault) (written now : Option (List ℕ)) → OnOk r (TellsOfVersions versions written now)
-    → OnErr r (TellsLessOfVersions versions written now) → IfErr r (λ error. IsSilentImage error written now) → IfErr r (MayBeRefusedBy versions)
-    → Recovers versions (told_of_image r) written now
-recovered versions (Ok done) written now all part silent old = all
-recovered versions (Err error) written now all part silent old = (part, silent, old)
+pub recovered : (versions : Versions) (r : Result (Unit {0}) ImageFault) (had has written now : Option (List ℕ)) → OnOk r (RecoversAt versions had has written now)
+    → IfErr r (λ error. error ≢ images.Image Fault → Stays had has) → OnErr r (TellsLessOfVersions versions written now) → IfErr r (λ error. IsSilentImage error written now)
+    → IfErr r (MayBeRefusedBy versions) → Recovers versions (told_of_image r) had has written now
+recovered versions (Ok done) had has written now all kept part silent old = all
+recovered versions (Err error) had has written now all kept part silent old = record { kept = kept; part = part; silent = silent; too_old = old }

@@ -1,13 +1,16 @@
 -- What is told at the end of a run.
 use Rattle.std.proofs.Common.{ℕ, ◌≡◌, List, Option, None, Some, Result, Ok, Err, inl, inr}
 use Rattle.std.specs.Prelude.{IfErr, OnErr, OnOk}
+use Rattle.std.specs.Borrow.{Bor}
 use Rattle.std.specs.Io.KnownBytes.{Appends}
+use Rattle.block_disk.specs.Device.{Device}
 use Rattle.std.proofs.KnownBytes.{Appends-nil}
 use Rattle.drive.specs.declared.driven.Driven.{Driven}
 use Rattle.inspect.specs.Written.{AppendsPart}
 use Rattle.commands.specs.DrivenText.{driven_text}
 use Rattle.commands.specs.Faults.{RefusedAt}
-use Rattle.commands.specs.Telling.{Drives, WorkedAt}
+use Rattle.commands.specs.Driving.{DrivesWith}
+use Rattle.commands.specs.Telling.{Drives}
 use Rattle.commands.specs.declared.fault.WorkFault.{WorkFault}
 use Rattle.commands.specs.declared.fault.WorkFault.TheVariants.{Script, Format, Image, Named, Drive, File, Write}
 
@@ -24,27 +27,19 @@ told worked refused driven (Err (Image e)) old new so all write part = absurd cc
 told worked refused driven (Err (Named e)) old new so all write part = absurd cc
 
 -- they haven't, and nothing is told
-pub silent : {P : Type 0} (image : Option P) (workers : ℕ) (fault : WorkFault) (written : Option (List ℕ)) → RefusedAt image workers fault
-    → Drives (WorkedAt image workers) (RefusedAt image workers) (Err fault) written written
-silent None workers (Drive e) written refused = (refused, Appends-nil written)
-silent None workers (File e) written refused = elim refused [ ]
-silent None workers Write written refused = elim refused [ ]
-silent None workers (Script e) written refused = elim refused [ ]
-silent None workers (Format e) written refused = elim refused [ ]
-silent None workers (Image e) written refused = elim refused [ ]
-silent None workers (Named e) written refused = elim refused [ ]
-silent (Some path) workers (Drive e) written refused = (refused, Appends-nil written)
-silent (Some path) workers (File e) written refused = (refused, Appends-nil written)
-silent (Some path) workers (Format e) written refused = (refused, Appends-nil written)
-silent (Some path) workers Write written (file, inl never) = elim never [ ]
-silent (Some path) workers Write written (file, inr (inl (empty, never))) = elim never [ ]
-silent (Some path) workers Write written (file, inr (inr never)) = elim never [ ]
-silent (Some path) workers (Script e) written (file, inl never) = elim never [ ]
-silent (Some path) workers (Script e) written (file, inr (inl (empty, never))) = elim never [ ]
-silent (Some path) workers (Script e) written (file, inr (inr never)) = elim never [ ]
-silent (Some path) workers (Image e) written (file, inl never) = elim never [ ]
-silent (Some path) workers (Image e) written (file, inr (inl (empty, never))) = elim never [ ]
-silent (Some path) workers (Image e) written (file, inr (inr never)) = elim never [ ]
-silent (Some path) workers (Named e) written (file, inl never) = elim never [ ]
-silent (Some path) workers (Named e) written (file, inr (inl (empty, never))) = elim never [ ]
-silent (Some path) workers (Named e) written (file, inr (inr never)) = elim never [ ]
+pub silent : {D : Type 0} (device : D → Device) (image : Option (Bor (List ℕ))) (workers : ℕ) (had has : List ℕ → Option (List ℕ)) (fault : WorkFault) (written : Option (List ℕ))
+    → RefusedAt device image workers had has fault → DrivesWith device image workers had has (Err fault) written written
+silent device None workers had has (Drive e) written refused = (refused, Appends-nil written)
+silent device None workers had has (File e) written refused = elim refused [ ]
+silent device None workers had has Write written refused = elim refused [ ]
+silent device None workers had has (Script e) written refused = elim refused [ ]
+silent device None workers had has (Format e) written refused = elim refused [ ]
+silent device None workers had has (Image e) written refused = elim refused [ ]
+silent device None workers had has (Named e) written refused = elim refused [ ]
+silent device (Some path) workers had has (Drive e) written refused = (refused, Appends-nil written)
+silent device (Some path) workers had has (File e) written refused = (refused, Appends-nil written)
+silent device (Some path) workers had has (Format e) written refused = (refused, Appends-nil written)
+silent device (Some path) workers had has Write written refused = elim refused [ ]
+silent device (Some path) workers had has (Script e) written refused = elim refused [ ]
+silent device (Some path) workers had has (Image e) written refused = elim refused [ ]
+silent device (Some path) workers had has (Named e) written refused = elim refused [ ]

@@ -1,56 +1,49 @@
 -- Why workers haven't worked, by where they were to.
-use Rattle.std.specs.Prelude.{ℕ, ◌≡◌, ◌⊎◌, List, [], Option, None, Some}
-use Rattle.block_disk.specs.Device.{Device, new_device}
+use Rattle.std.specs.Prelude.{ℕ, ◌≡◌, ◌⊎◌, List, Option, None, Some}
+use Rattle.std.specs.Borrow.{Bor}
+use Rattle.block_disk.specs.Device.{Device}
 use Rattle.block_disk.specs.Memory.{device_of}
 use Rattle.drive.specs.Refusals.{RefusesOn, RefusesWith}
 use Rattle.drive.specs.Schemas.{MayHaveImage}
 use Rattle.drive.specs.declared.error.DriveError.{DriveError}
-use Rattle.file_disk.specs.Backing.{Held, Reads}
-use Rattle.image_file.specs.Formatting.{IsBeforeFile}
-use Rattle.image_file.specs.declared.error.FileFault.{FileFault}
-use Rattle.image_file.specs.declared.error.FileFault.TheVariants as files
-use Rattle.commands.specs.Telling.{file_device}
+use Rattle.image_file.specs.Formatting.{IsBeforeFile, MayBeMade}
+use Rattle.image_file.specs.Images.{IsLeft, Stays}
+use Rattle.image_file.specs.declared.error.FormatError.{FormatError}
+use Rattle.commands.specs.Telling.{BeginsAt, asked_by}
 use Rattle.commands.specs.declared.fault.WorkFault.{WorkFault}
 use Rattle.commands.specs.declared.fault.WorkFault.TheVariants.{Drive, File, Format}
 
--- a file that is open can't be measured, read or filled, or there was no memory for its bytes
-abbrev pub IsNotHad : FileFault → Type 0
-IsNotHad e = (e ≡ files.Fault) ⊎ (e ≡ files.NoMemory)
+-- no image is made for so many workers, and that for its numbers only where they may have none. What was there stays, or a whole new one is
+-- there
+pub record IsNotMade (workers : ℕ) (had has : Option (List ℕ)) (e : FormatError) : Type 0 where
+  pub numbers : IsBeforeFile e → MayHaveImage workers → ⊥
+  pub left : MayBeMade (asked_by workers) had has
 
--- so many workers don't work on an image that is to be made of an empty file: refused as in memory, but for the file's own faults
-abbrev pub RefusesNewFile : (workers : ℕ) → WorkFault → Type 0
-RefusesNewFile workers (Drive e) = RefusesWith file_device workers e
-RefusesNewFile workers (File e) = IsNotHad e
-RefusesNewFile workers _ = ⊥
+abbrev pub HasNoImage : (workers : ℕ) (had has : Option (List ℕ)) → WorkFault → Type 0
+HasNoImage workers had has (Format e) = IsNotMade workers had has e
+HasNoImage workers had has _ = ⊥
 
--- there is no image file for so many workers: none is had, or none is made, and that for its numbers only where they may have none
-abbrev pub HasNoFile : (workers : ℕ) → WorkFault → Type 0
-HasNoFile workers (File e) = Unit {0}
-HasNoFile workers (Format e) = IsBeforeFile e → MayHaveImage workers → ⊥
-HasNoFile workers _ = ⊥
+-- there is no disk for so many workers: none is had, and the image stays; or none is made
+abbrev pub HasNoDisk : (workers : ℕ) (had has : Option (List ℕ)) → WorkFault → Type 0
+HasNoDisk workers had has (File e) = has ≡ had
+HasNoDisk workers had has fault = HasNoImage workers had has fault
 
--- so many workers don't go on with the image that a file holds
-pub record RefusesImageOf (workers : ℕ) (file : Option Held) (e : DriveError) : Type 0 where
-  pub image : List ℕ
-  pub reads : Reads image file
-  pub after : Device
-  pub refused : RefusesOn file_device workers (new_device image) after e
+module _ {D : Type 0} (device : D → Device) where
+  -- so many workers don't go on with this image: what is there is what the disk may leave
+  pub record RefusesRun (workers : ℕ) (had has : Option (List ℕ)) (e : DriveError) : Type 0 where
+    pub opened : Device
+    pub begun : BeginsAt workers had opened
+    pub after : Device
+    pub refused : RefusesOn device workers opened after e
+    pub left : IsLeft after.now has
 
-abbrev pub RefusesLeftFile : (workers : ℕ) (file : Option Held) → WorkFault → Type 0
-RefusesLeftFile workers file (Drive e) = RefusesImageOf workers file e
-RefusesLeftFile workers file (File e) = IsNotHad e
-RefusesLeftFile workers file _ = ⊥
+  -- so many workers don't work on the image at a path
+  abbrev pub RefusesAt : (workers : ℕ) (had has : Option (List ℕ)) → WorkFault → Type 0
+  RefusesAt workers had has (Drive e) = RefusesRun workers had has e
+  RefusesAt workers had has fault = HasNoDisk workers had has fault
 
--- so many workers don't work on a file that is open
-abbrev pub RefusesOpenFile : (workers : ℕ) (file : Option Held) → WorkFault → Type 0
-RefusesOpenFile workers file fault = (Reads [] file × RefusesNewFile workers fault) ⊎ RefusesLeftFile workers file fault
-
--- or there is none
-abbrev pub RefusesFile : (workers : ℕ) (file : Option Held) → WorkFault → Type 0
-RefusesFile workers file fault = HasNoFile workers fault ⊎ RefusesOpenFile workers file fault
-
--- or, where none was named, in memory
-abbrev pub RefusedAt : {P : Type 0} (image : Option P) (workers : ℕ) → WorkFault → Type 0
-RefusedAt None workers (Drive e) = RefusesWith device_of workers e
-RefusedAt None workers _ = ⊥
-RefusedAt (Some path) workers fault = (file : Option Held) × RefusesFile workers file fault
+  -- or, where no path was named, in memory
+  abbrev pub RefusedAt : (image : Option (Bor (List ℕ))) (workers : ℕ) (had has : List ℕ → Option (List ℕ)) → WorkFault → Type 0
+  RefusedAt None workers had has (Drive e) = RefusesWith device_of workers e
+  RefusedAt None workers had has _ = ⊥
+  RefusedAt (Some path) workers had has fault = RefusesAt workers (had path.now) (has path.now) fault

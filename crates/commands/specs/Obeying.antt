@@ -1,5 +1,9 @@
 -- What each of the program's words does (docs/SCRIPTS.md).
-use Rattle.std.specs.Prelude.{◌≡◌, ◌≢◌, ℕ, List, [], Option, None, Some, Result, Ok, Err}
+use Rattle.std.specs.Prelude.{◌≡◌, ◌≢◌, ℕ, Bool, not, List, [], Option, None, Some, Result, Ok, Err}
+use Rattle.std.specs.Borrow.{Bor}
+use Rattle.block_disk.specs.Device.{Device}
+use Rattle.sector_disk.specs.declared.size.SectorSize.{SectorSize}
+use Rattle.sector_disk.specs.declared.size.SectorSize.TheVariants.{Bytes4096}
 use Rattle.std.specs.Io.KnownBytes.{Appends}
 use Rattle.script_lines.specs.Endings.{OfScript}
 use Rattle.scripts.specs.Runs.{Ends}
@@ -15,18 +19,20 @@ use Rattle.recover.specs.declared.studied.Study.{Study}
 use Rattle.recover.specs.declared.versions.Versions.{Versions}
 use Rattle.recover.specs.declared.versions.Versions.TheVariants.{Current, Both}
 use Rattle.image_file.specs.declared.error.FormatError.{FormatError}
-use Rattle.image_file.specs.Formatting.{IsSilent, MayBlameNumbers, PrintsImage, PrintsLess}
+use Rattle.image_file.specs.Formatting.{IsSilent, MakesAt, MayBeMade, MayBlameNumbers, PrintsLess}
+use Rattle.image_file.specs.Images.{Stays}
+use Rattle.image_file.specs.Recovering.{RecoversAt}
+use Rattle.image_file.specs.declared.new_image.NewImage.{NewImage}
 use Rattle.guards.specs.Schema.{Declarations}
 use Rattle.image_schema.specs.Dumping.{dump_text}
 use Rattle.image_file.specs.Naming.{TellsNamed, TellsLessNamed}
-use Rattle.image_file.specs.Telling.{MayBeRefusedBy, Tells, TellsLess, TellsLessOfVersions, TellsOfVersions}
-use Rattle.image_scripts.specs.Running.{RunsFile}
+use Rattle.image_file.specs.Telling.{MayBeRefusedBy, Tells, TellsLess, TellsLessOfVersions}
+use Rattle.image_scripts.specs.Running.{RunsAt}
 use Rattle.image_scripts.specs.declared.error.RunFault.{RunFault}
 use Rattle.image_scripts.specs.declared.error.RunFault.TheVariants as runs
 use Rattle.commands.specs.declared.fault.WorkFault.{WorkFault}
 use Rattle.commands.specs.declared.fault.WorkFault.TheVariants as fault
-use Rattle.commands.specs.Faults.{RefusedAt}
-use Rattle.commands.specs.Telling.{Drives, WorkedAt}
+use Rattle.commands.specs.Driving.{DrivesWith}
 use Rattle.command_words.specs.declared.words.Words.{Words}
 use Rattle.command_words.specs.declared.words.Words.TheVariants as words
 
@@ -63,26 +69,38 @@ PlaysScript (Ok done) read unread written now = OfScript read unread (λ lines e
 PlaysScript (Err (fault.Script error)) read unread written now = OfScript read unread (λ lines ending. Ends lines ending (Err error) written now)
 PlaysScript (Err _) read unread written now = ⊥
 
--- it is played over an image file, by the names of the schema file where one is named
-abbrev pub PlaysOnFile : {P : Type 0} (schema : Option P) → Result (Unit {0}) WorkFault → (read unread written now : Option (List ℕ)) → Type 0
-PlaysOnFile schema result read unread written now = (r : Result (Unit {0}) RunFault) × (result ≡ told_of_run r) × RunsFile schema r read unread written now
+-- it is played over the image at a path, by the names of the schema file where one is named
+abbrev pub PlaysOn : {P : Type 0} (schema : Option P) → Result (Unit {0}) WorkFault → (had has read unread written now : Option (List ℕ)) → Type 0
+PlaysOn schema result had has read unread written now =
+    (r : Result (Unit {0}) RunFault) × (result ≡ told_of_run r) × RunsAt schema r had has read unread written now
 
--- it is played over an image file where one is named, and else in memory
-abbrev pub PlaysAt : {P Q : Type 0} (image : Option P) (schema : Option Q) → Result (Unit {0}) WorkFault → (read unread written now : Option (List ℕ)) → Type 0
-PlaysAt None schema result read unread written now = PlaysScript result read unread written now
-PlaysAt (Some path) schema result read unread written now = PlaysOnFile schema result read unread written now
+-- it is played over an image where a path is named, and else in memory
+abbrev pub PlaysAt : {P : Type 0} (image : Option (Bor (List ℕ))) (schema : Option P) → Result (Unit {0}) WorkFault → (had has : List ℕ → Option (List ℕ))
+    → (read unread written now : Option (List ℕ)) → Type 0
+PlaysAt None schema result had has read unread written now = PlaysScript result read unread written now
+PlaysAt (Some path) schema result had has read unread written now = PlaysOn schema result (had path.now) (has path.now) read unread written now
 
--- why no image with so many lanes of so many records is made, or its size isn't told, and what was written then
-pub record IsNotFormatted (lanes capacity : ℕ) (error : FormatError) (written now : Option (List ℕ)) : Type 0 where
-  pub numbers : MayBlameNumbers lanes capacity error
+-- how the image lies that words ask for: in two places where they name sectors, of which they take one size
+abbrev pub sectors_asked : Option ℕ → Option SectorSize
+sectors_asked None = None
+sectors_asked (Some bytes) = Some Bytes4096
+
+-- the image that they ask for
+abbrev pub asked_of : (lanes capacity : ℕ) (sectors : Option ℕ) (is_forced : Bool) → NewImage
+asked_of lanes capacity sectors is_forced = record { lanes = lanes; capacity = capacity; sectors = sectors_asked sectors; is_kept = not is_forced }
+
+-- why no such image is made, or its size isn't told; what is there then, and what was written
+pub record IsNotFormatted (asked : NewImage) (had has : Option (List ℕ)) (error : FormatError) (written now : Option (List ℕ)) : Type 0 where
+  pub left : MayBeMade asked had has
+  pub numbers : MayBlameNumbers asked.lanes asked.capacity error
   pub silent : IsSilent error → Appends written now []
-  pub part : PrintsLess lanes capacity written now
+  pub part : PrintsLess asked.lanes asked.capacity written now
 
--- an image with so many lanes of so many records is made, and its size is told
-abbrev pub Formats : (lanes capacity : ℕ) → Result (Unit {0}) WorkFault → (written now : Option (List ℕ)) → Type 0
-Formats lanes capacity (Ok done) written now = PrintsImage lanes capacity written now
-Formats lanes capacity (Err (fault.Format error)) written now = IsNotFormatted lanes capacity error written now
-Formats lanes capacity (Err _) written now = ⊥
+-- such an image is there now, and its size is told
+abbrev pub Formats : (asked : NewImage) → Result (Unit {0}) WorkFault → (had has : Option (List ℕ)) (lies : Option (Option SectorSize)) (written now : Option (List ℕ)) → Type 0
+Formats asked (Ok done) had has lies written now = MakesAt asked has lies written now
+Formats asked (Err (fault.Format error)) had has lies written now = IsNotFormatted asked had has error written now
+Formats asked (Err _) had has lies written now = ⊥
 
 -- after any refusal but the fault of a writer nothing is written
 abbrev pub IsSilentImage : ImageFault → (written now : Option (List ℕ)) → Type 0
@@ -103,20 +121,31 @@ TellsOfNamed text path (Ok done) written now = TellsNamed text path written now
 TellsOfNamed text path (Err (fault.Named error)) written now = TellsLessNamed text path written now × IsSilentNamed error written now
 TellsOfNamed text path (Err _) written now = ⊥
 
--- the report on an image of one of these versions is written
-abbrev pub Recovers : (versions : Versions) → Result (Unit {0}) WorkFault → (written now : Option (List ℕ)) → Type 0
-Recovers versions (Ok done) written now = TellsOfVersions versions written now
-Recovers versions (Err (fault.Image error)) written now = TellsLessOfVersions versions written now × IsSilentImage error written now × MayBeRefusedBy versions error
-Recovers versions (Err _) written now = ⊥
+-- why the image at a path isn't recovered, or isn't told of; what is there then, and what was written
+pub record IsNotRecovered (versions : Versions) (had has : Option (List ℕ)) (error : ImageFault) (written now : Option (List ℕ)) : Type 0 where
+  pub kept : error ≢ images.Image Fault → Stays had has
+  pub part : TellsLessOfVersions versions written now
+  pub silent : IsSilentImage error written now
+  pub too_old : MayBeRefusedBy versions error
 
--- what the words ask for is done, with this result: by what the reader had before and has now, and what was written before and is now. Who is
--- asked for no script reads none
-abbrev pub Obeys : Words → Result (Unit {0}) WorkFault → (read unread written now : Option (List ℕ)) → Type 0
-Obeys (words.Run image schema) result read unread written now = PlaysAt image schema result read unread written now
-Obeys (words.Format image schema lanes capacity sectors) result read unread written now = (unread ≡ read) × Formats lanes capacity result written now
-Obeys (words.Show image) result read unread written now = (unread ≡ read) × TellsOf study_text result written now
-Obeys (words.Draw image last schema) result read unread written now = (unread ≡ read) × TellsOfNamed (λ given s. picture_text given last s) schema result written now
-Obeys (words.Dump image schema) result read unread written now = (unread ≡ read) × TellsOfNamed dump_text schema result written now
-Obeys (words.Recover image) result read unread written now = (unread ≡ read) × Recovers Current result written now
-Obeys (words.Upgrade image) result read unread written now = (unread ≡ read) × Recovers Both result written now
-Obeys (words.Drive workers rounds seconds image) result read unread written now = (unread ≡ read) × Drives (WorkedAt image workers) (RefusedAt image workers) result written now
+-- the image at a path is recovered, which was of one of these versions, and the report on it is written
+abbrev pub Recovers : (versions : Versions) → Result (Unit {0}) WorkFault → (had has written now : Option (List ℕ)) → Type 0
+Recovers versions (Ok done) had has written now = RecoversAt versions had has written now
+Recovers versions (Err (fault.Image error)) had has written now = IsNotRecovered versions had has error written now
+Recovers versions (Err _) had has written now = ⊥
+
+-- What the words ask for is done, with this result: by the images that were there before and are now and how they lie, by what the reader had
+-- before and has now, and by what was written before and is now. Who is asked for no script reads none
+abbrev pub Obeys : {D : Type 0} (device : D → Device) → Words → Result (Unit {0}) WorkFault → (had has : List ℕ → Option (List ℕ)) (lies : List ℕ → Option (Option SectorSize))
+    → (read unread written now : Option (List ℕ)) → Type 0
+Obeys device (words.Run image schema) result had has lies read unread written now = PlaysAt image schema result had has read unread written now
+Obeys device (words.Format image schema lanes capacity sectors is_forced) result had has lies read unread written now =
+    (unread ≡ read) × Formats (asked_of lanes capacity sectors is_forced) result (had image.now) (has image.now) (lies image.now) written now
+Obeys device (words.Show image last schema) result had has lies read unread written now = (unread ≡ read) × TellsOf study_text result written now
+Obeys device (words.Draw image last schema) result had has lies read unread written now =
+    (unread ≡ read) × TellsOfNamed (λ given s. picture_text given last s) schema result written now
+Obeys device (words.Dump image schema) result had has lies read unread written now = (unread ≡ read) × TellsOfNamed dump_text schema result written now
+Obeys device (words.Recover image) result had has lies read unread written now = (unread ≡ read) × Recovers Current result (had image.now) (has image.now) written now
+Obeys device (words.Upgrade image) result had has lies read unread written now = (unread ≡ read) × Recovers Both result (had image.now) (has image.now) written now
+Obeys device (words.Drive workers rounds seconds image) result had has lies read unread written now =
+    (unread ≡ read) × DrivesWith device image workers had has result written now

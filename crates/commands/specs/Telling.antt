@@ -1,43 +1,57 @@
 -- How a run of workers ends, and what is written of it.
-use Rattle.std.specs.Prelude.{ℕ, ◌≡◌, ◌⊎◌, List, [], Option, None, Some, Result, Ok, Err}
+use Rattle.std.specs.Prelude.{ℕ, ◌≡◌, ◌⊎◌, false, List, [], Option, None, Some, Result, Ok, Err}
+use Rattle.std.specs.Borrow.{Bor}
 use Rattle.std.specs.Io.KnownBytes.{Appends}
 use Rattle.block_disk.specs.Device.{Device, new_device}
 use Rattle.block_disk.specs.Memory.{Memory, device_of}
 use Rattle.drive.specs.Driven.{HasDriven, HasDrivenOn, blank_device}
 use Rattle.drive.specs.declared.driven.Driven.{Driven}
-use Rattle.file_disk.specs.Backing.{Held, Reads}
-use Rattle.file_disk.specs.Mirror.{Mirror}
+use Rattle.drive.specs.Schemas.{HoldsWorkers, schema_of}
 use Rattle.image.specs.Recovered.{Parts}
+use Rattle.image.specs.declared.layout.Layout.{Layout}
+use Rattle.image_file.specs.Formatting.{IsImageFor}
+use Rattle.image_file.specs.Images.{IsThere}
+use Rattle.image_file.specs.declared.new_image.NewImage.{NewImage}
 use Rattle.inspect.specs.Written.{AppendsPart}
 use Rattle.commands.specs.DrivenText.{driven_text}
 use Rattle.commands.specs.declared.fault.WorkFault.{WorkFault}
 use Rattle.commands.specs.declared.fault.WorkFault.TheVariants.{Drive, File, Format, Write}
 
--- the device that a disk over a file is
-abbrev pub file_device : Mirror → Device
-file_device m = m.device
+-- the disk of the image that was at a path, of which nothing was asked yet
+pub record IsOpenedAt (had : Option (List ℕ)) (d : Device) : Type 0 where
+  pub fresh : d ≡ new_device d.now.bytes
+  pub was : IsThere d.now.bytes had
 
--- so many workers have gone on with the image that a file holds, and this is what was left
-pub record HasDrivenImageOf (workers : ℕ) (file : Option Held) (now : Parts Mirror) (driven : Driven) : Type 0 where
-  pub image : List ℕ
-  pub reads : Reads image file
-  pub so : HasDrivenOn file_device workers (new_device image) now driven
+-- what is asked for where workers have no image yet: their own, in one place
+abbrev pub asked_by : (workers : ℕ) → NewImage
+asked_by workers = record { lanes = workers; capacity = 4000; sectors = None; is_kept = false }
 
--- so many workers have worked on a file: from the beginning where it is empty, on an image that is made of zeros, or on from the image that it holds
-abbrev pub HasDrivenFile : (workers : ℕ) (file : Option Held) (now : Parts Mirror) (driven : Driven) → Type 0
-HasDrivenFile workers file now driven = (Reads [] file × HasDriven file_device workers (blank_device workers) now driven) ⊎ HasDrivenImageOf workers file now driven
+-- the disk of an image that was made for so many workers
+abbrev pub IsMadeAt : (workers : ℕ) → Device → Type 0
+IsMadeAt workers d = (layout : Layout) × IsImageFor (schema_of workers) (asked_by workers) layout d
 
--- this was left, on this disk, whose file reads it
-pub record HasLeft (so : Parts Mirror → Type 0) (disk : Mirror) : Type 0 where
-  pub now : Parts Mirror
-  pub there : now.disk ≡ disk
-  pub is : so now
-  pub reads : Reads disk.device.now.bytes disk.file
+-- so many workers begin with this disk: that of the image at a path, or one that was made where there was none
+abbrev pub BeginsAt : (workers : ℕ) (had : Option (List ℕ)) → Device → Type 0
+BeginsAt workers had d = IsOpenedAt had d ⊎ (IsThere [] had × IsMadeAt workers d)
 
--- so many workers have worked on an image file where one was named, and else in memory
-abbrev pub WorkedAt : {P : Type 0} (image : Option P) (workers : ℕ) → Driven → Type 0
-WorkedAt None workers driven = (now : Parts Memory) × HasDriven device_of workers (blank_device workers) now driven
-WorkedAt (Some path) workers driven = (file : Option Held) × (disk : Mirror) × HasLeft (λ now. HasDrivenFile workers file now driven) disk
+module _ {D : Type 0} (device : D → Device) where
+  -- what is on this disk is at the path
+  abbrev pub LeavesAt : Parts D → (has : Option (List ℕ)) → Type 0
+  LeavesAt now has = IsThere (device now.disk).now.bytes has
+
+  -- so many workers have worked on the image at a path, and what they have left is there now
+  pub record DrivesAt (workers : ℕ) (had has : Option (List ℕ)) (driven : Driven) : Type 0 where
+    pub opened : Device
+    pub begun : BeginsAt workers had opened
+    pub theirs : HoldsWorkers workers opened.now.bytes
+    pub now : Parts D
+    pub so : HasDrivenOn device workers opened now driven
+    pub left : LeavesAt now has
+
+  -- so many workers have worked on an image where a path was named, and else in memory
+  abbrev pub WorkedAt : (image : Option (Bor (List ℕ))) (workers : ℕ) (had has : List ℕ → Option (List ℕ)) → Driven → Type 0
+  WorkedAt None workers had has driven = (now : Parts Memory) × HasDriven device_of workers (blank_device workers) now driven
+  WorkedAt (Some path) workers had has driven = DrivesAt workers (had path.now) (has path.now) driven
 
 -- workers have worked so, and the lines that tell it are written
 pub record IsTold (worked : Driven → Type 0) (old new : Option (List ℕ)) : Type 0 where

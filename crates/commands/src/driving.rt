@@ -3,21 +3,20 @@ ghost use Rattle.std.specs.Prelude.{◌≡◌, IfErr, IfOk, OnErr, OnOk};
 ghost use Rattle.std.specs.Io.KnownBytes.{Appends};
 ghost use Rattle.commands.specs.DrivenText.{driven_text};
 ghost use Rattle.commands.specs.Faults.{RefusedAt};
-ghost use Rattle.commands.specs.Telling.{Drives, WorkedAt};
+ghost use Rattle.commands.specs.Driving.{DrivesWith};
+ghost use Rattle.commands.specs.Telling.{WorkedAt};
 ghost use Rattle.commands.specs.declared.fault.WorkFault.TheVariants.{Write};
 ghost use Rattle.inspect.specs.Written.{AppendsPart};
 
 use crate::fault::WorkFault;
-use crate::files::drive_at_path;
+use crate::files::drive_at;
 use crate::progress::Watch;
 use crate::telling::write_driven;
+use block_disk::Disk;
 use drive::{Driven, drive_with};
-use file_disk::BackingFile;
-use image_file::Trouble;
+use image_file::Images;
 use std::alloc::Global;
-use std::fs::OpenFile;
 use std::io::Write;
-use std::rt::Files;
 use std::sync::Wait;
 use std::thread::Threads;
 
@@ -30,9 +29,9 @@ use std::thread::Threads;
 /// - `Drive`: the workers haven't done it, for the reasons of [`drive_with`], [`drive_new`](drive::drive_new) and
 ///   [`drive_on`](drive::drive_on);
 /// - `Write`: the writer failed. A beginning of the lines is written.
-pub fn drive<F, R, M, W>(
+pub fn drive<D, P, R, M, W>(
     rt: &R,
-    trouble: &Trouble,
+    images: &mut P,
     meet: &M,
     workers: u8,
     rounds: u32,
@@ -40,13 +39,15 @@ pub fn drive<F, R, M, W>(
     writer: &mut W,
 ) -> Result<(), WorkFault>
 where
-    F: BackingFile + OpenFile + Drop,
-    R: Files<File = F> + AllocGlobal + Threads + Wait + Sync,
+    D: Disk + Drop,
+    P: Images<Medium = D>,
+    R: AllocGlobal + Threads + Wait + Sync,
     M: Watch + Sync,
     W: Write,
-    ensures { Drives (WorkedAt image.entry workers) (RefusedAt image.entry workers) result (W.contents writer.old) (W.contents writer.new) }
+    ensures { DrivesWith D.device image.entry workers (P.holds images.old) (P.holds images.new)
+        result (W.contents writer.old) (W.contents writer.new) }
 {
-    match drive_there(rt, rt.alloc(), trouble, meet, workers, rounds, image) {
+    match drive_there(rt, images, rt.alloc(), meet, workers, rounds, image) {
         Ok(driven) => {
             let told = tell(&driven, writer);
             drop(driven);
@@ -57,46 +58,52 @@ where
 }
 
 // Lets workers work, and tells whoever watches them that they have ended.
-fn drive_there<F, R, M>(
+fn drive_there<D, P, R, M>(
     rt: &R,
+    images: &mut P,
     alloc: Global,
-    trouble: &Trouble,
     meet: &M,
     workers: u8,
     rounds: u32,
     image: Option<&str>,
 ) -> Result<Driven, WorkFault>
 where
-    F: BackingFile + OpenFile + Drop,
-    R: Files<File = F> + Threads + Wait + Sync,
+    D: Disk + Drop,
+    P: Images<Medium = D>,
+    R: Threads + Wait + Sync,
     M: Watch + Sync,
-    ensures ok { IfOk result (WorkedAt image.entry workers) }
-    ensures refused { IfErr result (RefusedAt image.entry workers) }
+    ensures ok { IfOk result
+        (WorkedAt D.device image.entry workers (P.holds images.old) (P.holds images.new)) }
+    ensures refused { IfErr result
+        (RefusedAt D.device image.entry workers (P.holds images.old) (P.holds images.new)) }
 {
-    let driven = work_there(rt, alloc, trouble, meet, workers, rounds, image);
+    let driven = work_there(rt, images, alloc, meet, workers, rounds, image);
     meet.end();
     driven
 }
 
 // Lets workers work on an image file, or in memory.
-fn work_there<F, R, M>(
+fn work_there<D, P, R, M>(
     rt: &R,
+    images: &mut P,
     alloc: Global,
-    trouble: &Trouble,
     meet: &M,
     workers: u8,
     rounds: u32,
     image: Option<&str>,
 ) -> Result<Driven, WorkFault>
 where
-    F: BackingFile + OpenFile + Drop,
-    R: Files<File = F> + Threads + Wait + Sync,
+    D: Disk + Drop,
+    P: Images<Medium = D>,
+    R: Threads + Wait + Sync,
     M: Watch + Sync,
-    ensures ok { IfOk result (WorkedAt image.entry workers) }
-    ensures refused { IfErr result (RefusedAt image.entry workers) }
+    ensures ok { IfOk result
+        (WorkedAt D.device image.entry workers (P.holds images.old) (P.holds images.new)) }
+    ensures refused { IfErr result
+        (RefusedAt D.device image.entry workers (P.holds images.old) (P.holds images.new)) }
 {
     if let Some(path) = image {
-        return drive_at_path(rt, alloc, trouble, meet, path, workers, rounds);
+        return drive_at(rt, images, alloc, meet, path, workers, rounds);
     }
     match drive_with(rt, alloc, meet, workers, rounds) {
         Ok(driven) => Ok(driven),
@@ -106,9 +113,11 @@ where
 
 // Tells what they have done.
 fn tell<W: Write>(driven: &Driven, writer: &mut W) -> Result<(), WorkFault>
-    ensures ok { OnOk result (Appends (W.contents writer.old) (W.contents writer.new) (driven_text driven.now)) }
+    ensures ok { OnOk result
+        (Appends (W.contents writer.old) (W.contents writer.new) (driven_text driven.now)) }
     ensures write { IfErr result (λ fault. fault ≡ Write) }
-    ensures part { OnErr result (AppendsPart (W.contents writer.old) (W.contents writer.new) (driven_text driven.now)) }
+    ensures part { OnErr result
+        (AppendsPart (W.contents writer.old) (W.contents writer.new) (driven_text driven.now)) }
 {
     match write_driven(driven, writer) {
         Ok(()) => Ok(()),

@@ -1,17 +1,21 @@
 //! What is told behind the first line of a fault: which file, why, and what mends it.
 //!
-//! The first line is fixed (docs/SCRIPTS.md, "The program's fault texts"). Of a refused image, schema or script it is all.
+//! The first line is fixed (docs/SCRIPTS.md, "The program's fault texts").
 
+use crate::causes::{Path, is_wrong_path, tell, tell_cause};
 use crate::fault::WorkFault;
+use crate::refused::{tell_refused_image, tell_refused_schema, tell_stopped_script};
 use command_words::Words;
 use drive::DriveError;
 use file_disk::BackingFile;
-use image_file::{BESIDE, FileFault, FormatError, ImageFault, NamedFault, Place, Trouble};
+use image::{Layout, read_header};
+use image_file::{FileFault, FormatError, ImageFault, KEPT, NamedFault, Place, Trouble};
 use recover::RecoverError;
-use sector_file::read_head;
+use sector_file::ImageDisk;
+use std::alloc::Global;
+use std::fs;
 use std::io::{ErrorKind, Read};
 use std::rt::Files;
-use std::{fs, io};
 
 /// Whether the fault is that nobody reads the output any more, of which nothing is told.
 pub fn is_left_by_reader(trouble: &Trouble) -> bool {
@@ -26,13 +30,15 @@ pub fn is_left_by_reader(trouble: &Trouble) -> bool {
 pub fn explain<F, R>(rt: &R, words: &Words<'_>, fault: &WorkFault, trouble: &Trouble)
 where
     F: BackingFile + Read + Drop,
-    R: Files<File = F> + Eprint,
+    R: Files<File = F> + Eprint + AllocGlobal,
 {
     let image = image_of(words);
     match fault {
-        WorkFault::Script(_)
-        | WorkFault::Format(FormatError::Schema(_))
-        | WorkFault::Named(NamedFault::Schema(_)) => {}
+        WorkFault::Script(error) => tell_stopped_script(rt, error, trouble),
+        WorkFault::Format(FormatError::Schema(refused))
+        | WorkFault::Named(NamedFault::Schema(refused)) => {
+            tell_refused_schema(rt, schema_of(words), refused);
+        }
         WorkFault::Named(NamedFault::OtherSchema) => tell_other_schema(rt, words, image),
         WorkFault::Image(ImageFault::InUse)
         | WorkFault::Named(NamedFault::Image(ImageFault::InUse))
@@ -40,31 +46,81 @@ where
         | WorkFault::File(FileFault::InUse) => {
             tell(rt, image, "another process has it; wait until it ends");
         }
-        WorkFault::Format(FormatError::NotImage) => tell(
-            rt,
-            image,
-            "it is neither empty nor an image, so it is not replaced; name another file, or remove it",
-        ),
-        WorkFault::File(FileFault::NotImage) => tell(
-            rt,
-            image,
-            "it has bytes and doesn't begin as an image; if its making was cut off, remove it",
-        ),
-        WorkFault::Image(ImageFault::Image(RecoverError::OldVersion))
-        | WorkFault::Named(NamedFault::Image(ImageFault::Image(RecoverError::OldVersion)))
-        | WorkFault::Drive(DriveError::Recover(RecoverError::OldVersion)) => tell(
-            rt,
-            image,
-            "it is of version 1; 'heapctl upgrade' makes it one of version 2, in place, and keeps its heap",
-        ),
+        WorkFault::Format(FormatError::NotImage) | WorkFault::File(FileFault::NotImage) => {
+            tell_not_image(rt, image);
+        }
+        WorkFault::Image(ImageFault::Image(why))
+        | WorkFault::Named(NamedFault::Image(ImageFault::Image(why)))
+        | WorkFault::Drive(DriveError::Recover(why)) => {
+            explain_refused(rt, words, image, why, trouble);
+        }
         WorkFault::Drive(DriveError::OtherSchema) => tell_other(rt, words, image),
-        _ => tell_cause(rt, words, trouble),
+        _ => explain_call(rt, words, trouble),
     }
 }
 
-// Tells this of a file.
-fn tell<R: Eprint>(rt: &R, file: &str, text: &str) {
-    let _ = eprintln!(rt; "heapctl: {file}: {text}");
+/// Tells that an image which was there is kept beside the new one, where the words have made one and it is.
+pub fn tell_kept<R: Files + Eprint>(rt: &R, words: &Words<'_>, was_there: bool) {
+    if let Words::Format {
+        image,
+        is_forced: false,
+        ..
+    } = words
+    {
+        if was_there {
+            let _ = eprintln!(rt;
+                "heapctl: {image}: the image that was there is {image}{KEPT} now; with '--force' none is kept"
+            );
+        }
+    }
+}
+
+/// Whether there is something at the path of the image that the words are to make.
+pub fn is_something_there<R: Files>(rt: &R, words: &Words<'_>) -> bool {
+    match words {
+        Words::Format { image, .. } => match rt.metadata(image) {
+            Ok(metadata) => metadata.len() > 0,
+            Err(_) => false,
+        },
+        _ => false,
+    }
+}
+
+// An image that is refused, or that can't be had.
+fn explain_refused<R: Files + Eprint>(
+    rt: &R,
+    words: &Words<'_>,
+    image: &str,
+    why: &RecoverError,
+    trouble: &Trouble,
+) {
+    match why {
+        RecoverError::Fault | RecoverError::NoMemory => explain_call(rt, words, trouble),
+        _ => tell_refused_image(rt, image, why),
+    }
+}
+
+// What the first call that failed was about, and what the system says of it.
+fn explain_call<R: Files + Eprint>(rt: &R, words: &Words<'_>, trouble: &Trouble) {
+    if let Some((place, error)) = trouble.cause() {
+        let path = Path {
+            image: image_of(words),
+            schema: schema_of(words),
+            place,
+        };
+        tell_cause(rt, &path, &error);
+    }
+}
+
+// What is at the path is no image and no empty file.
+fn tell_not_image<R: Files + Eprint>(rt: &R, image: &str) {
+    if !is_wrong_path(rt, image) {
+        tell(
+            rt,
+            image,
+            "it has bytes and doesn't begin as an image, so it is neither used nor replaced; name another file, or remove it",
+        );
+    }
 }
 
 // Tells of an image that isn't of the schema that the words name.
@@ -79,35 +135,12 @@ fn tell_other_schema<R: Eprint>(rt: &R, words: &Words<'_>, image: &str) {
 fn image_of<'a>(words: &Words<'a>) -> &'a str {
     match words {
         Words::Format { image, .. }
-        | Words::Show { image }
+        | Words::Show { image, .. }
         | Words::Draw { image, .. }
         | Words::Dump { image, .. }
         | Words::Recover { image }
         | Words::Upgrade { image } => *image,
         Words::Drive { image, .. } | Words::Run { image, .. } => image.unwrap_or("memory"),
-    }
-}
-
-// Tells what the first call that failed was about, and what the system says of it.
-fn tell_cause<R: Eprint>(rt: &R, words: &Words<'_>, trouble: &Trouble) {
-    let image = image_of(words);
-    let Some((place, error)) = trouble.cause() else {
-        return;
-    };
-    let (name, end) = match place {
-        Place::Image => (image, ""),
-        Place::Schema => (schema_of(words), ""),
-        Place::Beside => (image, BESIDE),
-        Place::Output => ("standard output", ""),
-    };
-    match error {
-        Some(error) => {
-            let cure = cure_of(&error, place);
-            let _ = eprintln!(rt; "heapctl: {name}{end}: {error}{cure}");
-        }
-        None => {
-            let _ = eprintln!(rt; "heapctl: {name}{end}: a call has failed");
-        }
     }
 }
 
@@ -122,53 +155,41 @@ fn schema_of<'a>(words: &Words<'a>) -> &'a str {
     }
 }
 
-// What mends it, where a user can.
-fn cure_of(error: &io::Error, place: Place) -> &'static str {
-    match (error.kind(), place) {
-        (ErrorKind::NotFound, Place::Image) => "; 'heapctl format' and 'heapctl drive' make images",
-        (ErrorKind::NotFound, Place::Beside) => "; make the folder first",
-        (ErrorKind::StorageFull | ErrorKind::QuotaExceeded, Place::Output) => "",
-        (ErrorKind::StorageFull | ErrorKind::QuotaExceeded, _) => {
-            "; free some space, and try again: an image that was there is still there"
-        }
-        (ErrorKind::IsADirectory, _) => "; name a file",
-        _ => "",
-    }
-}
-
-// The lanes, objects and fields in the header of an image file.
-fn counts_of<F, R>(rt: &R, image: &str) -> Option<(u8, u32, u32)>
+// The layout in the header of an image file.
+fn layout_of<F, R>(rt: &R, alloc: Global, image: &str) -> Option<Layout>
 where
     F: BackingFile + Read + Drop,
     R: Files<File = F>,
 {
-    let mut file = match fs::open(rt, image) {
+    let file = match fs::open(rt, image) {
         Ok(file) => file,
         Err(_) => return None,
     };
-    let mut head = [0; 64];
-    let read = read_head(&mut file, &mut head);
-    drop(file);
-    if read.is_err() {
-        return None;
+    let mut disk = match ImageDisk::found(alloc, file) {
+        Ok(disk) => disk,
+        Err(_) => return None,
+    };
+    let read = read_header(&mut disk);
+    drop(disk);
+    match read {
+        Ok(layout) => Some(layout),
+        Err(_) => None,
     }
-    let objects = u32::from_be_bytes([head[12], head[13], head[14], head[15]]);
-    let fields = u32::from_be_bytes([head[16], head[17], head[18], head[19]]);
-    Some((head[9], objects, fields))
 }
 
 // Tells of an image that isn't one of so many workers whose it is.
 fn tell_other<F, R>(rt: &R, words: &Words<'_>, image: &str)
 where
     F: BackingFile + Read + Drop,
-    R: Files<File = F> + Eprint,
+    R: Files<File = F> + Eprint + AllocGlobal,
 {
     let Words::Drive { workers, .. } = words else {
         return;
     };
-    let Some((lanes, objects, fields)) = counts_of(rt, image) else {
+    let Some(layout) = layout_of(rt, rt.alloc(), image) else {
         return;
     };
+    let (lanes, objects, fields) = (layout.lanes, layout.objects, layout.fields);
     if objects == u32::from(lanes) + 1 && fields == objects && lanes != *workers {
         let _ = eprintln!(rt;
             "heapctl: {image}: it is an image of {lanes} workers, not of {workers}; type --workers {lanes}"

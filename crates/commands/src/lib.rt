@@ -2,23 +2,25 @@
 //! workers in threads of their own work on a heap in memory or in an image file (docs/SCRIPTS.md).
 //!
 //! [`obey`] does what [`Words`](command_words::Words) ask for; [`status_of_fault`] is the exit status where it didn't, and [`explain`]
-//! tells which file is why. Under it, [`drive`] is the word of workers, [`drive_in_file`] lets them work on a file that is open, and [`write_driven`] writes what they
-//! have done.
+//! tells which file is why. Under it, [`drive`] is the word of workers, [`drive_at`] lets them work on the image at a path, and [`write_driven`]
+//! writes what they have done.
 #![tactic(auto)]
 
+mod causes;
 mod driving;
 mod explaining;
 mod fault;
 mod files;
 mod obeying;
 mod progress;
+mod refused;
 mod status;
 mod telling;
 
 pub use driving::drive;
-pub use explaining::{explain, is_left_by_reader};
+pub use explaining::{explain, is_left_by_reader, is_something_there, tell_kept};
 pub use fault::WorkFault;
-pub use files::drive_in_file;
+pub use files::drive_at;
 pub use obeying::obey;
 pub use progress::Watch;
 pub use status::{FAULT, IN_USE, WRONG_INPUT, status_of_fault};

@@ -1,32 +1,34 @@
 //! What the program's words do.
 ghost use Rattle.std.specs.Prelude.{◌≡◌};
-ghost use Rattle.commands.specs.Obeying.{Obeys, PlaysAt, told_of_format, told_of_image, told_of_named, told_of_run, told_of_script};
+ghost use Rattle.commands.specs.Obeying.{Obeys, PlaysAt, sectors_asked, told_of_format, told_of_image, told_of_named, told_of_run, told_of_script};
 
 use crate::driving::drive;
 use crate::fault::WorkFault;
 use crate::progress::{Progress, rounds_for};
+use block_disk::Disk;
 use command_words::Words;
 use file_disk::BackingFile;
 use image_file::{
-    FormatError, ImageFault, NamedFault, Trouble, draw_named_file, dump_file, format_file,
-    recover_file, show_file,
+    FormatError, ImageFault, Images, NamedFault, NewImage, Trouble, draw_named_file, dump_file,
+    format_at, recover_at, show_file,
 };
-use image_scripts::{RunFault, run_file};
+use image_scripts::{RunFault, run_at};
 use recover::Versions;
 use script_lines::ScriptError;
 use scripts::run_script;
 use sector_disk::SectorSize;
-use std::fs::OpenFile;
 use std::io::{Read, Write};
 use std::rt::{Clock, Files};
 use std::sync::Wait;
 use std::thread::Threads;
 
-/// Does what the words ask for: plays the script that `reader` has, in memory or over an image file, works on an image file, or lets
-/// workers work, and writes what that prints. `is_telling`: how far workers are is told on standard error, which is a terminal. What the
-/// system says of a call on a file that fails is noted as trouble.
-pub fn obey<F, R, S, W>(
+/// Does what the words ask for: plays the script that `reader` has, in memory or over an image, works on an image, or lets workers work,
+/// and writes what that prints. Images are those of `images`; one that is only told of, and a schema file, is read of `rt`.
+/// `is_telling`: how far workers are is told on standard error, which is a terminal. What the system says of a call on a file that fails is
+/// noted as trouble.
+pub fn obey<D, P, F, R, S, W>(
     rt: &R,
+    images: &mut P,
     is_telling: bool,
     trouble: &Trouble,
     words: Words<'_>,
@@ -34,28 +36,36 @@ pub fn obey<F, R, S, W>(
     writer: &mut W,
 ) -> Result<(), WorkFault>
 where
-    F: BackingFile + OpenFile + Read + Drop,
+    D: Disk + Drop,
+    P: Images<Medium = D>,
+    F: BackingFile + Read + Drop,
     R: Files<File = F> + AllocGlobal + Clock + Eprint + Threads + Wait + Sync,
     S: Read,
     W: Write,
-    ensures { Obeys words.entry result (S.remaining reader.old) (S.remaining reader.new) (W.contents writer.old) (W.contents writer.new) }
+    ensures { Obeys D.device words.entry result (P.holds images.old) (P.holds images.new)
+        (P.lies images.new) (S.remaining reader.old) (S.remaining reader.new)
+        (W.contents writer.old) (W.contents writer.new) }
 {
     let alloc = rt.alloc();
     match words {
-        Words::Run { image, schema } => play(rt, trouble, image, schema, reader, writer),
+        Words::Run { image, schema } => { play(rt, images, trouble, image, schema, reader, writer) }
         Words::Format {
             image,
             schema,
             lanes,
             capacity,
             sectors,
+            is_forced,
         } => {
-            let size = size_of(sectors);
-            on_format(format_file(
-                rt, alloc, trouble, image, schema, lanes, capacity, size, writer,
-            ))
+            let new = NewImage {
+                lanes,
+                capacity,
+                sectors: size_of(sectors),
+                is_kept: !is_forced,
+            };
+            on_format(format_at(rt, images, alloc, trouble, image, schema, new, writer))
         }
-        Words::Show { image } => on_image(show_file(rt, alloc, trouble, image, writer)),
+        Words::Show { image, .. } => on_image(show_file(rt, alloc, trouble, image, writer)),
         Words::Draw {
             image,
             last,
@@ -65,10 +75,10 @@ where
             rt, alloc, trouble, image, schema, writer,
         )),
         Words::Recover { image } => {
-            on_image(recover_file(rt, alloc, trouble, Versions::Current, image, writer))
+            on_image(recover_at(images, alloc, Versions::Current, image, writer))
         }
         Words::Upgrade { image } => {
-            on_image(recover_file(rt, alloc, trouble, Versions::Both, image, writer))
+            on_image(recover_at(images, alloc, Versions::Both, image, writer))
         }
         Words::Drive {
             workers,
@@ -78,25 +88,27 @@ where
         } => {
             let rounds = rounds_for(rounds, seconds);
             let progress = Progress::new(rt, is_telling, workers, rounds, seconds);
-            let driven = drive(rt, trouble, &progress, workers, rounds, image, writer);
+            let driven = drive(rt, images, &progress, workers, rounds, image, writer);
             drop(progress);
             driven
         }
     }
 }
 
-// How many bytes each sector has that the words name.
-fn size_of(sectors: Option<u32>) -> Option<SectorSize> {
+// How many bytes each sector has, where the words name some: they take 4,096 alone.
+fn size_of(sectors: Option<u32>) -> Option<SectorSize>
+    ensures { result ≡ sectors_asked sectors }
+{
     match sectors {
-        Some(4096) => Some(SectorSize::Bytes4096),
-        Some(_) => Some(SectorSize::Bytes512),
+        Some(_) => Some(SectorSize::Bytes4096),
         None => None,
     }
 }
 
-// Plays the script over the image file at this path, or, where none is named, in memory.
-fn play<F, R, S, W>(
+// Plays the script over the image at this path, or, where none is named, in memory.
+fn play<D, P, F, R, S, W>(
     rt: &R,
+    images: &mut P,
     trouble: &Trouble,
     image: Option<&str>,
     schema: Option<&str>,
@@ -104,15 +116,19 @@ fn play<F, R, S, W>(
     writer: &mut W,
 ) -> Result<(), WorkFault>
 where
-    F: BackingFile + OpenFile + Read + Drop,
+    D: Disk + Drop,
+    P: Images<Medium = D>,
+    F: Read + Drop,
     R: Files<File = F> + AllocGlobal,
     S: Read,
     W: Write,
-    ensures { PlaysAt image.entry schema.entry result (S.remaining reader.old) (S.remaining reader.new) (W.contents writer.old) (W.contents writer.new) }
+    ensures { PlaysAt image.entry schema.entry result (P.holds images.old) (P.holds images.new)
+        (S.remaining reader.old) (S.remaining reader.new) (W.contents writer.old)
+        (W.contents writer.new) }
 {
     let alloc = rt.alloc();
     match image {
-        Some(path) => on_run(run_file(rt, alloc, trouble, path, schema, reader, writer)),
+        Some(path) => { on_run(run_at(rt, images, alloc, trouble, path, schema, reader, writer)) }
         None => on_script(run_script(alloc, reader, writer)),
     }
 }

@@ -24,12 +24,12 @@ impl Meet for Few {
     }
 }
 
-// Whether a worker that may begin so many sections has them acknowledged, and no other.
-fn works<R: Threads + Wait + Sync>(rt: &R, alloc: Global, sections: u64) -> bool {
+// Whether a worker of so many rounds that may begin so many sections has them acknowledged, and no other.
+fn works<R: Threads + Wait + Sync>(rt: &R, alloc: Global, sections: u64, rounds: u32) -> bool {
     let few = Few {
         left: AtomicU64::new(sections),
     };
-    match drive_with(rt, alloc, &few, 1, 100) {
+    match drive_with(rt, alloc, &few, 1, rounds) {
         Ok(driven) => {
             let is_so = driven.acknowledged.as_slice() == [sections].as_slice()
                 && driven.heap.as_slice() == [sections, sections].as_slice();
@@ -42,6 +42,12 @@ fn works<R: Threads + Wait + Sync>(rt: &R, alloc: Global, sections: u64) -> bool
 
 #[test]
 fn workers_end_where_they_are_told_to(rt: HostRuntime) {
-    assert!(rt; works(&rt, rt.alloc(), 3));
-    assert!(rt; works(&rt, rt.alloc(), 0));
+    assert!(rt; works(&rt, rt.alloc(), 3, 100));
+    assert!(rt; works(&rt, rt.alloc(), 0, 100));
+}
+
+// A section has 6 records, and a lane holds 4,000. Without rounds that trim it the worker would wait for ever.
+#[test]
+fn rounds_are_made_while_workers_work(rt: HostRuntime) {
+    assert!(rt; works(&rt, rt.alloc(), 1000, 1000));
 }

@@ -8,9 +8,12 @@
 use clap::Error;
 use clap::error::ErrorKind;
 use command_words::{Words, read_words};
-use commands::{FAULT, WRONG_INPUT, explain, is_left_by_reader, obey, status_of_fault};
+use commands::{
+    FAULT, WRONG_INPUT, explain, is_left_by_reader, is_something_there, obey, status_of_fault,
+    tell_kept,
+};
 use file_disk::BackingFile;
-use image_file::{Place, Trouble, Watched};
+use image_file::{FileImages, Place, Trouble, Watched};
 use std::fs::OpenFile;
 use std::io::{IsTerminal, Read};
 use std::os::fd::AsFd;
@@ -46,15 +49,23 @@ where
     let trouble = Trouble::none();
     let mut reader = rt.reader();
     let mut writer = Watched::new(io::writer(rt), Place::Output, &trouble);
-    match obey(
+    let was_there = is_something_there(rt, &words);
+    let mut images = FileImages::new(rt, &trouble);
+    let ended = obey(
         rt,
+        &mut images,
         terminals.is_told,
         &trouble,
         words,
         &mut reader,
         &mut writer,
-    ) {
-        Ok(()) => ExitCode::SUCCESS,
+    );
+    drop(images);
+    match ended {
+        Ok(()) => {
+            tell_kept(rt, &words, was_there);
+            ExitCode::SUCCESS
+        }
         Err(fault) => {
             if !is_left_by_reader(&trouble) {
                 let _ = eprintln!(rt; "heapctl: {fault}");
@@ -98,6 +109,9 @@ fn no_words<R: Eprint>(rt: &R, error: &io::Error) -> ExitCode {
         return out_of_memory(rt);
     }
     let _ = eprintln!(rt; "heapctl: the words are not text");
+    let _ = eprintln!(rt;
+        "heapctl: a word isn't UTF-8; rename the file, or name it by a link whose path is"
+    );
     ExitCode::from(WRONG_INPUT)
 }
 

@@ -3,7 +3,7 @@ mod recovered;
 
 use declarations::{SchemaFault, SchemaFaultKind};
 use file_disk::{BackingFile, Claim};
-use image_file::{FormatError, Trouble, format_file};
+use image_file::{FileImages, FormatError, NewImage, Trouble, format_at};
 use std::fs;
 use std::fs::OpenOptions;
 
@@ -18,6 +18,14 @@ field f1 o1 o1 20
 
 // What the first bytes of its image are.
 const HEADER: &[u8] = b"MONIHEAP\xA5\x02\x00\x00\x00\x00\x00\x04\x00\x00\x00\x02\x00\x00\x0F\xA0";
+
+// An image of 2 lanes of 4,000 records. One that was there isn't kept.
+const NEW: NewImage = NewImage {
+    lanes: 2,
+    capacity: 4000,
+    sectors: None,
+    is_kept: false,
+};
 
 // Whether the file has these bytes.
 fn has(rt: &HostRuntime, name: &str, bytes: &[u8]) -> bool {
@@ -40,17 +48,19 @@ fn format_there(
 ) -> (Result<(), FormatError>, bool) {
     let alloc = rt.alloc();
     let mut writer = Vec::new(alloc);
-    let made = format_file(
+    let trouble = Trouble::none();
+    let mut images = FileImages::new(rt, &trouble);
+    let made = format_at(
         rt,
+        &mut images,
         alloc,
-        &Trouble::none(),
+        &trouble,
         image,
         schema,
-        2,
-        4000,
-        None,
+        NEW,
         &mut writer,
     );
+    drop(images);
     let is_written = writer.as_slice() == lines;
     drop(writer);
     (made, is_written)

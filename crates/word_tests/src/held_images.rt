@@ -1,10 +1,13 @@
 //! A script over an image that isn't replaced, that is none, and one whose output can't be written.
+ghost use Rattle.std.specs.Prelude.{None};
 
 use crate::playing::{Does, FORMAT, FORMATTED, Line, first_other};
-use image_file::{FileFault, ImageFault, NamedFault};
-use image_scripts::{ImageHolder, RunFault, run_image};
+use block_disk::MemDisk;
+use image_file::{FileFault, ImageFault, Images, NamedFault};
+use image_scripts::{RunFault, run_image};
 use recover::RecoverError;
 use script_lines::{Ending, ScriptError, ScriptErrorKind};
+use sector_disk::SectorSize;
 use std::alloc::Global;
 use std::io::Write;
 use std::{fs, io};
@@ -16,24 +19,82 @@ struct Held {
     fault: Option<FileFault>,
 }
 
-impl ImageHolder for Held {
-    fn read_image(&mut self, alloc: Global) -> Result<Vec<u8>, FileFault> {
+impl Held {
+    // Holds what the disk reads.
+    fn take(&mut self, disk: &MemDisk) -> Result<(), FileFault> {
+        self.image.clear();
+        match self.image.extend_from_slice(disk.bytes()) {
+            Ok(()) => Ok(()),
+            Err(_) => Err(FileFault::NoMemory),
+        }
+    }
+}
+
+// At each path.
+impl Images for Held {
+    type Medium = MemDisk;
+
+    ghost holds = { λ _ _. None };
+
+    ghost lies = { λ _ _. None };
+
+    fn is_vacant(&mut self, _path: &str) -> Result<bool, FileFault> {
+        Ok(self.image.is_empty())
+    }
+
+    fn shape(&mut self, _path: &str) -> Result<(u64, Option<SectorSize>), FileFault> {
+        Ok((self.image.len() as u64, None))
+    }
+
+    fn read(&mut self, alloc: Global, _path: &str) -> Result<Vec<u8>, FileFault> {
         match self.image.to_vec(alloc) {
             Ok(image) => Ok(image),
             Err(_) => Err(FileFault::NoMemory),
         }
     }
 
-    fn put_image(&mut self, image: &[u8]) -> Result<(), FileFault> {
-        if let Some(fault) = self.fault {
-            return Err(fault);
-        }
-        self.image.clear();
-        match self.image.extend_from_slice(image) {
-            Ok(()) => Ok(()),
+    fn open(&mut self, alloc: Global, _path: &str) -> Result<MemDisk, FileFault> {
+        match MemDisk::from_bytes(alloc, &self.image) {
+            Ok(disk) => Ok(disk),
             Err(_) => Err(FileFault::NoMemory),
         }
     }
+
+    fn close(&mut self, _path: &str, disk: MemDisk) {
+        let _ = self.take(&disk);
+        drop(disk);
+    }
+
+    fn make(
+        &mut self,
+        alloc: Global,
+        _path: &str,
+        sectors: Option<SectorSize>,
+        size: u64,
+    ) -> Result<MemDisk, FileFault> {
+        if sectors.is_some() {
+            return Err(FileFault::Fault);
+        }
+        match MemDisk::new(alloc, size) {
+            Ok(disk) => Ok(disk),
+            Err(_) => Err(FileFault::NoMemory),
+        }
+    }
+
+    fn replace(
+        &mut self,
+        _path: &str,
+        _sectors: Option<SectorSize>,
+        disk: &MemDisk,
+        _is_kept: bool,
+    ) -> Result<(), FileFault> {
+        match self.fault {
+            Some(fault) => Err(fault),
+            None => self.take(disk),
+        }
+    }
+
+    fn give_up(&mut self, _path: &str) {}
 }
 
 // Takes nothing.
@@ -87,7 +148,15 @@ fn is_refused(alloc: Global, image: &[u8], case: &Case) -> Option<bool> {
     let (fault, script, ends) = *case;
     let mut held = hold(alloc, image, fault)?;
     let mut written = Vec::new(alloc);
-    let ended = run_image(alloc, &mut held, None, script, Ending::Whole, &mut written);
+    let ended = run_image(
+        &mut held,
+        alloc,
+        "held",
+        None,
+        script,
+        Ending::Whole,
+        &mut written,
+    );
     Some(ended == ends && written.is_empty() && held.image.as_slice() == image)
 }
 
@@ -121,7 +190,15 @@ const REPLACED: &[Line] = &[(FORMAT, Some("replaced"), "", Does::Change(FORMATTE
 // Whether a run whose text can't be written tells that, and whether the image is another then.
 fn is_replaced(alloc: Global, image: &[u8]) -> Option<[bool; 2]> {
     let mut held = hold(alloc, image, None)?;
-    let ended = run_image(alloc, &mut held, None, STEP, Ending::Whole, &mut Full);
+    let ended = run_image(
+        &mut held,
+        alloc,
+        "held",
+        None,
+        STEP,
+        Ending::Whole,
+        &mut Full,
+    );
     Some([
         ended == Err(RunFault::Write),
         held.image.as_slice() != image,

@@ -19,3 +19,5 @@ mod playing;
 mod taken_words;
 #[cfg(test)]
 mod two_places;
+#[cfg(test)]
+mod wrong_paths;

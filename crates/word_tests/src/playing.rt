@@ -4,7 +4,7 @@ use command_words::{Words, read_words};
 use commands::{WorkFault, obey};
 use drive::DriveError;
 use file_disk::BackingFile;
-use image_file::{FormatError, ImageFault, NamedFault, Trouble};
+use image_file::{FileImages, FormatError, ImageFault, NamedFault, Trouble};
 use recover::RecoverError;
 use script_lines::{ScriptError, ScriptErrorKind};
 use std::alloc::Global;
@@ -75,7 +75,8 @@ pub enum Fails {
     OtherWorkers,
 }
 
-fn fault_of(fails: Fails) -> WorkFault {
+/// The fault that this stands for.
+pub fn fault_of(fails: Fails) -> WorkFault {
     match fails {
         Fails::Syntax => WorkFault::Script(ScriptError {
             line: 2,
@@ -132,7 +133,19 @@ where
     R: Files<File = F> + AllocGlobal + Clock + Eprint + Threads + Wait + Sync,
 {
     let mut reader = script.as_bytes();
-    obey(rt, false, &Trouble::none(), asked, &mut reader, written)
+    let trouble = Trouble::none();
+    let mut images = FileImages::new(rt, &trouble);
+    let ended = obey(
+        rt,
+        &mut images,
+        false,
+        &trouble,
+        asked,
+        &mut reader,
+        written,
+    );
+    drop(images);
+    ended
 }
 
 /// How what these words ask of the image ends, with this script on standard input. `None` where they aren't taken.

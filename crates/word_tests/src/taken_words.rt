@@ -28,6 +28,42 @@ const ANSWERED: &[Answered] = &[
     ),
     (&["show", "--image"], Some(ErrorKind::InvalidValue)),
     (&["run", "--image"], Some(ErrorKind::InvalidValue)),
+    // Options that do nothing.
+    (&["run", "--schema", "s"], Some(ErrorKind::ArgumentConflict)),
+    (
+        &["show", "--image", "i", "--last", "3"],
+        Some(ErrorKind::ArgumentConflict),
+    ),
+    (
+        &["show", "--image", "i", "--schema", "s"],
+        Some(ErrorKind::ArgumentConflict),
+    ),
+    // Sectors that are smaller than the pages in which a file is written.
+    (
+        &[
+            "format",
+            "--image",
+            "i",
+            "--schema",
+            "s",
+            "--sectors",
+            "512",
+        ],
+        Some(ErrorKind::ArgumentConflict),
+    ),
+    (
+        &[
+            "format",
+            "--image",
+            "i",
+            "--schema",
+            "s",
+            "--sectors",
+            "4096",
+            "--force",
+        ],
+        None,
+    ),
     (
         &["recover", "--image", "i", "--dot"],
         Some(ErrorKind::UnknownArgument),
@@ -138,9 +174,37 @@ const ASKING: &[Asking] = &[
             lanes: 2,
             capacity: 4000,
             sectors: None,
+            is_forced: false,
         },
     ),
-    (&["show", "--image", "i"], Words::Show { image: "i" }),
+    (
+        &[
+            "format",
+            "--force",
+            "--schema",
+            "s",
+            "--image",
+            "i",
+            "--sectors",
+            "4096",
+        ],
+        Words::Format {
+            image: "i",
+            schema: "s",
+            lanes: 4,
+            capacity: 4000,
+            sectors: Some(4096),
+            is_forced: true,
+        },
+    ),
+    (
+        &["show", "--image", "i"],
+        Words::Show {
+            image: "i",
+            last: None,
+            schema: None,
+        },
+    ),
     (
         &["show", "--image", "i", "--dot"],
         Words::Draw {

@@ -11,18 +11,8 @@ use std::rt::Clock;
 use std::sync::Wait;
 use std::thread::Threads;
 
-// The words that make one of sectors of 512 bytes.
-const FORMAT_SMALL: &[&str] = &[
-    "format",
-    "--schema",
-    "schema",
-    "--lanes",
-    "2",
-    "--sectors",
-    "512",
-];
-
-const FORMAT_LARGE: &[&str] = &[
+// The words that make one.
+const FORMAT_PLACED: &[&str] = &[
     "format",
     "--schema",
     "schema",
@@ -32,31 +22,26 @@ const FORMAT_LARGE: &[&str] = &[
     "4096",
 ];
 
-// A file that holds a disk of 255 sectors of 512 bytes in two places, or of 32 of 4,096.
-const SMALL: usize = 512 * 512;
-
+// A file that holds a disk of 32 sectors of 4,096 bytes in two places.
 const LARGE: usize = 66 * 4096;
 
 const READ: &[Line] = &[
-    (FORMAT_SMALL, Some("small"), "", Does::Change(FORMATTED)),
-    (FORMAT_LARGE, Some("large"), "", Does::Change(FORMATTED)),
-    (&["show"], Some("small"), "", Does::Tell(LINES)),
+    (FORMAT_PLACED, Some("large"), "", Does::Change(FORMATTED)),
     (&["show"], Some("large"), "", Does::Tell(LINES)),
-    (&["dump"], Some("small"), "", Does::Tell(SCHEMA)),
-    (&["recover"], Some("small"), "", Does::Change(REPORT)),
+    (&["dump"], Some("large"), "", Does::Tell(SCHEMA)),
+    (&["recover"], Some("large"), "", Does::Change(REPORT)),
     (&["upgrade"], Some("large"), "", Does::Change(REPORT)),
 ];
 
 #[test]
 fn an_image_is_made_and_read(rt: HostRuntime) {
     assert!(rt; first_other(&rt, READ).is_none());
-    assert!(rt; begins(&rt, "small", b"MONI0512") == Some((SMALL, true)));
     assert!(rt; begins(&rt, "large", b"MONI4096") == Some((LARGE, true)));
 }
 
 // A script over it leaves it in two places.
 const PLAYED: &[Line] = &[
-    (FORMAT_SMALL, Some("played"), "", Does::Change(FORMATTED)),
+    (FORMAT_PLACED, Some("played"), "", Does::Change(FORMATTED)),
     (
         &["run"],
         Some("played"),
@@ -76,7 +61,7 @@ const PLAYED: &[Line] = &[
 #[test]
 fn a_script_is_played_over_one(rt: HostRuntime) {
     assert!(rt; first_other(&rt, PLAYED).is_none());
-    assert!(rt; begins(&rt, "played", b"MONI0512") == Some((SMALL, true)));
+    assert!(rt; begins(&rt, "played", b"MONI4096") == Some((LARGE, true)));
 }
 
 const ROUNDS: &[&str] = &["drive", "--rounds", "20"];
@@ -138,12 +123,12 @@ fn workers_work_on_one(rt: HostRuntime) {
     assert!(rt; begins(&rt, "placed", b"MONI4096") == Some((LARGE, true)));
 }
 
-const WHOLE: &[Line] = &[(FORMAT_SMALL, Some("short"), "", Does::Change(FORMATTED))];
+const WHOLE: &[Line] = &[(FORMAT_PLACED, Some("short"), "", Does::Change(FORMATTED))];
 
 // Takes the last sector of the file away.
 fn cut_short(rt: &HostRuntime, path: &str) -> bool {
     match fs::read(rt, path) {
-        Ok(bytes) => match bytes.get(..SMALL - 512) {
+        Ok(bytes) => match bytes.get(..LARGE - 4096) {
             Some(left) => fs::write(rt, path, left).is_ok(),
             None => false,
         },

@@ -1,9 +1,10 @@
 -- What is behind a handle, by its kind, and what a call of it is answered (this project's own).
-use Rattle.std.specs.Prelude.{ℕ, ◌≡◌, Option, Some, None}
+use Rattle.std.specs.Prelude.{ℕ, ◌≡◌, List, Option, Some, None}
 use Rattle.hosted_heap.specs.Hosting.{Hosting}
 use Rattle.hosted_heap.specs.Sessions.{Seated, SeatedWaiting}
 use Rattle.hosted_heap.specs.Stopping.{Stopping}
 use Rattle.hosted_heap.specs.declared.closing.Closed.{Closed}
+use Rattle.session.specs.declared.session.Session.{Session}
 use Rattle.zelamiku.specs.Own.{Held}
 use Rattle.zelamiku.specs.declared.state.Open.{Open}
 use Rattle.zelamiku.specs.declared.state.Open.TheVariants as kind
@@ -36,6 +37,10 @@ session_behind s = behind (kind.Session s)
 -- a session that waits
 abbrev pub waiting_behind : SeatedWaiting → Held
 waiting_behind w = behind (kind.Waiting w)
+
+-- what is left of a session that has ended: what went through the ring by which it came back
+abbrev pub ended_behind : List Session → Held
+ended_behind back = behind (kind.Ended back)
 
 -- A call of a handle: before it and after it this is behind the handle, and the status is what C is answered. `p` is the call of what
 -- is there; where nothing is, nothing is done.

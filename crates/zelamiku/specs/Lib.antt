@@ -1,6 +1,7 @@
 -- What a handle owns, and what is behind it.
 pub mod Own
 pub mod Behind
+pub mod Ended
 -- What the calls of a session answer.
 pub mod SessionDoors
 pub mod StopDoors
@@ -10,3 +11,4 @@ pub mod PoolDoors
 pub mod HeapStatuses
 pub mod HeapDoors
 pub mod ReportDoors
+pub mod CopyDoors

@@ -22,19 +22,20 @@ use Rattle.session.specs.Calls.{AsksToResume, AsksToWait, Enters, Exits, Loads, 
 use Rattle.session.specs.declared.error.SessionError.{SessionError}
 use Rattle.session.specs.declared.error.Still.{Still}
 use Rattle.session.specs.declared.session.Session.{Session}
-use Rattle.zelamiku.specs.Behind.{Answers, behind, nothing_behind, session_behind, waiting_behind}
+use Rattle.zelamiku.specs.Behind.{behind, Answers, ended_behind, session_behind, waiting_behind}
 use Rattle.zelamiku.specs.Own.{Held}
 use Rattle.zelamiku.specs.SessionStatuses.{refusal_status, status_of, still_status}
 use Rattle.zelamiku.specs.StopDoors.{UnlessStopped, UnlessStoppedWaiting}
 use Rattle.zelamiku.specs.declared.session_calls.TheConstants.{NOBODY}
 use Rattle.zelamiku.specs.declared.state.Open.{Open}
 use Rattle.zelamiku.specs.declared.state.Open.TheVariants as kind
-use Rattle.zelamiku.specs.declared.status.TheConstants.{OK, WAITING, WRONG_KIND}
+use Rattle.zelamiku.specs.declared.status.TheConstants.{NOTHING, OK, WAITING, WRONG_KIND}
 use Rattle.zelamiku.specs.declared.words.Sight as words
 
 -- no session is there that could make a call: the status says so, and what is there stays
 abbrev pub HasNoSession : Open → Held → ℕ → Type 0
 HasNoSession (kind.Waiting w) after status = (status ≡ WAITING) × (after ≡ waiting_behind w)
+HasNoSession (kind.Ended back) after status = (status ≡ NOTHING) × (after ≡ ended_behind back)
 HasNoSession other after status = (status ≡ WRONG_KIND) × (after ≡ behind other)
 
 -- a call that a session makes
@@ -162,14 +163,13 @@ ResumesFrom w after status = (answer : Result Seated (SeatedWaiting × Still))
 -- and through its handle
 abbrev pub Resumes : Open → Held → ℕ → Type 0
 Resumes (kind.Waiting w) after status = UnlessStoppedWaiting ResumesFrom w after status
+Resumes (kind.Ended back) after status = (status ≡ NOTHING) × (after ≡ ended_behind back)
 Resumes other after status = (status ≡ WRONG_KIND) × (after ≡ behind other)
 
--- a session that is ended: nothing is behind its handle then
-abbrev pub Ends : Open → Held → ℕ → Type 0
-Ends = OfSession (λ s after status. (status ≡ OK) × (after ≡ nothing_behind))
+-- A session that is ended has come back to its heap: it is the last that went into the ring by which it comes back. The handle keeps that ring's end.
+abbrev pub EndsFrom : Seated → Held → ℕ → Type 0
+EndsFrom s after status = (status ≡ OK) × (after ≡ ended_behind (sent s.back ++ s.session ∷ []))
 
--- The same, as the library works on what it took out: nothing is left of a session that is ended, and it has come back to its heap, as
--- the last that went into the ring by which it comes back.
-abbrev pub EndsTo : Open → (after : Open) → (back : Option (List Session)) → (status : ℕ) → Type 0
-EndsTo (kind.Session s) after back status = (status ≡ OK) × (after ≡ kind.Nothing) × (back ≡ Some (sent s.back ++ s.session ∷ []))
-EndsTo other after back status = HasNoSession other (behind after) status
+-- and through its handle
+abbrev pub Ends : Open → Held → ℕ → Type 0
+Ends = OfSession EndsFrom

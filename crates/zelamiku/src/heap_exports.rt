@@ -1,11 +1,12 @@
 //! What C calls of a heap. Each export is one call of `heap_calls` on what is behind the handle.
 ghost use Rattle.std.specs.Prelude.{◌≡◌, ◌≢◌, None};
 ghost use Rattle.zelamiku.specs.Behind.{Answers};
+ghost use Rattle.zelamiku.specs.Ended.{still_behind};
 ghost use Rattle.zelamiku.specs.HeapDoors.{AcknowledgesAt, ClosesAt, FormatsAt, HandsOut, MakesCallAt, OpensAt, PutsNew, RoundsAt, TellsNextAt, nothing_found, told_of};
 ghost use Rattle.recover.specs.declared.versions.Versions.TheVariants.{Current, Both};
 ghost use Rattle.zelamiku.specs.declared.status.TheConstants.{OK};
 
-use crate::slot::{Slot, put, put_new, take};
+use crate::slot::{Slot, is_taken, put, put_new, take};
 use crate::state::Open;
 use crate::words::{Call, Field, Found};
 use crate::{heap_calls, status};
@@ -23,11 +24,11 @@ pub extern "C" fn zelamiku_format_marked(
     capacity: u32,
     size: &mut u64,
 ) -> u32
-    ensures told { PutsNew (FormatsAt objects fields.now lanes capacity size.new) place.old.handle.state place.new.handle.state result }
+    ensures told { PutsNew (FormatsAt objects fields.now lanes capacity size.new) (still_behind place.old.handle.state) place.new.handle.state result }
     ensures refused { result ≢ OK → size.new ≡ 0 }
 {
     *size = 0;
-    if place.is_open() {
+    if is_taken(alloc, place) {
         return status::OPEN;
     }
     match heap_calls::format(alloc, objects, fields, lanes, capacity) {
@@ -51,7 +52,7 @@ pub extern "C" fn zelamiku_open(
     image: &[u8],
     found: &mut Found,
 ) -> u32
-    ensures told { PutsNew (OpensAt Current image.now found.new) place.old.handle.state place.new.handle.state result }
+    ensures told { PutsNew (OpensAt Current image.now found.new) (still_behind place.old.handle.state) place.new.handle.state result }
     ensures refused { result ≢ OK → found.new ≡ nothing_found }
 {
     open_at(alloc, place, Versions::Current, image, found)
@@ -65,7 +66,7 @@ pub extern "C" fn zelamiku_upgrade(
     image: &[u8],
     found: &mut Found,
 ) -> u32
-    ensures told { PutsNew (OpensAt Both image.now found.new) place.old.handle.state place.new.handle.state result }
+    ensures told { PutsNew (OpensAt Both image.now found.new) (still_behind place.old.handle.state) place.new.handle.state result }
     ensures refused { result ≢ OK → found.new ≡ nothing_found }
 {
     open_at(alloc, place, Versions::Both, image, found)
@@ -79,11 +80,11 @@ fn open_at(
     image: &[u8],
     found: &mut Found,
 ) -> u32
-    ensures told { PutsNew (OpensAt versions image.now found.new) place.old.handle.state place.new.handle.state result }
+    ensures told { PutsNew (OpensAt versions image.now found.new) (still_behind place.old.handle.state) place.new.handle.state result }
     ensures refused { result ≢ OK → found.new ≡ nothing_found }
 {
     *found = heap_calls::nothing_found();
-    if place.is_open() {
+    if is_taken(alloc, place) {
         return status::OPEN;
     }
     match heap_calls::open(alloc, image, versions) {
@@ -101,10 +102,10 @@ fn open_at(
 /// Hands out a session.
 #[unsafe(no_mangle)]
 pub extern "C" fn zelamiku_session(alloc: Global, place: &mut Slot, session: &mut Slot) -> u32
-    ensures told { HandsOut session.old.handle.state session.new.handle.state place.old.handle.state place.new.handle.state result }
-    ensures refused { result ≢ OK → session.new.handle.state ≡ session.old.handle.state }
+    ensures told { HandsOut (still_behind session.old.handle.state) session.new.handle.state place.old.handle.state place.new.handle.state result }
+    ensures refused { result ≢ OK → session.new.handle.state ≡ still_behind session.old.handle.state }
 {
-    if session.is_open() {
+    if is_taken(alloc, session) {
         return status::OPEN;
     }
     let Some(mut state) = take(alloc, place) else {

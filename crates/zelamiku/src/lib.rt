@@ -4,6 +4,8 @@
 //! it back; a handle with nothing behind it is answered `NOTHING`. No call takes two heaps, and none waits.
 #![tactic(auto)]
 
+mod copy_calls;
+mod copy_exports;
 mod handle;
 mod heap_calls;
 mod heap_exports;
@@ -22,6 +24,7 @@ mod stop_exports;
 mod version;
 mod words;
 
+pub use copy_exports::zelamiku_copy;
 pub use heap_exports::{
     zelamiku_acknowledged, zelamiku_call_done, zelamiku_close, zelamiku_format_marked,
     zelamiku_free, zelamiku_next_call, zelamiku_open, zelamiku_round, zelamiku_session,

@@ -1,10 +1,11 @@
 //! What C calls to open a heap, and to be told what recovery did.
 ghost use Rattle.std.specs.Prelude.{◌≡◌, IsSome};
 ghost use Rattle.recover.specs.declared.versions.Versions.TheVariants.{Current, Both};
+ghost use Rattle.zelamiku.specs.Ended.{still_behind};
 ghost use Rattle.zelamiku.specs.HeapDoors.{PutsNew};
 ghost use Rattle.zelamiku.specs.ReportDoors.{OpensTelling, TellsNothing};
 
-use crate::slot::{Slot, put_new};
+use crate::slot::{Slot, is_taken, put_new};
 use crate::state::Open;
 use crate::words::{Dropped, Told};
 use crate::{report_calls, status};
@@ -20,8 +21,8 @@ pub extern "C" fn zelamiku_open_telling(
     told: &mut Told,
     dropped: &mut [Dropped],
 ) -> u32
-    ensures told { PutsNew (OpensTelling Current image.now told.new dropped.new) place.old.handle.state place.new.handle.state result }
-    ensures refused { IsSome place.old.handle.state → TellsNothing told.new dropped.new }
+    ensures told { PutsNew (OpensTelling Current image.now told.new dropped.new) (still_behind place.old.handle.state) place.new.handle.state result }
+    ensures refused { IsSome (still_behind place.old.handle.state) → TellsNothing told.new dropped.new }
 {
     open_at(alloc, place, Versions::Current, image, told, dropped)
 }
@@ -35,8 +36,8 @@ pub extern "C" fn zelamiku_upgrade_telling(
     told: &mut Told,
     dropped: &mut [Dropped],
 ) -> u32
-    ensures told { PutsNew (OpensTelling Both image.now told.new dropped.new) place.old.handle.state place.new.handle.state result }
-    ensures refused { IsSome place.old.handle.state → TellsNothing told.new dropped.new }
+    ensures told { PutsNew (OpensTelling Both image.now told.new dropped.new) (still_behind place.old.handle.state) place.new.handle.state result }
+    ensures refused { IsSome (still_behind place.old.handle.state) → TellsNothing told.new dropped.new }
 {
     open_at(alloc, place, Versions::Both, image, told, dropped)
 }
@@ -50,12 +51,12 @@ fn open_at(
     told: &mut Told,
     dropped: &mut [Dropped],
 ) -> u32
-    ensures told { PutsNew (OpensTelling versions image.now told.new dropped.new) place.old.handle.state place.new.handle.state result }
-    ensures refused { IsSome place.old.handle.state → TellsNothing told.new dropped.new }
+    ensures told { PutsNew (OpensTelling versions image.now told.new dropped.new) (still_behind place.old.handle.state) place.new.handle.state result }
+    ensures refused { IsSome (still_behind place.old.handle.state) → TellsNothing told.new dropped.new }
 {
     *told = report_calls::nothing();
     report_calls::tell_dropped(&[], dropped);
-    if place.is_open() {
+    if is_taken(alloc, place) {
         return status::OPEN;
     }
     match hosted_heap::open(alloc, image, versions) {

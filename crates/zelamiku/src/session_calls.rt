@@ -6,7 +6,7 @@ ghost use Rattle.std.specs.Result.{result_unwrap_or};
 ghost use Rattle.lock_word.specs.Spelling.{fat_sight, sight_of};
 ghost use Rattle.lock_word.specs.WaitMask.{bit_of};
 ghost use Rattle.zelamiku.specs.Behind.{Answers, behind};
-ghost use Rattle.zelamiku.specs.SessionDoors.{AnswersAs, AnswersUnlessStopped, EndsTo, EntersAt, ExitsAt, HasNoSession, LoadsAt, LooksAt, NotifiesAllAt, NotifiesAt, ReadsStableAt, Resumes, StoresAt, TellsLaneAt, WaitsAt, free_sight, lane_told, sight_told};
+ghost use Rattle.zelamiku.specs.SessionDoors.{AnswersAs, AnswersUnlessStopped, Ends, EntersAt, ExitsAt, HasNoSession, LoadsAt, LooksAt, NotifiesAllAt, NotifiesAt, ReadsStableAt, Resumes, StoresAt, TellsLaneAt, WaitsAt, free_sight, lane_told, sight_told};
 ghost use Rattle.zelamiku.specs.SessionStatuses.{status_of};
 ghost use Rattle.zelamiku.specs.declared.status.TheConstants.{OK};
 
@@ -14,7 +14,6 @@ use crate::state::{Inner, Open};
 use crate::words::Sight;
 use crate::{status, stop_calls};
 use heap_model::{FieldId, Lane, ObjectId};
-use hosted_heap::Returned;
 use lock_word::{FatShape, FatWord, LockWord, Shape, WaitMask};
 use session::SessionError;
 
@@ -24,6 +23,7 @@ pub(crate) fn no_session(found: &Open) -> u32
 {
     match found {
         Open::Waiting(_) => status::WAITING,
+        Open::Ended(_) => status::NOTHING,
         _ => status::WRONG_KIND,
     }
 }
@@ -270,28 +270,29 @@ fn resumed_of(found: Open) -> (Open, u32)
 {
     match found {
         Open::Waiting(waiting) => stop_calls::resume(waiting),
+        Open::Ended(back) => (Open::Ended(back), status::NOTHING),
         other => (other, status::WRONG_KIND),
     }
 }
 
-/// Ends the session: nothing is left of it but that it has come back, or what is there stays.
-pub fn end(state: &mut Inner) -> (Option<Returned>, u32)
-    ensures told { EndsTo state.old.open state.new.open result.0 result.1 }
+/// Ends the session: it comes back to its heap, and what it came back by is left of it. Where no session is, what is there stays.
+pub fn end(state: &mut Inner) -> u32
+    ensures told { Answers Ends (Some state.old) (Some state.new) result }
 {
     let found = state.take();
-    let (open, back, answer) = ended_of(found);
+    let (open, answer) = ended_of(found);
     state.put(open);
-    (back, answer)
+    answer
 }
 
-fn ended_of(found: Open) -> (Open, Option<Returned>, u32)
-    ensures { EndsTo found result.0 result.1 result.2 }
+fn ended_of(found: Open) -> (Open, u32)
+    ensures { Ends found (behind result.0) result.1 }
 {
     match found {
-        Open::Session(session) => (Open::Nothing, Some(session.end()), status::OK),
+        Open::Session(session) => (Open::Ended(session.end()), status::OK),
         other => {
             let answer = no_session(&other);
-            (other, None, answer)
+            (other, answer)
         }
     }
 }

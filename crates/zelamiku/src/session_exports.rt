@@ -197,7 +197,7 @@ pub extern "C" fn zelamiku_lane(
     answer
 }
 
-/// Ends the session. Its handle has nothing behind it then.
+/// Ends the session. Its handle keeps what is left of it, until it is used again or freed.
 #[unsafe(no_mangle)]
 pub extern "C" fn zelamiku_end(alloc: Global, place: &mut Slot) -> u32
     ensures told { Answers Ends place.old.handle.state place.new.handle.state result }
@@ -205,10 +205,7 @@ pub extern "C" fn zelamiku_end(alloc: Global, place: &mut Slot) -> u32
     let Some(mut state) = take(alloc, place) else {
         return status::NOTHING;
     };
-    let (_back, answer) = session_calls::end(&mut state);
-    if answer == status::OK {
-        return answer;
-    }
+    let answer = session_calls::end(&mut state);
     put(place, state);
     answer
 }

@@ -1,6 +1,7 @@
 //! A place for a handle.
 ghost use Rattle.std.specs.Prelude.{◌≡◌, ◌↔◌, None, Some, Option, IsTrue, IsSome, MatchOption, OnErr, OnOk};
 ghost use Rattle.zelamiku.specs.Behind.{behind};
+ghost use Rattle.zelamiku.specs.Ended.{still_behind};
 
 use crate::handle::Handle;
 use crate::loose::Loose;
@@ -68,6 +69,22 @@ pub fn take(alloc: Global, place: &mut Slot) -> Option<Box<Inner>>
     ensures taken { MatchOption result (place.old.handle.state ≡ None) (λ b. place.old.handle.state ≡ Some b.value) }
 {
     std::mem::replace(place, Slot::none(alloc)).into_state()
+}
+
+/// Whether something is behind the handle, where something is to be opened. What is left there of a session that has ended is let go.
+pub fn is_taken(alloc: Global, place: &mut Slot) -> bool
+    ensures still { place.new.handle.state ≡ still_behind place.old.handle.state }
+    ensures told { IsTrue result ↔ IsSome place.new.handle.state }
+{
+    let Some(state) = take(alloc, place) else {
+        return false;
+    };
+    if state.has_ended() {
+        drop(state);
+        return false;
+    }
+    put(place, state);
+    true
 }
 
 // What one thread may hand to another.

@@ -1,8 +1,9 @@
 //! What is behind a handle.
 ghost use Rattle.std.specs.Prelude.{◌≡◌, IfOk};
+ghost use Rattle.zelamiku.specs.Ended.{is_ended};
 ghost use Rattle.zelamiku.specs.declared.state.Open.TheVariants as kind;
 
-use hosted_heap::{Closed, HostedHeap, HostedSession, HostedWaiting, StopWord};
+use hosted_heap::{Closed, HostedHeap, HostedSession, HostedWaiting, Returned, StopWord};
 use std::alloc::{AllocError, Global};
 
 /// What is behind a handle: one kind of handle serves all.
@@ -21,6 +22,8 @@ pub enum Open {
     Session(HostedSession),
     /// A session that waits for a monitor.
     Waiting(HostedWaiting),
+    /// What is left of a session that has ended, until its handle is used again or freed.
+    Ended(Returned),
 }
 
 /// What is behind a handle, in its box.
@@ -36,6 +39,16 @@ impl Inner {
         ensures { IfOk result (λ b. b.value ≡ record { «open» = content }) }
     {
         Ok(Box::new(alloc, Inner { open: content })?)
+    }
+
+    /// Whether a session has ended there.
+    pub fn has_ended(&self) -> bool
+        ensures { result ≡ is_ended self.now.open }
+    {
+        match &self.open {
+            Open::Ended(_) => true,
+            _ => false,
+        }
     }
 
     /// Takes out what is there, and leaves nothing.

@@ -12,81 +12,119 @@ use session::{SessionError, Still};
 use store_past::StoreError;
 use trim_helper::CloseError;
 
+/// The call was made.
 pub const OK: u32 = 0;
 
+/// Nothing is behind the handle, or what is left of a session that has ended.
 pub const NOTHING: u32 = 1;
 
+/// The handle that is to be opened has something behind it.
 pub const OPEN: u32 = 2;
 
+/// What is behind the handle is of another kind than the call wants.
 pub const WRONG_KIND: u32 = 3;
 
+/// There was no memory.
 pub const NO_MEMORY: u32 = 4;
 
+/// The session waits for a monitor, so that it can do nothing but resume.
 pub const WAITING: u32 = 5;
 
+/// No session, or no call of the device, is left.
 pub const NONE_LEFT: u32 = 6;
 
+/// The host has yet to make calls of the device.
 pub const CALLS_LEFT: u32 = 7;
 
+/// The heap has no such lane.
 pub const BAD_LANE: u32 = 8;
 
+/// A session of the heap hasn't ended, or another thread isn't done with ending one.
 pub const RUNNING: u32 = 9;
 
+/// There is no such object.
 pub const UNKNOWN_OBJECT: u32 = 10;
 
+/// There is no such field.
 pub const UNKNOWN_FIELD: u32 = 11;
 
+/// The session doesn't hold the monitor, or that of the field's guard.
 pub const NOT_HELD: u32 = 12;
 
+/// The lane has no room for a whole section's records until rounds have trimmed it.
 pub const BEHIND: u32 = 13;
 
+/// The section would have more records than a section may have.
 pub const SECTION_FULL: u32 = 14;
 
+/// More monitors would be held, or more objects, fields or slots declared, than may be.
 pub const TOO_MANY: u32 = 15;
 
+/// The monitor is held by as many locks as it may be.
 pub const TOO_DEEP: u32 = 16;
 
+/// The monitor needs a fat word, and none is free.
 pub const NO_FAT: u32 = 17;
 
+/// A number is at its end: the monitor's, the lane's or the control's.
 pub const WORN: u32 = 18;
 
+/// Another session has the monitor, or had it when this one tried.
 pub const HELD: u32 = 19;
 
+/// Nobody has notified the session that waits.
 pub const IN_SET: u32 = 20;
 
+/// A call of the disk in memory failed, which is want of memory: nothing was opened, or the heap has stopped.
 pub const FAULT: u32 = 21;
 
+/// An earlier call answered `FAULT`, with which the heap stopped.
 pub const FAILED: u32 = 22;
 
+/// A session was ended while it held a monitor.
 pub const UNFINISHED: u32 = 23;
 
+/// There is no object or no field, or a pool would have no slot.
 pub const EMPTY: u32 = 24;
 
+/// The bytes are no image of a heap.
 pub const NOT_FORMATTED: u32 = 25;
 
+/// A number of the image, or of the heap to be made, is out of its limits.
 pub const BAD_HEADER: u32 = 26;
 
+/// The bytes are fewer than the image has.
 pub const TOO_SMALL: u32 = 27;
 
+/// The image has no control.
 pub const NO_CONTROL: u32 = 28;
 
+/// The image's control can't be read.
 pub const BAD_CONTROL: u32 = 29;
 
+/// The image has a record that can't be read.
 pub const BAD_RECORD: u32 = 30;
 
+/// No threads can have left the image's log.
 pub const ILLEGAL_LOG: u32 = 31;
 
 // 32 to 34 are of zelamiku_file.h.
+/// The heap has stopped since its host couldn't make a sync.
 pub const STOPPED: u32 = 35;
 
+/// No slot of the pool is free.
 pub const POOL_EMPTY: u32 = 36;
 
+/// The slot isn't taken, or the pool has no such slot.
 pub const NOT_TAKEN: u32 = 37;
 
+/// A field of the pool names no slot.
 pub const DAMAGED: u32 = 38;
 
+/// The heap was closed.
 pub const CLOSED: u32 = 39;
 
+/// The image has version 1, which only an upgrade opens.
 pub const OLD_VERSION: u32 = 40;
 
 /// The status of a session's refusal.

@@ -6,8 +6,8 @@ use durable::{Store, StoreCall};
 use guards::Schema;
 use heap_model::{FieldId, Lane, ObjectId, Record};
 use image_file::{
-    FormatError, ImageFault, NamedFault, Trouble, draw_named_file, dump_file, recover_file,
-    show_file,
+    FileImages, FormatError, ImageFault, NamedFault, Trouble, draw_named_file, dump_file,
+    recover_at, show_file,
 };
 use recover::{RecoverError, Versions};
 use std::alloc::Global;
@@ -33,6 +33,20 @@ fn draw(rt: &HostRuntime, image: &str, out: &mut Vec<u8>) -> Result<(), ImageFau
     }
 }
 
+// What is answered where an image of one of these versions is recovered.
+fn recover<W: Write>(
+    rt: &HostRuntime,
+    versions: Versions,
+    image: &str,
+    out: &mut W,
+) -> Result<(), ImageFault> {
+    let trouble = Trouble::none();
+    let mut images = FileImages::new(rt, &trouble);
+    let answer = recover_at(&mut images, rt.alloc(), versions, image, out);
+    drop(images);
+    answer
+}
+
 // What is answered.
 fn answer(rt: &HostRuntime, ask: Ask, image: &str, out: &mut Vec<u8>) -> Result<(), ImageFault> {
     let alloc = rt.alloc();
@@ -40,8 +54,8 @@ fn answer(rt: &HostRuntime, ask: Ask, image: &str, out: &mut Vec<u8>) -> Result<
     match ask {
         Ask::Show => show_file(rt, alloc, &trouble, image, out),
         Ask::Draw => draw(rt, image, out),
-        Ask::Recover => recover_file(rt, alloc, &trouble, Versions::Current, image, out),
-        Ask::Upgrade => recover_file(rt, alloc, &trouble, Versions::Both, image, out),
+        Ask::Recover => recover(rt, Versions::Current, image, out),
+        Ask::Upgrade => recover(rt, Versions::Both, image, out),
     }
 }
 
@@ -422,8 +436,7 @@ fn told_of_half(rt: &HostRuntime, image: &str) -> ([Result<(), ImageFault>; 2], 
     let trouble = Trouble::none();
     let shown = show_file(rt, rt.alloc(), &trouble, image, &mut writer);
     writer.taken.clear();
-    let versions = Versions::Current;
-    let recovered = recover_file(rt, rt.alloc(), &trouble, versions, image, &mut writer);
+    let recovered = recover(rt, Versions::Current, image, &mut writer);
     let is_first = writer.taken.as_slice() == b"kept 0 0\n".as_slice();
     drop(writer);
     ([shown, recovered], is_first)

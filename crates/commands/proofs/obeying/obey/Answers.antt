@@ -1,5 +1,6 @@
 use Rattle.std.proofs.Common.{Option, Result, refl, sym, subst}
 use Rattle.guards.specs.Schema.{Declarations}
+use Rattle.sector_disk.specs.declared.size.SectorSize.{SectorSize}
 use Rattle.recover.specs.declared.studied.Study.{Study}
 use Rattle.inspect.specs.StudyText.{study_text}
 use Rattle.inspect.specs.WholeGraph.{picture_text}
@@ -8,34 +9,48 @@ use Rattle.recover.specs.declared.versions.Versions.TheVariants.{Current, Both}
 use Rattle.commands.specs.Obeying.{Formats, Obeys, Recovers, TellsOf, TellsOfNamed}
 use Rattle.commands.specs.declared.fault.WorkFault.{WorkFault}
 use Rattle.command_words.specs.declared.words.Words.{Words}
-use Rattle.commands.proofs.ObeyLemmas.{made, recovered, told, told_named}
+use Rattle.commands.proofs.ObeyLemmas.{made, on, recovered, told, told_named}
 use Rattle.commands.proofs.obeying.obey.Goals as goal
 
 pub returns-in-Run : goal.returns-in-Run
 returns-in-Run o c =
+    let had = o.P.Images.holds c.args.images.now in
+    let has = o.P.Images.holds c.play.new.images in
+    let lies = o.P.Images.lies c.play.new.images in
     let read = o.S.Read.remaining c.args.reader.now in
     let unread = o.S.Read.remaining c.play.new.reader in
     let written = o.W.Write.contents c.args.writer.now in
     let now = o.W.Write.contents c.play.new.writer in
-    subst (λ (w : Words). Obeys w c.play.result read unread written now) (sym c.in-Run.is) c.play.ensures
+    subst (λ (w : Words). Obeys o.D.Disk.device w c.play.result had has lies read unread written now) (sym c.in-Run.is) c.play.ensures
 
 pub returns-in-Format : goal.returns-in-Format
 returns-in-Format o c =
+    let had = o.P.Images.holds c.args.images.now in
+    let has = o.P.Images.holds c.format_at.new.images in
+    let lies = o.P.Images.lies c.format_at.new.images in
+    let lanes = c.in-Format.lanes in
+    let capacity = c.in-Format.capacity in
+    let forced = c.in-Format.is_forced in
+    let asked = on lanes capacity forced c.size_of.result in
+    let path = c.in-Format.image.now in
     let read = o.S.Read.remaining c.args.reader.now in
     let written = o.W.Write.contents c.args.writer.now in
-    let now = o.W.Write.contents c.format_file.new.writer in
-    subst (λ (w : Words). Obeys w c.on_format.result read read written now) (sym c.in-Format.is) (
+    let now = o.W.Write.contents c.format_at.new.writer in
+    subst (λ (w : Words). Obeys o.D.Disk.device w c.on_format.result had has lies read read written now) (sym c.in-Format.is) (
       refl,
-      subst (λ (r : Result (Unit {0}) WorkFault). Formats c.in-Format.lanes c.in-Format.capacity r written now) (sym c.on_format.ensures)
-          (made c.in-Format.lanes c.in-Format.capacity c.format_file.result written now c.format_file.ensures.printed c.format_file.ensures.bad_header c.format_file.ensures.silent c.format_file.ensures.part),
+      subst (λ (s : Option SectorSize). Formats (on lanes capacity forced s) c.on_format.result (had path) (has path) (lies path) written now) c.size_of.ensures
+          (subst (λ (r : Result (Unit {0}) WorkFault). Formats asked r (had path) (has path) (lies path) written now) (sym c.on_format.ensures)
+              (made asked c.format_at.result (had path) (has path) (lies path) written now c.format_at.ensures.ok c.format_at.ensures.kept c.format_at.ensures.bad_header c.format_at.ensures.silent c.format_at.ensures.part)),
     )
 
 pub returns-in-Show : goal.returns-in-Show
 returns-in-Show o c =
+    let had = o.P.Images.holds c.args.images.now in
+    let lies = o.P.Images.lies c.args.images.now in
     let read = o.S.Read.remaining c.args.reader.now in
     let written = o.W.Write.contents c.args.writer.now in
     let now = o.W.Write.contents c.show_file.new.writer in
-    subst (λ (w : Words). Obeys w c.on_image.result read read written now) (sym c.in-Show.is) (
+    subst (λ (w : Words). Obeys o.D.Disk.device w c.on_image.result had had lies read read written now) (sym c.in-Show.is) (
       refl,
       subst (λ (r : Result (Unit {0}) WorkFault). TellsOf study_text r written now) (sym c.on_image.ensures)
           (told study_text c.show_file.result written now c.show_file.ensures.printed c.show_file.ensures.part c.show_file.ensures.silent),
@@ -43,11 +58,13 @@ returns-in-Show o c =
 
 pub returns-in-Draw : goal.returns-in-Draw
 returns-in-Draw o c =
+    let had = o.P.Images.holds c.args.images.now in
+    let lies = o.P.Images.lies c.args.images.now in
     let read = o.S.Read.remaining c.args.reader.now in
     let written = o.W.Write.contents c.args.writer.now in
     let now = o.W.Write.contents c.draw_named_file.new.writer in
     let text = λ (given : Option Declarations) (s : Study). picture_text given c.in-Draw.last s in
-    subst (λ (w : Words). Obeys w c.on_named.result read read written now) (sym c.in-Draw.is) (
+    subst (λ (w : Words). Obeys o.D.Disk.device w c.on_named.result had had lies read read written now) (sym c.in-Draw.is) (
       refl,
       subst (λ (r : Result (Unit {0}) WorkFault). TellsOfNamed text c.in-Draw.schema r written now) (sym c.on_named.ensures)
           (told_named text c.in-Draw.schema c.draw_named_file.result written now c.draw_named_file.ensures.printed c.draw_named_file.ensures.part c.draw_named_file.ensures.silent),
@@ -55,10 +72,12 @@ returns-in-Draw o c =
 
 pub returns-in-Dump : goal.returns-in-Dump
 returns-in-Dump o c =
+    let had = o.P.Images.holds c.args.images.now in
+    let lies = o.P.Images.lies c.args.images.now in
     let read = o.S.Read.remaining c.args.reader.now in
     let written = o.W.Write.contents c.args.writer.now in
     let now = o.W.Write.contents c.dump_file.new.writer in
-    subst (λ (w : Words). Obeys w c.on_named-in-Dump.result read read written now) (sym c.in-Dump.is) (
+    subst (λ (w : Words). Obeys o.D.Disk.device w c.on_named-in-Dump.result had had lies read read written now) (sym c.in-Dump.is) (
       refl,
       subst (λ (r : Result (Unit {0}) WorkFault). TellsOfNamed dump_text c.in-Dump.schema r written now) (sym c.on_named-in-Dump.ensures)
           (told_named dump_text c.in-Dump.schema c.dump_file.result written now c.dump_file.ensures.printed c.dump_file.ensures.part c.dump_file.ensures.silent),
@@ -66,29 +85,40 @@ returns-in-Dump o c =
 
 pub returns-in-Recover : goal.returns-in-Recover
 returns-in-Recover o c =
+    let had = o.P.Images.holds c.args.images.now in
+    let has = o.P.Images.holds c.recover_at.new.images in
+    let lies = o.P.Images.lies c.recover_at.new.images in
+    let path = c.in-Recover.image.now in
     let read = o.S.Read.remaining c.args.reader.now in
     let written = o.W.Write.contents c.args.writer.now in
-    let now = o.W.Write.contents c.recover_file.new.writer in
-    subst (λ (w : Words). Obeys w c.on_image-in-Recover.result read read written now) (sym c.in-Recover.is) (
+    let now = o.W.Write.contents c.recover_at.new.writer in
+    subst (λ (w : Words). Obeys o.D.Disk.device w c.on_image-in-Recover.result had has lies read read written now) (sym c.in-Recover.is) (
       refl,
-      subst (λ (r : Result (Unit {0}) WorkFault). Recovers Current r written now) (sym c.on_image-in-Recover.ensures)
-          (recovered Current c.recover_file.result written now c.recover_file.ensures.printed c.recover_file.ensures.part c.recover_file.ensures.silent c.recover_file.ensures.too_old),
+      subst (λ (r : Result (Unit {0}) WorkFault). Recovers Current r (had path) (has path) written now) (sym c.on_image-in-Recover.ensures)
+          (recovered Current c.recover_at.result (had path) (has path) written now c.recover_at.ensures.ok c.recover_at.ensures.kept c.recover_at.ensures.part c.recover_at.ensures.silent c.recover_at.ensures.too_old),
     )
 
 pub returns-in-Upgrade : goal.returns-in-Upgrade
 returns-in-Upgrade o c =
+    let had = o.P.Images.holds c.args.images.now in
+    let has = o.P.Images.holds c.recover_at-in-Upgrade.new.images in
+    let lies = o.P.Images.lies c.recover_at-in-Upgrade.new.images in
+    let path = c.in-Upgrade.image.now in
     let read = o.S.Read.remaining c.args.reader.now in
     let written = o.W.Write.contents c.args.writer.now in
-    let now = o.W.Write.contents c.recover_file-in-Upgrade.new.writer in
-    subst (λ (w : Words). Obeys w c.on_image-in-Upgrade.result read read written now) (sym c.in-Upgrade.is) (
+    let now = o.W.Write.contents c.recover_at-in-Upgrade.new.writer in
+    subst (λ (w : Words). Obeys o.D.Disk.device w c.on_image-in-Upgrade.result had has lies read read written now) (sym c.in-Upgrade.is) (
       refl,
-      subst (λ (r : Result (Unit {0}) WorkFault). Recovers Both r written now) (sym c.on_image-in-Upgrade.ensures)
-          (recovered Both c.recover_file-in-Upgrade.result written now c.recover_file-in-Upgrade.ensures.printed c.recover_file-in-Upgrade.ensures.part c.recover_file-in-Upgrade.ensures.silent c.recover_file-in-Upgrade.ensures.too_old),
+      subst (λ (r : Result (Unit {0}) WorkFault). Recovers Both r (had path) (has path) written now) (sym c.on_image-in-Upgrade.ensures)
+          (recovered Both c.recover_at-in-Upgrade.result (had path) (has path) written now c.recover_at-in-Upgrade.ensures.ok c.recover_at-in-Upgrade.ensures.kept c.recover_at-in-Upgrade.ensures.part c.recover_at-in-Upgrade.ensures.silent c.recover_at-in-Upgrade.ensures.too_old),
     )
 
 pub returns-in-Drive : goal.returns-in-Drive
 returns-in-Drive o c =
+    let had = o.P.Images.holds c.args.images.now in
+    let has = o.P.Images.holds c.drive-driven.new.images in
+    let lies = o.P.Images.lies c.drive-driven.new.images in
     let read = o.S.Read.remaining c.args.reader.now in
     let written = o.W.Write.contents c.args.writer.now in
     let now = o.W.Write.contents c.drive-driven.new.writer in
-    subst (λ (w : Words). Obeys w c.drive-driven.result read read written now) (sym c.in-Drive.is) (refl, c.drive-driven.ensures)
+    subst (λ (w : Words). Obeys o.D.Disk.device w c.drive-driven.result had has lies read read written now) (sym c.in-Drive.is) (refl, c.drive-driven.ensures)

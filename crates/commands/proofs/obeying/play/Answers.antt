@@ -7,10 +7,10 @@ use Rattle.commands.proofs.obeying.play.Goals as goal
 pub returns-in-Some : goal.returns-in-Some
 returns-in-Some g c =
     let read = g.S.Read.remaining c.args.reader.now in
-    let unread = g.S.Read.remaining c.run_file.new.reader in
+    let unread = g.S.Read.remaining c.run_at.new.reader in
     let written = g.W.Write.contents c.args.writer.now in
-    let now = g.W.Write.contents c.run_file.new.writer in
-    rw c.in-Some.is (c.run_file.result, c.on_run.ensures, c.run_file.ensures)
+    let now = g.W.Write.contents c.run_at.new.writer in
+    rw c.in-Some.is (c.run_at.result, c.on_run.ensures, c.run_at.ensures)
 
 pub returns-in-None : goal.returns-in-None
 returns-in-None g c =

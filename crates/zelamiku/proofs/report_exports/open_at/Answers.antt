@@ -1,9 +1,10 @@
 use Rattle.std.proofs.Common.{◌≡◌, List, None, IsSome, false, true, refl, subst, ◌∙◌}
 use Rattle.hosted_heap.specs.declared.error.HostError.TheVariants.{NoMemory}
 use Rattle.recover.specs.declared.report.Dropped.{Dropped as Section}
+use Rattle.zelamiku.specs.Ended.{still_behind}
 use Rattle.zelamiku.specs.Own.{Held}
 use Rattle.zelamiku.specs.ReportDoors.{IsOpenTold, NotOpenTold, TellsEach}
-use Rattle.zelamiku.proofs.Emptiness.{nothing_there}
+use Rattle.zelamiku.proofs.Emptiness.{nothing_still}
 use Rattle.zelamiku.proofs.report_exports.open_at.Goals as goal
 
 -- nothing was behind the handle
@@ -12,26 +13,26 @@ none_some o none some = let no : false ≡ true = subst (λ (p : Held). IsSome p
 
 pub returns-in_default : goal.returns-in_default
 returns-in_default c =
-    let none = nothing_there c.args.place.now.handle.state c.if-is_open.ensures in
+    let none = nothing_still c.args.place.now.handle.state c.is_taken.new.place.handle.state c.is_taken.ensures.still c.if-is_taken.ensures.told in
     record {
-      told = rw none (NotOpenTold NoMemory tt c.nothing.ensures c.tell_dropped.ensures (c.in_default.ensures.err ∙ none) refl);
-      refused = λ some. absurd (none_some c.args.place.now.handle.state none some);
+      told = rw none (NotOpenTold NoMemory tt c.nothing.ensures c.tell_dropped.ensures (c.in_default.ensures.err ∙ c.is_taken.ensures.still ∙ none) refl);
+      refused = λ some. absurd (none_some (still_behind c.args.place.now.handle.state) none some);
     }
 
 pub returns-in-Ok-put_new : goal.returns-in-Ok-put_new
 returns-in-Ok-put_new c =
     let dropped = c.tell_dropped-in-Ok.new.dropped in
     let each : TellsEach c.in-Ok.report.dropped.items dropped = subst (λ (sections : List Section). TellsEach sections dropped) c.deref.ensures.value c.tell_dropped-in-Ok.ensures in
-    let none = nothing_there c.args.place.now.handle.state c.if-is_open.ensures in
+    let none = nothing_still c.args.place.now.handle.state c.is_taken.new.place.handle.state c.is_taken.ensures.still c.if-is_taken.ensures.told in
     record {
       told = rw none (IsOpenTold c.in-Ok.heap c.in-Ok.report c.in-Ok.ensures.ok c.of_heap-found.ensures each c.in-Ok-put_new.ensures.ok refl);
-      refused = λ some. absurd (none_some c.args.place.now.handle.state none some);
+      refused = λ some. absurd (none_some (still_behind c.args.place.now.handle.state) none some);
     }
 
 pub returns-in-Err : goal.returns-in-Err
 returns-in-Err c =
-    let none = nothing_there c.args.place.now.handle.state c.if-is_open.ensures in
+    let none = nothing_still c.args.place.now.handle.state c.is_taken.new.place.handle.state c.is_taken.ensures.still c.if-is_taken.ensures.told in
     record {
-      told = rw none (NotOpenTold c.in-Err.refusal c.in-Err.ensures.refused c.of_refusal.ensures c.tell_dropped.ensures refl c.of_host.ensures);
-      refused = λ some. absurd (none_some c.args.place.now.handle.state none some);
+      told = rw none (NotOpenTold c.in-Err.refusal c.in-Err.ensures.refused c.of_refusal.ensures c.tell_dropped.ensures (c.is_taken.ensures.still ∙ none) c.of_host.ensures);
+      refused = λ some. absurd (none_some (still_behind c.args.place.now.handle.state) none some);
     }

@@ -1,0 +1,117 @@
+//! What the system says of a call that failed, and what is at a path.
+
+use image_file::{BESIDE, KEPT, Place};
+use std::fs::FileType;
+use std::io;
+use std::io::ErrorKind;
+use std::os::unix::fs::FileTypeExt;
+use std::rt::Files;
+
+/// The files that words name, and the one that a call was about.
+#[derive(Clone, Copy)]
+pub(crate) struct Path<'a> {
+    pub(crate) image: &'a str,
+    pub(crate) schema: &'a str,
+    pub(crate) place: Place,
+}
+
+/// Tells this of a file.
+pub(crate) fn tell<R: Eprint>(rt: &R, file: &str, text: &str) {
+    if file.is_empty() {
+        let _ = eprintln!(rt; "heapctl: '': {text}");
+    } else {
+        let _ = eprintln!(rt; "heapctl: {file}: {text}");
+    }
+}
+
+/// Tells of a path that leads to no regular file, what it leads to; whether it is one.
+pub(crate) fn is_wrong_path<R: Files + Eprint>(rt: &R, path: &str) -> bool {
+    match wrong_path(rt, path) {
+        Some(text) => {
+            tell(rt, path, text);
+            true
+        }
+        None => false,
+    }
+}
+
+// What is wrong with a path that leads to no regular file, and what mends it.
+fn wrong_path<R: Files>(rt: &R, path: &str) -> Option<&'static str> {
+    if path.is_empty() {
+        return Some("the path is empty; name a file");
+    }
+    match rt.metadata(path) {
+        Ok(metadata) => wrong_kind(metadata.file_type()),
+        Err(_) => match rt.symlink_metadata(path) {
+            Ok(_) => Some(
+                "it is a link to a file that isn't there, and is left alone; name that file, or remove the link",
+            ),
+            Err(_) => None,
+        },
+    }
+}
+
+fn wrong_kind(kind: FileType) -> Option<&'static str> {
+    if kind.is_file() {
+        None
+    } else if kind.is_dir() {
+        Some("it is a folder; name a file")
+    } else if kind.is_block_device() {
+        Some(
+            "it is a block device, which 'show' and 'dump' read; the other words want a regular file: copy the device to one",
+        )
+    } else {
+        Some("it is a device, a pipe or a socket, which holds no image; name a regular file")
+    }
+}
+
+/// Tells what a call that failed was about, and what the system says of it.
+pub(crate) fn tell_cause<R: Files + Eprint>(rt: &R, path: &Path<'_>, error: &Option<io::Error>) {
+    let (name, end) = match path.place {
+        Place::Image => (path.image, ""),
+        Place::Schema => (path.schema, ""),
+        Place::Beside => (path.image, BESIDE),
+        Place::Kept => (path.image, KEPT),
+        Place::Output => ("standard output", ""),
+    };
+    if path.place != Place::Output && path.place != Place::Kept && is_wrong_path(rt, name) {
+        return;
+    }
+    match error {
+        Some(error) => {
+            let cure = cure_of(rt, path, error);
+            let _ = eprintln!(rt; "heapctl: {name}{end}: {error}{cure}");
+        }
+        None => {
+            let _ = eprintln!(rt; "heapctl: {name}{end}: a call has failed");
+        }
+    }
+}
+
+// What mends it, where a user can.
+fn cure_of<R: Files>(rt: &R, path: &Path<'_>, error: &io::Error) -> &'static str {
+    match (error.kind(), path.place) {
+        (_, Place::Kept) => {
+            "; the image that is there can't be kept beside a new one: make room for that, or type '--force'"
+        }
+        (ErrorKind::NotFound, Place::Image) => "; 'heapctl format' and 'heapctl drive' make images",
+        (ErrorKind::NotFound, Place::Beside) => "; make the folder first",
+        (ErrorKind::NotFound, Place::Schema) => "; name the schema file",
+        (ErrorKind::PermissionDenied, _) => "; ask its owner for the right to read and write it",
+        (ErrorKind::ReadOnlyFilesystem, _) =>
+            "; copy the image to a file system that can be written",
+        (ErrorKind::StorageFull | ErrorKind::QuotaExceeded, Place::Output) => "; free some space",
+        (ErrorKind::StorageFull | ErrorKind::QuotaExceeded, _) => room_cure(rt, path),
+        (ErrorKind::IsADirectory, _) => "; name a file",
+        _ => "",
+    }
+}
+
+// What mends want of room.
+fn room_cure<R: Files>(rt: &R, path: &Path<'_>) -> &'static str {
+    if rt.metadata(path.image).is_ok() {
+        "; free some space, and try again: the image that was there is still there"
+    } else {
+        "; free some space, and try again: nothing was made"
+    }
+}

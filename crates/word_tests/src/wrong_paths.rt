@@ -1,0 +1,163 @@
+//! Words on paths that lead to no image, and an image that is kept beside a new one.
+
+use crate::playing::{FORMAT, Fails, SCHEMA, fault_of, play};
+use commands::WorkFault;
+use file_disk::BackingFile;
+use image_file::{FileFault, FormatError, ImageFault};
+use recover::RecoverError;
+use std::fs;
+use std::fs::{Files, OpenFile};
+use std::io::Read;
+use std::rt::Clock;
+use std::sync::Wait;
+use std::thread::Threads;
+
+const FORCED: &[&str] = &["format", "--schema", "schema", "--lanes", "3", "--force"];
+
+const OTHER: &[&str] = &["format", "--schema", "schema", "--lanes", "3"];
+
+// Whether these words end well on this image.
+fn is_done<F, R>(rt: &R, words: &[&str], image: &str) -> Option<bool>
+where
+    F: BackingFile + OpenFile + Read + Drop,
+    R: Files<File = F> + AllocGlobal + Clock + Eprint + Threads + Wait + Sync,
+{
+    let mut written = Vec::new(rt.alloc());
+    let ended = play(rt, words, Some(image), "", &mut written)?;
+    drop(written);
+    Some(ended.is_ok())
+}
+
+// Whether both files have the same bytes.
+fn are_same<F, R>(rt: &R, one: &str, other: &[u8]) -> bool
+where
+    F: BackingFile + OpenFile + Read + Drop,
+    R: Files<File = F> + AllocGlobal + Clock + Eprint + Threads + Wait + Sync,
+{
+    match fs::read(rt, one) {
+        Ok(bytes) => bytes.as_slice() == other,
+        Err(_) => false,
+    }
+}
+
+// Whether an image is made and nothing kept; whether the next making keeps it; and whether one by force keeps none.
+fn told_of_kept<F, R>(rt: &R) -> Option<[bool; 3]>
+where
+    F: BackingFile + OpenFile + Read + Drop,
+    R: Files<File = F> + AllocGlobal + Clock + Eprint + Threads + Wait + Sync,
+{
+    fs::write(rt, "schema", SCHEMA).ok()?;
+    let is_made = is_done(rt, FORMAT, "kept_one")?;
+    let is_alone = fs::metadata(rt, "kept_one~").is_err();
+    let first = fs::read(rt, "kept_one").ok()?;
+    let is_again = is_done(rt, OTHER, "kept_one")?;
+    let is_kept = are_same(rt, "kept_one~", &first) && !are_same(rt, "kept_one", &first);
+    let is_forced = is_done(rt, FORCED, "kept_one")?;
+    let is_left = are_same(rt, "kept_one~", &first);
+    drop(first);
+    Some([
+        is_made && is_alone,
+        is_again && is_kept,
+        is_forced && is_left,
+    ])
+}
+
+#[test]
+fn an_image_that_is_replaced_is_kept(rt: HostRuntime) {
+    assert!(rt; told_of_kept(&rt) == Some([true; 3]));
+}
+
+// How these words end on this path, and whether they write nothing.
+fn ended<F, R>(rt: &R, words: &[&str], image: &str) -> Option<(Result<(), WorkFault>, bool)>
+where
+    F: BackingFile + OpenFile + Read + Drop,
+    R: Files<File = F> + AllocGlobal + Clock + Eprint + Threads + Wait + Sync,
+{
+    let mut written = Vec::new(rt.alloc());
+    let ended = play(rt, words, Some(image), "", &mut written)?;
+    let is_silent = written.is_empty();
+    drop(written);
+    Some((ended, is_silent))
+}
+
+// Whether making an image over a link to a file that isn't there is refused, and leaves the link and makes no file.
+fn told_of_dangling<F, R>(rt: &R) -> Option<[bool; 2]>
+where
+    F: BackingFile + OpenFile + Read + Drop,
+    R: Files<File = F> + AllocGlobal + Clock + Eprint + Threads + Wait + Sync,
+{
+    fs::write(rt, "schema", SCHEMA).ok()?;
+    rt.symlink("nowhere", "dangling").ok()?;
+    let refused = ended(rt, FORMAT, "dangling")?;
+    let is_link = rt.symlink_metadata("dangling").ok()?.is_symlink();
+    Some([
+        refused == (Err(fault_of(Fails::NotImage)), true),
+        is_link && fs::metadata(rt, "nowhere").is_err(),
+    ])
+}
+
+#[test]
+fn a_dangling_link_is_left_alone(rt: HostRuntime) {
+    assert!(rt; told_of_dangling(&rt) == Some([true; 2]));
+}
+
+// A link that leads to an image stays, and what it leads to is replaced.
+fn told_of_link<F, R>(rt: &R) -> Option<[bool; 2]>
+where
+    F: BackingFile + OpenFile + Read + Drop,
+    R: Files<File = F> + AllocGlobal + Clock + Eprint + Threads + Wait + Sync,
+{
+    fs::write(rt, "schema", SCHEMA).ok()?;
+    let is_made = is_done(rt, FORMAT, "led_to")?;
+    rt.symlink("led_to", "leading").ok()?;
+    let is_replaced = is_done(rt, OTHER, "leading")?;
+    let is_link = rt.symlink_metadata("leading").ok()?.is_symlink();
+    Some([is_made && is_replaced, is_link])
+}
+
+#[test]
+fn a_link_to_an_image_stays(rt: HostRuntime) {
+    assert!(rt; told_of_link(&rt) == Some([true; 2]));
+}
+
+const FAULT: RecoverError = RecoverError::Fault;
+
+// Whether each word refuses a folder, as a fault or as no image.
+fn told_of_folder<F, R>(rt: &R) -> Option<[bool; 4]>
+where
+    F: BackingFile + OpenFile + Read + Drop,
+    R: Files<File = F> + AllocGlobal + Clock + Eprint + Threads + Wait + Sync,
+{
+    fs::write(rt, "schema", SCHEMA).ok()?;
+    rt.create_dir("folder").ok()?;
+    Some([
+        ended(rt, &["recover"], "folder")?
+            == (Err(WorkFault::Image(ImageFault::Image(FAULT))), true),
+        ended(rt, &["drive"], "folder")? == (Err(WorkFault::File(FileFault::Fault)), true),
+        ended(rt, FORMAT, "folder")? == (Err(WorkFault::Format(FormatError::Fault)), true),
+        rt.metadata("folder").ok()?.is_dir(),
+    ])
+}
+
+#[test]
+fn a_folder_is_refused(rt: HostRuntime) {
+    assert!(rt; told_of_folder(&rt) == Some([true; 4]));
+}
+
+// Whether nothing is made where there is no folder.
+fn told_of_no_folder<F, R>(rt: &R) -> Option<[bool; 2]>
+where
+    F: BackingFile + OpenFile + Read + Drop,
+    R: Files<File = F> + AllocGlobal + Clock + Eprint + Threads + Wait + Sync,
+{
+    fs::write(rt, "schema", SCHEMA).ok()?;
+    Some([
+        ended(rt, FORMAT, "gone/image")? == (Err(WorkFault::Format(FormatError::Fault)), true),
+        ended(rt, &["drive"], "gone/image")? == (Err(WorkFault::Format(FormatError::Fault)), true),
+    ])
+}
+
+#[test]
+fn a_missing_folder_is_a_fault(rt: HostRuntime) {
+    assert!(rt; told_of_no_folder(&rt) == Some([true; 2]));
+}
