@@ -2,3 +2,4 @@ mod Safe
 mod Running
 mod Told
 mod Copies
+mod Stopped

@@ -3,3 +3,4 @@ pub mod Safe
 pub mod Running
 pub mod Told
 pub mod Copies
+pub mod Stopped

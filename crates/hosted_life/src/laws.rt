@@ -2,6 +2,7 @@
 ghost use Rattle.hosted_life.specs.Copies.{ClosedCopyLaw, CopyLaw, RunningCopyLaw};
 ghost use Rattle.hosted_life.specs.Running.{HostClosingLaw, HostRoundLaw, HostRunLaw};
 ghost use Rattle.hosted_life.specs.Safe.{AcknowledgedLaw, BegunLaw, ClosedLaw, EndsLaw, HostLaw, KeptRunLaw, LivesLaw, NowLaw, OpeningLaw};
+ghost use Rattle.hosted_life.specs.Stopped.{StillClosingLaw, StillRoundLaw};
 ghost use Rattle.hosted_life.specs.Told.{AcknowledgedToldLaw, HostReadLaw};
 
 use deferred_disk::DeferredDisk;
@@ -48,7 +49,8 @@ pub fn host_law()
 /// handed over by then, or when the heap was opened.
 /// - `run`: since any moment at which the store had a past; `round`: up to the end of a round, whatever the round answers;
 /// - `closing`: while the host makes the calls of a closing, sections of the history that the closing tells of;
-/// - `copy`: a copy of the disk in memory keeps what a crash right now would.
+/// - `copy`: a copy of the disk in memory keeps what a crash right now would;
+/// - `still`, `still_closing`: a round or a closing after a fault takes nothing of that back.
 ///
 /// The law speaks of each legal history that goes on from what the heap's helper has seen of the threads (`running_life::round_law`),
 /// and of each way in which the host comes on with the calls that it was handed.
@@ -57,6 +59,8 @@ pub fn running_law()
     ensures round { HostRoundLaw }
     ensures closing { HostClosingLaw }
     ensures copy { RunningCopyLaw }
+    ensures still { StillRoundLaw }
+    ensures still_closing { StillClosingLaw }
 {
     crash_law::<DeferredDisk>();
     life_law::<DeferredDisk>();

@@ -1,5 +1,6 @@
 use Rattle.hosted_life.proofs.Copies.{copy_keeps}
 use Rattle.hosted_life.proofs.Running.{closing_keeps, round_keeps, run_keeps}
+use Rattle.hosted_life.proofs.Stopped.{still_closing, still_round}
 use Rattle.hosted_life.proofs.laws.running_law.Goals as goal
 
 pub returns-clause-run : goal.returns-clause-run
@@ -13,3 +14,9 @@ returns-clause-closing c = closing_keeps c.crash_law.ensures c.life_law.ensures.
 
 pub returns-clause-copy : goal.returns-clause-copy
 returns-clause-copy c = copy_keeps c.round_law.ensures.now
+
+pub returns-clause-still : goal.returns-clause-still
+returns-clause-still c = still_round (run_keeps c.round_law.ensures.run)
+
+pub returns-clause-still_closing : goal.returns-clause-still_closing
+returns-clause-still_closing c = still_closing (run_keeps c.round_law.ensures.run)
