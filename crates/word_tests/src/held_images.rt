@@ -1,5 +1,6 @@
 //! A script over an image that isn't replaced, that is none, and one whose output can't be written.
-ghost use Rattle.std.specs.Prelude.{None};
+ghost use Rattle.std.specs.Prelude.{◌≡◌, None, replicate, IfOk};
+ghost use Rattle.block_disk.specs.Memory.{fresh};
 
 use crate::playing::{Does, FORMAT, FORMATTED, Line, first_other};
 use block_disk::MemDisk;
@@ -27,6 +28,16 @@ impl Held {
             Ok(()) => Ok(()),
             Err(_) => Err(FileFault::NoMemory),
         }
+    }
+}
+
+// A disk of so many zeros.
+fn blank(alloc: Global, size: u64) -> Result<MemDisk, FileFault>
+    ensures { IfOk result (λ disk. disk ≡ fresh (replicate size 0)) }
+{
+    match MemDisk::new(alloc, size) {
+        Ok(disk) => Ok(disk),
+        Err(_) => Err(FileFault::NoMemory),
     }
 }
 
@@ -72,12 +83,9 @@ impl Images for Held {
         sectors: Option<SectorSize>,
         size: u64,
     ) -> Result<MemDisk, FileFault> {
-        if sectors.is_some() {
-            return Err(FileFault::Fault);
-        }
-        match MemDisk::new(alloc, size) {
-            Ok(disk) => Ok(disk),
-            Err(_) => Err(FileFault::NoMemory),
+        match sectors {
+            Some(_) => Err(FileFault::Fault),
+            None => blank(alloc, size),
         }
     }
 
